@@ -1,0 +1,5 @@
+pub mod FileLemmas
+pub mod MemorySinkLemmas
+pub mod ShelfLemmas
+pub mod StepLemmas
+pub mod WriteLemmas

@@ -1,0 +1,7 @@
+pub mod Causes
+pub mod Host
+pub mod MemoryShelf
+pub mod MemorySink
+pub mod Shelf
+pub mod Sink
+pub mod Told

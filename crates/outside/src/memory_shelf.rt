@@ -1,0 +1,165 @@
+// Files in memory.
+ghost use Rattle.std.specs.Prelude.{◌≡◌, ◌<◌, ◌≤◌, ◌+◌, ◌^◌, ◌↔◌, refl, false, length, position, Contains, MatchOption, IsTrue, IsSome, IfSome};
+ghost use Rattle.std.specs.Str.{bytes_eq};
+ghost use Rattle.outside.specs.Shelf.{file_named, file_at, IsPieceAt, counted};
+ghost use Rattle.outside.specs.MemoryShelf.{ShelfInMemory, memory_view};
+
+use crate::{Failed, FileNo, Shelf};
+use std::marker::Model;
+
+/// A named file in memory.
+#[derive(Drop)]
+pub struct MemoryFile {
+    pub name: String,
+    pub bytes: Vec<u8>,
+}
+
+impl Model for MemoryFile {
+    ghost use Rattle.std.specs.Prelude.{string_bytes};
+    ghost use Rattle.outside.specs.Shelf.{File};
+
+    ghost Value = { File };
+
+    ghost view = { λ file. record { name = string_bytes file.name; bytes = file.bytes.items } };
+}
+
+/// Files in memory. The calls are numbered from 1, and those whose number is listed fail.
+#[derive(Drop)]
+pub struct MemoryShelf {
+    files: Vec<MemoryFile>,
+    failing: Vec<u64>,
+    calls: u64,
+    faults: u64,
+    taken: u64,
+}
+
+impl Model for MemoryShelf {
+    ghost use Rattle.std.specs.Prelude.{length, ◌<◌, ◌^◌};
+    ghost use Rattle.outside.specs.MemoryShelf.{ShelfInMemory};
+
+    ghost Value = { ShelfInMemory };
+
+    ghost view = { λ shelf. record {
+      files = shelf.files.items;
+      failing = shelf.failing.items;
+      calls = shelf.calls;
+      faults = shelf.faults;
+      taken = shelf.taken;
+    } };
+
+    ghost invariant = { λ shelf. length shelf.files.items < 2 ^ 32 };
+}
+
+impl MemoryShelf {
+    pub fn new(files: Vec<MemoryFile>, failing: Vec<u64>) -> Self
+        requires { length files.items < 2 ^ 32 }
+        ensures { result ≡ record { files = files.items; failing = failing.items; calls = 0; faults = 0; taken = 0 } }
+    {
+        MemoryShelf {
+            files,
+            failing,
+            calls: 0,
+            faults: 0,
+            taken: 0,
+        }
+    }
+}
+
+// The place of the first file of that name.
+#[tactic(auto, using(crate::proofs::FileLemmas::named_place))]
+fn place_of(files: &[MemoryFile], name: &str) -> Option<usize>
+    ensures within { IfSome result (λ place. place < length files.now) }
+    ensures named { MatchOption result (file_named name.now files.now ≡ None)
+        (λ place. IsSome (file_named name.now files.now) × (file_at files.now place ≡ file_named name.now files.now)) }
+{
+    position_of(files, name)
+}
+
+fn position_of(files: &[MemoryFile], name: &str) -> Option<usize>
+    ensures within { IfSome result (λ place. place < length files.now) }
+    ensures first { result ≡ position (λ file. bytes_eq file.name name.now) files.now }
+{
+    files.iter().position(|file| file.name.as_str() == name)
+}
+
+// The length of the file at a place.
+fn length_at(files: &[MemoryFile], place: usize) -> Option<u64>
+    ensures { MatchOption result (file_at files.now place ≡ None) (λ size. IfSome (file_at files.now place) (λ file. size ≡ length file)) }
+{
+    let file = files.get(place)?;
+    Some(file.bytes.len() as u64)
+}
+
+// Fills the piece from the file at a place, where all the bytes are there.
+fn fill(files: &[MemoryFile], number: usize, place: u64, piece: &mut [u8]) -> bool
+    ensures filled { IsTrue result → IfSome (file_at files.now number) (λ file. IsPieceAt file place piece.new) }
+    ensures short { (result ≡ false) → IfSome (file_at files.now number) (λ file. length file < place + length piece.old) }
+{
+    let Some(file) = files.get(number) else {
+        return false;
+    };
+    let bytes = file.bytes.as_slice();
+    let start = place as usize;
+    if start > bytes.len() || piece.len() > bytes.len() - start {
+        return false;
+    }
+    piece.copy_from_slice(&bytes[start..][..piece.len()]);
+    true
+}
+
+impl MemoryShelf {
+    // Counts a call, and says whether it is one that fails.
+    fn is_failing(&mut self) -> bool
+        ensures same { self.new ≡ record self.old { calls = counted self.old.calls 1 } }
+        ensures failing { IsTrue result ↔ Contains self.old.failing self.new.calls }
+    {
+        self.calls = self.calls.saturating_add(1);
+        self.failing.contains(&self.calls)
+    }
+
+    // Counts a failure.
+    fn fail(&mut self) -> Failed
+        ensures same { self.new ≡ record self.old { faults = counted self.old.faults 1 } }
+        ensures later { self.old.faults ≤ self.new.faults }
+    {
+        self.faults = self.faults.saturating_add(1);
+        Failed
+    }
+}
+
+impl Shelf for MemoryShelf {
+    ghost view = { memory_view };
+
+    ghost tells = { λ shelf steady. refl };
+
+    fn find(&mut self, name: &str) -> Result<FileNo, Failed> {
+        if self.is_failing() {
+            return Err(self.fail());
+        }
+        match place_of(&self.files, name) {
+            Some(place) => Ok(FileNo(place as u32)),
+            None => Err(self.fail()),
+        }
+    }
+
+    fn size_of(&mut self, file: FileNo) -> Result<u64, Failed> {
+        if self.is_failing() {
+            return Err(self.fail());
+        }
+        match length_at(&self.files, file.0 as usize) {
+            Some(size) => Ok(size),
+            None => Err(self.fail()),
+        }
+    }
+
+    fn read_at(&mut self, file: FileNo, place: u64, piece: &mut [u8]) -> Result<(), Failed> {
+        if self.is_failing() {
+            return Err(self.fail());
+        }
+        if !fill(&self.files, file.0 as usize, place, piece) {
+            return Err(self.fail());
+        }
+        self.taken = self.taken.saturating_add(piece.len() as u64);
+        Ok(())
+    }
+}

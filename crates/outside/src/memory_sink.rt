@@ -1,0 +1,115 @@
+// Bytes that are written to memory.
+ghost use Rattle.std.specs.Prelude.{◌≡◌, ◌≤◌, ◌-◌, [], ◌++◌, length, min, take, IfOk};
+ghost use Rattle.outside.specs.Shelf.{counted};
+ghost use Rattle.outside.specs.MemorySink.{SinkInMemory, fault_at};
+
+use crate::{Failed, OutOfMemory, Sink};
+use std::alloc::Global;
+use std::marker::Model;
+
+/// The put of that number appends so many bytes at most, and fails.
+#[derive(Clone, Copy, Debug, PartialEq, Eq)]
+pub struct PutFault {
+    pub call: u64,
+    pub passed: usize,
+}
+
+/// Bytes in memory, up to a limit. The puts are numbered from 1, and those that are listed fail.
+#[derive(Drop)]
+pub struct MemorySink {
+    bytes: Vec<u8>,
+    room: usize,
+    failing: Vec<PutFault>,
+    calls: u64,
+    faults: u64,
+}
+
+impl Model for MemorySink {
+    ghost use Rattle.std.specs.Prelude.{◌≤◌, length, vec_capacity};
+    ghost use Rattle.outside.specs.MemorySink.{SinkInMemory};
+
+    ghost Value = { SinkInMemory };
+
+    ghost view = { λ sink. record {
+      bytes = sink.bytes.items;
+      room = sink.room;
+      failing = sink.failing.items;
+      calls = sink.calls;
+      faults = sink.faults;
+    } };
+
+    ghost invariant = { λ sink. (length sink.bytes.items ≤ sink.room) × (sink.room ≤ vec_capacity sink.bytes) };
+}
+
+// How many bytes the put of that number passes, where it is one that fails.
+fn fault_of(failing: &[PutFault], call: u64) -> Option<usize>
+    ensures { result ≡ fault_at failing.now call }
+{
+    let fault = failing.iter().find(|fault| fault.call == call)?;
+    Some(fault.passed)
+}
+
+impl MemorySink {
+    pub fn new(
+        alloc: Global,
+        room: usize,
+        failing: Vec<PutFault>,
+    ) -> Result<MemorySink, OutOfMemory>
+        ensures { IfOk result (λ sink. sink ≡ record { bytes = []; room = room; failing = failing.items; calls = 0; faults = 0 }) }
+    {
+        Ok(MemorySink {
+            bytes: Vec::with_capacity(alloc, room)?,
+            room,
+            failing,
+            calls: 0,
+            faults: 0,
+        })
+    }
+
+    /// What was written.
+    pub fn bytes(&self) -> &[u8]
+        ensures { result.now ≡ self.now.bytes }
+    {
+        &self.bytes
+    }
+
+    // Counts the call, and appends what fits of the first bytes, up to a limit.
+    fn pass(&mut self, piece: &[u8], limit: usize)
+        ensures { self.new ≡ record self.old {
+          bytes = self.old.bytes ++ take (min limit (self.old.room - length self.old.bytes)) piece.now;
+          calls = counted self.old.calls 1;
+        } }
+    {
+        self.calls = self.calls.saturating_add(1);
+        let fitting = limit.min(self.room - self.bytes.len()).min(piece.len());
+        self.bytes.extend_from_slice(&piece[..fitting]).unwrap();
+    }
+
+    // Counts a failure.
+    fn fail(&mut self) -> Failed
+        ensures same { self.new ≡ record self.old { faults = counted self.old.faults 1 } }
+        ensures later { self.old.faults ≤ self.new.faults }
+    {
+        self.faults = self.faults.saturating_add(1);
+        Failed
+    }
+}
+
+impl Sink for MemorySink {
+    ghost written = { λ sink bytes. bytes ≡ sink.bytes };
+
+    ghost faults = { λ sink. sink.faults };
+
+    #[tactic(auto, using(crate::proofs::MemorySinkLemmas::appended))]
+    fn put(&mut self, piece: &[u8]) -> Result<(), Failed> {
+        let fault = fault_of(&self.failing, self.calls.saturating_add(1));
+        let fits = piece.len() <= self.room - self.bytes.len();
+        let limit = fault.unwrap_or(piece.len());
+        self.pass(piece, limit);
+        if fault.is_none() && fits {
+            Ok(())
+        } else {
+            Err(self.fail())
+        }
+    }
+}
