@@ -1,0 +1,6 @@
+use Rattle.std.proofs.Common.{◌≡◌, ◌<◌, ℕ, false, get_or}
+use Rattle.std.specs.Prelude.{◌==◌}
+use Rattle.lump_rules.proofs.name.end_of.Given as goal
+
+abbrev pub invariant-loop-i : goal.invariant-loop-i
+invariant-loop-i l = (k : ℕ) → k < l.i → (get_or l.bytes k 0 == 0) ≡ false
