@@ -4,4 +4,5 @@ pub mod MemoryShelf
 pub mod MemorySink
 pub mod Shelf
 pub mod Sink
+pub mod TallySink
 pub mod Told

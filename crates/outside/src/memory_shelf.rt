@@ -1,13 +1,16 @@
-// Files in memory.
-ghost use Rattle.std.specs.Prelude.{◌≡◌, ◌<◌, ◌≤◌, ◌+◌, ◌^◌, ◌↔◌, refl, false, length, position, Contains, MatchOption, IsTrue, IsSome, IfSome};
+//! A shelf of files in memory, whose calls fail where they are told to.
+//!
+//! Rules: `specs/MemoryShelf`. Proved: each call is the trait's, and when it fails and what it leaves.
+ghost use Rattle.std.specs.Prelude.{◌≡◌, ◌<◌, ◌≤◌, ◌+◌, ◌^◌, ◌↔◌, ◌⊎◌, refl, false, length, position, Contains, MatchOption, IsTrue, IsSome, IfSome, IsOk, IsErr, IfOk, OnOk, OnErr};
 ghost use Rattle.std.specs.Str.{bytes_eq};
-ghost use Rattle.outside.specs.Shelf.{file_named, file_at, IsPieceAt, counted};
-ghost use Rattle.outside.specs.MemoryShelf.{ShelfInMemory, memory_view};
+ghost use Rattle.outside.specs.Causes.{Rose};
+ghost use Rattle.outside.specs.Shelf.{Follows, StandsForNamed, file_named, file_at, IsPieceAt, counted};
+ghost use Rattle.outside.specs.MemoryShelf.{ShelfInMemory, memory_view, called, failed, read, IsFailing, first_named, has_piece};
 
 use crate::{Failed, FileNo, Shelf};
 use std::marker::Model;
 
-/// A named file in memory.
+/// A named file in memory; a contract sees its name and its bytes as two lists of bytes.
 #[derive(Drop)]
 pub struct MemoryFile {
     pub name: String,
@@ -23,7 +26,8 @@ impl Model for MemoryFile {
     ghost view = { λ file. record { name = string_bytes file.name; bytes = file.bytes.items } };
 }
 
-/// Files in memory. The calls are numbered from 1, and those whose number is listed fail.
+/// Files in memory. The calls of all three kinds are numbered from 1, and those whose number is
+/// listed fail. With no such number it is steady.
 #[derive(Drop)]
 pub struct MemoryShelf {
     files: Vec<MemoryFile>,
@@ -51,7 +55,8 @@ impl Model for MemoryShelf {
 }
 
 impl MemoryShelf {
-    pub fn new(files: Vec<MemoryFile>, failing: Vec<u64>) -> Self
+    /// A shelf of these files, with the numbers of the calls that fail. Takes no memory.
+    pub fn new(files: Vec<MemoryFile>, failing: Vec<u64>) -> MemoryShelf
         requires { length files.items < 2 ^ 32 }
         ensures { result ≡ record { files = files.items; failing = failing.items; calls = 0; faults = 0; taken = 0 } }
     {
@@ -65,10 +70,11 @@ impl MemoryShelf {
     }
 }
 
-// The place of the first file of that name.
+// The index of the first file of that name.
 #[tactic(auto, using(crate::proofs::FileLemmas::named_place))]
 fn place_of(files: &[MemoryFile], name: &str) -> Option<usize>
     ensures within { IfSome result (λ place. place < length files.now) }
+    ensures first { result ≡ first_named name.now files.now }
     ensures named { MatchOption result (file_named name.now files.now ≡ None)
         (λ place. IsSome (file_named name.now files.now) × (file_at files.now place ≡ file_named name.now files.now)) }
 {
@@ -82,16 +88,17 @@ fn position_of(files: &[MemoryFile], name: &str) -> Option<usize>
     files.iter().position(|file| file.name.as_str() == name)
 }
 
-// The length of the file at a place.
+// The length of the file at an index.
 fn length_at(files: &[MemoryFile], place: usize) -> Option<u64>
-    ensures { MatchOption result (file_at files.now place ≡ None) (λ size. IfSome (file_at files.now place) (λ file. size ≡ length file)) }
+    ensures { MatchOption result (file_at files.now place ≡ None) (λ size. IsSome (file_at files.now place) × IfSome (file_at files.now place) (λ file. size ≡ length file)) }
 {
     let file = files.get(place)?;
     Some(file.bytes.len() as u64)
 }
 
-// Fills the piece from the file at a place, where all the bytes are there.
+// Fills the piece from the file at an index, where all the bytes are there.
 fn fill(files: &[MemoryFile], number: usize, place: u64, piece: &mut [u8]) -> bool
+    ensures exact { result ≡ has_piece files.now number place (length piece.old) }
     ensures filled { IsTrue result → IfSome (file_at files.now number) (λ file. IsPieceAt file place piece.new) }
     ensures short { (result ≡ false) → IfSome (file_at files.now number) (λ file. length file < place + length piece.old) }
 {
@@ -132,7 +139,20 @@ impl Shelf for MemoryShelf {
 
     ghost tells = { λ shelf steady. refl };
 
-    fn find(&mut self, name: &str) -> Result<FileNo, Failed> {
+    /// The index of the first file of that name. Takes no memory.
+    ///
+    /// Errors: `Failed` exactly where this call is one that fails, or no file has the name.
+    fn find(&mut self, name: &str) -> Result<FileNo, Failed>
+        ensures found { IfOk result (λ number. IfSome (memory_view self.old).held (StandsForNamed (memory_view self.new) number.0 name.now)) }
+        ensures follows { Follows (memory_view self.old) (memory_view self.new) }
+        ensures untaken { (memory_view self.new).taken ≡ (memory_view self.old).taken }
+        ensures failed { OnErr result (Rose (memory_view self.old).faults (memory_view self.new).faults) }
+        ensures steady { IsTrue (memory_view self.old).steady → IfSome (memory_view self.old).held (λ files. IsSome (file_named name.now files) → IsOk result) }
+        ensures first { IfOk result (λ number. Some number.0 ≡ first_named name.now self.old.files) }
+        ensures ok { OnOk result (self.new ≡ called self.old) }
+        ensures err { OnErr result (self.new ≡ failed self.old) }
+        ensures cause { IsErr result ↔ (IsFailing self.old ⊎ (first_named name.now self.old.files ≡ None)) }
+    {
         if self.is_failing() {
             return Err(self.fail());
         }
@@ -142,7 +162,19 @@ impl Shelf for MemoryShelf {
         }
     }
 
-    fn size_of(&mut self, file: FileNo) -> Result<u64, Failed> {
+    /// The length of the file with that index, in bytes. Takes no memory.
+    ///
+    /// Errors: `Failed` exactly where this call is one that fails, or no file has the index.
+    fn size_of(&mut self, file: FileNo) -> Result<u64, Failed>
+        ensures size { IfOk result (λ size. IfSome ((memory_view self.old).file file.0) (λ bytes. size ≡ length bytes)) }
+        ensures follows { Follows (memory_view self.old) (memory_view self.new) }
+        ensures untaken { (memory_view self.new).taken ≡ (memory_view self.old).taken }
+        ensures failed { OnErr result (Rose (memory_view self.old).faults (memory_view self.new).faults) }
+        ensures steady { IsTrue (memory_view self.old).steady → IsSome ((memory_view self.old).file file.0) → IsOk result }
+        ensures ok { OnOk result (self.new ≡ called self.old) }
+        ensures err { OnErr result (self.new ≡ failed self.old) }
+        ensures cause { IsErr result ↔ (IsFailing self.old ⊎ (file_at self.old.files file.0 ≡ None)) }
+    {
         if self.is_failing() {
             return Err(self.fail());
         }
@@ -152,7 +184,21 @@ impl Shelf for MemoryShelf {
         }
     }
 
-    fn read_at(&mut self, file: FileNo, place: u64, piece: &mut [u8]) -> Result<(), Failed> {
+    /// Fills the piece with the bytes of the file with that index, from an offset on. Takes no memory.
+    ///
+    /// Errors: `Failed` exactly where this call is one that fails, no file has the index, or the
+    /// file ends before the piece is full.
+    fn read_at(&mut self, file: FileNo, place: u64, piece: &mut [u8]) -> Result<(), Failed>
+        ensures bytes { OnOk result (IfSome ((memory_view self.old).file file.0) (λ bytes. IsPieceAt bytes place piece.new)) }
+        ensures follows { Follows (memory_view self.old) (memory_view self.new) }
+        ensures taken { OnOk result ((memory_view self.new).taken ≡ counted (memory_view self.old).taken (length piece.old)) }
+        ensures untaken { OnErr result ((memory_view self.new).taken ≡ (memory_view self.old).taken) }
+        ensures failed { OnErr result (Rose (memory_view self.old).faults (memory_view self.new).faults) }
+        ensures steady { IsTrue (memory_view self.old).steady → IfSome ((memory_view self.old).file file.0) (λ bytes. place + length piece.old ≤ length bytes → IsOk result) }
+        ensures ok { OnOk result (self.new ≡ read self.old (length piece.old)) }
+        ensures err { OnErr result (self.new ≡ failed self.old) }
+        ensures cause { IsErr result ↔ (IsFailing self.old ⊎ (has_piece self.old.files file.0 place (length piece.old) ≡ false)) }
+    {
         if self.is_failing() {
             return Err(self.fail());
         }

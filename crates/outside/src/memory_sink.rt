@@ -1,20 +1,26 @@
-// Bytes that are written to memory.
-ghost use Rattle.std.specs.Prelude.{◌≡◌, ◌≤◌, ◌-◌, [], ◌++◌, length, min, take, IfOk};
+//! A sink in memory with a room, whose puts fail where they are told to.
+//!
+//! Rules: `specs/MemorySink`. Proved: what each put appends, and when it fails. Tested only: that
+//! memory is found.
+ghost use Rattle.std.specs.Prelude.{◌≡◌, ◌≤◌, ◌-◌, [], ◌++◌, ◌↔◌, length, min, take, IfOk, IsOk, OnOk, OnErr};
 ghost use Rattle.outside.specs.Shelf.{counted};
-ghost use Rattle.outside.specs.MemorySink.{SinkInMemory, fault_at};
+ghost use Rattle.outside.specs.Sink.{Writes};
+ghost use Rattle.outside.specs.MemorySink.{SinkInMemory, fault_at, passed, failed, IsPassed};
 
 use crate::{Failed, OutOfMemory, Sink};
 use std::alloc::Global;
 use std::marker::Model;
 
-/// The put of that number appends so many bytes at most, and fails.
+/// The put of the number `call` appends at most `passed` bytes of its piece, and fails.
 #[derive(Clone, Copy, Debug, PartialEq, Eq)]
 pub struct PutFault {
     pub call: u64,
     pub passed: usize,
 }
 
-/// Bytes in memory, up to a limit. The puts are numbered from 1, and those that are listed fail.
+/// Bytes in memory, up to a room. The puts are numbered from 1, and those that are listed fail.
+///
+/// A put that passes the room appends what fits, and fails too.
 #[derive(Drop)]
 pub struct MemorySink {
     bytes: Vec<u8>,
@@ -50,6 +56,9 @@ fn fault_of(failing: &[PutFault], call: u64) -> Option<usize>
 }
 
 impl MemorySink {
+    /// An empty sink with room for so many bytes, all of which is taken here.
+    ///
+    /// Errors: `OutOfMemory`.
     pub fn new(
         alloc: Global,
         room: usize,
@@ -66,7 +75,7 @@ impl MemorySink {
         })
     }
 
-    /// What was written.
+    /// The bytes that were put so far.
     pub fn bytes(&self) -> &[u8]
         ensures { result.now ≡ self.now.bytes }
     {
@@ -100,8 +109,16 @@ impl Sink for MemorySink {
 
     ghost faults = { λ sink. sink.faults };
 
+    /// Appends the piece. Takes no memory.
+    ///
+    /// Errors: `Failed` exactly where this put is listed, or the piece passes the room.
     #[tactic(auto, using(crate::proofs::MemorySinkLemmas::appended))]
-    fn put(&mut self, piece: &[u8]) -> Result<(), Failed> {
+    fn put(&mut self, piece: &[u8]) -> Result<(), Failed>
+        ensures writes { Writes (λ bytes. bytes ≡ self.old.bytes) (λ bytes. bytes ≡ self.new.bytes) self.old.faults self.new.faults piece.now result }
+        ensures ok { OnOk result (self.new ≡ record self.old { bytes = self.old.bytes ++ piece.now; calls = counted self.old.calls 1 }) }
+        ensures err { OnErr result (self.new ≡ failed self.old piece.now) }
+        ensures cause { IsOk result ↔ IsPassed self.old piece.now }
+    {
         let fault = fault_of(&self.failing, self.calls.saturating_add(1));
         let fits = piece.len() <= self.room - self.bytes.len();
         let limit = fault.unwrap_or(piece.len());
