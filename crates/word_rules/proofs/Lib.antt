@@ -1,0 +1,4 @@
+pub mod WordLemmas
+pub mod LeastLemmas
+pub mod ListedLemmas
+pub mod StepLemmas
