@@ -1,12 +1,34 @@
 //! The records of a level, and its entries by number.
 //!
-//! Records and look-ups alone: how the bytes of the eight map lumps give them stands in
-//! `map_rules`. The original: r_defs.h, doomdata.h.
+//! Records, look-ups and the limits that they share: how the bytes of the eight map lumps give
+//! them stands in `map_rules`. A leaf is the field's subsector. Nothing here is proved or tested.
+//! The original: r_defs.h, doomdata.h.
 #![tactic(auto)]
 
 use lump_rules::Name8;
 
-/// A thing of the level: its point in map units (16.16), angle in degrees, type and options.
+/// The flat of a surface that is sky; no lump has this number.
+pub const SKY_FLAT: u32 = 65536;
+
+/// The most nodes on the way from the root to a leaf, the root and the last node among them.
+///
+/// This project's own: the original sets no limit.
+pub const MAX_DEPTH: u32 = 1024;
+
+/// The flag of a line through which the sector behind it is seen (ML_TWOSIDED).
+pub const TWO_SIDED: u16 = 4;
+
+/// The flag of a line whose upper texture begins at the ceiling in front (ML_DONTPEGTOP).
+pub const TOP_UNPEGGED: u16 = 8;
+
+/// The flag of a line whose lower texture begins at the ceiling, and whose middle texture stands
+/// on the floor (ML_DONTPEGBOTTOM).
+pub const BOTTOM_UNPEGGED: u16 = 16;
+
+/// A thing as its lump has it: point, angle, type and options.
+///
+/// `x` and `y` are map units, 16.16 fixed point; `angle` is in degrees, counterclockwise from
+/// east; `kind` is the type that thing tables name. The original: mapthing_t, doomdata.h.
 #[derive(Clone, Copy, Debug, PartialEq, Eq)]
 pub struct Thing {
     pub x: i32,
@@ -16,8 +38,9 @@ pub struct Thing {
     pub options: u16,
 }
 
-/// A side of a line: its offsets in map units (16.16), the names of its three textures, and the
-/// number of its sector.
+/// A side of a line: offsets of its textures, their three names, and the number of its sector.
+///
+/// The offsets are texels, 16.16 fixed point. The original: side_t, r_defs.h.
 #[derive(Clone, Copy, Debug, PartialEq, Eq)]
 pub struct Side {
     pub x_offset: i32,
@@ -28,7 +51,10 @@ pub struct Side {
     pub sector: u16,
 }
 
-/// A sector: its heights in map units (16.16), the names of its flats, and its light, 0 to 255.
+/// A sector: heights, names of its two flats, and light.
+///
+/// The heights are map units, 16.16 fixed point; `light` is 0 to 255 in sound levels, and is kept
+/// as it is read. The original: sector_t, r_defs.h.
 #[derive(Clone, Copy, Debug, PartialEq, Eq)]
 pub struct Sector {
     pub floor: i32,
@@ -38,7 +64,9 @@ pub struct Sector {
     pub light: i16,
 }
 
-/// A partition line of a node, map units 16.16.
+/// The partition line of a node: a point of it and its direction.
+///
+/// Map units, 16.16 fixed point. The original: node_t, r_defs.h.
 #[derive(Clone, Copy, Debug, PartialEq, Eq)]
 pub struct Partition4 {
     pub x: i32,
@@ -47,7 +75,9 @@ pub struct Partition4 {
     pub dy: i32,
 }
 
-/// The box round a child of a node, map units 16.16.
+/// The box round a child of a node.
+///
+/// Map units, 16.16 fixed point. The original: bbox of node_t, r_defs.h.
 #[derive(Clone, Copy, Debug, PartialEq, Eq)]
 pub struct Box4 {
     pub top: i32,
@@ -56,14 +86,18 @@ pub struct Box4 {
     pub right: i32,
 }
 
-/// What stands on one side of a node.
+/// What stands on one side of a node: a further node, or a leaf, by its number.
+///
+/// The original marks a leaf by NF_SUBSECTOR, doomdata.h.
 #[derive(Clone, Copy, Debug, PartialEq, Eq)]
 pub enum Child {
     Node(u16),
     Leaf(u16),
 }
 
-/// A node of the tree, child 0 in front of its line and child 1 behind it.
+/// A node of the tree: its line, and a box and a child for each side of it.
+///
+/// Child 0 is in front of the line, child 1 behind it. The original: node_t, r_defs.h.
 #[derive(Clone, Copy, Debug, PartialEq, Eq)]
 pub struct Node {
     pub line: Partition4,
@@ -71,7 +105,9 @@ pub struct Node {
     pub children: [Child; 2],
 }
 
-/// A leaf (subsector): a run of segs and its sector.
+/// A leaf (subsector): `count` segs from number `first` on, and the sector of the first of them.
+///
+/// The original: subsector_t, r_defs.h.
 #[derive(Clone, Copy, Debug, PartialEq, Eq)]
 pub struct Leaf {
     pub first: u16,
@@ -79,7 +115,12 @@ pub struct Leaf {
     pub sector: u16,
 }
 
-/// A seg: its two vertices and offset in map units 16.16, its angle, and what it belongs to.
+/// A seg: a piece of a line, as seen from one side of it.
+///
+/// Its ends `x1`, `y1` and `x2`, `y2`, and the distance `offset` from the line's end to the first
+/// of them, are map units, 16.16 fixed point; `angle` is BAM; `flags` are the line's; `side` is
+/// the number of the side that is seen, `front` that side's sector, and `back` the sector behind
+/// a two-sided line. The original: seg_t, r_defs.h.
 #[derive(Clone, Copy, Debug, PartialEq, Eq)]
 pub struct Seg {
     pub x1: i32,
@@ -94,7 +135,9 @@ pub struct Seg {
     pub back: Option<u16>,
 }
 
-/// The numbers of a side's three textures.
+/// The numbers of a side's three textures; 0 is none.
+///
+/// The original: side_t, r_defs.h.
 #[derive(Clone, Copy, Debug, PartialEq, Eq)]
 pub struct SideTextures {
     pub top: u16,
@@ -102,7 +145,11 @@ pub struct SideTextures {
     pub middle: u16,
 }
 
-/// A sector as the drawing layers compare it; a flat is a lump number, or `SKY_FLAT`.
+/// A sector as the drawing layers compare it.
+///
+/// Heights are map units, 16.16 fixed point; a flat is the number of its lump, or `SKY_FLAT`, so
+/// two flats are the same exactly where their numbers are; light is the sector's, 0 to 255. The
+/// original: sector_t, r_defs.h.
 #[derive(Clone, Copy, Debug, PartialEq, Eq)]
 pub struct Surface {
     pub floor: i32,
@@ -112,7 +159,11 @@ pub struct Surface {
     pub light: i16,
 }
 
-/// A thing that stands in a sector, with its picture's name.
+/// A thing that stands in the level, with its picture's name.
+///
+/// `thing` is its number in its lump; the point is map units, 16.16 fixed point, `z` its feet;
+/// `angle` is BAM; `sprite` and the letter `frame` name the picture; one that is `bright` is drawn
+/// in full light. The original: mobj_t, p_mobj.h.
 #[derive(Clone, Copy, Debug, PartialEq, Eq)]
 pub struct PlacedThing {
     pub thing: u16,
@@ -124,6 +175,3 @@ pub struct PlacedThing {
     pub frame: u8,
     pub bright: bool,
 }
-
-/// The flat of a surface that is sky.
-pub const SKY_FLAT: u32 = 65536;
