@@ -1,0 +1,4 @@
+pub mod RunLemmas
+pub mod CoverLemmas
+pub mod WalkLemmas
+pub mod DrawsegLemmas

@@ -1,0 +1,7 @@
+pub mod Covered
+pub mod Boxes
+pub mod Segs
+pub mod Events
+pub mod Walk
+pub mod Drawsegs
+pub mod Rows
