@@ -5,9 +5,9 @@ use Rattle.view_rules.specs.Rows.{view_unfolded}
 use Rattle.level_rules.specs.declared.Seg.{Seg}
 use Rattle.level_rules.specs.declared.Surface.{Surface}
 use Rattle.level_rules.specs.declared.Child.TheVariants.{Leaf as LeafChild}
-use Rattle.level_rules.specs.Levels.{LevelLists, seg_at, leaf_at, node_at, surface_at}
+use Rattle.level_rules.specs.Levels.{LevelLists, seg_at, leaf_at, node_at, child_on, surface_at}
 use Rattle.walk_rules.specs.Covered.{with_column, runs, fragments, cover, hides, row_columns}
-use Rattle.walk_rules.specs.Boxes.{partition_of, eye_side, child_on, box_on, near_child, far_child, far_box, box_column, box_row, corners_above, corners_beside, corners_below, box_corners, corners_range, range_is_open, is_within_box, box_passes}
+use Rattle.walk_rules.specs.Boxes.{partition_of, eye_side, box_on, near_child, far_child, far_box, box_column, box_row, corners_above, corners_beside, corners_below, box_corners, corners_range, range_is_open, is_within_box, box_passes}
 use Rattle.walk_rules.specs.Segs.{seg_range, back_of, middle_of, is_closed, is_solid, heights_differ, faces_differ, is_pass}
 use Rattle.walk_rules.specs.Walk.{walk_start, shows, covers, at_columns, at_range, at_seg_of, at_seg, at_segs, enters, at_leaf_of, at_leaf, at_far, at_node, walk_child, view_events}
 use Rattle.walk_rules.specs.Drawsegs.{last_leaf, leaf_fragments, drawsegs, leaves_entered}

@@ -9,8 +9,8 @@ use Rattle.level_rules.specs.declared.Seg.{Seg}
 use Rattle.level_rules.specs.declared.Surface.{Surface}
 use Rattle.level_rules.specs.declared.Child.{Child}
 use Rattle.level_rules.specs.declared.Child.TheVariants.{Node as NodeChild, Leaf as LeafChild}
+use Rattle.level_rules.specs.declared.TheConstants.{MAX_DEPTH}
 use Rattle.level_rules.specs.Levels.{LevelLists, seg_at, leaf_at, node_at, surface_at}
-use Rattle.walk_rules.specs.declared.TheConstants.{MAX_DEPTH}
 use Rattle.walk_rules.specs.Covered.{fragments, cover}
 use Rattle.walk_rules.specs.Boxes.{near_child, far_child, far_box, box_passes}
 use Rattle.walk_rules.specs.Segs.{seg_range, back_of, middle_of, is_solid, is_pass}

@@ -1,13 +1,10 @@
 //! The walk of a level's nodes: covered columns, near and far children, the events of a view.
 //!
-//! Rules only: constants, one record, and in `specs/` the columns that solid segs cover and what
+//! Rules only: a constant, one record, and in `specs/` the columns that solid segs cover and what
 //! they leave of a seg (Covered), when a box is entered (Boxes), what a seg is (Segs), the walk
 //! (Events, Walk), and which fragments are drawn (Drawsegs). The uncovered runs are the field's
 //! wall ranges; a leaf is a subsector. The original: r_bsp.c.
 #![tactic(auto)]
-
-/// The most nodes on a way from the root of a level to a leaf, the root among them.
-pub const MAX_DEPTH: u32 = 1024;
 
 /// The most fragments of a view that are drawn (drawsegs).
 pub const MAX_DRAWSEGS: u32 = 256;
