@@ -1,0 +1,3 @@
+pub mod DotLemmas
+pub mod StripLemmas
+pub mod ColumnLemmas
