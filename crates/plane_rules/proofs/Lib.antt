@@ -1,0 +1,4 @@
+pub mod SpanLemmas
+pub mod PlaneLemmas
+pub mod BuiltLemmas
+pub mod FloorLemmas
