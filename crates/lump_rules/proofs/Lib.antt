@@ -1,1 +1,3 @@
+pub mod ContentLemmas
 pub mod NameLemmas
+pub mod WadLemmas

@@ -1,1 +1,4 @@
+pub mod Contents
+pub mod Lookups
 pub mod Names
+pub mod Wads

@@ -1,0 +1,86 @@
+-- The lumps of a file, and of files one after the other.
+use Rattle.std.proofs.Common.{◌≡◌, ◌<◌, ◌≤◌, ℕ, suc, ◌+◌, ◌*◌, Bool, true, List, [], ◌++◌, length, get_or, take, drop, Result, Ok, Err, IsErrAnd, refl, sym, ap, ◌∙◌, arith, append_assoc, append-nil, add-one}
+use Rattle.std.proofs.lemmas.Result.{err_from_is_err_and}
+use Rattle.std.specs.List.{sum_by}
+use Rattle.std.proofs.lemmas.List.{drop_all}
+use Rattle.std.proofs.lemmas.List.Sums.{sum_by-cons}
+use Rattle.std.proofs.Math.Seq.{drop-cons}
+use Rattle.outside.specs.Told.{Told, TellsAt, Answers}
+use Rattle.lump_rules.specs.declared.wad.Header.{Header}
+use Rattle.lump_rules.specs.declared.wad.Lump.{Lump}
+use Rattle.lump_rules.specs.declared.wad.DirRefusal.{DirRefusal}
+use Rattle.lump_rules.specs.Wads.{header, header_in, header_refusal, entry_count, lumps_in, file_lumps, entry_refusal, file_refusal, refusal_from, lumps_from, unless_refused, directory, listing_size, listing_sizes}
+use Rattle.lump_rules.proofs.WadLemmas.{unless_refused_ok, file_lumps-length}
+use Rattle.wad_dir.specs.declared.fault.DirFault.{DirFault}
+use Rattle.wad_dir.specs.Faults.{dir_told}
+use Rattle.wad_dir.proofs.AnswerLemmas.{answers_whatever, first_stands}
+
+-- the lumps of a file whose header was passed
+pub file_answers : {B : Type 0} {value : B → List Lump} {result : Result B DirFault} (steady : Bool) (file before : ℕ) (bytes : List ℕ) (head : Header) (piece given : List ℕ) →
+    unless_refused (header_refusal file before bytes) (header_in (length bytes) (header bytes)) ≡ Ok head →
+    ◌≡◌ {A = Result (List ℕ) DirRefusal} (Ok (take (16 * head.count) (drop head.place bytes))) (Ok piece) → given ≡ piece →
+    Answers dir_told true value (unless_refused (entry_refusal file head.size (lumps_in file head.count given)) (lumps_in file head.count given)) result →
+    Answers dir_told steady value (unless_refused (file_refusal file before bytes) (file_lumps file bytes)) result
+unfolding file_lumps
+file_answers {value} {result} steady file before bytes head piece given e p q answers =
+    let fine = unless_refused_ok (header_refusal file before bytes) (header_in (length bytes) (header bytes)) head e in
+    let r : head ≡ header_in (length bytes) (header bytes) = sym fine.1 in
+    let n : given ≡ take (16 * head.count) (drop head.place bytes) = cc in
+    rw fine.0 (rw (n, r) at (answers_whatever steady result answers))
+
+-- Some files were read, without a refusal and with these lumps.
+pub record IsReadTo (contents : List (List ℕ)) (i : ℕ) (lumps : List Lump) : Type 0 where
+  pub refusals : refusal_from 0 0 contents ≡ refusal_from i (length lumps) (drop i contents)
+  pub listed : lumps_from 0 contents ≡ lumps ++ lumps_from i (drop i contents)
+
+pub none_read : (contents : List (List ℕ)) (lumps : List Lump) → lumps ≡ [] → IsReadTo contents 0 lumps
+none_read contents lumps e = rw e (record { refusals = refl; listed = refl })
+
+-- one file more
+pub file_more : (contents : List (List ℕ)) (i : ℕ) (old new found : List Lump) → i < length contents → new ≡ old ++ found → length new ≡ length old + length found →
+    unless_refused (file_refusal i (length old) (get_or contents i [])) (file_lumps i (get_or contents i [])) ≡ Ok found →
+    IsReadTo contents i old → IsReadTo contents (i + 1) new
+unfolding refusal_from lumps_from
+file_more contents i old new found lt e n ok so_far =
+    let bytes : List ℕ = get_or contents i [] in
+    let fine = unless_refused_ok (file_refusal i (length old) bytes) (file_lumps i bytes) found ok in
+    let many : length old + entry_count (header bytes) ≡ length new = omega (arith, file_lumps-length i bytes, ap length fine.1) in
+    record {
+      refusals = so_far.refusals ∙ rw (drop-cons contents i [] lt, fine.0, many, add-one) refl;
+      listed = so_far.listed ∙ rw (drop-cons contents i [] lt, fine.1, e, add-one) (sym (append_assoc old found (lumps_from (suc i) (drop (suc i) contents))));
+    }
+
+first_stop : (contents : List (List ℕ)) (i : ℕ) (lumps : List Lump) (steady : Bool) (told : Told DirRefusal) → i < length contents → IsReadTo contents i lumps →
+    TellsAt steady (unless_refused (file_refusal i (length lumps) (get_or contents i [])) (file_lumps i (get_or contents i []))) told → TellsAt steady (directory contents) told
+unfolding refusal_from
+first_stop contents i lumps steady told lt so_far h =
+    rw (so_far.refusals, drop-cons contents i [] lt) (first_stands _ _ _ (lumps_from 0 contents) steady told h)
+
+-- a file has stopped the walk
+pub file_stops : {B D : Type 0} {later : Bool} {v : D → List Lump} {part : Result D DirFault} {value : B → List Lump} (steady : Bool) (contents : List (List ℕ)) (i : ℕ) (lumps : List Lump) (fault : DirFault) (result : Result B DirFault) →
+    i < length contents → IsReadTo contents i lumps → later ≡ steady →
+    Answers dir_told later v (unless_refused (file_refusal i (length lumps) (get_or contents i [])) (file_lumps i (get_or contents i []))) part → part ≡ Err fault →
+    IsErrAnd result (λ e. e ≡ fault) → Answers dir_told steady value (directory contents) result
+file_stops {B} {D} {later} {v} {part} {value} steady contents i lumps fault result lt so_far s answers was is =
+    let p : (y : DirFault) × (result ≡ Err y) × (y ≡ fault) = err_from_is_err_and result is in
+    let h : TellsAt later (unless_refused (file_refusal i (length lumps) (get_or contents i [])) (file_lumps i (get_or contents i []))) (dir_told fault) = rw was at answers.err in
+    let k : TellsAt later (directory contents) (dir_told p.0) = rw p.2 (first_stop contents i lumps later (dir_told fault) lt so_far h) in
+    rw (p.1, ← s) (record { ok = tt; err = k })
+
+-- all files were read
+pub all_read : {B : Type 0} {value : B → List Lump} (steady : Bool) (contents : List (List ℕ)) (i : ℕ) (found : B) → length contents ≤ i →
+    IsReadTo contents i (value found) → Answers dir_told steady value (directory contents) (Ok found)
+unfolding refusal_from lumps_from
+all_read {B} {value} steady contents i found le so_far = record {
+  ok = rw (so_far.refusals, so_far.listed, drop_all i contents le, append-nil) refl;
+  err = tt;
+}
+
+-- what the files that are left list
+pub listing_left : (contents : List (List ℕ)) (i : ℕ) → i < length contents →
+    listing_sizes (drop i contents) ≡ listing_size (get_or contents i []) + listing_sizes (drop (i + 1) contents)
+unfolding listing_sizes
+listing_left contents i lt =
+    ap (λ rest. sum_by listing_size rest) (drop-cons contents i [] lt)
+    ∙ sum_by-cons listing_size (get_or contents i []) (drop (suc i) contents)
+    ∙ ap (λ k. listing_size (get_or contents i []) + sum_by listing_size (drop k contents)) (sym (add-one i))

@@ -1,0 +1,49 @@
+-- The names of a map's lumps, one after the other.
+use Rattle.std.proofs.Common.{◌≡◌, ◌<◌, ◌≤◌, ℕ, suc, ◌+◌, Bool, true, false, List, [], ◌∷◌, length, get_or, drop, refl, sym, ◌∙◌, arith, add-one, add-suc, ⊎_elim}
+use Rattle.std.specs.Prelude.{◌&&◌}
+use Rattle.std.proofs.lemmas.Option.{slice_get_cases}
+use Rattle.std.proofs.lemmas.List.{drop_all}
+use Rattle.std.proofs.Math.Seq.{drop-cons}
+use Rattle.lump_rules.specs.declared.wad.Lump.{Lump}
+use Rattle.lump_rules.specs.Lookups.{is_lump, is_named_in, are_named}
+
+-- one name more was found
+pub named_more : (lumps : List Lump) (file first i : ℕ) (names : List (List ℕ)) (found : Bool) → i < length names →
+    is_named_in lumps file (get_or names i []) (first + i) ≡ true → found ≡ are_named lumps file (first + i) (drop i names) →
+    found ≡ are_named lumps file (first + (i + 1)) (drop (i + 1) names)
+unfolding are_named
+named_more lumps file first i names found lt is so_far =
+    so_far ∙ rw (drop-cons names i [] lt, is, add-one, add-suc) refl
+
+-- a name was not found
+pub named_not : (lumps : List Lump) (file first i : ℕ) (names : List (List ℕ)) (found : Bool) → i < length names →
+    is_named_in lumps file (get_or names i []) (first + i) ≡ false → found ≡ are_named lumps file (first + i) (drop i names) → false ≡ found
+unfolding are_named
+named_not lumps file first i names found lt is so_far =
+    sym (so_far ∙ rw (drop-cons names i [] lt, is) refl)
+
+-- all names were found
+pub named_all : (lumps : List Lump) (file first i : ℕ) (names : List (List ℕ)) (found : Bool) → length names ≤ i →
+    found ≡ are_named lumps file (first + i) (drop i names) → true ≡ found
+unfolding are_named
+named_all lumps file first i names found le so_far =
+    sym (so_far ∙ rw (drop_all i names le) refl)
+
+there : (passes : Lump → Bool) (lumps : List Lump) (number : ℕ) → is_lump passes lumps number ≡ true → number < length lumps
+there passes lumps number is =
+    ⊎_elim (λ h. h.1) (λ h. absurd (let e : false ≡ true = sym (rw h.1 refl) ∙ is in cc)) (slice_get_cases lumps number).1
+
+both : (a b : Bool) → (a && b) ≡ true → (a ≡ true) × (b ≡ true)
+both true b e = (refl, e)
+both false b e = absurd (cc)
+
+-- lumps that have names are there
+pub named_within : (lumps : List Lump) (file number : ℕ) (names : List (List ℕ)) → number ≤ length lumps → are_named lumps file number names ≡ true →
+    number + length names ≤ length lumps
+unfolding are_named
+named_within lumps file number [] le are = omega arith
+named_within lumps file number (name ∷ names) le are =
+    let h = both (is_named_in lumps file name number) (are_named lumps file (suc number) names) are in
+    let lt : number < length lumps = there _ lumps number h.0 in
+    let more : suc number + length names ≤ length lumps = named_within lumps file (suc number) names (omega arith) h.1 in
+    omega arith

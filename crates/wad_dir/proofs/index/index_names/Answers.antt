@@ -1,0 +1,6 @@
+use Rattle.std.proofs.Common.{◌∙◌}
+use Rattle.wad_dir.proofs.IndexLemmas.{all_marked, indexed_alike}
+use Rattle.wad_dir.proofs.index.index_names.Goals as goal
+
+pub returns : goal.returns
+returns c = indexed_alike _ _ _ (λ name. all_marked _ c.args.lumps.now name (c.deref.ensures.value ∙ c.in_ok-marked.ensures.marks)) c.index_of.ensures

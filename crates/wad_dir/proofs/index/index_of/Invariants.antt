@@ -1,0 +1,10 @@
+use Rattle.std.proofs.Common.{◌≡◌, ℕ, List, false, get_or}
+use Rattle.std.specs.Prelude.{◌&&◌}
+use Rattle.word_rules.specs.Least.{greatest}
+use Rattle.lump_rules.specs.Lookups.{has_name}
+use Rattle.wad_dir.specs.Indexes.{indexed}
+use Rattle.wad_dir.proofs.index.index_of.Given as goal
+
+abbrev pub invariant-loop-i : goal.invariant-loop-i
+invariant-loop-i l = (name : List ℕ) →
+    indexed l.index name ≡ greatest (λ number. get_or l.marked number false && has_name l.lumps name number) l.i

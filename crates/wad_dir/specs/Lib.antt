@@ -1,0 +1,3 @@
+pub mod DirectoryView
+pub mod Faults
+pub mod Indexes
