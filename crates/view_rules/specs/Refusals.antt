@@ -20,18 +20,20 @@ word_in bytes i = little_number WORD_BYTES (drop (WORD_BYTES * i) bytes)
 unfoldable pub signed_in : List ℕ → ℕ → ℤ
 signed_in bytes i = signed_of (word_in bytes i)
 
+-- the n words of a file from word first on, unsigned and signed
+unfoldable pub words_from : List ℕ → ℕ → ℕ → List ℕ
+words_from bytes first n = listed (λ i. word_in bytes (first + i)) n
+
+unfoldable pub signed_from : List ℕ → ℕ → ℕ → List ℤ
+signed_from bytes first n = listed (λ i. signed_in bytes (first + i)) n
+
 -- the three tables of a file
-unfoldable pub sines_in : List ℕ → List ℤ
-sines_in bytes = listed (signed_in bytes) SINES
-
-unfoldable pub tangents_in : List ℕ → List ℤ
-tangents_in bytes = listed (λ i. signed_in bytes (SINES + i)) TANGENTS
-
-unfoldable pub slope_angles_in : List ℕ → List ℕ
-slope_angles_in bytes = listed (λ i. word_in bytes (SINES + TANGENTS + i)) SLOPE_ANGLES
-
 unfoldable pub angles_in : List ℕ → Angles
-angles_in bytes = record { sine = sines_in bytes; tangent = tangents_in bytes; angle = slope_angles_in bytes }
+angles_in bytes = record {
+  sine = signed_from bytes 0 SINES;
+  tangent = signed_from bytes SINES TANGENTS;
+  angle = words_from bytes (SINES + TANGENTS) SLOPE_ANGLES;
+}
 
 -- sine i is past one, up or down
 unfoldable pub is_wrong_sine : List ℤ → ℕ → Bool

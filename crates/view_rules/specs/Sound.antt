@@ -1,7 +1,7 @@
 -- What accepted tables keep at every size of a view.
-use Rattle.std.specs.Prelude.{◌≡◌, ℕ, ◌<◌, ◌≤◌}
+use Rattle.std.specs.Prelude.{◌≡◌, ℕ, ◌+◌, ◌<◌, ◌≤◌}
 use Rattle.word_rules.specs.Words.{ang90}
-use Rattle.view_rules.specs.declared.TheConstants.{MIN_SIZE, MAX_SIZE, TANGENTS}
+use Rattle.view_rules.specs.declared.TheConstants.{MIN_SIZE, MAX_SIZE, FRAME_WIDTH, FRAME_HEIGHT, TANGENTS}
 use Rattle.view_rules.specs.declared.ViewShape.{ViewShape}
 use Rattle.view_rules.specs.Angles.{Angles}
 use Rattle.view_rules.specs.Shape.{shape_of_size}
@@ -13,6 +13,15 @@ pub record IsShape (shape : ViewShape) : Type 0 where
   pub least : MIN_SIZE ≤ size
   pub greatest : size ≤ MAX_SIZE
   pub is : shape ≡ shape_of_size size
+
+-- the view lies within the frame, has a pixel, and its centre is in its middle
+pub record IsWithinFrame (shape : ViewShape) : Type 0 where
+  pub width : shape.left + shape.width ≤ FRAME_WIDTH
+  pub height : shape.top + shape.height ≤ FRAME_HEIGHT
+  pub columns : 0 < shape.width
+  pub rows : 0 < shape.height
+  pub centre_x : shape.centre_x + shape.centre_x ≡ shape.width
+  pub centre_y : shape.centre_y + shape.centre_y ≡ shape.height
 
 -- fine angles further left are seen further left, and the left edge is less than a quarter turn off
 pub record IsSound (t : Angles) (shape : ViewShape) : Type 0 where

@@ -1,0 +1,24 @@
+-- Laws of the sweep over the columns: `fine_of_column` from one column to the next.
+use Rattle.std.proofs.Common.{◌≡◌, ℕ, ◌<◌, ◌≤◌, Bool, false, Option, Some, None, ℤ, pos, refl, arith}
+use Rattle.std.specs.Prelude.{int_le, unwrap_or}
+use Rattle.std.proofs.lemmas.Int.{ints}
+use Rattle.word_rules.specs.Least.{least}
+use Rattle.word_rules.proofs.LeastLemmas.{least-is}
+use Rattle.view_rules.specs.declared.TheConstants.{TANGENTS}
+use Rattle.view_rules.specs.declared.ViewShape.{ViewShape}
+use Rattle.view_rules.specs.Angles.{Angles, tangent_at}
+use Rattle.view_rules.specs.Tables.{raw_column, focal_length, is_seen_by, first_seen_by, fine_of_column}
+
+further_left : (column : ℤ) (left x : ℕ) → left ≤ x → int_le column (pos x) ≡ false → int_le column (pos left) ≡ false
+further_left column left x h e = grind (arith, ints)
+
+below_first : (p : ℕ → Bool) (n k : ℕ) (o : Option ℕ) → least p n ≡ o → k < unwrap_or o 0 → p k ≡ false
+below_first p n k None e h = absurd (omega arith)
+below_first p n k (Some i) e h = (least-is p n i e).2 k h
+
+-- no fine angle below that of column x is seen at x or further left
+pub fine_of_column-below : (t : Angles) (shape : ViewShape) (x k left : ℕ) → k < fine_of_column t shape x → left ≤ x → is_seen_by t shape (focal_length t shape) left k ≡ false
+unfolding fine_of_column first_seen_by is_seen_by
+fine_of_column-below t shape x k left h l =
+    further_left (raw_column shape (focal_length t shape) (tangent_at t k)) left x l
+    (below_first (is_seen_by t shape (focal_length t shape) x) TANGENTS k (least (is_seen_by t shape (focal_length t shape) x) TANGENTS) refl h)

@@ -1,0 +1,14 @@
+use Rattle.std.proofs.Common.{rules, arith, length, sym}
+use Rattle.word_rules.proofs.LeastLemmas.{least-some, least-none}
+use Rattle.view_rules.specs.Refusals.{is_wrong_angle}
+use Rattle.angle_tables.proofs.refusals.first_wrong_angle.Goals as goal
+
+-- the first that is wrong, and none before it
+pub returns-then-is_wrong_angle : goal.returns-then-is_wrong_angle
+returns-then-is_wrong_angle c =
+    sym (least-some (is_wrong_angle c.args.angle.now) (length c.args.angle.now) c.loop-i.i c.loop-i-test.true (search rules) c.loop-i.invariant)
+
+-- none is wrong
+pub returns : goal.returns
+returns c =
+    sym (least-none (is_wrong_angle c.args.angle.now) (length c.args.angle.now) (λ k l. c.loop-i.invariant k (omega arith)))

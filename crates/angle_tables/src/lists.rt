@@ -1,0 +1,148 @@
+// The three tables of angles as their file has them: rules `signed_from`, `words_from`.
+
+ghost use Rattle.std.specs.Prelude.{◌≡◌, ℕ, ◌+◌, ◌*◌, ◌<◌, ◌≤◌, length, IfOk};
+ghost use Rattle.view_rules.specs.Angles.{sine_at, cosine_at, tangent_at, angle_at};
+ghost use Rattle.view_rules.specs.Refusals.{word_in, signed_in, words_from, signed_from, angles_in};
+ghost use Rattle.view_rules.specs.declared.TheConstants.{SINES, TANGENTS, SLOPE_ANGLES, WORD_BYTES, TABLES_BYTES};
+
+use byteorder::{ByteOrder, LittleEndian};
+use std::alloc::{AllocError, Global};
+use std::marker::Model;
+use view_rules::{COSINE_START, SINES, SLOPE_ANGLES, TANGENTS, WORD_BYTES};
+
+/// The three tables.
+#[derive(Drop)]
+pub(crate) struct AngleLists {
+    sine: Vec<i32>,
+    tangent: Vec<i32>,
+    angle: Vec<u32>,
+}
+
+impl Model for AngleLists {
+    ghost use Rattle.view_rules.specs.Angles.{Angles};
+
+    ghost Value = { Angles };
+
+    ghost use Rattle.angle_tables.specs.Lists.{angles_of, HasLengths};
+
+    ghost view = { angles_of };
+
+    ghost invariant = { HasLengths };
+}
+
+impl AngleLists {
+    /// The tables of a file.
+    #[tactic(auto, unfolding(view_rules::specs::Refusals::angles_in))]
+    pub(crate) fn read(alloc: Global, bytes: &[u8]) -> Result<AngleLists, AllocError>
+        requires { length bytes.now ≡ TABLES_BYTES }
+        ensures { IfOk result (λ t. t ≡ angles_in bytes.now) }
+    {
+        let sine = signed_from(alloc, bytes, 0, SINES)?;
+        let tangent = signed_from(alloc, bytes, SINES, TANGENTS)?;
+        let angle = words_from(alloc, bytes, SINES + TANGENTS, SLOPE_ANGLES)?;
+        Ok(AngleLists {
+            sine,
+            tangent,
+            angle,
+        })
+    }
+
+    #[tactic(auto, unfolding(view_rules::specs::Angles::sine_at))]
+    pub(crate) fn sine(&self, i: usize) -> i32
+        requires { i < SINES }
+        ensures { result ≡ sine_at self.now i }
+    {
+        self.sine[i]
+    }
+
+    #[tactic(auto, unfolding(view_rules::specs::Angles::cosine_at))]
+    pub(crate) fn cosine(&self, i: usize) -> i32
+        requires { i + COSINE_START < SINES }
+        ensures { result ≡ cosine_at self.now i }
+    {
+        self.sine[i + COSINE_START]
+    }
+
+    #[tactic(auto, unfolding(view_rules::specs::Angles::tangent_at))]
+    pub(crate) fn tangent(&self, i: usize) -> i32
+        requires { i < TANGENTS }
+        ensures { result ≡ tangent_at self.now i }
+    {
+        self.tangent[i]
+    }
+
+    #[tactic(auto, unfolding(view_rules::specs::Angles::angle_at))]
+    pub(crate) fn angle(&self, i: usize) -> u32
+        requires { i < SLOPE_ANGLES }
+        ensures { result ≡ angle_at self.now i }
+    {
+        self.angle[i]
+    }
+
+    pub(crate) fn sines(&self) -> &[i32]
+        ensures value { result.now ≡ self.now.sine }
+        ensures len { length result.now ≡ SINES }
+    {
+        &self.sine
+    }
+
+    pub(crate) fn tangents(&self) -> &[i32]
+        ensures value { result.now ≡ self.now.tangent }
+        ensures len { length result.now ≡ TANGENTS }
+    {
+        &self.tangent
+    }
+
+    pub(crate) fn slope_angles(&self) -> &[u32]
+        ensures value { result.now ≡ self.now.angle }
+        ensures len { length result.now ≡ SLOPE_ANGLES }
+    {
+        &self.angle
+    }
+}
+
+/// Word `i` of a file.
+#[tactic(auto, unfolding(view_rules::specs::Refusals::word_in))]
+fn word_in(bytes: &[u8], i: usize) -> u32
+    requires { WORD_BYTES * i + WORD_BYTES ≤ length bytes.now }
+    ensures { result ≡ word_in bytes.now i }
+{
+    LittleEndian::read_u32(&bytes[WORD_BYTES * i..])
+}
+
+/// Word `i` of a file, with a sign.
+#[tactic(auto, unfolding(view_rules::specs::Refusals::signed_in))]
+fn signed_in(bytes: &[u8], i: usize) -> i32
+    requires { WORD_BYTES * i + WORD_BYTES ≤ length bytes.now }
+    ensures { result ≡ signed_in bytes.now i }
+{
+    fx_words::signed_of(word_in(bytes, i))
+}
+
+/// The `n` words of a file from word `first` on.
+#[tactic(auto, using(word_rules::proofs::ListedLemmas::listing), unfolding(view_rules::specs::Refusals::words_from))]
+fn words_from(alloc: Global, bytes: &[u8], first: usize, n: usize) -> Result<Vec<u32>, AllocError>
+    requires { WORD_BYTES * (first + n) ≤ length bytes.now }
+    ensures items { IfOk result (λ v. v.items ≡ words_from bytes.now first n) }
+    ensures len { IfOk result (λ v. length v.items ≡ n) }
+{
+    let mut words = Vec::with_capacity(alloc, n)?;
+    for i in 0..n {
+        words.push(word_in(bytes, first + i))?;
+    }
+    Ok(words)
+}
+
+/// The `n` words of a file from word `first` on, with signs.
+#[tactic(auto, using(word_rules::proofs::ListedLemmas::listing), unfolding(view_rules::specs::Refusals::signed_from))]
+fn signed_from(alloc: Global, bytes: &[u8], first: usize, n: usize) -> Result<Vec<i32>, AllocError>
+    requires { WORD_BYTES * (first + n) ≤ length bytes.now }
+    ensures items { IfOk result (λ v. v.items ≡ signed_from bytes.now first n) }
+    ensures len { IfOk result (λ v. length v.items ≡ n) }
+{
+    let mut words = Vec::with_capacity(alloc, n)?;
+    for i in 0..n {
+        words.push(signed_in(bytes, first + i))?;
+    }
+    Ok(words)
+}

@@ -1,0 +1,4 @@
+pub mod ShapeLemmas
+pub mod ColumnLemmas
+pub mod SoundLemmas
+pub mod RangeLemmas
