@@ -1,0 +1,5 @@
+pub mod RecordLemmas
+pub mod RowLemmas
+pub mod RowSentences
+pub mod ThingLemmas
+pub mod TableLemmas

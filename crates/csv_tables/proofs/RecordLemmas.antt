@@ -1,0 +1,174 @@
+-- Laws of the records of a text, and of a header.
+use Rattle.std.proofs.Common.{Bor, ◌≡◌, ℕ, zero, suc, ◌+◌, ◌<◌, ◌≤◌, Bool, true, false, ◌&&◌, List, [], ◌∷◌, ◌++◌, length, drop, take, map, get_or, if◌then◌else◌, ◌⊎◌, inl, inr, Option, Some, None, refl, ap, sym, ◌∙◌, arith, bytes_eq}
+use Rattle.std.specs.Option.{option_map_or}
+use Rattle.std.proofs.lemmas.List.{length-map}
+use Rattle.std.proofs.Math.ListN.{drop_of_length-le}
+use Rattle.csv.specs.Machine.{Read, ends_at_end, field_after, fields_after, is_end, next_record, step}
+use Rattle.csv.specs.declared.reader.Reader.{Reader}
+use Rattle.csv.specs.declared.error.ErrorKind.{ErrorKind}
+use Rattle.csv.specs.declared.error.ErrorKind.TheVariants as kind
+use Rattle.csv.specs.Reading.{ExplainsRead, is_flexible, Reached, records_from, default_config, strip_bom}
+use Rattle.csv.specs.Records.{field_at}
+use Rattle.csv.specs.declared.parser.Config.{Config}
+use Rattle.csv.specs.declared.parser.State.{State}
+use Rattle.csv.specs.declared.parser.State.TheVariants as st
+use Rattle.csv_tables.specs.Records.{is_header, is_of_length, records_of}
+
+none-some : {A : Type 0} (x : A) → ◌≡◌ {A = Option A} None (Some x) → ⊥
+none-some x e = cc
+
+if_some : {A : Type 0} (b : Bool) (x y : Option A) (p : A) → (if b then x else y) ≡ Some p → (x ≡ Some p) ⊎ (y ≡ Some p)
+if_some true x y p e = inl e
+if_some false x y p e = inr e
+
+-- a record at the end of the bytes leaves none
+next-at_end : (cfg : Config) (s : State) (fields : List (List ℕ)) (field : List ℕ) (p : Read) → next_record cfg s fields field [] ≡ Some p → (p.1 ≡ st.StartRecord) × (p.2 ≡ [])
+unfolding next_record
+next-at_end cfg s fields field p e =
+    elim (if_some (ends_at_end s) (Some (fields ++ (field ∷ []), st.StartRecord, [])) None p e) [
+      | inl h ↦ let same : ◌≡◌ {A = Read} (fields ++ (field ∷ []), st.StartRecord, []) p = cc in (sym (ap (λ (q : Read). q.1) same), sym (ap (λ (q : Read). q.2) same))
+      | inr h ↦ absurd (none-some p h)
+    ]
+
+-- a record leaves no more bytes than there were, and fewer where there were any
+next-shorter : (cfg : Config) (s : State) (fields : List (List ℕ)) (field xs : List ℕ) (p : Read) → next_record cfg s fields field xs ≡ Some p → length p.2 ≤ length xs
+unfolding next_record
+next-shorter cfg s fields field [] p e = let none = next-at_end cfg s fields field p e in let len : length p.2 ≡ 0 = ap length none.1 in omega arith
+next-shorter cfg s fields field (c ∷ rest) p e =
+    elim (if_some (is_end (step cfg s c).1) (Some (fields_after (step cfg s c).1 fields field, (step cfg s c).0, rest)) (next_record cfg (step cfg s c).0 (fields_after (step cfg s c).1 fields field) (field_after (step cfg s c).1 c field) rest) p e) [
+      | inl h ↦
+          let same : ◌≡◌ {A = Read} (fields_after (step cfg s c).1 fields field, (step cfg s c).0, rest) p = cc in
+          let len : length rest ≡ length p.2 = ap (λ (q : Read). length q.2) same in
+          omega arith
+      | inr h ↦ let less = next-shorter cfg (step cfg s c).0 (fields_after (step cfg s c).1 fields field) (field_after (step cfg s c).1 c field) rest p h in omega arith
+    ]
+
+next-fewer : (cfg : Config) (s : State) (fields : List (List ℕ)) (field : List ℕ) (c : ℕ) (rest : List ℕ) (p : Read) → next_record cfg s fields field (c ∷ rest) ≡ Some p → length p.2 ≤ length rest
+unfolding next_record
+next-fewer cfg s fields field c rest p e =
+    elim (if_some (is_end (step cfg s c).1) (Some (fields_after (step cfg s c).1 fields field, (step cfg s c).0, rest)) (next_record cfg (step cfg s c).0 (fields_after (step cfg s c).1 fields field) (field_after (step cfg s c).1 c field) rest) p e) [
+      | inl h ↦
+          let same : ◌≡◌ {A = Read} (fields_after (step cfg s c).1 fields field, (step cfg s c).0, rest) p = cc in
+          let len : length rest ≡ length p.2 = ap (λ (q : Read). length q.2) same in
+          omega arith
+      | inr h ↦ next-shorter cfg (step cfg s c).0 (fields_after (step cfg s c).1 fields field) (field_after (step cfg s c).1 c field) rest p h
+    ]
+
+-- no record begins at the end of the bytes
+start-none : (cfg : Config) → next_record cfg st.StartRecord [] [] [] ≡ None
+unfolding next_record
+start-none cfg = refl
+
+-- with no bytes left there is one record at most
+reached-last : (cfg : Config) (s s2 : State) (ys : List ℕ) (r : List (List ℕ)) (rs : List (List (List ℕ))) → Reached cfg s [] (r ∷ rs) s2 ys → rs ≡ []
+unfolding Reached
+reached-last cfg s s2 ys r [] h = refl
+reached-last cfg s s2 ys r (q ∷ qs) h =
+    let at = next-at_end cfg s [] [] h.0 h.1 in
+    let more : next_record cfg h.0.1 [] [] h.0.2 ≡ Some h.3.0 = h.3.1 in
+    absurd (none-some h.3.0 (sym (start-none cfg) ∙ rw (at.0, at.1) at more))
+
+no-more : (cfg : Config) (m n : ℕ) → take n (records_from cfg m st.StartRecord []) ≡ []
+unfolding records_from next_record
+no-more cfg zero zero = refl
+no-more cfg zero (suc n) = refl
+no-more cfg (suc m) zero = refl
+no-more cfg (suc m) (suc n) = refl
+
+-- the records that were reached are the first ones of the text
+reached-take : (cfg : Config) (s s2 : State) (xs ys : List ℕ) (rows : List (List (List ℕ))) (m : ℕ) → Reached cfg s xs rows s2 ys → length xs < m → take (length rows) (records_from cfg m s xs) ≡ rows
+unfolding Reached records_from
+reached-take cfg s s2 xs ys [] m h l = refl
+reached-take cfg s s2 xs ys (r ∷ rs) zero h l = absurd (omega arith)
+reached-take cfg s s2 [] ys (r ∷ rs) (suc m) h l =
+    let one = reached-last cfg s s2 ys r rs h in
+    rw (h.1, one) (ap (λ (t : List (List ℕ)). t ∷ []) (sym h.2))
+reached-take cfg s s2 (c ∷ xs) ys (r ∷ rs) (suc m) h l =
+    let fewer = next-fewer cfg s [] [] c xs h.0 h.1 in
+    let more = reached-take cfg h.0.1 s2 h.0.2 ys rs m h.3 (omega arith) in
+    rw (h.1, more) (ap (λ (t : List (List ℕ)). t ∷ rs) (sym h.2))
+
+-- and all of them where none comes after
+reached-end : (cfg : Config) (s s2 : State) (xs ys : List ℕ) (rows : List (List (List ℕ))) (m n : ℕ) → Reached cfg s xs rows s2 ys → next_record cfg s2 [] [] ys ≡ None → length xs < m → length rows ≤ n → take n (records_from cfg m s xs) ≡ rows
+unfolding Reached records_from
+reached-end cfg s s2 xs ys [] m zero h e l k = refl
+reached-end cfg s s2 xs ys [] zero (suc n) h e l k = absurd (omega arith)
+reached-end cfg s s2 xs ys [] (suc m) (suc n) h e l k = let none : next_record cfg s [] [] xs ≡ None = rw (h.0, h.1) e in rw none refl
+reached-end cfg s s2 xs ys (r ∷ rs) m zero h e l k = absurd (omega arith)
+reached-end cfg s s2 xs ys (r ∷ rs) zero (suc n) h e l k = absurd (omega arith)
+reached-end cfg s s2 [] ys (r ∷ rs) (suc m) (suc n) h e l k =
+    let one = reached-last cfg s s2 ys r rs h in
+    let at = next-at_end cfg s [] [] h.0 h.1 in
+    let after = no-more cfg m n in
+    rw (h.1, at.0, at.1, after, one) (ap (λ (t : List (List ℕ)). t ∷ []) (sym h.2))
+reached-end cfg s s2 (c ∷ xs) ys (r ∷ rs) (suc m) (suc n) h e l k =
+    let fewer = next-fewer cfg s [] [] c xs h.0 h.1 in
+    let more = reached-end cfg h.0.1 s2 h.0.2 ys rs m n h.3 e (omega arith) (omega arith) in
+    rw (h.1, more) (ap (λ (t : List (List ℕ)). t ∷ rs) (sym h.2))
+
+-- a loop that stops at its limit
+pub first_records-full : (n : ℕ) (bytes ys : List ℕ) (s2 : State) (rows : List (List (List ℕ))) → Reached default_config st.StartRecord (strip_bom bytes) rows s2 ys → length rows ≡ n → rows ≡ take n (records_of bytes)
+unfolding records_of
+first_records-full n bytes ys s2 rows h e = rw (← e) (sym (reached-take default_config st.StartRecord s2 (strip_bom bytes) ys rows (length (strip_bom bytes) + 1) h (omega arith)))
+
+-- a loop that came to the end
+pub first_records-end : (n : ℕ) (bytes ys : List ℕ) (s2 : State) (rows : List (List (List ℕ))) → Reached default_config st.StartRecord (strip_bom bytes) rows s2 ys → next_record default_config s2 [] [] ys ≡ None → length rows ≤ n → rows ≡ take n (records_of bytes)
+unfolding records_of
+first_records-end n bytes ys s2 rows h e l = sym (reached-end default_config st.StartRecord s2 (strip_bom bytes) ys rows (length (strip_bom bytes) + 1) n h e (omega arith) l)
+
+false-end : (b : Bool) → (b && false) ≡ false
+false-end true = refl
+false-end false = refl
+
+-- a header has as many fields as names
+pub is_header-length : (names fields : List (List ℕ)) → ¬ (length fields ≡ length names) → is_header names fields ≡ false
+unfolding is_header
+is_header-length [] [] d = absurd (d refl)
+is_header-length [] (f ∷ fs) d = refl
+is_header-length (n ∷ ns) [] d = refl
+is_header-length (n ∷ ns) (f ∷ fs) d =
+    let e = is_header-length ns fs (λ e. d (ap suc e)) in
+    rw e (false-end (bytes_eq f n))
+
+-- field i of a header is its name
+pub is_header-step : (names fields : List (List ℕ)) (i : ℕ) → i < length names → length fields ≡ length names → is_header (drop i names) (drop i fields) ≡ (option_map_or (λ f. bytes_eq f (get_or names i [])) (field_at fields i) false && is_header (drop (i + 1) names) (drop (i + 1) fields))
+unfolding is_header field_at
+is_header-step [] fields i l e = absurd (omega arith)
+is_header-step (n ∷ ns) [] i l e = absurd (omega (arith, e))
+is_header-step (n ∷ ns) (f ∷ fs) zero l e = refl
+is_header-step (n ∷ ns) (f ∷ fs) (suc i) l e =
+    let h = is_header-step ns fs i (omega arith) (omega (arith, e)) in
+    let a : suc i + 1 ≡ suc (i + 1) = omega arith in
+    rw a h
+
+pub is_header-end : is_header [] [] ≡ true
+unfolding is_header
+is_header-end = refl
+
+pub ruleset header_steps = (is_header-length, is_header-step, is_header-end)
+
+-- one field more of a header, and the end of the names
+pub is_header-at : (names : List (Bor (List ℕ))) (fields : List (List ℕ)) (i : ℕ) (text : List ℕ) (r : Bool) → i < length names → length fields ≡ length names → r ≡ option_map_or (λ f. bytes_eq f text) (field_at fields i) false → get_or (map (λ n. n.now) names) i [] ≡ text → is_header (drop i (map (λ n. n.now) names)) (drop i fields) ≡ (r && is_header (drop (i + 1) (map (λ n. n.now) names)) (drop (i + 1) fields))
+is_header-at names fields i text r l e h g =
+    let len : length (map (λ (n : Bor (List ℕ)). n.now) names) ≡ length names = length-map names (λ n. n.now) in
+    rw (h, ← g) (is_header-step (map (λ n. n.now) names) fields i (rw len l) (e ∙ sym len))
+
+pub is_header-done : (names : List (Bor (List ℕ))) (fields : List (List ℕ)) (i : ℕ) → length names ≤ i → length fields ≡ length names → is_header (drop i (map (λ n. n.now) names)) (drop i fields) ≡ true
+is_header-done names fields i l e =
+    let len : length (map (λ (n : Bor (List ℕ)). n.now) names) ≡ length names = length-map names (λ n. n.now) in
+    let a : drop i (map (λ (n : Bor (List ℕ)). n.now) names) ≡ [] = drop_of_length-le (map (λ (n : Bor (List ℕ)). n.now) names) (rw len l) in
+    let b : drop i fields ≡ [] = drop_of_length-le fields (rw e l) in
+    rw (a, b) is_header-end
+
+pub true-false : true ≡ false → ⊥
+true-false e = cc
+
+-- where records may have any length, none is refused for its length
+pub any-length : {R : Type 0} (rem : R → Option (List ℕ)) (a b : Reader R) (k : ErrorKind) → is_flexible a ≡ true → ExplainsRead rem a b false k → is_of_length k ≡ false
+unfolding is_of_length
+any-length rem a b (kind.UnequalLengths place expected len) f h = absurd (true-false (sym f ∙ h.0))
+any-length rem a b (kind.Io e) f h = refl
+any-length rem a b (kind.Utf8 place why) f h = refl
+any-length rem a b kind.OutOfMemory f h = refl
+any-length rem a b (kind.Serialize text) f h = refl
+any-length rem a b (kind.Deserialize place why) f h = refl

@@ -1,0 +1,63 @@
+-- Laws of `rows_after`, for a loop over the records, and for a table of which the first ones are read.
+use Rattle.std.proofs.Common.{◌≡◌, ℕ, zero, suc, ◌+◌, ◌<◌, ◌≤◌, List, [], ◌∷◌, ◌++◌, length, take, drop, get_or, Result, Ok, Err, refl, sym, ◌∙◌, arith, inl, inr}
+use Rattle.std.proofs.Math.ListN.{drop_of_length-le}
+use Rattle.std.proofs.lemmas.List.{at_drop_more, length-append}
+use Rattle.std.proofs.lemmas.Bool.{cases_eq}
+use Rattle.csv_tables.specs.declared.fault.CsvRefusal.{CsvRefusal}
+use Rattle.csv_tables.specs.declared.fault.CsvRefusal.TheVariants.{TooMany}
+use Rattle.csv_tables.specs.declared.fault.CsvFault.{CsvFault}
+use Rattle.csv_tables.specs.declared.fault.CsvFault.TheVariants.{Refused}
+use Rattle.csv_tables.specs.Records.{and_then}
+use Rattle.csv_tables.specs.Rows.{rows_after}
+
+-- the records are at their end
+pub rows_after-end : {A : Type 0} (read : List A → ℕ → List (List ℕ) → Result A CsvRefusal) (rows : List A) (records : List (List (List ℕ))) (i : ℕ) → length records ≤ i → rows_after read rows (drop i records) ≡ Ok rows
+unfolding rows_after
+rows_after-end read rows records i l =
+    let none : drop i records ≡ [] = drop_of_length-le records l in
+    rw none refl
+
+-- one record more
+rows_after-more : {A : Type 0} (read : List A → ℕ → List (List ℕ) → Result A CsvRefusal) (rows : List A) (records : List (List (List ℕ))) (i : ℕ) (fields : List (List ℕ)) → i < length records → get_or records i [] ≡ fields → length rows ≡ i
+    → rows_after read rows (drop i records) ≡ and_then (read rows (i + 1) fields) (λ row. rows_after read (rows ++ row ∷ []) (drop (i + 1) records))
+unfolding rows_after
+rows_after-more read rows records i fields l g n =
+    let one = at_drop_more (rows_after read rows) records i [] l in
+    rw (one, g, n) refl
+
+pub rows_after-taken : {A : Type 0} (read : List A → ℕ → List (List ℕ) → Result A CsvRefusal) (rows : List A) (records : List (List (List ℕ))) (i : ℕ) (fields : List (List ℕ)) (row : A) → i < length records → get_or records i [] ≡ fields → length rows ≡ i
+    → read rows (i + 1) fields ≡ Ok row → rows_after read rows (drop i records) ≡ rows_after read (rows ++ row ∷ []) (drop (i + 1) records)
+rows_after-taken read rows records i fields row l g n e = rows_after-more read rows records i fields l g n ∙ rw e refl
+
+pub rows_after-refused : {A : Type 0} (read : List A → ℕ → List (List ℕ) → Result A CsvRefusal) (rows : List A) (records : List (List (List ℕ))) (i : ℕ) (fields : List (List ℕ)) (refusal : CsvRefusal) → i < length records → get_or records i [] ≡ fields → length rows ≡ i
+    → read rows (i + 1) fields ≡ Err refusal → rows_after read rows (drop i records) ≡ Err refusal
+rows_after-refused read rows records i fields refusal l g n e = rows_after-more read rows records i fields l g n ∙ rw e refl
+
+pub and_then-same : {A B : Type 0} (r : Result A CsvRefusal) (f g : A → Result B CsvRefusal) → ((a : A) → f a ≡ g a) → and_then r f ≡ and_then r g
+and_then-same (Ok a) f g h = h a
+and_then-same (Err e) f g h = refl
+
+pub and_then-err : {A B : Type 0} (r : Result A CsvRefusal) (f : A → Result B CsvRefusal) (e : CsvRefusal) → r ≡ Err e → and_then r f ≡ Err e
+and_then-err r f e h = rw h refl
+
+-- where each row past the limit is one too many, the records past the first of those say nothing
+pub rows_after-first : {A : Type 0} (read : List A → ℕ → List (List ℕ) → Result A CsvRefusal) (limit n : ℕ) (rows : List A) (records : List (List (List ℕ)))
+    → ((rows : List A) (row : ℕ) (fields : List (List ℕ)) → limit < row → read rows row fields ≡ Err TooMany)
+    → length rows ≤ limit → limit < length rows + n → rows_after read rows (take n records) ≡ rows_after read rows records
+unfolding rows_after
+rows_after-first read limit zero rows records past l m = absurd (omega arith)
+rows_after-first read limit (suc n) rows [] past l m = refl
+rows_after-first {A} read limit (suc n) rows (fields ∷ records) past l m =
+    elim (cases_eq (length rows) limit) [
+      | inl full ↦
+          let refused = past rows (length rows + 1) fields (omega arith) in
+          and_then-err _ _ TooMany refused ∙ sym (and_then-err _ _ TooMany refused)
+      | inr open_ ↦
+          and_then-same (read rows (length rows + 1) fields) _ _ (λ row.
+          let len : length (rows ++ row ∷ []) ≡ length rows + 1 = length-append rows (row ∷ []) in
+          rows_after-first read limit n (rows ++ row ∷ []) records past (omega (arith, len)) (omega (arith, len)))
+    ]
+
+-- two refusals of one result
+pub refusal-same : {T : Type 0} (a b : CsvRefusal) → ◌≡◌ {A = Result T CsvFault} (Err (Refused a)) (Err (Refused b)) → a ≡ b
+refusal-same a b e = cc

@@ -1,0 +1,76 @@
+-- The first records of a file say what its table is, where they go past the limit of rows.
+use Rattle.std.proofs.Common.{◌≡◌, ℕ, zero, suc, ◌+◌, ◌<◌, ◌≤◌, true, cond, nat_lt, List, [], ◌∷◌, take, Result, Ok, Err, IfOk, refl, ap, sym, ◌∙◌, arith}
+use Rattle.std.proofs.lemmas.Bool.Decides.{nat_tests}
+use Rattle.csv_tables.specs.declared.fault.CsvRefusal.{CsvRefusal}
+use Rattle.csv_tables.specs.declared.fault.CsvRefusal.TheVariants.{Header, TooMany}
+use Rattle.csv_tables.specs.declared.path.PathRow.{PathRow}
+use Rattle.csv_tables.specs.declared.path.TheConstants.{MAX_VIEWS}
+use Rattle.csv_tables.specs.declared.things.ThingLine.{ThingLine}
+use Rattle.csv_tables.specs.declared.things.TheConstants.{MAX_THINGS, THING_WIDTH}
+use Rattle.csv_tables.specs.declared.weapons.WeaponRow.{WeaponRow}
+use Rattle.csv_tables.specs.declared.weapons.TheConstants.{MAX_WEAPONS, WEAPON_WIDTH}
+use Rattle.csv_tables.specs.Records.{records_of, row_shape, table_records}
+use Rattle.csv_tables.specs.Paths.{path_in, path_of_records, path_row, path_width}
+use Rattle.csv_tables.specs.Things.{is_thing_header, lines_of_records, read_line, thing_line, things_in}
+use Rattle.csv_tables.specs.Weapons.{is_weapon_header, weapon_row, weapons_in, weapons_of_records}
+use Rattle.csv_tables.proofs.RowLemmas.{and_then-err, and_then-same, rows_after-first}
+
+-- a row past the limit is one too many
+row_shape-past : (limit width row : ℕ) (fields : List (List ℕ)) → limit < row → row_shape limit width row fields ≡ Err TooMany
+unfolding row_shape
+row_shape-past limit width row fields past = let over : nat_lt limit row ≡ true = grind (arith, nat_tests) in rw over refl
+
+path_row-past : (width row : ℕ) (fields : List (List ℕ)) → MAX_VIEWS < row → path_row width row fields ≡ Err TooMany
+unfolding path_row
+path_row-past width row fields past = and_then-err _ _ TooMany (row_shape-past MAX_VIEWS width row fields past)
+
+thing_line-past : (row : ℕ) (fields : List (List ℕ)) → MAX_THINGS < row → thing_line row fields ≡ Err TooMany
+unfolding thing_line
+thing_line-past row fields past = and_then-err _ _ TooMany (row_shape-past MAX_THINGS THING_WIDTH row fields past)
+
+read_line-past : (lines : List ThingLine) (row : ℕ) (fields : List (List ℕ)) → MAX_THINGS < row → read_line lines row fields ≡ Err TooMany
+unfolding read_line
+read_line-past lines row fields past = and_then-err _ _ TooMany (thing_line-past row fields past)
+
+weapon_row-past : (row : ℕ) (fields : List (List ℕ)) → MAX_WEAPONS < row → weapon_row row fields ≡ Err TooMany
+unfolding weapon_row
+weapon_row-past row fields past = and_then-err _ _ TooMany (row_shape-past MAX_WEAPONS WEAPON_WIDTH row fields past)
+
+path_of_records-first : (n : ℕ) (records : List (List (List ℕ))) → MAX_VIEWS + 2 ≤ n → path_of_records (take n records) ≡ path_of_records records
+unfolding path_of_records
+path_of_records-first zero records l = absurd (omega arith)
+path_of_records-first (suc n) [] l = refl
+path_of_records-first (suc n) (head ∷ rows) l =
+    and_then-same (path_width head) _ _ (λ width. rows_after-first (λ _. path_row width) MAX_VIEWS n [] rows (λ _ row fields past. path_row-past width row fields past) (omega arith) (omega arith))
+
+lines_of_records-first : (n : ℕ) (records : List (List (List ℕ))) → MAX_THINGS + 2 ≤ n → lines_of_records (take n records) ≡ lines_of_records records
+unfolding lines_of_records
+lines_of_records-first zero records l = absurd (omega arith)
+lines_of_records-first (suc n) [] l = refl
+lines_of_records-first (suc n) (head ∷ rows) l =
+    ap (λ (lines : Result (List ThingLine) CsvRefusal). cond (is_thing_header head) lines (Err Header)) (rows_after-first read_line MAX_THINGS n [] rows (λ lines row fields past. read_line-past lines row fields past) (omega arith) (omega arith))
+
+weapons_of_records-first : (n : ℕ) (records : List (List (List ℕ))) → MAX_WEAPONS + 2 ≤ n → weapons_of_records (take n records) ≡ weapons_of_records records
+unfolding weapons_of_records
+weapons_of_records-first zero records l = absurd (omega arith)
+weapons_of_records-first (suc n) [] l = refl
+weapons_of_records-first (suc n) (head ∷ rows) l =
+    ap (λ (rows : Result (List WeaponRow) CsvRefusal). cond (is_weapon_header head) rows (Err Header)) (rows_after-first (λ _. weapon_row) MAX_WEAPONS n [] rows (λ _ row fields past. weapon_row-past row fields past) (omega arith) (omega arith))
+
+-- a table read from the first records of a file that is not too long
+pub path_in-first : (bytes : List ℕ) (n : ℕ) (given : List (List (List ℕ))) (r : Result (List PathRow) CsvRefusal) → table_records bytes ≡ Ok (records_of bytes) → given ≡ take n (records_of bytes) → MAX_VIEWS + 2 ≤ n → path_of_records given ≡ r → path_in bytes ≡ r
+unfolding path_in
+path_in-first bytes n given r whole first l e = rw whole (sym (path_of_records-first n (records_of bytes) l) ∙ ap path_of_records (sym first) ∙ e)
+
+pub things_in-first : (bytes : List ℕ) (n : ℕ) (given : List (List (List ℕ))) (r : Result (List ThingLine) CsvRefusal) → table_records bytes ≡ Ok (records_of bytes) → given ≡ take n (records_of bytes) → MAX_THINGS + 2 ≤ n → lines_of_records given ≡ r → things_in bytes ≡ r
+unfolding things_in
+things_in-first bytes n given r whole first l e = rw whole (sym (lines_of_records-first n (records_of bytes) l) ∙ ap lines_of_records (sym first) ∙ e)
+
+pub weapons_in-first : (bytes : List ℕ) (n : ℕ) (given : List (List (List ℕ))) (r : Result (List WeaponRow) CsvRefusal) → table_records bytes ≡ Ok (records_of bytes) → given ≡ take n (records_of bytes) → MAX_WEAPONS + 2 ≤ n → weapons_of_records given ≡ r → weapons_in bytes ≡ r
+unfolding weapons_in
+weapons_in-first bytes n given r whole first l e = rw whole (sym (weapons_of_records-first n (records_of bytes) l) ∙ ap weapons_of_records (sym first) ∙ e)
+
+-- what holds of an Ok value, from what held of it before
+pub if_ok-map : {A E : Type 0} (r : Result A E) (P Q : A → Type 0) → ((value : A) → P value → Q value) → IfOk r P → IfOk r Q
+if_ok-map (Ok value) P Q f h = f value h
+if_ok-map (Err fault) P Q f h = tt

@@ -1,0 +1,68 @@
+use Rattle.std.proofs.Common.{Bor, List, ℕ, ◌≡◌, ◌∙◌, sym, refl, rules, arith, inl, inr, true, map, length, Some, ◌∷◌, []}
+use Rattle.std.specs.Result.{is_ok}
+use Rattle.std.proofs.lemmas.List.{map-append, length-map, length-append}
+use Rattle.csv.specs.Reading.{Reached, default_config, strip_bom}
+use Rattle.csv.specs.Records.{fields_of}
+use Rattle.csv.specs.declared.parser.State.TheVariants as st
+use Rattle.csv.proofs.ReadFacts.{rows-end, rows-more}
+use Rattle.csv_tables.proofs.RecordLemmas.{any-length, first_records-full, first_records-end, true-false}
+use Rattle.csv_tables.proofs.records.first_records.Goals as goal
+
+pub loop-row-init : goal.loop-row-init
+unfolding Reached
+loop-row-init c =
+    let fr = c.from_reader-rdr.ensures in
+    let e = c.has_headers.ensures in
+    let g = c.flexible.ensures in
+    let start = c.into_iter-row-iterator.ensures.into_iter_gives ∙ refl in
+    let rdr = c.into_byte_records-row-items.ensures.rdr in
+    let left = c.into_byte_records-row-items.ensures.left in
+    rw (start, rdr, c.new-rows.ensures.items) (
+      rw (g, e) at fr.trim ∙ c.new.ensures.trim,
+      inr (inr (rw (g, e) at fr.has_headers, fr.headers)),
+      left,
+      rw (g, e) at fr.config ∙ c.new.ensures.config,
+      strip_bom c.args.bytes.now,
+      fr.source,
+      (sym fr.state, refl),
+      omega arith,
+      rw g at fr.flexible,
+    )
+
+pub loop-row-preserved : goal.loop-row-preserved
+loop-row-preserved c =
+    let inv = c.loop-row.invariant in
+    let s = rw (c.in-Some.is, c.in-Ok.is) at ((c.next.ensures.steps inv.2 inv.0).0 inv.1) in
+    let good : is_ok c.push.result ≡ true = search rules in
+    let items = rw good at c.push.ensures.items in
+    let m = rows-more (λ (s : Bor (List ℕ)). Some s.now) c.loop-row.row-iterator.rdr c.next.new.self.rdr (fields_of c.in-Ok.fields) default_config st.StartRecord (strip_bom c.args.bytes.now) inv.4 (map fields_of c.loop-row.rows.items) inv.3 inv.5 inv.6 s.0 in (
+      s.0.3 ∙ inv.0,
+      inl s.1,
+      s.2,
+      s.0.2 ∙ inv.3,
+      m.0,
+      m.1,
+      rw (items, map-append fields_of c.loop-row.rows.items (c.in-Ok.fields ∷ [])) m.2,
+      search (rules, length-append),
+      (rw (c.in-Some.is, c.in-Ok.is) at (c.next.ensures.steps inv.2 inv.0).3) ∙ inv.8,
+    )
+
+pub returns-then-len-limit : goal.returns-then-len-limit
+returns-then-len-limit c =
+    let inv = c.loop-row.invariant in
+    let full : length c.loop-row.rows.items ≡ c.args.limit = search rules in
+    first_records-full c.args.limit c.args.bytes.now inv.4 c.loop-row.row-iterator.rdr.state (map fields_of c.loop-row.rows.items) inv.6 (length-map c.loop-row.rows.items fields_of ∙ full)
+
+pub returns : goal.returns
+returns c =
+    let inv = c.loop-row.invariant in
+    let s = rw c.in-None.is at ((c.next.ensures.steps inv.2 inv.0).0 inv.1) in
+    let none = rows-end (λ (s : Bor (List ℕ)). Some s.now) c.loop-row.row-iterator.rdr c.next.new.self.rdr [] default_config inv.4 inv.3 inv.5 s in
+    first_records-end c.args.limit c.args.bytes.now inv.4 c.loop-row.row-iterator.rdr.state (map fields_of c.loop-row.rows.items) inv.6 none (rw (length-map c.loop-row.rows.items fields_of) inv.7)
+
+pub prove-unreachable-requires : goal.prove-unreachable-requires
+prove-unreachable-requires c =
+    let inv = c.loop-row.invariant in
+    let s = rw (c.in-Some.is, c.in-Err.is) at ((c.next.ensures.steps inv.2 inv.0).0 inv.1) in
+    let off = any-length (λ (s : Bor (List ℕ)). Some s.now) c.loop-row.row-iterator.rdr c.next.new.self.rdr c.in-Err.error.kind inv.8 s in
+    true-false (sym c.if-prove.true ∙ c.is_of_length-refused.ensures ∙ off)

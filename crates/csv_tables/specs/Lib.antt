@@ -1,0 +1,9 @@
+pub mod Numbers
+pub mod Records
+pub mod Columns
+pub mod Rows
+pub mod Paths
+pub mod Things
+pub mod Slots
+pub mod Weapons
+pub mod Worked

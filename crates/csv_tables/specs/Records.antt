@@ -1,0 +1,41 @@
+-- The records of a table's bytes, and what is refused of them as a whole.
+use Rattle.std.specs.Prelude.{ℕ, Bool, true, false, cond, ◌==◌, ◌&&◌, nat_lt, List, [], ◌∷◌, length, Result, Ok, Err, bytes_eq}
+use Rattle.csv.specs.Reading.{records, default_config, strip_bom}
+use Rattle.csv.specs.declared.error.ErrorKind.{ErrorKind}
+use Rattle.csv.specs.declared.error.ErrorKind.TheVariants as kind
+use Rattle.csv_tables.specs.declared.fault.CsvRefusal.{CsvRefusal}
+use Rattle.csv_tables.specs.declared.fault.CsvRefusal.TheVariants.{TooLong, Fields, TooMany}
+use Rattle.csv_tables.specs.declared.records.TheConstants.{MAX_TABLE_BYTES}
+
+-- what comes after a step that may refuse
+abbrev pub and_then : {A B : Type 0} → Result A CsvRefusal → (A → Result B CsvRefusal) → Result B CsvRefusal
+and_then (Ok a) f = f a
+and_then (Err e) f = Err e
+
+-- every record that `csv` gives for the bytes: its defaults, with no header row of its own
+unfoldable pub records_of : List ℕ → List (List (List ℕ))
+records_of bytes = records default_config (strip_bom bytes)
+
+-- the records of a file that is not too long
+unfoldable pub table_records : List ℕ → Result (List (List (List ℕ))) CsvRefusal
+table_records bytes = cond (nat_lt MAX_TABLE_BYTES (length bytes)) (Err (TooLong (length bytes))) (Ok (records_of bytes))
+
+-- the fields are these names
+unfoldable pub is_header : List (List ℕ) → List (List ℕ) → Bool
+is_header [] [] = true
+is_header [] (f ∷ fs) = false
+is_header (n ∷ ns) [] = false
+is_header (n ∷ ns) (f ∷ fs) = bytes_eq f n && is_header ns fs
+
+-- a row is one too many; else it has another number of fields than the header
+unfoldable pub row_shape : ℕ → ℕ → ℕ → List (List ℕ) → Result (Unit {0}) CsvRefusal
+row_shape limit width row fields = cond (nat_lt limit row) (Err TooMany) (cond (length fields == width) (Ok tt) (Err (Fields row)))
+
+-- a record was refused for its number of fields
+unfoldable pub is_of_length : ErrorKind → Bool
+is_of_length (kind.UnequalLengths place expected len) = true
+is_of_length (kind.Io e) = false
+is_of_length (kind.Utf8 place why) = false
+is_of_length kind.OutOfMemory = false
+is_of_length (kind.Serialize text) = false
+is_of_length (kind.Deserialize place why) = false

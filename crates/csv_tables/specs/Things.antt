@@ -1,0 +1,63 @@
+-- How the things of each type look, or what is refused first of the file.
+use Rattle.std.specs.Prelude.{ℕ, ◌≤◌, Bool, cond, ◌==◌, List, [], ◌∷◌, Option, Some, None, is_some, Result, Ok, Err, codes}
+use Rattle.csv.specs.Records.{field_at}
+use Rattle.csv_tables.specs.declared.fault.CsvRefusal.{CsvRefusal}
+use Rattle.csv_tables.specs.declared.fault.CsvRefusal.TheVariants.{Header, Repeat}
+use Rattle.csv_tables.specs.declared.things.ThingRow.{ThingRow}
+use Rattle.csv_tables.specs.declared.things.ThingLine.{ThingLine}
+use Rattle.csv_tables.specs.declared.things.TheConstants.{MAX_HANG, MAX_THINGS, MAX_TYPE, THING_WIDTH}
+use Rattle.csv_tables.specs.declared.columns.TheConstants.{FIRST_FRAME, LAST_FRAME}
+use Rattle.csv_tables.specs.Records.{and_then, is_header, row_shape, table_records}
+use Rattle.csv_tables.specs.Columns.{flag_column, frame_column, natural_column, sprite_column}
+use Rattle.csv_tables.specs.Rows.{rows_after}
+
+-- the frame is a frame letter, and the distance from the ceiling within its range
+abbrev pub IsThingInRange : ThingRow → Type 0
+IsThingInRange row = (FIRST_FRAME ≤ row.frame) × (row.frame ≤ LAST_FRAME) × (row.hang ≤ MAX_HANG)
+
+abbrev pub IsLineInRange : ThingLine → Type 0
+IsLineInRange line = (line.kind ≤ MAX_TYPE) × IsThingInRange line.row
+
+-- the row of a type
+unfoldable pub row_of : List ThingLine → ℕ → Option ThingRow
+row_of [] kind = None
+row_of (line ∷ lines) kind = cond (line.kind == kind) (Some line.row) (row_of lines kind)
+
+abbrev pub thing_header : List (List ℕ)
+thing_header = codes "type" ∷ codes "sprite" ∷ codes "frame" ∷ codes "bright" ∷ codes "hang" ∷ codes "shadow" ∷ []
+
+unfoldable pub is_thing_header : List (List ℕ) → Bool
+is_thing_header head = is_header thing_header head
+
+-- the line of a row with the right number of fields, its columns from left to right
+unfoldable pub line_of : ℕ → List (List ℕ) → Result ThingLine CsvRefusal
+line_of row fields =
+    and_then (natural_column row 0 MAX_TYPE fields) (λ kind.
+    and_then (sprite_column row 1 (field_at fields 1)) (λ sprite.
+    and_then (frame_column row 2 (field_at fields 2)) (λ frame.
+    and_then (flag_column row 3 fields) (λ bright.
+    and_then (natural_column row 4 MAX_HANG fields) (λ hang.
+    and_then (flag_column row 5 fields) (λ shadow.
+    Ok (record { kind = kind; row = record { sprite = sprite; frame = frame; bright = bright; hang = hang; shadow = shadow } })))))))
+
+unfoldable pub thing_line : ℕ → List (List ℕ) → Result ThingLine CsvRefusal
+thing_line row fields = and_then (row_shape MAX_THINGS THING_WIDTH row fields) (λ _. line_of row fields)
+
+-- a line of a type that no earlier line has
+unfoldable pub not_repeated : Option ThingRow → ℕ → ThingLine → Result ThingLine CsvRefusal
+not_repeated earlier row line = cond (is_some earlier) (Err (Repeat row)) (Ok line)
+
+unfoldable pub read_line : List ThingLine → ℕ → List (List ℕ) → Result ThingLine CsvRefusal
+read_line lines row fields = and_then (thing_line row fields) (λ line. not_repeated (row_of lines line.kind) row line)
+
+abbrev pub thing_lines : List (List (List ℕ)) → Result (List ThingLine) CsvRefusal
+thing_lines rows = rows_after read_line [] rows
+
+-- the header and the rows under it
+unfoldable pub lines_of_records : List (List (List ℕ)) → Result (List ThingLine) CsvRefusal
+lines_of_records [] = Err Header
+lines_of_records (head ∷ rows) = cond (is_thing_header head) (thing_lines rows) (Err Header)
+
+-- the lines of a file, or its first refusal
+unfoldable pub things_in : List ℕ → Result (List ThingLine) CsvRefusal
+things_in bytes = and_then (table_records bytes) lines_of_records

@@ -1,0 +1,166 @@
+// The weapon layers of the views of a path.
+
+ghost use Rattle.std.specs.Prelude.{◌≡◌, ◌≤◌, ◌+◌, ℕ, List, [], true, false, length, IfOk, map, Result, Ok, Err, All};
+ghost use Rattle.csv.specs.Records.{fields_of, field_at};
+ghost use Rattle.csv_tables.specs.declared.fault.CsvRefusal.{CsvRefusal};
+ghost use Rattle.csv_tables.specs.Weapons.{IsWeaponInRange, weapon_of, weapon_row, weapon_rows, weapons_in, weapons_of_records, is_weapon_header};
+
+use crate::columns::{flag_column, frame_column, natural_column, place_column, sprite_column};
+use crate::fault::{CsvFault, CsvRefusal};
+use crate::records::{is_header, row_shape, table_records};
+use csv::ByteRecord;
+use std::alloc::Global;
+use std::marker::Model;
+
+/// The most rows of a weapon table.
+pub const MAX_WEAPONS: u64 = 20_000;
+
+// The header, the rows, and a row that is one too many.
+const MAX_WEAPON_RECORDS: usize = 20_002;
+
+/// Columns of a weapon table.
+pub const WEAPON_WIDTH: usize = 6;
+
+/// The greatest number of a view, which a path's last row has.
+pub const MAX_VIEW: u32 = 9_999;
+
+/// A weapon layer: the number of its view, from 0, its sprite and frame letter, whether it is
+/// bright, and its place in the view in units of 1/65536 of a pixel of a full view.
+///
+/// The original: `pspdef_t` and its `state_t`, p_pspr.h and info.h.
+#[derive(Clone, Copy, Debug, PartialEq, Eq)]
+pub struct WeaponRow {
+    pub view: u16,
+    pub sprite: [u8; 4],
+    pub frame: u8,
+    pub bright: bool,
+    pub sx: i32,
+    pub sy: i32,
+}
+
+/// The weapon layers of a path's views, in the order of the file.
+#[derive(Drop)]
+pub struct WeaponTable {
+    rows: Vec<WeaponRow>,
+}
+
+impl Model for WeaponTable {
+    ghost use Rattle.std.specs.Prelude.{List, All};
+    ghost use Rattle.csv_tables.specs.declared.weapons.WeaponRow.{WeaponRow};
+    ghost use Rattle.csv_tables.specs.Weapons.{IsWeaponInRange};
+
+    ghost Value = { List WeaponRow };
+
+    ghost view = { λ t. t.rows.items };
+
+    ghost invariant = { λ t. All IsWeaponInRange t.rows.items };
+}
+
+impl WeaponTable {
+    /// The layers of a file whose header is `view,sprite,frame,bright,sx,sy`.
+    ///
+    /// Takes memory for the records and rows.
+    ///
+    /// Errors: the file's first refusal, of its size, its header, then row by row that it is one
+    /// too many, its number of fields, and its fields from left to right. `OutOfMemory`.
+    ///
+    /// This project's own: the original takes its weapon from the player.
+    #[tactic(auto, unfolding(crate::specs::Weapons::weapons_in))]
+    pub fn read(alloc: Global, bytes: &[u8]) -> Result<WeaponTable, CsvFault>
+        ensures ok { IfOk result (λ t. weapons_in bytes.now ≡ Ok t) }
+        ensures refused { (r : CsvRefusal) → result ≡ Err (CsvFault.Refused r) → weapons_in bytes.now ≡ Err r }
+    {
+        let records = table_records(alloc, bytes, MAX_WEAPON_RECORDS)?;
+        let rows = weapons_of_records(alloc, &records)?;
+        Ok(WeaponTable { rows })
+    }
+
+    /// The layers in the order of the file. Takes no memory.
+    pub fn rows(&self) -> &[WeaponRow]
+        ensures value { result.now ≡ self.now }
+        ensures range { All IsWeaponInRange result.now }
+    {
+        &self.rows
+    }
+}
+
+// The layers of the header's record and those after it.
+#[tactic(auto, unfolding(crate::specs::Weapons::weapons_of_records))]
+fn weapons_of_records(alloc: Global, records: &[ByteRecord]) -> Result<Vec<WeaponRow>, CsvFault>
+    ensures ok { IfOk result (λ v. weapons_of_records (map fields_of records.now) ≡ Ok v.items) }
+    ensures range { IfOk result (λ v. All IsWeaponInRange v.items) }
+    ensures refused { (r : CsvRefusal) → result ≡ Err (CsvFault.Refused r) → weapons_of_records (map fields_of records.now) ≡ Err r }
+{
+    match records.split_first() {
+        None => Err(CsvFault::Refused(CsvRefusal::Header)),
+        Some((head, rows)) => {
+            if is_weapon_header(head) {
+                weapon_rows(alloc, rows)
+            } else {
+                Err(CsvFault::Refused(CsvRefusal::Header))
+            }
+        }
+    }
+}
+
+#[tactic(auto, unfolding(crate::specs::Weapons::is_weapon_header))]
+fn is_weapon_header(head: &ByteRecord) -> bool
+    ensures { result ≡ is_weapon_header (fields_of head.now) }
+{
+    is_header(
+        head,
+        &[b"view", b"sprite", b"frame", b"bright", b"sx", b"sy"],
+    )
+}
+
+// The layers of the rows.
+fn weapon_rows(alloc: Global, rows: &[ByteRecord]) -> Result<Vec<WeaponRow>, CsvFault>
+    ensures ok { IfOk result (λ v. weapon_rows (map fields_of rows.now) ≡ Ok v.items) }
+    ensures range { IfOk result (λ v. All IsWeaponInRange v.items) }
+    ensures refused { (r : CsvRefusal) → result ≡ Err (CsvFault.Refused r) → weapon_rows (map fields_of rows.now) ≡ Err r }
+{
+    let mut weapons = Vec::new(alloc);
+    for (i, fields) in rows.iter().enumerate() {
+        match weapon_row(i as u64 + 1, fields) {
+            Ok(weapon) => {
+                if weapons.push(weapon).is_err() {
+                    return Err(CsvFault::OutOfMemory);
+                }
+            }
+            Err(refusal) => return Err(CsvFault::Refused(refusal)),
+        }
+    }
+    Ok(weapons)
+}
+
+// The layer of a row.
+#[tactic(auto, unfolding(crate::specs::Weapons::weapon_row))]
+fn weapon_row(row: u64, fields: &ByteRecord) -> Result<WeaponRow, CsvRefusal>
+    ensures value { result ≡ weapon_row row (fields_of fields.now) }
+    ensures range { IfOk result IsWeaponInRange }
+{
+    row_shape(MAX_WEAPONS, WEAPON_WIDTH, row, fields)?;
+    weapon_of(row, fields)
+}
+
+// The layer of a row with the right number of fields.
+#[tactic(auto, unfolding(crate::specs::Weapons::weapon_of))]
+fn weapon_of(row: u64, fields: &ByteRecord) -> Result<WeaponRow, CsvRefusal>
+    ensures value { result ≡ weapon_of row (fields_of fields.now) }
+    ensures range { IfOk result IsWeaponInRange }
+{
+    let view = natural_column(row, 0, MAX_VIEW, fields)?;
+    let sprite = sprite_column(row, 1, fields)?;
+    let frame = frame_column(row, 2, fields)?;
+    let bright = flag_column(row, 3, fields)?;
+    let sx = place_column(row, 4, fields)?;
+    let sy = place_column(row, 5, fields)?;
+    Ok(WeaponRow {
+        view: view as u16,
+        sprite,
+        frame,
+        bright,
+        sx,
+        sy,
+    })
+}
