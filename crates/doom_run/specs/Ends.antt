@@ -1,0 +1,84 @@
+-- What a status says of a run.
+use Rattle.std.specs.Prelude.{◌≡◌, ℕ, Bool, IsTrue, List, Result, Ok, Err}
+use Rattle.outside.specs.Causes.{Rose}
+use Rattle.outside.specs.Sink.{Grew, GrewByPrefix}
+use Rattle.doom_run.specs.declared.fault.Fault.{Fault}
+use Rattle.doom_run.specs.declared.fault.Fault.TheVariants as fault
+use Rattle.doom_run.specs.declared.status.Status.{Status}
+use Rattle.doom_run.specs.declared.status.Status.TheVariants.{Done, Usage, Refused, ReadFault, WriteFault, Limit, ZoneFull, OutOfMemory}
+use Rattle.doom_run.specs.Steps.{Stop, usage, absent, refused}
+use Rattle.doom_run.specs.Verdict.{Accepted, end_of, output}
+
+-- The verdict accepts, the status is the end that is due, and the output was written to its last byte.
+pub record EndsWith (verdict : Result Accepted Stop) (old new : List ℕ → Type 0) (status : Status) : Type 0 where
+  pub accepted : Accepted
+  pub is : verdict ≡ Ok accepted
+  pub due : end_of accepted ≡ status
+  pub written : Grew old new (output accepted)
+
+-- The verdict accepts, and a prefix of the output was written.
+pub record FailsWith (verdict : Result Accepted Stop) (old new : List ℕ → Type 0) : Type 0 where
+  pub accepted : Accepted
+  pub is : verdict ≡ Ok accepted
+  pub written : GrewByPrefix old new (output accepted)
+
+-- the verdict, and what was written, by the status
+abbrev pub EndsAt : Bool → Result Accepted Stop → (List ℕ → Type 0) → (List ℕ → Type 0) → Status → Type 0
+EndsAt steady verdict old new Done = EndsWith verdict old new Done
+EndsAt steady verdict old new Usage = verdict ≡ Err usage
+EndsAt steady verdict old new (Refused refusal) = verdict ≡ Err (refused refusal)
+EndsAt steady verdict old new ReadFault = IsTrue steady → verdict ≡ Err absent
+EndsAt steady verdict old new WriteFault = FailsWith verdict old new
+EndsAt steady verdict old new (Limit view kind count) = EndsWith verdict old new (Limit view kind count)
+EndsAt steady verdict old new (ZoneFull wanted widest) = ⊥
+EndsAt steady verdict old new OutOfMemory = Unit {0}
+
+-- what was written of an accepted run, by the status that its delivery gives
+abbrev pub DeliversAt : Accepted → (List ℕ → Type 0) → (List ℕ → Type 0) → Status → Type 0
+DeliversAt accepted old new Done = (end_of accepted ≡ Done) × Grew old new (output accepted)
+DeliversAt accepted old new Usage = ⊥
+DeliversAt accepted old new (Refused refusal) = ⊥
+DeliversAt accepted old new ReadFault = ⊥
+DeliversAt accepted old new WriteFault = GrewByPrefix old new (output accepted)
+DeliversAt accepted old new (Limit view kind count) = (end_of accepted ≡ Limit view kind count) × Grew old new (output accepted)
+DeliversAt accepted old new (ZoneFull wanted widest) = ⊥
+DeliversAt accepted old new OutOfMemory = ⊥
+
+-- a status with which a run ends that was accepted and in which nothing failed
+abbrev pub IsEnd : Status → Type 0
+IsEnd Done = Unit {0}
+IsEnd Usage = ⊥
+IsEnd (Refused refusal) = ⊥
+IsEnd ReadFault = ⊥
+IsEnd WriteFault = ⊥
+IsEnd (Limit view kind count) = Unit {0}
+IsEnd (ZoneFull wanted widest) = ⊥
+IsEnd OutOfMemory = ⊥
+
+-- a status that comes before anything is written
+abbrev pub IsUnwritten : Status → Type 0
+IsUnwritten Done = ⊥
+IsUnwritten Usage = Unit {0}
+IsUnwritten (Refused refusal) = Unit {0}
+IsUnwritten ReadFault = Unit {0}
+IsUnwritten WriteFault = ⊥
+IsUnwritten (Limit view kind count) = ⊥
+IsUnwritten (ZoneFull wanted widest) = ⊥
+IsUnwritten OutOfMemory = Unit {0}
+
+-- the status of a fault
+abbrev pub status_of : Fault → Status
+status_of (fault.Refused refusal) = Refused refusal
+status_of fault.ReadFault = ReadFault
+status_of fault.OutOfMemory = OutOfMemory
+
+-- the number with which the program ends
+abbrev pub code_of : Status → ℕ
+code_of Done = 0
+code_of Usage = 1
+code_of (Refused refusal) = 2
+code_of ReadFault = 3
+code_of WriteFault = 4
+code_of (Limit view kind count) = 5
+code_of (ZoneFull wanted widest) = 6
+code_of OutOfMemory = 7

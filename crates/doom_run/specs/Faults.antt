@@ -1,0 +1,19 @@
+-- What the faults of a job tell.
+use Rattle.outside.specs.Told.{Told, refused, read_failed, out_of_memory}
+use Rattle.wad_dir.specs.declared.fault.DirFault.{DirFault}
+use Rattle.wad_dir.specs.declared.fault.DirFault.TheVariants as dir
+use Rattle.doom_run.specs.declared.refusal.Refusal.{Refusal}
+use Rattle.doom_run.specs.declared.refusal.Refusal.TheVariants.{Wad}
+use Rattle.doom_run.specs.declared.fault.Fault.{Fault}
+use Rattle.doom_run.specs.declared.fault.Fault.TheVariants.{Refused, ReadFault, OutOfMemory}
+
+abbrev pub fault_told : Fault → Told Refusal
+fault_told (Refused refusal) = refused refusal
+fault_told ReadFault = read_failed
+fault_told OutOfMemory = out_of_memory
+
+-- what a fault of the directory is for a job
+abbrev pub fault_of_dir : DirFault → Fault
+fault_of_dir (dir.Refused refusal) = Refused (Wad refusal)
+fault_of_dir dir.ReadFault = ReadFault
+fault_of_dir dir.OutOfMemory = OutOfMemory

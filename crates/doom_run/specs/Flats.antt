@@ -1,0 +1,76 @@
+-- The picture of a flat, which is laid over the frame again and again.
+use Rattle.std.specs.Prelude.{ℕ, Bool, ◌+◌, ◌*◌, ◌/◌, ◌%◌, nat_le, if◌then◌else◌, List, [], ◌∷◌, take, slice_index, Option, Some, None, Result, Ok, Err}
+use Rattle.std.specs.Option.{option_and_then}
+use Rattle.word_rules.specs.Listed.{listed}
+use Rattle.outside.specs.Shelf.{File, file_named}
+use Rattle.outside.specs.Told.{and_then, from_below}
+use Rattle.lump_rules.specs.declared.wad.Lump.{Lump}
+use Rattle.lump_rules.specs.Wads.{directory}
+use Rattle.lump_rules.specs.Lookups.{lump_at, last_of, flat_of}
+use Rattle.lump_rules.specs.Contents.{lump_bytes}
+use Rattle.frame_writer.specs.declared.TheConstants.{FRAME_WIDTH, FRAME_BYTES, PALETTE_BYTES}
+use Rattle.doom_run.specs.declared.flat.TheConstants.{PLAYPAL}
+use Rattle.doom_run.specs.declared.tiling.TheConstants.{FLAT_SIDE}
+use Rattle.doom_run.specs.declared.refusal.Refusal.{Refusal}
+use Rattle.doom_run.specs.declared.refusal.Refusal.TheVariants.{Wad, Art, Scene}
+use Rattle.doom_run.specs.declared.refusal.ArtRefusal.TheVariants.{Playpal}
+use Rattle.doom_run.specs.declared.refusal.SceneRefusal.TheVariants.{FlatName}
+use Rattle.doom_run.specs.Steps.{Stop, absent, refused, else_stop}
+
+-- a frame, and the palette for its indices
+pub record Picture : Type 0 where
+  pub frame : List ℕ
+  pub palette : List ℕ
+
+-- the byte of a flat at a column and a row, 0 past the flat's end
+abbrev pub flat_byte : List ℕ → ℕ → ℕ → ℕ
+flat_byte flat x y = slice_index flat (FLAT_SIDE * y + x)
+
+-- the index at a place of the frame, counted row by row
+abbrev pub tiled_index : List ℕ → ℕ → ℕ
+tiled_index flat i = flat_byte flat (i % FRAME_WIDTH % FLAT_SIDE) (i / FRAME_WIDTH % FLAT_SIDE)
+
+-- the flat over the frame
+abbrev pub tiled : List ℕ → List ℕ
+tiled flat = listed (tiled_index flat) FRAME_BYTES
+
+-- the value, or else a refusal
+abbrev pub else_refuse : {A : Type 0} → Refusal → Option A → Result A Refusal
+else_refuse refusal None = Err refusal
+else_refuse refusal (Some value) = Ok value
+
+-- the lump of that number, where it has at least so many bytes
+abbrev pub if_long : List Lump → ℕ → ℕ → Option ℕ
+if_long lumps size number = if nat_le size (lump_at lumps number).size then Some number else None
+
+-- the last lump of a name, where it has at least so many bytes
+abbrev pub long_lump : List Lump → List ℕ → ℕ → Option ℕ
+long_lump lumps name size = option_and_then (if_long lumps size) (last_of lumps name)
+
+-- the lump of the palettes, which has at least one
+abbrev pub playpal_of : List Lump → Result ℕ Refusal
+playpal_of lumps = else_refuse (Art Playpal) (long_lump lumps PLAYPAL PALETTE_BYTES)
+
+-- the first palette
+abbrev pub palette_in : List (List ℕ) → List Lump → Result (List ℕ) Refusal
+palette_in contents lumps = and_then (playpal_of lumps) (λ lump. Ok (take PALETTE_BYTES (lump_bytes contents lumps lump)))
+
+-- the bytes of the flat of a name
+abbrev pub flat_in : List (List ℕ) → List Lump → List ℕ → Result (List ℕ) Refusal
+flat_in contents lumps name = and_then (else_refuse (Scene FlatName) (flat_of lumps name)) (λ lump. Ok (lump_bytes contents lumps lump))
+
+-- the palette, then the flat
+abbrev pub picture_in : List (List ℕ) → List ℕ → List Lump → Result Picture Refusal
+picture_in contents name lumps =
+    and_then (palette_in contents lumps) (λ palette.
+    and_then (flat_in contents lumps name) (λ flat.
+    Ok (record { frame = tiled flat; palette = palette })))
+
+-- the directory of files of these bytes, then the picture
+abbrev pub flat_picture : List ℕ → List (List ℕ) → Result Picture Refusal
+flat_picture name contents = and_then (from_below Wad (directory contents)) (picture_in contents name)
+
+-- the picture of a flat in the file of a name, or the first stop
+abbrev pub flat_verdict : List ℕ → List ℕ → List File → Result Picture Stop
+flat_verdict name file files =
+    and_then (else_stop absent (file_named file files)) (λ bytes. from_below refused (flat_picture name (bytes ∷ [])))

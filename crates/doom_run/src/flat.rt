@@ -1,0 +1,153 @@
+// The job `flat`: one PPM of a flat that is tiled over the frame.
+ghost use Rattle.std.specs.Prelude.{◌≡◌, ◌<◌, ◌≤◌, ◌∷◌, [], ℕ, List, length, true, IfOk, IfSome};
+ghost use Rattle.std.specs.Option.{option_map};
+ghost use Rattle.outside.specs.Causes.{Rose};
+ghost use Rattle.outside.specs.Shelf.{AllStand, File, Follows, Holds, Stands};
+ghost use Rattle.outside.specs.Told.{Answers, HasCauses, refused};
+ghost use Rattle.lump_rules.specs.Contents.{AllWithin};
+ghost use Rattle.lump_rules.specs.Lookups.{lump_at, flat_of};
+ghost use Rattle.doom_run.specs.Ends.{DeliversAt};
+ghost use Rattle.doom_run.specs.Faults.{fault_told};
+ghost use Rattle.doom_run.specs.Flats.{else_refuse, long_lump, playpal_of, palette_in, flat_in, picture_in, flat_picture, flat_verdict};
+ghost use Rattle.doom_run.specs.Steps.{Agrees};
+ghost use Rattle.doom_run.specs.Verdict.{tiled_flat};
+
+use crate::drawing::Drawing;
+use crate::fault::Fault;
+use crate::lumps::{read_front, read_lump};
+use crate::status::Status;
+use crate::tiling::tile;
+use crate::{ArtRefusal, Refusal, SceneRefusal};
+use frame_writer::{FRAME_BYTES, PALETTE_BYTES, put_ppm};
+use outside::{FileNo, Shelf, Sink};
+use std::alloc::Global;
+use wad_dir::{Directory, LumpNo, Name8};
+
+/// The lump of the palettes.
+pub const PLAYPAL: [u8; 8] = *b"PLAYPAL\0";
+
+// The picture of a flat in the first file of that name. Takes all memory of the job.
+pub fn prepare_flat<S: Shelf>(
+    alloc: Global,
+    shelf: &mut S,
+    name: &Name8,
+    file: &str,
+) -> Result<Drawing, Fault>
+    ensures answers { (files : List File) → Holds (S.view shelf.old) files →
+        Agrees (S.view shelf.old).steady (λ drawing. drawing) (flat_verdict name.now file.now files) result }
+    ensures follows { Follows (S.view shelf.old) (S.view shelf.new) }
+    ensures causes { HasCauses fault_told (S.view shelf.old).faults (S.view shelf.new).faults result }
+{
+    let number = shelf.find(file)?;
+    load_flat(alloc, shelf, name, number)
+}
+
+// Writes the picture of a flat. Takes no memory.
+pub fn deliver_flat<K: Sink>(drawing: &Drawing, out: &mut K) -> Status
+    ensures ends { DeliversAt (tiled_flat drawing.now) (K.written out.old) (K.written out.new) result }
+    ensures write_fault { result ≡ Status.WriteFault → Rose (K.faults out.old) (K.faults out.new) }
+{
+    match put_ppm(out, drawing.frame(), drawing.playpal()) {
+        Ok(()) => Status::Done,
+        Err(_) => Status::WriteFault,
+    }
+}
+
+// The picture of a flat in a file.
+fn load_flat<S: Shelf>(
+    alloc: Global,
+    shelf: &mut S,
+    name: &Name8,
+    number: FileNo,
+) -> Result<Drawing, Fault>
+    ensures answers { (bytes : List ℕ) → Stands (S.view shelf.old) number.0 bytes →
+        Answers fault_told (S.view shelf.old).steady (λ drawing. drawing) (flat_picture name.now (bytes ∷ [])) result }
+    ensures follows { Follows (S.view shelf.old) (S.view shelf.new) }
+    ensures causes { HasCauses fault_told (S.view shelf.old).faults (S.view shelf.new).faults result }
+{
+    let dir = Directory::load(alloc, shelf, &[number])?;
+    draw_flat(alloc, shelf, &dir, name)
+}
+
+// The picture of a flat in a directory: first its palette, and then the flat.
+fn draw_flat<S: Shelf>(
+    alloc: Global,
+    shelf: &mut S,
+    dir: &Directory,
+    name: &Name8,
+) -> Result<Drawing, Fault>
+    ensures answers { (contents : List (List ℕ)) → AllStand (S.view shelf.old) dir.now.files contents → AllWithin contents dir.now.lumps →
+        Answers fault_told (S.view shelf.old).steady (λ drawing. drawing) (picture_in contents name.now dir.now.lumps) result }
+    ensures follows { Follows (S.view shelf.old) (S.view shelf.new) }
+    ensures causes { HasCauses fault_told (S.view shelf.old).faults (S.view shelf.new).faults result }
+{
+    let playpal = read_palette(alloc, shelf, dir)?;
+    let flat = read_flat(alloc, shelf, dir, name)?;
+    Ok(Drawing::new(tile(alloc, &flat, FRAME_BYTES)?, playpal))
+}
+
+// The first palette of a directory.
+fn read_palette<S: Shelf>(alloc: Global, shelf: &mut S, dir: &Directory) -> Result<Vec<u8>, Fault>
+    ensures answers { (contents : List (List ℕ)) → AllStand (S.view shelf.old) dir.now.files contents → AllWithin contents dir.now.lumps →
+        Answers fault_told (S.view shelf.old).steady (λ palette. palette.items) (palette_in contents dir.now.lumps) result }
+    ensures size { IfOk result (λ palette. length palette.items ≡ PALETTE_BYTES) }
+    ensures follows { Follows (S.view shelf.old) (S.view shelf.new) }
+    ensures causes { HasCauses fault_told (S.view shelf.old).faults (S.view shelf.new).faults result }
+{
+    let lump = find_playpal(dir)?;
+    read_front(alloc, shelf, dir, lump, PALETTE_BYTES)
+}
+
+// The lump of the palettes, which has at least one.
+#[tactic(auto, using(crate::proofs::LumpLemmas::playpal_name))]
+fn find_playpal(dir: &Directory) -> Result<LumpNo, Refusal>
+    ensures answers { Answers (λ refusal. refused refusal) true (λ lump. lump.0) (playpal_of dir.now.lumps) result }
+    ensures there { IfOk result (λ lump. lump.0 < length dir.now.lumps) }
+    ensures long { IfOk result (λ lump. PALETTE_BYTES ≤ (lump_at dir.now.lumps lump.0).size) }
+{
+    match find_long(dir, &Name8::from_bytes(PLAYPAL), PALETTE_BYTES) {
+        Some(lump) => Ok(lump),
+        None => Err(Refusal::Art(ArtRefusal::Playpal)),
+    }
+}
+
+// The last lump of a name, where it has at least so many bytes.
+fn find_long(dir: &Directory, name: &Name8, size: usize) -> Option<LumpNo>
+    ensures found { option_map (λ lump. lump.0) result ≡ long_lump dir.now.lumps name.now size }
+    ensures there { IfSome result (λ lump. lump.0 < length dir.now.lumps) }
+    ensures long { IfSome result (λ lump. size ≤ (lump_at dir.now.lumps lump.0).size) }
+{
+    let lump = dir.last(name)?;
+    if dir.size(lump) as usize >= size {
+        Some(lump)
+    } else {
+        None
+    }
+}
+
+// The bytes of the flat of a name.
+fn read_flat<S: Shelf>(
+    alloc: Global,
+    shelf: &mut S,
+    dir: &Directory,
+    name: &Name8,
+) -> Result<Vec<u8>, Fault>
+    ensures answers { (contents : List (List ℕ)) → AllStand (S.view shelf.old) dir.now.files contents → AllWithin contents dir.now.lumps →
+        Answers fault_told (S.view shelf.old).steady (λ flat. flat.items) (flat_in contents dir.now.lumps name.now) result }
+    ensures follows { Follows (S.view shelf.old) (S.view shelf.new) }
+    ensures causes { HasCauses fault_told (S.view shelf.old).faults (S.view shelf.new).faults result }
+{
+    let lump = find_flat(dir, name)?;
+    read_lump(alloc, shelf, dir, lump)
+}
+
+// The last flat of a name.
+fn find_flat(dir: &Directory, name: &Name8) -> Result<LumpNo, Refusal>
+    ensures answers { Answers (λ refusal. refused refusal) true (λ lump. lump.0) (else_refuse (Refusal.Scene SceneRefusal.FlatName) (flat_of dir.now.lumps name.now)) result }
+    ensures there { IfOk result (λ lump. lump.0 < length dir.now.lumps) }
+{
+    match dir.flat(name) {
+        Some(lump) => Ok(lump),
+        None => Err(Refusal::Scene(SceneRefusal::FlatName)),
+    }
+}

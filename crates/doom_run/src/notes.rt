@@ -1,0 +1,132 @@
+// The line that is noted for a status. No call takes memory.
+ghost use Rattle.std.specs.Prelude.{codes};
+ghost use Rattle.std.specs.List.{flat_map};
+ghost use Rattle.outside.specs.Sink.{Writes};
+ghost use Rattle.doom_run.specs.Lines.{line_of, limit_label, refusal_line, refusal_numbers, wad_numbers, spaced, labelled, pair_line};
+
+use crate::codes::{
+    CODE_ENTRY, CODE_FLAT_NAME, CODE_NOT_WAD, CODE_PLAYPAL, CODE_SHORT, CODE_TOO_MANY,
+};
+use crate::status::{LimitKind, Status};
+use crate::{ArtRefusal, Refusal, SceneRefusal};
+use itoa::Buffer;
+use outside::{Failed, Sink};
+use wad_dir::DirRefusal;
+
+/// Appends the line of a status, and nothing for `Done`. Takes no memory.
+///
+/// A refusal's line is `doomview: refused`, its code and the numbers that it has, in decimal.
+///
+/// Errors: `Failed` only where the count of faults of `notes` rose; then a prefix was appended.
+///
+/// This project's own: the lines and the codes.
+pub fn put_note<N: Sink>(notes: &mut N, status: &Status) -> Result<(), Failed>
+    ensures { Writes (N.written notes.old) (N.written notes.new) (N.faults notes.old) (N.faults notes.new) (line_of status.now) result }
+{
+    match *status {
+        Status::Done => Ok(()),
+        Status::Usage => notes.put(b"doomview: usage\n"),
+        Status::Refused(refusal) => put_refusal(notes, refusal),
+        Status::ReadFault => notes.put(b"doomview: read fault\n"),
+        Status::WriteFault => notes.put(b"doomview: write fault\n"),
+        Status::Limit { view, kind, count } => put_limit(notes, view, kind, count),
+        Status::ZoneFull { wanted, widest } => put_zone_full(notes, wanted, widest),
+        Status::OutOfMemory => notes.put(b"doomview: out of memory\n"),
+    }
+}
+
+fn put_limit<N: Sink>(notes: &mut N, view: u32, kind: LimitKind, count: u32) -> Result<(), Failed>
+    ensures { Writes (N.written notes.old) (N.written notes.new) (N.faults notes.old) (N.faults notes.new) (pair_line (codes "doomview: limit view ") view (limit_label kind) count) result }
+{
+    match kind {
+        LimitKind::Planes => put_pair(
+            notes,
+            b"doomview: limit view ",
+            view as u64,
+            b" planes ",
+            count as u64,
+        ),
+        LimitKind::Openings => put_pair(
+            notes,
+            b"doomview: limit view ",
+            view as u64,
+            b" openings ",
+            count as u64,
+        ),
+    }
+}
+
+fn put_zone_full<N: Sink>(notes: &mut N, wanted: u64, widest: u64) -> Result<(), Failed>
+    ensures { Writes (N.written notes.old) (N.written notes.new) (N.faults notes.old) (N.faults notes.new) (pair_line (codes "doomview: zone full wanted ") wanted (codes " widest ") widest) result }
+{
+    put_pair(
+        notes,
+        b"doomview: zone full wanted ",
+        wanted,
+        b" widest ",
+        widest,
+    )
+}
+
+// Appends a line with two numbers.
+fn put_pair<N: Sink>(
+    notes: &mut N,
+    first: &[u8],
+    a: u64,
+    second: &[u8],
+    b: u64,
+) -> Result<(), Failed>
+    ensures { Writes (N.written notes.old) (N.written notes.new) (N.faults notes.old) (N.faults notes.new) (pair_line first.now a second.now b) result }
+{
+    put_labelled(notes, first, a)?;
+    put_labelled(notes, second, b)?;
+    notes.put(b"\n")
+}
+
+fn put_refusal<N: Sink>(notes: &mut N, refusal: Refusal) -> Result<(), Failed>
+    ensures { Writes (N.written notes.old) (N.written notes.new) (N.faults notes.old) (N.faults notes.new) (refusal_line refusal) result }
+{
+    notes.put(b"doomview: refused")?;
+    put_refusal_numbers(notes, refusal)?;
+    notes.put(b"\n")
+}
+
+fn put_refusal_numbers<N: Sink>(notes: &mut N, refusal: Refusal) -> Result<(), Failed>
+    ensures { Writes (N.written notes.old) (N.written notes.new) (N.faults notes.old) (N.faults notes.new) (flat_map spaced (refusal_numbers refusal)) result }
+{
+    match refusal {
+        Refusal::Wad(refusal) => put_wad_numbers(notes, refusal),
+        Refusal::Art(ArtRefusal::Playpal) => put_numbers(notes, &[CODE_PLAYPAL]),
+        Refusal::Scene(SceneRefusal::FlatName) => put_numbers(notes, &[CODE_FLAT_NAME]),
+    }
+}
+
+fn put_wad_numbers<N: Sink>(notes: &mut N, refusal: DirRefusal) -> Result<(), Failed>
+    ensures { Writes (N.written notes.old) (N.written notes.new) (N.faults notes.old) (N.faults notes.new) (flat_map spaced (wad_numbers refusal)) result }
+{
+    match refusal {
+        DirRefusal::NotWad { file } => put_numbers(notes, &[CODE_NOT_WAD, file]),
+        DirRefusal::Short { file } => put_numbers(notes, &[CODE_SHORT, file]),
+        DirRefusal::Entry { file, index } => put_numbers(notes, &[CODE_ENTRY, file, index]),
+        DirRefusal::TooMany => put_numbers(notes, &[CODE_TOO_MANY]),
+    }
+}
+
+// Appends each number after a space.
+fn put_numbers<N: Sink>(notes: &mut N, numbers: &[u64]) -> Result<(), Failed>
+    ensures { Writes (N.written notes.old) (N.written notes.new) (N.faults notes.old) (N.faults notes.new) (flat_map spaced numbers.now) result }
+{
+    for number in numbers {
+        put_labelled(notes, b" ", *number)?;
+    }
+    Ok(())
+}
+
+// Appends a number after some text.
+fn put_labelled<N: Sink>(notes: &mut N, label: &[u8], number: u64) -> Result<(), Failed>
+    ensures { Writes (N.written notes.old) (N.written notes.new) (N.faults notes.old) (N.faults notes.new) (labelled label.now number) result }
+{
+    notes.put(label)?;
+    let mut buffer = Buffer::new();
+    notes.put(buffer.format(number).as_bytes())
+}

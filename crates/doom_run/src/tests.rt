@@ -1,0 +1,181 @@
+// What no clause says: values from outside, the lines as they are spelled, that memory is found.
+use crate::notes::put_note;
+use crate::{LimitKind, Status, run};
+use outside::{MemoryFile, MemoryShelf, MemorySink, PutFault};
+use std::alloc::{AllocError, Global};
+use std::test::Fail;
+
+const PPM_BYTES: usize = 192015;
+
+const LINE_ROOM: usize = 100;
+
+// The calls of the shelf for a flat: find, size, header, directory, PLAYPAL and the flat.
+const SHELF_CALLS: u64 = 6;
+
+// How a run ended, with what it wrote.
+#[derive(Drop)]
+struct Ended {
+    status: Status,
+    out: MemorySink,
+    notes: MemorySink,
+}
+
+// A WAD of 854 bytes: PLAYPAL, whose colour i is i, 255 - i, 7i, and the flat TILE of the bytes 1 to 10.
+fn tiny_wad(alloc: Global) -> Result<Vec<u8>, AllocError> {
+    let mut wad = b"IWAD\x04\0\0\0\x16\x03\0\0".to_vec(alloc)?;
+    for i in 0..=255u8 {
+        wad.extend_from_slice(&[i, 255 - i, i.wrapping_mul(7)])?;
+    }
+    wad.extend_from_slice(&[1, 2, 3, 4, 5, 6, 7, 8, 9, 10])?;
+    wad.extend_from_slice(b"\x0c\0\0\0\0\x03\0\0PLAYPAL\0")?;
+    wad.extend_from_slice(b"\x0c\x03\0\0\0\0\0\0F_START\0")?;
+    wad.extend_from_slice(b"\x0c\x03\0\0\x0a\0\0\0TILE\0\0\0\0")?;
+    wad.extend_from_slice(b"\x16\x03\0\0\0\0\0\0F_END\0\0\0")?;
+    Ok(wad)
+}
+
+fn words_of(alloc: Global, text: &str) -> Result<Vec<String>, AllocError> {
+    let mut words = Vec::new(alloc);
+    for word in text.split_whitespace() {
+        words.push(word.to_string(alloc)?)?;
+    }
+    Ok(words)
+}
+
+// Runs the words over a shelf that holds the WAD as tiny.wad, and whose calls of these numbers fail.
+fn run_over(
+    alloc: Global,
+    words: &str,
+    wad: Vec<u8>,
+    failing: Vec<u64>,
+    put_faults: Vec<PutFault>,
+) -> Result<Ended, AllocError> {
+    let name = "tiny.wad".to_string(alloc)?;
+    let files = vec![in alloc; MemoryFile { name, bytes: wad }]?;
+    let mut shelf = MemoryShelf::new(files, failing);
+    let mut out = MemorySink::new(alloc, PPM_BYTES, put_faults)?;
+    let mut notes = MemorySink::new(alloc, LINE_ROOM, Vec::new(alloc))?;
+    let words = words_of(alloc, words)?;
+    let status = run(alloc, &words, &mut shelf, &mut out, &mut notes);
+    Ok(Ended { status, out, notes })
+}
+
+#[test]
+fn a_flat_is_tiled_over_the_frame(rt: HostRuntime) -> Result<(), Fail> {
+    let alloc = rt.alloc();
+    let ended = run_over(
+        alloc,
+        "flat TILE tiny.wad",
+        tiny_wad(alloc)?,
+        Vec::new(alloc),
+        Vec::new(alloc),
+    )?;
+    let out = ended.out.bytes();
+    assert_eq!(rt; ended.status, Status::Done);
+    assert_eq!(rt; out.len(), PPM_BYTES);
+    assert_eq!(rt;
+        &out[..21],
+        b"P6\n320 200\n255\n\x01\xfe\x07\x02\xfd\x0e".as_slice()
+    );
+    assert_eq!(rt; &out[45..48], [0, 255, 0].as_slice());
+    assert_eq!(rt; &out[207..210], [1, 254, 7].as_slice());
+    assert_eq!(rt; ended.notes.bytes(), [].as_slice());
+    Ok(())
+}
+
+#[test]
+fn each_refusal_has_its_line(rt: HostRuntime) -> Result<(), Fail> {
+    let alloc = rt.alloc();
+    for (words, length, first, line) in [
+        ("flat TILE tiny.wad", 853, b'I', "doomview: refused 402 0\n"),
+        ("flat TILE tiny.wad", 854, b'X', "doomview: refused 401 0\n"),
+        ("flat NONE tiny.wad", 854, b'I', "doomview: refused 906\n"),
+        ("flat TILE absent.wad", 854, b'I', "doomview: read fault\n"),
+        ("flat TILE", 854, b'I', "doomview: usage\n"),
+        ("flat LONGERNAME tiny.wad", 854, b'I', "doomview: usage\n"),
+        ("paint MAP01 a.wad", 854, b'I', "doomview: usage\n"),
+        ("render MAP01", 854, b'I', "doomview: usage\n"),
+        ("make wad 33", 854, b'I', "doomview: usage\n"),
+        ("--zone 4098", 854, b'I', "doomview: usage\n"),
+    ] {
+        let mut wad = tiny_wad(alloc)?;
+        wad.truncate(length);
+        assert!(rt; !wad.is_empty());
+        wad[0] = first;
+        let ended = run_over(alloc, words, wad, Vec::new(alloc), Vec::new(alloc))?;
+        assert_eq!(rt; ended.notes.bytes(), line.as_bytes(), "{line}");
+        assert_eq!(rt; ended.out.bytes(), [].as_slice(), "{line}");
+    }
+    Ok(())
+}
+
+#[test]
+fn each_call_of_the_shelf_that_fails_ends_the_run(rt: HostRuntime) -> Result<(), Fail> {
+    let alloc = rt.alloc();
+    for call in 1..=SHELF_CALLS + 1 {
+        let ended = run_over(
+            alloc,
+            "flat TILE tiny.wad",
+            tiny_wad(alloc)?,
+            vec![in alloc; call]?,
+            Vec::new(alloc),
+        )?;
+        let (status, length) = if call <= SHELF_CALLS {
+            (Status::ReadFault, 0)
+        } else {
+            (Status::Done, PPM_BYTES)
+        };
+        assert_eq!(rt; ended.status, status, "{call}");
+        assert_eq!(rt; ended.out.bytes().len(), length, "{call}");
+    }
+    Ok(())
+}
+
+#[test]
+fn a_put_that_fails_ends_the_run(rt: HostRuntime) -> Result<(), Fail> {
+    let alloc = rt.alloc();
+    for (call, passed, length) in [(1, 0, 0), (1, 7, 7), (2, 0, 15), (2, 100, 115)] {
+        let ended = run_over(
+            alloc,
+            "flat TILE tiny.wad",
+            tiny_wad(alloc)?,
+            Vec::new(alloc),
+            vec![in alloc; PutFault { call, passed }]?,
+        )?;
+        assert_eq!(rt; ended.status, Status::WriteFault, "{call}");
+        assert_eq!(rt; ended.out.bytes().len(), length, "{call}");
+        assert_eq!(rt; ended.notes.bytes(), b"doomview: write fault\n".as_slice());
+    }
+    Ok(())
+}
+
+#[test]
+fn a_limit_and_a_full_zone_have_their_lines(rt: HostRuntime) -> Result<(), Fail> {
+    let alloc = rt.alloc();
+    let planes = Status::Limit {
+        view: 0,
+        kind: LimitKind::Planes,
+        count: 129,
+    };
+    let openings = Status::Limit {
+        view: 12,
+        kind: LimitKind::Openings,
+        count: 20800,
+    };
+    let full = Status::ZoneFull {
+        wanted: 48024,
+        widest: 48020,
+    };
+    for (status, code, line) in [
+        (planes, 5, "doomview: limit view 0 planes 129\n"),
+        (openings, 5, "doomview: limit view 12 openings 20800\n"),
+        (full, 6, "doomview: zone full wanted 48024 widest 48020\n"),
+        (Status::OutOfMemory, 7, "doomview: out of memory\n"),
+    ] {
+        let mut notes = MemorySink::new(alloc, LINE_ROOM, Vec::new(alloc))?;
+        assert_eq!(rt; put_note(&mut notes, &status), Ok(()));
+        assert_eq!(rt; notes.bytes(), line.as_bytes());
+        assert_eq!(rt; status.code(), code);
+    }
+    Ok(())
+}
