@@ -1,0 +1,23 @@
+-- The level of the lists of all eight lumps.
+use Rattle.std.proofs.Common.{◌≡◌, ◌∙◌, List, None, subst, sym, ap}
+use Rattle.level_rules.specs.declared.Child.{Child}
+use Rattle.level_rules.specs.declared.Leaf.{Leaf}
+use Rattle.level_rules.specs.declared.Seg.{Seg}
+use Rattle.map_rules.specs.Levels.{LevelValue, MapRecords, joined_leaves, joined_level, joined_segs, records_refusal}
+use Rattle.map_rules.specs.Sound.{HasFewRecords, IsSound}
+use Rattle.map_rules.specs.Trees.{root_of}
+use Rattle.map_rules.proofs.JoinLemmas.{joined_level-lists}
+use Rattle.map_rules.proofs.SoundLemmas.{joined_level-sound}
+use Rattle.map_lumps.specs.declared.lists.MapLists.TheInside.{Inside}
+use Rattle.map_lumps.specs.Views.{listed_records}
+
+-- the lists with these segs, leaves and root are the joined level
+pub joined_level-inside : (l : Inside) (m : MapRecords) (segs : List Seg) (leaves : List Leaf) (root : Child) → listed_records l ≡ m → segs ≡ joined_segs m → leaves ≡ joined_leaves m → root ≡ root_of m.nodes → record { things = l.things.items; sides = l.sides.items; segs = segs; leaves = leaves; nodes = l.nodes.items; sectors = l.sectors.items; root = root } ≡ joined_level m
+joined_level-inside l m segs leaves root same e f g =
+    joined_level-lists (listed_records l) segs leaves root (e ∙ ap joined_segs (sym same)) (f ∙ ap joined_leaves (sym same)) (g ∙ ap (λ (r : MapRecords). root_of r.nodes) (sym same))
+    ∙ ap joined_level same
+
+-- and are sound, where nothing is refused
+pub inside-sound : (l : Inside) (m : MapRecords) (level : LevelValue) → listed_records l ≡ m → HasFewRecords (listed_records l) → records_refusal m ≡ None → level ≡ joined_level m → IsSound level
+inside-sound l m level same few none e =
+    subst IsSound (sym e) (joined_level-sound m (subst HasFewRecords same few) none)

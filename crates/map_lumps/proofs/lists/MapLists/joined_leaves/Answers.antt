@@ -1,0 +1,10 @@
+use Rattle.std.proofs.Common.{◌≡◌, ◌∙◌, length, ap}
+use Rattle.map_rules.proofs.JoinLemmas.{length-joined_segs, records_refusal-none}
+use Rattle.map_lumps.specs.Views.{listed_records}
+use Rattle.map_lumps.proofs.lists.MapLists.joined_leaves.Goals as goal
+
+pub join_leaves-requires : goal.join_leaves-requires
+join_leaves-requires c =
+    let right = records_refusal-none (listed_records c.self.inside) (rw (c.self.view_is) c.requires.right) in
+    let same : length c.args.segs.now ≡ length c.self.inside.segs.items = ap length (rw (c.self.view_is) c.requires.segs) ∙ length-joined_segs (listed_records c.self.inside) in
+    cc

@@ -1,0 +1,7 @@
+use Rattle.std.proofs.Common.{◌≡◌}
+use Rattle.word_rules.specs.Listed.{listed}
+use Rattle.map_rules.specs.Fields.{record_at}
+use Rattle.map_lumps.proofs.records.read_records.Given as goal
+
+abbrev pub invariant-loop-n : goal.invariant-loop-n
+invariant-loop-n g l = l.records.items ≡ listed (λ n. g.R.MapRecord.record_in (record_at g.R.MapRecord.SIZE l.bytes n)) l.n

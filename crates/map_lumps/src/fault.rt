@@ -1,0 +1,35 @@
+// Why there is no level.
+use map_rules::MapRefusal;
+use std::alloc::{AllocError, AllocFailed};
+
+/// Why `LevelBuilder` does not take a lump, or gives no level.
+///
+/// - `Refused`: the map's bytes are refused, for the reason given.
+/// - `OutOfMemory`: there is not enough memory. It says nothing of the bytes.
+#[derive(Clone, Copy, Debug, PartialEq, Eq, Drop)]
+pub enum MapFault {
+    Refused(MapRefusal),
+    OutOfMemory,
+}
+
+impl From<AllocError> for MapFault {
+    ghost use Rattle.std.specs.Prelude.{◌≡◌};
+    ghost use Rattle.map_lumps.specs.declared.fault.MapFault.TheVariants.{OutOfMemory};
+
+    ghost from_gives = { λ _ e. e ≡ OutOfMemory };
+
+    fn from(_e: AllocError) -> MapFault {
+        MapFault::OutOfMemory
+    }
+}
+
+impl<T: Drop> From<AllocFailed<T>> for MapFault {
+    ghost use Rattle.std.specs.Prelude.{◌≡◌};
+    ghost use Rattle.map_lumps.specs.declared.fault.MapFault.TheVariants.{OutOfMemory};
+
+    ghost from_gives = { λ _ e. e ≡ OutOfMemory };
+
+    fn from(_e: AllocFailed<T>) -> MapFault {
+        MapFault::OutOfMemory
+    }
+}

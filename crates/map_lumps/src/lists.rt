@@ -1,0 +1,158 @@
+// The records of all eight lumps, and the level that they give. Rules: `map_rules`, Levels.
+ghost use Rattle.std.specs.Prelude.{◌≡◌, OnOk, IfOk, Option, Some, None, Ok, Err};
+ghost use Rattle.map_rules.specs.declared.refusal.MapRefusal.{MapRefusal};
+ghost use Rattle.map_rules.specs.Levels.{joined_leaves, joined_level, joined_segs, level_from, no_leaf_refusal, range_refusal, records_refusal};
+ghost use Rattle.map_rules.specs.Sound.{IsSound};
+ghost use Rattle.map_rules.specs.Trees.{root_of};
+
+use crate::fault::MapFault;
+use crate::join::{join_leaves, join_segs};
+use crate::level::Level;
+use crate::ranges::{
+    first_leaf_refusal, first_line_refusal, first_node_refusal, first_seg_refusal,
+    first_side_refusal,
+};
+use crate::tree::{check_tree, root_of};
+use level_rules::{Child, Leaf, Node, Sector, Seg, Side, Thing};
+use map_rules::{MapLeaf, MapLine, MapRefusal, MapSeg, MapVertex};
+use std::alloc::{AllocError, Global};
+use std::marker::Model;
+
+// The records of each lump, as they are read; of none more than `MAX_RECORDS`.
+#[derive(Drop)]
+pub(crate) struct MapLists {
+    pub(crate) things: Vec<Thing>,
+    pub(crate) lines: Vec<MapLine>,
+    pub(crate) sides: Vec<Side>,
+    pub(crate) vertexes: Vec<MapVertex>,
+    pub(crate) segs: Vec<MapSeg>,
+    pub(crate) leaves: Vec<MapLeaf>,
+    pub(crate) nodes: Vec<Node>,
+    pub(crate) sectors: Vec<Sector>,
+}
+
+impl Model for MapLists {
+    ghost use Rattle.map_rules.specs.Levels.{MapRecords};
+
+    ghost Value = { MapRecords };
+
+    ghost use Rattle.map_rules.specs.Sound.{HasFewRecords};
+    ghost use Rattle.map_lumps.specs.Views.{listed_records};
+
+    ghost view = { listed_records };
+
+    ghost invariant = { λ l. HasFewRecords (listed_records l) };
+}
+
+impl MapLists {
+    // The level, unless something is refused.
+    #[tactic(auto, unfolding(map_rules::specs::Levels::level_from, map_rules::specs::Levels::unless))]
+    pub(crate) fn level(self, alloc: Global) -> Result<Level, MapFault>
+        ensures ok { IfOk result (λ level. level_from self ≡ Ok level) }
+        ensures refused { (r : MapRefusal) → result ≡ Err (MapFault.Refused r) → level_from self ≡ Err r }
+        ensures sound { IfOk result IsSound }
+    {
+        self.check(alloc)?;
+        Ok(self.joined(alloc)?)
+    }
+
+    // The level of records that are not refused.
+    fn joined(self, alloc: Global) -> Result<Level, AllocError>
+        requires { records_refusal self ≡ None }
+        ensures value { IfOk result (λ level. level ≡ joined_level self) }
+        ensures sound { IfOk result IsSound }
+    {
+        let segs = self.joined_segs(alloc)?;
+        let leaves = self.joined_leaves(alloc, &segs)?;
+        let root = self.root();
+        let MapLists {
+            things,
+            sides,
+            nodes,
+            sectors,
+            ..
+        } = self;
+        Ok(Level {
+            things,
+            sides,
+            segs,
+            leaves,
+            nodes,
+            sectors,
+            root,
+        })
+    }
+
+    // The segs of the level.
+    #[tactic(auto, unfolding(map_rules::specs::Levels::joined_segs))]
+    fn joined_segs(&self, alloc: Global) -> Result<Vec<Seg>, AllocError>
+        requires { records_refusal self.now ≡ None }
+        ensures { IfOk result (λ v. v.items ≡ joined_segs self.now) }
+    {
+        join_segs(alloc, &self.sides, &self.lines, &self.vertexes, &self.segs)
+    }
+
+    // The leaves of the level, which has these segs.
+    #[tactic(auto, unfolding(map_rules::specs::Levels::joined_leaves))]
+    fn joined_leaves(&self, alloc: Global, segs: &[Seg]) -> Result<Vec<Leaf>, AllocError>
+        requires right { records_refusal self.now ≡ None }
+        requires segs { segs.now ≡ joined_segs self.now }
+        ensures { IfOk result (λ v. v.items ≡ joined_leaves self.now) }
+    {
+        join_leaves(alloc, segs, &self.leaves)
+    }
+
+    // The root of the level.
+    fn root(&self) -> Child
+        ensures { result ≡ root_of self.now.nodes }
+    {
+        root_of(&self.nodes)
+    }
+
+    // Whether nothing is refused, and else what is.
+    #[tactic(auto, unfolding(map_rules::specs::Levels::records_refusal))]
+    fn check(&self, alloc: Global) -> Result<(), MapFault>
+        ensures ok { OnOk result (records_refusal self.now ≡ None) }
+        ensures refused { (r : MapRefusal) → result ≡ Err (MapFault.Refused r)
+            → records_refusal self.now ≡ Some r }
+    {
+        if let Some(refusal) = self.no_leaf_refusal() {
+            return Err(MapFault::Refused(refusal));
+        }
+        if let Some(refusal) = self.range_refusal() {
+            return Err(MapFault::Refused(refusal));
+        }
+        check_tree(alloc, &self.nodes)
+    }
+
+    // The refusal of a map without a leaf.
+    #[tactic(auto, unfolding(map_rules::specs::Levels::no_leaf_refusal))]
+    fn no_leaf_refusal(&self) -> Option<MapRefusal>
+        ensures { result ≡ no_leaf_refusal self.now.leaves }
+    {
+        if self.leaves.is_empty() {
+            return Some(MapRefusal::NoLeaf);
+        }
+        None
+    }
+
+    // The first number that is out of range.
+    #[tactic(auto, unfolding(map_rules::specs::Levels::range_refusal))]
+    fn range_refusal(&self) -> Option<MapRefusal>
+        ensures { result ≡ range_refusal self.now }
+    {
+        if let Some(refusal) = first_line_refusal(&self.lines, self.sides.len()) {
+            return Some(refusal);
+        }
+        if let Some(refusal) = first_side_refusal(&self.sides, self.sectors.len()) {
+            return Some(refusal);
+        }
+        if let Some(refusal) = first_seg_refusal(&self.segs, self.vertexes.len(), &self.lines) {
+            return Some(refusal);
+        }
+        if let Some(refusal) = first_leaf_refusal(&self.leaves, self.segs.len()) {
+            return Some(refusal);
+        }
+        first_node_refusal(&self.nodes, self.leaves.len())
+    }
+}
