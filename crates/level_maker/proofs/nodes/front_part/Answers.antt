@@ -1,0 +1,21 @@
+-- The part is smaller, since the whole is not one cell.
+use Rattle.std.proofs.Common.{arith}
+use Rattle.made_rules.specs.Nodes.{front_part}
+use Rattle.made_rules.proofs.NodeLemmas.{front-is_part, front-smaller}
+use Rattle.level_maker.proofs.nodes.front_part.Goals as goal
+
+pub returns-then-divides_columns-clause-within : goal.returns-then-divides_columns-clause-within
+unfolding front_part
+returns-then-divides_columns-clause-within c = front-is_part c.args.part _ c.requires.part c.requires.divisible (grind arith)
+
+pub returns-then-divides_columns-clause-smaller : goal.returns-then-divides_columns-clause-smaller
+unfolding front_part
+returns-then-divides_columns-clause-smaller c = front-smaller c.args.part _ c.requires.part c.requires.divisible (grind arith)
+
+pub returns-else-divides_columns-clause-within : goal.returns-else-divides_columns-clause-within
+unfolding front_part
+returns-else-divides_columns-clause-within c = front-is_part c.args.part _ c.requires.part c.requires.divisible (grind arith)
+
+pub returns-else-divides_columns-clause-smaller : goal.returns-else-divides_columns-clause-smaller
+unfolding front_part
+returns-else-divides_columns-clause-smaller c = front-smaller c.args.part _ c.requires.part c.requires.divisible (grind arith)

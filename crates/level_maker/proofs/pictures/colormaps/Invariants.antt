@@ -1,0 +1,8 @@
+-- The bytes so far are put.
+use Rattle.std.proofs.Common.{◌≡◌}
+use Rattle.word_rules.specs.Listed.{listed}
+use Rattle.made_rules.specs.Pictures.{colormap_byte}
+use Rattle.level_maker.proofs.pictures.colormaps.Given as goal
+
+abbrev pub invariant-loop-k : goal.invariant-loop-k
+invariant-loop-k l = l.lump.items ≡ listed colormap_byte l.k

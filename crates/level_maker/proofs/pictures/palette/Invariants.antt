@@ -1,0 +1,8 @@
+-- The colours so far are put.
+use Rattle.std.proofs.Common.{◌≡◌}
+use Rattle.made_rules.specs.Bytes.{records}
+use Rattle.made_rules.specs.Pictures.{colour_bytes}
+use Rattle.level_maker.proofs.pictures.palette.Given as goal
+
+abbrev pub invariant-loop-i : goal.invariant-loop-i
+invariant-loop-i l = l.lump.items ≡ records colour_bytes l.i

@@ -1,0 +1,236 @@
+// The records of a made level.
+ghost use Rattle.std.specs.Prelude.{◌≡◌, ◌<◌, ◌≤◌, ◌++◌, ◌*◌, ◌+◌, ◌^◌, IfOk, OnOk};
+ghost use Rattle.made_rules.specs.Bytes.{records};
+ghost use Rattle.made_rules.specs.Maps.{thing_bytes, line_flags, line_bytes, side_bytes, middle_name, inner_name, has_grate, wall_name, vertex_bytes, seg_bytes, leaf_bytes};
+
+use crate::bytes::{put_half, put_halves};
+use crate::cells::{column_of, corner, edge_angle, is_inner, next_edge, row_of, side_across};
+use made_rules::{CELL_SIZE, EDGES, LEVEL_THING, ONE_SIDED, THING_OPTIONS, TWO_SIDED};
+use std::alloc::{AllocError, Global};
+
+const UPPER_AND_LOWER: &[u8; 16] = b"WALL1\0\0\0WALL2\0\0\0";
+
+/// THINGS: one in the middle of each cell.
+#[tactic(auto, using(made_rules::proofs::BytesLemmas::filling))]
+pub fn things(alloc: Global, side: u32, cells: u32) -> Result<Vec<u8>, AllocError>
+    requires some { 0 < side }
+    requires square { side < 2 ^ 8 }
+    requires cells { cells < 2 ^ 16 }
+    ensures { IfOk result (λ lump. lump.items ≡ records (thing_bytes side) cells) }
+{
+    let mut lump = Vec::new(alloc);
+    for cell in 0..cells {
+        put_thing(&mut lump, side, cell)?;
+    }
+    Ok(lump)
+}
+
+#[tactic(auto, unfolding(made_rules::specs::Maps::thing_bytes))]
+fn put_thing(lump: &mut Vec<u8>, side: u32, cell: u32) -> Result<(), AllocError>
+    requires some { 0 < side }
+    requires cell { cell < 2 ^ 16 }
+    ensures { OnOk result (lump.new.items ≡ lump.old.items ++ thing_bytes side cell) }
+{
+    let x = CELL_SIZE * column_of(side, cell) + CELL_SIZE / 2;
+    let y = CELL_SIZE * row_of(side, cell) + CELL_SIZE / 2;
+    let angle = 45 * ((column_of(side, cell) + row_of(side, cell)) % 8);
+    put_halves(lump, &[x, y, angle, LEVEL_THING, THING_OPTIONS])
+}
+
+/// LINEDEFS: the edges of each cell.
+#[tactic(auto, using(made_rules::proofs::BytesLemmas::filling))]
+pub fn lines(alloc: Global, side: u32, edges: u32) -> Result<Vec<u8>, AllocError>
+    requires some { 0 < side }
+    requires square { side < 2 ^ 8 }
+    requires edges { edges < 2 ^ 16 }
+    ensures { IfOk result (λ lump. lump.items ≡ records (line_bytes side) edges) }
+{
+    let mut lump = Vec::new(alloc);
+    for k in 0..edges {
+        put_line(&mut lump, side, k)?;
+    }
+    Ok(lump)
+}
+
+#[tactic(auto, unfolding(made_rules::specs::Maps::line_bytes))]
+fn put_line(lump: &mut Vec<u8>, side: u32, k: u32) -> Result<(), AllocError>
+    requires some { 0 < side }
+    requires square { side < 2 ^ 8 }
+    requires edge { k < 2 ^ 16 }
+    ensures { OnOk result (lump.new.items ≡ lump.old.items ++ line_bytes side k) }
+{
+    let cell = k / EDGES;
+    let edge = k % EDGES;
+    let from = corner(side, cell, edge);
+    let to = corner(side, cell, next_edge(edge));
+    let flags = line_flags(side, cell, edge);
+    let back = side_across(side, cell, edge);
+    put_halves(lump, &[from, to, flags, 0, 0, k, back])
+}
+
+#[tactic(auto, unfolding(made_rules::specs::Maps::line_flags))]
+fn line_flags(side: u32, cell: u32, edge: u32) -> u32
+    requires some { 0 < side }
+    requires cell { cell < 2 ^ 16 }
+    requires edge { edge < EDGES }
+    ensures { result ≡ line_flags side cell edge }
+{
+    if is_inner(side, cell, edge) {
+        TWO_SIDED
+    } else {
+        ONE_SIDED
+    }
+}
+
+/// SIDEDEFS: the front sides of the lines.
+#[tactic(auto, using(made_rules::proofs::BytesLemmas::filling))]
+pub fn sides(alloc: Global, side: u32, edges: u32) -> Result<Vec<u8>, AllocError>
+    requires some { 0 < side }
+    requires edges { edges < 2 ^ 16 }
+    ensures { IfOk result (λ lump. lump.items ≡ records (side_bytes side) edges) }
+{
+    let mut lump = Vec::new(alloc);
+    for k in 0..edges {
+        put_side(&mut lump, side, k)?;
+    }
+    Ok(lump)
+}
+
+#[tactic(auto, unfolding(made_rules::specs::Maps::side_bytes))]
+fn put_side(lump: &mut Vec<u8>, side: u32, k: u32) -> Result<(), AllocError>
+    requires some { 0 < side }
+    requires edge { k < 2 ^ 16 }
+    ensures { OnOk result (lump.new.items ≡ lump.old.items ++ side_bytes side k) }
+{
+    let cell = k / EDGES;
+    put_halves(lump, &[0, 0])?;
+    lump.extend_from_slice(UPPER_AND_LOWER)?;
+    lump.extend_from_slice(&middle_name(side, cell, k % EDGES))?;
+    put_half(lump, cell)
+}
+
+#[tactic(auto, unfolding(made_rules::specs::Maps::middle_name))]
+fn middle_name(side: u32, cell: u32, edge: u32) -> [u8; 8]
+    requires some { 0 < side }
+    requires cell { cell < 2 ^ 16 }
+    requires edge { edge < EDGES }
+    ensures { result ≡ middle_name side cell edge }
+{
+    if is_inner(side, cell, edge) {
+        inner_name(side, cell, edge)
+    } else {
+        wall_name(side, cell)
+    }
+}
+
+#[tactic(auto, unfolding(made_rules::specs::Maps::inner_name))]
+fn inner_name(side: u32, cell: u32, edge: u32) -> [u8; 8]
+    requires some { 0 < side }
+    requires cell { cell < 2 ^ 16 }
+    ensures { result ≡ inner_name side cell edge }
+{
+    if has_grate(side, cell, edge) {
+        *b"GRATE\0\0\0"
+    } else {
+        *b"-\0\0\0\0\0\0\0"
+    }
+}
+
+#[tactic(auto, unfolding(made_rules::specs::Maps::has_grate))]
+fn has_grate(side: u32, cell: u32, edge: u32) -> bool
+    requires some { 0 < side }
+    requires cell { cell < 2 ^ 16 }
+    ensures { result ≡ has_grate side cell edge }
+{
+    edge % 2 == 1 && (column_of(side, cell) / 2 + row_of(side, cell) / 2) % 2 == 1
+}
+
+#[tactic(auto, unfolding(made_rules::specs::Maps::wall_name))]
+fn wall_name(side: u32, cell: u32) -> [u8; 8]
+    requires some { 0 < side }
+    requires cell { cell < 2 ^ 16 }
+    ensures { result ≡ wall_name side cell }
+{
+    let odd = (column_of(side, cell) + row_of(side, cell)) % 2 == 1;
+    if odd {
+        *b"WALL2\0\0\0"
+    } else {
+        *b"WALL1\0\0\0"
+    }
+}
+
+/// VERTEXES: the corners of the cells, row by row.
+#[tactic(auto, using(made_rules::proofs::BytesLemmas::filling))]
+pub fn vertices(alloc: Global, side: u32, count: u32) -> Result<Vec<u8>, AllocError>
+    requires square { side < 2 ^ 8 }
+    requires count { count < 2 ^ 16 }
+    ensures { IfOk result (λ lump. lump.items ≡ records (vertex_bytes side) count) }
+{
+    let mut lump = Vec::new(alloc);
+    for k in 0..count {
+        put_vertex(&mut lump, side, k)?;
+    }
+    Ok(lump)
+}
+
+#[tactic(auto, unfolding(made_rules::specs::Maps::vertex_bytes))]
+fn put_vertex(lump: &mut Vec<u8>, side: u32, k: u32) -> Result<(), AllocError>
+    requires square { side < 2 ^ 8 }
+    requires vertex { k < 2 ^ 16 }
+    ensures { OnOk result (lump.new.items ≡ lump.old.items ++ vertex_bytes side k) }
+{
+    put_halves(
+        lump,
+        &[CELL_SIZE * (k % (side + 1)), CELL_SIZE * (k / (side + 1))],
+    )
+}
+
+/// SEGS: the lines seen from their cells.
+#[tactic(auto, using(made_rules::proofs::BytesLemmas::filling))]
+pub fn segs(alloc: Global, side: u32, edges: u32) -> Result<Vec<u8>, AllocError>
+    requires some { 0 < side }
+    requires square { side < 2 ^ 8 }
+    requires edges { edges < 2 ^ 16 }
+    ensures { IfOk result (λ lump. lump.items ≡ records (seg_bytes side) edges) }
+{
+    let mut lump = Vec::new(alloc);
+    for k in 0..edges {
+        put_seg(&mut lump, side, k)?;
+    }
+    Ok(lump)
+}
+
+#[tactic(auto, unfolding(made_rules::specs::Maps::seg_bytes))]
+fn put_seg(lump: &mut Vec<u8>, side: u32, k: u32) -> Result<(), AllocError>
+    requires some { 0 < side }
+    requires square { side < 2 ^ 8 }
+    requires edge { k < 2 ^ 16 }
+    ensures { OnOk result (lump.new.items ≡ lump.old.items ++ seg_bytes side k) }
+{
+    let cell = k / EDGES;
+    let edge = k % EDGES;
+    let from = corner(side, cell, edge);
+    let to = corner(side, cell, next_edge(edge));
+    put_halves(lump, &[from, to, edge_angle(edge), k, 0, 0])
+}
+
+/// SSECTORS: the leaf of each cell.
+#[tactic(auto, using(made_rules::proofs::BytesLemmas::filling))]
+pub fn leaves(alloc: Global, cells: u32) -> Result<Vec<u8>, AllocError>
+    requires { cells < 2 ^ 16 }
+    ensures { IfOk result (λ lump. lump.items ≡ records leaf_bytes cells) }
+{
+    let mut lump = Vec::new(alloc);
+    for cell in 0..cells {
+        put_leaf(&mut lump, cell)?;
+    }
+    Ok(lump)
+}
+
+#[tactic(auto, unfolding(made_rules::specs::Maps::leaf_bytes))]
+fn put_leaf(lump: &mut Vec<u8>, cell: u32) -> Result<(), AllocError>
+    requires { cell < 2 ^ 16 }
+    ensures { OnOk result (lump.new.items ≡ lump.old.items ++ leaf_bytes cell) }
+{
+    put_halves(lump, &[EDGES, EDGES * cell])
+}

@@ -1,0 +1,5 @@
+pub mod BytesLemmas
+pub mod TableLemmas
+pub mod TextureLemmas
+pub mod NodeLemmas
+pub mod WadLemmas

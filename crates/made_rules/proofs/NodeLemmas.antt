@@ -1,0 +1,189 @@
+-- Laws of the nodes: both parts of a division are smaller, their nodes and one more are those of the
+-- whole, and the number of a node is the number of those before it.
+use Rattle.std.proofs.Common.{◌≡◌, ℕ, zero, suc, ◌+◌, ◌-◌, ◌*◌, ◌/◌, ◌^◌, ◌<◌, ◌≤◌, ◌⊎◌, inl, inr, Bool, true, false, cond, nat_le, List, [], ◌∷◌, ◌++◌, length, refl, sym, ap, subst, ◌∙◌, append_assoc, append-nil, length-append, arith}
+use Rattle.std.proofs.Math.Nat.{add-mul, mul-add, one-le-mul}
+use Rattle.std.proofs.lemmas.Nat.{mul-le}
+use Rattle.std.proofs.lemmas.Bool.Decides.{nat_tests}
+use Rattle.std.proofs.lemmas.Grind.{common_steps}
+use Rattle.made_rules.specs.declared.map.Part.{Part}
+use Rattle.made_rules.specs.Bytes.{half, halves}
+use Rattle.made_rules.specs.Nodes.{IsPart, width, height, node_count, is_one_cell, divides_columns, middle_column, middle_row, front_part, back_part, line_halves, box_halves, child_number, node_bytes, nodes_within, part_nodes}
+
+-- a part with room for a division
+pub record IsDivisible (part : Part) : Type 0 where
+  pub columns : part.west < part.east
+  pub rows : part.south < part.north
+  pub size : 3 ≤ width part + height part
+
+-- a part of a part
+pub record IsPiece (part piece : Part) : Type 0 where
+  pub columns : piece.west < piece.east
+  pub rows : piece.south < piece.north
+  pub smaller : width piece + height piece < width part + height part
+  pub east : piece.east ≤ part.east
+  pub north : piece.north ≤ part.north
+
+-- a part that is not one cell has room
+pub divisible : (part : Part) → part.west < part.east → part.south < part.north → is_one_cell part ≡ false → IsDivisible part
+unfolding is_one_cell
+divisible part p q e = record { columns = p; rows = q; size = grind (arith, nat_tests, e) }
+
+front_by : (part : Part) (b : Bool) → divides_columns part ≡ b → IsDivisible part → IsPiece part (cond b (record part { west = middle_column part }) (record part { north = middle_row part }))
+unfolding divides_columns middle_column middle_row
+front_by part true e d = let wide : height part ≤ width part = grind (arith, nat_tests, e) in record { columns = omega arith; rows = omega arith; smaller = omega arith; east = omega arith; north = omega arith }
+front_by part false e d = let high : width part < height part = grind (arith, nat_tests, e) in record { columns = omega arith; rows = omega arith; smaller = omega arith; east = omega arith; north = omega arith }
+
+pub front-piece : (part : Part) → IsDivisible part → IsPiece part (front_part part)
+unfolding front_part
+front-piece part d = front_by part (divides_columns part) refl d
+
+back_by : (part : Part) (b : Bool) → divides_columns part ≡ b → IsDivisible part → IsPiece part (cond b (record part { east = middle_column part }) (record part { south = middle_row part }))
+unfolding divides_columns middle_column middle_row
+back_by part true e d = let wide : height part ≤ width part = grind (arith, nat_tests, e) in record { columns = omega arith; rows = omega arith; smaller = omega arith; east = omega arith; north = omega arith }
+back_by part false e d = let high : width part < height part = grind (arith, nat_tests, e) in record { columns = omega arith; rows = omega arith; smaller = omega arith; east = omega arith; north = omega arith }
+
+pub back-piece : (part : Part) → IsDivisible part → IsPiece part (back_part part)
+unfolding back_part
+back-piece part d = back_by part (divides_columns part) refl d
+
+-- the same of parts that are not one cell
+pub front-is_part : (part piece : Part) → IsPart part → is_one_cell part ≡ false → piece ≡ front_part part → IsPart piece
+front-is_part part piece p e f =
+    let front : IsPiece part (front_part part) = front-piece part (divisible part p.columns p.rows e) in
+    let within : IsPart (front_part part) = record { columns = front.columns; rows = front.rows; east = omega arith; north = omega arith } in
+    subst IsPart (sym f) within
+
+pub back-is_part : (part piece : Part) → IsPart part → is_one_cell part ≡ false → piece ≡ back_part part → IsPart piece
+back-is_part part piece p e f =
+    let back : IsPiece part (back_part part) = back-piece part (divisible part p.columns p.rows e) in
+    let within : IsPart (back_part part) = record { columns = back.columns; rows = back.rows; east = omega arith; north = omega arith } in
+    subst IsPart (sym f) within
+
+pub front-smaller :
+    (part piece : Part) → IsPart part → is_one_cell part ≡ false → piece ≡ front_part part → width piece + height piece < width part + height part
+front-smaller part piece p e f =
+    subst (λ (q : Part). width q + height q < width part + height part) (sym f) (front-piece part (divisible part p.columns p.rows e)).smaller
+
+pub back-smaller :
+    (part piece : Part) → IsPart part → is_one_cell part ≡ false → piece ≡ back_part part → width piece + height piece < width part + height part
+back-smaller part piece p e f =
+    subst (λ (q : Part). width q + height q < width part + height part) (sym f) (back-piece part (divisible part p.columns p.rows e)).smaller
+
+-- the areas of two pieces, side by side and one above the other
+beside : (a b h n : ℕ) → 1 ≤ a → 1 ≤ b → 1 ≤ h → n ≡ a + b → n * h - 1 ≡ (a * h - 1) + (b * h - 1) + 1
+beside a b h n p q r e =
+    let whole : n * h ≡ a * h + b * h = ap (λ (m : ℕ). m * h) e ∙ add-mul a b h in
+    omega (arith, one-le-mul p r, one-le-mul q r)
+
+above : (a b w n : ℕ) → 1 ≤ a → 1 ≤ b → 1 ≤ w → n ≡ a + b → w * n - 1 ≡ (w * a - 1) + (w * b - 1) + 1
+above a b w n p q r e =
+    let whole : w * n ≡ w * a + w * b = ap (λ (m : ℕ). w * m) e ∙ mul-add w a b in
+    omega (arith, one-le-mul r p, one-le-mul r q)
+
+count_by_cases :
+    (part : Part) (b : Bool)
+    → divides_columns part ≡ b
+    → IsDivisible part
+    → node_count part
+    ≡ node_count (cond b (record part { west = middle_column part }) (record part { north = middle_row part }))
+    + node_count (cond b (record part { east = middle_column part }) (record part { south = middle_row part }))
+    + 1
+unfolding node_count divides_columns middle_column middle_row
+count_by_cases part true e d =
+    let wide : height part ≤ width part = grind (arith, nat_tests, e) in
+    let m = (part.west + part.east) / 2 in
+    beside (part.east - m) (m - part.west) (height part) (width part) (omega arith) (omega arith) (omega arith) (omega arith)
+count_by_cases part false e d =
+    let high : width part < height part = grind (arith, nat_tests, e) in
+    let m = (part.south + part.north) / 2 in
+    above (m - part.south) (part.north - m) (width part) (height part) (omega arith) (omega arith) (omega arith) (omega arith)
+
+-- the nodes of both parts and one more
+node_count_of : (part : Part) → IsDivisible part → node_count part ≡ node_count (front_part part) + node_count (back_part part) + 1
+unfolding front_part back_part
+node_count_of part d = count_by_cases part (divides_columns part) refl d
+
+pub node_count-parts : (part : Part) → IsPart part → is_one_cell part ≡ false → node_count part ≡ node_count (front_part part) + node_count (back_part part) + 1
+node_count-parts part p e = node_count_of part (divisible part p.columns p.rows e)
+
+-- a part that is not one cell has a node
+pub node_count-some : (part : Part) → IsPart part → is_one_cell part ≡ false → 1 ≤ node_count part
+node_count-some part p e = omega (arith, node_count-parts part p e)
+
+-- a square of 256 by 256 has fewer nodes than cells
+pub node_count-most : (part : Part) → IsPart part → node_count part ≤ 2 ^ 16
+unfolding node_count
+node_count-most part p = omega (arith, mul-le (width part) (height part) (2 ^ 8) (2 ^ 8) (omega arith) (omega arith))
+
+-- one of two lists, where only the second can be
+second_list : (b : Bool) (xs ys : List ℕ) → (b ≡ false → xs ≡ ys) → cond b [] xs ≡ cond b [] ys
+second_list true xs ys h = refl
+second_list false xs ys h = h refl
+
+-- enough depth is any depth that the part needs
+enough : (a b side first : ℕ) (part : Part) → part.west < part.east → part.south < part.north → width part + height part ≤ a → width part + height part ≤ b → nodes_within a side first part ≡ nodes_within b side first part
+unfolding nodes_within
+enough zero b side first part p q m n = absurd (omega arith)
+enough (suc a) zero side first part p q m n = absurd (omega arith)
+enough (suc a) (suc b) side first part p q m n =
+    second_list (is_one_cell part) _ _ (λ (e : is_one_cell part ≡ false).
+    let d : IsDivisible part = divisible part p q e in
+    let front : IsPiece part (front_part part) = front-piece part d in
+    let back : IsPiece part (back_part part) = back-piece part d in
+    let f : nodes_within a side first (front_part part) ≡ nodes_within b side first (front_part part)
+    = enough a b side first (front_part part) front.columns front.rows (omega arith) (omega arith) in
+    let g : nodes_within a side (first + node_count (front_part part)) (back_part part) ≡ nodes_within b side (first + node_count (front_part part)) (back_part part)
+    = enough a b side (first + node_count (front_part part)) (back_part part) back.columns back.rows (omega arith) (omega arith) in
+    (cc))
+
+no_list : (b : Bool) (xs : List ℕ) → b ≡ true → cond b [] xs ≡ []
+no_list true xs e = refl
+no_list false xs e = (cc)
+
+this_list : (b : Bool) (xs : List ℕ) → b ≡ false → cond b [] xs ≡ xs
+this_list true xs e = (cc)
+this_list false xs e = refl
+
+leaf_within : (depth side first : ℕ) (part : Part) → is_one_cell part ≡ true → nodes_within depth side first part ≡ []
+unfolding nodes_within
+leaf_within zero side first part e = refl
+leaf_within (suc depth) side first part e = no_list (is_one_cell part) _ e
+
+-- a leaf has no node
+pub part_nodes-leaf : (bytes : List ℕ) (side first : ℕ) (part : Part) → is_one_cell part ≡ true → bytes ≡ bytes ++ part_nodes side first part
+unfolding part_nodes
+part_nodes-leaf bytes side first part e = grind (arith, common_steps, leaf_within (width part + height part) side first part e)
+
+joined : (bytes xs ys zs us vs whole : List ℕ) → us ≡ xs → vs ≡ ys → whole ≡ us ++ vs ++ zs → ((bytes ++ xs) ++ ys) ++ zs ≡ bytes ++ whole
+joined bytes xs ys zs us vs whole f g e = grind (arith, common_steps)
+
+-- the nodes of another part: those in front, those behind, and its own
+pub part_nodes-parts :
+    (bytes : List ℕ) (side first : ℕ) (part : Part)
+    → IsPart part
+    → is_one_cell part ≡ false
+    → ((bytes ++ part_nodes side first (front_part part)) ++ part_nodes side (first + node_count (front_part part)) (back_part part)) ++ node_bytes side first part
+    ≡ bytes ++ part_nodes side first part
+unfolding part_nodes nodes_within
+part_nodes-parts bytes side first part within e =
+    let p = within.columns in
+    let q = within.rows in
+    let d : IsDivisible part = divisible part p q e in
+    let front : IsPiece part (front_part part) = front-piece part d in
+    let back : IsPiece part (back_part part) = back-piece part d in
+    let n = width part + height part in
+    let f : nodes_within n side first (front_part part) ≡ part_nodes side first (front_part part)
+    = enough n (width (front_part part) + height (front_part part)) side first (front_part part) front.columns front.rows (omega arith) (omega arith) in
+    let g : nodes_within n side (first + node_count (front_part part)) (back_part part) ≡ part_nodes side (first + node_count (front_part part)) (back_part part)
+    = enough n (width (back_part part) + height (back_part part)) side (first + node_count (front_part part)) (back_part part) back.columns back.rows (omega arith) (omega arith) in
+    let deeper : part_nodes side first part ≡ nodes_within (suc n) side first part = enough n (suc n) side first part p q (omega arith) (omega arith) in
+    let whole :
+    part_nodes side first part
+    ≡ nodes_within n side first (front_part part)
+    ++ nodes_within n side (first + node_count (front_part part)) (back_part part)
+    ++ node_bytes side first part
+    = deeper ∙ this_list (is_one_cell part) _ e in
+    joined bytes (part_nodes side first (front_part part)) (part_nodes side (first + node_count (front_part part)) (back_part part)) (node_bytes side first part) _ _ _ f g whole
+
+-- for `grind`: the walk that puts the nodes
+pub ruleset node_parts = (part_nodes-leaf, part_nodes-parts, node_count-parts, node_count-some, node_count-most)

@@ -1,0 +1,13 @@
+-- The parts of the lump of textures.
+use Rattle.std.proofs.Common.{◌≡◌, ℕ, List, [], ◌∷◌, ◌++◌, refl, ap, sym, ◌∙◌, arith}
+use Rattle.std.specs.List.{flat_map}
+use Rattle.std.proofs.lemmas.Grind.{flat_map-append, common_steps}
+use Rattle.made_rules.specs.Bytes.{words}
+use Rattle.made_rules.specs.Textures.{textures_row, texture_bytes, wall_textures, other_textures, made_textures}
+
+pub made_textures-parts :
+    (words (5 ∷ 24 ∷ 56 ∷ 88 ∷ 130 ∷ 162 ∷ []) ++ flat_map texture_bytes wall_textures) ++ flat_map texture_bytes other_textures ≡ made_textures
+unfolding made_textures
+made_textures-parts = grind (arith, common_steps, textures_row, flat_map-append texture_bytes wall_textures other_textures)
+
+pub ruleset texture_parts = (made_textures-parts)

@@ -1,0 +1,9 @@
+pub mod Bytes
+pub mod Tables
+pub mod Texts
+pub mod Pictures
+pub mod Textures
+pub mod Cells
+pub mod Maps
+pub mod Nodes
+pub mod Wads
