@@ -1,0 +1,4 @@
+pub mod WallLemmas
+pub mod EdgeLemmas
+pub mod NoteLemmas
+pub mod PaintLemmas

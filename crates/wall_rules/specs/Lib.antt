@@ -1,0 +1,14 @@
+pub mod Scales
+pub mod Heights
+pub mod Silhouettes
+pub mod Marks
+pub mod Parts
+pub mod Numbers
+pub mod Edges
+pub mod Columns
+pub mod Clips
+pub mod Walls
+pub mod Openings
+pub mod Notes
+pub mod Strips
+pub mod Rows
