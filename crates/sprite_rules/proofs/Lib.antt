@@ -1,0 +1,3 @@
+pub mod OrderLemmas
+pub mod ClipLemmas
+pub mod MaskedLemmas
