@@ -1,0 +1,34 @@
+-- All that a view draws, in order: walls, planes, sprites with the masked mid textures (R_RenderPlayerView, r_main.c).
+use Rattle.std.specs.Prelude.{List, ◌++◌}
+use Rattle.word_rules.specs.Listed.{joined_lists}
+use Rattle.sprite_rules.specs.Weapons.{WeaponLayer, weapon_dots}
+use Rattle.view_rules.specs.View.{ViewValue}
+use Rattle.walk_rules.specs.Events.{Event}
+use Rattle.walk_rules.specs.Walk.{view_events}
+use Rattle.wall_rules.specs.Walls.{Wall}
+use Rattle.sprite_rules.specs.Order.{draw_order}
+use Rattle.sprite_rules.specs.Middles.{masked_dots}
+use Rattle.pixel_rules.specs.Dots.{Dot}
+use Rattle.picture_rules.specs.Scene.{Scene}
+use Rattle.picture_rules.specs.Walls.{walls_of, walls_dots}
+use Rattle.picture_rules.specs.Planes.{steps_of, view_planes, planes_dots}
+use Rattle.picture_rules.specs.Masked.{view_drawsegs}
+use Rattle.picture_rules.specs.Things.{view_entries}
+
+-- the dots of a list of events whose drawn fragments are these
+unfoldable pub paints_by : ViewValue → Scene → List Event → List Wall → List Dot
+paints_by v scene events walls =
+    walls_dots v scene walls
+    ++ (planes_dots v scene (view_planes (steps_of v scene walls events))
+    ++ masked_dots v scene.art (view_drawsegs v scene walls) (draw_order (view_entries v scene events)))
+
+unfoldable pub paints_of : ViewValue → Scene → List Event → List Dot
+paints_of v scene events = paints_by v scene events (walls_of v scene events)
+
+-- the paint list of a view
+unfoldable pub view_paints : ViewValue → Scene → List Dot
+view_paints v scene = paints_of v scene (view_events v scene.level)
+
+-- the paint list with the weapons of the view's rows over it, in the order of the file
+unfoldable pub overlaid_paints : ViewValue → Scene → List WeaponLayer → List Dot
+overlaid_paints v scene layers = view_paints v scene ++ joined_lists (weapon_dots v scene.art) layers

@@ -1,0 +1,69 @@
+-- Worked rows: the room's east wall in the frame.
+use Rattle.std.specs.Prelude.{◌≡◌, ℕ, pos, List, [], ◌∷◌, None, refl}
+use Rattle.view_rules.specs.View.{ViewValue}
+use Rattle.view_rules.specs.Shape.{shape_of_size}
+use Rattle.view_rules.specs.Made.{row_view}
+use Rattle.walk_rules.specs.Rows.{walk_unfolded, room, room_seg, room_surface}
+use Rattle.wall_rules.specs.Rows.{walls_unfolded}
+use Rattle.wall_rules.specs.Walls.{Wall}
+use Rattle.wall_rules.specs.Strips.{wall_column}
+use Rattle.pixel_rules.specs.Dots.{Dot, colour_at}
+use Rattle.pixel_rules.specs.Rows.{pixels_unfolded, row_art, patch_byte}
+use Rattle.picture_rules.specs.Scene.{Scene, no_side, side_at, textures_at, wall_texture, sector_of, leaf_surface, facts_of, fragment_facts}
+use Rattle.picture_rules.specs.Walls.{fragment_wall, walls_of, walls_from, walls_dots}
+
+-- for rows by evaluation: who unfolds it unfolds the rules of walls and those below
+unfoldable pub picture_unfolded : ℕ
+unfolding walk_unfolded walls_unfolded pixels_unfolded room room_seg room_surface row_art patch_byte side_at textures_at wall_texture sector_of leaf_surface facts_of fragment_facts fragment_wall walls_of walls_from walls_dots
+picture_unfolded = 0
+
+unfoldable pub row_scene : Scene
+row_scene = record {
+  level = room;
+  sides = no_side ∷ [];
+  side_textures = record { top = 0; bottom = 0; middle = 1 } ∷ [];
+  texture_height = λ t. 128;
+  things_of = λ sector. [];
+  pick = λ sprite frame rotation. None;
+  sky = 0;
+  art = row_art;
+}
+
+unfoldable pub east_wall : ViewValue → Wall
+east_wall v = fragment_wall v row_scene (record { leaf = 0; seg = 0; first = 1; last = 319 })
+
+-- column 160 of the wall
+unfoldable pub east_column : ViewValue → List Dot
+east_column v = wall_column v row_art (east_wall v ∷ []) 0 (east_wall v) 160
+
+unfoldable pub sized_view : ℕ → ViewValue
+sized_view size = record row_view { shape = shape_of_size size }
+
+unfoldable pub lit_view : ℕ → ℕ → ViewValue
+lit_view extralight colormap = record row_view { eye = record { x = pos 0; y = pos 0; z = pos 2686976; angle = 0; extralight = extralight; colormap = colormap } }
+
+pub top_pixel_row : colour_at (east_column row_view) 160 46 ≡ 128
+unfolding picture_unfolded row_scene east_wall east_column
+top_pixel_row = refl
+
+pub bottom_pixel_row : colour_at (east_column row_view) 160 125 ≡ 45
+unfolding picture_unfolded row_scene east_wall east_column
+bottom_pixel_row = refl
+
+-- in a view of size 10 the wall has rows 30 to 109
+pub smaller_row : colour_at (east_column (sized_view 10)) 160 30 ≡ 128
+unfolding picture_unfolded row_scene east_wall east_column sized_view
+smaller_row = refl
+
+pub smaller_bottom_row : colour_at (east_column (sized_view 10)) 160 109 ≡ 45
+unfolding picture_unfolded row_scene east_wall east_column sized_view
+smaller_bottom_row = refl
+
+-- with one more of extra light the colormap is 8, with a fixed one it is 5
+pub extralight_row : colour_at (east_column (lit_view 1 0)) 160 46 ≡ 153
+unfolding picture_unfolded row_scene east_wall east_column lit_view
+extralight_row = refl
+
+pub fixed_map_row : colour_at (east_column (lit_view 0 5)) 160 46 ≡ 172
+unfolding picture_unfolded row_scene east_wall east_column lit_view
+fixed_map_row = refl

@@ -1,0 +1,60 @@
+-- The vissprites of a view: the things of each sector that is entered, once (R_AddSprites, r_things.c).
+use Rattle.std.specs.Prelude.{ℕ, ◌==◌, pos, cond, List, [], ◌∷◌, map, Option, Some, None}
+use Rattle.std.specs.List.{list_any}
+use Rattle.view_rules.specs.View.{ViewValue}
+use Rattle.view_rules.specs.Lights.{light_number}
+use Rattle.level_rules.specs.declared.PlacedThing.{PlacedThing}
+use Rattle.level_rules.specs.Levels.{surface_at}
+use Rattle.walk_rules.specs.Events.{Event}
+use Rattle.walk_rules.specs.Drawsegs.{leaves_entered}
+use Rattle.sprite_rules.specs.declared.Placed.{Placed}
+use Rattle.sprite_rules.specs.declared.Seen.{Seen}
+use Rattle.sprite_rules.specs.declared.Shape5.{Shape5}
+use Rattle.sprite_rules.specs.declared.SpriteEntry.{SpriteEntry}
+use Rattle.sprite_rules.specs.Projection.{project}
+use Rattle.sprite_rules.specs.Entries.{add}
+use Rattle.picture_rules.specs.Scene.{Scene, sector_of}
+
+-- the numbers without those that came before
+unfoldable pub first_mentions : List ℕ → List ℕ → List ℕ
+first_mentions before [] = []
+first_mentions before (n ∷ ns) = cond (list_any (λ m. m == n) before) (first_mentions before ns) (n ∷ first_mentions (n ∷ before) ns)
+
+unfoldable pub sectors_entered : Scene → List Event → List ℕ
+sectors_entered scene events = first_mentions [] (map (sector_of scene) (leaves_entered events))
+
+-- a thing with the light of its sector
+unfoldable pub placed_of : ViewValue → Scene → ℕ → PlacedThing → Placed
+placed_of v scene sector thing = record {
+  x = thing.x;
+  y = thing.y;
+  z = thing.z;
+  angle = thing.angle;
+  bright = thing.bright;
+  light = light_number v (surface_at scene.level sector).light (pos 0);
+}
+
+unfoldable pub with_shape : ViewValue → List SpriteEntry → Placed → Seen → Option Shape5 → List SpriteEntry
+with_shape v entries thing seen None = entries
+with_shape v entries thing seen (Some shape) = add v entries thing seen shape
+
+unfoldable pub with_seen : ViewValue → Scene → List SpriteEntry → PlacedThing → Placed → Option Seen → List SpriteEntry
+with_seen v scene entries thing placed None = entries
+with_seen v scene entries thing placed (Some seen) =
+    with_shape v entries placed seen (scene.pick thing.sprite thing.frame seen.rotation)
+
+unfoldable pub with_thing : ViewValue → Scene → ℕ → List SpriteEntry → PlacedThing → List SpriteEntry
+with_thing v scene sector entries thing =
+    with_seen v scene entries thing (placed_of v scene sector thing) (project v (placed_of v scene sector thing))
+
+unfoldable pub with_things : ViewValue → Scene → ℕ → List SpriteEntry → List PlacedThing → List SpriteEntry
+with_things v scene sector entries [] = entries
+with_things v scene sector entries (t ∷ ts) = with_things v scene sector (with_thing v scene sector entries t) ts
+
+unfoldable pub with_sectors : ViewValue → Scene → List SpriteEntry → List ℕ → List SpriteEntry
+with_sectors v scene entries [] = entries
+with_sectors v scene entries (n ∷ ns) = with_sectors v scene (with_things v scene n entries (scene.things_of n)) ns
+
+-- in order of making
+unfoldable pub view_entries : ViewValue → Scene → List Event → List SpriteEntry
+view_entries v scene events = with_sectors v scene [] (sectors_entered scene events)

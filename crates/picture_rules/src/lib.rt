@@ -1,0 +1,45 @@
+//! The picture of a view: what is drawn of a scene, in which order, and the counts that limit it.
+//!
+//! Rules only: records, and in `specs/` what a picture is made from (Scene), the drawn fragments
+//! and their dots (Walls), the planes (Planes), the fragments as the masked pass needs them
+//! (Masked), the vissprites (Things), the list of all paints (Paints), the frame and its trace
+//! (Picture), and the counts (Counts). A paint is what one layer writes; a dot one pixel of it.
+//! The original: R_RenderPlayerView, r_main.c.
+#![tactic(auto)]
+
+/// How many planes and openings a view may have.
+///
+/// The original: `MAXVISPLANES` and `MAXOPENINGS`, r_plane.c.
+#[derive(Clone, Copy, Debug, PartialEq, Eq)]
+pub struct Limits {
+    pub planes: u32,
+    pub openings: u32,
+}
+
+/// What a view counts: its planes, its openings, its drawn fragments and its kept sprites.
+///
+/// This project's own: the original keeps these as pointers into its arrays.
+#[derive(Clone, Copy, Debug, PartialEq, Eq)]
+pub struct Counts {
+    pub planes: u32,
+    pub openings: u32,
+    pub fragments: u32,
+    pub sprites: u32,
+}
+
+/// What of a view passes its limit.
+#[derive(Clone, Copy, Debug, PartialEq, Eq)]
+pub enum LimitKind {
+    Planes,
+    Openings,
+}
+
+/// The first count of a view that passes its limit.
+///
+/// This project's own: the original ends the program at a plane too many, and tests openings only
+/// after the walk.
+#[derive(Clone, Copy, Debug, PartialEq, Eq)]
+pub struct OverLimit {
+    pub kind: LimitKind,
+    pub count: u32,
+}
