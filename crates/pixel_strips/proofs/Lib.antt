@@ -1,0 +1,2 @@
+pub mod CanvasLemmas
+pub mod CutLemmas

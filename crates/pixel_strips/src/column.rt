@@ -1,0 +1,118 @@
+// Columns of pixels.
+ghost use Rattle.std.specs.Prelude.{◌≡◌, ◌+◌, ◌*◌, ◌^◌, ◌<◌, ◌≤◌};
+ghost use Rattle.view_rules.specs.declared.TheConstants.{FRAME_WIDTH, FRAME_HEIGHT};
+ghost use Rattle.pixel_rules.specs.declared.TheConstants.{TEXEL_ROWS, MAP_COLOURS};
+ghost use Rattle.pixel_strips.specs.Canvases.{with_dots};
+ghost use Rattle.pixel_strips.specs.Strips.{strip_colour, strip_dots, IsWindow};
+
+use crate::Canvas;
+use crate::texels::{column_colour, cut_colour, window};
+use fx_words::plus;
+use pixel_rules::{MAP_COLOURS, TEXEL_ROWS};
+
+/// Rows `first` to `last` of column `x` of the view.
+///
+/// `fraction` is the texel row at the first row, `step` what a row adds, both 16.16 fixed point;
+/// the texel is the byte of `source` at `base` and the texel row modulo 128, 0 past the end, seen
+/// through colormap `map` of the lump.
+///
+/// The original: dc_x, dc_yl, dc_yh, dc_iscale, dc_texturemid, dc_source, dc_colormap, r_draw.c.
+#[derive(Clone, Copy)]
+pub struct ColumnStrip<'a> {
+    pub x: u16,
+    pub first: u16,
+    pub last: u16,
+    pub fraction: i32,
+    pub step: i32,
+    pub source: &'a [u8],
+    pub base: u64,
+    pub colormap: &'a [u8],
+    pub map: u8,
+}
+
+/// Paints the strip. Takes no memory.
+///
+/// The original: `R_DrawColumn`, r_draw.c.
+pub fn paint_column<C: Canvas>(canvas: &mut C, strip: &ColumnStrip<'_>)
+    requires ordered { strip.now.first ≤ strip.now.last }
+    requires column { strip.now.x + (C.view canvas.old).left < FRAME_WIDTH }
+    requires rows { strip.now.last + (C.view canvas.old).top < FRAME_HEIGHT }
+    requires base { strip.now.base < 2 ^ 63 }
+    ensures { C.view canvas.new ≡ with_dots C.mark (strip_dots (C.view canvas.old).painter strip.now.x
+        (strip_colour strip.now.source.now strip.now.base strip.now.colormap.now strip.now.map strip.now.fraction strip.now.step strip.now.first)
+        strip.now.first strip.now.last) (C.view canvas.old) }
+{
+    if let Some(texels) = window(strip.source, strip.base, TEXEL_ROWS as usize)
+        && let Some(shades) = window(
+            strip.colormap,
+            MAP_COLOURS as u64 * strip.map as u64,
+            MAP_COLOURS as usize,
+        )
+    {
+        paint_cut_column(canvas, strip, texels, shades);
+    } else {
+        paint_any_column(canvas, strip);
+    }
+}
+
+/// Paints the rows of a post: a strip that begins at the post's first row seen. Takes no memory.
+///
+/// The original: `R_DrawMaskedColumn`, r_things.c, which calls `colfunc` for each post.
+pub fn paint_post<C: Canvas>(canvas: &mut C, strip: &ColumnStrip<'_>)
+    requires ordered { strip.now.first ≤ strip.now.last }
+    requires column { strip.now.x + (C.view canvas.old).left < FRAME_WIDTH }
+    requires rows { strip.now.last + (C.view canvas.old).top < FRAME_HEIGHT }
+    requires base { strip.now.base < 2 ^ 63 }
+    ensures { C.view canvas.new ≡ with_dots C.mark (strip_dots (C.view canvas.old).painter strip.now.x
+        (strip_colour strip.now.source.now strip.now.base strip.now.colormap.now strip.now.map strip.now.fraction strip.now.step strip.now.first)
+        strip.now.first strip.now.last) (C.view canvas.old) }
+{
+    paint_column(canvas, strip);
+}
+
+// Paints the strip where the source or the colormap ends before it has all texels or shades.
+fn paint_any_column<C: Canvas>(canvas: &mut C, strip: &ColumnStrip<'_>)
+    requires ordered { strip.now.first ≤ strip.now.last }
+    requires column { strip.now.x + (C.view canvas.old).left < FRAME_WIDTH }
+    requires rows { strip.now.last + (C.view canvas.old).top < FRAME_HEIGHT }
+    requires base { strip.now.base < 2 ^ 63 }
+    ensures { C.view canvas.new ≡ with_dots C.mark (strip_dots (C.view canvas.old).painter strip.now.x
+        (strip_colour strip.now.source.now strip.now.base strip.now.colormap.now strip.now.map strip.now.fraction strip.now.step strip.now.first)
+        strip.now.first strip.now.last) (C.view canvas.old) }
+{
+    let mut fraction = strip.fraction;
+    for y in strip.first..strip.last + 1 {
+        let colour = column_colour(
+            strip.source,
+            strip.base,
+            strip.colormap,
+            strip.map,
+            fraction,
+        );
+        canvas.dot(strip.x, y, colour);
+        fraction = plus(fraction, strip.step);
+    }
+}
+
+// Paints the strip from the texels and the shades that are cut out.
+fn paint_cut_column<C: Canvas>(
+    canvas: &mut C,
+    strip: &ColumnStrip<'_>,
+    texels: &[u8],
+    shades: &[u8],
+)
+    requires ordered { strip.now.first ≤ strip.now.last }
+    requires column { strip.now.x + (C.view canvas.old).left < FRAME_WIDTH }
+    requires rows { strip.now.last + (C.view canvas.old).top < FRAME_HEIGHT }
+    requires texels { IsWindow strip.now.source.now strip.now.base TEXEL_ROWS texels.now }
+    requires shades { IsWindow strip.now.colormap.now (MAP_COLOURS * strip.now.map) MAP_COLOURS shades.now }
+    ensures { C.view canvas.new ≡ with_dots C.mark (strip_dots (C.view canvas.old).painter strip.now.x
+        (strip_colour strip.now.source.now strip.now.base strip.now.colormap.now strip.now.map strip.now.fraction strip.now.step strip.now.first)
+        strip.now.first strip.now.last) (C.view canvas.old) }
+{
+    let mut fraction = strip.fraction;
+    for y in strip.first..strip.last + 1 {
+        canvas.dot(strip.x, y, cut_colour(texels, shades, fraction));
+        fraction = plus(fraction, strip.step);
+    }
+}

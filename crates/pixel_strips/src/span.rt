@@ -1,0 +1,107 @@
+// Spans of pixels.
+ghost use Rattle.std.specs.Prelude.{◌≡◌, ◌+◌, ◌*◌, ◌<◌, ◌≤◌};
+ghost use Rattle.view_rules.specs.declared.TheConstants.{FRAME_WIDTH, FRAME_HEIGHT};
+ghost use Rattle.pixel_rules.specs.declared.TheConstants.{MAP_COLOURS};
+ghost use Rattle.pixel_rules.specs.Strips.{span_dots};
+ghost use Rattle.pixel_strips.specs.Canvases.{with_dots};
+ghost use Rattle.pixel_strips.specs.Strips.{row_colour, IsWindow};
+
+use crate::Canvas;
+use crate::texels::{FLAT_BYTES, cut_span_colour, span_colour, window};
+use fx_words::plus;
+use pixel_rules::MAP_COLOURS;
+
+/// Columns `first` to `last` of row `y` of the view.
+///
+/// The fractions are the place in the flat at the first column, the steps what a column adds, all
+/// in texels, 16.16 fixed point; the texel is the byte of the flat's 64 by 64, 0 past its end, seen
+/// through colormap `map` of the lump.
+///
+/// The original: ds_y, ds_x1, ds_x2, ds_xfrac, ds_yfrac, ds_xstep, ds_ystep, ds_source,
+/// ds_colormap, r_draw.c.
+#[derive(Clone, Copy)]
+pub struct SpanStrip<'a> {
+    pub y: u16,
+    pub first: u16,
+    pub last: u16,
+    pub x_fraction: i32,
+    pub y_fraction: i32,
+    pub x_step: i32,
+    pub y_step: i32,
+    pub flat: &'a [u8],
+    pub colormap: &'a [u8],
+    pub map: u8,
+}
+
+/// Paints the strip. Takes no memory.
+///
+/// The original: `R_DrawSpan`, r_draw.c.
+pub fn paint_span<C: Canvas>(canvas: &mut C, strip: &SpanStrip<'_>)
+    requires ordered { strip.now.first ≤ strip.now.last }
+    requires row { strip.now.y + (C.view canvas.old).top < FRAME_HEIGHT }
+    requires columns { strip.now.last + (C.view canvas.old).left < FRAME_WIDTH }
+    ensures { C.view canvas.new ≡ with_dots C.mark (span_dots (C.view canvas.old).painter strip.now.y
+        (row_colour strip.now.flat.now strip.now.colormap.now strip.now.map strip.now.x_fraction strip.now.y_fraction strip.now.x_step strip.now.y_step strip.now.first)
+        strip.now.first strip.now.last) (C.view canvas.old) }
+{
+    if let Some(texels) = window(strip.flat, 0, FLAT_BYTES)
+        && let Some(shades) = window(
+            strip.colormap,
+            MAP_COLOURS as u64 * strip.map as u64,
+            MAP_COLOURS as usize,
+        )
+    {
+        paint_cut_span(canvas, strip, texels, shades);
+    } else {
+        paint_any_span(canvas, strip);
+    }
+}
+
+// Paints the strip where the flat or the colormap ends before it has all texels or shades.
+fn paint_any_span<C: Canvas>(canvas: &mut C, strip: &SpanStrip<'_>)
+    requires ordered { strip.now.first ≤ strip.now.last }
+    requires row { strip.now.y + (C.view canvas.old).top < FRAME_HEIGHT }
+    requires columns { strip.now.last + (C.view canvas.old).left < FRAME_WIDTH }
+    ensures { C.view canvas.new ≡ with_dots C.mark (span_dots (C.view canvas.old).painter strip.now.y
+        (row_colour strip.now.flat.now strip.now.colormap.now strip.now.map strip.now.x_fraction strip.now.y_fraction strip.now.x_step strip.now.y_step strip.now.first)
+        strip.now.first strip.now.last) (C.view canvas.old) }
+{
+    let mut x_fraction = strip.x_fraction;
+    let mut y_fraction = strip.y_fraction;
+    for x in strip.first..strip.last + 1 {
+        let colour = span_colour(
+            strip.flat,
+            strip.colormap,
+            strip.map,
+            x_fraction,
+            y_fraction,
+        );
+        canvas.dot(x, strip.y, colour);
+        x_fraction = plus(x_fraction, strip.x_step);
+        y_fraction = plus(y_fraction, strip.y_step);
+    }
+}
+
+// Paints the strip from the texels and the shades that are cut out.
+fn paint_cut_span<C: Canvas>(canvas: &mut C, strip: &SpanStrip<'_>, texels: &[u8], shades: &[u8])
+    requires ordered { strip.now.first ≤ strip.now.last }
+    requires row { strip.now.y + (C.view canvas.old).top < FRAME_HEIGHT }
+    requires columns { strip.now.last + (C.view canvas.old).left < FRAME_WIDTH }
+    requires texels { IsWindow strip.now.flat.now 0 FLAT_BYTES texels.now }
+    requires shades { IsWindow strip.now.colormap.now (MAP_COLOURS * strip.now.map) MAP_COLOURS shades.now }
+    ensures { C.view canvas.new ≡ with_dots C.mark (span_dots (C.view canvas.old).painter strip.now.y
+        (row_colour strip.now.flat.now strip.now.colormap.now strip.now.map strip.now.x_fraction strip.now.y_fraction strip.now.x_step strip.now.y_step strip.now.first)
+        strip.now.first strip.now.last) (C.view canvas.old) }
+{
+    let mut x_fraction = strip.x_fraction;
+    let mut y_fraction = strip.y_fraction;
+    for x in strip.first..strip.last + 1 {
+        canvas.dot(
+            x,
+            strip.y,
+            cut_span_colour(texels, shades, x_fraction, y_fraction),
+        );
+        x_fraction = plus(x_fraction, strip.x_step);
+        y_fraction = plus(y_fraction, strip.y_step);
+    }
+}

@@ -1,0 +1,103 @@
+// Texels by their fractions, and colours through a colormap.
+ghost use Rattle.std.specs.Prelude.{◌≡◌, ◌+◌, ◌*◌, ◌<◌, ◌≤◌, ◌^◌, length, slice_index, IfSome};
+ghost use Rattle.pixel_rules.specs.declared.TheConstants.{TEXEL_ROWS, FLAT_SIDE, MAP_COLOURS};
+ghost use Rattle.pixel_rules.specs.Strips.{texel_row, flat_place, shade, column_colour, span_colour};
+ghost use Rattle.pixel_strips.specs.Strips.{IsWindow, cut_colour, cut_span_colour};
+
+use pixel_rules::{FLAT_SIDE, MAP_COLOURS, TEXEL_ROWS};
+use word_rules::FRACTION_BITS;
+
+/// The bytes of a flat.
+pub const FLAT_BYTES: usize = FLAT_SIDE as usize * FLAT_SIDE as usize;
+
+/// The bytes from an offset on, where there are so many.
+pub fn window(bytes: &[u8], offset: u64, count: usize) -> Option<&[u8]>
+    requires { count ≤ FLAT_BYTES }
+    ensures { IfSome result (λ part. IsWindow bytes.now offset count part.now) }
+{
+    let start = offset as usize;
+    if start > bytes.len() || count > bytes.len() - start {
+        return None;
+    }
+    Some(&bytes[start..start + count])
+}
+
+/// The byte at an offset, 0 past the end.
+pub fn byte_or_zero(bytes: &[u8], offset: u64) -> u8
+    ensures { result ≡ slice_index bytes.now offset }
+{
+    bytes.get(offset as usize).copied().unwrap_or(0)
+}
+
+/// The texel row that a fraction stands for, 0 to 127.
+#[tactic(auto, unfolding(pixel_rules::specs::Strips::texel_row, word_rules::specs::Words::shr_word))]
+pub fn texel_row(fraction: i32) -> usize
+    ensures row { result ≡ texel_row fraction }
+    ensures within { result < TEXEL_ROWS }
+{
+    ((fraction >> FRACTION_BITS).cast_unsigned() % TEXEL_ROWS as u32) as usize
+}
+
+/// The place in a flat that two fractions stand for, 0 to 4095.
+#[tactic(auto, unfolding(pixel_rules::specs::Strips::flat_place, word_rules::specs::Words::shr_word))]
+pub fn flat_place(x_fraction: i32, y_fraction: i32) -> usize
+    ensures place { result ≡ flat_place x_fraction y_fraction }
+    ensures within { result < FLAT_BYTES }
+{
+    let column = (x_fraction >> FRACTION_BITS).cast_unsigned() % FLAT_SIDE as u32;
+    let row = (y_fraction >> FRACTION_BITS).cast_unsigned() % FLAT_SIDE as u32;
+    (FLAT_SIDE as u32 * row + column) as usize
+}
+
+/// A colour through colormap `map`, 0 past the end of the lump.
+#[tactic(auto, unfolding(pixel_rules::specs::Strips::shade))]
+pub fn shade(colormap: &[u8], map: u8, index: u8) -> u8
+    ensures { result ≡ shade colormap.now map index }
+{
+    byte_or_zero(colormap, MAP_COLOURS as u64 * map as u64 + index as u64)
+}
+
+/// The colour of a column strip at a fraction.
+#[tactic(auto, unfolding(pixel_rules::specs::Strips::column_colour))]
+pub fn column_colour(source: &[u8], base: u64, colormap: &[u8], map: u8, fraction: i32) -> u8
+    requires { base < 2 ^ 63 }
+    ensures { result ≡ column_colour source.now base colormap.now map fraction }
+{
+    shade(
+        colormap,
+        map,
+        byte_or_zero(source, base + texel_row(fraction) as u64),
+    )
+}
+
+/// The colour of a span at two fractions.
+#[tactic(auto, unfolding(pixel_rules::specs::Strips::span_colour))]
+pub fn span_colour(flat: &[u8], colormap: &[u8], map: u8, x_fraction: i32, y_fraction: i32) -> u8
+    ensures { result ≡ span_colour flat.now colormap.now map x_fraction y_fraction }
+{
+    shade(
+        colormap,
+        map,
+        byte_or_zero(flat, flat_place(x_fraction, y_fraction) as u64),
+    )
+}
+
+/// The same of 128 texels and 256 shades that are cut out: no bound is tested.
+#[tactic(auto, unfolding(crate::specs::Strips::cut_colour))]
+pub fn cut_colour(texels: &[u8], shades: &[u8], fraction: i32) -> u8
+    requires texels { length texels.now ≡ TEXEL_ROWS }
+    requires shades { length shades.now ≡ MAP_COLOURS }
+    ensures { result ≡ cut_colour texels.now shades.now fraction }
+{
+    shades[texels[texel_row(fraction)] as usize]
+}
+
+/// The same of the 4096 texels of a flat.
+#[tactic(auto, unfolding(crate::specs::Strips::cut_span_colour))]
+pub fn cut_span_colour(texels: &[u8], shades: &[u8], x_fraction: i32, y_fraction: i32) -> u8
+    requires texels { length texels.now ≡ FLAT_BYTES }
+    requires shades { length shades.now ≡ MAP_COLOURS }
+    ensures { result ≡ cut_span_colour texels.now shades.now x_fraction y_fraction }
+{
+    shades[texels[flat_place(x_fraction, y_fraction)] as usize]
+}
