@@ -1,0 +1,4 @@
+pub mod Records
+pub mod View
+pub mod Lending
+pub mod Calls

@@ -1,0 +1,29 @@
+-- The figures of a zone add up to its size.
+use Rattle.std.proofs.Common.{◌≡◌, ℕ, ◌+◌, Bool, true, false, cond, not, List, [], ◌∷◌, Option, Some, None, refl, arith}
+use Rattle.std.proofs.lemmas.List.Sums.{sum_by-cons}
+use Rattle.zone_rules.specs.Zones.{Block, Holding, Tiles, is_free, is_pinned, is_purgeable, is_purgeable_tag, pins, may_purge, used_size, purgeable_size, free_size}
+use Rattle.zone_rules.specs.Requests.{total}
+use Rattle.zone_rules.proofs.GapLemmas.{total-cons}
+use Rattle.zone_rules.proofs.PurgeLemmas.{tiles_end}
+use Rattle.std.specs.Prelude.{is_none}
+
+one_part : (size : ℕ) (h : Option Holding) → cond (pins h) size 0 + cond (may_purge h) size 0 + cond (is_none h) size 0 ≡ size
+one_part size None = omega arith
+one_part size (Some h) = go (is_purgeable_tag h.tag) where
+  go : (t : Bool) → cond (not t) size 0 + cond t size 0 + 0 ≡ size
+  go true = omega arith
+  go false = omega arith
+
+pub parts_total : (bs : List Block) → used_size bs + purgeable_size bs + free_size bs ≡ total bs
+parts_total [] = refl
+parts_total (b ∷ bs) =
+    let a = sum_by-cons (λ (c : Block). cond (is_pinned c) c.size 0) b bs in
+    let d = sum_by-cons (λ (c : Block). cond (is_purgeable c) c.size 0) b bs in
+    let e = sum_by-cons (λ (c : Block). cond (is_free c) c.size 0) b bs in
+    let f = total-cons b bs in
+    let g = one_part b.size b.holding in
+    let k = parts_total bs in
+    omega arith
+
+pub parts_are_size : (size : ℕ) (bs : List Block) → Tiles 0 size bs → used_size bs + purgeable_size bs + free_size bs ≡ size
+parts_are_size size bs t = let e = tiles_end 0 size bs t in let k = parts_total bs in omega arith

@@ -1,0 +1,322 @@
+-- The loop that looks for a fit goes the walk over the gaps. Which blocks a purge of chosen ones changes. What a tiling says of the places of its parts.
+use Rattle.std.proofs.Common.{◌≡◌, ℕ, ◌+◌, ◌-◌, ◌<◌, ◌≤◌, suc, Bool, true, false, cond, not, List, [], ◌∷◌, length, take, filter, Option, Some, None, refl, ap, arith, unwrap_or, inl, inr, ◌&&◌, ◌||◌, ◌++◌, map, sym, subst, ap₂, ◌∙◌, count_by, zero-add, zero, drop, ⊎_elim}
+use Rattle.std.specs.Prelude.{nat_le, ⊤, ◌==◌, ◌⊎◌}
+use Rattle.std.proofs.lemmas.Bool.{cond-false, le-leb, lt-leb, cases_lt, ne_eqb, cond-true, eq-eqb, or_left, or_right, false≢true}
+use Rattle.zone_rules.specs.Zones.{Block, is_pinned, Holding, is_purgeable, is_purgeable_tag, may_purge, pins, free_block, Tiles}
+use Rattle.zone_rules.specs.Walks.{fit_from, run_place}
+use Rattle.zone_rules.proofs.GapLemmas.{walk, walk_place, total-cons}
+use Rattle.std.specs.List.{list_any}
+use Rattle.std.proofs.lemmas.List.{map-append}
+use Rattle.std.proofs.lemmas.List.Folds.{list_any-append}
+use Rattle.std.proofs.lemmas.List.Sums.{sum_by-append, sum_by-cons}
+use Rattle.zone_rules.specs.Requests.{purge_among, is_among, purge_block, count_among, total}
+
+abbrev pub unpinned : List Block → List Block
+unpinned bs = filter (λ b. not (is_pinned b)) bs
+
+abbrev pub Sized : List Block → Type 0
+Sized [] = ⊤
+Sized (b ∷ bs) = (0 < b.size) × Sized bs
+
+-- the place of the run at hand, if there is one
+abbrev pub run_of : ℕ → ℕ → Option ℕ
+run_of place sum = cond (sum == 0) None (Some place)
+
+-- what a fit means for the walk from here on
+abbrev pub FitMeans : ℕ → ℕ → Option ℕ → ℕ → List Block → Option (ℕ × ℕ) → Type 0
+FitMeans v w f i bs None = (walk_place v w f bs ≡ None) × (walk v w bs ≡ unpinned bs)
+FitMeans v w f i bs (Some r) = (walk_place v w f bs ≡ Some r.0) × (i < r.1) × (r.1 ≤ i + length bs) × (walk v w bs ≡ unpinned (take (r.1 - i) bs))
+
+one_less : (n i : ℕ) (b : Block) (bs : List Block) → i + 1 < n → take (n - i) (b ∷ bs) ≡ b ∷ take (n - (i + 1)) bs
+one_less n i b bs h = let e : n - i ≡ suc (n - (i + 1)) = omega arith in rw e refl
+
+-- past a pinned block
+past_pinned : (v w i : ℕ) (f : Option ℕ) (b : Block) (bs : List Block) (r : Option (ℕ × ℕ)) → is_pinned b ≡ true → FitMeans w w None (i + 1) bs r → FitMeans v w f i (b ∷ bs) r
+past_pinned v w i f b bs None p m = (rw p m.0, rw p m.1)
+past_pinned v w i f b bs (Some r) p m = (rw p m.0, omega arith, omega arith, rw (one_less r.1 i b bs m.1, p) m.3)
+
+-- past a block that is not pinned, where the run is too small yet
+past_open : (v w i : ℕ) (f : Option ℕ) (b : Block) (bs : List Block) (r : Option (ℕ × ℕ)) → is_pinned b ≡ false → b.size < v → FitMeans (v - b.size) w (Some (unwrap_or f b.place)) (i + 1) bs r → FitMeans v w f i (b ∷ bs) r
+past_open v w i f b bs None p h m = (rw (p, lt-leb v b.size h) m.0, rw (p, lt-leb v b.size h) (ap (λ cs. b ∷ cs) m.1))
+past_open v w i f b bs (Some r) p h m =
+    (rw (p, lt-leb v b.size h) m.0, omega arith, omega arith, rw (one_less r.1 i b bs m.1, p, lt-leb v b.size h) (ap (λ cs. b ∷ cs) m.3))
+
+run_place_is : (place sum here : ℕ) → unwrap_or (run_of place sum) here ≡ run_place place sum here
+run_place_is place sum here = go (sum == 0) where
+  go : (t : Bool) → unwrap_or (cond t None (Some place)) here ≡ cond t here place
+  go true = refl
+  go false = refl
+
+run_goes_on : (place sum : ℕ) → 0 < sum → run_of place sum ≡ Some place
+run_goes_on place sum h = cond-false (sum == 0) None (Some place) (ne_eqb sum 0 (λ e. omega arith))
+
+fit_here : (v w i place sum : ℕ) (b : Block) (bs : List Block) → is_pinned b ≡ false → v ≤ b.size → FitMeans v w (run_of place sum) i (b ∷ bs) (Some (run_place place sum b.place, i + 1))
+fit_here v w i place sum b bs p h =
+    let one : i + 1 - i ≡ 1 = omega arith in
+    (rw (p, le-leb v b.size h) (ap Some (run_place_is place sum b.place)), omega arith, omega arith, rw (one, p, le-leb v b.size h) refl)
+
+module _ (w : ℕ) (b : Block) (bs : List Block) (v place sum i : ℕ) (e : v + sum ≡ w) (size : 0 < b.size) where
+  fit_small : is_pinned b ≡ false → FitMeans (v - b.size) w (run_of (run_place place sum b.place) (sum + b.size)) (i + 1) bs (fit_from w (run_place place sum b.place) (sum + b.size) (i + 1) bs) → b.size < v
+      → FitMeans v w (run_of place sum) i (b ∷ bs) (cond (nat_le w (sum + b.size)) (Some (run_place place sum b.place, i + 1)) (fit_from w (run_place place sum b.place) (sum + b.size) (i + 1) bs))
+  fit_small p m h =
+      rw (lt-leb w (sum + b.size) (omega arith))
+      (past_open v w i (run_of place sum) b bs (fit_from w (run_place place sum b.place) (sum + b.size) (i + 1) bs) p h
+      (rw (run_place_is place sum b.place, ← run_goes_on (run_place place sum b.place) (sum + b.size) (omega arith)) m))
+
+  fit_large : is_pinned b ≡ false → v ≤ b.size
+      → FitMeans v w (run_of place sum) i (b ∷ bs) (cond (nat_le w (sum + b.size)) (Some (run_place place sum b.place, i + 1)) (fit_from w (run_place place sum b.place) (sum + b.size) (i + 1) bs))
+  fit_large p h = rw (le-leb w (sum + b.size) (omega arith)) (fit_here v w i place sum b bs p h)
+
+  fit_step : FitMeans w w None (i + 1) bs (fit_from w place 0 (i + 1) bs)
+      → (b.size < v → FitMeans (v - b.size) w (run_of (run_place place sum b.place) (sum + b.size)) (i + 1) bs (fit_from w (run_place place sum b.place) (sum + b.size) (i + 1) bs)) → (t : Bool) → is_pinned b ≡ t
+      → FitMeans v w (run_of place sum) i (b ∷ bs) (cond t (fit_from w place 0 (i + 1) bs) (cond (nat_le w (sum + b.size)) (Some (run_place place sum b.place, i + 1)) (fit_from w (run_place place sum b.place) (sum + b.size) (i + 1) bs)))
+  fit_step anew on true p = past_pinned v w i (run_of place sum) b bs (fit_from w place 0 (i + 1) bs) p anew
+  fit_step anew on false p = elim (cases_lt b.size v) [ inl h ↦ fit_small p (on h) h | inr h ↦ fit_large p h ]
+
+pub fit_walk : (w : ℕ) (bs : List Block) (v place sum i : ℕ) → v + sum ≡ w → 0 < v → Sized bs → FitMeans v w (run_of place sum) i bs (fit_from w place sum i bs)
+fit_walk w [] v place sum i e pos sized = (refl, refl)
+fit_walk w (b ∷ bs) v place sum i e pos sized =
+    fit_step w b bs v place sum i e sized.0 (fit_walk w bs w place 0 (i + 1) (omega arith) (omega arith) sized.1)
+    (λ h. fit_walk w bs (v - b.size) (run_place place sum b.place) (sum + b.size) (i + 1) (omega arith) (omega arith) sized.1) (is_pinned b) refl
+
+
+-- a purgeable block is not pinned
+never_both : (h : Option Holding) → may_purge h ≡ true → pins h ≡ false
+never_both None p = refl
+never_both (Some h) p = go (is_purgeable_tag h.tag) p where
+  go : (t : Bool) → t ≡ true → not t ≡ false
+  go true p = refl
+  go false p = absurd (false≢true p)
+
+pub pinned_stays : (h : Option Holding) → pins h ≡ true → may_purge h ≡ false
+pinned_stays None p = refl
+pinned_stays (Some h) p = go (is_purgeable_tag h.tag) p where
+  go : (t : Bool) → not t ≡ true → t ≡ false
+  go true p = absurd (false≢true p)
+  go false p = refl
+
+pub purged_twice : (b : Block) → purge_block (purge_block b) ≡ purge_block b
+purged_twice b = go (is_purgeable b) refl where
+  go : (t : Bool) → is_purgeable b ≡ t → purge_block (purge_block b) ≡ purge_block b
+  go true e = let k : purge_block b ≡ free_block b.place b.size = cond-true _ _ _ e in ap purge_block k ∙ sym k
+  go false e = let k : purge_block b ≡ b = cond-false _ _ _ e in ap purge_block k
+
+pub purged_place : (b : Block) → (purge_block b).place ≡ b.place
+purged_place b = go (is_purgeable b) where
+  go : (t : Bool) → (cond t (free_block b.place b.size) b).place ≡ b.place
+  go true = refl
+  go false = refl
+
+purged_pin : (b : Block) → is_pinned (purge_block b) ≡ is_pinned b
+purged_pin b = go (is_purgeable b) refl where
+  go : (t : Bool) → is_purgeable b ≡ t → is_pinned (cond t (free_block b.place b.size) b) ≡ is_pinned b
+  go true e = sym (never_both b.holding e)
+  go false e = refl
+
+among_purged : (ch : List Block) (b : Block) → is_among ch (purge_block b) ≡ is_among ch b
+among_purged ch b = ap (λ p. list_any (λ c. c.place == p) ch) (purged_place b)
+
+-- each block that is not pinned is among the chosen
+abbrev pub Covers : List Block → List Block → Type 0
+Covers ch [] = ⊤
+Covers ch (b ∷ bs) = (is_pinned b ≡ false → is_among ch b ≡ true) × Covers ch bs
+
+-- no block is among the chosen
+abbrev pub Misses : List Block → List Block → Type 0
+Misses ch [] = ⊤
+Misses ch (b ∷ bs) = (is_among ch b ≡ false) × Misses ch bs
+
+pub covers_after : (a ch bs : List Block) → Covers ch bs → Covers (a ++ ch) bs
+covers_after a ch [] c = tt
+covers_after a ch (b ∷ bs) c = (λ p. list_any-append (λ x. x.place == b.place) a ch ∙ or_right _ _ (c.0 p), covers_after a ch bs c.1)
+
+pub covers_before : (ch a bs : List Block) → Covers ch bs → Covers (ch ++ a) bs
+covers_before ch a [] c = tt
+covers_before ch a (b ∷ bs) c = (λ p. list_any-append (λ x. x.place == b.place) ch a ∙ or_left _ _ (c.0 p), covers_before ch a bs c.1)
+
+covers_cons : (c : Block) (ch bs : List Block) → Covers ch bs → Covers (c ∷ ch) bs
+covers_cons c ch bs h = covers_after (c ∷ []) ch bs h
+
+pub covers_itself : (bs : List Block) → Covers (unpinned bs) bs
+covers_itself [] = tt
+covers_itself (b ∷ bs) = go b bs (is_pinned b) refl (covers_itself bs) where
+  go : (b : Block) (bs : List Block) (t : Bool) → is_pinned b ≡ t → Covers (unpinned bs) bs → Covers (unpinned (b ∷ bs)) (b ∷ bs)
+  go b bs true e c = let k : unpinned (b ∷ bs) ≡ unpinned bs = cond-false _ _ _ (ap not e) in subst (λ ch. Covers ch (b ∷ bs)) (sym k) (λ p. absurd (false≢true (sym p ∙ e)), c)
+  go b bs false e c =
+      let k : unpinned (b ∷ bs) ≡ b ∷ unpinned bs = cond-true _ _ _ (ap not e) in subst (λ ch. Covers ch (b ∷ bs)) (sym k) (λ p. or_left (b.place == b.place) _ (eq-eqb b.place b.place refl), covers_cons b (unpinned bs) bs c)
+
+pub purge_covered : (ch bs : List Block) → Covers ch bs → purge_among ch bs ≡ map purge_block bs
+purge_covered ch [] c = refl
+purge_covered ch (b ∷ bs) c = ap₂ ◌∷◌ (go (is_pinned b) refl) (purge_covered ch bs c.1) where
+  go : (t : Bool) → is_pinned b ≡ t → cond (is_among ch b) (purge_block b) b ≡ purge_block b
+  go true e = let k : purge_block b ≡ b = cond-false _ _ _ (pinned_stays b.holding e) in rw k (same (is_among ch b)) where
+    same : (t : Bool) → cond t b b ≡ b
+    same true = refl
+    same false = refl
+  go false e = cond-true _ _ _ (c.0 e)
+
+pub purge_missed : (ch bs : List Block) → Misses ch bs → purge_among ch bs ≡ bs
+purge_missed ch [] m = refl
+purge_missed ch (b ∷ bs) m = ap₂ ◌∷◌ (cond-false _ _ _ m.0) (purge_missed ch bs m.1)
+
+pub purge_among-append : (ch xs ys : List Block) → purge_among ch (xs ++ ys) ≡ purge_among ch xs ++ purge_among ch ys
+purge_among-append ch xs ys = map-append (λ b. cond (is_among ch b) (purge_block b) b) xs ys
+
+-- chosen in two goes
+two_goes : (x y : Bool) (b : Block) → cond (x || y) (purge_block b) b ≡ cond y (purge_block (cond x (purge_block b) b)) (cond x (purge_block b) b)
+two_goes true true b = sym (purged_twice b)
+two_goes true false b = refl
+two_goes false true b = refl
+two_goes false false b = refl
+
+kept_place : (x : Bool) (b : Block) → (cond x (purge_block b) b).place ≡ b.place
+kept_place true b = purged_place b
+kept_place false b = refl
+
+kept_pin : (x : Bool) (b : Block) → is_pinned (cond x (purge_block b) b) ≡ is_pinned b
+kept_pin true b = purged_pin b
+kept_pin false b = refl
+
+kept_among : (ch : List Block) (x : Bool) (b : Block) → is_among ch (cond x (purge_block b) b) ≡ is_among ch b
+kept_among ch x b = ap (λ p. list_any (λ c. c.place == p) ch) (kept_place x b)
+
+pub purge_twice : (a ch bs : List Block) → purge_among (a ++ ch) bs ≡ purge_among ch (purge_among a bs)
+purge_twice a ch [] = refl
+purge_twice a ch (b ∷ bs) = ap₂ ◌∷◌
+    (ap (λ t. cond t (purge_block b) b) (list_any-append (λ x. x.place == b.place) a ch) ∙ two_goes (is_among a b) (is_among ch b) b
+    ∙ ap (λ t. cond t (purge_block (cond (is_among a b) (purge_block b) b)) (cond (is_among a b) (purge_block b) b)) (sym (kept_among ch (is_among a b) b))) (purge_twice a ch bs)
+
+pub covers_kept : (ch a bs : List Block) → Covers ch bs → Covers ch (purge_among a bs)
+covers_kept ch a [] c = tt
+covers_kept ch a (b ∷ bs) c = (λ p. kept_among ch (is_among a b) b ∙ c.0 (sym (kept_pin (is_among a b) b) ∙ p), covers_kept ch a bs c.1)
+
+pub misses_kept : (ch a bs : List Block) → Misses ch bs → Misses ch (purge_among a bs)
+misses_kept ch a [] m = tt
+misses_kept ch a (b ∷ bs) m = (kept_among ch (is_among a b) b ∙ m.0, misses_kept ch a bs m.1)
+
+-- what is counted
+abbrev pub counted : List Block → Block → ℕ
+counted ch b = cond (is_among ch b && is_purgeable b) 1 0
+
+pub count_among-cons : (ch : List Block) (b : Block) (bs : List Block) → count_among ch (b ∷ bs) ≡ counted ch b + count_among ch bs
+count_among-cons ch b bs = sum_by-cons (counted ch) b bs
+
+pub count_among-append : (ch xs ys : List Block) → count_among ch (xs ++ ys) ≡ count_among ch xs + count_among ch ys
+count_among-append ch xs ys = sum_by-append (counted ch) xs ys
+
+abbrev pub one_if : Block → ℕ
+one_if b = cond (is_purgeable b) 1 0
+
+purgeable_stays_free : (b : Block) → is_purgeable b ≡ true → is_purgeable (purge_block b) ≡ false
+purgeable_stays_free b e = let k : purge_block b ≡ free_block b.place b.size = cond-true _ _ _ e in ap is_purgeable k
+
+counted_covered : (ch : List Block) (b : Block) → (is_pinned b ≡ false → is_among ch b ≡ true) → counted ch b ≡ one_if b
+counted_covered ch b c = go (is_purgeable b) refl where
+  go : (t : Bool) → is_purgeable b ≡ t → counted ch b ≡ one_if b
+  go true e = rw (c (never_both b.holding e)) refl
+  go false e = rw e (drop_and (is_among ch b)) where
+    drop_and : (x : Bool) → ◌≡◌ {A = ℕ} (cond (x && false) 1 0) 0
+    drop_and true = refl
+    drop_and false = refl
+
+pub count_covered : (ch bs : List Block) → Covers ch bs → count_among ch bs ≡ count_by is_purgeable bs
+count_covered ch [] c = refl
+count_covered ch (b ∷ bs) c = count_among-cons ch b bs ∙ ap₂ ◌+◌ (counted_covered ch b c.0) (count_covered ch bs c.1) ∙ sym (sum_by-cons one_if b bs)
+
+pub count_missed : (ch bs : List Block) → Misses ch bs → count_among ch bs ≡ 0
+count_missed ch [] m = refl
+count_missed ch (b ∷ bs) m = count_among-cons ch b bs ∙ ap₂ ◌+◌ (go (is_among ch b) m.0) (count_missed ch bs m.1) where
+  go : (x : Bool) → x ≡ false → ◌≡◌ {A = ℕ} (cond (x && is_purgeable b) 1 0) 0
+  go true e = absurd (false≢true (sym e))
+  go false e = refl
+
+counted_twice : (x y : Bool) (b : Block) → cond {A = ℕ} ((x || y) && is_purgeable b) 1 0 ≡ cond (x && is_purgeable b) 1 0 + cond (y && is_purgeable (cond x (purge_block b) b)) 1 0
+counted_twice true y b = go (is_purgeable b) refl where
+  go : (t : Bool) → is_purgeable b ≡ t → cond (is_purgeable b) 1 0 ≡ cond (is_purgeable b) 1 0 + cond (y && is_purgeable (purge_block b)) 1 0
+  go true e = rw (purgeable_stays_free b e) (drop_and y) where
+    drop_and : (x : Bool) → cond (is_purgeable b) 1 0 ≡ cond (is_purgeable b) 1 0 + cond (x && false) 1 0
+    drop_and true = omega arith
+    drop_and false = omega arith
+  go false e = let k : purge_block b ≡ b = cond-false _ _ _ e in rw (k, e) (drop_and y) where
+    drop_and : (x : Bool) → ◌≡◌ {A = ℕ} 0 (0 + cond (x && false) 1 0)
+    drop_and true = refl
+    drop_and false = refl
+counted_twice false y b = sym (zero-add _)
+
+pub count_twice : (a ch bs : List Block) → count_among (a ++ ch) bs ≡ count_among a bs + count_among ch (purge_among a bs)
+count_twice a ch [] = refl
+count_twice a ch (b ∷ bs) =
+    let one = counted_twice (is_among a b) (is_among ch b) b in
+    let two : counted (a ++ ch) b ≡ cond {A = ℕ} ((is_among a b || is_among ch b) && is_purgeable b) 1 0 = ap (λ (t : Bool). cond {A = ℕ} (t && is_purgeable b) 1 0) (list_any-append (λ x. x.place == b.place) a ch) in
+    let three : counted ch (cond (is_among a b) (purge_block b) b) ≡ cond {A = ℕ} (is_among ch b && is_purgeable (cond (is_among a b) (purge_block b) b)) 1 0 = ap (λ (t : Bool). cond {A = ℕ} (t && is_purgeable (cond (is_among a b) (purge_block b) b)) 1 0) (kept_among ch (is_among a b) b) in
+    let four = count_among-cons (a ++ ch) b bs in
+    let five = count_among-cons a b bs in
+    let six = count_among-cons ch (cond (is_among a b) (purge_block b) b) (purge_among a bs) in
+    let seven = count_twice a ch bs in
+    omega arith
+
+
+pub tiles_end : (p q : ℕ) (bs : List Block) → Tiles p q bs → p + total bs ≡ q
+tiles_end p q [] t = omega arith
+tiles_end p q (b ∷ bs) t = let e = total-cons b bs in let f = tiles_end (p + b.size) q bs t.2 in omega arith
+
+pub tiles_le : (p q : ℕ) (bs : List Block) → Tiles p q bs → p ≤ q
+tiles_le p q bs t = let e = tiles_end p q bs t in omega arith
+
+pub Sized-tiles : (p q : ℕ) (bs : List Block) → Tiles p q bs → Sized bs
+Sized-tiles p q [] t = tt
+Sized-tiles p q (b ∷ bs) t = (omega arith, Sized-tiles (p + b.size) q bs t.2)
+
+-- all places lie in a range
+abbrev pub Within : ℕ → ℕ → List Block → Type 0
+Within p q [] = ⊤
+Within p q (b ∷ bs) = (p ≤ b.place) × (b.place < q) × Within p q bs
+
+within_wider : (p q p' q' : ℕ) (bs : List Block) → p' ≤ p → q ≤ q' → Within p q bs → Within p' q' bs
+within_wider p q p' q' [] h k w = tt
+within_wider p q p' q' (b ∷ bs) h k w = (omega arith, omega arith, within_wider p q p' q' bs h k w.2)
+
+pub tiles_within : (p q : ℕ) (bs : List Block) → Tiles p q bs → Within p q bs
+tiles_within p q [] t = tt
+tiles_within p q (b ∷ bs) t = let le = tiles_le (p + b.size) q bs t.2 in (omega arith, omega arith, within_wider (p + b.size) q p q bs (omega arith) (omega arith) (tiles_within (p + b.size) q bs t.2))
+
+pub unpinned_within : (p q : ℕ) (bs : List Block) → Within p q bs → Within p q (unpinned bs)
+unpinned_within p q [] w = tt
+unpinned_within p q (b ∷ bs) w = go b (unpinned bs) (not (is_pinned b)) w.0 w.1 (unpinned_within p q bs w.2) where
+  go : (b : Block) (xs : List Block) (t : Bool) → p ≤ b.place → b.place < q → Within p q xs → Within p q (cond t (b ∷ xs) xs)
+  go b xs true h k w = (h, k, w)
+  go b xs false h k w = w
+
+not_among : (p q : ℕ) (ch : List Block) (b : Block) → Within p q ch → (b.place < p) ⊎ (q ≤ b.place) → is_among ch b ≡ false
+not_among p q [] b w h = refl
+not_among p q (c ∷ ch) b w h = rw (ne_eqb c.place b.place (λ e. ⊎_elim (λ l. omega arith) (λ l. omega arith) h)) (not_among p q ch b w.2 h)
+
+pub misses_above : (p q r s : ℕ) (ch bs : List Block) → Within p q ch → q ≤ r → Within r s bs → Misses ch bs
+misses_above p q r s ch [] w h v = tt
+misses_above p q r s ch (b ∷ bs) w h v = (not_among p q ch b w (inr (omega arith)), misses_above p q r s ch bs w h v.2)
+
+pub misses_below : (p q r s : ℕ) (ch bs : List Block) → Within p q ch → s ≤ p → Within r s bs → Misses ch bs
+misses_below p q r s ch [] w h v = tt
+misses_below p q r s ch (b ∷ bs) w h v = (not_among p q ch b w (inl (omega arith)), misses_below p q r s ch bs w h v.2)
+
+-- a tiling cut in two
+pub record Cut (p q : ℕ) (xs ys : List Block) : Type 0 where
+  pub at : ℕ
+  pub first : Tiles p at xs
+  pub second : Tiles at q ys
+
+pub tiles_cut : (n p q : ℕ) (bs : List Block) → Tiles p q bs → Cut p q (take n bs) (drop n bs)
+tiles_cut zero p q bs t = record { at = p; first = refl; second = t }
+tiles_cut (suc n) p q [] t = record { at = p; first = refl; second = t }
+tiles_cut (suc n) p q (b ∷ bs) t = let c = tiles_cut n (p + b.size) q bs t.2 in record { at = c.at; first = (t.0, t.1, c.first); second = c.second }
+
+pub tiles_joined : (p m q : ℕ) (xs ys : List Block) → Tiles p m xs → Tiles m q ys → Tiles p q (xs ++ ys)
+tiles_joined p m q [] ys t u = rw t u
+tiles_joined p m q (x ∷ xs) ys t u = (t.0, t.1, tiles_joined (p + x.size) m q xs ys t.2 u)
+
+-- the parts of a cut do not see each other's purges
+pub misses_after : (p q : ℕ) (xs ys : List Block) → Cut p q xs ys → Misses (unpinned xs) ys
+misses_after p q xs ys c = misses_above p c.at c.at q (unpinned xs) ys (unpinned_within p c.at xs (tiles_within p c.at xs c.first)) (omega arith) (tiles_within c.at q ys c.second)
+
+pub misses_before : (p q : ℕ) (xs ys : List Block) → Cut p q xs ys → Misses (unpinned ys) xs
+misses_before p q xs ys c = misses_below c.at q p c.at (unpinned ys) xs (unpinned_within c.at q ys (tiles_within c.at q ys c.second)) (omega arith) (tiles_within p c.at xs c.first)

@@ -1,0 +1,121 @@
+-- Each change of a zone leaves it sound.
+use Rattle.std.proofs.Common.{◌≡◌, ℕ, ◌+◌, ◌*◌, ◌<◌, ◌≤◌, Bool, true, false, cond, ◌&&◌, List, [], ◌∷◌, ◌++◌, length, Option, Some, None, refl, sym, subst, ap, ap₂, ◌∙◌, arith, ◌/◌, ◌-◌, map}
+use Rattle.std.specs.Prelude.{◌==◌, is_none, IsNone, option_and_then, find, All}
+use Rattle.std.proofs.lemmas.Bool.{false≢true, cond-true, cond-false, eq-eqb, ne_eqb}
+use Rattle.zone_rules.specs.Zones.{Block, Holding, Owner, Heap, Tiles, Apart, Unique, AllFit, Lacks, IsSound, is_held_by, holds_for, starts_free, has_place, holding_of, free_block, block_size, owner_at, slot_count, OwnsOnce, FitsHolding, is_free}
+use Rattle.zone_rules.specs.Requests.{total, purge_among, passed_blocks, stretches, after_search, take_at, with_block, without_room, cut_block, gaps, widest, first_room, blocks_from, start_in, join_free}
+use Rattle.zone_rules.specs.Walks.{RoomAt, starts_at}
+use Rattle.zone_rules.proofs.GapLemmas.{wider_whole, none_found, some_found, widest-append, all_small, small_all}
+use Rattle.zone_rules.proofs.PurgeLemmas.{tiles_le}
+use Rattle.zone_rules.proofs.JoinLemmas.{Tiles-join_free, Apart-join_free, Unique-join_free, AllFit-join_free, Lacks-join_free}
+use Rattle.zone_rules.proofs.ZoneLemmas.{Tiles-freed, Unique-freed, AllFit-freed, Lacks-freed, purge_frees, around_is_place, after_is_place, release_frees}
+use Rattle.zone_rules.proofs.TakeLemmas.{room_left, InRange, take_at_is, tiles_cut_block, apart_cut_block, fit_cut_block, unique_cut_block}
+use Rattle.std.specs.List.{position_or_len}
+use Rattle.zone_rules.proofs.SearchLemmas.{start_is}
+use Rattle.zone_rules.specs.declared.Tag.{Tag}
+use Rattle.zone_rules.specs.Frees.{free_owner, retag_block, set_tag, without_block, with_tag}
+
+pub few_tiles : (p q : ℕ) (bs : List Block) → Tiles p q bs → p + 24 * length bs ≤ q
+few_tiles p q [] t = omega arith
+few_tiles p q (b ∷ bs) t = let k = few_tiles (p + b.size) q bs t.2 in let l : length (b ∷ bs) ≡ length bs + 1 = omega arith in omega arith
+
+-- after a search
+pub searched_tiles : (wanted : ℕ) (z : Heap) → IsSound z → Tiles 0 z.size (after_search wanted z)
+searched_tiles wanted z s = Tiles-join_free 0 z.size _ (Tiles-freed _ (purge_frees (passed_blocks wanted (stretches z.rover z.blocks))) 0 z.size z.blocks s.tiles)
+
+pub searched_apart : (wanted : ℕ) (z : Heap) → Apart (after_search wanted z)
+searched_apart wanted z = Apart-join_free (purge_among (passed_blocks wanted (stretches z.rover z.blocks)) z.blocks)
+
+pub searched_unique : (wanted : ℕ) (z : Heap) → IsSound z → Unique (after_search wanted z)
+searched_unique wanted z s = Unique-join_free _ (Unique-freed _ (purge_frees (passed_blocks wanted (stretches z.rover z.blocks))) z.blocks s.unique)
+
+pub searched_fits : (wanted : ℕ) (z : Heap) → IsSound z → AllFit z.lumps z.composites (after_search wanted z)
+searched_fits wanted z s = AllFit-join_free z.lumps z.composites _ (AllFit-freed _ (purge_frees (passed_blocks wanted (stretches z.rover z.blocks))) z.lumps z.composites z.blocks s.fits)
+
+pub searched_lacks : (wanted : ℕ) (z : Heap) (o : Owner) → Lacks o z.blocks → Lacks o (after_search wanted z)
+searched_lacks wanted z o l = Lacks-join_free o _ (Lacks-freed _ (purge_frees (passed_blocks wanted (stretches z.rover z.blocks))) o z.blocks l)
+
+-- an owner without a block is lacked
+pub lacked : (o : Owner) (bs : List Block) → IsNone (holding_of o bs) → Lacks o bs
+lacked o [] n = tt
+lacked o (b ∷ bs) n = go (is_held_by o b) refl n (λ k. lacked o bs k) where
+  some_held : (h : Option Holding) → holds_for o h ≡ true → IsNone h → ⊥
+  some_held None e k = absurd (false≢true e)
+  some_held (Some h) e k = cc
+
+  go : (t : Bool) → is_held_by o b ≡ t → IsNone (option_and_then (λ (x : Block). x.holding) (cond t (Some b) (find (is_held_by o) bs))) → (IsNone (holding_of o bs) → Lacks o bs) → (is_held_by o b ≡ false) × Lacks o bs
+  go true e k rest = absurd (some_held b.holding e k)
+  go false e k rest = (e, rest k)
+
+pub without_room_sound : (wanted : ℕ) (z : Heap) → IsSound z → 0 < z.size → IsSound (without_room wanted z)
+without_room_sound wanted z s pos = record {
+  tiles = searched_tiles wanted z s;
+  apart = searched_apart wanted z;
+  unique = searched_unique wanted z s;
+  fits = searched_fits wanted z s;
+  rover = around_is_place z.rover z.size _ (searched_tiles wanted z s) pos;
+}
+
+-- with a block taken
+module _ (w p : ℕ) (z : Heap) (h : Holding) (s : IsSound z) (pos : 0 < z.size) (w_is : block_size h.asked ≡ w) (len : length h.bytes ≡ h.asked) (least : 24 ≤ w) (lacks : Lacks h.owner z.blocks) (in_range : InRange z.lumps z.composites h.owner) (r : RoomAt p w (after_search w z)) where
+  whole : Tiles 0 z.size (r.front ++ (free_block p r.size ∷ r.rest))
+  whole = subst (Tiles 0 z.size) r.is (searched_tiles w z s)
+
+  shape : take_at p w h (after_search w z) ≡ r.front ++ (cut_block w h (free_block p r.size) ++ r.rest)
+  shape = ap (take_at p w h) r.is ∙ take_at_is p r.size w h 0 z.size r.front r.rest whole
+
+  new_tiles : Tiles 0 z.size (take_at p w h (after_search w z))
+  new_tiles = subst (Tiles 0 z.size) (sym shape) (tiles_cut_block p r.size w h least r.large 0 z.size r.front r.rest whole)
+
+  pub with_block_sound : IsSound (with_block w h p z)
+  with_block_sound = record {
+    tiles = new_tiles;
+    apart = subst Apart (sym shape) (apart_cut_block p r.size w h r.front r.rest (subst Apart r.is (searched_apart w z)));
+    unique = subst Unique (sym shape) (unique_cut_block p r.size w h r.front r.rest (subst (Lacks h.owner) r.is (searched_lacks w z h.owner lacks)) (subst Unique r.is (searched_unique w z s)));
+    fits = subst (AllFit z.lumps z.composites) (sym shape) (fit_cut_block p r.size w h z.lumps z.composites r.front r.rest w_is r.large (λ k a b. (a, b, len, in_range.0, in_range.1, in_range.2)) (subst (AllFit z.lumps z.composites) r.is (searched_fits w z s)));
+    rover = after_is_place p z.size (take_at p w h (after_search w z)) new_tiles pos;
+  }
+
+  pub room_for_one : length (after_search w z) + 1 ≤ 2 * (z.lumps + z.composites)
+  room_for_one = room_left z.lumps z.composites h.owner (after_search w z) in_range (searched_apart w z) (searched_unique w z s) (searched_fits w z s) (searched_lacks w z h.owner lacks)
+
+pub in_range_of : (z : Heap) (kind number : ℕ) → kind ≤ 1 → number < slot_count z kind → InRange z.lumps z.composites (owner_at kind number)
+in_range_of z kind number k n = (
+  (λ e. let s : slot_count z kind ≡ z.lumps = cond-true (kind == 0) _ _ (eq-eqb kind 0 e) in omega arith),
+  (λ e. let s : slot_count z kind ≡ z.composites = cond-false (kind == 0) _ _ (ne_eqb kind 0 (λ x. omega arith)) ∙ cond-true (kind == 1) _ _ (eq-eqb kind 1 e) in omega arith),
+  k,
+)
+
+pub room_end : (p least q : ℕ) (bs : List Block) → RoomAt p least bs → Tiles 0 q bs → p + least ≤ q
+room_end p least q bs r t = go 0 r.front (subst (Tiles 0 q) r.is t) where
+  go : (x : ℕ) (front : List Block) → Tiles x q (front ++ (free_block p r.size ∷ r.rest)) → p + least ≤ q
+  go x [] u = let e = tiles_le (x + r.size) q r.rest u.2 in let l = r.large in omega arith
+  go x (b ∷ front) u = go (x + b.size) front u.2
+
+-- no gap holds what is wanted, exactly where a search finds none
+pub full_none : (w r : ℕ) (bs : List Block) → 0 < w → first_room w (stretches r bs) ≡ None → All (λ g. total g < w) (gaps bs)
+full_none w r bs pos e =
+    let k = none_found w (stretches r bs) pos e in
+    let a = widest-append (gaps (blocks_from (start_in r bs) bs)) (gaps bs) in
+    all_small w (gaps bs) (omega arith)
+
+pub full_some : (w r p q : ℕ) (bs : List Block) → 0 < w → Tiles 0 q bs → has_place r bs ≡ true → first_room w (stretches r bs) ≡ Some p → All (λ g. total g < w) (gaps bs) → ⊥
+full_some w r p q bs pos t h e a =
+    let k = some_found w p (stretches r bs) e in
+    let m = widest-append (gaps (blocks_from (start_in r bs) bs)) (gaps bs) in
+    let n = ap (λ xs. widest (gaps xs)) (start_is r 0 q bs t h) in
+    let o = wider_whole (position_or_len (starts_at r) bs) bs in
+    let s = small_all w (gaps bs) pos a in
+    omega arith
+
+-- what a release keeps
+pub without_block_sound : (o : Owner) (z : Heap) → IsSound z → 0 < z.size → IsSound (without_block o z)
+without_block_sound o z s pos =
+    let t = Tiles-join_free 0 z.size (free_owner o z.blocks) (Tiles-freed _ (release_frees o) 0 z.size z.blocks s.tiles) in
+    record {
+      tiles = t;
+      apart = Apart-join_free (free_owner o z.blocks);
+      unique = Unique-join_free (free_owner o z.blocks) (Unique-freed _ (release_frees o) z.blocks s.unique);
+      fits = AllFit-join_free z.lumps z.composites (free_owner o z.blocks) (AllFit-freed _ (release_frees o) z.lumps z.composites z.blocks s.fits);
+      rover = around_is_place z.rover z.size (join_free (free_owner o z.blocks)) t pos;
+    }

@@ -1,0 +1,180 @@
+-- A free block given to a slot. There is room for one more block: live blocks are at most as many as slots, and free ones stand between them.
+use Rattle.std.proofs.Common.{◌≡◌, ℕ, ◌+◌, ◌-◌, ◌≤◌, Bool, true, false, cond, ◌&&◌, List, [], ◌∷◌, ◌++◌, Option, Some, None, refl, sym, subst, ap, ◌∙◌, arith, inl, inr, suc, ◌*◌, ◌<◌, length, eqb}
+use Rattle.std.specs.Prelude.{◌==◌, nat_lt, ◌⊎◌, is_none}
+use Rattle.std.proofs.lemmas.Bool.{cond-true, cond-false, ne_eqb, eq-eqb, ltb-true, ltb-false, and_left, and_right, and_cases, false≢true, eqb-true, and_from, or_cases, cases_eq, cases_lt}
+use Rattle.zone_rules.specs.Zones.{Block, Holding, Owner, Tiles, Apart, Lacks, OwnsOnce, Unique, AllFit, FitsHolding, is_free, holds_for, same_owner, starts_free, free_block, block_size}
+use Rattle.zone_rules.specs.Requests.{cut_block, take_at}
+use Rattle.std.specs.List.{IsDistinct, AllByRecursion, list_any}
+use Rattle.std.proofs.lemmas.Map.Steps.{length-le_from_distinct_below}
+
+module _ (p size wanted : ℕ) (h : Holding) where
+  abbrev pub fb : Block
+  fb = free_block p size
+
+  abbrev pub cut : List Block
+  cut = cut_block wanted h fb
+
+  -- `take_at` finds the block
+  pub take_at_is : (q e : ℕ) (front rest : List Block) → Tiles q e (front ++ (fb ∷ rest)) → take_at p wanted h (front ++ (fb ∷ rest)) ≡ front ++ (cut ++ rest)
+  take_at_is q e [] rest t = cond-true (p == p) _ _ (eq-eqb p p refl)
+  take_at_is q e (x ∷ front) rest t =
+      let low = front_low (q + x.size) front t.2 in
+      cond-false (x.place == p) _ _ (ne_eqb x.place p (λ z. omega arith)) ∙ ap (λ xs. x ∷ xs) (take_at_is (q + x.size) e front rest t.2) where
+        front_low : (r : ℕ) (front : List Block) → Tiles r e (front ++ (fb ∷ rest)) → r ≤ p
+        front_low r [] t = omega arith
+        front_low r (y ∷ front) t = let k = front_low (r + y.size) front t.2 in omega arith
+
+  -- the tiling stays
+  pub tiles_cut_block : 24 ≤ wanted → wanted ≤ size → (q e : ℕ) (front rest : List Block) → Tiles q e (front ++ (fb ∷ rest)) → Tiles q e (front ++ (cut ++ rest))
+  tiles_cut_block l m q e [] rest t = go (nat_lt 64 (size - wanted)) refl where
+    go : (u : Bool) → nat_lt 64 (size - wanted) ≡ u → Tiles q e (cond u (record { place = p; size = wanted; holding = Some h } ∷ free_block (p + wanted) (size - wanted) ∷ []) (record { place = p; size = size; holding = Some h } ∷ []) ++ rest)
+    go true x =
+        let big = ltb-true 64 (size - wanted) x in
+        let k : q + size ≡ q + wanted + (size - wanted) = omega arith in
+        (t.0, l, (ap (λ n. n + wanted) t.0, omega arith, subst (λ n. Tiles n e rest) k t.2))
+    go false x = (t.0, t.1, t.2)
+  tiles_cut_block l m q e (y ∷ front) rest t = (t.0, t.1, tiles_cut_block l m (q + y.size) e front rest t.2)
+
+  starts_after : (rest : List Block) → starts_free (cut ++ rest) ≡ false
+  starts_after rest = go (nat_lt 64 (size - wanted)) where
+    go : (u : Bool) → starts_free (cond u (record { place = p; size = wanted; holding = Some h } ∷ free_block (p + wanted) (size - wanted) ∷ []) (record { place = p; size = size; holding = Some h } ∷ []) ++ rest) ≡ false
+    go true = refl
+    go false = refl
+
+  pub apart_cut_block : (front rest : List Block) → Apart (front ++ (fb ∷ rest)) → Apart (front ++ (cut ++ rest))
+  apart_cut_block [] rest a = go (nat_lt 64 (size - wanted)) where
+    go : (u : Bool) → Apart (cond u (record { place = p; size = wanted; holding = Some h } ∷ free_block (p + wanted) (size - wanted) ∷ []) (record { place = p; size = size; holding = Some h } ∷ []) ++ rest)
+    go true = (refl, (a.0, a.1))
+    go false = (refl, a.1)
+  apart_cut_block (y ∷ []) rest a = (ap (λ u. is_free y && u) (starts_after rest) ∙ and_right (is_free y) false refl, apart_cut_block [] rest a.1)
+  apart_cut_block (y ∷ z ∷ front) rest a = (a.0, apart_cut_block (z ∷ front) rest a.1)
+
+  fit_cut : (l m : ℕ) (rest : List Block) → (block_size h.asked ≡ wanted) → wanted ≤ size → ((s : ℕ) → block_size h.asked ≤ s → s ≤ block_size h.asked + 64 → FitsHolding l m s (Some h)) → AllFit l m rest → AllFit l m (cut ++ rest)
+  fit_cut l m rest b le f r = go (nat_lt 64 (size - wanted)) refl where
+    go : (u : Bool) → nat_lt 64 (size - wanted) ≡ u → AllFit l m (cond u (record { place = p; size = wanted; holding = Some h } ∷ free_block (p + wanted) (size - wanted) ∷ []) (record { place = p; size = size; holding = Some h } ∷ []) ++ rest)
+    go true x = (f wanted (omega arith) (omega arith), (tt, r))
+    go false x = let small = ltb-false 64 (size - wanted) x in (f size (omega arith) (omega arith), r)
+
+  pub fit_cut_block : (l m : ℕ) (front rest : List Block) → (block_size h.asked ≡ wanted) → wanted ≤ size → ((s : ℕ) → block_size h.asked ≤ s → s ≤ block_size h.asked + 64 → FitsHolding l m s (Some h)) → AllFit l m (front ++ (fb ∷ rest)) → AllFit l m (front ++ (cut ++ rest))
+  fit_cut_block l m [] rest b le f a = fit_cut l m rest b le f a.1
+  fit_cut_block l m (y ∷ front) rest b le f a = (a.0, fit_cut_block l m front rest b le f a.1)
+
+  -- owners stay apart
+  lacks_cut : (o : Owner) (front rest : List Block) → same_owner h.owner o ≡ false → Lacks o (front ++ (fb ∷ rest)) → Lacks o (front ++ (cut ++ rest))
+  lacks_cut o [] rest n l = go (nat_lt 64 (size - wanted)) where
+    go : (u : Bool) → Lacks o (cond u (record { place = p; size = wanted; holding = Some h } ∷ free_block (p + wanted) (size - wanted) ∷ []) (record { place = p; size = size; holding = Some h } ∷ []) ++ rest)
+    go true = (n, (refl, l.1))
+    go false = (n, l.1)
+  lacks_cut o (y ∷ front) rest n l = (l.0, lacks_cut o front rest n l.1)
+
+  owns_cut : (k : Option Holding) (front rest : List Block) → holds_for h.owner k ≡ false → OwnsOnce k (front ++ (fb ∷ rest)) → OwnsOnce k (front ++ (cut ++ rest))
+  owns_cut None front rest n o = tt
+  owns_cut (Some k) front rest n o = lacks_cut k.owner front rest (flip k.owner h.owner n) o where
+    flip : (a b : Owner) → same_owner a b ≡ false → same_owner b a ≡ false
+    flip a b e = elim (and_cases (a.kind == b.kind) (a.number == b.number) e) [
+      | inl x ↦ and_left (b.kind == a.kind) (b.number == a.number) (eq_flip a.kind b.kind x)
+      | inr x ↦ and_right (b.kind == a.kind) (b.number == a.number) (eq_flip a.number b.number x)
+    ] where
+      eq_flip : (m n : ℕ) → (m == n) ≡ false → (n == m) ≡ false
+      eq_flip m n e = ne_eqb n m (λ z. false≢true (sym e ∙ eq-eqb m n (sym z)))
+
+  pub unique_cut_block : (front rest : List Block) → Lacks h.owner (front ++ (fb ∷ rest)) → Unique (front ++ (fb ∷ rest)) → Unique (front ++ (cut ++ rest))
+  unique_cut_block [] rest l u = go (nat_lt 64 (size - wanted)) where
+    go : (t : Bool) → Unique (cond t (record { place = p; size = wanted; holding = Some h } ∷ free_block (p + wanted) (size - wanted) ∷ []) (record { place = p; size = size; holding = Some h } ∷ []) ++ rest)
+    go true = ((refl, l.1), (tt, u.1))
+    go false = (l.1, u.1)
+  unique_cut_block (y ∷ front) rest l u = (owns_cut y.holding front rest l.0 u.0, unique_cut_block front rest l.1 u.1)
+
+
+module _ (l m : ℕ) where
+  abbrev pub code : Owner → ℕ
+  code o = cond (o.kind == 0) o.number (l + o.number)
+
+  abbrev pub with_code : Option Holding → List ℕ → List ℕ
+  with_code None cs = cs
+  with_code (Some h) cs = code h.owner ∷ cs
+
+  abbrev pub codes : List Block → List ℕ
+  codes [] = []
+  codes (b ∷ bs) = with_code b.holding (codes bs)
+
+  abbrev pub one_if : Bool → ℕ
+  one_if true = 1
+  one_if false = 0
+
+  few : (bs : List Block) → Apart bs → length bs ≤ 2 * length (codes bs) + one_if (starts_free bs)
+  few [] a = omega arith
+  few (b ∷ bs) a = go b.holding a.0 (few bs a.1) where
+    go : (h : Option Holding) → (is_none h && starts_free bs) ≡ false → length bs ≤ 2 * length (codes bs) + one_if (starts_free bs) → suc (length bs) ≤ 2 * length (with_code h (codes bs)) + one_if (is_none h)
+    go None e k = let z : one_if (starts_free bs) ≡ 0 = ap one_if e in omega arith
+    go (Some h) e k = at_most (starts_free bs) k where
+      at_most : (u : Bool) → length bs ≤ 2 * length (codes bs) + one_if u → suc (length bs) ≤ 2 * suc (length (codes bs)) + 0
+      at_most true k = omega arith
+      at_most false k = omega arith
+
+  -- an owner that the zone has a slot for
+  abbrev pub InRange : Owner → Type 0
+  InRange o = ((o.kind ≡ 0) → o.number < l) × ((o.kind ≡ 1) → o.number < m) × (o.kind ≤ 1)
+
+  pub code_small : (o : Owner) → InRange o → code o < l + m
+  code_small o r = elim (cases_eq o.kind 0) [
+    | inl e ↦ (let k : code o ≡ o.number = cond-true _ _ _ (eq-eqb o.kind 0 e) in let n = r.0 e in omega arith)
+    | inr e ↦ (let k : code o ≡ l + o.number = cond-false _ _ _ (ne_eqb o.kind 0 e) in let n = r.1 (one_of o.kind e r.2) in omega arith)
+  ] where
+    one_of : (k : ℕ) → (k ≡ 0 → ⊥) → k ≤ 1 → k ≡ 1
+    one_of k e h = elim (cases_lt k 1) [ inl x ↦ absurd (e (omega arith)) | inr x ↦ omega arith ]
+
+  one_kind : (k : ℕ) → (k ≡ 0 → ⊥) → k ≤ 1 → k ≡ 1
+  one_kind k e h = elim (cases_lt k 1) [ inl x ↦ absurd (e (omega arith)) | inr x ↦ omega arith ]
+
+  -- two owners of one code are one
+  pub code_same : (o p : Owner) → InRange o → InRange p → code o ≡ code p → same_owner o p ≡ true
+  code_same o p r s e = go (cases_eq o.kind 0) (cases_eq p.kind 0) where
+    lum : (q : Owner) → q.kind ≡ 0 → code q ≡ q.number
+    lum q x = cond-true _ _ _ (eq-eqb q.kind 0 x)
+
+    comp : (q : Owner) → (q.kind ≡ 0 → ⊥) → code q ≡ l + q.number
+    comp q x = cond-false _ _ _ (ne_eqb q.kind 0 x)
+
+    go : (o.kind ≡ 0) ⊎ (o.kind ≡ 0 → ⊥) → (p.kind ≡ 0) ⊎ (p.kind ≡ 0 → ⊥) → same_owner o p ≡ true
+    go (inl x) (inl y) = let a = lum o x in let b = lum p y in and_from _ _ (eq-eqb o.kind p.kind (omega arith)) (eq-eqb o.number p.number (omega arith))
+    go (inl x) (inr y) = let a = lum o x in let b = comp p y in let n = r.0 x in absurd (omega arith)
+    go (inr x) (inl y) = let a = comp o x in let b = lum p y in let n = s.0 y in absurd (omega arith)
+    go (inr x) (inr y) = let a = comp o x in let b = comp p y in let u = one_kind o.kind x r.2 in let v = one_kind p.kind y s.2 in and_from _ _ (eq-eqb o.kind p.kind (omega arith)) (eq-eqb o.number p.number (omega arith))
+
+  range_of : (s : ℕ) (h : Holding) → FitsHolding l m s (Some h) → InRange h.owner
+  range_of s h f = (f.3, f.4, f.5)
+
+  no_code : (o : Owner) (bs : List Block) → InRange o → AllFit l m bs → Lacks o bs → AllByRecursion (λ y. eqb (code o) y ≡ false) (codes bs)
+  no_code o [] r f k = tt
+  no_code o (b ∷ bs) r f k = go b.holding f.0 k.0 (no_code o bs r f.1 k.1) where
+    go : (h : Option Holding) → FitsHolding l m b.size h → holds_for o h ≡ false → AllByRecursion (λ y. eqb (code o) y ≡ false) (codes bs) → AllByRecursion (λ y. eqb (code o) y ≡ false) (with_code h (codes bs))
+    go None f e rest = rest
+    go (Some h) f e rest = (ne_eqb (code o) (code h.owner) (λ x. false≢true (sym e ∙ code_same h.owner o (range_of b.size h f) r (sym x))), rest)
+
+  distinct : (bs : List Block) → AllFit l m bs → Unique bs → IsDistinct eqb (codes bs)
+  unfolding IsDistinct
+  distinct [] f u = tt
+  distinct (b ∷ bs) f u = go b.holding f.0 u.0 (distinct bs f.1 u.1) where
+    go : (h : Option Holding) → FitsHolding l m b.size h → OwnsOnce h bs → IsDistinct eqb (codes bs) → IsDistinct eqb (with_code h (codes bs))
+    go None x o d = d
+    go (Some h) x o d = (no_code h.owner bs (range_of b.size h x) f.1 o, d)
+
+  small : (bs : List Block) (q : ℕ) → AllFit l m bs → list_any (eqb q) (codes bs) ≡ true → q < l + m
+  small [] q f k = absurd (false≢true k)
+  small (b ∷ bs) q f k = go b.holding f.0 k (small bs q f.1) where
+    go : (h : Option Holding) → FitsHolding l m b.size h → list_any (eqb q) (with_code h (codes bs)) ≡ true → (list_any (eqb q) (codes bs) ≡ true → q < l + m) → q < l + m
+    go None x k rest = rest k
+    go (Some h) x k rest = elim (or_cases (eqb q (code h.owner)) (list_any (eqb q) (codes bs)) k) [ inl e ↦ (let c = code_small h.owner (range_of b.size h x) in let d = eqb-true q (code h.owner) e in omega arith) | inr e ↦ rest e ]
+
+  pub room_left : (o : Owner) (bs : List Block) → InRange o → Apart bs → Unique bs → AllFit l m bs → Lacks o bs → length bs + 1 ≤ 2 * (l + m)
+  unfolding IsDistinct
+  room_left o bs r a u f k =
+      let d : IsDistinct eqb (code o ∷ codes bs) = (no_code o bs r f k, distinct bs f u) in
+      let n = length-le_from_distinct_below (code o ∷ codes bs) (l + m) d (λ q e. elim (or_cases (eqb q (code o)) (list_any (eqb q) (codes bs)) e) [ inl x ↦ (let c = code_small o r in let y = eqb-true q (code o) x in omega arith) | inr x ↦ small bs q f x ]) in
+      let e = few bs a in
+      let one : one_if (starts_free bs) ≤ 1 = at_most (starts_free bs) in
+      omega arith where
+        at_most : (t : Bool) → one_if t ≤ 1
+        at_most true = omega arith
+        at_most false = omega arith
