@@ -1,9 +1,10 @@
 -- The frame of a view: each pixel has the colour of the last dot there; and its trace, which names the dot.
-use Rattle.std.specs.Prelude.{ℕ, ◌+◌, ◌-◌, ◌/◌, ◌%◌, ◌&&◌, nat_le, nat_lt, Bool, cond, List, map, Option, None}
+use Rattle.std.specs.Prelude.{ℕ, ◌<◌, ◌≤◌, ◌+◌, ◌-◌, ◌/◌, ◌%◌, ◌&&◌, nat_le, nat_lt, Bool, cond, List, map, Option, None}
+use Rattle.std.specs.List.{AllByRecursion}
 use Rattle.word_rules.specs.Listed.{listed}
 use Rattle.view_rules.specs.View.{ViewValue}
 use Rattle.view_rules.specs.declared.ViewShape.{ViewShape}
-use Rattle.view_rules.specs.declared.TheConstants.{FRAME_WIDTH}
+use Rattle.view_rules.specs.declared.TheConstants.{FRAME_WIDTH, FRAME_HEIGHT}
 use Rattle.pixel_rules.specs.declared.TheConstants.{FRAME_CELLS}
 use Rattle.pixel_rules.specs.Dots.{Dot, last_dot, colour_of}
 use Rattle.sprite_rules.specs.Weapons.{WeaponLayer}
@@ -38,3 +39,11 @@ overlaid_picture v scene layers = frame_of v.shape (overlaid_paints v scene laye
 -- the trace of that picture: for each cell the dot that is seen, with its painter
 unfoldable pub overlaid_trace : ViewValue → Scene → List WeaponLayer → List (Option Dot)
 overlaid_trace v scene layers = frame_dots v.shape (overlaid_paints v scene layers)
+
+-- the view stands in the frame, and the dots in the view
+pub record FitsFrame (shape : ViewShape) : Type 0 where
+  pub columns : shape.left + shape.width ≤ FRAME_WIDTH
+  pub rows : shape.top + shape.height ≤ FRAME_HEIGHT
+
+abbrev pub AreInView : ViewShape → List Dot → Type 0
+AreInView shape dots = AllByRecursion (λ d. (d.x < shape.width) × (d.y < shape.height)) dots

@@ -1,5 +1,5 @@
 -- The vissprites of a view: the things of each sector that is entered, once (R_AddSprites, r_things.c).
-use Rattle.std.specs.Prelude.{ℕ, ◌==◌, pos, cond, List, [], ◌∷◌, map, Option, Some, None}
+use Rattle.std.specs.Prelude.{ℕ, ◌==◌, pos, cond, Bool, List, [], ◌∷◌, map, Option, Some, None}
 use Rattle.std.specs.List.{list_any}
 use Rattle.view_rules.specs.View.{ViewValue}
 use Rattle.view_rules.specs.Lights.{light_number}
@@ -22,6 +22,10 @@ first_mentions before (n ∷ ns) = cond (list_any (λ m. m == n) before) (first_
 
 unfoldable pub sectors_entered : Scene → List Event → List ℕ
 sectors_entered scene events = first_mentions [] (map (sector_of scene) (leaves_entered events))
+
+-- a leaf of that sector was entered before
+unfoldable pub is_entered : Scene → List Event → ℕ → Bool
+is_entered scene events sector = list_any (λ m. m == sector) (map (sector_of scene) (leaves_entered events))
 
 -- a thing with the light of its sector
 unfoldable pub placed_of : ViewValue → Scene → ℕ → PlacedThing → Placed

@@ -1,0 +1,4 @@
+pub mod FrameLemmas
+pub mod EventLemmas
+pub mod ThingLemmas
+pub mod CountLemmas
