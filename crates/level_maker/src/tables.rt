@@ -8,10 +8,9 @@ ghost use Rattle.made_rules.specs.Tables.{sine_product, half_sine, made_sine, up
 use crate::bytes::put_word;
 use made_rules::{HALF_STEPS, HALF_TURN, ONE, QUARTER, SINES, SLOPE_STEP, SLOPES, TANGENTS};
 use std::alloc::{AllocError, Global};
+use word_rules::FINE_SHIFT;
 
 const FIVE_SQUARES: u64 = 5 * (HALF_STEPS as u64) * (HALF_STEPS as u64);
-
-const ANGLE_STEP_SHIFT: u32 = 19;
 
 /// The bytes of the made tables file: 10240 sines and 4096 tangents in 16.16, and 2049 angles.
 ///
@@ -99,7 +98,7 @@ fn slope_angle(tangents: &[u32], i: u32) -> u32
     requires slope { i < SLOPES }
     ensures { result ≡ made_angle i }
 {
-    count_below(tangents, SLOPE_STEP * i) << ANGLE_STEP_SHIFT
+    count_below(tangents, SLOPE_STEP * i) << FINE_SHIFT
 }
 
 fn count_below(tangents: &[u32], limit: u32) -> u32

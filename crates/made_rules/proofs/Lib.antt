@@ -3,3 +3,4 @@ pub mod TableLemmas
 pub mod TextureLemmas
 pub mod NodeLemmas
 pub mod WadLemmas
+pub mod PictureLemmas

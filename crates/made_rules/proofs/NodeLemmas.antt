@@ -1,11 +1,12 @@
 -- Laws of the nodes: both parts of a division are smaller, their nodes and one more are those of the
 -- whole, and the number of a node is the number of those before it.
-use Rattle.std.proofs.Common.{◌≡◌, ℕ, zero, suc, ◌+◌, ◌-◌, ◌*◌, ◌/◌, ◌^◌, ◌<◌, ◌≤◌, ◌⊎◌, inl, inr, Bool, true, false, cond, nat_le, List, [], ◌∷◌, ◌++◌, length, refl, sym, ap, subst, ◌∙◌, append_assoc, append-nil, length-append, arith}
+use Rattle.std.proofs.Common.{◌≡◌, ℕ, zero, suc, ◌+◌, ◌-◌, ◌*◌, ◌/◌, ◌^◌, ◌<◌, ◌≤◌, Bool, true, false, cond, List, [], ◌∷◌, ◌++◌, length, refl, sym, ap, subst, ◌∙◌, length-append, arith}
 use Rattle.std.proofs.Math.Nat.{add-mul, mul-add, one-le-mul}
 use Rattle.std.proofs.lemmas.Nat.{mul-le}
 use Rattle.std.proofs.lemmas.Bool.Decides.{nat_tests}
 use Rattle.std.proofs.lemmas.Grind.{common_steps}
 use Rattle.made_rules.specs.declared.map.Part.{Part}
+use Rattle.made_rules.specs.declared.map.TheConstants.{CELL_SIZE, NODE_SIZE}
 use Rattle.made_rules.specs.Bytes.{half, halves}
 use Rattle.made_rules.specs.Nodes.{IsPart, width, height, node_count, is_one_cell, divides_columns, middle_column, middle_row, front_part, back_part, line_halves, box_halves, child_number, node_bytes, nodes_within, part_nodes}
 
@@ -184,6 +185,52 @@ part_nodes-parts bytes side first part within e =
     ++ node_bytes side first part
     = deeper ∙ this_list (is_one_cell part) _ e in
     joined bytes (part_nodes side first (front_part part)) (part_nodes side (first + node_count (front_part part)) (back_part part)) (node_bytes side first part) _ _ _ f g whole
+
+line_length : (part : Part) (b : Bool) → length (cond b (halves ((CELL_SIZE * middle_column part) ∷ (CELL_SIZE * part.south) ∷ 0 ∷ (CELL_SIZE * height part) ∷ [])) (halves ((CELL_SIZE * part.west) ∷ (CELL_SIZE * middle_row part) ∷ (CELL_SIZE * width part) ∷ 0 ∷ []))) ≡ 8
+unfolding halves half
+line_length part true = refl
+line_length part false = refl
+
+box_length : (part : Part) → length (box_halves part) ≡ 8
+unfolding box_halves halves half
+box_length part = refl
+
+pair_length : (a b : ℕ) → length (halves (a ∷ b ∷ [])) ≡ 4
+unfolding halves half
+pair_length a b = refl
+
+node_length : (side first : ℕ) (part : Part) → length (node_bytes side first part) ≡ NODE_SIZE
+unfolding node_bytes line_halves
+node_length side first part =
+    simp length-append (omega (arith, line_length part (divides_columns part), box_length (front_part part), box_length (back_part part), pair_length (child_number side first (front_part part)) (child_number side (first + node_count (front_part part)) (back_part part))))
+
+one_cell_count : (part : Part) → is_one_cell part ≡ true → 0 ≡ NODE_SIZE * node_count part
+unfolding is_one_cell node_count
+one_cell_count part e =
+    let w : width part ≡ 1 = grind (arith, nat_tests, e) in
+    let h : height part ≡ 1 = grind (arith, nat_tests, e) in
+    rw (w, h) refl
+
+length_of_choice : (b : Bool) (xs : List ℕ) (n : ℕ) → (b ≡ true → 0 ≡ n) → (b ≡ false → length xs ≡ n) → length (cond b [] xs) ≡ n
+length_of_choice true xs n none some = none refl
+length_of_choice false xs n none some = some refl
+
+length_within : (depth side first : ℕ) (part : Part) → IsPart part → width part + height part ≤ depth → length (nodes_within depth side first part) ≡ NODE_SIZE * node_count part
+unfolding nodes_within
+length_within zero side first part p m = absurd (omega arith)
+length_within (suc depth) side first part p m =
+    length_of_choice (is_one_cell part) _ _ (one_cell_count part) (λ (e : is_one_cell part ≡ false).
+    let front : IsPart (front_part part) = front-is_part part (front_part part) p e refl in
+    let back : IsPart (back_part part) = back-is_part part (back_part part) p e refl in
+    let f : width (front_part part) + height (front_part part) < width part + height part = front-smaller part (front_part part) p e refl in
+    let g : width (back_part part) + height (back_part part) < width part + height part = back-smaller part (back_part part) p e refl in
+    simp length-append
+    (omega (arith, node_count-parts part p e, length_within depth side first (front_part part) front (omega arith), length_within depth side (first + node_count (front_part part)) (back_part part) back (omega arith), node_length side first part)))
+
+-- a part of c cells has c - 1 nodes, so a node's number is the number of the nodes before it
+pub part_nodes-length : (side first : ℕ) (part : Part) → IsPart part → length (part_nodes side first part) ≡ NODE_SIZE * node_count part
+unfolding part_nodes
+part_nodes-length side first part p = length_within (width part + height part) side first part p (omega arith)
 
 -- for `grind`: the walk that puts the nodes
 pub ruleset node_parts = (part_nodes-leaf, part_nodes-parts, node_count-parts, node_count-some, node_count-most)

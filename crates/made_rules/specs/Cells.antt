@@ -1,6 +1,6 @@
 -- The cells of a made level, a square of `side` by `side`, and their walls. Cell 0 stands in the
 -- south west; the next one is east of it, and then come the rows to the north.
-use Rattle.std.specs.Prelude.{ℕ, ◌+◌, ◌-◌, ◌*◌, ◌/◌, ◌%◌, ◌==◌, List, [], ◌∷◌, Bool, cond, slice_index}
+use Rattle.std.specs.Prelude.{ℕ, ◌+◌, ◌-◌, ◌*◌, ◌/◌, ◌%◌, ◌==◌, [], ◌∷◌, Bool, cond, slice_index}
 use Rattle.made_rules.specs.declared.map.TheConstants.{EDGES, NO_SIDE}
 
 -- the column and the row of a cell

@@ -1,9 +1,9 @@
 -- The records of a made level by number. Line, side and seg 4 c + e are edge e of cell c; sector,
 -- leaf and thing c are those of cell c.
-use Rattle.std.specs.Prelude.{ℕ, ◌+◌, ◌-◌, ◌*◌, ◌/◌, ◌%◌, ◌==◌, ◌&&◌, List, [], ◌∷◌, ◌++◌, Bool, cond, bit_xor, codes}
+use Rattle.std.specs.Prelude.{ℕ, ◌+◌, ◌*◌, ◌/◌, ◌%◌, ◌==◌, ◌&&◌, List, [], ◌∷◌, ◌++◌, Bool, cond, bit_xor, codes}
 use Rattle.made_rules.specs.declared.map.TheConstants.{CELL_SIZE, EDGES, ONE_SIDED, TWO_SIDED, LEVEL_THING, THING_OPTIONS}
 use Rattle.made_rules.specs.declared.pictures.TheConstants.{FLATS}
-use Rattle.made_rules.specs.Bytes.{half, halves, records, padded}
+use Rattle.made_rules.specs.Bytes.{half, halves, padded}
 use Rattle.made_rules.specs.Cells.{column_of, row_of, corner, next_edge, is_inner, side_across, edge_angle}
 
 -- a thing in the middle of its cell; it turns by an eighth from cell to cell

@@ -1,6 +1,7 @@
 -- The angle tables by formula, with whole numbers alone: sines and tangents of fine angles in 16.16,
 -- and the angles of slopes.
-use Rattle.std.specs.Prelude.{◌≡◌, ℕ, ◌+◌, ◌-◌, ◌*◌, ◌/◌, ◌%◌, ◌^◌, ℤ, pos, negsuc, neg_ℤ, List, ◌++◌, count_by, cond, nat_lt, refl}
+use Rattle.std.specs.Prelude.{◌≡◌, ℕ, ◌+◌, ◌-◌, ◌*◌, ◌/◌, ◌%◌, ◌^◌, ℤ, pos, neg_ℤ, List, ◌++◌, count_by, cond, nat_lt, refl}
+use Rattle.word_rules.specs.declared.TheConstants.{FINE_SHIFT}
 use Rattle.word_rules.specs.Words.{bits_of}
 use Rattle.word_rules.specs.Listed.{listed}
 use Rattle.made_rules.specs.declared.tables.TheConstants.{HALF_TURN, HALF_STEPS, ONE, SLOPE_STEP, SINES, TANGENTS, QUARTER, SLOPES}
@@ -26,9 +27,9 @@ upper_tangent j = half_sine j * ONE / half_sine (j + QUARTER)
 unfoldable pub made_tangent : ℕ → ℤ
 made_tangent i = cond (nat_lt i QUARTER) (neg_ℤ (pos (upper_tangent (QUARTER - 1 - i)))) (pos (upper_tangent (i - QUARTER)))
 
--- the angle of slope i, in 2048 steps of the slope: a step of 2^19 for each tangent below the slope
+-- the angle of slope i, in 2048 steps of the slope: a fine angle for each tangent below the slope
 unfoldable pub made_angle : ℕ → ℕ
-made_angle i = 2 ^ 19 * count_by (λ tangent. nat_lt tangent (SLOPE_STEP * i)) (listed upper_tangent QUARTER)
+made_angle i = 2 ^ FINE_SHIFT * count_by (λ tangent. nat_lt tangent (SLOPE_STEP * i)) (listed upper_tangent QUARTER)
 
 -- the bytes of entry i of each table
 unfoldable pub sine_bytes : ℕ → List ℕ

@@ -9,6 +9,9 @@ pub const CELL_SIZE: u32 = 128;
 /// The walls of a cell.
 pub const EDGES: u32 = 4;
 
+/// The bytes of a node.
+pub const NODE_SIZE: u32 = 28;
+
 /// The mark of a leaf in a node's child.
 pub const LEAF_MARK: u32 = 32768;
 

@@ -1,4 +1,5 @@
 // The sizes of the angle tables.
+use word_rules::{FRACTION_BITS, SLOPE_STEPS};
 
 /// The entries of the table of sines: a full turn and a quarter of fine angles.
 pub const SINES: u32 = 10240;
@@ -16,10 +17,10 @@ pub const HALF_STEPS: u32 = 8192;
 pub const QUARTER: u32 = 2048;
 
 /// One whole in 16.16 fixed point.
-pub const ONE: u32 = 65536;
+pub const ONE: u32 = 1 << FRACTION_BITS;
 
 /// The size of a slope's step, 16.16 fixed point.
-pub const SLOPE_STEP: u32 = 32;
+pub const SLOPE_STEP: u32 = ONE / SLOPE_STEPS;
 
 /// The entries of the table of slope angles, one for each slope from 0 to 2048.
-pub const SLOPES: u32 = 2049;
+pub const SLOPES: u32 = SLOPE_STEPS + 1;

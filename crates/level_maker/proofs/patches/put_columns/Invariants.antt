@@ -1,5 +1,5 @@
 -- The columns so far are put.
-use Rattle.std.proofs.Common.{◌≡◌, ◌++◌, ◌+◌, take}
+use Rattle.std.proofs.Common.{◌≡◌, ◌++◌}
 use Rattle.made_rules.specs.Bytes.{records}
 use Rattle.made_rules.specs.Pictures.{column_bytes}
 use Rattle.level_maker.proofs.patches.put_columns.Given as goal

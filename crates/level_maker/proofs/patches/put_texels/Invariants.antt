@@ -1,5 +1,5 @@
 -- The texels so far are put.
-use Rattle.std.proofs.Common.{◌≡◌, ◌++◌, ◌+◌, take}
+use Rattle.std.proofs.Common.{◌≡◌, ◌++◌}
 use Rattle.word_rules.specs.Listed.{listed}
 use Rattle.made_rules.specs.Pictures.{texel}
 use Rattle.level_maker.proofs.patches.put_texels.Given as goal
