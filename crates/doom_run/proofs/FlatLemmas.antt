@@ -1,5 +1,5 @@
 -- The picture of a flat from its parts.
-use Rattle.std.proofs.Common.{◌≡◌, ℕ, Bool, List, Result, Ok, refl}
+use Rattle.std.proofs.Common.{◌≡◌, ℕ, Bool, List, Ok, refl}
 use Rattle.word_rules.specs.Listed.{listed}
 use Rattle.outside.specs.Told.{Answers}
 use Rattle.lump_rules.specs.declared.wad.Lump.{Lump}

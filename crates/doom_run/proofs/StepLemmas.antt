@@ -1,5 +1,5 @@
 -- One step of a job after another.
-use Rattle.std.proofs.Common.{◌≡◌, ℕ, Bool, List, Option, Some, None, Result, Ok, Err, IsErrAnd, IsSome, IfOk, IfErr, refl}
+use Rattle.std.proofs.Common.{◌≡◌, ℕ, Bool, List, Option, Some, None, Result, Ok, Err, IsErrAnd, IsSome, refl}
 use Rattle.std.proofs.lemmas.Result.{err_from_is_err_and}
 use Rattle.outside.specs.Told.{Told, refused, read_failed, zone_full, out_of_memory, told_above, and_then, from_below, TellsAt, Answers}
 use Rattle.wad_dir.specs.declared.fault.DirFault.{DirFault}

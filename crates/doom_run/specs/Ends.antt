@@ -1,6 +1,5 @@
 -- What a status says of a run.
 use Rattle.std.specs.Prelude.{◌≡◌, ℕ, Bool, IsTrue, List, Result, Ok, Err}
-use Rattle.outside.specs.Causes.{Rose}
 use Rattle.outside.specs.Sink.{Grew, GrewByPrefix}
 use Rattle.doom_run.specs.declared.fault.Fault.{Fault}
 use Rattle.doom_run.specs.declared.fault.Fault.TheVariants as fault

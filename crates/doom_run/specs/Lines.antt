@@ -1,5 +1,5 @@
 -- The line that is noted for a status. Each ends with the byte 10.
-use Rattle.std.specs.Prelude.{◌≡◌, ℕ, List, [], ◌∷◌, ◌++◌, codes, decimal, refl}
+use Rattle.std.specs.Prelude.{ℕ, List, [], ◌∷◌, ◌++◌, codes, decimal}
 use Rattle.std.specs.List.{flat_map}
 use Rattle.lump_rules.specs.declared.wad.DirRefusal.{DirRefusal}
 use Rattle.lump_rules.specs.declared.wad.DirRefusal.TheVariants.{NotWad, Short, Entry, TooMany}

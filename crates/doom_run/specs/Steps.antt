@@ -1,5 +1,5 @@
 -- The first step that stops a run, and what a fault says of it.
-use Rattle.std.specs.Prelude.{◌≡◌, ℕ, Bool, IsTrue, Option, Some, None, Result, Ok, Err, IfOk, IfErr}
+use Rattle.std.specs.Prelude.{◌≡◌, Bool, IsTrue, Option, Some, None, Result, Ok, Err, IfOk, IfErr}
 use Rattle.doom_run.specs.declared.refusal.Refusal.{Refusal}
 use Rattle.doom_run.specs.declared.fault.Fault.{Fault}
 use Rattle.doom_run.specs.declared.fault.Fault.TheVariants.{Refused, ReadFault, OutOfMemory}

@@ -1,5 +1,5 @@
 -- What a run comes to for its words and the files that are held.
-use Rattle.std.specs.Prelude.{ℕ, List, Option, Some, None, Result, Ok, Err}
+use Rattle.std.specs.Prelude.{ℕ, List, Result, Ok}
 use Rattle.outside.specs.Shelf.{File}
 use Rattle.outside.specs.Told.{and_then}
 use Rattle.frame_writer.specs.Ppm.{ppm}

@@ -18,10 +18,14 @@ impl Model for Drawing {
 
     ghost Value = { Picture };
 
-    ghost view = { λ drawing. record { frame = drawing.pixels.items; palette = drawing.playpal.items } };
+    ghost view = { λ drawing. record {
+      frame = drawing.pixels.items;
+      palette = drawing.playpal.items;
+    } };
 
     ghost invariant = { λ drawing.
-        (length drawing.pixels.items ≡ FRAME_BYTES) × (length drawing.playpal.items ≡ PALETTE_BYTES) };
+        (length drawing.pixels.items ≡ FRAME_BYTES)
+        × (length drawing.playpal.items ≡ PALETTE_BYTES) };
 }
 
 impl Drawing {

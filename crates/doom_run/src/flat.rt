@@ -34,9 +34,11 @@ pub fn prepare_flat<S: Shelf>(
     file: &str,
 ) -> Result<Drawing, Fault>
     ensures answers { (files : List File) → Holds (S.view shelf.old) files →
-        Agrees (S.view shelf.old).steady (λ drawing. drawing) (flat_verdict name.now file.now files) result }
+        Agrees (S.view shelf.old).steady (λ drawing. drawing)
+        (flat_verdict name.now file.now files) result }
     ensures follows { Follows (S.view shelf.old) (S.view shelf.new) }
-    ensures causes { HasCauses fault_told (S.view shelf.old).faults (S.view shelf.new).faults result }
+    ensures causes { HasCauses fault_told
+        (S.view shelf.old).faults (S.view shelf.new).faults result }
 {
     let number = shelf.find(file)?;
     load_flat(alloc, shelf, name, number)
@@ -44,7 +46,8 @@ pub fn prepare_flat<S: Shelf>(
 
 // Writes the picture of a flat. Takes no memory.
 pub fn deliver_flat<K: Sink>(drawing: &Drawing, out: &mut K) -> Status
-    ensures ends { DeliversAt (tiled_flat drawing.now) (K.written out.old) (K.written out.new) result }
+    ensures ends { DeliversAt (tiled_flat drawing.now) (K.written out.old)
+        (K.written out.new) result }
     ensures write_fault { result ≡ Status.WriteFault → Rose (K.faults out.old) (K.faults out.new) }
 {
     match put_ppm(out, drawing.frame(), drawing.playpal()) {
@@ -61,9 +64,11 @@ fn load_flat<S: Shelf>(
     number: FileNo,
 ) -> Result<Drawing, Fault>
     ensures answers { (bytes : List ℕ) → Stands (S.view shelf.old) number.0 bytes →
-        Answers fault_told (S.view shelf.old).steady (λ drawing. drawing) (flat_picture name.now (bytes ∷ [])) result }
+        Answers fault_told (S.view shelf.old).steady (λ drawing. drawing)
+        (flat_picture name.now (bytes ∷ [])) result }
     ensures follows { Follows (S.view shelf.old) (S.view shelf.new) }
-    ensures causes { HasCauses fault_told (S.view shelf.old).faults (S.view shelf.new).faults result }
+    ensures causes { HasCauses fault_told
+        (S.view shelf.old).faults (S.view shelf.new).faults result }
 {
     let dir = Directory::load(alloc, shelf, &[number])?;
     draw_flat(alloc, shelf, &dir, name)
@@ -76,10 +81,13 @@ fn draw_flat<S: Shelf>(
     dir: &Directory,
     name: &Name8,
 ) -> Result<Drawing, Fault>
-    ensures answers { (contents : List (List ℕ)) → AllStand (S.view shelf.old) dir.now.files contents → AllWithin contents dir.now.lumps →
-        Answers fault_told (S.view shelf.old).steady (λ drawing. drawing) (picture_in contents name.now dir.now.lumps) result }
+    ensures answers { (contents : List (List ℕ)) →
+        AllStand (S.view shelf.old) dir.now.files contents → AllWithin contents dir.now.lumps →
+        Answers fault_told (S.view shelf.old).steady (λ drawing. drawing)
+        (picture_in contents name.now dir.now.lumps) result }
     ensures follows { Follows (S.view shelf.old) (S.view shelf.new) }
-    ensures causes { HasCauses fault_told (S.view shelf.old).faults (S.view shelf.new).faults result }
+    ensures causes { HasCauses fault_told
+        (S.view shelf.old).faults (S.view shelf.new).faults result }
 {
     let playpal = read_palette(alloc, shelf, dir)?;
     let flat = read_flat(alloc, shelf, dir, name)?;
@@ -88,11 +96,14 @@ fn draw_flat<S: Shelf>(
 
 // The first palette of a directory.
 fn read_palette<S: Shelf>(alloc: Global, shelf: &mut S, dir: &Directory) -> Result<Vec<u8>, Fault>
-    ensures answers { (contents : List (List ℕ)) → AllStand (S.view shelf.old) dir.now.files contents → AllWithin contents dir.now.lumps →
-        Answers fault_told (S.view shelf.old).steady (λ palette. palette.items) (palette_in contents dir.now.lumps) result }
+    ensures answers { (contents : List (List ℕ)) →
+        AllStand (S.view shelf.old) dir.now.files contents → AllWithin contents dir.now.lumps →
+        Answers fault_told (S.view shelf.old).steady (λ palette. palette.items)
+        (palette_in contents dir.now.lumps) result }
     ensures size { IfOk result (λ palette. length palette.items ≡ PALETTE_BYTES) }
     ensures follows { Follows (S.view shelf.old) (S.view shelf.new) }
-    ensures causes { HasCauses fault_told (S.view shelf.old).faults (S.view shelf.new).faults result }
+    ensures causes { HasCauses fault_told
+        (S.view shelf.old).faults (S.view shelf.new).faults result }
 {
     let lump = find_playpal(dir)?;
     read_front(alloc, shelf, dir, lump, PALETTE_BYTES)
@@ -101,7 +112,8 @@ fn read_palette<S: Shelf>(alloc: Global, shelf: &mut S, dir: &Directory) -> Resu
 // The lump of the palettes, which has at least one.
 #[tactic(auto, using(crate::proofs::LumpLemmas::playpal_name))]
 fn find_playpal(dir: &Directory) -> Result<LumpNo, Refusal>
-    ensures answers { Answers (λ refusal. refused refusal) true (λ lump. lump.0) (playpal_of dir.now.lumps) result }
+    ensures answers { Answers (λ refusal. refused refusal) true (λ lump. lump.0)
+        (playpal_of dir.now.lumps) result }
     ensures there { IfOk result (λ lump. lump.0 < length dir.now.lumps) }
     ensures long { IfOk result (λ lump. PALETTE_BYTES ≤ (lump_at dir.now.lumps lump.0).size) }
 {
@@ -132,10 +144,13 @@ fn read_flat<S: Shelf>(
     dir: &Directory,
     name: &Name8,
 ) -> Result<Vec<u8>, Fault>
-    ensures answers { (contents : List (List ℕ)) → AllStand (S.view shelf.old) dir.now.files contents → AllWithin contents dir.now.lumps →
-        Answers fault_told (S.view shelf.old).steady (λ flat. flat.items) (flat_in contents dir.now.lumps name.now) result }
+    ensures answers { (contents : List (List ℕ)) →
+        AllStand (S.view shelf.old) dir.now.files contents → AllWithin contents dir.now.lumps →
+        Answers fault_told (S.view shelf.old).steady (λ flat. flat.items)
+        (flat_in contents dir.now.lumps name.now) result }
     ensures follows { Follows (S.view shelf.old) (S.view shelf.new) }
-    ensures causes { HasCauses fault_told (S.view shelf.old).faults (S.view shelf.new).faults result }
+    ensures causes { HasCauses fault_told
+        (S.view shelf.old).faults (S.view shelf.new).faults result }
 {
     let lump = find_flat(dir, name)?;
     read_lump(alloc, shelf, dir, lump)
@@ -143,7 +158,9 @@ fn read_flat<S: Shelf>(
 
 // The last flat of a name.
 fn find_flat(dir: &Directory, name: &Name8) -> Result<LumpNo, Refusal>
-    ensures answers { Answers (λ refusal. refused refusal) true (λ lump. lump.0) (else_refuse (Refusal.Scene SceneRefusal.FlatName) (flat_of dir.now.lumps name.now)) result }
+    ensures answers { Answers (λ refusal. refused refusal) true (λ lump. lump.0)
+        (else_refuse (Refusal.Scene SceneRefusal.FlatName) (flat_of dir.now.lumps name.now))
+        result }
     ensures there { IfOk result (λ lump. lump.0 < length dir.now.lumps) }
 {
     match dir.flat(name) {

@@ -22,11 +22,14 @@ pub fn read_front<S: Shelf>(
 ) -> Result<Vec<u8>, Fault>
     requires lump { lump.0 < length dir.now.lumps }
     requires within { size ≤ (lump_at dir.now.lumps lump.0).size }
-    ensures answers { (contents : List (List ℕ)) → AllStand (S.view shelf.old) dir.now.files contents → AllWithin contents dir.now.lumps →
-        Answers fault_told (S.view shelf.old).steady (λ piece. piece.items) (Ok (take size (lump_bytes contents dir.now.lumps lump.0))) result }
+    ensures answers { (contents : List (List ℕ)) →
+        AllStand (S.view shelf.old) dir.now.files contents → AllWithin contents dir.now.lumps →
+        Answers fault_told (S.view shelf.old).steady (λ piece. piece.items)
+        (Ok (take size (lump_bytes contents dir.now.lumps lump.0))) result }
     ensures size { IfOk result (λ piece. length piece.items ≡ size) }
     ensures follows { Follows (S.view shelf.old) (S.view shelf.new) }
-    ensures causes { HasCauses fault_told (S.view shelf.old).faults (S.view shelf.new).faults result }
+    ensures causes { HasCauses fault_told
+        (S.view shelf.old).faults (S.view shelf.new).faults result }
 {
     let mut piece = vec![in alloc; 0; size]?;
     fill_front(shelf, dir, lump, &mut piece)?;
@@ -42,11 +45,14 @@ fn fill_front<S: Shelf>(
 ) -> Result<(), Failed>
     requires lump { lump.0 < length dir.now.lumps }
     requires within { length piece.old ≤ (lump_at dir.now.lumps lump.0).size }
-    ensures bytes { (contents : List (List ℕ)) → AllStand (S.view shelf.old) dir.now.files contents → AllWithin contents dir.now.lumps →
-        OnOk result (piece.new ≡ take (length piece.old) (lump_bytes contents dir.now.lumps lump.0)) }
+    ensures bytes { (contents : List (List ℕ)) →
+        AllStand (S.view shelf.old) dir.now.files contents → AllWithin contents dir.now.lumps →
+        OnOk result (piece.new ≡ take (length piece.old)
+        (lump_bytes contents dir.now.lumps lump.0)) }
     ensures follows { Follows (S.view shelf.old) (S.view shelf.new) }
     ensures failed { OnErr result (Rose (S.view shelf.old).faults (S.view shelf.new).faults) }
-    ensures steady { (contents : List (List ℕ)) → AllStand (S.view shelf.old) dir.now.files contents → AllWithin contents dir.now.lumps →
+    ensures steady { (contents : List (List ℕ)) →
+        AllStand (S.view shelf.old) dir.now.files contents → AllWithin contents dir.now.lumps →
         IsTrue (S.view shelf.old).steady → IsOk result }
 {
     if piece.is_empty() {
@@ -63,10 +69,13 @@ pub fn read_lump<S: Shelf>(
     lump: LumpNo,
 ) -> Result<Vec<u8>, Fault>
     requires { lump.0 < length dir.now.lumps }
-    ensures answers { (contents : List (List ℕ)) → AllStand (S.view shelf.old) dir.now.files contents → AllWithin contents dir.now.lumps →
-        Answers fault_told (S.view shelf.old).steady (λ piece. piece.items) (Ok (lump_bytes contents dir.now.lumps lump.0)) result }
+    ensures answers { (contents : List (List ℕ)) →
+        AllStand (S.view shelf.old) dir.now.files contents → AllWithin contents dir.now.lumps →
+        Answers fault_told (S.view shelf.old).steady (λ piece. piece.items)
+        (Ok (lump_bytes contents dir.now.lumps lump.0)) result }
     ensures follows { Follows (S.view shelf.old) (S.view shelf.new) }
-    ensures causes { HasCauses fault_told (S.view shelf.old).faults (S.view shelf.new).faults result }
+    ensures causes { HasCauses fault_told
+        (S.view shelf.old).faults (S.view shelf.new).faults result }
 {
     let size = dir.size(lump) as usize;
     read_front(alloc, shelf, dir, lump, size)

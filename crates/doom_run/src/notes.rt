@@ -21,7 +21,8 @@ use wad_dir::DirRefusal;
 ///
 /// This project's own: the lines and the codes.
 pub fn put_note<N: Sink>(notes: &mut N, status: &Status) -> Result<(), Failed>
-    ensures { Writes (N.written notes.old) (N.written notes.new) (N.faults notes.old) (N.faults notes.new) (line_of status.now) result }
+    ensures { Writes (N.written notes.old) (N.written notes.new)
+        (N.faults notes.old) (N.faults notes.new) (line_of status.now) result }
 {
     match *status {
         Status::Done => Ok(()),
@@ -36,7 +37,9 @@ pub fn put_note<N: Sink>(notes: &mut N, status: &Status) -> Result<(), Failed>
 }
 
 fn put_limit<N: Sink>(notes: &mut N, view: u32, kind: LimitKind, count: u32) -> Result<(), Failed>
-    ensures { Writes (N.written notes.old) (N.written notes.new) (N.faults notes.old) (N.faults notes.new) (pair_line (codes "doomview: limit view ") view (limit_label kind) count) result }
+    ensures { Writes (N.written notes.old) (N.written notes.new)
+        (N.faults notes.old) (N.faults notes.new)
+        (pair_line (codes "doomview: limit view ") view (limit_label kind) count) result }
 {
     match kind {
         LimitKind::Planes => put_pair(
@@ -57,7 +60,9 @@ fn put_limit<N: Sink>(notes: &mut N, view: u32, kind: LimitKind, count: u32) -> 
 }
 
 fn put_zone_full<N: Sink>(notes: &mut N, wanted: u64, widest: u64) -> Result<(), Failed>
-    ensures { Writes (N.written notes.old) (N.written notes.new) (N.faults notes.old) (N.faults notes.new) (pair_line (codes "doomview: zone full wanted ") wanted (codes " widest ") widest) result }
+    ensures { Writes (N.written notes.old) (N.written notes.new)
+        (N.faults notes.old) (N.faults notes.new)
+        (pair_line (codes "doomview: zone full wanted ") wanted (codes " widest ") widest) result }
 {
     put_pair(
         notes,
@@ -76,7 +81,8 @@ fn put_pair<N: Sink>(
     second: &[u8],
     b: u64,
 ) -> Result<(), Failed>
-    ensures { Writes (N.written notes.old) (N.written notes.new) (N.faults notes.old) (N.faults notes.new) (pair_line first.now a second.now b) result }
+    ensures { Writes (N.written notes.old) (N.written notes.new)
+        (N.faults notes.old) (N.faults notes.new) (pair_line first.now a second.now b) result }
 {
     put_labelled(notes, first, a)?;
     put_labelled(notes, second, b)?;
@@ -84,7 +90,8 @@ fn put_pair<N: Sink>(
 }
 
 fn put_refusal<N: Sink>(notes: &mut N, refusal: Refusal) -> Result<(), Failed>
-    ensures { Writes (N.written notes.old) (N.written notes.new) (N.faults notes.old) (N.faults notes.new) (refusal_line refusal) result }
+    ensures { Writes (N.written notes.old) (N.written notes.new)
+        (N.faults notes.old) (N.faults notes.new) (refusal_line refusal) result }
 {
     notes.put(b"doomview: refused")?;
     put_refusal_numbers(notes, refusal)?;
@@ -92,7 +99,9 @@ fn put_refusal<N: Sink>(notes: &mut N, refusal: Refusal) -> Result<(), Failed>
 }
 
 fn put_refusal_numbers<N: Sink>(notes: &mut N, refusal: Refusal) -> Result<(), Failed>
-    ensures { Writes (N.written notes.old) (N.written notes.new) (N.faults notes.old) (N.faults notes.new) (flat_map spaced (refusal_numbers refusal)) result }
+    ensures { Writes (N.written notes.old) (N.written notes.new)
+        (N.faults notes.old) (N.faults notes.new)
+        (flat_map spaced (refusal_numbers refusal)) result }
 {
     match refusal {
         Refusal::Wad(refusal) => put_wad_numbers(notes, refusal),
@@ -102,7 +111,8 @@ fn put_refusal_numbers<N: Sink>(notes: &mut N, refusal: Refusal) -> Result<(), F
 }
 
 fn put_wad_numbers<N: Sink>(notes: &mut N, refusal: DirRefusal) -> Result<(), Failed>
-    ensures { Writes (N.written notes.old) (N.written notes.new) (N.faults notes.old) (N.faults notes.new) (flat_map spaced (wad_numbers refusal)) result }
+    ensures { Writes (N.written notes.old) (N.written notes.new)
+        (N.faults notes.old) (N.faults notes.new) (flat_map spaced (wad_numbers refusal)) result }
 {
     match refusal {
         DirRefusal::NotWad { file } => put_numbers(notes, &[CODE_NOT_WAD, file]),
@@ -114,7 +124,8 @@ fn put_wad_numbers<N: Sink>(notes: &mut N, refusal: DirRefusal) -> Result<(), Fa
 
 // Appends each number after a space.
 fn put_numbers<N: Sink>(notes: &mut N, numbers: &[u64]) -> Result<(), Failed>
-    ensures { Writes (N.written notes.old) (N.written notes.new) (N.faults notes.old) (N.faults notes.new) (flat_map spaced numbers.now) result }
+    ensures { Writes (N.written notes.old) (N.written notes.new)
+        (N.faults notes.old) (N.faults notes.new) (flat_map spaced numbers.now) result }
 {
     for number in numbers {
         put_labelled(notes, b" ", *number)?;
@@ -124,7 +135,8 @@ fn put_numbers<N: Sink>(notes: &mut N, numbers: &[u64]) -> Result<(), Failed>
 
 // Appends a number after some text.
 fn put_labelled<N: Sink>(notes: &mut N, label: &[u8], number: u64) -> Result<(), Failed>
-    ensures { Writes (N.written notes.old) (N.written notes.new) (N.faults notes.old) (N.faults notes.new) (labelled label.now number) result }
+    ensures { Writes (N.written notes.old) (N.written notes.new)
+        (N.faults notes.old) (N.faults notes.new) (labelled label.now number) result }
 {
     notes.put(label)?;
     let mut buffer = Buffer::new();

@@ -20,7 +20,8 @@ struct Ended {
     notes: MemorySink,
 }
 
-// A WAD of 854 bytes: PLAYPAL, whose colour i is i, 255 - i, 7i, and the flat TILE of the bytes 1 to 10.
+// A WAD of 854 bytes: PLAYPAL, whose colour i is i, 255 - i, 7i, and the flat TILE of the bytes
+// 1 to 10.
 fn tiny_wad(alloc: Global) -> Result<Vec<u8>, AllocError> {
     let mut wad = b"IWAD\x04\0\0\0\x16\x03\0\0".to_vec(alloc)?;
     for i in 0..=255u8 {
@@ -42,7 +43,7 @@ fn words_of(alloc: Global, text: &str) -> Result<Vec<String>, AllocError> {
     Ok(words)
 }
 
-// Runs the words over a shelf that holds the WAD as tiny.wad, and whose calls of these numbers fail.
+// Runs the words over a shelf that holds the WAD as tiny.wad. Its calls of these numbers fail.
 fn run_over(
     alloc: Global,
     words: &str,

@@ -40,28 +40,36 @@ pub fn run<S: Shelf, K: Sink, N: Sink>(
 
     // Another status: a prefix of the output, and nothing where none is due or memory ran out.
     ensures prefix { (files : List File) (accepted : Accepted) → Holds (S.view shelf.old) files →
-        verdict (texts words.now) files ≡ Ok accepted → GrewByPrefix (K.written out.old) (K.written out.new) (output accepted) }
+        verdict (texts words.now) files ≡ Ok accepted →
+        GrewByPrefix (K.written out.old) (K.written out.new) (output accepted) }
     ensures unwritten { IsUnwritten result → Grew (K.written out.old) (K.written out.new) [] }
     ensures stopped { (files : List File) (stop : Stop) → Holds (S.view shelf.old) files →
-        verdict (texts words.now) files ≡ Err stop → Grew (K.written out.old) (K.written out.new) [] }
+        verdict (texts words.now) files ≡ Err stop →
+        Grew (K.written out.old) (K.written out.new) [] }
 
     // The words alone decide Usage, over every shelf and whatever files there are.
-    ensures usage { (files : List File) → result ≡ Status.Usage → verdict (texts words.now) files ≡ Err usage }
+    ensures usage { (files : List File) → result ≡ Status.Usage →
+        verdict (texts words.now) files ≡ Err usage }
     ensures wrong_words { (files : List File) → verdict (texts words.now) files ≡ Err usage →
         (result ≡ Status.Usage) ⊎ (result ≡ Status.OutOfMemory) }
 
     // A refusal is the verdict's, and where the verdict has one it comes, but for the faults.
-    ensures refused { (files : List File) (refusal : Refusal) → result ≡ Status.Refused refusal → Holds (S.view shelf.old) files →
+    ensures refused { (files : List File) (refusal : Refusal) → result ≡ Status.Refused refusal →
+        Holds (S.view shelf.old) files →
         verdict (texts words.now) files ≡ Err (refused refusal) }
     ensures refusal { (files : List File) (refusal : Refusal) → Holds (S.view shelf.old) files →
         verdict (texts words.now) files ≡ Err (refused refusal) →
-        (result ≡ Status.Refused refusal) ⊎ (result ≡ Status.ReadFault) ⊎ (result ≡ Status.OutOfMemory) }
+        (result ≡ Status.Refused refusal) ⊎ (result ≡ Status.ReadFault)
+        ⊎ (result ≡ Status.OutOfMemory) }
 
     // A fault comes only from the object that counted it. A flat needs no zone.
-    ensures read_fault { result ≡ Status.ReadFault → Rose (S.view shelf.old).faults (S.view shelf.new).faults }
-    ensures steady { (files : List File) → result ≡ Status.ReadFault → Holds (S.view shelf.old) files →
+    ensures read_fault { result ≡ Status.ReadFault →
+        Rose (S.view shelf.old).faults (S.view shelf.new).faults }
+    ensures steady { (files : List File) → result ≡ Status.ReadFault →
+        Holds (S.view shelf.old) files →
         IsTrue (S.view shelf.old).steady → verdict (texts words.now) files ≡ Err absent }
-    ensures absent { (files : List File) → Holds (S.view shelf.old) files → verdict (texts words.now) files ≡ Err absent →
+    ensures absent { (files : List File) → Holds (S.view shelf.old) files →
+        verdict (texts words.now) files ≡ Err absent →
         (result ≡ Status.ReadFault) ⊎ (result ≡ Status.OutOfMemory) }
     ensures write_fault { result ≡ Status.WriteFault → Rose (K.faults out.old) (K.faults out.new) }
     ensures zone_full { (wanted widest : ℕ) → result ≡ Status.ZoneFull wanted widest → ⊥ }
@@ -69,9 +77,11 @@ pub fn run<S: Shelf, K: Sink, N: Sink>(
     // Where nothing fails, an accepted run comes to its end.
     ensures complete { (files : List File) (accepted : Accepted) → Holds (S.view shelf.old) files →
         verdict (texts words.now) files ≡ Ok accepted →
-        (Rose (S.view shelf.old).faults (S.view shelf.new).faults → ⊥) → (Rose (K.faults out.old) (K.faults out.new) → ⊥) →
+        (Rose (S.view shelf.old).faults (S.view shelf.new).faults → ⊥) →
+        (Rose (K.faults out.old) (K.faults out.new) → ⊥) →
         (result ≡ end_of accepted) ⊎ (result ≡ Status.OutOfMemory) }
-    ensures complete_steady { (files : List File) (accepted : Accepted) → Holds (S.view shelf.old) files →
+    ensures complete_steady { (files : List File) (accepted : Accepted) →
+        Holds (S.view shelf.old) files →
         verdict (texts words.now) files ≡ Ok accepted →
         IsTrue (S.view shelf.old).steady → (Rose (K.faults out.old) (K.faults out.new) → ⊥) →
         (result ≡ end_of accepted) ⊎ (result ≡ Status.OutOfMemory) }
@@ -79,7 +89,8 @@ pub fn run<S: Shelf, K: Sink, N: Sink>(
     // The line of the status is noted, unless the notes fail.
     ensures noted { (Rose (N.faults notes.old) (N.faults notes.new) → ⊥) →
         Grew (N.written notes.old) (N.written notes.new) (line_of result) }
-    ensures noted_prefix { GrewByPrefix (N.written notes.old) (N.written notes.new) (line_of result) }
+    ensures noted_prefix { GrewByPrefix (N.written notes.old) (N.written notes.new)
+        (line_of result) }
 {
     let status = perform(alloc, words, shelf, out);
     let _ = put_note(notes, &status);
@@ -89,11 +100,13 @@ pub fn run<S: Shelf, K: Sink, N: Sink>(
 // The run without its line.
 fn perform<S: Shelf, K: Sink>(alloc: Global, words: &[String], shelf: &mut S, out: &mut K) -> Status
     ensures ends { (files : List File) → Holds (S.view shelf.old) files →
-        EndsAt (S.view shelf.old).steady (verdict (texts words.now) files) (K.written out.old) (K.written out.new) result }
+        EndsAt (S.view shelf.old).steady (verdict (texts words.now) files)
+        (K.written out.old) (K.written out.new) result }
     ensures unwritten { IsUnwritten result → Grew (K.written out.old) (K.written out.new) [] }
     ensures usage { result ≡ Status.Usage → command_of (texts words.now) ≡ None }
     ensures wrong_words { command_of (texts words.now) ≡ None → result ≡ Status.Usage }
-    ensures read_fault { result ≡ Status.ReadFault → Rose (S.view shelf.old).faults (S.view shelf.new).faults }
+    ensures read_fault { result ≡ Status.ReadFault →
+        Rose (S.view shelf.old).faults (S.view shelf.new).faults }
     ensures write_fault { result ≡ Status.WriteFault → Rose (K.faults out.old) (K.faults out.new) }
     ensures zone_full { (wanted widest : ℕ) → result ≡ Status.ZoneFull wanted widest → ⊥ }
 {
@@ -105,10 +118,12 @@ fn perform<S: Shelf, K: Sink>(alloc: Global, words: &[String], shelf: &mut S, ou
 
 fn perform_job<S: Shelf, K: Sink>(alloc: Global, job: Job<'_>, shelf: &mut S, out: &mut K) -> Status
     ensures ends { (files : List File) → Holds (S.view shelf.old) files →
-        EndsAt (S.view shelf.old).steady (job_verdict (command_in job.entry) files) (K.written out.old) (K.written out.new) result }
+        EndsAt (S.view shelf.old).steady (job_verdict (command_in job.entry) files)
+        (K.written out.old) (K.written out.new) result }
     ensures unwritten { IsUnwritten result → Grew (K.written out.old) (K.written out.new) [] }
     ensures not_usage { result ≡ Status.Usage → ⊥ }
-    ensures read_fault { result ≡ Status.ReadFault → Rose (S.view shelf.old).faults (S.view shelf.new).faults }
+    ensures read_fault { result ≡ Status.ReadFault →
+        Rose (S.view shelf.old).faults (S.view shelf.new).faults }
     ensures write_fault { result ≡ Status.WriteFault → Rose (K.faults out.old) (K.faults out.new) }
     ensures zone_full { (wanted widest : ℕ) → result ≡ Status.ZoneFull wanted widest → ⊥ }
 {
@@ -125,10 +140,12 @@ fn perform_flat<S: Shelf, K: Sink>(
     out: &mut K,
 ) -> Status
     ensures ends { (files : List File) → Holds (S.view shelf.old) files →
-        EndsAt (S.view shelf.old).steady (job_verdict (flat name.now file.now) files) (K.written out.old) (K.written out.new) result }
+        EndsAt (S.view shelf.old).steady (job_verdict (flat name.now file.now) files)
+        (K.written out.old) (K.written out.new) result }
     ensures unwritten { IsUnwritten result → Grew (K.written out.old) (K.written out.new) [] }
     ensures not_usage { result ≡ Status.Usage → ⊥ }
-    ensures read_fault { result ≡ Status.ReadFault → Rose (S.view shelf.old).faults (S.view shelf.new).faults }
+    ensures read_fault { result ≡ Status.ReadFault →
+        Rose (S.view shelf.old).faults (S.view shelf.new).faults }
     ensures write_fault { result ≡ Status.WriteFault → Rose (K.faults out.old) (K.faults out.new) }
     ensures zone_full { (wanted widest : ℕ) → result ≡ Status.ZoneFull wanted widest → ⊥ }
 {

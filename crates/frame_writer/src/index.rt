@@ -14,7 +14,8 @@ use outside::{Failed, Sink};
 /// This project's own: a file of indices without a header.
 pub fn put_index<K: Sink>(sink: &mut K, frame: &[u8]) -> Result<(), Failed>
     requires { length frame.now ≡ FRAME_BYTES }
-    ensures { Writes (K.written sink.old) (K.written sink.new) (K.faults sink.old) (K.faults sink.new) frame.now result }
+    ensures { Writes (K.written sink.old) (K.written sink.new)
+        (K.faults sink.old) (K.faults sink.new) frame.now result }
 {
     sink.put(frame)
 }

@@ -31,7 +31,8 @@ const _: () = prove!(BANDS * BAND_BYTES == FRAME_BYTES);
 pub fn put_ppm<K: Sink>(sink: &mut K, frame: &[u8], playpal: &[u8]) -> Result<(), Failed>
     requires frame { length frame.now ≡ FRAME_BYTES }
     requires palette { length playpal.now ≡ PALETTE_BYTES }
-    ensures { Writes (K.written sink.old) (K.written sink.new) (K.faults sink.old) (K.faults sink.new) (ppm frame.now playpal.now) result }
+    ensures { Writes (K.written sink.old) (K.written sink.new)
+        (K.faults sink.old) (K.faults sink.new) (ppm frame.now playpal.now) result }
 {
     sink.put(HEADER)?;
     put_bands(sink, frame, playpal)
@@ -40,7 +41,8 @@ pub fn put_ppm<K: Sink>(sink: &mut K, frame: &[u8], playpal: &[u8]) -> Result<()
 fn put_bands<K: Sink>(sink: &mut K, frame: &[u8], playpal: &[u8]) -> Result<(), Failed>
     requires frame { length frame.now ≡ FRAME_BYTES }
     requires palette { length playpal.now ≡ PALETTE_BYTES }
-    ensures { Writes (K.written sink.old) (K.written sink.new) (K.faults sink.old) (K.faults sink.new) (flat_map (colour playpal.now) frame.now) result }
+    ensures { Writes (K.written sink.old) (K.written sink.new)
+        (K.faults sink.old) (K.faults sink.new) (flat_map (colour playpal.now) frame.now) result }
 {
     for band in 0..BANDS {
         let start = BAND_BYTES * band;
@@ -52,7 +54,8 @@ fn put_bands<K: Sink>(sink: &mut K, frame: &[u8], playpal: &[u8]) -> Result<(), 
 fn put_band<K: Sink>(sink: &mut K, band: &[u8], playpal: &[u8]) -> Result<(), Failed>
     requires band { length band.now ≡ BAND_BYTES }
     requires palette { length playpal.now ≡ PALETTE_BYTES }
-    ensures { Writes (K.written sink.old) (K.written sink.new) (K.faults sink.old) (K.faults sink.new) (flat_map (colour playpal.now) band.now) result }
+    ensures { Writes (K.written sink.old) (K.written sink.new)
+        (K.faults sink.old) (K.faults sink.new) (flat_map (colour playpal.now) band.now) result }
 {
     let mut colours = [0; COLOUR_BYTES * BAND_BYTES];
     fill(&mut colours, band, playpal);
