@@ -110,7 +110,6 @@ passed_by_walk w bs = walk_is w w bs ∙ passed_on_same w (opens bs) (gaps bs)
 pub found_by_walk : (w : ℕ) (bs : List Block) → walk_place w w None bs ≡ first_room w (gaps bs)
 found_by_walk w bs = walk_place_is w w None bs ∙ found_on_same w (opens bs) (gaps bs)
 
-
 abbrev pub widest_on : ℕ → Bool → List (List Block) → ℕ
 widest_on run false gs = widest gs
 widest_on run true [] = 0

@@ -79,7 +79,6 @@ fit_walk w (b ∷ bs) v place sum i e pos sized =
     fit_step w b bs v place sum i e sized.0 (fit_walk w bs w place 0 (i + 1) (omega arith) (omega arith) sized.1)
     (λ h. fit_walk w bs (v - b.size) (run_place place sum b.place) (sum + b.size) (i + 1) (omega arith) (omega arith) sized.1) (is_pinned b) refl
 
-
 -- a purgeable block is not pinned
 never_both : (h : Option Holding) → may_purge h ≡ true → pins h ≡ false
 never_both None p = refl
@@ -254,7 +253,6 @@ count_twice a ch (b ∷ bs) =
     let six = count_among-cons ch (cond (is_among a b) (purge_block b) b) (purge_among a bs) in
     let seven = count_twice a ch bs in
     omega arith
-
 
 pub tiles_end : (p q : ℕ) (bs : List Block) → Tiles p q bs → p + total bs ≡ q
 tiles_end p q [] t = omega arith

@@ -164,7 +164,6 @@ start_held r p q (b ∷ c ∷ bs) t a h =
       | inr e ↦ held_next r p q b c bs t a h e (starts_at r c) refl (start_held r (p + b.size) q (c ∷ bs) t.2 a.1 (next_place r p q b c bs t a h e))
     ]
 
-
 open_frees : (h : Option Holding) → pins h ≡ false → (place size : ℕ) → is_free (purge_block (record { place = place; size = size; holding = h })) ≡ true
 open_frees None e place size = refl
 open_frees (Some h) e place size = go (is_purgeable_tag h.tag) e where

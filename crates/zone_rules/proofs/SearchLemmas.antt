@@ -67,7 +67,6 @@ start_is r p q (b ∷ bs) t h = pick (cases_lt p r) (ends_free_at r b) refl (λ 
       let k : has_place r bs ≡ true = rw no at h in
       further r p q b bs t l e (has_low r (p + b.size) q bs t.2 k) (rest k)
 
-
 found_none : (w : ℕ) (gs : List (List Block)) → first_room w gs ≡ None → find (holds w) gs ≡ None
 found_none w gs e = go (find (holds w) gs) e where
   go : (o : Option (List Block)) → option_map first_place o ≡ None → o ≡ None

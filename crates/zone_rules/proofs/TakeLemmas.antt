@@ -85,7 +85,6 @@ module _ (p size wanted : ℕ) (h : Holding) where
     go false = (l.1, u.1)
   unique_cut_block (y ∷ front) rest l u = (owns_cut y.holding front rest l.0 u.0, unique_cut_block front rest l.1 u.1)
 
-
 module _ (l m : ℕ) where
   abbrev pub code : Owner → ℕ
   code o = cond (o.kind == 0) o.number (l + o.number)
