@@ -1,7 +1,5 @@
 // Levels from bytes, with values from outside the definitions: the made level of four cells, and
 // what its worked damages give.
-ghost use Rattle.std.specs.Prelude.{◌≡◌, ◌<◌, ◌≤◌, ◌*◌, length};
-
 use super::*;
 use lump_rules::Name8;
 use std::alloc::{AllocError, Global};
@@ -36,10 +34,32 @@ const NODES: [i16; 42] = [
     1,
 ];
 
-// The bytes of these numbers.
-fn bytes_of(alloc: Global, words: &[i16]) -> Result<Vec<u8>, AllocError> {
+// The numbers of a lump by its number.
+fn words(lump: usize) -> &'static [i16] {
+    match lump {
+        0 => &THINGS,
+        1 => &LINES,
+        3 => &VERTEXES,
+        4 => &SEGS,
+        5 => &LEAVES,
+        _ => &NODES,
+    }
+}
+
+// The offsets and names of each side.
+fn side_front() -> &'static [u8] {
+    b"\x01\x00\xff\xffWALL1\x00\x00\x00wall2\x00\x00\x00-\x00\x00\x00\x00\x00\x00\x00"
+}
+
+// The bytes of each sector.
+fn sector() -> &'static [u8] {
+    b"\x08\x00\xa0\x00FLAT1\x00\x00\x00FLAT0\x00\x00\x00p\x00\x00\x00\x00\x00"
+}
+
+// The bytes of a lump.
+fn bytes_of(alloc: Global, lump: usize) -> Result<Vec<u8>, AllocError> {
     let mut bytes = Vec::new(alloc);
-    for word in words {
+    for word in words(lump) {
         bytes.extend_from_slice(&word.to_le_bytes())?;
     }
     Ok(bytes)
@@ -49,9 +69,7 @@ fn bytes_of(alloc: Global, words: &[i16]) -> Result<Vec<u8>, AllocError> {
 fn side_bytes(alloc: Global) -> Result<Vec<u8>, AllocError> {
     let mut bytes = Vec::new(alloc);
     for n in 0..16u16 {
-        bytes.extend_from_slice(
-            b"\x01\x00\xff\xffWALL1\x00\x00\x00wall2\x00\x00\x00-\x00\x00\x00\x00\x00\x00\x00",
-        )?;
+        bytes.extend_from_slice(side_front())?;
         bytes.extend_from_slice(&(n / 4).to_le_bytes())?;
     }
     Ok(bytes)
@@ -61,9 +79,7 @@ fn side_bytes(alloc: Global) -> Result<Vec<u8>, AllocError> {
 fn sector_bytes(alloc: Global) -> Result<Vec<u8>, AllocError> {
     let mut bytes = Vec::new(alloc);
     for _ in 0..4 {
-        bytes.extend_from_slice(
-            b"\x08\x00\xa0\x00FLAT1\x00\x00\x00FLAT0\x00\x00\x00p\x00\x00\x00\x00\x00",
-        )?;
+        bytes.extend_from_slice(sector())?;
     }
     Ok(bytes)
 }
@@ -71,13 +87,13 @@ fn sector_bytes(alloc: Global) -> Result<Vec<u8>, AllocError> {
 // The bytes of the eight lumps.
 fn lumps(alloc: Global) -> Result<[Vec<u8>; 8], AllocError> {
     Ok([
-        bytes_of(alloc, &THINGS)?,
-        bytes_of(alloc, &LINES)?,
+        bytes_of(alloc, 0)?,
+        bytes_of(alloc, 1)?,
         side_bytes(alloc)?,
-        bytes_of(alloc, &VERTEXES)?,
-        bytes_of(alloc, &SEGS)?,
-        bytes_of(alloc, &LEAVES)?,
-        bytes_of(alloc, &NODES)?,
+        bytes_of(alloc, 3)?,
+        bytes_of(alloc, 4)?,
+        bytes_of(alloc, 5)?,
+        bytes_of(alloc, 6)?,
         sector_bytes(alloc)?,
     ])
 }
@@ -97,39 +113,60 @@ fn level(alloc: Global, lumps: &[Vec<u8>; 8]) -> Result<Level, MapFault> {
     builder.finish(alloc)
 }
 
+const UNIT: i32 = 65536;
+
 #[test]
-fn the_lists_of_a_level_are_those_of_its_lumps(rt: HostRuntime) {
+fn things_sides_and_sectors_are_those_of_their_lumps(rt: HostRuntime) {
     let lumps = lumps(rt.alloc()).expect(&rt, "memory");
     let level = level(rt.alloc(), &lumps).expect(&rt, "level");
-    let unit = 65536;
-    assert_eq!(rt; level.root(), Child::Node(2));
-    assert_eq!(rt; level.things().len(), 2);
     let thing = Thing {
-        x: 192 * unit,
-        y: 64 * unit,
+        x: 192 * UNIT,
+        y: 64 * UNIT,
         angle: 45,
         kind: 2035,
         options: 7,
     };
-    assert_eq!(rt; level.things()[1], thing);
-    assert_eq!(rt; level.segs().len(), 16);
+    assert_eq!(rt; level.things().last().copied(), Some(thing));
+    let side = Side {
+        x_offset: UNIT,
+        y_offset: -UNIT,
+        top: Name8::from_bytes(*b"WALL1\0\0\0"),
+        bottom: Name8::from_bytes(*b"WALL2\0\0\0"),
+        middle: Name8::from_bytes(*b"-\0\0\0\0\0\0\0"),
+        sector: 3,
+    };
+    assert_eq!(rt; level.sides().last().copied(), Some(side));
+    let sector = Sector {
+        floor: 8 * UNIT,
+        ceiling: 160 * UNIT,
+        floor_name: Name8::from_bytes(*b"FLAT1\0\0\0"),
+        ceiling_name: Name8::from_bytes(*b"FLAT0\0\0\0"),
+        light: 112,
+    };
+    assert_eq!(rt; level.sectors().last().copied(), Some(sector));
+}
+
+#[test]
+fn segs_leaves_and_nodes_have_what_they_name(rt: HostRuntime) {
+    let lumps = lumps(rt.alloc()).expect(&rt, "memory");
+    let level = level(rt.alloc(), &lumps).expect(&rt, "level");
     let one_sided = Seg {
-        x1: 128 * unit,
-        y1: 0,
-        x2: 0,
-        y2: 0,
-        angle: 0x8000_0000,
+        x1: 256 * UNIT,
+        y1: 256 * UNIT,
+        x2: 256 * UNIT,
+        y2: 128 * UNIT,
+        angle: 0xc000_0000,
         offset: 0,
         flags: 1,
-        side: 0,
-        front: 0,
+        side: 15,
+        front: 3,
         back: None,
     };
-    assert_eq!(rt; level.segs()[0], one_sided);
+    assert_eq!(rt; level.segs().last().copied(), Some(one_sided));
     let two_sided = Seg {
-        x1: 128 * unit,
-        y1: 128 * unit,
-        x2: 128 * unit,
+        x1: 128 * UNIT,
+        y1: 128 * UNIT,
+        x2: 128 * UNIT,
         y2: 0,
         angle: 0xc000_0000,
         offset: 0,
@@ -138,184 +175,148 @@ fn the_lists_of_a_level_are_those_of_its_lumps(rt: HostRuntime) {
         front: 0,
         back: Some(1),
     };
-    assert_eq!(rt; level.segs()[3], two_sided);
-    assert_eq!(rt; level.leaves().len(), 4);
-    assert_eq!(rt;
-        level.leaves()[2],
-        Leaf {
-            first: 8,
-            count: 4,
-            sector: 2
-        }
-    );
-    assert_eq!(rt; level.nodes().len(), 3);
+    assert_eq!(rt; level.segs().get(3).copied(), Some(two_sided));
+    let leaf = Leaf {
+        first: 12,
+        count: 4,
+        sector: 3,
+    };
+    assert_eq!(rt; level.leaves().last().copied(), Some(leaf));
     let top = Node {
         line: Partition4 {
-            x: 128 * unit,
+            x: 128 * UNIT,
             y: 0,
             dx: 0,
-            dy: 256 * unit,
+            dy: 256 * UNIT,
         },
         boxes: [
             Box4 {
-                top: 256 * unit,
+                top: 256 * UNIT,
                 bottom: 0,
-                left: 128 * unit,
-                right: 256 * unit,
+                left: 128 * UNIT,
+                right: 256 * UNIT,
             },
             Box4 {
-                top: 256 * unit,
+                top: 256 * UNIT,
                 bottom: 0,
                 left: 0,
-                right: 128 * unit,
+                right: 128 * UNIT,
             },
         ],
         children: [Child::Node(0), Child::Node(1)],
     };
-    assert_eq!(rt; level.nodes()[2], top);
-    assert_eq!(rt; level.nodes()[0].children, [Child::Leaf(1), Child::Leaf(3)]);
-    assert_eq!(rt; level.sides().len(), 16);
-    let side = Side {
-        x_offset: unit,
-        y_offset: -unit,
-        top: Name8::from_bytes(*b"WALL1\0\0\0"),
-        bottom: Name8::from_bytes(*b"WALL2\0\0\0"),
-        middle: Name8::from_bytes(*b"-\0\0\0\0\0\0\0"),
-        sector: 1,
-    };
-    assert_eq!(rt; level.sides()[7], side);
-    assert_eq!(rt; level.sectors().len(), 4);
-    let sector = Sector {
-        floor: 8 * unit,
-        ceiling: 160 * unit,
-        floor_name: Name8::from_bytes(*b"FLAT1\0\0\0"),
-        ceiling_name: Name8::from_bytes(*b"FLAT0\0\0\0"),
-        light: 112,
-    };
-    assert_eq!(rt; level.sectors()[3], sector);
+    assert_eq!(rt; level.nodes().last().copied(), Some(top));
+    assert_eq!(rt; level.root(), Child::Node(2));
 }
 
-// The same lumps with the two bytes at `place` of one of them changed.
-fn damaged(alloc: Global, lump: usize, place: usize, word: u16) -> Result<[Vec<u8>; 8], AllocError>
-    requires { lump < 8 }
-{
-    let mut lumps = lumps(alloc)?;
-    let bytes = word.to_le_bytes();
-    if place + 1 < lumps[lump].len() {
-        lumps[lump][place] = bytes[0];
-        lumps[lump][place + 1] = bytes[1];
+// Two bytes of a lump, and what is refused where they have this value.
+#[derive(Clone, Copy)]
+struct Damage {
+    lump: usize,
+    place: usize,
+    word: u16,
+    refusal: MapRefusal,
+}
+
+// The damages of the made level, with what is refused first.
+fn damages() -> [Damage; 7] {
+    [
+        Damage {
+            lump: 5,
+            place: 0,
+            word: 0,
+            refusal: MapRefusal::EmptyLeaf { leaf: 0 },
+        },
+        Damage {
+            lump: 1,
+            place: 10,
+            word: 9999,
+            refusal: index(1, 0, 5),
+        },
+        Damage {
+            lump: 6,
+            place: 80,
+            word: 2,
+            refusal: MapRefusal::NodeTwice { node: 2 },
+        },
+        Damage {
+            lump: 6,
+            place: 82,
+            word: 32772,
+            refusal: index(6, 2, 13),
+        },
+        Damage {
+            lump: 5,
+            place: 14,
+            word: 13,
+            refusal: index(5, 3, 1),
+        },
+        Damage {
+            lump: 4,
+            place: 8,
+            word: 1,
+            refusal: index(4, 0, 4),
+        },
+        Damage {
+            lump: 2,
+            place: 478,
+            word: 4,
+            refusal: index(2, 15, 5),
+        },
+    ]
+}
+
+fn index(lump: u64, record_no: u64, field: u64) -> MapRefusal {
+    MapRefusal::Index {
+        lump,
+        record_no,
+        field,
     }
-    Ok(lumps)
 }
 
-#[test]
-fn each_damage_is_refused_by_its_first_fault(rt: HostRuntime) {
-    let rows = [
-        (5, 0, 0, MapRefusal::EmptyLeaf { leaf: 0 }),
-        (
-            1,
-            10,
-            9999,
-            MapRefusal::Index {
-                lump: 1,
-                record_no: 0,
-                field: 5,
-            },
-        ),
-        (6, 80, 2, MapRefusal::NodeTwice { node: 2 }),
-        (
-            6,
-            82,
-            32772,
-            MapRefusal::Index {
-                lump: 6,
-                record_no: 2,
-                field: 13,
-            },
-        ),
-        (6, 82, 0, MapRefusal::NodeTwice { node: 0 }),
-        (
-            5,
-            14,
-            13,
-            MapRefusal::Index {
-                lump: 5,
-                record_no: 3,
-                field: 1,
-            },
-        ),
-        (
-            4,
-            8,
-            1,
-            MapRefusal::Index {
-                lump: 4,
-                record_no: 0,
-                field: 4,
-            },
-        ),
-        (
-            4,
-            8,
-            2,
-            MapRefusal::Index {
-                lump: 4,
-                record_no: 0,
-                field: 4,
-            },
-        ),
-        (
-            4,
-            6,
-            16,
-            MapRefusal::Index {
-                lump: 4,
-                record_no: 0,
-                field: 3,
-            },
-        ),
-        (
-            2,
-            478,
-            4,
-            MapRefusal::Index {
-                lump: 2,
-                record_no: 15,
-                field: 5,
-            },
-        ),
-    ];
-    for (lump, place, word, refusal) in rows {
-        let lumps = damaged(rt.alloc(), lump, place, word).expect(&rt, "memory");
-        match level(rt.alloc(), &lumps) {
-            Ok(_) => assert!(rt; false, "no refusal"),
-            Err(fault) => assert_eq!(rt; fault, MapFault::Refused(refusal)),
+// Puts two bytes in the place of those there.
+fn put(bytes: &mut [u8], place: usize, word: u16) {
+    if let Some(place) = bytes.get_mut(place..) {
+        for (to, from) in place.iter_mut().zip(word.to_le_bytes()) {
+            *to = from;
         }
     }
 }
 
+#[test]
+fn each_damage_is_refused_by_its_first_fault(rt: HostRuntime) {
+    for damage in damages() {
+        let mut lumps = lumps(rt.alloc()).expect(&rt, "memory");
+        if let Some(bytes) = lumps.get_mut(damage.lump) {
+            put(bytes, damage.place, damage.word);
+        }
+        let fault = level(rt.alloc(), &lumps).err();
+        assert_eq!(rt; fault, Some(MapFault::Refused(damage.refusal)));
+    }
+}
+
 // A chain of nodes: behind each is a leaf, and in front the node before it.
-fn chain(alloc: Global, length: u16) -> Result<[Vec<u8>; 8], AllocError> {
-    let mut lumps = lumps(alloc)?;
+fn chain(alloc: Global, length: u16) -> Result<Vec<u8>, AllocError> {
     let mut nodes = Vec::new(alloc);
+    let mut front = 32768u16;
     for n in 0..length {
         nodes.extend_from_slice(&[0; 24])?;
-        let front = if n == 0 { 32768 } else { n - 1 };
         nodes.extend_from_slice(&front.to_le_bytes())?;
         nodes.extend_from_slice(&32769u16.to_le_bytes())?;
+        front = n;
     }
-    lumps[6] = nodes;
-    Ok(lumps)
+    Ok(nodes)
 }
 
 #[test]
 fn a_chain_of_1024_nodes_is_taken_and_one_of_1025_is_too_deep(rt: HostRuntime) {
-    let deepest = chain(rt.alloc(), 1024).expect(&rt, "memory");
-    let level_1024 = level(rt.alloc(), &deepest).expect(&rt, "level");
-    assert_eq!(rt; level_1024.nodes().len(), 1024);
-    let deeper = chain(rt.alloc(), 1025).expect(&rt, "memory");
-    match level(rt.alloc(), &deeper) {
-        Ok(_) => assert!(rt; false, "no refusal"),
-        Err(fault) => assert_eq!(rt; fault, MapFault::Refused(MapRefusal::TooDeep { node: 0 })),
-    }
+    let mut lumps = lumps(rt.alloc()).expect(&rt, "memory");
+    lumps[6] = chain(rt.alloc(), 1024).expect(&rt, "memory");
+    assert!(rt; level(rt.alloc(), &lumps).is_ok());
+    lumps[6] = chain(rt.alloc(), 1025).expect(&rt, "memory");
+    let fault = level(rt.alloc(), &lumps).err();
+    assert_eq!(rt;
+        fault,
+        Some(MapFault::Refused(MapRefusal::TooDeep { node: 0 }))
+    );
 }
