@@ -1,0 +1,108 @@
+-- What a cache holds, and what a call keeps of it.
+use Rattle.std.specs.Prelude.{◌≡◌, ℕ, ◌<◌, Bool, true, false, List, length, Option, Some, None, IfSome, ⊤, ◌⊎◌, if◌then◌else◌, Result, Ok, Err, All}
+use Rattle.lump_rules.specs.declared.wad.Lump.{Lump}
+use Rattle.lump_rules.specs.Contents.{lump_bytes}
+use Rattle.zone_rules.specs.declared.Tag.{Tag}
+use Rattle.zone_rules.specs.declared.Tag.TheVariants.{Static, Level, Cache}
+use Rattle.zone_rules.specs.Zones.{Owner, Holding, Block, Heap, owner_at, owned_block, bytes_of, same_owner, is_pinned, is_purgeable, holding_of, block_size}
+use Rattle.zone_rules.specs.Requests.{gaps, widest, total}
+use Rattle.outside.specs.Told.{Told, zone_full, read_failed}
+use Rattle.lump_cache.specs.declared.fault.CacheFault.{CacheFault}
+use Rattle.lump_cache.specs.declared.fault.CacheFault.TheVariants.{ZoneFull, ReadFault}
+use Rattle.zone_rules.specs.Frees.{with_bytes, with_tag}
+
+-- who holds the blocks of lumps and of composites
+abbrev pub lump_owner : ℕ → Owner
+lump_owner number = owner_at 0 number
+
+abbrev pub composite_owner : ℕ → Owner
+composite_owner number = owner_at 1 number
+
+-- an owner's block has other bytes, as many as before, of which more is said
+pub record IsFilled (o : Owner) (old new : Heap) (P : List ℕ → Type 0) : Type 0 where
+  pub before : List ℕ
+  pub bytes : List ℕ
+  pub before_is : bytes_of o old.blocks ≡ Some before
+  pub len : length bytes ≡ length before
+  pub zone : new ≡ with_bytes o bytes old
+  pub says : P bytes
+
+-- each live lump has the bytes that its files have
+pub record IsFaithful (contents : List (List ℕ)) (lumps : List Lump) (z : Heap) : Type 0 where
+  pub at : (number : ℕ) → number < length lumps → IfSome (bytes_of (lump_owner number) z.blocks) (λ bytes. bytes ≡ lump_bytes contents lumps number)
+
+-- a block that is pinned for the whole run, of so many bytes
+abbrev pub IsStatic : ℕ → Option Holding → Type 0
+IsStatic size None = ⊥
+IsStatic size (Some h) = (h.tag ≡ Static) × (h.asked ≡ size)
+
+abbrev pub IsUnpinned : Option Block → Type 0
+IsUnpinned None = ⊤
+IsUnpinned (Some b) = is_pinned b ≡ false
+
+-- the colormap of that size stands at place 0, pinned for the whole run, and no other block is pinned
+pub record IsAtRest (colormap size : ℕ) (z : Heap) : Type 0 where
+  pub block : Block
+  pub is : owned_block (lump_owner colormap) z.blocks ≡ Some block
+  pub place : block.place ≡ 0
+  pub pinned : IsStatic size block.holding
+  pub others : (o : Owner) → same_owner (lump_owner colormap) o ≡ false → IsUnpinned (owned_block o z.blocks)
+
+-- a slot that a call does not name: as it was, or empty where its block was purgeable
+abbrev pub MayPurge : Option Block → Type 0
+MayPurge None = ⊥
+MayPurge (Some b) = is_purgeable b ≡ true
+
+abbrev pub KeptOrPurged : Option Block → Option Block → Type 0
+KeptOrPurged old new = (new ≡ old) ⊎ ((new ≡ None) × MayPurge old)
+
+-- what a request for a live lump does: its tag changes, unless it is pinned for the whole run
+abbrev pub is_static_tag : Tag → Bool
+is_static_tag Static = true
+is_static_tag Level = false
+is_static_tag Cache = false
+
+abbrev pub holds_static : Option Holding → Bool
+holds_static None = false
+holds_static (Some h) = is_static_tag h.tag
+
+abbrev pub with_tag_unless_static : Owner → Tag → Heap → Heap
+with_tag_unless_static o tag z = if holds_static (holding_of o z.blocks) then z else with_tag o tag z
+
+-- a release makes a live block purgeable in the same way, and does nothing to an empty slot
+abbrev pub released_heap : Owner → Heap → Option Holding → Heap
+released_heap o z None = z
+released_heap o z (Some h) = with_tag_unless_static o Cache z
+
+abbrev pub release_heap : Owner → Heap → Heap
+release_heap o z = released_heap o z (holding_of o z.blocks)
+
+-- what is said of an answer that the zone is full
+abbrev pub WhereFull : {A : Type 0} → Result A CacheFault → (ℕ → ℕ → Type 0) → Type 0
+WhereFull (Ok value) P = ⊤
+WhereFull (Err (ZoneFull wanted widest)) P = P wanted widest
+WhereFull (Err ReadFault) P = ⊤
+
+abbrev pub is_full : {A : Type 0} → Result A CacheFault → Bool
+is_full (Ok value) = false
+is_full (Err (ZoneFull wanted widest)) = true
+is_full (Err ReadFault) = false
+
+-- no gap holds the block of so many bytes
+pub record NoRoom (size : ℕ) (z : Heap) (wanted widest' : ℕ) : Type 0 where
+  pub wanted_is : wanted ≡ block_size size
+  pub widest_is : widest' ≡ widest (gaps z.blocks)
+  pub none : All (λ g. total g < block_size size) (gaps z.blocks)
+
+-- an owner has a new block of that tag and size
+abbrev pub HasUse : Tag → ℕ → Option Holding → Type 0
+HasUse tag size None = ⊥
+HasUse tag size (Some h) = (h.tag ≡ tag) × (h.asked ≡ size) × (length h.bytes ≡ size)
+
+abbrev pub HasBlock : Tag → ℕ → Option Block → Type 0
+HasBlock tag size None = ⊥
+HasBlock tag size (Some b) = HasUse tag size b.holding
+
+abbrev pub cache_told : CacheFault → Told ⊥
+cache_told (ZoneFull wanted widest) = zone_full wanted widest
+cache_told ReadFault = read_failed

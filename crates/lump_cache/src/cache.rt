@@ -1,0 +1,315 @@
+// The cache and its calls.
+//
+// Rules: `specs/Caches`, over `zone_rules`. The original: w_wad.c.
+ghost use Rattle.std.specs.Prelude.{◌≡◌, ◌<◌, ◌↔◌, ℕ, List, length, false, true, Ok, Err, Some, None, All, IfOk, IfSome, IsErr, IfErr, OnOk, OnErr, IsNone, IsTrue, option_map};
+ghost use Rattle.std.specs.Option.{option_copied};
+ghost use Rattle.std.specs.Borrow.{sem};
+ghost use Rattle.zone_heap.specs.Calls.{PairCalled};
+ghost use Rattle.zone_rules.specs.declared.Tag.TheVariants.{Level, Cache};
+ghost use Rattle.outside.specs.Shelf.{Follows, AllStand, counted};
+ghost use Rattle.outside.specs.Told.{HasCauses};
+ghost use Rattle.lump_rules.specs.Lookups.{lump_at};
+ghost use Rattle.lump_rules.specs.Contents.{lump_bytes};
+ghost use Rattle.lump_rules.specs.declared.wad.Lump.{Lump};
+ghost use Rattle.zone_rules.specs.Zones.{Owner, owner_at, slot_count, Heap, IsLive, IsSound, IsZoneSize, fresh_heap, bytes_of, block_size, holding_of, owned_block, same_owner};
+ghost use Rattle.zone_rules.specs.Requests.{gaps, total, widest, without_room, TakesBlock, block_left, passed_blocks, stretches};
+ghost use Rattle.zone_rules.specs.Frees.{without_block};
+ghost use Rattle.lump_cache.specs.Caches.{lump_owner, composite_owner, with_tag_unless_static, release_heap, is_static_tag, is_full, WhereFull, NoRoom, HasBlock, KeptOrPurged, IsFaithful, IsAtRest, cache_told};
+
+use crate::fault::CacheFault;
+use crate::read::{lump_slot, read_into};
+use outside::{Failed, Shelf};
+use std::alloc::Global;
+use std::marker::Model;
+use wad_dir::{Directory, LumpNo};
+use zone_heap::{CompositeKind, Slot, SlotKind, Tag, Zone, ZoneFull, ZoneMake};
+use zone_rules::SLOT_LIMIT;
+
+/// Whether the tag pins a block for the whole run.
+fn is_static(tag: Tag) -> bool
+    ensures { result ≡ is_static_tag tag }
+{
+    match tag {
+        Tag::Static => true,
+        Tag::Level => false,
+        Tag::Cache => false,
+    }
+}
+
+/// Takes a block for an empty lump and reads its bytes.
+fn take_and_read<S: Shelf>(
+    zone: &mut Zone,
+    shelf: &mut S,
+    dir: &Directory,
+    lump: LumpNo,
+    tag: Tag,
+) -> Result<(), CacheFault>
+    requires in_range { lump.0 < zone.old.lumps }
+    requires listed { lump.0 < length dir.now.lumps }
+    requires empty { IsNone (holding_of (lump_owner lump.0) zone.old.blocks) }
+    requires sound { IsSound zone.old }
+    ensures full { WhereFull result (NoRoom (lump_at dir.now.lumps lump.0).size zone.old) }
+    ensures full_where { All (λ g. total g < block_size (lump_at dir.now.lumps lump.0).size) (gaps zone.old.blocks) → is_full result ≡ true }
+    ensures block { OnOk result (HasBlock tag (lump_at dir.now.lumps lump.0).size (owned_block (lump_owner lump.0) zone.new.blocks)) }
+    ensures empty { OnErr result (owned_block (lump_owner lump.0) zone.new.blocks ≡ None) }
+    ensures others { (o : Owner) → same_owner (lump_owner lump.0) o ≡ false → KeptOrPurged (owned_block o zone.old.blocks) (owned_block o zone.new.blocks) }
+    ensures sound { IsSound zone.new }
+    ensures counts { zone.new.lumps ≡ zone.old.lumps }
+    ensures follows { Follows (S.view shelf.old) (S.view shelf.new) }
+    ensures causes { HasCauses cache_told (S.view shelf.old).faults (S.view shelf.new).faults result }
+    ensures bytes { (contents : List (List ℕ)) → AllStand (S.view shelf.old) dir.now.files contents → IfSome (bytes_of (lump_owner lump.0) zone.new.blocks) (λ xs. xs ≡ lump_bytes contents dir.now.lumps lump.0) }
+    ensures taken { OnOk result (0 < (lump_at dir.now.lumps lump.0).size → (S.view shelf.new).taken ≡ counted (S.view shelf.old).taken (lump_at dir.now.lumps lump.0).size) }
+    ensures untouched { (lump_at dir.now.lumps lump.0).size ≡ 0 → shelf.new ≡ shelf.old }
+{
+    let size = dir.size(lump);
+    zone.malloc(lump_slot(lump), size, tag)?;
+    if size == 0 {
+        return Ok(());
+    }
+    match read_into(zone, shelf, lump, dir.file(lump), dir.place(lump)) {
+        Ok(()) => Ok(()),
+        Err(Failed) => {
+            zone.free(lump_slot(lump));
+            Err(CacheFault::ReadFault)
+        }
+    }
+}
+
+/// Gives a block another tag, unless it is pinned for the whole run.
+fn retag<K: SlotKind>(zone: &mut Zone, slot: Slot<K>, held: Tag, tag: Tag)
+    requires in_range { slot.number < slot_count zone.old K.CODE }
+    requires held { option_map (λ h. h.tag) (holding_of (owner_at K.CODE slot.number) zone.old.blocks) ≡ Some held }
+    ensures zone { zone.new ≡ with_tag_unless_static (owner_at K.CODE slot.number) tag zone.old }
+    ensures sound { IsSound zone.old → IsSound zone.new }
+{
+    if !is_static(held) {
+        zone.change_tag(slot, tag);
+    }
+}
+
+/// Makes a lump live.
+fn fetch_lump<S: Shelf>(
+    zone: &mut Zone,
+    shelf: &mut S,
+    dir: &Directory,
+    lump: LumpNo,
+    tag: Tag,
+) -> Result<(), CacheFault>
+    requires in_range { lump.0 < zone.old.lumps }
+    requires listed { lump.0 < length dir.now.lumps }
+    requires sound { IsSound zone.old }
+    ensures hit { IsLive zone.old (lump_owner lump.0) → (result ≡ Ok tt) × (shelf.new ≡ shelf.old) × (zone.new ≡ with_tag_unless_static (lump_owner lump.0) tag zone.old) }
+    ensures full { WhereFull result (NoRoom (lump_at dir.now.lumps lump.0).size zone.old) }
+    ensures full_where { IsNone (holding_of (lump_owner lump.0) zone.old.blocks) → All (λ g. total g < block_size (lump_at dir.now.lumps lump.0).size) (gaps zone.old.blocks) → is_full result ≡ true }
+    ensures block { OnOk result (IsNone (holding_of (lump_owner lump.0) zone.old.blocks) → HasBlock tag (lump_at dir.now.lumps lump.0).size (owned_block (lump_owner lump.0) zone.new.blocks)) }
+    ensures empty { OnErr result (owned_block (lump_owner lump.0) zone.new.blocks ≡ None) }
+    ensures others { (o : Owner) → same_owner (lump_owner lump.0) o ≡ false → KeptOrPurged (owned_block o zone.old.blocks) (owned_block o zone.new.blocks) }
+    ensures sound { IsSound zone.new }
+    ensures counts { zone.new.lumps ≡ zone.old.lumps }
+    ensures follows { Follows (S.view shelf.old) (S.view shelf.new) }
+    ensures causes { HasCauses cache_told (S.view shelf.old).faults (S.view shelf.new).faults result }
+    ensures faithful { (contents : List (List ℕ)) → AllStand (S.view shelf.old) dir.now.files contents → IsFaithful contents dir.now.lumps zone.old → IsFaithful contents dir.now.lumps zone.new }
+    ensures rest { (colormap size : ℕ) → tag ≡ Cache → IsAtRest colormap size zone.old → IsAtRest colormap size zone.new }
+    ensures taken { OnOk result (IsNone (holding_of (lump_owner lump.0) zone.old.blocks) → 0 < (lump_at dir.now.lumps lump.0).size → (S.view shelf.new).taken ≡ counted (S.view shelf.old).taken (lump_at dir.now.lumps lump.0).size) }
+    ensures untouched { (lump_at dir.now.lumps lump.0).size ≡ 0 → shelf.new ≡ shelf.old }
+{
+    match zone.tag(lump_slot(lump)) {
+        None => take_and_read(zone, shelf, dir, lump, tag),
+        Some(held) => {
+            retag(zone, lump_slot(lump), held, tag);
+            Ok(())
+        }
+    }
+}
+
+/// Makes a live block purgeable, unless it is pinned for the whole run.
+fn release_block<K: SlotKind>(zone: &mut Zone, slot: Slot<K>)
+    requires { slot.number < slot_count zone.old K.CODE }
+    ensures { zone.new ≡ release_heap (owner_at K.CODE slot.number) zone.old }
+{
+    if let Some(held) = zone.tag(slot) {
+        retag(zone, slot, held, Tag::Cache);
+    }
+}
+
+/// The slot of a composite.
+fn composite_slot(number: u32) -> Slot<CompositeKind>
+    ensures { result.number ≡ number }
+{
+    Slot::new(number)
+}
+
+/// Lumps and composites in the blocks of a zone. Contracts see the zone.
+#[derive(Drop)]
+pub struct LumpCache {
+    zone: Zone,
+}
+
+impl Model for LumpCache {
+    ghost use Rattle.zone_rules.specs.Zones.{Owner, owner_at, slot_count, Heap, IsSound};
+
+    ghost Value = { Heap };
+
+    ghost view = { λ cache. cache.zone };
+
+    ghost invariant = { λ cache. IsSound cache.zone };
+}
+
+impl LumpCache {
+    ghost use Rattle.lump_cache.specs.Lending.{LendsBytes};
+
+    /// A cache over a zone of `size` bytes, with a slot for each lump of the directory and so many
+    /// for composites. No slot is live.
+    ///
+    /// Errors: `BadSize` exactly where the zone's size is refused; it comes first. `OutOfMemory`.
+    pub fn new(
+        alloc: Global,
+        dir: &Directory,
+        size: u32,
+        composites: u32,
+    ) -> Result<LumpCache, ZoneMake>
+        requires listed { length dir.now.lumps < SLOT_LIMIT }
+        requires composites { composites < SLOT_LIMIT }
+        ensures bad { (result ≡ Err ZoneMake.BadSize) ↔ (¬ IsZoneSize size) }
+        ensures fresh { IfOk result (λ cache. cache ≡ fresh_heap size (length dir.now.lumps) composites) }
+    {
+        match Zone::new(alloc, size, dir.count(), composites) {
+            Ok(zone) => Ok(LumpCache { zone }),
+            Err(fault) => Err(fault),
+        }
+    }
+
+    /// The zone under the cache.
+    pub fn zone(&self) -> &Zone
+        ensures { result.now ≡ self.now }
+    {
+        &self.zone
+    }
+
+    /// The bytes of a lump, or None exactly where it is not live.
+    pub fn bytes(&self, lump: LumpNo) -> Option<&[u8]>
+        requires { lump.0 < self.now.lumps }
+        ensures { option_copied result ≡ bytes_of (lump_owner lump.0) self.now.blocks }
+    {
+        self.zone.bytes(lump_slot(lump))
+    }
+
+    /// Makes a lump live: on a live slot only its tag changes, unless it is `Static`; else it takes a
+    /// block of the lump's size and reads the lump into it. Takes no memory.
+    ///
+    /// Errors: `ZoneFull` exactly where the slot is empty and no gap holds the block; `ReadFault` only
+    /// where the shelf's count of faults rose. After either the slot is empty, and every pinned block
+    /// stands.
+    ///
+    /// The original: `W_CacheLumpNum`, w_wad.c.
+    pub fn fetch<S: Shelf>(
+        &mut self,
+        shelf: &mut S,
+        dir: &Directory,
+        lump: LumpNo,
+        tag: Tag,
+    ) -> Result<(), CacheFault>
+        requires in_range { lump.0 < self.old.lumps }
+        requires listed { lump.0 < length dir.now.lumps }
+        ensures hit { IsLive self.old (lump_owner lump.0) → (result ≡ Ok tt) × (shelf.new ≡ shelf.old) × (self.new ≡ with_tag_unless_static (lump_owner lump.0) tag self.old) }
+        ensures full { WhereFull result (NoRoom (lump_at dir.now.lumps lump.0).size self.old) }
+        ensures full_where { IsNone (holding_of (lump_owner lump.0) self.old.blocks) → All (λ g. total g < block_size (lump_at dir.now.lumps lump.0).size) (gaps self.old.blocks) → is_full result ≡ true }
+        ensures block { OnOk result (IsNone (holding_of (lump_owner lump.0) self.old.blocks) → HasBlock tag (lump_at dir.now.lumps lump.0).size (owned_block (lump_owner lump.0) self.new.blocks)) }
+        ensures empty { OnErr result (owned_block (lump_owner lump.0) self.new.blocks ≡ None) }
+        ensures others { (o : Owner) → same_owner (lump_owner lump.0) o ≡ false → KeptOrPurged (owned_block o self.old.blocks) (owned_block o self.new.blocks) }
+        ensures counts { self.new.lumps ≡ self.old.lumps }
+        ensures follows { Follows (S.view shelf.old) (S.view shelf.new) }
+        ensures causes { HasCauses cache_told (S.view shelf.old).faults (S.view shelf.new).faults result }
+        ensures faithful { (contents : List (List ℕ)) → AllStand (S.view shelf.old) dir.now.files contents → IsFaithful contents dir.now.lumps self.old → IsFaithful contents dir.now.lumps self.new }
+        ensures rest { (colormap size : ℕ) → tag ≡ Cache → IsAtRest colormap size self.old → IsAtRest colormap size self.new }
+        ensures taken { OnOk result (IsNone (holding_of (lump_owner lump.0) self.old.blocks) → 0 < (lump_at dir.now.lumps lump.0).size → (S.view shelf.new).taken ≡ counted (S.view shelf.old).taken (lump_at dir.now.lumps lump.0).size) }
+        ensures untouched { (lump_at dir.now.lumps lump.0).size ≡ 0 → shelf.new ≡ shelf.old }
+    {
+        fetch_lump(&mut self.zone, shelf, dir, lump, tag)
+    }
+
+    /// Makes a live lump purgeable, unless its tag is `Static`. On an empty slot it does nothing.
+    pub fn release(&mut self, lump: LumpNo)
+        requires { lump.0 < self.old.lumps }
+        ensures cache { self.new ≡ release_heap (lump_owner lump.0) self.old }
+        ensures faithful { (contents : List (List ℕ)) (lumps : List Lump) → IsFaithful contents lumps self.old → IsFaithful contents lumps self.new }
+        ensures rest { (colormap size : ℕ) → IsAtRest colormap size self.old → IsAtRest colormap size self.new }
+        ensures others { (o : Owner) → same_owner (lump_owner lump.0) o ≡ false → owned_block o self.new.blocks ≡ owned_block o self.old.blocks }
+    {
+        release_block(&mut self.zone, lump_slot(lump));
+    }
+
+    /// Takes a pinned block of `size` bytes for an empty composite.
+    ///
+    /// Errors: `ZoneFull` exactly where no gap holds the block.
+    pub fn take_composite(&mut self, number: u32, size: u32) -> Result<(), ZoneFull>
+        requires in_range { number < self.old.composites }
+        requires empty { IsNone (holding_of (composite_owner number) self.old.blocks) }
+        ensures full { IsErr result ↔ All (λ g. total g < block_size size) (gaps self.old.blocks) }
+        ensures report { IfErr result (λ e. (e.wanted ≡ block_size size) × (e.widest ≡ widest (gaps self.old.blocks))) }
+        ensures err { OnErr result (self.new ≡ without_room (block_size size) self.old) }
+        ensures ok { OnOk result (TakesBlock self.old self.new (composite_owner number) size Level) }
+        ensures empty { OnErr result (owned_block (composite_owner number) self.new.blocks ≡ None) }
+        ensures others { (o : Owner) → same_owner (composite_owner number) o ≡ false → owned_block o self.new.blocks ≡ block_left (passed_blocks (block_size size) (stretches self.old.rover self.old.blocks)) (owned_block o self.old.blocks) }
+    {
+        self.zone.malloc(composite_slot(number), size, Tag::Level)
+    }
+
+    /// The bytes of a composite, or None exactly where it is not live.
+    pub fn composite(&self, number: u32) -> Option<&[u8]>
+        requires { number < self.now.composites }
+        ensures { option_copied result ≡ bytes_of (composite_owner number) self.now.blocks }
+    {
+        self.zone.bytes(composite_slot(number))
+    }
+
+    /// The bytes of a live composite, to be written. The slice keeps its length.
+    pub fn composite_mut(&mut self, number: u32) -> &mut [u8]
+        requires in_range { number < self.old.composites }
+        requires live { IsLive self.old (composite_owner number) }
+        ensures* lends { sem 𝓛 (LendsBytes self.entry (composite_owner number) result) }
+        ensures value { bytes_of (composite_owner number) self.old.blocks ≡ Some result.now }
+    {
+        self.zone.bytes_mut(composite_slot(number))
+    }
+
+    /// Calls `f` with the bytes of a live lump, and with those of a live composite, these to be
+    /// written, and returns what it returned.
+    pub fn lump_and_composite<R, F: FnOnce(&[u8], &mut [u8]) -> R>(
+        &mut self,
+        lump: LumpNo,
+        number: u32,
+        f: F,
+    ) -> R
+        requires callable { F.IsAlwaysCallable f }
+        requires lump_in_range { lump.0 < self.old.lumps }
+        requires in_range { number < self.old.composites }
+        requires lump_live { IsLive self.old (lump_owner lump.0) }
+        requires live { IsLive self.old (composite_owner number) }
+        ensures called { PairCalled F.FnOnce f (lump_owner lump.0) (composite_owner number) self.old self.new result }
+    {
+        self.zone.pair(lump_slot(lump), composite_slot(number), f)
+    }
+
+    /// Makes a live composite purgeable. On an empty slot it does nothing.
+    pub fn release_composite(&mut self, number: u32)
+        requires { number < self.old.composites }
+        ensures cache { self.new ≡ release_heap (composite_owner number) self.old }
+        ensures faithful { (contents : List (List ℕ)) (lumps : List Lump) → IsFaithful contents lumps self.old → IsFaithful contents lumps self.new }
+        ensures rest { (colormap size : ℕ) → IsAtRest colormap size self.old → IsAtRest colormap size self.new }
+        ensures others { (o : Owner) → same_owner (composite_owner number) o ≡ false → owned_block o self.new.blocks ≡ owned_block o self.old.blocks }
+    {
+        release_block(&mut self.zone, composite_slot(number));
+    }
+
+    /// Frees the block of a live composite.
+    pub fn drop_composite(&mut self, number: u32)
+        requires in_range { number < self.old.composites }
+        requires live { IsLive self.old (composite_owner number) }
+        ensures freed { self.new ≡ without_block (composite_owner number) self.old }
+        ensures empty { owned_block (composite_owner number) self.new.blocks ≡ None }
+        ensures others { (o : Owner) → same_owner (composite_owner number) o ≡ false → owned_block o self.new.blocks ≡ owned_block o self.old.blocks }
+    {
+        self.zone.free(composite_slot(number));
+    }
+}
