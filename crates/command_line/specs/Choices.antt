@@ -1,0 +1,64 @@
+-- The options of a job, by what clap finds: numbers within a range, the format, and which are absent.
+use Rattle.std.specs.Prelude.{ℕ, Bool, cond, not, ◌%◌, nat_le, ◌==◌, ◌&&◌, List, Option, Some, None, option_and_then, is_some, codes, bytes_eq}
+use Rattle.clap.specs.Words.{Row, Text, first_of}
+use Rattle.numerals.specs.Numerals.{numeral}
+use Rattle.command_line.specs.declared.command.Format.{Format}
+use Rattle.command_line.specs.declared.command.Format.TheVariants.{Index, Ppm}
+use Rattle.command_line.specs.declared.command.Settings.{Settings}
+use Rattle.command_line.specs.declared.choices.TheConstants.{DEFAULT_OPENINGS, DEFAULT_PLANES, DEFAULT_SIZE, DEFAULT_SKILL, DEFAULT_ZONE, MAX_OPENINGS, MAX_PLANES, MAX_SIZE, MAX_SKILL, MAX_ZONE, MIN_OPENINGS, MIN_PLANES, MIN_SIZE, MIN_SKILL, MIN_ZONE, ZONE_STEP}
+
+-- the number that a word writes, from low to high
+unfoldable pub number_within : ℕ → ℕ → Text → Option ℕ
+number_within low high text = option_and_then (λ n. cond (nat_le low n && nat_le n high) (Some n) None) (numeral text)
+
+-- the number of an option, or the default of one that is not given
+unfoldable pub number_option : ℕ → ℕ → ℕ → Option Text → Option ℕ
+number_option low high default None = Some default
+number_option low high default (Some text) = number_within low high text
+
+unfoldable pub multiple_of_step : ℕ → Option ℕ
+multiple_of_step size = cond (size % ZONE_STEP == 0) (Some size) None
+
+-- a size that a zone can have
+unfoldable pub zone_in : List Row → Option ℕ
+zone_in rows = option_and_then multiple_of_step (number_option MIN_ZONE MAX_ZONE DEFAULT_ZONE (first_of (codes "zone") rows))
+
+-- the numbers of a job over a level
+unfoldable pub settings_in : List Row → Option Settings
+settings_in rows =
+    option_and_then (λ zone.
+    option_and_then (λ skill.
+    option_and_then (λ size.
+    option_and_then (λ planes.
+    option_and_then (λ openings.
+    Some (record { zone = zone; skill = skill; size = size; planes = planes; openings = openings }))
+    (number_option MIN_OPENINGS MAX_OPENINGS DEFAULT_OPENINGS (first_of (codes "openings") rows)))
+    (number_option MIN_PLANES MAX_PLANES DEFAULT_PLANES (first_of (codes "planes") rows)))
+    (number_option MIN_SIZE MAX_SIZE DEFAULT_SIZE (first_of (codes "size") rows)))
+    (number_option MIN_SKILL MAX_SKILL DEFAULT_SKILL (first_of (codes "skill") rows)))
+    (zone_in rows)
+
+unfoldable pub format_named : Text → Option Format
+format_named name = cond (bytes_eq name (codes "index")) (Some Index) (cond (bytes_eq name (codes "ppm")) (Some Ppm) None)
+
+-- the format, index where none is given
+abbrev pub format_or_index : Option Text → Option Format
+format_or_index None = Some Index
+format_or_index (Some name) = format_named name
+
+unfoldable pub format_in : List Row → Option Format
+format_in rows = format_or_index (first_of (codes "format") rows)
+
+-- an option is not given
+abbrev pub lacks : Text → List Row → Bool
+lacks name rows = not (is_some (first_of name rows))
+
+-- none of the options of files is given; nor another one but the zone and the format; nor these
+unfoldable pub has_no_files : List Row → Bool
+has_no_files rows = lacks (codes "tables") rows && (lacks (codes "things") rows && (lacks (codes "path") rows && lacks (codes "weapon") rows))
+
+unfoldable pub has_no_settings : List Row → Bool
+has_no_settings rows = has_no_files rows && (lacks (codes "skill") rows && (lacks (codes "size") rows && (lacks (codes "planes") rows && lacks (codes "openings") rows)))
+
+unfoldable pub has_no_options : List Row → Bool
+has_no_options rows = has_no_settings rows && (lacks (codes "zone") rows && lacks (codes "format") rows)

@@ -1,0 +1,96 @@
+-- Which words are a command, and which command they are.
+use Rattle.std.specs.Prelude.{ℕ, Bool, cond, ◌==◌, ◌||◌, List, [], ◌∷◌, length, map, Option, Some, None, option_and_then, option_map, codes, bytes_eq}
+use Rattle.clap.specs.Words.{Row, Text, all_of, fault_of, first_of, matches_of}
+use Rattle.lump_rules.specs.Names.{name_of_text}
+use Rattle.command_line.specs.declared.command.Command.{Command}
+use Rattle.command_line.specs.declared.command.Command.TheVariants as command
+use Rattle.command_line.specs.declared.command.Format.{Format}
+use Rattle.command_line.specs.declared.command.MakeJob.{MakeJob}
+use Rattle.command_line.specs.declared.command.MakeJob.TheVariants.{Wad, Path, Tables, Things}
+use Rattle.command_line.specs.declared.command.SceneJob.{SceneJob}
+use Rattle.command_line.specs.declared.jobs.TheConstants.{MAX_COUNT, MIN_COUNT}
+use Rattle.command_line.specs.Simple.{simple_command}
+use Rattle.command_line.specs.Choices.{format_in, has_no_options, has_no_settings, number_within, zone_in}
+use Rattle.command_line.specs.Scenes.{ToldScene, are_wads, scene_job_in, scene_of, told_scene}
+
+-- a command, as text and numbers
+pub data Told : Type 0 where
+  flat : List ℕ → Text → Told
+  scene : SceneJob → ToldScene → List Text → Told
+  make : MakeJob → Told
+  exercise : ℕ → ℕ → Format → Told
+
+abbrev pub told : Command → Told
+told (command.Flat name file) = flat name file.now
+told (command.Scene job level wads) = scene job (told_scene level) (map (λ w. w.now) wads.items)
+told (command.Make job) = make job
+told (command.Exercise count zone format) = exercise count zone format
+
+-- the jobs that are built; the others are no command yet
+unfoldable pub is_built : Text → Bool
+is_built job = bytes_eq job (codes "flat") || bytes_eq job (codes "make")
+
+-- flat NAME FILE, and no option
+unfoldable pub flat_of : List Row → List Text → Option Told
+flat_of rows [] = None
+flat_of rows (name ∷ []) = None
+flat_of rows (name ∷ file ∷ []) = cond (has_no_options rows) (option_map (λ n. flat n file) (name_of_text name)) None
+flat_of rows (name ∷ file ∷ more ∷ rest) = None
+
+-- the number of made files
+unfoldable pub count_of : Text → Option ℕ
+count_of text = number_within MIN_COUNT MAX_COUNT text
+
+-- make tables and make things
+unfoldable pub plain_make : Text → Option MakeJob
+plain_make what = cond (bytes_eq what (codes "tables")) (Some Tables) (cond (bytes_eq what (codes "things")) (Some Things) None)
+
+-- make wad N and make path N
+unfoldable pub numbered_make : Text → Text → Option MakeJob
+numbered_make what text =
+    option_and_then (λ count. cond (bytes_eq what (codes "wad")) (Some (Wad count)) (cond (bytes_eq what (codes "path")) (Some (Path count)) None))
+    (count_of text)
+
+unfoldable pub make_job_of : List Text → Option MakeJob
+make_job_of [] = None
+make_job_of (what ∷ []) = plain_make what
+make_job_of (what ∷ count ∷ []) = numbered_make what count
+make_job_of (what ∷ count ∷ more ∷ rest) = None
+
+-- and no option
+unfoldable pub make_of : List Row → List Text → Option Told
+make_of rows rest = cond (has_no_options rows) (option_map make (make_job_of rest)) None
+
+unfoldable pub exercise_numbers : List Row → Text → Option (ℕ × ℕ × Format)
+exercise_numbers rows text =
+    option_and_then (λ count. option_and_then (λ zone. option_and_then (λ format. Some (count, zone, format)) (format_in rows)) (zone_in rows))
+    (count_of text)
+
+-- exercise N, and no option but the zone and the format
+unfoldable pub exercise_of : List Row → List Text → Option Told
+exercise_of rows [] = None
+exercise_of rows (count ∷ []) = cond (has_no_settings rows) (option_map (λ n. exercise n.0 n.1 n.2) (exercise_numbers rows count)) None
+exercise_of rows (count ∷ more ∷ rest) = None
+
+-- a job over a level in 1 to 16 WADs
+unfoldable pub scene_with : List Row → SceneJob → Text → List Text → Option Told
+scene_with rows job level wads = cond (are_wads wads) (option_map (λ s. scene job s wads) (scene_of rows level)) None
+
+unfoldable pub scene_command : List Row → Text → List Text → Option Told
+scene_command rows job [] = None
+scene_command rows job (level ∷ wads) = option_and_then (λ j. scene_with rows j level wads) (scene_job_in rows job)
+
+unfoldable pub job_named : List Row → Text → List Text → Option Told
+job_named rows job rest =
+    cond (bytes_eq job (codes "flat")) (flat_of rows rest)
+    (cond (bytes_eq job (codes "make")) (make_of rows rest)
+    (cond (bytes_eq job (codes "exercise")) (exercise_of rows rest)
+    (scene_command rows job rest)))
+
+-- the command of what clap found: a job that is built, and words after it
+unfoldable pub command_in : List Row → Option Told
+command_in rows = option_and_then (λ job. option_and_then (λ rest. cond (is_built job) (job_named rows job rest) None) (all_of (codes "rest") rows)) (first_of (codes "job") rows)
+
+-- the words are a command where clap finds no fault in them, and the table takes what it finds
+unfoldable pub command_of : List Text → Option Told
+command_of words = cond (length (fault_of simple_command words) == 0) (command_in (matches_of simple_command words)) None

@@ -1,0 +1,5 @@
+pub mod Simple
+pub mod Choices
+pub mod Scenes
+pub mod Commands
+pub mod Worked

@@ -1,0 +1,68 @@
+-- The jobs over a level: the level's name, the files, the numbers and the WADs.
+use Rattle.std.specs.Prelude.{ℕ, Bool, cond, nat_lt, nat_le, ◌&&◌, List, length, Option, Some, None, option_and_then, option_map, codes, bytes_eq}
+use Rattle.clap.specs.Words.{Row, Text, first_of}
+use Rattle.lump_rules.specs.Names.{name_of_text}
+use Rattle.command_line.specs.declared.command.Files.{Files}
+use Rattle.command_line.specs.declared.command.Scene.{Scene}
+use Rattle.command_line.specs.declared.command.SceneJob.{SceneJob}
+use Rattle.command_line.specs.declared.command.SceneJob.TheVariants.{Render, Audit, Limits, Trim, Trace}
+use Rattle.command_line.specs.declared.command.Settings.{Settings}
+use Rattle.command_line.specs.declared.scenes.TheConstants.{MAX_WADS}
+use Rattle.command_line.specs.Choices.{format_in, lacks, settings_in}
+
+-- the names of files, as text
+pub record ToldFiles : Type 0 where
+  pub tables : Text
+  pub things : Text
+  pub path : Text
+  pub weapon : Option Text
+
+abbrev pub told_files : Files → ToldFiles
+told_files files = record { tables = files.tables.now; things = files.things.now; path = files.path.now; weapon = option_map (λ w. w.now) files.weapon }
+
+-- a level and how it is looked at, as text and numbers
+pub record ToldScene : Type 0 where
+  pub map_name : List ℕ
+  pub files : ToldFiles
+  pub settings : Settings
+
+abbrev pub told_scene : Scene → ToldScene
+told_scene scene = record { map_name = scene.map; files = told_files scene.files; settings = scene.settings }
+
+unfoldable pub other_scene_job : Text → Option SceneJob
+other_scene_job job =
+    cond (bytes_eq job (codes "audit")) (Some Audit)
+    (cond (bytes_eq job (codes "limits")) (Some Limits)
+    (cond (bytes_eq job (codes "trim")) (Some Trim)
+    (cond (bytes_eq job (codes "trace")) (Some Trace) None)))
+
+-- `render` may have a format, the other jobs over a level have none
+unfoldable pub scene_job_in : List Row → Text → Option SceneJob
+scene_job_in rows job =
+    cond (bytes_eq job (codes "render")) (option_and_then (λ format. Some (Render format)) (format_in rows))
+    (cond (lacks (codes "format") rows) (other_scene_job job) None)
+
+-- three files must be given, and one may be
+unfoldable pub files_in : List Row → Option ToldFiles
+files_in rows =
+    option_and_then (λ tables.
+    option_and_then (λ things.
+    option_and_then (λ path.
+    Some (record { tables = tables; things = things; path = path; weapon = first_of (codes "weapon") rows }))
+    (first_of (codes "path") rows))
+    (first_of (codes "things") rows))
+    (first_of (codes "tables") rows)
+
+unfoldable pub scene_of : List Row → Text → Option ToldScene
+scene_of rows text =
+    option_and_then (λ name.
+    option_and_then (λ files.
+    option_and_then (λ settings.
+    Some (record { map_name = name; files = files; settings = settings }))
+    (settings_in rows))
+    (files_in rows))
+    (name_of_text text)
+
+-- 1 to 16 WADs
+unfoldable pub are_wads : List Text → Bool
+are_wads wads = nat_lt 0 (length wads) && nat_le (length wads) MAX_WADS

@@ -1,0 +1,186 @@
+// The options of a job by their values: numbers within a range, and the format.
+
+ghost use Rattle.std.specs.Prelude.{◌≡◌, ◌≤◌, IfSome, option_map};
+ghost use Rattle.clap.specs.Words.{found_of, rows_of};
+ghost use Rattle.command_line.specs.Choices.{format_in, format_named, has_no_files, has_no_options, has_no_settings, multiple_of_step, number_option, number_within, settings_in, zone_in};
+ghost use Rattle.command_line.specs.declared.command.Settings.{Settings};
+
+use crate::command::{Format, Settings};
+use crate::simple::value;
+use clap::ArgMatches;
+use numerals::numeral;
+
+/// The size of a zone in bytes: the least and greatest, what it is a multiple of, and the size
+/// where none is asked for.
+pub const MIN_ZONE: u32 = 64;
+
+pub const MAX_ZONE: u32 = 536_870_912;
+
+pub const ZONE_STEP: u32 = 4;
+
+pub const DEFAULT_ZONE: u32 = 6_291_456;
+
+/// The skill.
+pub const MIN_SKILL: u32 = 1;
+
+pub const MAX_SKILL: u32 = 5;
+
+pub const DEFAULT_SKILL: u32 = 3;
+
+/// The size of the view.
+pub const MIN_SIZE: u32 = 3;
+
+pub const MAX_SIZE: u32 = 11;
+
+pub const DEFAULT_SIZE: u32 = 11;
+
+/// The most planes of a view.
+pub const MIN_PLANES: u32 = 128;
+
+pub const MAX_PLANES: u32 = 1_024;
+
+pub const DEFAULT_PLANES: u32 = 128;
+
+/// The most openings of a view.
+pub const MIN_OPENINGS: u32 = 20_480;
+
+pub const MAX_OPENINGS: u32 = 245_760;
+
+pub const DEFAULT_OPENINGS: u32 = 20_480;
+
+// The number that a word writes, where it is from `low` to `high`.
+#[tactic(auto, unfolding(crate::specs::Choices::number_within))]
+pub(crate) fn number_within(low: u32, high: u32, text: &str) -> Option<u32>
+    ensures value { result ≡ number_within low high text.now }
+    ensures limit { IfSome result (λ n. n ≤ high) }
+{
+    match numeral(text.as_bytes()) {
+        None => None,
+        Some(n) => {
+            if low as u64 <= n && n <= high as u64 {
+                Some(n as u32)
+            } else {
+                None
+            }
+        }
+    }
+}
+
+// The number of an option, or the default of one that is not given.
+#[tactic(auto, unfolding(crate::specs::Choices::number_option))]
+fn number_option(low: u32, high: u32, default: u32, given: Option<&str>) -> Option<u32>
+    requires { default ≤ high }
+    ensures value { result ≡ number_option low high default (option_map (λ s. s.now) given.entry) }
+    ensures limit { IfSome result (λ n. n ≤ high) }
+{
+    match given {
+        None => Some(default),
+        Some(text) => number_within(low, high, text),
+    }
+}
+
+// A size that is a multiple of the step.
+#[tactic(auto, unfolding(crate::specs::Choices::multiple_of_step))]
+fn multiple_of_step(size: u32) -> Option<u32>
+    ensures { result ≡ multiple_of_step size }
+{
+    if size % ZONE_STEP == 0 {
+        Some(size)
+    } else {
+        None
+    }
+}
+
+// The size of the zone.
+#[tactic(auto, unfolding(crate::specs::Choices::zone_in))]
+pub(crate) fn zone_in(found: &ArgMatches<'_>) -> Option<u32>
+    ensures { result ≡ zone_in (rows_of (found_of found.now)) }
+{
+    let size = number_option(MIN_ZONE, MAX_ZONE, DEFAULT_ZONE, value(found, "zone"))?;
+    multiple_of_step(size)
+}
+
+// The numbers of a job over a level.
+#[tactic(auto, unfolding(crate::specs::Choices::settings_in))]
+pub(crate) fn settings_in(found: &ArgMatches<'_>) -> Option<Settings>
+    ensures { result ≡ settings_in (rows_of (found_of found.now)) }
+{
+    let zone = zone_in(found)?;
+    let skill = number_option(MIN_SKILL, MAX_SKILL, DEFAULT_SKILL, value(found, "skill"))?;
+    let size = number_option(MIN_SIZE, MAX_SIZE, DEFAULT_SIZE, value(found, "size"))?;
+    let planes = number_option(
+        MIN_PLANES,
+        MAX_PLANES,
+        DEFAULT_PLANES,
+        value(found, "planes"),
+    )?;
+    let openings = number_option(
+        MIN_OPENINGS,
+        MAX_OPENINGS,
+        DEFAULT_OPENINGS,
+        value(found, "openings"),
+    )?;
+    Some(Settings {
+        zone,
+        skill: skill as u8,
+        size: size as u8,
+        planes,
+        openings,
+    })
+}
+
+// The format, index where none is given.
+#[tactic(auto, unfolding(crate::specs::Choices::format_in))]
+pub(crate) fn format_in(found: &ArgMatches<'_>) -> Option<Format>
+    ensures { result ≡ format_in (rows_of (found_of found.now)) }
+{
+    match value(found, "format") {
+        None => Some(Format::Index),
+        Some(name) => format_named(name),
+    }
+}
+
+// The format of that name.
+#[tactic(auto, unfolding(crate::specs::Choices::format_named))]
+fn format_named(name: &str) -> Option<Format>
+    ensures { result ≡ format_named name.now }
+{
+    if name == "index" {
+        Some(Format::Index)
+    } else if name == "ppm" {
+        Some(Format::Ppm)
+    } else {
+        None
+    }
+}
+
+// Whether no file is given by an option.
+#[tactic(auto, unfolding(crate::specs::Choices::has_no_files))]
+fn has_no_files(found: &ArgMatches<'_>) -> bool
+    ensures { result ≡ has_no_files (rows_of (found_of found.now)) }
+{
+    value(found, "tables").is_none()
+        && value(found, "things").is_none()
+        && value(found, "path").is_none()
+        && value(found, "weapon").is_none()
+}
+
+// Whether no option is given but the zone and the format.
+#[tactic(auto, unfolding(crate::specs::Choices::has_no_settings))]
+pub(crate) fn has_no_settings(found: &ArgMatches<'_>) -> bool
+    ensures { result ≡ has_no_settings (rows_of (found_of found.now)) }
+{
+    has_no_files(found)
+        && value(found, "skill").is_none()
+        && value(found, "size").is_none()
+        && value(found, "planes").is_none()
+        && value(found, "openings").is_none()
+}
+
+// Whether no option is given.
+#[tactic(auto, unfolding(crate::specs::Choices::has_no_options))]
+pub(crate) fn has_no_options(found: &ArgMatches<'_>) -> bool
+    ensures { result ≡ has_no_options (rows_of (found_of found.now)) }
+{
+    has_no_settings(found) && value(found, "zone").is_none() && value(found, "format").is_none()
+}

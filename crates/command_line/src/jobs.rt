@@ -1,0 +1,254 @@
+// The job of the words, by its name and the words after it.
+
+ghost use Rattle.std.specs.Prelude.{◌≡◌, ◌≢◌, ◌==◌, true, false, [], Err, IfOk, IfErr, Some, None, map, option_map, codes, string_bytes};
+ghost use Rattle.clap.specs.Words.{found_of, rows_of};
+ghost use Rattle.command_line.specs.Commands.{command_in, command_of, count_of, exercise_of, flat_of, is_built, job_named, make_job_of, make_of, numbered_make, plain_make, scene_command, scene_with, exercise_numbers, told};
+
+use crate::choices::{format_in, has_no_options, has_no_settings, number_within, zone_in};
+use crate::command::{Command, CommandFault, Format, MakeJob, SceneJob};
+use crate::scenes::{are_wads, copied, scene_job_in, scene_of};
+use crate::simple::{matches, rest, value};
+use clap::ArgMatches;
+use lump_rules::Name8;
+use std::alloc::Global;
+
+/// The least and the greatest number of made files.
+pub const MIN_COUNT: u32 = 1;
+
+pub const MAX_COUNT: u32 = 32;
+
+/// The command of the words after the program's name.
+///
+/// Takes memory for what `clap` finds and for the list of WADs.
+///
+/// Errors: `Usage` exactly where the words are no command, if memory is found. `OutOfMemory`.
+///
+/// The original: `M_CheckParm`, m_argv.c, and `D_DoomMain`, d_main.c.
+#[tactic(auto, unfolding(crate::specs::Commands::command_of))]
+pub fn command_of<'a>(alloc: Global, words: &'a [String]) -> Result<Command<'a>, CommandFault>
+    ensures ok { IfOk result (λ command. command_of (map string_bytes words.now) ≡ Some (told command)) }
+    ensures usage { result ≡ Err CommandFault.Usage → command_of (map string_bytes words.now) ≡ None }
+{
+    match matches(alloc, words) {
+        Ok(found) => command_in(alloc, &found),
+        Err(fault) => Err(fault),
+    }
+}
+
+// The command of what clap found.
+#[tactic(auto, unfolding(crate::specs::Commands::command_in))]
+fn command_in<'a>(alloc: Global, found: &ArgMatches<'a>) -> Result<Command<'a>, CommandFault>
+    ensures ok { IfOk result (λ command. command_in (rows_of (found_of found.now)) ≡ Some (told command)) }
+    ensures usage { result ≡ Err CommandFault.Usage → command_in (rows_of (found_of found.now)) ≡ None }
+{
+    match value(found, "job") {
+        None => Err(CommandFault::Usage),
+        Some(job) => match rest(found) {
+            None => Err(CommandFault::Usage),
+            Some(rest) => {
+                if is_built(job) {
+                    job_named(alloc, found, job, rest)
+                } else {
+                    Err(CommandFault::Usage)
+                }
+            }
+        },
+    }
+}
+
+// Whether the job of that name is built.
+#[tactic(auto, unfolding(crate::specs::Commands::is_built))]
+fn is_built(job: &str) -> bool
+    ensures { result ≡ is_built job.now }
+{
+    job == "flat" || job == "make"
+}
+
+// The command of the job of that name.
+#[tactic(auto, unfolding(crate::specs::Commands::job_named))]
+fn job_named<'m, 'a>(
+    alloc: Global,
+    found: &ArgMatches<'a>,
+    job: &str,
+    rest: &'m [&'a str],
+) -> Result<Command<'a>, CommandFault>
+    ensures ok { IfOk result (λ command. job_named (rows_of (found_of found.now)) job.now (map (λ w. w.now) rest.now) ≡ Some (told command)) }
+    ensures usage { result ≡ Err CommandFault.Usage → job_named (rows_of (found_of found.now)) job.now (map (λ w. w.now) rest.now) ≡ None }
+{
+    if job == "flat" {
+        flat_of(found, rest)
+    } else if job == "make" {
+        make_of(found, rest)
+    } else if job == "exercise" {
+        exercise_of(found, rest)
+    } else {
+        scene_command(alloc, found, job, rest)
+    }
+}
+
+// The command flat NAME FILE.
+#[tactic(auto, unfolding(crate::specs::Commands::flat_of))]
+fn flat_of<'m, 'a>(found: &ArgMatches<'a>, rest: &'m [&'a str]) -> Result<Command<'a>, CommandFault>
+    ensures ok { IfOk result (λ command. flat_of (rows_of (found_of found.now)) (map (λ w. w.now) rest.now) ≡ Some (told command)) }
+    ensures usage { IfErr result (λ _. flat_of (rows_of (found_of found.now)) (map (λ w. w.now) rest.now) ≡ None) }
+{
+    match rest {
+        [name, file] => {
+            if !has_no_options(found) {
+                return Err(CommandFault::Usage);
+            }
+            match Name8::from_text(name) {
+                Some(name) => Ok(Command::Flat { name, file }),
+                None => Err(CommandFault::Usage),
+            }
+        }
+        _ => Err(CommandFault::Usage),
+    }
+}
+
+// The command make wad N, make path N, make tables or make things.
+#[tactic(auto, unfolding(crate::specs::Commands::make_of))]
+fn make_of<'m, 'a>(found: &ArgMatches<'a>, rest: &'m [&'a str]) -> Result<Command<'a>, CommandFault>
+    ensures ok { IfOk result (λ command. make_of (rows_of (found_of found.now)) (map (λ w. w.now) rest.now) ≡ Some (told command)) }
+    ensures usage { IfErr result (λ _. make_of (rows_of (found_of found.now)) (map (λ w. w.now) rest.now) ≡ None) }
+{
+    if !has_no_options(found) {
+        return Err(CommandFault::Usage);
+    }
+    match make_job_of(rest) {
+        Some(job) => Ok(Command::Make(job)),
+        None => Err(CommandFault::Usage),
+    }
+}
+
+// What is to be made.
+#[tactic(auto, unfolding(crate::specs::Commands::make_job_of))]
+fn make_job_of(rest: &[&str]) -> Option<MakeJob>
+    ensures { result ≡ make_job_of (map (λ w. w.now) rest.now) }
+{
+    match rest {
+        [what] => plain_make(what),
+        [what, count] => numbered_make(what, count),
+        _ => None,
+    }
+}
+
+// A file that is made without a number.
+#[tactic(auto, unfolding(crate::specs::Commands::plain_make))]
+fn plain_make(what: &str) -> Option<MakeJob>
+    ensures { result ≡ plain_make what.now }
+{
+    if what == "tables" {
+        Some(MakeJob::Tables)
+    } else if what == "things" {
+        Some(MakeJob::Things)
+    } else {
+        None
+    }
+}
+
+// A file that is made with a number.
+#[tactic(auto, unfolding(crate::specs::Commands::numbered_make))]
+fn numbered_make(what: &str, count: &str) -> Option<MakeJob>
+    ensures { result ≡ numbered_make what.now count.now }
+{
+    let count = count_of(count)?;
+    if what == "wad" {
+        Some(MakeJob::Wad(count))
+    } else if what == "path" {
+        Some(MakeJob::Path(count))
+    } else {
+        None
+    }
+}
+
+// The number of made files.
+#[tactic(auto, unfolding(crate::specs::Commands::count_of))]
+fn count_of(text: &str) -> Option<u8>
+    ensures { result ≡ count_of text.now }
+{
+    let count = number_within(MIN_COUNT, MAX_COUNT, text)?;
+    Some(count as u8)
+}
+
+// The command exercise N.
+#[tactic(auto, unfolding(crate::specs::Commands::exercise_of))]
+fn exercise_of<'m, 'a>(
+    found: &ArgMatches<'a>,
+    rest: &'m [&'a str],
+) -> Result<Command<'a>, CommandFault>
+    ensures ok { IfOk result (λ command. exercise_of (rows_of (found_of found.now)) (map (λ w. w.now) rest.now) ≡ Some (told command)) }
+    ensures usage { IfErr result (λ _. exercise_of (rows_of (found_of found.now)) (map (λ w. w.now) rest.now) ≡ None) }
+{
+    match rest {
+        [count] => {
+            if !has_no_settings(found) {
+                return Err(CommandFault::Usage);
+            }
+            match exercise_numbers(found, count) {
+                Some((count, zone, format)) => Ok(Command::Exercise {
+                    count,
+                    zone,
+                    format,
+                }),
+                None => Err(CommandFault::Usage),
+            }
+        }
+        _ => Err(CommandFault::Usage),
+    }
+}
+
+// The number of an exercise, the size of its zone and its format.
+#[tactic(auto, unfolding(crate::specs::Commands::exercise_numbers))]
+fn exercise_numbers(found: &ArgMatches<'_>, count: &str) -> Option<(u8, u32, Format)>
+    ensures { result ≡ exercise_numbers (rows_of (found_of found.now)) count.now }
+{
+    let count = count_of(count)?;
+    let zone = zone_in(found)?;
+    let format = format_in(found)?;
+    Some((count, zone, format))
+}
+
+// The command of a job over a level.
+#[tactic(auto, unfolding(crate::specs::Commands::scene_command))]
+fn scene_command<'m, 'a>(
+    alloc: Global,
+    found: &ArgMatches<'a>,
+    job: &str,
+    rest: &'m [&'a str],
+) -> Result<Command<'a>, CommandFault>
+    ensures ok { IfOk result (λ command. scene_command (rows_of (found_of found.now)) job.now (map (λ w. w.now) rest.now) ≡ Some (told command)) }
+    ensures usage { result ≡ Err CommandFault.Usage → scene_command (rows_of (found_of found.now)) job.now (map (λ w. w.now) rest.now) ≡ None }
+{
+    match rest.split_first() {
+        None => Err(CommandFault::Usage),
+        Some((level, wads)) => match scene_job_in(found, job) {
+            None => Err(CommandFault::Usage),
+            Some(job) => scene_with(alloc, found, job, level, wads),
+        },
+    }
+}
+
+// The command of a job over the level of that name in these WADs.
+#[tactic(auto, unfolding(crate::specs::Commands::scene_with))]
+fn scene_with<'a>(
+    alloc: Global,
+    found: &ArgMatches<'a>,
+    job: SceneJob,
+    level: &str,
+    wads: &[&'a str],
+) -> Result<Command<'a>, CommandFault>
+    ensures ok { IfOk result (λ command. scene_with (rows_of (found_of found.now)) job level.now (map (λ w. w.now) wads.now) ≡ Some (told command)) }
+    ensures usage { result ≡ Err CommandFault.Usage → scene_with (rows_of (found_of found.now)) job level.now (map (λ w. w.now) wads.now) ≡ None }
+{
+    if !are_wads(wads) {
+        return Err(CommandFault::Usage);
+    }
+    match scene_of(found, level) {
+        None => Err(CommandFault::Usage),
+        Some(scene) => match copied(alloc, wads) {
+            Ok(wads) => Ok(Command::Scene { job, scene, wads }),
+            Err(_) => Err(CommandFault::OutOfMemory),
+        },
+    }
+}

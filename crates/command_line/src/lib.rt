@@ -1,0 +1,21 @@
+//! The words of the command line, as a command: a job with its names, numbers and files.
+//!
+//! Rules: `specs/`, over `clap`'s own words for a simple command. Proved: the words are a command
+//! exactly where clap finds no fault in them and the table of jobs and options takes what it
+//! finds, and the command is that one. Tested only: that memory is found. This project's own: the
+//! original reads its words by `M_CheckParm`, m_argv.c.
+#![tactic(auto)]
+
+mod choices;
+mod command;
+mod jobs;
+mod scenes;
+mod simple;
+
+pub use crate::command::{
+    Command, CommandFault, Files, Format, MakeJob, Scene, SceneJob, Settings,
+};
+pub use crate::jobs::command_of;
+
+#[cfg(test)]
+mod tests;

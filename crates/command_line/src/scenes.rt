@@ -1,0 +1,97 @@
+// The jobs over a level: the level's name, the files, the numbers and the WADs.
+
+ghost use Rattle.std.specs.Prelude.{◌≡◌, [], Err, IfOk, Some, None, map, option_map};
+ghost use Rattle.clap.specs.Words.{found_of, rows_of};
+ghost use Rattle.command_line.specs.Scenes.{are_wads, files_in, other_scene_job, scene_job_in, scene_of, told_files, told_scene};
+
+use crate::choices::{format_in, settings_in};
+use crate::command::{Files, Scene, SceneJob};
+use crate::simple::value;
+use clap::ArgMatches;
+use lump_rules::Name8;
+use std::alloc::{AllocError, Global};
+
+/// The most WADs of a command.
+pub const MAX_WADS: usize = 16;
+
+// The job over a level of that name: `render` alone has a format.
+#[tactic(auto, unfolding(crate::specs::Scenes::scene_job_in))]
+pub(crate) fn scene_job_in(found: &ArgMatches<'_>, job: &str) -> Option<SceneJob>
+    ensures { result ≡ scene_job_in (rows_of (found_of found.now)) job.now }
+{
+    if job == "render" {
+        let format = format_in(found)?;
+        return Some(SceneJob::Render(format));
+    }
+    if value(found, "format").is_some() {
+        return None;
+    }
+    other_scene_job(job)
+}
+
+// The job over a level of that name, other than `render`.
+#[tactic(auto, unfolding(crate::specs::Scenes::other_scene_job))]
+fn other_scene_job(job: &str) -> Option<SceneJob>
+    ensures { result ≡ other_scene_job job.now }
+{
+    if job == "audit" {
+        Some(SceneJob::Audit)
+    } else if job == "limits" {
+        Some(SceneJob::Limits)
+    } else if job == "trim" {
+        Some(SceneJob::Trim)
+    } else if job == "trace" {
+        Some(SceneJob::Trace)
+    } else {
+        None
+    }
+}
+
+// The names of the files, where the three that are needed are there.
+#[tactic(auto, unfolding(crate::specs::Scenes::files_in))]
+fn files_in<'a>(found: &ArgMatches<'a>) -> Option<Files<'a>>
+    ensures { option_map told_files result ≡ files_in (rows_of (found_of found.now)) }
+{
+    let tables = value(found, "tables")?;
+    let things = value(found, "things")?;
+    let path = value(found, "path")?;
+    let weapon = value(found, "weapon");
+    Some(Files {
+        tables,
+        things,
+        path,
+        weapon,
+    })
+}
+
+// The level of that name, its files and its numbers.
+#[tactic(auto, unfolding(crate::specs::Scenes::scene_of))]
+pub(crate) fn scene_of<'a>(found: &ArgMatches<'a>, map: &str) -> Option<Scene<'a>>
+    ensures { option_map told_scene result ≡ scene_of (rows_of (found_of found.now)) map.now }
+{
+    let map = Name8::from_text(map)?;
+    let files = files_in(found)?;
+    let settings = settings_in(found)?;
+    Some(Scene {
+        map,
+        files,
+        settings,
+    })
+}
+
+// Whether there are 1 to 16 WADs.
+#[tactic(auto, unfolding(crate::specs::Scenes::are_wads))]
+pub(crate) fn are_wads(wads: &[&str]) -> bool
+    ensures { result ≡ are_wads (map (λ w. w.now) wads.now) }
+{
+    wads.len() > 0 && wads.len() <= MAX_WADS
+}
+
+// These words in a list of their own.
+pub(crate) fn copied<'a>(alloc: Global, words: &[&'a str]) -> Result<Vec<&'a str>, AllocError>
+    ensures { IfOk result (λ v. v.items ≡ words.now) }
+{
+    let mut list = Vec::new(alloc);
+    list.extend_from_slice(words)?;
+    Ok(list)
+}

@@ -1,0 +1,128 @@
+// The simple command as `clap` reads it: a job, options with one value each, and the rest.
+
+ghost use Rattle.std.specs.Prelude.{◌≡◌, ◌≢◌, true, false, [], IfOk, option_map, map, codes, string_bytes};
+ghost use Rattle.clap.specs.Words.{all_of, app_of, fault_of, first_of, found_of, kind_of, matches_of, new_rule, rows_of, rule_of};
+ghost use Rattle.command_line.specs.Simple.{bare_command, option_rule, rest_rule, simple_command, with_files, with_limits, with_option, with_settings};
+
+use crate::command::CommandFault;
+use clap::error::ErrorKind;
+use clap::{Arg, ArgAction, ArgMatches, Command, Error};
+use std::alloc::{AllocError, Global};
+
+// What clap finds in the words, or what stops it.
+#[tactic(auto, using(crate::proofs::SimpleLemmas::simple_rules))]
+pub(crate) fn matches<'a>(
+    alloc: Global,
+    words: &'a [String],
+) -> Result<ArgMatches<'a>, CommandFault>
+    ensures taken { IfOk result (λ m. fault_of simple_command (map string_bytes words.now) ≡ []) }
+    ensures rows { IfOk result (λ m. rows_of (found_of m) ≡ matches_of simple_command (map string_bytes words.now)) }
+    ensures usage { result ≡ Err CommandFault.Usage → fault_of simple_command (map string_bytes words.now) ≢ [] }
+{
+    match simple_command(alloc) {
+        Err(_) => Err(CommandFault::OutOfMemory),
+        Ok(command) => match command.try_get_matches_from(words) {
+            Ok(matches) => Ok(matches),
+            Err(error) => Err(fault_of(&error)),
+        },
+    }
+}
+
+// Why clap stopped.
+fn fault_of(error: &Error) -> CommandFault
+    ensures { result ≡ CommandFault.Usage → kind_of error.now ≢ ErrorKind.OutOfMemory }
+{
+    match error.kind() {
+        ErrorKind::OutOfMemory => CommandFault::OutOfMemory,
+        _ => CommandFault::Usage,
+    }
+}
+
+// The value of an option or of the job.
+#[tactic(auto, using(crate::proofs::SimpleLemmas::found_rows))]
+pub(crate) fn value<'a>(found: &ArgMatches<'a>, id: &str) -> Option<&'a str>
+    ensures { option_map (λ s. s.now) result ≡ first_of id.now (rows_of (found_of found.now)) }
+{
+    found.get_str(id)
+}
+
+// The words after the job.
+#[tactic(auto, using(crate::proofs::SimpleLemmas::found_rows))]
+pub(crate) fn rest<'m, 'a>(found: &'m ArgMatches<'a>) -> Option<&'m [&'a str]>
+    ensures { option_map (λ s. map (λ w. w.now) s.now) result ≡ all_of (codes "rest") (rows_of (found_of found.now)) }
+{
+    found.get_strs("rest")
+}
+
+// The command: a job, options, and then words of any number.
+#[tactic(auto, unfolding(crate::specs::Simple::simple_command))]
+fn simple_command<'a>(alloc: Global) -> Result<Command<'a>, AllocError>
+    ensures { IfOk result (λ c. app_of c ≡ simple_command) }
+{
+    let command = bare_command(alloc).arg(Arg::new(alloc, "job"))?;
+    let command = with_files(alloc, command)?;
+    let command = with_settings(alloc, command)?;
+    let command = with_limits(alloc, command)?;
+    command.arg(Arg::new(alloc, "rest").action(ArgAction::Append))
+}
+
+// The command without its arguments.
+fn bare_command<'a>(alloc: Global) -> Command<'a>
+    ensures { app_of result ≡ bare_command }
+{
+    Command::new(alloc, "doomview")
+        .no_binary_name(true)
+        .disable_help_flag(true)
+        .disable_version_flag(true)
+}
+
+// The command with the options of the files.
+#[tactic(auto, unfolding(crate::specs::Simple::with_files))]
+fn with_files<'a>(alloc: Global, command: Command<'a>) -> Result<Command<'a>, AllocError>
+    ensures { IfOk result (λ c. app_of c ≡ with_files (app_of command.entry)) }
+{
+    let command = with_option(alloc, command, "tables")?;
+    let command = with_option(alloc, command, "things")?;
+    let command = with_option(alloc, command, "path")?;
+    with_option(alloc, command, "weapon")
+}
+
+// The command with the options of the picture.
+#[tactic(auto, unfolding(crate::specs::Simple::with_settings))]
+fn with_settings<'a>(alloc: Global, command: Command<'a>) -> Result<Command<'a>, AllocError>
+    ensures { IfOk result (λ c. app_of c ≡ with_settings (app_of command.entry)) }
+{
+    let command = with_option(alloc, command, "format")?;
+    let command = with_option(alloc, command, "skill")?;
+    with_option(alloc, command, "size")
+}
+
+// The command with the options of the limits.
+#[tactic(auto, unfolding(crate::specs::Simple::with_limits))]
+fn with_limits<'a>(alloc: Global, command: Command<'a>) -> Result<Command<'a>, AllocError>
+    ensures { IfOk result (λ c. app_of c ≡ with_limits (app_of command.entry)) }
+{
+    let command = with_option(alloc, command, "zone")?;
+    let command = with_option(alloc, command, "planes")?;
+    with_option(alloc, command, "openings")
+}
+
+// The command with one more option.
+#[tactic(auto, unfolding(crate::specs::Simple::with_option))]
+fn with_option<'a>(
+    alloc: Global,
+    command: Command<'a>,
+    name: &'a str,
+) -> Result<Command<'a>, AllocError>
+    ensures { IfOk result (λ c. app_of c ≡ with_option (app_of command.entry) name.entry.now) }
+{
+    command.arg(option(alloc, name))
+}
+
+// An option that takes one value.
+fn option<'a>(alloc: Global, name: &'a str) -> Arg<'a>
+    ensures rule { rule_of result ≡ option_rule name.entry.now }
+    ensures local { result.global ≡ false }
+{
+    Arg::new(alloc, name).long(name)
+}

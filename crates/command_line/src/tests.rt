@@ -1,0 +1,76 @@
+use crate::{Command, CommandFault, MakeJob, command_of};
+use std::alloc::{AllocError, Global};
+use std::test::Fail;
+
+fn owned(alloc: Global, words: &[&str]) -> Result<Vec<String>, AllocError> {
+    let mut list = Vec::new(alloc);
+    for word in words {
+        let text = String::from_str(alloc, word)?;
+        list.push(text)?;
+    }
+    Ok(list)
+}
+
+// Whether these words are no command.
+fn is_usage(alloc: Global, words: &[&str]) -> bool {
+    match owned(alloc, words) {
+        Ok(list) => match command_of(alloc, &list) {
+            Err(fault) => fault == CommandFault::Usage,
+            Ok(_) => false,
+        },
+        Err(_) => false,
+    }
+}
+
+fn is_flat_tile(command: &Command<'_>) -> bool {
+    match command {
+        Command::Flat { name, file } => name.bytes() == *b"TILE\0\0\0\0" && *file == "-tiny.wad",
+        _ => false,
+    }
+}
+
+fn is_made(command: &Command<'_>, made: MakeJob) -> bool {
+    match command {
+        Command::Make(job) => *job == made,
+        _ => false,
+    }
+}
+
+#[test]
+fn a_flat_of_one_wad(rt: HostRuntime) -> Result<(), Fail> {
+    let alloc = rt.alloc();
+    match owned(alloc, &["flat", "tile", "--", "-tiny.wad"]) {
+        Ok(words) => match command_of(alloc, &words) {
+            Ok(command) => assert!(rt; is_flat_tile(&command)),
+            Err(_) => assert!(rt; false),
+        },
+        Err(_) => assert!(rt; false),
+    }
+    Ok(())
+}
+
+#[test]
+fn a_made_file(rt: HostRuntime) -> Result<(), Fail> {
+    let alloc = rt.alloc();
+    match owned(alloc, &["make", "wad", "10"]) {
+        Ok(words) => match command_of(alloc, &words) {
+            Ok(command) => assert!(rt; is_made(&command, MakeJob::Wad(10))),
+            Err(_) => assert!(rt; false),
+        },
+        Err(_) => assert!(rt; false),
+    }
+    Ok(())
+}
+
+#[test]
+fn words_that_are_no_command(rt: HostRuntime) -> Result<(), Fail> {
+    let alloc = rt.alloc();
+    assert!(rt; is_usage(alloc, &[]));
+    assert!(rt; is_usage(alloc, &["paint", "MAP01", "a.wad"]));
+    assert!(rt; is_usage(alloc, &["render", "MAP01"]));
+    assert!(rt; is_usage(alloc, &["flat", "TILE"]));
+    assert!(rt; is_usage(alloc, &["make", "wad", "33"]));
+    assert!(rt; is_usage(alloc, &["--zone", "4098", "make", "tables"]));
+    assert!(rt; is_usage(alloc, &["flat", "--help"]));
+    Ok(())
+}
