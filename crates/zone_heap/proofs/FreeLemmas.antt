@@ -1,13 +1,12 @@
 -- Records freed or given another tag, as the blocks that they spell.
-use Rattle.std.proofs.Common.{◌≡◌, ℕ, zero, suc, ◌+◌, ◌-◌, ◌<◌, Bool, true, false, cond, ◌&&◌, List, [], ◌∷◌, ◌++◌, length, take, drop, map, set, get_or, Option, Some, None, refl, sym, ap, ap₂, ◌∙◌, arith}
-use Rattle.std.specs.Prelude.{◌==◌}
+use Rattle.std.proofs.Common.{◌≡◌, ℕ, zero, suc, ◌+◌, ◌-◌, ◌<◌, Bool, true, false, cond, List, [], ◌∷◌, ◌++◌, length, take, drop, map, set, get_or, Option, Some, None, refl, sym, ap, ap₂, ◌∙◌, arith}
 use Rattle.std.proofs.lemmas.Bool.{cond-true, cond-false, false≢true}
 use Rattle.std.proofs.lemmas.List.{get_or-append_right, get_or-drop, get_or_default, length-map, length-take, length-drop, length-append}
 use Rattle.std.proofs.lemmas.List.Edits.{map_over_more}
 use Rattle.zone_heap.specs.declared.records.Record.{Record}
 use Rattle.zone_heap.specs.declared.records.Used.{Used}
 use Rattle.zone_rules.specs.declared.Tag.{Tag}
-use Rattle.zone_rules.specs.Zones.{Block, Holding, Owner, Lacks, OwnsOnce, Unique, is_held_by, holds_for, free_block, owned_block}
+use Rattle.zone_rules.specs.Zones.{Block, Holding, Owner, Lacks, Unique, is_held_by, holds_for, free_block, owned_block}
 use Rattle.zone_rules.specs.Frees.{free_owner, retag_block, set_tag}
 use Rattle.zone_heap.specs.Records.{block_of, blocks_of, holding_at, no_record, used_by, free_record, retag_at, set_use_tag}
 use Rattle.zone_rules.proofs.OwnerLemmas.{lacks_held}

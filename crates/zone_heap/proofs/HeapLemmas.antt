@@ -1,5 +1,5 @@
 -- A sound zone and the records that spell it: what its calls need and give back.
-use Rattle.std.proofs.Common.{◌≡◌, ℕ, ◌+◌, ◌*◌, ◌<◌, ◌≤◌, true, cond, ◌&&◌, List, [], ◌∷◌, ◌++◌, length, Option, Some, None, refl, sym, subst, ap, ap₂, ◌∙◌, arith, ◌/◌, drop}
+use Rattle.std.proofs.Common.{◌≡◌, ℕ, ◌+◌, ◌*◌, ◌<◌, ◌≤◌, true, cond, ◌&&◌, List, [], ◌∷◌, length, Option, Some, None, refl, sym, subst, ap, ap₂, ◌∙◌, arith, ◌/◌, drop}
 use Rattle.std.specs.Prelude.{◌==◌, is_none, vec_len, vec_capacity}
 use Rattle.std.proofs.lemmas.List.{length-map, length-take, length-drop}
 use Rattle.std.proofs.lemmas.List.Sums.{sum_by-cons}

@@ -1,6 +1,6 @@
 -- Each live block stands at its slot's home, so that the home finds it.
 use Rattle.std.proofs.Common.{◌≡◌, ℕ, zero, suc, ◌+◌, ◌-◌, ◌<◌, ◌≤◌, Bool, true, false, cond, ◌&&◌, List, [], ◌∷◌, ◌++◌, length, map, set, get_or, Option, Some, None, refl, sym, subst, ap, ◌∙◌, arith, inl, inr}
-use Rattle.std.specs.Prelude.{◌==◌, ◌⊎◌, ⊤, nat_lt, slice_index, is_none}
+use Rattle.std.specs.Prelude.{◌==◌, ◌⊎◌, nat_lt, slice_index}
 use Rattle.std.specs.List.Sorted.{IsNonDecreasingBy}
 use Rattle.std.proofs.lemmas.Bool.{cond-true, cond-false, false≢true, and_parts, eqb-true, cases_lt}
 use Rattle.std.proofs.lemmas.List.{get_or-set_same, get_or-set_other, get_or-map, length-map}
@@ -8,8 +8,8 @@ use Rattle.std.proofs.lemmas.List.Sorted.{IsNonDecreasingBy-from_default}
 use Rattle.zone_rules.specs.declared.Tag.{Tag}
 use Rattle.zone_heap.specs.declared.records.Record.{Record}
 use Rattle.zone_heap.specs.Records.{block_of, blocks_of, no_record, home_index, KnowsHolding, KnowsAll, LivesAt}
-use Rattle.zone_rules.specs.Zones.{Block, Holding, Owner, Heap, Tiles, Lacks, AllFit, FitsHolding, IsSound, is_free, is_held_by, holds_for, same_owner, free_block, owned_block}
-use Rattle.zone_rules.specs.Requests.{join_free, join_on, purge_among, passed_blocks, stretches, after_search, with_block, cut_block, take_at}
+use Rattle.zone_rules.specs.Zones.{Block, Holding, Owner, Heap, Tiles, Lacks, AllFit, FitsHolding, IsSound, is_free, is_held_by, holds_for, free_block, owned_block}
+use Rattle.zone_rules.specs.Requests.{join_free, join_on, passed_blocks, stretches, after_search, with_block, cut_block, take_at}
 use Rattle.zone_rules.specs.Walks.{RoomAt}
 use Rattle.zone_rules.specs.Frees.{free_owner, retag_block, set_tag, write_block, write_holding}
 use Rattle.zone_rules.proofs.ZoneLemmas.{Frees, purge_frees, release_frees}

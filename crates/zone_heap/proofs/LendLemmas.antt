@@ -1,5 +1,5 @@
 -- Bytes lent out of the region, as their block sees them.
-use Rattle.std.proofs.Common.{◌≡◌, ℕ, ◌+◌, ◌-◌, ◌<◌, ◌≤◌, List, [], ◌∷◌, ◌++◌, length, take, drop, map, Option, Some, None, refl, sym, subst, ap, ap₂, ◌∙◌, arith, Global, inl, inr, false}
+use Rattle.std.proofs.Common.{◌≡◌, ℕ, ◌+◌, ◌-◌, ◌≤◌, List, [], ◌∷◌, ◌++◌, length, take, drop, map, Option, Some, None, refl, sym, subst, ap, ap₂, ◌∙◌, arith, Global, inl, inr, false}
 use Rattle.std.specs.Prelude.{IsSome, option_map, option_and_then, vec_len, slice_range, ◌⊎◌, ◌==◌}
 use Rattle.std.specs.declared.vec.Vec.{Vec}
 use Rattle.std.proofs.lemmas.Bool.{cond-true, eq-eqb}
@@ -11,9 +11,9 @@ use Rattle.zone_heap.specs.View.{heap_of, IsZone}
 use Rattle.std.proofs.lemmas.List.{length-append, length-take, length-drop, take-append-le, drop-drop, take_all}
 use Rattle.zone_heap.specs.declared.records.Record.{Record}
 use Rattle.zone_heap.specs.declared.records.Used.{Used}
-use Rattle.zone_heap.specs.Records.{block_of, blocks_of, holding_at, KnowsHolding, KnowsAll}
+use Rattle.zone_heap.specs.Records.{blocks_of, holding_at, KnowsHolding, KnowsAll}
 use Rattle.zone_rules.specs.Zones.{Block, Holding, Owner, Heap, IsSound, Tiles, AllFit, FitsHolding, owned_block, holding_of, bytes_of, same_owner, block_size}
-use Rattle.zone_rules.specs.Loans.{overlay, overlay_holding, overlay_block, bytes_place, bytes_length, held_length, after_loan}
+use Rattle.zone_rules.specs.Loans.{overlay_holding, overlay_block, bytes_place, bytes_length, held_length, after_loan}
 use Rattle.zone_rules.proofs.LoanLemmas.{spliced, part_overlaid, overlay_sound, loan_is, owned_apart, owned_inside}
 use Rattle.zone_rules.proofs.PurgeLemmas.{tiles_le}
 

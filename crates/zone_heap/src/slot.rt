@@ -66,11 +66,3 @@ impl<K> Slot<K> {
         self.number
     }
 }
-
-pub fn code_of<K: SlotKind>(slot: Slot<K>) -> u8
-    ensures code { result ≡ K.CODE }
-    ensures small { result ≤ 1 }
-{
-    let _number = slot.number();
-    K::CODE
-}

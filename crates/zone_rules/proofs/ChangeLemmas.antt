@@ -1,9 +1,9 @@
 -- A change of each block that leaves it its place, its size and its owner: a new tag, or new bytes.
-use Rattle.std.proofs.Common.{◌≡◌, ℕ, ◌+◌, ◌≤◌, Bool, true, false, cond, ◌&&◌, List, [], ◌∷◌, length, map, Option, Some, None, refl, sym, subst, ap, ap₂, ◌∙◌}
+use Rattle.std.proofs.Common.{◌≡◌, ℕ, ◌+◌, Bool, true, false, cond, ◌&&◌, List, [], ◌∷◌, length, map, Option, Some, None, refl, sym, subst, ap, ap₂, ◌∙◌}
 use Rattle.std.specs.Prelude.{◌==◌, is_none, find, option_and_then}
-use Rattle.std.proofs.lemmas.Bool.{cond-true, cond-false, false≢true}
+use Rattle.std.proofs.lemmas.Bool.{cond-true, cond-false}
 use Rattle.zone_rules.specs.declared.Tag.{Tag}
-use Rattle.zone_rules.specs.Zones.{Block, Holding, Owner, Heap, Tiles, Apart, Lacks, OwnsOnce, Unique, AllFit, FitsHolding, IsSound, is_free, is_held_by, holds_for, starts_free, has_place, free_block, holding_of}
+use Rattle.zone_rules.specs.Zones.{Block, Holding, Owner, Heap, Tiles, Apart, Lacks, OwnsOnce, Unique, AllFit, FitsHolding, IsSound, is_free, is_held_by, starts_free, has_place, holding_of}
 use Rattle.zone_rules.specs.Frees.{retag_block, set_tag, with_tag, write_block, write_holding, with_bytes}
 use Rattle.zone_rules.proofs.OwnerLemmas.{retag_held, write_held, lacks_held}
 

@@ -1,13 +1,12 @@
 -- After a request that finds no room every purgeable block is purged.
-use Rattle.std.proofs.Common.{◌≡◌, ℕ, ◌+◌, ◌<◌, Bool, true, false, cond, ◌&&◌, List, [], ◌∷◌, ◌++◌, map, Option, Some, None, refl, sym, subst, ap, ap₂, ◌∙◌}
+use Rattle.std.proofs.Common.{◌≡◌, ℕ, ◌+◌, ◌<◌, Bool, true, false, cond, ◌&&◌, List, [], ◌∷◌, ◌++◌, map, Option, Some, None, refl, sym, subst, ap, ◌∙◌}
 use Rattle.std.specs.Prelude.{All}
-use Rattle.std.proofs.lemmas.Bool.{cond-true, cond-false, false≢true}
 use Rattle.std.proofs.lemmas.List.Elements.{All-nil, All-cons, All-head, All-tail}
-use Rattle.zone_rules.specs.Zones.{Block, Holding, Heap, IsSound, Tiles, is_free, is_purgeable, may_purge, is_purgeable_tag, free_block}
+use Rattle.zone_rules.specs.Zones.{Block, Heap, IsSound, Tiles, is_free, is_purgeable, free_block}
 use Rattle.zone_rules.specs.Requests.{gaps, stretches, passed_blocks, first_room, purge_among, purge_block, join_free, join_on, after_search, blocks_from, start_in}
 use Rattle.zone_rules.specs.Walks.{fit_from}
 use Rattle.zone_rules.proofs.PurgeLemmas.{unpinned, covers_after, covers_itself, purge_covered}
-use Rattle.zone_rules.proofs.SearchLemmas.{FitIs, NoFit, fit_is, no_fit, found_first, found_later}
+use Rattle.zone_rules.proofs.SearchLemmas.{NoFit, fit_is, no_fit, found_first, found_later}
 
 no_room_first : (w : ℕ) (gs hs : List (List Block)) → first_room w (gs ++ hs) ≡ None → first_room w gs ≡ None
 no_room_first w gs hs e = go (first_room w gs) refl where

@@ -1,14 +1,13 @@
 -- Bytes of a block that are written where they lie.
-use Rattle.std.proofs.Common.{◌≡◌, ℕ, zero, suc, ◌+◌, ◌-◌, ◌*◌, ◌/◌, ◌<◌, ◌≤◌, Bool, true, false, cond, ◌&&◌, List, [], ◌∷◌, ◌++◌, length, take, drop, map, get_or, Option, Some, None, refl, sym, subst, ap, ap₂, ◌∙◌, arith, inl, inr}
+use Rattle.std.proofs.Common.{◌≡◌, ℕ, zero, suc, ◌+◌, ◌-◌, ◌<◌, ◌≤◌, Bool, true, false, cond, List, [], ◌∷◌, ◌++◌, length, take, drop, map, get_or, Option, Some, None, refl, sym, subst, ap, ap₂, ◌∙◌, arith, inl, inr}
 use Rattle.std.specs.Prelude.{nat_le, nat_lt, ◌⊎◌, ◌==◌, slice_index, is_none, IsSome}
 use Rattle.std.proofs.lemmas.Bool.{cond-true, cond-false, cases_lt, le-leb, lt-leb, and_left, and_right, and_from, false≢true, eqb-true, eq-eqb}
-use Rattle.std.proofs.lemmas.List.{get_or-append-add, get_or_append_left, get_or-append_right, get_or-take, get_or-drop, length-take, length-drop, length-append, take_all}
+use Rattle.std.proofs.lemmas.List.{get_or_append_left, get_or-append_right, get_or-take, get_or-drop, length-take, length-drop, length-append}
 use Rattle.zone_rules.specs.Zones.{Owner, Holding, Block, Heap, IsSound, Tiles, Unique, AllFit, FitsHolding, Lacks, OwnsOnce, is_held_by, holds_for, owned_block, block_size, same_owner}
 use Rattle.zone_rules.specs.Frees.{with_bytes, write_block, write_holding}
-use Rattle.zone_rules.specs.Loans.{covers, overlay, overlay_holding, overlay_block, bytes_place, bytes_length, held_length, after_loan}
+use Rattle.zone_rules.specs.Loans.{covers, overlay, overlay_holding, overlay_block, bytes_place, held_length, after_loan}
 use Rattle.zone_rules.proofs.OwnerLemmas.{lacks_held, owner_eq}
 use Rattle.zone_rules.proofs.ChangeLemmas.{Keeps, Tiles-map, Apart-map, Unique-map, place_map}
-use Rattle.zone_rules.proofs.PurgeLemmas.{tiles_le}
 
 -- bytes put into a list from a place on, and the list not longer for it
 abbrev pub spliced : ℕ → List ℕ → List ℕ → List ℕ

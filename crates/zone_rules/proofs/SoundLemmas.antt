@@ -1,8 +1,8 @@
 -- Each change of a zone leaves it sound.
-use Rattle.std.proofs.Common.{◌≡◌, ℕ, ◌+◌, ◌*◌, ◌<◌, ◌≤◌, Bool, true, false, cond, ◌&&◌, List, [], ◌∷◌, ◌++◌, length, Option, Some, None, refl, sym, subst, ap, ap₂, ◌∙◌, arith, ◌/◌, ◌-◌, map}
-use Rattle.std.specs.Prelude.{◌==◌, is_none, IsNone, option_and_then, find, All}
+use Rattle.std.proofs.Common.{◌≡◌, ℕ, ◌+◌, ◌*◌, ◌<◌, ◌≤◌, Bool, true, false, cond, List, [], ◌∷◌, ◌++◌, length, Option, Some, None, refl, sym, subst, ap, ◌∙◌, arith}
+use Rattle.std.specs.Prelude.{◌==◌, IsNone, option_and_then, find, All}
 use Rattle.std.proofs.lemmas.Bool.{false≢true, cond-true, cond-false, eq-eqb, ne_eqb}
-use Rattle.zone_rules.specs.Zones.{Block, Holding, Owner, Heap, Tiles, Apart, Unique, AllFit, Lacks, IsSound, is_held_by, holds_for, starts_free, has_place, holding_of, free_block, block_size, owner_at, slot_count, OwnsOnce, FitsHolding, is_free}
+use Rattle.zone_rules.specs.Zones.{Block, Holding, Owner, Heap, Tiles, Apart, Unique, AllFit, Lacks, IsSound, is_held_by, holds_for, has_place, holding_of, free_block, block_size, owner_at, slot_count}
 use Rattle.zone_rules.specs.Requests.{total, purge_among, passed_blocks, stretches, after_search, take_at, with_block, without_room, cut_block, gaps, widest, first_room, blocks_from, start_in, join_free}
 use Rattle.zone_rules.specs.Walks.{RoomAt, starts_at}
 use Rattle.zone_rules.proofs.GapLemmas.{wider_whole, none_found, some_found, widest-append, all_small, small_all}
@@ -12,8 +12,7 @@ use Rattle.zone_rules.proofs.ZoneLemmas.{Tiles-freed, Unique-freed, AllFit-freed
 use Rattle.zone_rules.proofs.TakeLemmas.{room_left, InRange, take_at_is, tiles_cut_block, apart_cut_block, fit_cut_block, unique_cut_block}
 use Rattle.std.specs.List.{position_or_len}
 use Rattle.zone_rules.proofs.SearchLemmas.{start_is}
-use Rattle.zone_rules.specs.declared.Tag.{Tag}
-use Rattle.zone_rules.specs.Frees.{free_owner, retag_block, set_tag, without_block, with_tag}
+use Rattle.zone_rules.specs.Frees.{free_owner, without_block}
 
 pub few_tiles : (p q : ℕ) (bs : List Block) → Tiles p q bs → p + 24 * length bs ≤ q
 few_tiles p q [] t = omega arith

@@ -2,7 +2,7 @@
 --
 -- A slice keeps its length while it is lent, so that the first case of `after_loan` is the one that
 -- comes. The second says what a longer or shorter list would leave, as a clause has to speak of each.
-use Rattle.std.specs.Prelude.{◌≡◌, ℕ, ◌+◌, ◌-◌, ◌==◌, ◌&&◌, Bool, nat_le, nat_lt, if◌then◌else◌, List, [], ◌∷◌, length, map, Option, Some, None, slice_index}
+use Rattle.std.specs.Prelude.{ℕ, ◌+◌, ◌-◌, ◌==◌, ◌&&◌, Bool, nat_le, nat_lt, if◌then◌else◌, List, [], ◌∷◌, length, map, Option, Some, None, slice_index}
 use Rattle.zone_rules.specs.declared.TheConstants.{HEADER_SIZE}
 use Rattle.zone_rules.specs.Zones.{Owner, Holding, Block, Heap, owned_block}
 use Rattle.zone_rules.specs.Frees.{with_bytes}

@@ -1,4 +1,4 @@
-use Rattle.std.proofs.Common.{arith, length, sym, ltb, ltb-true, ltb-false, rules}
+use Rattle.std.proofs.Common.{arith, sym, ltb, ltb-true, ltb-false, rules}
 use Rattle.std.proofs.lemmas.Bool.{le-leb, lt-leb}
 use Rattle.std.proofs.lemmas.List.Sorted.{IsPartitionPoint-from_clause, IsPartitionedBy-ltb}
 use Rattle.std.specs.Prelude.{nat_le}

@@ -1,7 +1,3 @@
-use Rattle.std.proofs.Common.{arith, ap, ◌∙◌, sym}
-use Rattle.std.specs.Prelude.{IsSome}
-use Rattle.zone_rules.specs.Zones.{owner_at, bytes_of}
-use Rattle.zone_heap.specs.Records.{blocks_of}
 use Rattle.zone_heap.proofs.SpanLemmas.{nothing_some}
 use Rattle.zone_heap.proofs.homes.live_span.Goals as goal
 

@@ -1,7 +1,5 @@
-use Rattle.std.proofs.Common.{arith, ◌∙◌, sym, true, false, length, [], ◌≡◌, ◌<◌}
-use Rattle.std.proofs.lemmas.List.{get_or_read}
+use Rattle.std.proofs.Common.{arith, ◌∙◌, sym, []}
 use Rattle.zone_rules.specs.Zones.{owner_at}
-use Rattle.zone_heap.specs.Records.{no_record}
 use Rattle.zone_heap.proofs.HomeLemmas.{home_hit, home_miss, tiles_sorted}
 use Rattle.zone_heap.proofs.homes.owned_index.Goals as goal
 use Rattle.zone_heap.proofs.homes.owned_index.Goals.{else-index-records-via-then-index-records+else-is_held_by, else-index-records-via-else-index-records}

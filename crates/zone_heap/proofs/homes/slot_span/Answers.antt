@@ -1,4 +1,4 @@
-use Rattle.std.proofs.Common.{arith, get_or}
+use Rattle.std.proofs.Common.{get_or}
 use Rattle.zone_heap.specs.Records.{no_record}
 use Rattle.zone_rules.specs.Zones.{owner_at}
 use Rattle.zone_heap.proofs.SpanLemmas.{span_bound, span_from}

@@ -1,6 +1,6 @@
-use Rattle.std.proofs.Common.{◌≡◌, ◌∙◌, ◌<◌, ap, ap₂, sym, subst, option_map, Option, Some, None, List, ℕ, length, refl, Bool}
-use Rattle.std.specs.Prelude.{is_some, IsTrue, option_and_then}
-use Rattle.zone_rules.specs.Zones.{Block, Heap, Holding, Owner, owner_at, holding_of, owned_block, slot_count, is_held_by, holds_for}
+use Rattle.std.proofs.Common.{◌≡◌, ◌∙◌, ◌<◌, ap, ap₂, sym, subst, List, ℕ, length}
+use Rattle.std.specs.Prelude.{is_some, IsTrue}
+use Rattle.zone_rules.specs.Zones.{Heap, Owner, owner_at, holding_of, owned_block, slot_count}
 use Rattle.zone_heap.specs.Records.{blocks_of, home_index, KnowsAll}
 use Rattle.zone_heap.proofs.HeapLemmas.{tiles_all, slot_there}
 use Rattle.zone_heap.proofs.SpanLemmas.{is_some-map, some_held}

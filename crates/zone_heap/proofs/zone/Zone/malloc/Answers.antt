@@ -1,8 +1,8 @@
-use Rattle.std.proofs.Common.{arith, rules, ◌≡◌, ◌<◌, ◌≤◌, ◌+◌, ◌∙◌, ap, ap₂, sym, true, false, subst, List, ℕ, length, refl, set, None}
+use Rattle.std.proofs.Common.{arith, rules, ◌≡◌, ◌<◌, ◌≤◌, ◌+◌, ◌∙◌, ap, ap₂, sym, true, false, subst, List, ℕ, length, refl, set}
 use Rattle.std.proofs.lemmas.Bool.{false≢true}
 use Rattle.std.specs.Prelude.{IsNone, All}
 use Rattle.zone_heap.specs.View.{heap_of}
-use Rattle.zone_rules.specs.Zones.{is_purgeable, Block, owned_block, same_owner, Heap, Holding, IsSound, Lacks, owner_at, block_size, slot_count, holding_of}
+use Rattle.zone_rules.specs.Zones.{is_purgeable, Block, owned_block, Heap, Holding, IsSound, Lacks, owner_at, block_size, slot_count, holding_of}
 use Rattle.zone_rules.specs.Requests.{after_search, passed_blocks, block_left, cap_count, without_room, with_block, take_at, TakesBlock, place_around, gaps, widest, total, first_room, stretches}
 use Rattle.zone_heap.specs.Records.{KnowsAll, home_index, blocks_of, bytes_at, size_of_all}
 use Rattle.zone_rules.specs.Walks.{RoomAt, widest_from}

@@ -1,10 +1,8 @@
-use Rattle.std.proofs.Common.{◌≡◌, ◌∙◌, ◌<◌, ◌≤◌, ap, sym, subst, List, ℕ, length, arith, refl, false, Some}
-use Rattle.std.specs.Prelude.{IsSome, slice_range, ◌⊎◌}
-use Rattle.zone_rules.specs.Zones.{Heap, Owner, owner_at, holding_of, bytes_of}
-use Rattle.zone_rules.specs.Frees.{with_bytes}
+use Rattle.std.proofs.Common.{◌∙◌, sym, subst, arith, refl}
+use Rattle.std.specs.Prelude.{IsSome, slice_range}
+use Rattle.zone_rules.specs.Zones.{Heap, owner_at, holding_of}
 use Rattle.zone_heap.specs.View.{heap_of}
 use Rattle.zone_heap.specs.Calls.{PairCalled}
-use Rattle.zone_heap.specs.Records.{blocks_of}
 use Rattle.zone_heap.proofs.HeapLemmas.{tiles_all}
 use Rattle.zone_heap.proofs.LendLemmas.{SpanIs, span_is, span_length, spans_apart, pair_zone, pair_heap}
 use Rattle.zone_heap.proofs.zone.Zone.pair.Given.{Over}

@@ -1,4 +1,4 @@
-use Rattle.std.proofs.Common.{◌≡◌, ◌∙◌, ◌<◌, ap, ap₂, sym, subst, option_map, List, ℕ, length}
+use Rattle.std.proofs.Common.{◌∙◌, ◌<◌, ap, ap₂, sym, subst, option_map, List, ℕ, length}
 use Rattle.zone_rules.specs.Zones.{Holding, Heap, Owner, owner_at, holding_of, slot_count}
 use Rattle.zone_heap.specs.Records.{blocks_of, home_index, KnowsAll}
 use Rattle.zone_heap.proofs.HeapLemmas.{tiles_all, slot_there}
