@@ -1,5 +1,5 @@
 // Texels by their fractions, and colours through a colormap.
-ghost use Rattle.std.specs.Prelude.{◌≡◌, ◌+◌, ◌*◌, ◌<◌, ◌≤◌, ◌^◌, length, slice_index, IfSome};
+ghost use Rattle.std.specs.Prelude.{◌≡◌, ◌+◌, ◌*◌, ◌<◌, ◌≤◌, ◌^◌, length, slice_index, IfSome, IfNone};
 ghost use Rattle.pixel_rules.specs.declared.TheConstants.{TEXEL_ROWS, FLAT_SIDE, MAP_COLOURS};
 ghost use Rattle.pixel_rules.specs.Strips.{texel_row, flat_place, shade, column_colour, span_colour};
 ghost use Rattle.pixel_strips.specs.Strips.{IsWindow, cut_colour, cut_span_colour};
@@ -13,7 +13,8 @@ pub const FLAT_BYTES: usize = FLAT_SIDE as usize * FLAT_SIDE as usize;
 /// The bytes from an offset on, where there are so many.
 pub fn window(bytes: &[u8], offset: u64, count: usize) -> Option<&[u8]>
     requires { count ≤ FLAT_BYTES }
-    ensures { IfSome result (λ part. IsWindow bytes.now offset count part.now) }
+    ensures some { IfSome result (λ part. IsWindow bytes.now offset count part.now) }
+    ensures none { IfNone result (length bytes.now < offset + count) }
 {
     let start = offset as usize;
     if start > bytes.len() || count > bytes.len() - start {
