@@ -23,6 +23,7 @@ use view_rules::{
 use word_rules::{ANG90, ANG180};
 
 /// What a viewpoint sees by the tables of one size.
+#[derive(Drop)]
 pub struct View<'a> {
     tables: &'a Tables,
     eye: Eye,

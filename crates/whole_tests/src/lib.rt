@@ -1,0 +1,8 @@
+//! Tests that cross crates. It has no code of its own.
+//!
+//! Proved: nothing but that the tests are safe. Tested only: what the tests compare, with values
+//! from outside the definitions.
+#![tactic(auto)]
+
+#[cfg(test)]
+mod tests;
