@@ -1,8 +1,14 @@
 //! The program: the words of its command line, the files of the system, and its streams.
 //!
-//! All that it does is `doom_run::run`. Proved: that it is safe and ends. Tested only, by its stored
-//! run: that the words and the files come from the system, and that the output goes there.
+//! All that it does is `doom_run::run`. Proved: that it is safe and ends, which status stands for words
+//! that cannot be had, and the number of each status. Tested only, by its stored run: that the words
+//! and the files come from the system, and that the output goes there.
 #![tactic(auto)]
+
+ghost use Rattle.std.specs.Prelude.{◌≡◌};
+ghost use Rattle.std.specs.Process.{exit_status};
+ghost use Rattle.std.specs.IoError.{error_kind};
+ghost use Rattle.doom_run.specs.Ends.{code_of};
 
 use doom_run::{Status, put_note, run};
 use outside::{HostShelf, HostSink};
@@ -23,7 +29,7 @@ fn main(rt: HostRuntime) -> ExitCode {
     let mut out = HostSink::new_out(&rt);
     let mut notes = HostSink::new_err(&rt);
     let status = run(alloc, &words, &mut shelf, &mut out, &mut notes);
-    ExitCode::from(status.code())
+    exit_of(&status)
 }
 
 // The words after the program's name.
@@ -36,7 +42,10 @@ fn read_words(rt: &HostRuntime, alloc: Global) -> io::Result<Vec<String>> {
 }
 
 // The status of a run whose words cannot be had: they are no texts, or no memory was found for them.
-fn status_of(error: io::Error) -> Status {
+fn status_of(error: io::Error) -> Status
+    ensures memory { error_kind error ≡ ErrorKind.OutOfMemory → result ≡ Status.OutOfMemory }
+    ensures words { (error_kind error ≡ ErrorKind.OutOfMemory → ⊥) → result ≡ Status.Usage }
+{
     if error.kind() == ErrorKind::OutOfMemory {
         Status::OutOfMemory
     } else {
@@ -45,8 +54,17 @@ fn status_of(error: io::Error) -> Status {
 }
 
 // Ends before the run with a status and its line.
-fn end(rt: &HostRuntime, status: Status) -> ExitCode {
+fn end(rt: &HostRuntime, status: Status) -> ExitCode
+    ensures { exit_status result ≡ code_of status }
+{
     let mut notes = HostSink::new_err(rt);
     let _ = put_note(&mut notes, &status);
+    exit_of(&status)
+}
+
+// The number of a status, as the program ends with it.
+fn exit_of(status: &Status) -> ExitCode
+    ensures { exit_status result ≡ code_of status.now }
+{
     ExitCode::from(status.code())
 }
