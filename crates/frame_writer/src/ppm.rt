@@ -22,8 +22,8 @@ const _: () = prove!(BANDS * BAND_BYTES == FRAME_BYTES);
 /// Appends a frame to the output as a PPM file: a header of 15 bytes, then red, green and blue of
 /// each pixel.
 ///
-/// `frame` has a palette index for each pixel, row by row from the top; `playpal` begins with the
-/// palette. Takes no memory.
+/// `frame` has a palette index for each pixel, row by row from the top; `playpal` is one palette,
+/// 256 colours of three bytes. Takes no memory.
 ///
 /// Errors: `Failed` only where the output's count of faults rose; then a prefix was appended.
 ///

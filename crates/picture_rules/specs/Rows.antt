@@ -1,4 +1,4 @@
--- Worked rows: the room's east wall in the frame.
+-- Rows: the room's east wall in the frame.
 use Rattle.std.specs.Prelude.{◌≡◌, ℕ, pos, List, [], ◌∷◌, None, Some, true, false, refl}
 use Rattle.view_rules.specs.View.{ViewValue}
 use Rattle.view_rules.specs.Shape.{shape_of_size}

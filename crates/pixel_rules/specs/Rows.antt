@@ -1,4 +1,4 @@
--- What the worked rows of the layers above share: art by formula.
+-- What the rows of the layers above share: art by formula.
 use Rattle.std.specs.Prelude.{ℕ, ◌+◌, ◌-◌, ◌*◌, ◌/◌, ◌%◌, nat_lt, ℤ, pos, negsuc, cond, List, [], ◌∷◌}
 use Rattle.word_rules.specs.Words.{bits_of, words_unfolded}
 use Rattle.word_rules.specs.Listed.{listed, listed_from, joined_lists}

@@ -1,4 +1,4 @@
--- Worked rows of the planes of a view.
+-- Rows of the planes of a view.
 use Rattle.std.specs.Prelude.{◌≡◌, ℕ, pos, true, slice_index_or, [], ◌∷◌, map, length, Option, Some, None, refl}
 use Rattle.word_rules.specs.Words.{words_unfolded}
 use Rattle.level_rules.specs.declared.Surface.{Surface}

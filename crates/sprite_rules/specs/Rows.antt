@@ -1,4 +1,4 @@
--- Worked rows of sprites and weapons.
+-- Rows of sprites and weapons.
 use Rattle.std.specs.Prelude.{◌≡◌, ℕ, ℤ, pos, true, false, [], ◌∷◌, map, length, None, refl}
 use Rattle.word_rules.specs.Words.{minus_one}
 use Rattle.word_rules.specs.Least.{greatest}

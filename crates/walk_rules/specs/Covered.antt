@@ -38,7 +38,7 @@ pub record IsFragment (columns : List Bool) (first last p q : ℕ) : Type 0 wher
   pub left : (p ≡ first) ⊎ (is_covered columns (p - 1) ≡ true)
   pub right : (q ≡ last) ⊎ (is_covered columns (q + 1) ≡ true)
 
--- the columns of the worked row: 10 to 19 and 21 to 30 are covered
+-- the columns of the rows below: 10 to 19 and 21 to 30 are covered
 unfoldable pub row_columns : List Bool
 row_columns = cover (cover (replicate 320 false) 10 19) 21 30
 

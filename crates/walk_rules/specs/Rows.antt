@@ -1,4 +1,4 @@
--- Worked rows: the walk of a room of one leaf, whose walls are 256 map units away.
+-- Rows: the walk of a room of one leaf, whose walls are 256 map units away.
 use Rattle.std.specs.Prelude.{◌≡◌, ℕ, ◌*◌, ℤ, pos, negsuc, [], ◌∷◌, None, refl}
 use Rattle.view_rules.specs.Made.{row_view}
 use Rattle.view_rules.specs.Rows.{view_unfolded}

@@ -1,4 +1,4 @@
--- Worked rows: the room whose east wall is 256 map units away.
+-- Rows: the room whose east wall is 256 map units away.
 use Rattle.std.specs.Prelude.{◌≡◌, ℕ, ◌*◌, pos, negsuc, ◌-◌, None, refl}
 use Rattle.word_rules.specs.Steps.{step_at}
 use Rattle.view_rules.specs.Made.{row_view}
