@@ -1,0 +1,7 @@
+pub mod Bytes
+pub mod Patches
+pub mod Flats
+pub mod Textures
+pub mod Columns
+pub mod Wanted
+pub mod Frames
