@@ -6,3 +6,5 @@
 
 #[cfg(test)]
 mod tests;
+#[cfg(test)]
+mod walls;

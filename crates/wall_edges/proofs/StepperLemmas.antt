@@ -1,0 +1,79 @@
+-- Laws of a stepper: it begins at the first column of its fragment, and goes on from column to column.
+use Rattle.std.proofs.Common.{◌≡◌, ℕ, zero, suc, ◌+◌, ◌-◌, ◌<◌, ◌≤◌, ◌==◌, Bool, false, cond, FitsSigned, Some, None, refl, ap, sym, ◌∙◌, subst, arith}
+use Rattle.std.specs.Int.{w32}
+use Rattle.std.proofs.lemmas.Bool.Decides.{nat_tests}
+use Rattle.view_rules.specs.declared.TheConstants.{FRAME_WIDTH}
+use Rattle.wall_rules.specs.declared.Edges.{Edges}
+use Rattle.wall_rules.specs.Edges.{edges_at, edges_first, edges_step, edges_plus}
+use Rattle.wall_rules.proofs.EdgeLemmas.{edges_at-zero, edges_at-more}
+use Rattle.wall_edges.specs.declared.stepper.Stepper.{Stepper}
+use Rattle.wall_edges.specs.Fragments.{FragmentValue}
+use Rattle.wall_edges.specs.Steppers.{next_edges, one_column_on, next_stepper, stepper_after, IsAt}
+
+begins : (f : FragmentValue) → f.first ≤ f.last → f.last < FRAME_WIDTH → FitsSigned w32 f.numbers.scale1 →
+    IsAt f 0 (record { x = f.first; left = f.last - f.first + 1; now = edges_first f.shape f.numbers; step = edges_step f.numbers })
+begins f ordered within fits = record {
+  x = omega arith;
+  left = omega arith;
+  within = within;
+  now = edges_at-zero f.shape f.numbers fits;
+  step = refl;
+}
+
+-- the first column; a fragment f is what contracts see as g
+pub at_first : (f g : FragmentValue) → f ≡ g → f.first ≤ f.last → f.last < FRAME_WIDTH → FitsSigned w32 f.numbers.scale1 →
+    IsAt g 0 (record { x = f.first; left = f.last - f.first + 1; now = edges_first f.shape f.numbers; step = edges_step f.numbers })
+at_first f g e ordered within fits =
+    let P : FragmentValue → Type 0 = λ h. IsAt h 0 (record { x = f.first; left = f.last - f.first + 1; now = edges_first f.shape f.numbers; step = edges_step f.numbers }) in
+    subst P e (begins f ordered within fits)
+
+edges_on : (f : FragmentValue) (k : ℕ) (now step : Edges) → now ≡ edges_at f.shape f.numbers k → step ≡ edges_step f.numbers →
+    edges_plus now step ≡ edges_at f.shape f.numbers (k + 1)
+edges_on f k now step e g = let more = edges_at-more f.shape f.numbers k (k + 1) refl in cc
+
+-- one column on
+pub at_next : (f : FragmentValue) (k : ℕ) (s : Stepper) → IsAt f k s → 0 < s.left → IsAt f (k + 1) (one_column_on s)
+at_next f k s h l = record {
+  x = omega arith;
+  left = omega arith;
+  within = h.within;
+  now = edges_on f k s.now s.step h.now h.step;
+  step = h.step;
+}
+
+some_left : (n : ℕ) → 0 < n → (n == 0) ≡ false
+some_left n l = grind (arith, nat_tests)
+
+at_more : (f : FragmentValue) (k : ℕ) (s : Stepper) → IsAt f k s → 0 < s.left → IsAt f (k + 1) (next_stepper s)
+unfolding next_stepper
+at_more f k s h l =
+    let P : Bool → Type 0 = λ b. IsAt f (k + 1) (cond b s (one_column_on s)) in
+    subst P (sym (some_left s.left l)) (at_next f k s h l)
+
+-- a stepper that began at the first column stands, after k answers, at column number k, or behind the last one
+pub at_column : (f : FragmentValue) (s : Stepper) (k : ℕ) → IsAt f 0 s → f.first + k ≤ f.last + 1 → IsAt f k (stepper_after k s)
+unfolding stepper_after
+at_column f s zero h l = h
+at_column f s (suc k) h l =
+    let i = at_column f s k h (omega arith) in
+    let left : 0 < (stepper_after k s).left = omega (arith, i.x, i.left) in
+    let e : k + 1 ≡ suc k = omega arith in
+    let P : ℕ → Type 0 = λ n. IsAt f n (next_stepper (stepper_after k s)) in
+    subst P e (at_more f k (stepper_after k s) i left)
+
+-- its k-th answer, counted from 0, has the edges of column number k
+pub answer_of_column : (f : FragmentValue) (s : Stepper) (k : ℕ) → IsAt f 0 s → f.first + k ≤ f.last → next_edges (stepper_after k s) ≡ Some (edges_at f.shape f.numbers k)
+unfolding next_edges
+answer_of_column f s k h l =
+    let i = at_column f s k h (omega arith) in
+    let left : 0 < (stepper_after k s).left = omega (arith, i.x, i.left) in
+    ap (λ (b : Bool). cond b None (Some (stepper_after k s).now)) (some_left (stepper_after k s).left left) ∙ ap (λ (e : Edges). Some e) i.now
+
+-- and behind the last column it answers nothing
+pub answer_at_end : (f : FragmentValue) (s : Stepper) → IsAt f 0 s → f.first ≤ f.last → next_edges (stepper_after (f.last + 1 - f.first) s) ≡ None
+unfolding next_edges
+answer_at_end f s h l =
+    let k : ℕ = f.last + 1 - f.first in
+    let i = at_column f s k h (omega arith) in
+    let none : (stepper_after k s).left ≡ 0 = omega (arith, i.x, i.left) in
+    ap (λ (n : ℕ). cond (n == 0) None (Some (stepper_after k s).now)) none

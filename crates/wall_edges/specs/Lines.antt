@@ -1,0 +1,9 @@
+-- The line of a seg, as a view sees it and as a fragment keeps it (R_StoreWallRange, r_segs.c).
+use Rattle.view_rules.specs.View.{ViewValue}
+use Rattle.wall_rules.specs.declared.WallFacts.{WallFacts}
+use Rattle.wall_rules.specs.Scales.{seg_normal, seg_distance}
+use Rattle.wall_rules.specs.Columns.{texture_offset}
+use Rattle.wall_edges.specs.declared.line.SegLine.{SegLine}
+
+abbrev pub line_of : ViewValue → WallFacts → SegLine
+line_of v facts = record { normal = seg_normal facts.seg; distance = seg_distance v facts.seg; offset = texture_offset v facts }

@@ -1,0 +1,54 @@
+// The angles at which columns look, and the texture columns of a line: rules `wall_rules`, Columns.
+
+ghost use Rattle.std.specs.Prelude.{◌≡◌, ◌<◌};
+ghost use Rattle.view_rules.specs.Tables.{angle_of_column};
+ghost use Rattle.level_rules.specs.declared.Seg.{Seg};
+ghost use Rattle.wall_rules.specs.declared.WallFacts.{WallFacts};
+ghost use Rattle.view_rules.specs.declared.TheConstants.{TANGENTS};
+ghost use Rattle.view_rules.specs.Angles.{tangent_at};
+ghost use Rattle.wall_rules.specs.Scales.{seg_normal};
+ghost use Rattle.wall_rules.specs.Columns.{column_tangent, texture_column};
+ghost use Rattle.wall_edges.specs.Lines.{line_of};
+
+use crate::line::SegLine;
+use fx_words::{fine_angle, minus, mul, shr_word, turn, turn_back};
+use view_frame::View;
+use view_rules::TANGENTS;
+use word_rules::{ANG90, FRACTION_BITS};
+
+/// The angle (BAM) at which column `x` looks, from the view's own.
+pub fn angle_of_column(view: &View<'_>, x: u16) -> u32
+    requires { x < view.now.shape.width }
+    ensures { result ≡ angle_of_column view.now.tables view.now.shape x }
+{
+    view.tables().angle_of_column(x as usize)
+}
+
+/// The tangent of a fine angle from a quarter turn right.
+fn tangent(view: &View<'_>, fine: usize) -> i32
+    requires { fine < TANGENTS }
+    ensures { result ≡ tangent_at view.now.tables fine }
+{
+    view.tables().tangent(fine)
+}
+
+/// The fine angle between a normal and the look of column `x`.
+#[tactic(auto, unfolding(wall_rules::specs::Columns::column_tangent))]
+fn column_tangent(view: &View<'_>, normal: u32, x: u16) -> usize
+    requires { x < view.now.shape.width }
+    ensures value { (seg : Seg) → normal ≡ seg_normal seg → result ≡ column_tangent view.now seg x }
+    ensures bound { result < TANGENTS }
+{
+    let ahead = turn_back(turn(ANG90, view.eye().angle), normal);
+    fine_angle(turn(ahead, angle_of_column(view, x))) % TANGENTS
+}
+
+/// The texture column of a line at column `x`.
+#[tactic(auto, unfolding(wall_rules::specs::Columns::texture_column))]
+pub fn texture_column(view: &View<'_>, line: SegLine, x: u16) -> i32
+    requires { x < view.now.shape.width }
+    ensures { (facts : WallFacts) → line ≡ line_of view.now facts → result ≡ texture_column view.now facts x }
+{
+    let slope = tangent(view, column_tangent(view, line.normal, x));
+    shr_word(minus(line.offset, mul(slope, line.distance)), FRACTION_BITS)
+}

@@ -1,0 +1,69 @@
+// The heights of a fragment's sectors above the viewpoint: rules `wall_rules`, Heights.
+
+ghost use Rattle.std.specs.Prelude.{◌≡◌};
+ghost use Rattle.level_rules.specs.Levels.{is_sky};
+ghost use Rattle.wall_rules.specs.Heights.{both_sky, world_high, world_low, world_top, world_bottom};
+
+use fx_words::minus;
+use level_rules::{SKY_FLAT, Surface};
+
+/// Whether the flat is sky.
+pub fn is_sky(flat: u32) -> bool
+    ensures { result ≡ is_sky flat }
+{
+    flat == SKY_FLAT
+}
+
+#[tactic(auto, unfolding(wall_rules::specs::Heights::both_sky))]
+fn both_sky(front: Surface, back: Surface) -> bool
+    ensures { result ≡ both_sky front back }
+{
+    is_sky(front.ceiling_flat) && is_sky(back.ceiling_flat)
+}
+
+/// The height of the ceiling behind, 0 where there is none.
+#[tactic(auto, unfolding(wall_rules::specs::Heights::world_high))]
+pub fn world_high(eye_z: i32, back: Option<Surface>) -> i32
+    ensures { result ≡ world_high eye_z back }
+{
+    match back {
+        Some(back) => minus(back.ceiling, eye_z),
+        None => 0,
+    }
+}
+
+/// The height of the floor behind, 0 where there is none.
+#[tactic(auto, unfolding(wall_rules::specs::Heights::world_low))]
+pub fn world_low(eye_z: i32, back: Option<Surface>) -> i32
+    ensures { result ≡ world_low eye_z back }
+{
+    match back {
+        Some(back) => minus(back.floor, eye_z),
+        None => 0,
+    }
+}
+
+/// The height of the ceiling in front; where sky meets sky, that of the ceiling behind.
+#[tactic(auto, unfolding(wall_rules::specs::Heights::world_top))]
+pub fn world_top(eye_z: i32, front: Surface, back: Option<Surface>) -> i32
+    ensures { result ≡ world_top eye_z front back }
+{
+    match back {
+        Some(back) => {
+            if both_sky(front, back) {
+                minus(back.ceiling, eye_z)
+            } else {
+                minus(front.ceiling, eye_z)
+            }
+        }
+        None => minus(front.ceiling, eye_z),
+    }
+}
+
+/// The height of the floor in front.
+#[tactic(auto, unfolding(wall_rules::specs::Heights::world_bottom))]
+pub fn world_bottom(eye_z: i32, front: Surface) -> i32
+    ensures { result ≡ world_bottom eye_z front }
+{
+    minus(front.floor, eye_z)
+}

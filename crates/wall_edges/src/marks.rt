@@ -1,0 +1,74 @@
+// Whether a fragment marks rows of its leaf's planes: rules `wall_rules`, Marks.
+
+ghost use Rattle.std.specs.Prelude.{◌≡◌};
+ghost use Rattle.walk_rules.specs.Segs.{is_closed};
+ghost use Rattle.wall_rules.specs.Marks.{floors_differ, ceilings_differ, floor_shows, ceiling_shows, floor_mark, ceiling_mark};
+
+use crate::heights::{is_sky, world_bottom, world_high, world_low, world_top};
+use crate::silhouettes::{shuts_bottom, shuts_top};
+use level_rules::Surface;
+
+// Nothing is seen through the line.
+#[tactic(auto, unfolding(walk_rules::specs::Segs::is_closed, wall_rules::specs::Silhouettes::shuts_bottom, wall_rules::specs::Silhouettes::shuts_top))]
+fn is_closed(front: Surface, back: Surface) -> bool
+    ensures { result ≡ is_closed front back }
+{
+    shuts_bottom(front, back) || shuts_top(front, back)
+}
+
+#[tactic(auto, unfolding(wall_rules::specs::Marks::floors_differ, word_rules::specs::Words::same_word))]
+fn floors_differ(eye_z: i32, front: Surface, back: Surface) -> bool
+    ensures { result ≡ floors_differ eye_z front back }
+{
+    world_low(eye_z, Some(back)) != world_bottom(eye_z, front)
+        || front.floor_flat != back.floor_flat
+        || front.light != back.light
+}
+
+#[tactic(auto, unfolding(wall_rules::specs::Marks::ceilings_differ, word_rules::specs::Words::same_word))]
+fn ceilings_differ(eye_z: i32, front: Surface, back: Surface) -> bool
+    ensures { result ≡ ceilings_differ eye_z front back }
+{
+    world_high(eye_z, Some(back)) != world_top(eye_z, front, Some(back))
+        || front.ceiling_flat != back.ceiling_flat
+        || front.light != back.light
+}
+
+#[tactic(auto, unfolding(wall_rules::specs::Marks::floor_shows))]
+fn floor_shows(eye_z: i32, front: Surface, back: Option<Surface>) -> bool
+    ensures { result ≡ floor_shows eye_z front back }
+{
+    match back {
+        Some(back) => is_closed(front, back) || floors_differ(eye_z, front, back),
+        None => true,
+    }
+}
+
+#[tactic(auto, unfolding(wall_rules::specs::Marks::ceiling_shows))]
+fn ceiling_shows(eye_z: i32, front: Surface, back: Option<Surface>) -> bool
+    ensures { result ≡ ceiling_shows eye_z front back }
+{
+    match back {
+        Some(back) => is_closed(front, back) || ceilings_differ(eye_z, front, back),
+        None => true,
+    }
+}
+
+/// Whether rows of the floor are marked: not where it is at or above the viewpoint.
+#[tactic(auto, unfolding(wall_rules::specs::Marks::floor_mark))]
+pub fn floor_mark(eye_z: i32, front: Surface, back: Option<Surface>) -> bool
+    ensures { result ≡ floor_mark eye_z front back }
+{
+    front.floor < eye_z && floor_shows(eye_z, front, back)
+}
+
+/// Whether rows of the ceiling are marked: at or below the viewpoint only where it is sky.
+#[tactic(auto, unfolding(wall_rules::specs::Marks::ceiling_mark))]
+pub fn ceiling_mark(eye_z: i32, front: Surface, back: Option<Surface>) -> bool
+    ensures { result ≡ ceiling_mark eye_z front back }
+{
+    if front.ceiling <= eye_z && !is_sky(front.ceiling_flat) {
+        return false;
+    }
+    ceiling_shows(eye_z, front, back)
+}

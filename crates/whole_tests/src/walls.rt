@@ -1,0 +1,163 @@
+// The walls of a room from -256 to 256 map units both ways, seen through the made tables.
+
+use angle_tables::Tables;
+use level_maker::make_tables;
+use level_rules::{Seg, Surface};
+use std::test::Fail;
+use view_frame::{ColumnRange, View};
+use view_rules::Eye;
+use wall_edges::{Edges, Fragment, Stepper, WallFacts, WallTexture};
+
+// An eye in the room's middle, 41 map units up, looking east.
+const EYE: Eye = Eye {
+    x: 0,
+    y: 0,
+    z: 41 << 16,
+    angle: 0,
+    extralight: 0,
+    colormap: 0,
+};
+
+// The same in more light.
+const LIT_EYE: Eye = Eye {
+    x: 0,
+    y: 0,
+    z: 41 << 16,
+    angle: 0,
+    extralight: 1,
+    colormap: 0,
+};
+
+const EAST: Seg = Seg {
+    x1: 256 << 16,
+    y1: 256 << 16,
+    x2: 256 << 16,
+    y2: -(256 << 16),
+    angle: 49152 << 16,
+    offset: 0,
+    flags: 1,
+    side: 0,
+    front: 0,
+    back: None,
+};
+
+const ROOM: Surface = Surface {
+    floor: 0,
+    ceiling: 128 << 16,
+    floor_flat: 1,
+    ceiling_flat: 2,
+    light: 160,
+};
+
+const NICHE: Surface = Surface {
+    floor: 32 << 16,
+    ceiling: 96 << 16,
+    floor_flat: 1,
+    ceiling_flat: 2,
+    light: 160,
+};
+
+const BARE: WallTexture = WallTexture {
+    number: 0,
+    height: 0,
+};
+
+const BRICK: WallTexture = WallTexture {
+    number: 1,
+    height: 128,
+};
+
+const WALL: WallFacts = WallFacts {
+    seg_no: 0,
+    seg: EAST,
+    front: ROOM,
+    back: None,
+    x_offset: 0,
+    y_offset: 0,
+    top: BARE,
+    bottom: BARE,
+    middle: BRICK,
+};
+
+const WINDOW: WallFacts = WallFacts {
+    seg_no: 0,
+    seg: EAST,
+    front: ROOM,
+    back: Some(NICHE),
+    x_offset: 0,
+    y_offset: 0,
+    top: BRICK,
+    bottom: BRICK,
+    middle: BARE,
+};
+
+// The first and the last row of a wall between these edges.
+fn wall_rows(edges: Option<Edges>) -> Option<(i32, i32)> {
+    let edges = edges?;
+    Some((edges.top.wrapping_add(4095) >> 12, edges.bottom >> 12))
+}
+
+#[test]
+fn a_wall_is_one_fragment_with_the_same_rows(rt: HostRuntime) -> Result<(), Fail> {
+    let bytes = make_tables(rt.alloc())?;
+    let tables = Tables::from_bytes(rt.alloc(), &bytes, 11).expect(&rt, "accepted");
+    let view = View::new(&tables, EYE);
+    let left = view.point_angle(EAST.x1, EAST.y1);
+    let right = view.point_angle(EAST.x2, EAST.y2);
+    assert_eq!(rt;
+        view.column_range(left, right),
+        ColumnRange::Columns { x1: 1, x2: 320 }
+    );
+    assert!(rt; view.shape().width == 320);
+    let fragment = Fragment::new(&view, &WALL, 1, 319);
+    assert_eq!(rt;
+        (fragment.scale1, fragment.scale2, fragment.step),
+        (40928, 40928, 0)
+    );
+    assert_eq!(rt; fragment.column_at(&view, 160), 255);
+    let mut stepper = Stepper::new(&fragment);
+    assert_eq!(rt; (stepper.x, stepper.left), (1, 319));
+    for _ in 0..319 {
+        assert_eq!(rt; wall_rows(stepper.next()), Some((46, 125)));
+    }
+    assert_eq!(rt; stepper.next(), None);
+    Ok(())
+}
+
+#[test]
+fn a_wall_of_one_side_hides_what_is_behind(rt: HostRuntime) -> Result<(), Fail> {
+    let bytes = make_tables(rt.alloc())?;
+    let tables = Tables::from_bytes(rt.alloc(), &bytes, 11).expect(&rt, "accepted");
+    let view = View::new(&tables, LIT_EYE);
+    assert!(rt; view.shape().width == 320);
+    let fragment = Fragment::new(&view, &WALL, 1, 319);
+    assert_eq!(rt; (fragment.floor_mark, fragment.ceiling_mark), (true, true));
+    assert_eq!(rt; (fragment.silhouette, fragment.masked), (3, false));
+    assert_eq!(rt;
+        (fragment.bottom_height, fragment.top_height),
+        (i32::MAX, i32::MIN)
+    );
+    assert_eq!(rt; fragment.middle_mid, 87 << 16);
+    let light = fragment.numbers().light;
+    assert!(rt; light == 12);
+    assert_eq!(rt; view.scale_map(light, 40928), 8);
+    Ok(())
+}
+
+#[test]
+fn a_window_has_an_upper_and_a_lower_wall(rt: HostRuntime) -> Result<(), Fail> {
+    let bytes = make_tables(rt.alloc())?;
+    let tables = Tables::from_bytes(rt.alloc(), &bytes, 11).expect(&rt, "accepted");
+    let view = View::new(&tables, EYE);
+    assert!(rt; view.shape().width == 320);
+    let fragment = Fragment::new(&view, &WINDOW, 1, 319);
+    assert_eq!(rt; (fragment.floor_mark, fragment.ceiling_mark), (true, true));
+    assert_eq!(rt; (fragment.silhouette, fragment.masked), (0, false));
+    assert_eq!(rt;
+        (fragment.top_mid, fragment.bottom_mid),
+        (183 << 16, -(9 << 16))
+    );
+    let edges = fragment.edges_at(160);
+    assert_eq!(rt; (edges.high >> 12, edges.low >> 12), (65, 105));
+    Ok(())
+}
