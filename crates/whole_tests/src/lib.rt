@@ -8,3 +8,4 @@
 mod tests;
 #[cfg(test)]
 mod walls;
+mod things;

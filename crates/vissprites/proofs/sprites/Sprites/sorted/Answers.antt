@@ -1,0 +1,28 @@
+use Rattle.std.proofs.Common.{List, sym, subst, rules, ◌≡◌}
+use Rattle.std.specs.List.{AllPass}
+use Rattle.std.specs.List.Sorted.{IsSortedBy, IsStableBy}
+use Rattle.sprite_rules.specs.declared.SpriteEntry.{SpriteEntry}
+use Rattle.sprite_rules.specs.Order.{draw_order, is_smaller}
+use Rattle.sprite_rules.proofs.OrderLemmas.{draw_order-sorted, draw_order-stable}
+use Rattle.vissprites.proofs.BoundLemmas.{draw_order-all}
+use Rattle.vissprites.proofs.sprites.Sprites.sorted.Goals as goal
+
+-- drawing order is sorted and stable, and has the entries that were made
+pub returns-clause-ordered : goal.returns-clause-ordered
+returns-clause-ordered c =
+    let order : c.new.result ≡ draw_order c.args.self.now = search rules in
+    let P : List SpriteEntry → Type 0 = IsSortedBy is_smaller in
+    subst P (sym order) (draw_order-sorted c.args.self.now)
+
+pub returns-clause-stable : goal.returns-clause-stable
+returns-clause-stable c =
+    let order : c.new.result ≡ draw_order c.args.self.now = search rules in
+    let P : List SpriteEntry → Type 0 = IsStableBy is_smaller c.args.self.now in
+    subst P (sym order) (draw_order-stable c.args.self.now)
+
+pub returns-clause-entries : goal.returns-clause-entries
+returns-clause-entries c =
+    λ test all.
+    let order : c.new.result ≡ draw_order c.args.self.now = search rules in
+    let P : List SpriteEntry → Type 0 = AllPass test in
+    subst P (sym order) (draw_order-all test c.args.self.now all)
