@@ -1,0 +1,204 @@
+-- Laws of how a plane keeps its runs: what a column has, and what is left where one is marked.
+use Rattle.std.proofs.Common.{◌≡◌, ℕ, suc, ◌+◌, ◌-◌, ◌<◌, ◌≤◌, ◌≢◌, min, max, true, false, cond, List, [], ◌∷◌, Option, Some, None, length, get_or, set, drop, replicate, refl, ap, sym, ◌∙◌, arith, inl, inr}
+use Rattle.std.specs.Prelude.{◌==◌, ◌&&◌, nat_le, is_none, slice_index, slice_range}
+use Rattle.std.specs.List.{list_all}
+use Rattle.std.proofs.lemmas.Bool.{cases_lt, cases_eq, eq-eqb, ne_eqb, leb-true, and_parts}
+use Rattle.std.proofs.lemmas.List.{get_or-set_same, get_or-set_other, get_or_past, get_or-replicate, get_or-take, get_or-drop, length-set, length-take, length-drop, length-replicate}
+use Rattle.std.proofs.lemmas.List.Folds.{list_all_at}
+use Rattle.word_rules.specs.Listed.{listed}
+use Rattle.word_rules.proofs.ListedLemmas.{length-listed, get_or-listed, listed-all}
+use Rattle.view_rules.specs.declared.TheConstants.{FRAME_WIDTH, FRAME_HEIGHT}
+use Rattle.plane_rules.specs.declared.PlaneKey.{PlaneKey}
+use Rattle.plane_rules.specs.Planes.{Plane, empty_plane, is_free, with_run, column}
+use Rattle.plane_rules.specs.Spans.{holds_row, holds}
+use Rattle.visplanes.specs.declared.columns.TheConstants.{NO_RUN}
+use Rattle.visplanes.specs.Columns.{run_at, runs_of, plane_of, IsKept, HasRun}
+
+-- a column has no run where its top says so, else the run of its bytes
+pub run_at-none : (tops bottoms : List ℕ) (x : ℕ) → slice_index tops x ≡ NO_RUN → run_at tops bottoms x ≡ None
+unfolding run_at
+run_at-none tops bottoms x e = rw (eq-eqb (slice_index tops x) NO_RUN e) refl
+
+pub run_at-some : (tops bottoms : List ℕ) (x : ℕ) → slice_index tops x ≢ NO_RUN → run_at tops bottoms x ≡ Some (slice_index tops x, slice_index bottoms x)
+unfolding run_at
+run_at-some tops bottoms x n = rw (ne_eqb (slice_index tops x) NO_RUN n) refl
+
+run_at-same : (tops bottoms ts bs : List ℕ) (x : ℕ) → slice_index tops x ≡ slice_index ts x → slice_index bottoms x ≡ slice_index bs x → run_at tops bottoms x ≡ run_at ts bs x
+unfolding run_at
+run_at-same tops bottoms ts bs x e f =
+    ap (λ (t : ℕ). cond (t == NO_RUN) None (Some (t, slice_index bottoms x))) e
+    ∙ ap (λ (b : ℕ). cond (slice_index ts x == NO_RUN) None (Some (slice_index ts x, b))) f
+
+pub length-runs_of : (tops bottoms : List ℕ) → length (runs_of tops bottoms) ≡ FRAME_WIDTH
+unfolding runs_of
+length-runs_of tops bottoms = length-listed (run_at tops bottoms) FRAME_WIDTH
+
+-- the run of a column of the plane, none right of a frame
+pub column-kept : (key : PlaneKey) (tops bottoms : List ℕ) (x : ℕ) → x < FRAME_WIDTH → column (plane_of key tops bottoms) x ≡ run_at tops bottoms x
+unfolding column runs_of
+column-kept key tops bottoms x l = get_or-listed (run_at tops bottoms) FRAME_WIDTH x None l
+
+pub column-past : (key : PlaneKey) (tops bottoms : List ℕ) (x : ℕ) → FRAME_WIDTH ≤ x → column (plane_of key tops bottoms) x ≡ None
+unfolding column
+column-past key tops bottoms x l = get_or_past (runs_of tops bottoms) x None (omega (arith, length-runs_of tops bottoms))
+
+pub holds-none : (p : Plane) (y x : ℕ) → column p x ≡ None → holds p y x ≡ false
+unfolding holds holds_row
+holds-none p y x e = rw e refl
+
+-- a column that holds a row is one of the marked ones
+marked_from : (key : PlaneKey) (tops bottoms : List ℕ) (first last x y : ℕ) → IsKept tops bottoms first last → holds (plane_of key tops bottoms) y x ≡ true → x < FRAME_WIDTH → (first ≤ x) × (x ≤ last)
+marked_from key tops bottoms first last x y k h l =
+    elim (cases_lt x first) [
+      | inl a ↦ (let n = holds-none (plane_of key tops bottoms) y x (column-kept key tops bottoms x l ∙ run_at-none tops bottoms x (k.before x l a)) in absurd (cc))
+      | inr a ↦ elim (cases_lt last x) [
+        | inl b ↦ (let n = holds-none (plane_of key tops bottoms) y x (column-kept key tops bottoms x l ∙ run_at-none tops bottoms x (k.after x l b)) in absurd (cc))
+        | inr b ↦ (a, b)
+      ]
+    ]
+
+pub kept-marked : (key : PlaneKey) (tops bottoms : List ℕ) (first last x y : ℕ) → IsKept tops bottoms first last → holds (plane_of key tops bottoms) y x ≡ true → (first ≤ x) × (x ≤ last)
+kept-marked key tops bottoms first last x y k h =
+    elim (cases_lt x FRAME_WIDTH) [
+      | inl l ↦ marked_from key tops bottoms first last x y k h l
+      | inr l ↦ (let n = holds-none (plane_of key tops bottoms) y x (column-past key tops bottoms x l) in absurd (cc))
+    ]
+
+-- and it is in a frame, as the row is
+row_of_run : (p : Plane) (x y : ℕ) (r : ℕ × ℕ) → column p x ≡ Some r → holds p y x ≡ true → y ≤ r.1
+unfolding holds holds_row
+row_of_run p x y r e h =
+    let a : (nat_le r.0 y && nat_le y r.1) ≡ true = ap (λ (o : Option (ℕ × ℕ)). holds_row o y) (sym e) ∙ h in
+    leb-true y r.1 (and_parts (nat_le r.0 y) (nat_le y r.1) a).1
+
+frame_row : (key : PlaneKey) (tops bottoms : List ℕ) (first last x y : ℕ) → IsKept tops bottoms first last → holds (plane_of key tops bottoms) y x ≡ true → x < FRAME_WIDTH → y < FRAME_HEIGHT
+frame_row key tops bottoms first last x y k h l =
+    elim (cases_eq (slice_index tops x) NO_RUN) [
+      | inl e ↦ (let n = holds-none (plane_of key tops bottoms) y x (column-kept key tops bottoms x l ∙ run_at-none tops bottoms x e) in absurd (cc))
+      | inr n ↦
+          (let a = row_of_run (plane_of key tops bottoms) x y (slice_index tops x, slice_index bottoms x) (column-kept key tops bottoms x l ∙ run_at-some tops bottoms x n) h in
+          omega (arith, a, k.rows x l))
+    ]
+
+pub kept-frame : (key : PlaneKey) (tops bottoms : List ℕ) (first last x y : ℕ) → IsKept tops bottoms first last → holds (plane_of key tops bottoms) y x ≡ true → (x < FRAME_WIDTH) × (y < FRAME_HEIGHT)
+kept-frame key tops bottoms first last x y k h =
+    elim (cases_lt x FRAME_WIDTH) [
+      | inl l ↦ (l, frame_row key tops bottoms first last x y k h l)
+      | inr l ↦ (let n = holds-none (plane_of key tops bottoms) y x (column-past key tops bottoms x l) in absurd (cc))
+    ]
+
+-- no column is marked
+pub kept-empty : (tops bottoms : List ℕ) → length tops ≡ FRAME_WIDTH → length bottoms ≡ FRAME_WIDTH →
+    ((x : ℕ) → x < FRAME_WIDTH → slice_index tops x ≡ NO_RUN) → ((x : ℕ) → x < FRAME_WIDTH → slice_index bottoms x ≡ 0) → IsKept tops bottoms FRAME_WIDTH 0
+kept-empty tops bottoms l m t b = record {
+  top_bytes = l;
+  bottom_bytes = m;
+  before = λ x h a. t x h;
+  after = λ x h a. t x h;
+  start = omega arith;
+  within = omega arith;
+  ordered = λ x h. inl (t x h);
+  rows = λ x h. omega (arith, b x h);
+}
+
+pub plane_of-empty : (key : PlaneKey) (tops bottoms : List ℕ) → ((x : ℕ) → x < FRAME_WIDTH → slice_index tops x ≡ NO_RUN) → plane_of key tops bottoms ≡ empty_plane key
+unfolding empty_plane runs_of
+plane_of-empty key tops bottoms t =
+    ap (λ (runs : List (Option (ℕ × ℕ))). record { key = key; runs = runs })
+    (sym (listed-all (run_at tops bottoms) (replicate FRAME_WIDTH None) FRAME_WIDTH None (length-replicate {A = Option (ℕ × ℕ)} FRAME_WIDTH None)
+    (λ x l. get_or-replicate FRAME_WIDTH x None None l ∙ sym (run_at-none tops bottoms x (t x l)))))
+
+-- one column is marked
+marked_run : (tops bottoms : List ℕ) (x top bottom k : ℕ) → x < length tops → x < length bottoms → x < FRAME_WIDTH → top ≢ NO_RUN → k < FRAME_WIDTH →
+    get_or (set (runs_of tops bottoms) x (Some (top, bottom))) k None ≡ run_at (set tops x top) (set bottoms x bottom) k
+unfolding runs_of
+marked_run tops bottoms x top bottom k l m h n j =
+    elim (cases_eq k x) [
+      | inl e ↦
+          let t : slice_index (set tops x top) x ≡ top = get_or-set_same tops x top 0 l in
+          let b : slice_index (set bottoms x bottom) x ≡ bottom = get_or-set_same bottoms x bottom 0 m in
+          let w : x < length (listed (run_at tops bottoms) FRAME_WIDTH) = omega (arith, length-listed (run_at tops bottoms) FRAME_WIDTH) in
+          ap (λ (i : ℕ). get_or (set (listed (run_at tops bottoms) FRAME_WIDTH) x (Some (top, bottom))) i None) e
+          ∙ get_or-set_same (listed (run_at tops bottoms) FRAME_WIDTH) x (Some (top, bottom)) None w
+          ∙ sym (run_at-some (set tops x top) (set bottoms x bottom) x (λ q. n (sym t ∙ q)) ∙ ap (λ (v : ℕ). Some (v, slice_index (set bottoms x bottom) x)) t ∙ ap (λ (v : ℕ). Some (top, v)) b)
+          ∙ ap (run_at (set tops x top) (set bottoms x bottom)) (sym e)
+      | inr e ↦
+          get_or-set_other (listed (run_at tops bottoms) FRAME_WIDTH) x k (Some (top, bottom)) None e
+          ∙ get_or-listed (run_at tops bottoms) FRAME_WIDTH k None j
+          ∙ run_at-same tops bottoms (set tops x top) (set bottoms x bottom) k (sym (get_or-set_other tops x k top 0 e)) (sym (get_or-set_other bottoms x k bottom 0 e))
+    ]
+
+runs_all : (tops bottoms : List ℕ) (runs : List (Option (ℕ × ℕ))) → length runs ≡ FRAME_WIDTH → ((k : ℕ) → k < FRAME_WIDTH → get_or runs k None ≡ run_at tops bottoms k) → runs ≡ runs_of tops bottoms
+unfolding runs_of
+runs_all tops bottoms runs l h = listed-all (run_at tops bottoms) runs FRAME_WIDTH None l h
+
+marked_runs : (tops bottoms : List ℕ) (x top bottom : ℕ) → length tops ≡ FRAME_WIDTH → length bottoms ≡ FRAME_WIDTH → x < FRAME_WIDTH → top ≢ NO_RUN →
+    set (runs_of tops bottoms) x (Some (top, bottom)) ≡ runs_of (set tops x top) (set bottoms x bottom)
+marked_runs tops bottoms x top bottom l m h n =
+    runs_all (set tops x top) (set bottoms x bottom) (set (runs_of tops bottoms) x (Some (top, bottom)))
+    (length-set (runs_of tops bottoms) x (Some (top, bottom)) ∙ length-runs_of tops bottoms)
+    (λ k j. marked_run tops bottoms x top bottom k (omega arith) (omega arith) h n j)
+
+pub plane_of-marked : (key : PlaneKey) (tops bottoms : List ℕ) (x top bottom : ℕ) → length tops ≡ FRAME_WIDTH → length bottoms ≡ FRAME_WIDTH → x < FRAME_WIDTH → top ≢ NO_RUN →
+    plane_of key (set tops x top) (set bottoms x bottom) ≡ with_run (plane_of key tops bottoms) x (top, bottom)
+unfolding with_run
+plane_of-marked key tops bottoms x top bottom l m h n =
+    ap (λ (runs : List (Option (ℕ × ℕ))). record { key = key; runs = runs }) (sym (marked_runs tops bottoms x top bottom l m h n))
+
+-- the columns first to last of a plane are free where none of them among the marked ones has a run
+free_item : (r : Option (ℕ × ℕ)) → r ≡ None → is_none r ≡ true
+free_item r e = ap (λ (o : Option (ℕ × ℕ)). is_none o) e
+
+all_none : (rs : List (Option (ℕ × ℕ))) → ((k : ℕ) → k < length rs → get_or rs k None ≡ None) → list_all (λ r. is_none r) rs ≡ true
+all_none [] h = refl
+all_none (r ∷ rs) h = rw (free_item r (h 0 (omega arith))) (all_none rs (λ k l. h (suc k) (omega arith)))
+
+part_at : (rs : List (Option (ℕ × ℕ))) (first last k : ℕ) → k < last + 1 - first → get_or (slice_range rs first (last + 1)) k None ≡ get_or rs (first + k) None
+part_at rs first last k l = get_or-take (last + 1 - first) (drop first rs) k None l ∙ get_or-drop first rs k None
+
+length_part : (rs : List (Option (ℕ × ℕ))) (first last : ℕ) → last < length rs → length (slice_range rs first (last + 1)) ≡ last + 1 - first
+length_part rs first last l = length-take (last + 1 - first) (drop first rs) ∙ (let d = length-drop first rs in omega arith)
+
+pub is_free-true : (rs : List (Option (ℕ × ℕ))) (first last : ℕ) → last < length rs → ((x : ℕ) → first ≤ x → x ≤ last → get_or rs x None ≡ None) → is_free rs first last ≡ true
+unfolding is_free
+is_free-true rs first last l h =
+    all_none (slice_range rs first (last + 1))
+    (λ k m. (let n : k < last + 1 - first = omega (arith, length_part rs first last l) in part_at rs first last k n ∙ h (first + k) (omega arith) (omega arith)))
+
+pub is_free-false : (rs : List (Option (ℕ × ℕ))) (first last x : ℕ) (r : ℕ × ℕ) → last < length rs → first ≤ x → x ≤ last → get_or rs x None ≡ Some r → is_free rs first last ≡ false
+unfolding is_free
+is_free-false rs first last x r l m n e =
+    let k : x - first < last + 1 - first = omega arith in
+    let i : first + (x - first) ≡ x = omega arith in
+    let g : get_or (slice_range rs first (last + 1)) (x - first) None ≡ Some r = part_at rs first last (x - first) k ∙ ap (λ (j : ℕ). get_or rs j None) i ∙ e in
+    list_all_at (λ r. is_none r) (slice_range rs first (last + 1)) (x - first) None (omega (arith, length_part rs first last l)) (ap (λ (o : Option (ℕ × ℕ)). is_none o) g)
+
+-- the plane itself: only the columns among the marked ones count
+free_column : (tops bottoms : List ℕ) (x : ℕ) → x < FRAME_WIDTH → slice_index tops x ≡ NO_RUN → get_or (runs_of tops bottoms) x None ≡ None
+unfolding runs_of
+free_column tops bottoms x l e = get_or-listed (run_at tops bottoms) FRAME_WIDTH x None l ∙ run_at-none tops bottoms x e
+
+free_within : (tops bottoms : List ℕ) (least greatest first last x : ℕ) → IsKept tops bottoms least greatest → last < FRAME_WIDTH →
+    ((x : ℕ) → max first least ≤ x → x ≤ min last greatest → slice_index tops x ≡ NO_RUN) → first ≤ x → x ≤ last → get_or (runs_of tops bottoms) x None ≡ None
+free_within tops bottoms least greatest first last x k l h a b =
+    free_column tops bottoms x (omega arith)
+    (elim (cases_lt x least) [
+      | inl m ↦ k.before x (omega arith) m
+      | inr m ↦ elim (cases_lt greatest x) [ inl n ↦ k.after x (omega arith) n | inr n ↦ h x (omega arith) (omega arith) ]
+    ])
+
+pub kept-free : (tops bottoms : List ℕ) (least greatest first last : ℕ) → IsKept tops bottoms least greatest → last < FRAME_WIDTH →
+    ((x : ℕ) → max first least ≤ x → x ≤ min last greatest → slice_index tops x ≡ NO_RUN) → is_free (runs_of tops bottoms) first last ≡ true
+kept-free tops bottoms least greatest first last k l h =
+    is_free-true (runs_of tops bottoms) first last (omega (arith, length-runs_of tops bottoms))
+    (λ x a b. free_within tops bottoms least greatest first last x k l h a b)
+
+pub kept-taken : (tops bottoms : List ℕ) (least greatest first last : ℕ) → last < FRAME_WIDTH →
+    HasRun tops (max first least) (min last greatest) → is_free (runs_of tops bottoms) first last ≡ false
+unfolding runs_of
+kept-taken tops bottoms least greatest first last l r =
+    let a : first ≤ r.x = omega (arith, r.from) in
+    let b : r.x ≤ last = omega (arith, r.to) in
+    is_free-false (listed (run_at tops bottoms) FRAME_WIDTH) first last r.x (slice_index tops r.x, slice_index bottoms r.x)
+    (omega (arith, length-listed (run_at tops bottoms) FRAME_WIDTH)) a b
+    (get_or-listed (run_at tops bottoms) FRAME_WIDTH r.x None (omega arith) ∙ run_at-some tops bottoms r.x r.run)

@@ -1,0 +1,43 @@
+-- Laws of rows: which row is in them, and the two parts of one column's rows that another does not have.
+use Rattle.std.proofs.Common.{◌≡◌, ℕ, ◌<◌, ◌≤◌, ◌+◌, Bool, true, false, Option, Some, None, ap, sym, ◌∙◌, arith, inl, inr}
+use Rattle.std.specs.Prelude.{◌&&◌, ◌⊎◌, nat_le, nat_lt}
+use Rattle.std.proofs.lemmas.Bool.{cases_lt, le-leb, lt-leb, lt-ltb, le-ltb, leb-true, ltb-true, and_from, and_right, and_parts, both_ways}
+use Rattle.visplanes.specs.declared.rows.Rows.{Rows}
+use Rattle.plane_rules.specs.Spans.{holds_row}
+use Rattle.visplanes.specs.Spans.{rows_of, is_in}
+
+pub is_in-from : (rows : Rows) (y : ℕ) → rows.begin ≤ y → y < rows.end → is_in rows y ≡ true
+unfolding is_in
+is_in-from rows y l m = and_from (nat_le rows.begin y) (nat_lt y rows.end) (le-leb rows.begin y l) (lt-ltb y rows.end m)
+
+pub is_in-parts : (rows : Rows) (y : ℕ) → is_in rows y ≡ true → (rows.begin ≤ y) × (y < rows.end)
+unfolding is_in
+is_in-parts rows y h = let a = and_parts (nat_le rows.begin y) (nat_lt y rows.end) h in (leb-true rows.begin y a.0, ltb-true y rows.end a.1)
+
+-- a row that is not in them is above or below
+pub is_in-not : (rows : Rows) (y : ℕ) → is_in rows y ≡ false → (y < rows.begin) ⊎ (rows.end ≤ y)
+is_in-not rows y h =
+    elim (cases_lt y rows.begin) [
+      | inl a ↦ inl a
+      | inr a ↦ elim (cases_lt y rows.end) [
+        | inl b ↦ absurd (both_ways (is_in rows y) h (is_in-from rows y a b))
+        | inr b ↦ inr b
+      ]
+    ]
+
+-- no run has no row, and a run those that it holds
+pub is_in-none : (y : ℕ) → is_in (record { begin = 0; end = 0 }) y ≡ false
+unfolding is_in
+is_in-none y = and_right (nat_le 0 y) (nat_lt y 0) (le-ltb y 0 (omega arith))
+
+same_end : (y last : ℕ) → nat_lt y (last + 1) ≡ nat_le y last
+same_end y last =
+    elim (cases_lt last y) [
+      | inl a ↦ le-ltb y (last + 1) (omega arith) ∙ sym (lt-leb y last a)
+      | inr a ↦ lt-ltb y (last + 1) (omega arith) ∙ sym (le-leb y last a)
+    ]
+
+pub is_in-rows_of : (r : Option (ℕ × ℕ)) (y : ℕ) → is_in (rows_of r) y ≡ holds_row r y
+unfolding is_in holds_row
+is_in-rows_of None y = and_right (nat_le 0 y) (nat_lt y 0) (le-ltb y 0 (omega arith))
+is_in-rows_of (Some r) y = ap (λ (b : Bool). nat_le r.0 y && b) (same_end y r.1)

@@ -1,0 +1,31 @@
+use Rattle.std.proofs.Common.{◌≡◌, ap, ◌∙◌, refl, subst}
+use Rattle.view_rules.specs.declared.TheConstants.{FRAME_WIDTH}
+use Rattle.pixel_rules.specs.declared.Painter.{Painter}
+use Rattle.pixel_rules.specs.declared.TheConstants.{PLANE}
+use Rattle.pixel_rules.specs.Art.{lump_source, painter_of}
+use Rattle.plane_rules.specs.declared.PlaneKey.{PlaneKey}
+use Rattle.plane_rules.specs.Planes.{Plane}
+use Rattle.pixel_strips.specs.Canvases.{CanvasView, with_painter}
+use Rattle.visplanes.specs.Planes.{plane_at, flat_lump}
+use Rattle.visplanes.specs.Spans.{FloorView, HasSpans}
+use Rattle.visplanes.proofs.FlatLemmas.{spans-plane}
+use Rattle.visplanes.proofs.draw.draw_plane.Goals as goal
+
+pub returns : goal.returns
+returns g c = λ art sky gives.
+    let n = c.args.plane.0 in
+    let p : Plane = plane_at c.args.planes.now.planes n in
+    let old = g.C.Canvas.view c.args.canvas.now in
+    let mark = g.C.Canvas.mark in
+    let after = g.C.Canvas.view c.draw_columns.new.canvas in
+    let floor_of : PlaneKey → FloorView = λ key. record { view = c.args.view.now; key = key; flat = c.args.flat.now; colormap = c.args.colormap.now } in
+    let painter : PlaneKey → Painter = λ key. painter_of PLANE n (lump_source (flat_lump key.flat)) in
+    let key : c.key-key.result ≡ p.key = c.key-key.ensures.value ∙ ap (λ (q : Plane). q.key) c.visplane-visplane.ensures in
+    let begun = c.begin.ensures ∙ ap (λ (q : Painter). with_painter q old) (c.painter_of.ensures ∙ ap painter key) in
+    let seen_by : HasSpans mark (floor_of p.key) c.visplane-visplane.result.now (λ y. FRAME_WIDTH) (g.C.Canvas.view c.begin.new.self) after =
+    subst (λ (f : FloorView). HasSpans mark f c.visplane-visplane.result.now (λ y. FRAME_WIDTH) (g.C.Canvas.view c.begin.new.self) after) (c.new-floor.ensures ∙ ap floor_of key) c.draw_columns.ensures in
+    let of_plane : HasSpans mark (floor_of p.key) p (λ y. FRAME_WIDTH) (g.C.Canvas.view c.begin.new.self) after =
+    subst (λ (q : Plane). HasSpans mark (floor_of p.key) q (λ y. FRAME_WIDTH) (g.C.Canvas.view c.begin.new.self) after) c.visplane-visplane.ensures seen_by in
+    let by_painter : HasSpans mark (floor_of p.key) p (λ y. FRAME_WIDTH) (with_painter (painter p.key) old) after =
+    subst (λ (v : CanvasView). HasSpans mark (floor_of p.key) p (λ y. FRAME_WIDTH) v after) begun of_plane in
+    spans-plane mark c.args.view.now art sky n p c.args.flat.now c.args.colormap.now (with_painter (painter p.key) old) after gives c.requires.floor c.requires.seen refl by_painter

@@ -1,0 +1,14 @@
+use Rattle.std.proofs.Common.{◌≡◌, ◌-◌, ◌≤◌, max}
+use Rattle.std.specs.Prelude.{slice_index}
+use Rattle.pixel_strips.specs.Canvases.{with_dots}
+use Rattle.visplanes.specs.Spans.{closed_rows}
+use Rattle.visplanes.proofs.draw.paint_rows.Given as goal
+
+-- the spans of the rows above y are painted
+abbrev pub invariant-loop-y : goal.invariant-loop-y
+invariant-loop-y g l = record {
+  from : l.begin ≤ l.y;
+  idle : l.y ≤ max l.begin l.end;
+  painted : g.C.Canvas.view l.canvas ≡ with_dots g.C.Canvas.mark
+      (closed_rows l.floor (g.C.Canvas.view l.fn.canvas).painter (slice_index l.starts) l.x l.begin (l.y - l.begin)) (g.C.Canvas.view l.fn.canvas);
+}

@@ -1,0 +1,13 @@
+use Rattle.std.proofs.Common.{ap, ◌∙◌, arith}
+use Rattle.std.proofs.Common.{length, length-set}
+use Rattle.plane_rules.specs.Planes.{Plane}
+use Rattle.visplanes.proofs.ListLemmas.{wide-put, length-empty_plane}
+use Rattle.visplanes.proofs.planes.Planes.add.Goals as goal
+
+pub invariant_of-self : goal.invariant_of-self
+invariant_of-self c =
+    let i = c.self.inside in (
+      omega (arith, length-set {A = Plane}),
+      omega (arith, length-set {A = Plane}),
+      wide-put i.planes.items i.count c.new.result (ap (λ (p : Plane). length p.runs) c.new.ensures ∙ length-empty_plane c.args.key) c.self.invariant.2,
+    )

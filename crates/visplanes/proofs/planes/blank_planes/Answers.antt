@@ -1,0 +1,13 @@
+use Rattle.std.proofs.Common.{ℕ, ◌+◌, List, length, ap, sym, ◌∙◌, subst}
+use Rattle.std.proofs.lemmas.List.{length_push}
+use Rattle.plane_rules.specs.Planes.{Plane, AreWide}
+use Rattle.visplanes.proofs.ListLemmas.{wide-push, length-empty_plane}
+use Rattle.visplanes.proofs.planes.blank_planes.Goals as goal
+
+pub loop-preserved : goal.loop-preserved
+loop-preserved c =
+    let e = c.in_ok-push.ensures.items in
+    record {
+      size = ap (λ (ps : List Plane). length ps) e ∙ length_push c.loop.planes.items c.new.result ∙ ap (λ (n : ℕ). n + 1) c.loop.invariant.size;
+      wide = subst (λ (ps : List Plane). AreWide ps) (sym e) (wide-push c.loop.planes.items c.new.result (ap (λ (p : Plane). length p.runs) c.new.ensures ∙ length-empty_plane _) c.loop.invariant.wide);
+    }

@@ -1,0 +1,25 @@
+-- What a contract sees of planes: their list, and the room that was taken for them.
+use Rattle.std.specs.Prelude.{ℕ, pos, List, slice_index_or}
+use Rattle.plane_rules.specs.declared.Flat4.{Flat4}
+use Rattle.plane_rules.specs.declared.Flat4.TheVariants.{Sky, Lump}
+use Rattle.plane_rules.specs.Planes.{Plane, empty_plane}
+
+pub record PlanesView : Type 0 where
+  pub planes : List Plane
+  pub room : ℕ
+
+abbrev pub with_planes : List Plane → PlanesView → PlanesView
+with_planes planes s = record s { planes = planes }
+
+-- what stands where no plane has the number
+unfoldable pub no_plane : Plane
+no_plane = empty_plane (record { height = pos 0; flat = Sky; light = pos 0 })
+
+-- plane number n
+abbrev pub plane_at : List Plane → ℕ → Plane
+plane_at planes n = slice_index_or planes n no_plane
+
+-- the lump of a flat, 0 where it is the sky
+abbrev pub flat_lump : Flat4 → ℕ
+flat_lump Sky = 0
+flat_lump (Lump n) = n

@@ -1,0 +1,235 @@
+// The planes of a view.
+ghost use Rattle.std.specs.Prelude.{◌≡◌, ℕ, ◌+◌, ◌<◌, ◌≤◌, ◌↔◌, true, [], length, position, IfOk, IfErr, IfSome, IsErr, OnOk, OnErr};
+ghost use Rattle.view_rules.specs.declared.TheConstants.{FRAME_WIDTH, FRAME_HEIGHT};
+ghost use Rattle.plane_rules.specs.declared.TheConstants.{MOST_VISPLANES};
+ghost use Rattle.plane_rules.specs.Planes.{find, check, mark, add, column, number_of, AreWide};
+ghost use Rattle.plane_rules.specs.Spans.{holds, row_runs};
+ghost use Rattle.visplanes.specs.Planes.{PlanesView, with_planes, plane_at};
+
+use crate::columns::Visplane;
+use crate::keys::same_key;
+use crate::row_runs::RowRuns;
+use plane_rules::{Flat4, MOST_VISPLANES, PlaneKey};
+use std::alloc::{AllocError, Global};
+use std::marker::Model;
+
+/// The number of a plane among the planes of a view, counted from 0 in order of making.
+#[derive(Clone, Copy, Debug, PartialEq, Eq)]
+pub struct PlaneNo(pub u16);
+
+/// A new plane is wanted and there is no room for it: so many planes would be there with it.
+#[derive(Clone, Copy, Debug, PartialEq, Eq)]
+pub struct PlanesFull {
+    pub count: u32,
+}
+
+/// The planes of a view, in order of making. Contracts see their list, and the room that `new` took.
+///
+/// The original: `visplanes` and `lastvisplane`, r_plane.c.
+#[derive(Drop)]
+pub struct Planes {
+    planes: Vec<Visplane>,
+    count: usize,
+}
+
+impl Model for Planes {
+    ghost use Rattle.std.specs.Prelude.{take, length, ◌≤◌};
+    ghost use Rattle.plane_rules.specs.declared.TheConstants.{MOST_VISPLANES};
+    ghost use Rattle.plane_rules.specs.Planes.{AreWide};
+    ghost use Rattle.visplanes.specs.Planes.{PlanesView};
+
+    ghost Value = { PlanesView };
+
+    ghost view = { λ p. record { planes = take p.count p.planes.items; room = length p.planes.items } };
+
+    ghost invariant = { λ p. (p.count ≤ length p.planes.items) × (length p.planes.items ≤ MOST_VISPLANES) × AreWide p.planes.items };
+}
+
+impl Planes {
+    /// No plane, and room for `room` of them, at most 1024.
+    ///
+    /// Takes all the memory of the planes: a key and 640 bytes for each.
+    ///
+    /// Errors: `AllocError`, out of memory.
+    ///
+    /// The original: `visplanes`, r_plane.c, with room for 128. This project's own: the room.
+    pub fn new(alloc: Global, room: u32) -> Result<Planes, AllocError>
+        requires { room ≤ MOST_VISPLANES }
+        ensures { IfOk result (λ planes. planes ≡ record { planes = []; room = room }) }
+    {
+        let planes = blank_planes(alloc, room as usize)?;
+        Ok(Planes { planes, count: 0 })
+    }
+
+    /// How many planes there are.
+    pub fn count(&self) -> u32
+        ensures value { result ≡ length self.now.planes }
+        ensures room { result ≤ self.now.room }
+        ensures most { self.now.room ≤ MOST_VISPLANES }
+        ensures wide { AreWide self.now.planes }
+    {
+        self.count as u32
+    }
+
+    /// Leaves no plane. The room stays. Touches none of the planes.
+    ///
+    /// The original: `R_ClearPlanes`, r_plane.c.
+    pub fn clear(&mut self)
+        ensures { self.new ≡ with_planes [] self.old }
+    {
+        self.count = 0;
+    }
+
+    /// The first plane of equal key, or else a new one behind the others with no column marked.
+    ///
+    /// `key.height` is in map units, 16.16 fixed point. Linear in the planes there are. Takes no
+    /// memory.
+    ///
+    /// Errors: `PlanesFull` exactly where a new plane is wanted and the room is full; the count is
+    /// the room and one. Nothing changes then.
+    ///
+    /// The original: `R_FindPlane`, r_plane.c, which ends the program there.
+    pub fn find(&mut self, key: PlaneKey) -> Result<PlaneNo, PlanesFull>
+        ensures ok { OnOk result (self.new ≡ with_planes (find self.old.planes key).planes self.old) }
+        ensures number { IfOk result (λ plane. plane.0 ≡ (find self.old.planes key).number) }
+        ensures within { IfOk result (λ plane. plane.0 < length self.new.planes) }
+        ensures full { IsErr result ↔ (self.old.room < length (find self.old.planes key).planes) }
+        ensures count { IfErr result (λ e. e.count ≡ self.old.room + 1) }
+        ensures err { OnErr result (self.new ≡ self.old) }
+    {
+        match self.number_of(key) {
+            Some(number) => Ok(PlaneNo(number as u16)),
+            None => self.add(key),
+        }
+    }
+
+    /// The plane itself where none of its columns `first` to `last` is marked, else a new plane of
+    /// its key behind the others, with no column marked.
+    ///
+    /// Columns are 0 to 319. Linear in the columns. Takes no memory.
+    ///
+    /// Errors: `PlanesFull` exactly where a new plane is wanted and the room is full; the count is
+    /// the room and one. Nothing changes then.
+    ///
+    /// The original: `R_CheckPlane`, r_plane.c.
+    pub fn check(&mut self, plane: PlaneNo, first: u16, last: u16) -> Result<PlaneNo, PlanesFull>
+        requires plane { plane.0 < length self.old.planes }
+        requires ordered { first ≤ last }
+        requires within { last < FRAME_WIDTH }
+        ensures ok { OnOk result (self.new ≡ with_planes (check self.old.planes plane.0 first last).planes self.old) }
+        ensures number { IfOk result (λ checked. checked.0 ≡ (check self.old.planes plane.0 first last).number) }
+        ensures within { IfOk result (λ checked. checked.0 < length self.new.planes) }
+        ensures full { IsErr result ↔ (self.old.room < length (check self.old.planes plane.0 first last).planes) }
+        ensures count { IfErr result (λ e. e.count ≡ self.old.room + 1) }
+        ensures err { OnErr result (self.new ≡ self.old) }
+    {
+        let checked = &self.planes[plane.0 as usize];
+        if checked.is_free(first, last) {
+            return Ok(plane);
+        }
+        let key = checked.key();
+        self.add(key)
+    }
+
+    /// Sets the run of column `x`, 0 to 319, to the rows `top` to `bottom`, 0 to 199. No other run
+    /// and no other plane changes.
+    ///
+    /// The original: `ceilingplane->top[rw_x] = top` and its kin, `R_RenderSegLoop`, r_segs.c.
+    pub fn mark(&mut self, plane: PlaneNo, x: u16, top: u8, bottom: u8)
+        requires plane { plane.0 < length self.old.planes }
+        requires column { x < FRAME_WIDTH }
+        requires ordered { top ≤ bottom }
+        requires row { bottom < FRAME_HEIGHT }
+        ensures run { self.new ≡ with_planes (mark self.old.planes plane.0 x (top, bottom)) self.old }
+        ensures count { length self.new.planes ≡ length self.old.planes }
+    {
+        self.planes[plane.0 as usize].mark(x, top, bottom);
+    }
+
+    /// The run of column `x`, 0 to 319: its first and its last row, or None where it has none.
+    pub fn column(&self, plane: PlaneNo, x: u16) -> Option<(u8, u8)>
+        requires plane { plane.0 < length self.now.planes }
+        requires column { x < FRAME_WIDTH }
+        ensures { result ≡ column (plane_at self.now.planes plane.0) x }
+    {
+        self.visplane(plane).column(x)
+    }
+
+    /// The key of a plane. All that its runs hold lies in a frame.
+    pub fn key(&self, plane: PlaneNo) -> PlaneKey
+        requires { plane.0 < length self.now.planes }
+        ensures value { result ≡ (plane_at self.now.planes plane.0).key }
+        ensures frame { (x y : ℕ) → holds (plane_at self.now.planes plane.0) y x ≡ true → (x < FRAME_WIDTH) × (y < FRAME_HEIGHT) }
+    {
+        self.visplane(plane).key()
+    }
+
+    /// The maximal runs of columns whose rows hold `row`, 0 to 199, from left to right, each by its
+    /// first and its last column.
+    ///
+    /// This project's own: the original draws each run where it finds it.
+    pub fn runs(&self, plane: PlaneNo, row: u8) -> RowRuns<'_>
+        requires plane { plane.0 < length self.now.planes }
+        requires row { row < FRAME_HEIGHT }
+        ensures { result ≡ row_runs (plane_at self.now.planes plane.0) row }
+    {
+        RowRuns::new(self.visplane(plane), row)
+    }
+
+    // The plane of a number.
+    pub(crate) fn visplane(&self, plane: PlaneNo) -> &Visplane
+        requires { plane.0 < length self.now.planes }
+        ensures { result.now ≡ plane_at self.now.planes plane.0 }
+    {
+        &self.planes[plane.0 as usize]
+    }
+
+    // The number of the first plane of equal key.
+    #[tactic(auto, unfolding(plane_rules::specs::Planes::number_of))]
+    fn number_of(&self, key: PlaneKey) -> Option<usize>
+        ensures value { result ≡ number_of self.now.planes key }
+        ensures small { IfSome result (λ number. number < MOST_VISPLANES) }
+        ensures room { length self.now.planes ≤ self.now.room }
+    {
+        self.planes[..self.count]
+            .iter()
+            .position(|plane| same_key(plane.key(), key))
+    }
+
+    // A new plane behind the others.
+    #[tactic(auto, unfolding(plane_rules::specs::Planes::add))]
+    fn add(&mut self, key: PlaneKey) -> Result<PlaneNo, PlanesFull>
+        ensures ok { OnOk result (self.new ≡ with_planes (add self.old.planes key).planes self.old) }
+        ensures number { IfOk result (λ plane. plane.0 ≡ (add self.old.planes key).number) }
+        ensures within { IfOk result (λ plane. plane.0 < length self.new.planes) }
+        ensures full { IsErr result ↔ (self.old.room < length (add self.old.planes key).planes) }
+        ensures count { IfErr result (λ e. e.count ≡ self.old.room + 1) }
+        ensures err { OnErr result (self.new ≡ self.old) }
+    {
+        if self.count == self.planes.len() {
+            let count = self.planes.len() as u32 + 1;
+            return Err(PlanesFull { count });
+        }
+        let number = PlaneNo(self.count as u16);
+        self.planes[self.count] = Visplane::new(key);
+        self.count += 1;
+        Ok(number)
+    }
+}
+
+// So many planes that nothing has marked.
+fn blank_planes(alloc: Global, room: usize) -> Result<Vec<Visplane>, AllocError>
+    ensures room { IfOk result (λ planes. length planes.items ≡ room) }
+    ensures wide { IfOk result (λ planes. AreWide planes.items) }
+{
+    let key = PlaneKey {
+        height: 0,
+        flat: Flat4::Sky,
+        light: 0,
+    };
+    let mut planes = Vec::with_capacity(alloc, room)?;
+    for _ in 0..room {
+        planes.push(Visplane::new(key))?;
+    }
+    Ok(planes)
+}

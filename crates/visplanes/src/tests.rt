@@ -1,0 +1,179 @@
+// Planes by hand, and the floor of a room of 512 by 512 units with a ceiling of 128.
+ghost use Rattle.std.specs.Prelude.{◌≡◌, ◌<◌, ◌≤◌};
+ghost use Rattle.view_rules.specs.declared.TheConstants.{FRAME_WIDTH, FRAME_HEIGHT};
+
+use super::{Flat4, PlaneKey, PlaneNo, Planes, PlanesFull, draw_plane};
+use angle_tables::Tables;
+use level_maker::make_tables;
+use pixel_strips::{Canvas, Frame};
+use std::alloc::{AllocError, Global};
+use std::test::Fail;
+use view_frame::View;
+use view_rules::{Eye, FRAME_HEIGHT, FRAME_WIDTH};
+
+// The floor of this height.
+fn floor_at(height: i32) -> PlaneKey {
+    PlaneKey {
+        height,
+        flat: Flat4::Lump(6),
+        light: 160,
+    }
+}
+
+#[test]
+fn planes_are_made_up_to_the_room(rt: HostRuntime) -> Result<(), Fail> {
+    let mut planes = Planes::new(rt.alloc(), 2)?;
+    let floor = planes.find(floor_at(0))?;
+    planes.mark(floor, 4, 150, 199);
+    let same = planes.check(floor, 5, 6)?;
+    assert_eq!(rt; same, PlaneNo(0));
+    let second = planes.check(same, 3, 4)?;
+    assert_eq!(rt; second, PlaneNo(1));
+    assert_eq!(rt; planes.find(floor_at(0)), Ok(PlaneNo(0)));
+    assert_eq!(rt; planes.find(floor_at(8)), Err(PlanesFull { count: 3 }));
+    assert_eq!(rt; planes.count(), 2);
+    planes.clear();
+    assert_eq!(rt; planes.count(), 0);
+    assert_eq!(rt; planes.find(floor_at(8)), Ok(PlaneNo(0)));
+    Ok(())
+}
+
+#[test]
+fn the_later_run_of_a_column_stays(rt: HostRuntime) -> Result<(), Fail> {
+    let mut planes = Planes::new(rt.alloc(), 1)?;
+    let floor = planes.find(floor_at(0))?;
+    planes.mark(floor, 4, 0, 9);
+    planes.mark(floor, 4, 20, 29);
+    assert_eq!(rt; planes.column(floor, 4), Some((20, 29)));
+    assert_eq!(rt; planes.column(floor, 5), None);
+    Ok(())
+}
+
+#[test]
+fn a_row_has_its_runs_from_left_to_right(rt: HostRuntime) -> Result<(), Fail> {
+    let mut planes = Planes::new(rt.alloc(), 1)?;
+    let floor = planes.find(floor_at(0))?;
+    planes.mark(floor, 6, 15, 30);
+    planes.mark(floor, 2, 10, 20);
+    planes.mark(floor, 3, 15, 15);
+    let mut runs = planes.runs(floor, 15);
+    assert_eq!(rt; runs.next(), Some((2, 3)));
+    assert_eq!(rt; runs.next(), Some((6, 6)));
+    assert_eq!(rt; runs.next(), None);
+    assert_eq!(rt; planes.runs(floor, 9).next(), None);
+    Ok(())
+}
+
+// Texel x, y of the flat is 7 x + 11 y.
+fn texels(alloc: Global) -> Result<Vec<u8>, AllocError> {
+    let mut flat = Vec::new(alloc);
+    for y in 0..64u16 {
+        for x in 0..64u16 {
+            flat.push(((7 * x + 11 * y) % 256) as u8)?;
+        }
+    }
+    Ok(flat)
+}
+
+// Colormap m makes each colour m brighter.
+fn brighter(alloc: Global) -> Result<Vec<u8>, AllocError> {
+    let mut colormap = Vec::new(alloc);
+    for map in 0..34u16 {
+        for index in 0..256u16 {
+            colormap.push(((index + map) % 256) as u8)?;
+        }
+    }
+    Ok(colormap)
+}
+
+// The floor at height 0 in columns `first` to `last`, from row `top` to row 199.
+fn floor_seen(alloc: Global, eye: Eye, first: u16, last: u16, top: u8) -> Result<Frame, Fail>
+    requires last { last < FRAME_WIDTH }
+    requires top { top < FRAME_HEIGHT }
+{
+    let bytes = make_tables(alloc)?;
+    let tables = Tables::from_bytes(alloc, &bytes, 11)?;
+    let view = View::new(&tables, eye);
+    let shape = view.shape();
+    let mut planes = Planes::new(alloc, 1)?;
+    let plane = planes.find(floor_at(0))?;
+    for x in first..last + 1 {
+        planes.mark(plane, x, top, 199);
+    }
+    let mut frame = Frame::new(alloc)?;
+    frame.place(0, 0);
+    let flat = texels(alloc)?;
+    let colormap = brighter(alloc)?;
+    let key = planes.key(plane);
+    if shape.width == FRAME_WIDTH
+        && shape.height == FRAME_HEIGHT
+        && let Flat4::Lump(_) = key.flat
+    {
+        draw_plane(&planes, plane, &view, &flat, &colormap, &mut frame);
+    }
+    Ok(frame)
+}
+
+// The pixel of column `x` and row `y`.
+fn pixel(frame: &Frame, x: usize, y: usize) -> Option<u8>
+    requires x { x < FRAME_WIDTH }
+    requires y { y < FRAME_HEIGHT }
+{
+    frame.bytes().get(320 * y + x).copied()
+}
+
+#[test]
+fn a_floor_is_painted_from_its_first_column(rt: HostRuntime) -> Result<(), Fail> {
+    let eye = Eye {
+        x: 0,
+        y: 0,
+        z: 2686976,
+        angle: 0,
+        extralight: 0,
+        colormap: 0,
+    };
+    let frame = floor_seen(rt.alloc(), eye, 0, 319, 126)?;
+    assert_eq!(rt;
+        (pixel(&frame, 0, 199), pixel(&frame, 1, 199)),
+        (Some(170), Some(181))
+    );
+    assert_eq!(rt;
+        (pixel(&frame, 160, 199), pixel(&frame, 319, 199)),
+        (Some(192), Some(22))
+    );
+    assert_eq!(rt;
+        (pixel(&frame, 1, 126), pixel(&frame, 160, 126)),
+        (Some(243), Some(69))
+    );
+    assert_eq!(rt;
+        (pixel(&frame, 100, 150), pixel(&frame, 160, 125)),
+        (Some(173), Some(0))
+    );
+    Ok(())
+}
+
+#[test]
+fn a_span_begins_where_its_run_begins(rt: HostRuntime) -> Result<(), Fail> {
+    let eye = Eye {
+        x: 1310720,
+        y: -655360,
+        z: 2686976,
+        angle: 286331153,
+        extralight: 0,
+        colormap: 0,
+    };
+    let frame = floor_seen(rt.alloc(), eye, 47, 168, 126)?;
+    assert_eq!(rt;
+        (pixel(&frame, 47, 126), pixel(&frame, 48, 126)),
+        (Some(143), Some(154))
+    );
+    assert_eq!(rt;
+        (pixel(&frame, 107, 126), pixel(&frame, 168, 126)),
+        (Some(174), Some(177))
+    );
+    assert_eq!(rt;
+        (pixel(&frame, 46, 126), pixel(&frame, 169, 126)),
+        (Some(0), Some(0))
+    );
+    Ok(())
+}
