@@ -7,5 +7,6 @@
 #[cfg(test)]
 mod tests;
 #[cfg(test)]
-mod walls;
 mod things;
+#[cfg(test)]
+mod walls;
