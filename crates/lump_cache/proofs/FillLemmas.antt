@@ -1,6 +1,6 @@
 -- A block that was taken and then written, and what other slots keep.
-use Rattle.std.proofs.Common.{◌≡◌, ℕ, ◌<◌, Bool, true, false, cond, ◌&&◌, List, [], ◌∷◌, length, map, Option, Some, None, refl, sym, subst, ap, ◌∙◌, option_map, inl, inr}
-use Rattle.std.specs.Prelude.{IsSome, option_and_then, ◌⊎◌, ◌==◌}
+use Rattle.std.proofs.Common.{◌≡◌, ℕ, ◌<◌, Bool, true, false, cond, ◌&&◌, List, [], ◌∷◌, length, map, Option, Some, None, refl, sym, subst, ap, ◌∙◌, option_map, inl, inr, Result, Ok, Err}
+use Rattle.std.specs.Prelude.{OnOk, OnErr, IsSome, option_and_then, ◌⊎◌, ◌==◌}
 use Rattle.std.proofs.lemmas.Bool.{cond-true, cond-false, and_parts, and_from, eq-eqb, eqb-true, false≢true}
 use Rattle.zone_rules.specs.declared.Tag.{Tag}
 use Rattle.zone_rules.specs.declared.Tag.TheVariants.{Static, Level, Cache}
@@ -23,7 +23,7 @@ left_kept ch (Some b) = go (is_among ch b && is_purgeable b) refl where
 pub kept_along : (old new later : Option Block) → later ≡ new → KeptOrPurged old new → KeptOrPurged old later
 kept_along old new later e k = subst (KeptOrPurged old) (sym e) k
 
-same_refl : (o : Owner) → same_owner o o ≡ true
+pub same_refl : (o : Owner) → same_owner o o ≡ true
 same_refl o = and_from (o.kind == o.kind) (o.number == o.number) (eq-eqb o.kind o.kind refl) (eq-eqb o.number o.number refl)
 
 module _ (o : Owner) (old new : Heap) (P : List ℕ → Type 0) (f : IsFilled o old new P) where
@@ -133,3 +133,16 @@ release_others o p z apart = go (holding_of o z.blocks) where
   go : (h : Option Holding) → owned_block p (released_heap o z h).blocks ≡ owned_block p z.blocks
   go None = refl
   go (Some h) = unless_static_others o p Cache z apart
+
+-- a block that was taken has its use
+pub takes_use : (o : Owner) (size : ℕ) (tag : Tag) (old new : Heap) → TakesBlock old new o size tag → HasBlock tag size (owned_block o new.blocks)
+takes_use o size tag old new t = subst (HasBlock tag size) (sym t.block) (refl, refl, t.len)
+
+-- what follows of an answer
+pub on_err : {A E P Q : Type 0} → (r : Result A E) → (P → Q) → OnErr r P → OnErr r Q
+on_err (Ok x) f p = tt
+on_err (Err e) f p = f p
+
+pub on_ok : {A E P Q : Type 0} → (r : Result A E) → (P → Q) → OnOk r P → OnOk r Q
+on_ok (Ok x) f p = f p
+on_ok (Err e) f p = tt

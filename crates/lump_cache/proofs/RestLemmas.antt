@@ -6,8 +6,9 @@ use Rattle.zone_rules.specs.declared.Tag.{Tag}
 use Rattle.zone_rules.specs.declared.Tag.TheVariants.{Static, Level, Cache}
 use Rattle.zone_rules.specs.Zones.{Owner, Holding, Block, Heap, owned_block, holding_of, same_owner, is_held_by, is_pinned, is_purgeable, pins, may_purge, is_purgeable_tag}
 use Rattle.zone_rules.specs.Frees.{with_tag, retag_block, set_tag}
+use Rattle.zone_rules.proofs.PurgeLemmas.{pinned_stays}
 use Rattle.zone_rules.proofs.OwnerLemmas.{owner_eq, owned_block-map, owned_retagged_others, retag_held}
-use Rattle.lump_cache.specs.Caches.{KeptOrPurged, MayPurge, IsAtRest, IsStatic, IsUnpinned, HasBlock, HasUse, lump_owner, with_tag_unless_static, holds_static, is_static_tag, release_heap, released_heap}
+use Rattle.lump_cache.specs.Caches.{KeptOrPurged, MayPurge, IsAtRest, IsStatic, IsUnpinned, IsPinned, HasBlock, HasUse, lump_owner, with_tag_unless_static, holds_static, is_static_tag, release_heap, released_heap}
 
 cache_unpinned : (size : ℕ) (b : Option Block) → HasBlock Cache size b → IsUnpinned b
 cache_unpinned size None k = absurd k
@@ -26,17 +27,25 @@ static_stays size b s = go b.holding s where
   go None s = absurd s
   go (Some h) s = ap is_purgeable_tag s.0
 
-static_held : (size : ℕ) (h : Option Holding) → IsStatic size h → holds_static h ≡ true
+pub static_held : (size : ℕ) (h : Option Holding) → IsStatic size h → holds_static h ≡ true
 static_held size None s = absurd s
 static_held size (Some h) s = ap is_static_tag s.0
 
-kept_unpinned : (old new : Option Block) → KeptOrPurged old new → IsUnpinned old → IsUnpinned new
+pub kept_unpinned : (old new : Option Block) → KeptOrPurged old new → IsUnpinned old → IsUnpinned new
 kept_unpinned old new (inl e) u = subst IsUnpinned (sym e) u
 kept_unpinned old new (inr e) u = subst IsUnpinned (sym e.0) tt
 
-kept_static : (size : ℕ) (b : Block) (new : Option Block) → IsStatic size b.holding → KeptOrPurged (Some b) new → new ≡ Some b
+pub kept_static : (size : ℕ) (b : Block) (new : Option Block) → IsStatic size b.holding → KeptOrPurged (Some b) new → new ≡ Some b
 kept_static size b new s (inl e) = e
 kept_static size b new s (inr e) = absurd (false≢true (sym (static_stays size b s) ∙ e.1))
+
+-- a pinned block stands
+pub kept_pinned : (old new : Option Block) → KeptOrPurged old new → IsPinned old → new ≡ old
+kept_pinned old new (inl e) p = e
+kept_pinned old new (inr e) p = absurd (both old e.1 p) where
+  both : (b : Option Block) → MayPurge b → IsPinned b → ⊥
+  both None m p = p
+  both (Some b) m p = false≢true (sym (pinned_stays b.holding p) ∙ m)
 
 -- where one lump that was no live one has an unpinned block, or none, and the others are kept or purged
 module _ (colormap size : ℕ) (old : Heap) (rest : IsAtRest colormap size old) where

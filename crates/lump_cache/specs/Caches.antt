@@ -1,5 +1,6 @@
 -- What a cache holds, and what a call keeps of it.
 use Rattle.std.specs.Prelude.{◌≡◌, ℕ, ◌<◌, Bool, true, false, List, length, Option, Some, None, IfSome, ⊤, ◌⊎◌, if◌then◌else◌, Result, Ok, Err, All}
+use Rattle.std.specs.List.{list_any}
 use Rattle.lump_rules.specs.declared.wad.Lump.{Lump}
 use Rattle.lump_rules.specs.Contents.{lump_bytes}
 use Rattle.zone_rules.specs.declared.Tag.{Tag}
@@ -40,6 +41,10 @@ abbrev pub IsUnpinned : Option Block → Type 0
 IsUnpinned None = ⊤
 IsUnpinned (Some b) = is_pinned b ≡ false
 
+abbrev pub IsPinned : Option Block → Type 0
+IsPinned None = ⊥
+IsPinned (Some b) = is_pinned b ≡ true
+
 -- the colormap of that size stands at place 0, pinned for the whole run, and no other block is pinned
 pub record IsAtRest (colormap size : ℕ) (z : Heap) : Type 0 where
   pub block : Block
@@ -47,6 +52,14 @@ pub record IsAtRest (colormap size : ℕ) (z : Heap) : Type 0 where
   pub place : block.place ≡ 0
   pub pinned : IsStatic size block.holding
   pub others : (o : Owner) → same_owner (lump_owner colormap) o ≡ false → IsUnpinned (owned_block o z.blocks)
+
+-- no slot is live
+abbrev pub IsEmpty : Heap → Type 0
+IsEmpty z = (o : Owner) → owned_block o z.blocks ≡ None
+
+-- the zone keeps its size, and its slots of each kind
+abbrev pub KeepsCounts : Heap → Heap → Type 0
+KeepsCounts old new = (new.size ≡ old.size) × (new.lumps ≡ old.lumps) × (new.composites ≡ old.composites)
 
 -- a slot that a call does not name: as it was, or empty where its block was purgeable
 abbrev pub MayPurge : Option Block → Type 0
@@ -65,6 +78,15 @@ is_static_tag Cache = false
 abbrev pub holds_static : Option Holding → Bool
 holds_static None = false
 holds_static (Some h) = is_static_tag h.tag
+
+-- at rest, but that the blocks of some owners may be pinned too, though not for the whole run
+pub record IsAtRestBut (colormap size : ℕ) (pinned : List Owner) (z : Heap) : Type 0 where
+  pub block : Block
+  pub is : owned_block (lump_owner colormap) z.blocks ≡ Some block
+  pub place : block.place ≡ 0
+  pub static : IsStatic size block.holding
+  pub others : (o : Owner) → same_owner (lump_owner colormap) o ≡ false → list_any (same_owner o) pinned ≡ false → IsUnpinned (owned_block o z.blocks)
+  pub passing : (o : Owner) → same_owner (lump_owner colormap) o ≡ false → holds_static (holding_of o z.blocks) ≡ false
 
 abbrev pub with_tag_unless_static : Owner → Tag → Heap → Heap
 with_tag_unless_static o tag z = if holds_static (holding_of o z.blocks) then z else with_tag o tag z

@@ -1,20 +1,22 @@
 // The cache and its calls.
 //
 // Rules: `specs/Caches`, over `zone_rules`. The original: w_wad.c.
-ghost use Rattle.std.specs.Prelude.{◌≡◌, ◌<◌, ◌↔◌, ℕ, List, length, false, true, Ok, Err, Some, None, All, IfOk, IfSome, IsErr, IfErr, OnOk, OnErr, IsNone, IsTrue, option_map};
+ghost use Rattle.std.specs.Prelude.{◌≡◌, ◌<◌, ◌↔◌, ◌∷◌, ℕ, List, length, false, true, Ok, Err, Some, None, All, IfOk, IfSome, IsOk, IsErr, IfErr, OnOk, OnErr, IsNone, IsTrue, option_map};
 ghost use Rattle.std.specs.Option.{option_copied};
 ghost use Rattle.std.specs.Borrow.{sem};
 ghost use Rattle.zone_heap.specs.Calls.{PairCalled};
-ghost use Rattle.zone_rules.specs.declared.Tag.TheVariants.{Level, Cache};
+ghost use Rattle.zone_rules.specs.declared.Tag.TheVariants.{Static, Level, Cache};
 ghost use Rattle.outside.specs.Shelf.{Follows, AllStand, counted};
-ghost use Rattle.outside.specs.Told.{HasCauses};
+ghost use Rattle.outside.specs.Told.{Answers, HasCauses};
 ghost use Rattle.lump_rules.specs.Lookups.{lump_at};
-ghost use Rattle.lump_rules.specs.Contents.{lump_bytes};
+ghost use Rattle.lump_rules.specs.Contents.{lump_bytes, AllWithin};
 ghost use Rattle.lump_rules.specs.declared.wad.Lump.{Lump};
 ghost use Rattle.zone_rules.specs.Zones.{Owner, owner_at, slot_count, Heap, IsLive, IsSound, IsZoneSize, fresh_heap, bytes_of, block_size, holding_of, owned_block, same_owner};
 ghost use Rattle.zone_rules.specs.Requests.{gaps, total, widest, without_room, TakesBlock, block_left, passed_blocks, stretches};
-ghost use Rattle.zone_rules.specs.Frees.{without_block};
-ghost use Rattle.lump_cache.specs.Caches.{lump_owner, composite_owner, with_tag_unless_static, release_heap, is_static_tag, is_full, WhereFull, NoRoom, HasBlock, KeptOrPurged, IsFaithful, IsAtRest, cache_told};
+ghost use Rattle.zone_rules.specs.Frees.{without_block, with_bytes};
+ghost use Rattle.zone_rules.specs.Loans.{after_loan};
+ghost use Rattle.zone_rules.specs.Orders.{Item, has_item, AreRoomy, IsInOrder, KeepsOrder};
+ghost use Rattle.lump_cache.specs.Caches.{lump_owner, composite_owner, with_tag_unless_static, release_heap, is_static_tag, is_full, WhereFull, NoRoom, HasBlock, KeptOrPurged, IsFaithful, IsAtRest, IsAtRestBut, IsEmpty, IsPinned, KeepsCounts, cache_told};
 
 use crate::fault::CacheFault;
 use crate::read::{lump_slot, read_into};
@@ -54,12 +56,15 @@ fn take_and_read<S: Shelf>(
     ensures empty { OnErr result (owned_block (lump_owner lump.0) zone.new.blocks ≡ None) }
     ensures others { (o : Owner) → same_owner (lump_owner lump.0) o ≡ false → KeptOrPurged (owned_block o zone.old.blocks) (owned_block o zone.new.blocks) }
     ensures sound { IsSound zone.new }
-    ensures counts { zone.new.lumps ≡ zone.old.lumps }
+    ensures counts { KeepsCounts zone.old zone.new }
     ensures follows { Follows (S.view shelf.old) (S.view shelf.new) }
     ensures causes { HasCauses cache_told (S.view shelf.old).faults (S.view shelf.new).faults result }
     ensures bytes { (contents : List (List ℕ)) → AllStand (S.view shelf.old) dir.now.files contents → IfSome (bytes_of (lump_owner lump.0) zone.new.blocks) (λ xs. xs ≡ lump_bytes contents dir.now.lumps lump.0) }
     ensures taken { OnOk result (0 < (lump_at dir.now.lumps lump.0).size → (S.view shelf.new).taken ≡ counted (S.view shelf.old).taken (lump_at dir.now.lumps lump.0).size) }
     ensures untouched { (lump_at dir.now.lumps lump.0).size ≡ 0 → shelf.new ≡ shelf.old }
+    ensures answers { (contents : List (List ℕ)) → AllStand (S.view shelf.old) dir.now.files contents → AllWithin contents dir.now.lumps → Answers cache_told (S.view shelf.old).steady (λ done. done) (Ok tt) result }
+    ensures order { (items : List Item) → has_item items (lump_owner lump.0) (lump_at dir.now.lumps lump.0).size ≡ true → IsInOrder items zone.old → (is_full result ≡ false) × OnOk result (KeepsOrder items zone.old zone.new (S.view shelf.old).taken (S.view shelf.new).taken) }
+    ensures first { tag ≡ Static → IsEmpty zone.old → OnOk result (IsAtRest lump.0 (lump_at dir.now.lumps lump.0).size zone.new) }
 {
     let size = dir.size(lump);
     zone.malloc(lump_slot(lump), size, tag)?;
@@ -105,13 +110,19 @@ fn fetch_lump<S: Shelf>(
     ensures empty { OnErr result (owned_block (lump_owner lump.0) zone.new.blocks ≡ None) }
     ensures others { (o : Owner) → same_owner (lump_owner lump.0) o ≡ false → KeptOrPurged (owned_block o zone.old.blocks) (owned_block o zone.new.blocks) }
     ensures sound { IsSound zone.new }
-    ensures counts { zone.new.lumps ≡ zone.old.lumps }
+    ensures counts { KeepsCounts zone.old zone.new }
     ensures follows { Follows (S.view shelf.old) (S.view shelf.new) }
     ensures causes { HasCauses cache_told (S.view shelf.old).faults (S.view shelf.new).faults result }
     ensures faithful { (contents : List (List ℕ)) → AllStand (S.view shelf.old) dir.now.files contents → IsFaithful contents dir.now.lumps zone.old → IsFaithful contents dir.now.lumps zone.new }
     ensures rest { (colormap size : ℕ) → tag ≡ Cache → IsAtRest colormap size zone.old → IsAtRest colormap size zone.new }
     ensures taken { OnOk result (IsNone (holding_of (lump_owner lump.0) zone.old.blocks) → 0 < (lump_at dir.now.lumps lump.0).size → (S.view shelf.new).taken ≡ counted (S.view shelf.old).taken (lump_at dir.now.lumps lump.0).size) }
     ensures untouched { (lump_at dir.now.lumps lump.0).size ≡ 0 → shelf.new ≡ shelf.old }
+    ensures answers { (contents : List (List ℕ)) → AllStand (S.view shelf.old) dir.now.files contents → AllWithin contents dir.now.lumps → Answers cache_told (S.view shelf.old).steady (λ done. done) (Ok tt) result }
+    ensures order { (items : List Item) → has_item items (lump_owner lump.0) (lump_at dir.now.lumps lump.0).size ≡ true → IsInOrder items zone.old → (is_full result ≡ false) × OnOk result (KeepsOrder items zone.old zone.new (S.view shelf.old).taken (S.view shelf.new).taken) }
+    ensures live { OnOk result (IsLive zone.new (lump_owner lump.0)) }
+    ensures pinned { (o : Owner) → same_owner (lump_owner lump.0) o ≡ false → IsPinned (owned_block o zone.old.blocks) → owned_block o zone.new.blocks ≡ owned_block o zone.old.blocks }
+    ensures rest_but { (colormap size : ℕ) (pinned : List Owner) → is_static_tag tag ≡ false → IsAtRestBut colormap size pinned zone.old → IsAtRestBut colormap size (lump_owner lump.0 ∷ pinned) zone.new }
+    ensures first { tag ≡ Static → IsEmpty zone.old → OnOk result (IsAtRest lump.0 (lump_at dir.now.lumps lump.0).size zone.new) }
 {
     match zone.tag(lump_slot(lump)) {
         None => take_and_read(zone, shelf, dir, lump, tag),
@@ -172,6 +183,9 @@ impl LumpCache {
         requires composites { composites < SLOT_LIMIT }
         ensures bad { (result ≡ Err ZoneMake.BadSize) ↔ (¬ IsZoneSize size) }
         ensures fresh { IfOk result (λ cache. cache ≡ fresh_heap size (length dir.now.lumps) composites) }
+        ensures empty { IfOk result IsEmpty }
+        ensures faithful { (contents : List (List ℕ)) (lumps : List Lump) → IfOk result (IsFaithful contents lumps) }
+        ensures order { (items : List Item) → AreRoomy size items → IfOk result (IsInOrder items) }
     {
         match Zone::new(alloc, size, dir.count(), composites) {
             Ok(zone) => Ok(LumpCache { zone }),
@@ -217,13 +231,19 @@ impl LumpCache {
         ensures block { OnOk result (IsNone (holding_of (lump_owner lump.0) self.old.blocks) → HasBlock tag (lump_at dir.now.lumps lump.0).size (owned_block (lump_owner lump.0) self.new.blocks)) }
         ensures empty { OnErr result (owned_block (lump_owner lump.0) self.new.blocks ≡ None) }
         ensures others { (o : Owner) → same_owner (lump_owner lump.0) o ≡ false → KeptOrPurged (owned_block o self.old.blocks) (owned_block o self.new.blocks) }
-        ensures counts { self.new.lumps ≡ self.old.lumps }
+        ensures counts { KeepsCounts self.old self.new }
         ensures follows { Follows (S.view shelf.old) (S.view shelf.new) }
         ensures causes { HasCauses cache_told (S.view shelf.old).faults (S.view shelf.new).faults result }
         ensures faithful { (contents : List (List ℕ)) → AllStand (S.view shelf.old) dir.now.files contents → IsFaithful contents dir.now.lumps self.old → IsFaithful contents dir.now.lumps self.new }
         ensures rest { (colormap size : ℕ) → tag ≡ Cache → IsAtRest colormap size self.old → IsAtRest colormap size self.new }
         ensures taken { OnOk result (IsNone (holding_of (lump_owner lump.0) self.old.blocks) → 0 < (lump_at dir.now.lumps lump.0).size → (S.view shelf.new).taken ≡ counted (S.view shelf.old).taken (lump_at dir.now.lumps lump.0).size) }
         ensures untouched { (lump_at dir.now.lumps lump.0).size ≡ 0 → shelf.new ≡ shelf.old }
+        ensures answers { (contents : List (List ℕ)) → AllStand (S.view shelf.old) dir.now.files contents → AllWithin contents dir.now.lumps → Answers cache_told (S.view shelf.old).steady (λ done. done) (Ok tt) result }
+        ensures order { (items : List Item) → has_item items (lump_owner lump.0) (lump_at dir.now.lumps lump.0).size ≡ true → IsInOrder items self.old → (is_full result ≡ false) × OnOk result (KeepsOrder items self.old self.new (S.view shelf.old).taken (S.view shelf.new).taken) }
+        ensures live { OnOk result (IsLive self.new (lump_owner lump.0)) }
+        ensures pinned { (o : Owner) → same_owner (lump_owner lump.0) o ≡ false → IsPinned (owned_block o self.old.blocks) → owned_block o self.new.blocks ≡ owned_block o self.old.blocks }
+        ensures rest_but { (colormap size : ℕ) (pinned : List Owner) → is_static_tag tag ≡ false → IsAtRestBut colormap size pinned self.old → IsAtRestBut colormap size (lump_owner lump.0 ∷ pinned) self.new }
+        ensures first { tag ≡ Static → IsEmpty self.old → OnOk result (IsAtRest lump.0 (lump_at dir.now.lumps lump.0).size self.new) }
     {
         fetch_lump(&mut self.zone, shelf, dir, lump, tag)
     }
@@ -235,6 +255,9 @@ impl LumpCache {
         ensures faithful { (contents : List (List ℕ)) (lumps : List Lump) → IsFaithful contents lumps self.old → IsFaithful contents lumps self.new }
         ensures rest { (colormap size : ℕ) → IsAtRest colormap size self.old → IsAtRest colormap size self.new }
         ensures others { (o : Owner) → same_owner (lump_owner lump.0) o ≡ false → owned_block o self.new.blocks ≡ owned_block o self.old.blocks }
+        ensures counts { KeepsCounts self.old self.new }
+        ensures rest_but { (colormap size : ℕ) (pinned : List Owner) → IsAtRestBut colormap size (lump_owner lump.0 ∷ pinned) self.old → IsAtRestBut colormap size pinned self.new }
+        ensures order { (items : List Item) (taken : ℕ) → IsInOrder items self.old → KeepsOrder items self.old self.new taken taken }
     {
         release_block(&mut self.zone, lump_slot(lump));
     }
@@ -251,6 +274,14 @@ impl LumpCache {
         ensures ok { OnOk result (TakesBlock self.old self.new (composite_owner number) size Level) }
         ensures empty { OnErr result (owned_block (composite_owner number) self.new.blocks ≡ None) }
         ensures others { (o : Owner) → same_owner (composite_owner number) o ≡ false → owned_block o self.new.blocks ≡ block_left (passed_blocks (block_size size) (stretches self.old.rover self.old.blocks)) (owned_block o self.old.blocks) }
+        ensures block { OnOk result (HasBlock Level size (owned_block (composite_owner number) self.new.blocks)) }
+        ensures pinned { (o : Owner) → same_owner (composite_owner number) o ≡ false → IsPinned (owned_block o self.old.blocks) → owned_block o self.new.blocks ≡ owned_block o self.old.blocks }
+        ensures kept { (o : Owner) → same_owner (composite_owner number) o ≡ false → KeptOrPurged (owned_block o self.old.blocks) (owned_block o self.new.blocks) }
+        ensures counts { KeepsCounts self.old self.new }
+        ensures faithful { (contents : List (List ℕ)) (lumps : List Lump) → IsFaithful contents lumps self.old → IsFaithful contents lumps self.new }
+        ensures rest { (colormap size : ℕ) → IsAtRest colormap size self.old → OnErr result (IsAtRest colormap size self.new) }
+        ensures rest_but { (colormap size : ℕ) (pinned : List Owner) → IsAtRestBut colormap size pinned self.old → IsAtRestBut colormap size (composite_owner number ∷ pinned) self.new }
+        ensures order { (items : List Item) (taken : ℕ) → has_item items (composite_owner number) size ≡ true → IsInOrder items self.old → IsOk result × KeepsOrder items self.old self.new taken taken }
     {
         self.zone.malloc(composite_slot(number), size, Tag::Level)
     }
@@ -269,6 +300,13 @@ impl LumpCache {
         requires live { IsLive self.old (composite_owner number) }
         ensures* lends { sem 𝓛 (LendsBytes self.entry (composite_owner number) result) }
         ensures value { bytes_of (composite_owner number) self.old.blocks ≡ Some result.now }
+        ensures written { (w : List ℕ) → length w ≡ length result.now → after_loan (composite_owner number) w self.old ≡ with_bytes (composite_owner number) w self.old }
+        ensures others { (w : List ℕ) → length w ≡ length result.now → (o : Owner) → same_owner (composite_owner number) o ≡ false → owned_block o (after_loan (composite_owner number) w self.old).blocks ≡ owned_block o self.old.blocks }
+        ensures counts { (w : List ℕ) → KeepsCounts self.old (after_loan (composite_owner number) w self.old) }
+        ensures faithful { (w : List ℕ) → length w ≡ length result.now → (contents : List (List ℕ)) (lumps : List Lump) → IsFaithful contents lumps self.old → IsFaithful contents lumps (after_loan (composite_owner number) w self.old) }
+        ensures rest { (w : List ℕ) → length w ≡ length result.now → (colormap size : ℕ) → IsAtRest colormap size self.old → IsAtRest colormap size (after_loan (composite_owner number) w self.old) }
+        ensures rest_but { (w : List ℕ) → length w ≡ length result.now → (colormap size : ℕ) (pinned : List Owner) → IsAtRestBut colormap size pinned self.old → IsAtRestBut colormap size pinned (after_loan (composite_owner number) w self.old) }
+        ensures order { (w : List ℕ) → length w ≡ length result.now → (items : List Item) (taken : ℕ) → IsInOrder items self.old → KeepsOrder items self.old (after_loan (composite_owner number) w self.old) taken taken }
     {
         self.zone.bytes_mut(composite_slot(number))
     }
@@ -287,6 +325,14 @@ impl LumpCache {
         requires lump_live { IsLive self.old (lump_owner lump.0) }
         requires live { IsLive self.old (composite_owner number) }
         ensures called { PairCalled F.FnOnce f (lump_owner lump.0) (composite_owner number) self.old self.new result }
+        ensures others { (o : Owner) → same_owner (composite_owner number) o ≡ false → owned_block o self.new.blocks ≡ owned_block o self.old.blocks }
+        ensures counts { KeepsCounts self.old self.new }
+        ensures live { IsLive self.new (composite_owner number) }
+        ensures pinned { IsPinned (owned_block (composite_owner number) self.old.blocks) → IsPinned (owned_block (composite_owner number) self.new.blocks) }
+        ensures faithful { (contents : List (List ℕ)) (lumps : List Lump) → IsFaithful contents lumps self.old → IsFaithful contents lumps self.new }
+        ensures rest { (colormap size : ℕ) → IsAtRest colormap size self.old → IsAtRest colormap size self.new }
+        ensures rest_but { (colormap size : ℕ) (pinned : List Owner) → IsAtRestBut colormap size pinned self.old → IsAtRestBut colormap size pinned self.new }
+        ensures order { (items : List Item) (taken : ℕ) → IsInOrder items self.old → KeepsOrder items self.old self.new taken taken }
     {
         self.zone.pair(lump_slot(lump), composite_slot(number), f)
     }
@@ -298,6 +344,9 @@ impl LumpCache {
         ensures faithful { (contents : List (List ℕ)) (lumps : List Lump) → IsFaithful contents lumps self.old → IsFaithful contents lumps self.new }
         ensures rest { (colormap size : ℕ) → IsAtRest colormap size self.old → IsAtRest colormap size self.new }
         ensures others { (o : Owner) → same_owner (composite_owner number) o ≡ false → owned_block o self.new.blocks ≡ owned_block o self.old.blocks }
+        ensures counts { KeepsCounts self.old self.new }
+        ensures rest_but { (colormap size : ℕ) (pinned : List Owner) → IsAtRestBut colormap size (composite_owner number ∷ pinned) self.old → IsAtRestBut colormap size pinned self.new }
+        ensures order { (items : List Item) (taken : ℕ) → IsInOrder items self.old → KeepsOrder items self.old self.new taken taken }
     {
         release_block(&mut self.zone, composite_slot(number));
     }
@@ -309,6 +358,10 @@ impl LumpCache {
         ensures freed { self.new ≡ without_block (composite_owner number) self.old }
         ensures empty { owned_block (composite_owner number) self.new.blocks ≡ None }
         ensures others { (o : Owner) → same_owner (composite_owner number) o ≡ false → owned_block o self.new.blocks ≡ owned_block o self.old.blocks }
+        ensures counts { KeepsCounts self.old self.new }
+        ensures faithful { (contents : List (List ℕ)) (lumps : List Lump) → IsFaithful contents lumps self.old → IsFaithful contents lumps self.new }
+        ensures rest { (colormap size : ℕ) → IsAtRest colormap size self.old → IsAtRest colormap size self.new }
+        ensures rest_but { (colormap size : ℕ) (pinned : List Owner) → IsAtRestBut colormap size (composite_owner number ∷ pinned) self.old → IsAtRestBut colormap size pinned self.new }
     {
         self.zone.free(composite_slot(number));
     }

@@ -8,6 +8,8 @@
 mod cache;
 mod fault;
 mod read;
+#[cfg(test)]
+mod tests;
 
 pub use cache::LumpCache;
 pub use fault::CacheFault;

@@ -23,6 +23,7 @@ pub use zone_rules::Tag;
 #[cfg(test)]
 mod tests {
     use super::*;
+    use std::alloc::Global;
 
     #[test]
     fn a_zone_has_a_size_in_range_and_of_whole_words(rt: HostRuntime) {
@@ -35,41 +36,99 @@ mod tests {
         assert!(rt; figures.free == 4096 && figures.used == 0 && figures.purges == 0);
     }
 
-    #[test]
-    fn a_small_block_takes_the_place_of_a_cached_one(rt: HostRuntime) {
-        let first: Slot<LumpKind> = Slot::new(0);
-        let second: Slot<LumpKind> = Slot::new(1);
+    /// What a zone answers, once blocks for 100 and for 3900 bytes were taken, to a request: the two
+    /// numbers where it is full, which of the two blocks stand, and the figures.
+    #[derive(Drop)]
+    struct Answer {
+        full: Option<(u64, u64)>,
+        stand: (bool, bool),
+        figures: ZoneFigures,
+    }
+
+    fn asked(alloc: Global, first: Tag, second: Tag, size: u32) -> Option<Answer> {
+        let one: Slot<LumpKind> = Slot::new(0);
+        let two: Slot<LumpKind> = Slot::new(1);
         let third: Slot<CompositeKind> = Slot::new(0);
-        let Ok(mut zone) = Zone::new(rt.alloc(), 4096, 2, 2) else {
-            panic!(rt; "no memory");
+        let Ok(mut zone) = Zone::new(alloc, 4096, 2, 2) else {
+            return None;
         };
-        assert!(rt; zone.malloc(first, 100, Tag::Cache).is_ok());
-        assert!(rt; !zone.is_live(second));
-        assert!(rt; zone.malloc(second, 3900, Tag::Static).is_ok());
-        assert!(rt; !zone.is_live(third));
-        assert!(rt; zone.malloc(third, 8, Tag::Static).is_ok());
-        assert!(rt; !zone.is_live(first) && zone.is_live(second));
-        let figures = zone.figures();
-        assert!(rt; figures.used == 4004 && figures.free == 92 && figures.purges == 1);
+        if zone.malloc(one, 100, first).is_err() || zone.is_live(two) {
+            return None;
+        }
+        if zone.malloc(two, 3900, second).is_err() || zone.is_live(third) {
+            return None;
+        }
+        let full = match zone.malloc(third, size, Tag::Static) {
+            Ok(()) => None,
+            Err(full) => Some((full.wanted, full.widest)),
+        };
+        Some(Answer {
+            full,
+            stand: (zone.is_live(one), zone.is_live(two)),
+            figures: zone.figures(),
+        })
+    }
+
+    fn figures(used: u32, purgeable: u32, free: u32, purges: u64) -> ZoneFigures {
+        ZoneFigures {
+            used,
+            purgeable,
+            free,
+            purges,
+        }
     }
 
     #[test]
-    fn a_request_that_no_gap_holds_purges_all(rt: HostRuntime) {
-        let first: Slot<LumpKind> = Slot::new(0);
-        let second: Slot<LumpKind> = Slot::new(1);
-        let third: Slot<CompositeKind> = Slot::new(0);
-        let Ok(mut zone) = Zone::new(rt.alloc(), 4096, 2, 2) else {
-            panic!(rt; "no memory");
-        };
-        assert!(rt; zone.malloc(first, 100, Tag::Cache).is_ok());
-        assert!(rt; !zone.is_live(second));
-        assert!(rt; zone.malloc(second, 3900, Tag::Cache).is_ok());
-        assert!(rt; !zone.is_live(third));
-        let Err(full) = zone.malloc(third, 5000, Tag::Static) else {
-            panic!(rt; "room");
-        };
-        assert!(rt; full.wanted == 5024 && full.widest == 4096);
-        assert!(rt; !zone.is_live(first) && !zone.is_live(second));
+    fn a_request_purges_what_it_passes_and_no_more(rt: HostRuntime) {
+        for (first, second, size, full, stand, after) in [
+            (
+                Tag::Cache,
+                Tag::Static,
+                8,
+                None,
+                (false, true),
+                figures(4004, 0, 92, 1),
+            ),
+            (
+                Tag::Static,
+                Tag::Level,
+                8,
+                Some((32, 0)),
+                (true, true),
+                figures(4096, 0, 0, 0),
+            ),
+            (
+                Tag::Cache,
+                Tag::Cache,
+                8,
+                None,
+                (false, true),
+                figures(32, 3972, 92, 1),
+            ),
+            (
+                Tag::Cache,
+                Tag::Cache,
+                200,
+                None,
+                (false, false),
+                figures(224, 0, 3872, 2),
+            ),
+            (
+                Tag::Cache,
+                Tag::Cache,
+                5000,
+                Some((5024, 4096)),
+                (false, false),
+                figures(0, 0, 4096, 2),
+            ),
+        ] {
+            let Some(answer) = asked(rt.alloc(), first, second, size) else {
+                panic!(rt; "no memory");
+            };
+            assert_eq!(rt; answer.full, full);
+            assert_eq!(rt; answer.stand, stand);
+            assert_eq!(rt; answer.figures, after);
+        }
     }
 
     fn copy(from: &[u8], to: &mut [u8]) {

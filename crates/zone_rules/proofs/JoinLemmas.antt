@@ -91,7 +91,7 @@ on_headed b (c ∷ cs) = go (is_free b && is_free c) where
   go true = record { head = free_block b.place (b.size + c.size); tail = cs; is = refl }
   go false = record { head = b; tail = c ∷ cs; is = refl }
 
-on_held : (b : Block) (bs : List Block) → is_free b ≡ false → join_on b bs ≡ b ∷ bs
+pub on_held : (b : Block) (bs : List Block) → is_free b ≡ false → join_on b bs ≡ b ∷ bs
 on_held b [] h = refl
 on_held b (c ∷ cs) h = cond-false _ _ _ (and_left (is_free b) (is_free c) h)
 

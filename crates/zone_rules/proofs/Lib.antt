@@ -11,3 +11,8 @@ pub mod ChangeLemmas
 pub mod FullLemmas
 pub mod FigureLemmas
 pub mod LoanLemmas
+pub mod OrderSumLemmas
+pub mod OrderRequestLemmas
+pub mod OrderLemmas
+pub mod OrderChangeLemmas
+pub mod EmptyLemmas

@@ -3,3 +3,4 @@ pub mod Requests
 pub mod Frees
 pub mod Walks
 pub mod Loans
+pub mod Orders

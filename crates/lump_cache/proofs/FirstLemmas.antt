@@ -1,0 +1,19 @@
+-- The first lump of an empty cache, pinned for the whole run, leaves it at rest.
+use Rattle.std.proofs.Common.{◌≡◌, ℕ, ◌<◌, ◌≤◌, Bool, true, false, List, Option, Some, None, refl, sym, subst, ap, ◌∙◌, arith}
+use Rattle.zone_rules.specs.declared.Tag.{Tag}
+use Rattle.zone_rules.specs.declared.Tag.TheVariants.{Static}
+use Rattle.zone_rules.specs.Zones.{Owner, Block, Heap, IsSound, owned_block, same_owner, block_size}
+use Rattle.zone_rules.specs.Requests.{TakesBlock}
+use Rattle.zone_rules.proofs.EmptyLemmas.{empty_place}
+use Rattle.zone_rules.proofs.OrderSumLemmas.{block_least}
+use Rattle.lump_cache.specs.Caches.{IsAtRest, IsStatic, IsUnpinned, IsEmpty, lump_owner}
+
+pub first_at_rest : (l size : ℕ) (tag : Tag) (old made new : Heap) → IsSound old → tag ≡ Static → IsEmpty old → (t : TakesBlock old made (lump_owner l) size tag) → (block : Block) → owned_block (lump_owner l) new.blocks ≡ Some block → block.place ≡ t.place → IsStatic size block.holding
+    → ((o : Owner) → same_owner (lump_owner l) o ≡ false → IsUnpinned (owned_block o new.blocks)) → IsAtRest l size new
+first_at_rest l size tag old made new s static none t block is at pinned others = record {
+  block = block;
+  is = is;
+  place = at ∙ empty_place (block_size size) t.place old s (let k = block_least size in omega (arith, k)) none t.place_is;
+  pinned = pinned;
+  others = others;
+}

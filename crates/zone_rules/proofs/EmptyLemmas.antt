@@ -1,0 +1,68 @@
+-- A zone without a live block is one free block, and the first block stands at its place 0.
+use Rattle.std.proofs.Common.{◌≡◌, ℕ, ◌+◌, ◌<◌, ◌≤◌, Bool, true, false, cond, ◌&&◌, List, [], ◌∷◌, Option, Some, None, refl, sym, subst, ap, ◌∙◌, arith, inl, inr}
+use Rattle.std.specs.Prelude.{◌==◌, ◌⊎◌, All}
+use Rattle.std.proofs.lemmas.Bool.{cond-true, cond-false, and_from, eq-eqb, eqb-true, cases_lt, false≢true}
+use Rattle.std.proofs.lemmas.List.Elements.{All-nil, All-cons}
+use Rattle.zone_rules.specs.Zones.{Owner, Holding, Block, Heap, IsSound, Tiles, Apart, is_free, is_held_by, holds_for, same_owner, owned_block, free_block, has_place}
+use Rattle.zone_rules.specs.Requests.{gaps, stretches, first_room, total}
+use Rattle.zone_rules.proofs.GapLemmas.{total-cons}
+use Rattle.zone_rules.proofs.JoinLemmas.{free_is}
+use Rattle.zone_rules.proofs.PurgeLemmas.{tiles_le}
+use Rattle.zone_rules.proofs.SoundLemmas.{full_some}
+use Rattle.zone_rules.proofs.OrderRequestLemmas.{rest_found}
+
+no_holding : (b : Block) (bs : List Block) → ((o : Owner) → owned_block o (b ∷ bs) ≡ None) → b.holding ≡ None
+no_holding b bs e = go b.holding refl where
+  go : (h : Option Holding) → b.holding ≡ h → h ≡ None
+  go None k = refl
+  go (Some h) k =
+      let same : same_owner h.owner h.owner ≡ true = and_from (h.owner.kind == h.owner.kind) (h.owner.number == h.owner.number) (eq-eqb h.owner.kind h.owner.kind refl) (eq-eqb h.owner.number h.owner.number refl) in
+      let x : Some b ≡ None = sym (cond-true (is_held_by h.owner b) (Some b) (owned_block h.owner bs) (ap (holds_for h.owner) k ∙ same)) ∙ e h.owner in
+      cc
+
+none_free : (b : Block) → b.holding ≡ None → is_free b ≡ true
+none_free b e = ap (λ h. is_free (record b { holding = h })) e
+
+pub empty_is : (q : ℕ) (bs : List Block) → Tiles 0 q bs → Apart bs → ((o : Owner) → owned_block o bs ≡ None) → 0 < q → bs ≡ free_block 0 q ∷ []
+empty_is q [] t a e pos = absurd (omega (arith, t, pos))
+empty_is q (b ∷ []) t a e pos =
+    let h = no_holding b [] e in
+    let s : b.size ≡ q = omega (arith, t.2) in
+    let p = t.0 in
+    let k : b ≡ free_block 0 q = λ i. record { place = p i; size = s i; holding = h i } in
+    ap (λ (c : Block). c ∷ []) k
+empty_is q (b ∷ c ∷ bs) t a e pos =
+    let h = no_holding b (c ∷ bs) e in
+    let k = no_holding c bs (λ o. sym (cond-false (is_held_by o b) (Some b) (owned_block o (c ∷ bs)) (ap (holds_for o) h)) ∙ e o) in
+    absurd (false≢true (sym a.0 ∙ and_from (is_free b) (is_free c) (none_free b h) (none_free c k)))
+
+pub sound_size : (z : Heap) → IsSound z → 0 < z.size
+sound_size z s = go z.blocks s.tiles s.rover where
+  go : (bs : List Block) → Tiles 0 z.size bs → has_place z.rover bs ≡ true → 0 < z.size
+  go [] t r = absurd (false≢true r)
+  go (b ∷ bs) t r = let k = tiles_le (0 + b.size) z.size bs t.2 in omega (arith, k, t.1)
+
+-- where a request of an empty zone goes
+pub empty_place : (w p : ℕ) (z : Heap) → IsSound z → 0 < w → ((o : Owner) → owned_block o z.blocks ≡ None) → first_room w (stretches z.rover z.blocks) ≡ Some p → p ≡ 0
+empty_place w p z s pos e found = go (cases_lt z.size w) where
+  size : 0 < z.size
+  size = sound_size z s
+
+  is : z.blocks ≡ free_block 0 z.size ∷ []
+  is = empty_is z.size z.blocks s.tiles s.apart e size
+
+  rover_is : z.rover ≡ 0
+  rover_is = sym (eqb-true 0 z.rover (here (0 == z.rover) (subst (λ bs. has_place z.rover bs ≡ true) is s.rover))) where
+    here : (t : Bool) → cond t true false ≡ true → t ≡ true
+    here true k = refl
+    here false k = k
+
+  go : (z.size < w) ⊎ (w ≤ z.size) → p ≡ 0
+  go (inl small) =
+      let t = total-cons (free_block 0 z.size) [] in
+      let none = All-cons (λ g. total g < w) (free_block 0 z.size ∷ []) [] (omega (arith, t, small)) (All-nil (λ g. total g < w)) in
+      absurd (full_some w z.rover p z.size z.blocks pos s.tiles s.rover found (subst (λ bs. All (λ g. total g < w) (gaps bs)) (sym is) none))
+  go (inr large) =
+      let k : first_room w (stretches z.rover z.blocks) ≡ Some 0 = ap (λ bs. first_room w (stretches z.rover bs)) is ∙ ap (λ r. first_room w (stretches r (free_block 0 z.size ∷ []))) rover_is ∙ rest_found w 0 z.size size large [] tt tt in
+      let x : Some p ≡ Some 0 = sym found ∙ k in
+      cc

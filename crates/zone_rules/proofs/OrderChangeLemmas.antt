@@ -1,0 +1,165 @@
+-- A change of blocks that leaves each its place, its size and what its owner asked for leaves a zone in order: a new tag, or new bytes.
+use Rattle.std.proofs.Common.{◌≡◌, ℕ, ◌+◌, Bool, true, false, cond, ◌||◌, List, [], ◌∷◌, ◌++◌, map, Option, Some, None, refl, sym, subst, ap, ap₂, ◌∙◌, arith, inl, inr}
+use Rattle.std.specs.Prelude.{◌==◌, ◌⊎◌, is_none}
+use Rattle.std.proofs.lemmas.List.{map-append}
+use Rattle.zone_rules.specs.declared.Tag.{Tag}
+use Rattle.zone_rules.specs.Zones.{Owner, Holding, Block, Heap, IsLive, is_free, is_held_by, holds_for, same_owner, free_block, block_size}
+use Rattle.zone_rules.specs.Frees.{retag_block, set_tag, with_tag, write_block, write_holding, with_bytes}
+use Rattle.zone_rules.specs.Orders.{Item, has_item, is_listed, AllListed, LiveFirst, is_live, AllLive, IsExact, AllExact, LeavesRest, IsInOrder, live_sum, lump_size, KeepsOrder}
+use Rattle.zone_rules.proofs.OrderSumLemmas.{item, live_step}
+
+-- what a block's owner asked for
+abbrev pub use_of : Option Holding → Option Item
+use_of None = None
+use_of (Some h) = Some (item h.owner h.asked)
+
+pub record KeepsUse (f : Block → Block) : Type 0 where
+  pub place : (b : Block) → (f b).place ≡ b.place
+  pub size : (b : Block) → (f b).size ≡ b.size
+  pub same : (b : Block) → use_of (f b).holding ≡ use_of b.holding
+
+-- what is told by it alone
+by_use : {A : Type 0} (g : Option Holding → A) (k : Option Item → A) → ((h : Option Holding) → g h ≡ k (use_of h)) → (x y : Option Holding) → use_of x ≡ use_of y → g x ≡ g y
+by_use g k told x y e = told x ∙ ap k e ∙ sym (told y)
+
+abbrev pub listed_use : List Item → Option Item → Bool
+listed_use items None = true
+listed_use items (Some i) = has_item items i.owner i.size
+
+abbrev pub held_use : Owner → Option Item → Bool
+held_use o None = false
+held_use o (Some i) = same_owner i.owner o
+
+listed_same : (items : List Item) (x y : Option Holding) → use_of x ≡ use_of y → is_listed items x ≡ is_listed items y
+listed_same items x y e = by_use (is_listed items) (listed_use items) told x y e where
+  told : (h : Option Holding) → is_listed items h ≡ listed_use items (use_of h)
+  told None = refl
+  told (Some h) = refl
+
+held_same : (o : Owner) (x y : Option Holding) → use_of x ≡ use_of y → holds_for o x ≡ holds_for o y
+held_same o x y e = by_use (holds_for o) (held_use o) told x y e where
+  told : (h : Option Holding) → holds_for o h ≡ held_use o (use_of h)
+  told None = refl
+  told (Some h) = refl
+
+free_same : (x y : Option Holding) → use_of x ≡ use_of y → is_none x ≡ is_none y
+free_same x y e = by_use is_none (λ u. is_none u) told x y e where
+  told : (h : Option Holding) → is_none h ≡ is_none (use_of h)
+  told None = refl
+  told (Some h) = refl
+
+exact_same : (size : ℕ) (x y : Option Holding) → use_of x ≡ use_of y → IsExact size y → IsExact size x
+exact_same size None None e k = k
+exact_same size None (Some h) e k = cc
+exact_same size (Some h) None e k = absurd k
+exact_same size (Some g) (Some h) e k = let i : item g.owner g.asked ≡ item h.owner h.asked = cc in k ∙ ap (λ (u : Item). block_size u.size) (sym i)
+
+none_same : (x : Option Holding) → use_of x ≡ None → x ≡ None
+none_same None e = refl
+none_same (Some h) e = cc
+
+module _ (f : Block → Block) (k : KeepsUse f) where
+  listed-map : (items : List Item) (bs : List Block) → AllListed items bs → AllListed items (map f bs)
+  listed-map items [] l = tt
+  listed-map items (b ∷ bs) l = (listed_same items (f b).holding b.holding (k.same b) ∙ l.0, listed-map items bs l.1)
+
+  first-map : (bs : List Block) → LiveFirst bs → LiveFirst (map f bs)
+  first-map [] l = tt
+  first-map (b ∷ []) l = tt
+  first-map (b ∷ c ∷ bs) l = (free_same (f b).holding b.holding (k.same b) ∙ l.0, first-map (c ∷ bs) l.1)
+
+  live-map : (o : Owner) (bs : List Block) → is_live (map f bs) o ≡ is_live bs o
+  live-map o [] = refl
+  live-map o (b ∷ bs) = live_step o (f b) (map f bs) ∙ ap₂ ◌||◌ (held_same o (f b).holding b.holding (k.same b)) (live-map o bs) ∙ sym (live_step o b bs)
+
+  all_live-map : (items : List Item) (bs : List Block) → AllLive items bs → AllLive items (map f bs)
+  all_live-map [] bs a = tt
+  all_live-map (i ∷ items) bs a = (live-map i.owner bs ∙ a.0, all_live-map items bs a.1)
+
+  exact-map : (bs : List Block) → AllExact bs → AllExact (map f bs)
+  exact-map [] x = tt
+  exact-map (b ∷ bs) x = (subst (λ n. IsExact n (f b).holding) (sym (k.size b)) (exact_same b.size (f b).holding b.holding (k.same b) x.0), exact-map bs x.1)
+
+  free-map : (r n : ℕ) → f (free_block r n) ≡ free_block r n
+  free-map r n =
+      let b = free_block r n in
+      let p = k.place b in
+      let s = k.size b in
+      let h = none_same (f b).holding (k.same b) in
+      λ i. record { place = p i; size = s i; holding = h i }
+
+  rest-map : (r : ℕ) (bs : List Block) → LeavesRest r bs → LeavesRest r (map f bs)
+  rest-map r bs l = record {
+    front = map f l.front;
+    rest = l.rest;
+    is = ap (map f) l.is ∙ map-append f l.front (free_block r l.rest ∷ []) ∙ ap (λ (b : Block). map f l.front ++ (b ∷ [])) (free-map r l.rest);
+    exact = exact-map l.front l.exact;
+  }
+
+  left-map : (items : List Item) (r : ℕ) (bs : List Block) → AllLive items bs ⊎ LeavesRest r bs → AllLive items (map f bs) ⊎ LeavesRest r (map f bs)
+  left-map items r bs (inl a) = inl (all_live-map items bs a)
+  left-map items r bs (inr l) = inr (rest-map r bs l)
+
+  sum-map : (items : List Item) (bs : List Block) → live_sum lump_size items (map f bs) ≡ live_sum lump_size items bs
+  sum-map [] bs = refl
+  sum-map (i ∷ items) bs = ap₂ (λ t n. cond t (lump_size i) 0 + n) (live-map i.owner bs) (sum-map items bs)
+
+  pub order-map : (items : List Item) (z : Heap) (taken : ℕ) → IsInOrder items z → KeepsOrder items z (record z { blocks = map f z.blocks }) taken taken
+  order-map items z taken o = record {
+    order = record { roomy = o.roomy; listed = listed-map items z.blocks o.listed; first = first-map z.blocks o.first; left = left-map items z.rover z.blocks o.left };
+    stays = λ p e. live-map p z.blocks ∙ e;
+    taken = let s = sum-map items z.blocks in omega (arith, s);
+  }
+
+-- a new tag
+module _ (o : Owner) (tag : Tag) where
+  retag_keeps : KeepsUse (retag_block o tag)
+  retag_keeps = record { place = λ b. place (is_held_by o b) b; size = λ b. size (is_held_by o b) b; same = λ b. same (is_held_by o b) b } where
+    place : (t : Bool) (b : Block) → (cond t (record b { holding = set_tag tag b.holding }) b).place ≡ b.place
+    place true b = refl
+    place false b = refl
+
+    size : (t : Bool) (b : Block) → (cond t (record b { holding = set_tag tag b.holding }) b).size ≡ b.size
+    size true b = refl
+    size false b = refl
+
+    set : (h : Option Holding) → use_of (set_tag tag h) ≡ use_of h
+    set None = refl
+    set (Some h) = refl
+
+    same : (t : Bool) (b : Block) → use_of (cond t (record b { holding = set_tag tag b.holding }) b).holding ≡ use_of b.holding
+    same true b = set b.holding
+    same false b = refl
+
+  pub order_retagged : (items : List Item) (z : Heap) (taken : ℕ) → IsInOrder items z → KeepsOrder items z (with_tag o tag z) taken taken
+  order_retagged items z taken k = order-map (retag_block o tag) retag_keeps items z taken k
+
+  pub live_retagged : (p : Owner) (z : Heap) → is_live (with_tag o tag z).blocks p ≡ is_live z.blocks p
+  live_retagged p z = live-map (retag_block o tag) retag_keeps p z.blocks
+
+-- new bytes
+module _ (o : Owner) (w : List ℕ) where
+  write_keeps : KeepsUse (write_block o w)
+  write_keeps = record { place = λ b. place (is_held_by o b) b; size = λ b. size (is_held_by o b) b; same = λ b. same (is_held_by o b) b } where
+    place : (t : Bool) (b : Block) → (cond t (record b { holding = write_holding w b.holding }) b).place ≡ b.place
+    place true b = refl
+    place false b = refl
+
+    size : (t : Bool) (b : Block) → (cond t (record b { holding = write_holding w b.holding }) b).size ≡ b.size
+    size true b = refl
+    size false b = refl
+
+    set : (h : Option Holding) → use_of (write_holding w h) ≡ use_of h
+    set None = refl
+    set (Some h) = refl
+
+    same : (t : Bool) (b : Block) → use_of (cond t (record b { holding = write_holding w b.holding }) b).holding ≡ use_of b.holding
+    same true b = set b.holding
+    same false b = refl
+
+  pub order_written : (items : List Item) (z : Heap) (taken : ℕ) → IsInOrder items z → KeepsOrder items z (with_bytes o w z) taken taken
+  order_written items z taken k = order-map (write_block o w) write_keeps items z taken k
+
+  -- who is live stays so
+  pub live_written : (p : Owner) (z : Heap) → is_live (with_bytes o w z).blocks p ≡ is_live z.blocks p
+  live_written p z = live-map (write_block o w) write_keeps p z.blocks
