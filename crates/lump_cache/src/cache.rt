@@ -1,11 +1,12 @@
 // The cache and its calls.
 //
 // Rules: `specs/Caches`, over `zone_rules`. The original: w_wad.c.
-ghost use Rattle.std.specs.Prelude.{◌≡◌, ◌<◌, ◌↔◌, ◌∷◌, ℕ, List, length, false, true, Ok, Err, Some, None, All, IfOk, IfSome, IsOk, IsErr, IfErr, OnOk, OnErr, IsNone, IsTrue, option_map};
+ghost use Rattle.std.specs.Prelude.{◌≡◌, ◌<◌, ◌+◌, ◌↔◌, ◌∷◌, ℕ, List, length, false, true, Ok, Err, Some, None, All, IfOk, IfSome, IsOk, IsErr, IfErr, OnOk, OnErr, IsNone, IsTrue, option_map};
 ghost use Rattle.std.specs.Option.{option_copied};
 ghost use Rattle.std.specs.Borrow.{sem};
 ghost use Rattle.zone_heap.specs.Calls.{PairCalled};
 ghost use Rattle.zone_rules.specs.declared.Tag.TheVariants.{Static, Level, Cache};
+ghost use Rattle.zone_rules.specs.declared.TheConstants.{MIN_FRAGMENT};
 ghost use Rattle.outside.specs.Shelf.{Follows, AllStand, counted};
 ghost use Rattle.outside.specs.Told.{Answers, HasCauses};
 ghost use Rattle.lump_rules.specs.Lookups.{lump_at};
@@ -105,6 +106,7 @@ fn fetch_lump<S: Shelf>(
     requires sound { IsSound zone.old }
     ensures hit { IsLive zone.old (lump_owner lump.0) → (result ≡ Ok tt) × (shelf.new ≡ shelf.old) × (zone.new ≡ with_tag_unless_static (lump_owner lump.0) tag zone.old) }
     ensures full { WhereFull result (NoRoom (lump_at dir.now.lumps lump.0).size zone.old) }
+    ensures room { (colormap size : ℕ) → IsAtRest colormap size zone.old → WhereFull result (λ wanted widest'. zone.old.size < block_size size + wanted + MIN_FRAGMENT) }
     ensures full_where { IsNone (holding_of (lump_owner lump.0) zone.old.blocks) → All (λ g. total g < block_size (lump_at dir.now.lumps lump.0).size) (gaps zone.old.blocks) → is_full result ≡ true }
     ensures block { OnOk result (IsNone (holding_of (lump_owner lump.0) zone.old.blocks) → HasBlock tag (lump_at dir.now.lumps lump.0).size (owned_block (lump_owner lump.0) zone.new.blocks)) }
     ensures empty { OnErr result (owned_block (lump_owner lump.0) zone.new.blocks ≡ None) }
@@ -227,6 +229,7 @@ impl LumpCache {
         requires listed { lump.0 < length dir.now.lumps }
         ensures hit { IsLive self.old (lump_owner lump.0) → (result ≡ Ok tt) × (shelf.new ≡ shelf.old) × (self.new ≡ with_tag_unless_static (lump_owner lump.0) tag self.old) }
         ensures full { WhereFull result (NoRoom (lump_at dir.now.lumps lump.0).size self.old) }
+        ensures room { (colormap size : ℕ) → IsAtRest colormap size self.old → WhereFull result (λ wanted widest'. self.old.size < block_size size + wanted + MIN_FRAGMENT) }
         ensures full_where { IsNone (holding_of (lump_owner lump.0) self.old.blocks) → All (λ g. total g < block_size (lump_at dir.now.lumps lump.0).size) (gaps self.old.blocks) → is_full result ≡ true }
         ensures block { OnOk result (IsNone (holding_of (lump_owner lump.0) self.old.blocks) → HasBlock tag (lump_at dir.now.lumps lump.0).size (owned_block (lump_owner lump.0) self.new.blocks)) }
         ensures empty { OnErr result (owned_block (lump_owner lump.0) self.new.blocks ≡ None) }

@@ -10,6 +10,7 @@ use Rattle.lump_cache.proofs.RestLemmas.{rest_taken, rest_retag, unpinned_after,
 use Rattle.lump_cache.proofs.RestButLemmas.{rest_but_more, rest_but_retag, not_colormap, passing_after}
 use Rattle.lump_cache.proofs.OrderLemmas.{order_unless_static, live_unless_static}
 use Rattle.zone_rules.specs.Orders.{KeepsOrder, is_live}
+use Rattle.lump_cache.proofs.RoomLemmas.{room_where}
 use Rattle.lump_cache.proofs.cache.fetch_lump.Given.{Over}
 use Rattle.lump_cache.proofs.cache.fetch_lump.Goals as goal
 use Rattle.lump_cache.proofs.cache.fetch_lump.Goals.{In-None}
@@ -75,3 +76,6 @@ returns-in-None-clause-pinned g c = λ o apart p. kept_pinned (owned_block o c.a
 pub returns-in-Some-clause-pinned : goal.returns-in-Some-clause-pinned
 returns-in-Some-clause-pinned g c = λ o apart p.
     ap (λ (z : Heap). owned_block o z.blocks) (c.retag.ensures.zone ∙ ap (λ n. with_tag_unless_static (owner_at 0 n) c.args.tag c.args.zone.now) c.lump_slot-in-Some.ensures) ∙ unless_static_others (lump_owner c.args.lump.0) o c.args.tag c.args.zone.now apart
+
+pub returns-in-None-clause-room : goal.returns-in-None-clause-room
+returns-in-None-clause-room g c = room_where c.take_and_read.result (lump_at c.args.dir.now.lumps c.args.lump.0).size c.args.zone.now c.requires.sound c.take_and_read.ensures.full
