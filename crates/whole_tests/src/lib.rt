@@ -10,3 +10,4 @@ mod tests;
 mod things;
 #[cfg(test)]
 mod walls;
+mod walks;

@@ -1,0 +1,5 @@
+pub mod VisitLemmas
+pub mod PartLemmas
+pub mod ListLemmas
+pub mod FragmentLemmas
+pub mod DepthLemmas

@@ -1,0 +1,20 @@
+use Rattle.walk_rules.specs.Walk.{view_events}
+use Rattle.node_walk.proofs.DepthLemmas.{deeper_root}
+use Rattle.node_walk.proofs.PartLemmas.{root_part}
+use Rattle.node_walk.proofs.VisitLemmas.{walks_same}
+use Rattle.node_walk.proofs.nodes.walk.Goals as goal
+
+pub returns-clause-visits : goal.returns-clause-visits
+unfolding view_events
+returns-clause-visits g c =
+    let walks = walks_same _ c.walk_child.ensures.walks (root_part c.args.view.now c.new-lists.result _ _ c.root.result c.args.cover.now c.new-lists.ensures c.root.ensures.value c.requires.uncovered) in
+    walks.visits
+
+pub returns-clause-covered : goal.returns-clause-covered
+returns-clause-covered g c =
+    let walks = walks_same _ c.walk_child.ensures.walks (root_part c.args.view.now c.new-lists.result _ _ c.root.result c.args.cover.now c.new-lists.ensures c.root.ensures.value c.requires.uncovered) in
+    walks.covered
+
+pub returns-clause-depth : goal.returns-clause-depth
+returns-clause-depth g c more =
+    deeper_root c.args.view.now c.new-lists.result _ _ c.root.result _ c.new-lists.ensures c.root.ensures.value c.root.ensures.within more

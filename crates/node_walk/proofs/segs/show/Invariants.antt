@@ -1,0 +1,12 @@
+use Rattle.std.proofs.Common.{◌≡◌, ◌++◌, map, Ok}
+use Rattle.walk_rules.specs.Covered.{fragments}
+use Rattle.walk_rules.specs.Events.Event.{FragmentEvent}
+use Rattle.node_walk.specs.Visits.{Visits}
+use Rattle.node_walk.proofs.segs.show.Given as goal
+
+abbrev pub invariant-loop-p : goal.invariant-loop-p
+invariant-loop-p g l = record {
+  items : l.yielded ++ l.p-iterator ≡ fragments l.cover l.first l.last;
+  visits : Visits (g.V.Visitor.takes l.fn.visitor) (g.V.Visitor.takes l.visitor) (g.V.Visitor.stands l.fn.visitor) (g.V.Visitor.stands l.visitor) (g.V.Visitor.stopped l.visitor)
+      (map (λ r. FragmentEvent l.seg r.0 r.1) l.yielded) (Ok tt);
+}

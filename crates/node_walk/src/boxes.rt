@@ -1,0 +1,177 @@
+// Near and far children of a node, and whether a far box is to be entered. Rules: `walk_rules`, Boxes.
+ghost use Rattle.std.specs.Prelude.{◌≡◌, ℕ, ◌≤◌, ◌+◌, length};
+ghost use Rattle.view_rules.specs.declared.ColumnRange.{ColumnRange};
+ghost use Rattle.level_rules.specs.Levels.{child_on};
+ghost use Rattle.walk_rules.specs.Boxes.{partition_of, eye_side, box_on, box_column, box_row, corners_above, corners_beside, corners_below, box_corners, corners_range, range_is_open, is_within_box, box_passes};
+
+use level_rules::{Box4, Child, Node, Partition4};
+use solid_segs::Cover;
+use view_frame::{ColumnRange, Partition, View, side_of};
+use walk_rules::Corners;
+
+#[tactic(auto, unfolding(walk_rules::specs::Boxes::partition_of))]
+fn partition_of(line: &Partition4) -> Partition
+    ensures { result ≡ partition_of line.now }
+{
+    Partition {
+        x: line.x,
+        y: line.y,
+        dx: line.dx,
+        dy: line.dy,
+    }
+}
+
+/// The side of the node's line on which the viewpoint is: 0 in front, 1 behind.
+#[tactic(auto, unfolding(walk_rules::specs::Boxes::eye_side))]
+pub(crate) fn eye_side(view: &View<'_>, node: &Node) -> u8
+    ensures value { result ≡ eye_side view.now node.now }
+    ensures bound { result ≤ 1 }
+{
+    let eye = view.eye();
+    side_of(partition_of(&node.line), eye.x, eye.y)
+}
+
+/// The child of a node on a side of its line.
+#[tactic(auto, unfolding(level_rules::specs::Levels::child_on))]
+pub(crate) fn child_on(node: &Node, side: u8) -> Child
+    requires { side ≤ 1 }
+    ensures { result ≡ child_on node.now side }
+{
+    node.children[side as usize]
+}
+
+/// The box of that child.
+#[tactic(auto, unfolding(walk_rules::specs::Boxes::box_on))]
+pub(crate) fn box_on(node: &Node, side: u8) -> &Box4
+    requires { side ≤ 1 }
+    ensures { result.now ≡ box_on node.now side }
+{
+    &node.boxes[side as usize]
+}
+
+// Left of the box, within its columns, or right of it: 0, 1, 2.
+#[tactic(auto, unfolding(walk_rules::specs::Boxes::box_column))]
+fn box_column(view: &View<'_>, b: &Box4) -> u8
+    ensures { result ≡ box_column view.now b.now }
+{
+    let x = view.eye().x;
+    if x <= b.left {
+        0
+    } else if x < b.right {
+        1
+    } else {
+        2
+    }
+}
+
+// Above the box, within its rows, or below it: 0, 1, 2.
+#[tactic(auto, unfolding(walk_rules::specs::Boxes::box_row))]
+fn box_row(view: &View<'_>, b: &Box4) -> u8
+    ensures { result ≡ box_row view.now b.now }
+{
+    let y = view.eye().y;
+    if y >= b.top {
+        0
+    } else if y > b.bottom {
+        1
+    } else {
+        2
+    }
+}
+
+#[tactic(auto, unfolding(walk_rules::specs::Boxes::is_within_box))]
+fn is_within_box(row: u8, column: u8) -> bool
+    ensures { result ≡ is_within_box row column }
+{
+    row == 1 && column == 1
+}
+
+// The corners as they are seen from above the box.
+#[tactic(auto, unfolding(walk_rules::specs::Boxes::corners_above))]
+fn corners_above(b: &Box4, column: u8) -> Corners
+    ensures { result ≡ corners_above b.now column }
+{
+    match column {
+        0 => corners(b.right, b.top, b.left, b.bottom),
+        1 => corners(b.right, b.top, b.left, b.top),
+        _ => corners(b.right, b.bottom, b.left, b.top),
+    }
+}
+
+// The corners as they are seen from within the box's rows.
+#[tactic(auto, unfolding(walk_rules::specs::Boxes::corners_beside))]
+fn corners_beside(b: &Box4, column: u8) -> Corners
+    ensures { result ≡ corners_beside b.now column }
+{
+    match column {
+        0 => corners(b.left, b.top, b.left, b.bottom),
+        _ => corners(b.right, b.bottom, b.right, b.top),
+    }
+}
+
+// The corners as they are seen from below the box.
+#[tactic(auto, unfolding(walk_rules::specs::Boxes::corners_below))]
+fn corners_below(b: &Box4, column: u8) -> Corners
+    ensures { result ≡ corners_below b.now column }
+{
+    match column {
+        0 => corners(b.left, b.top, b.right, b.bottom),
+        1 => corners(b.left, b.bottom, b.right, b.bottom),
+        _ => corners(b.left, b.bottom, b.right, b.top),
+    }
+}
+
+fn corners(x1: i32, y1: i32, x2: i32, y2: i32) -> Corners
+    ensures { result ≡ record { x1 = x1; y1 = y1; x2 = x2; y2 = y2 } }
+{
+    Corners { x1, y1, x2, y2 }
+}
+
+// The two corners between which the box is seen.
+#[tactic(auto, unfolding(walk_rules::specs::Boxes::box_corners))]
+fn box_corners(b: &Box4, row: u8, column: u8) -> Corners
+    ensures { result ≡ box_corners b.now row column }
+{
+    match row {
+        0 => corners_above(b, column),
+        1 => corners_beside(b, column),
+        _ => corners_below(b, column),
+    }
+}
+
+#[tactic(auto, unfolding(walk_rules::specs::Boxes::corners_range))]
+fn corners_range(view: &View<'_>, c: Corners) -> ColumnRange
+    ensures value { result ≡ corners_range view.now c }
+    ensures order { (x1 x2 : ℕ) → result ≡ ColumnRange.Columns x1 x2 → (x1 ≤ x2) × (x2 ≤ view.now.shape.width) }
+{
+    view.column_range(view.point_angle(c.x1, c.y1), view.point_angle(c.x2, c.y2))
+}
+
+// Whether some column of the range is not covered.
+#[tactic(auto, unfolding(walk_rules::specs::Boxes::range_is_open))]
+fn range_is_open(cover: &Cover, range: ColumnRange) -> bool
+    requires { (x1 x2 : ℕ) → range ≡ ColumnRange.Columns x1 x2 → (x1 ≤ x2) × (x2 ≤ length cover.now) }
+    ensures { result ≡ range_is_open cover.now range }
+{
+    match range {
+        ColumnRange::Behind => true,
+        ColumnRange::Outside => false,
+        ColumnRange::Columns { x1, x2 } => x1 != x2 && !cover.hides(x1, x2 - 1),
+    }
+}
+
+/// Whether some column in which the box is seen is not covered.
+///
+/// The original: `R_CheckBBox`, r_bsp.c.
+#[tactic(auto, unfolding(walk_rules::specs::Boxes::box_passes))]
+pub(crate) fn box_passes(view: &View<'_>, cover: &Cover, b: &Box4) -> bool
+    requires { length cover.now ≡ view.now.shape.width }
+    ensures { result ≡ box_passes view.now cover.now b.now }
+{
+    let row = box_row(view, b);
+    let column = box_column(view, b);
+    if is_within_box(row, column) {
+        return true;
+    }
+    range_is_open(cover, corners_range(view, box_corners(b, row, column)))
+}

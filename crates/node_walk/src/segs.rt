@@ -1,0 +1,162 @@
+// What a seg hides and what of it is seen. Rules: `walk_rules`, Segs and Walk.
+ghost use Rattle.std.specs.Prelude.{◌≡◌, ℕ, ◌≤◌, ◌<◌, ◌-◌, ◌+◌, length, map, OnOk};
+ghost use Rattle.view_rules.specs.declared.ColumnRange.{ColumnRange};
+ghost use Rattle.level_rules.specs.Levels.{seg_at};
+ghost use Rattle.walk_rules.specs.Covered.{fragments};
+ghost use Rattle.walk_rules.specs.Events.Event.{FragmentEvent};
+ghost use Rattle.walk_rules.specs.Segs.{seg_range, back_of, middle_of, is_closed, is_solid, heights_differ, faces_differ, is_pass};
+ghost use Rattle.walk_rules.specs.Walk.{at_seg, at_columns};
+ghost use Rattle.node_walk.specs.Lists.{IsSegOf, part_start};
+ghost use Rattle.node_walk.specs.Visits.{Visits, TakesAll, Walks};
+
+use crate::scene::Lists;
+use crate::visitor::Visitor;
+use fx_words::same_word;
+use level_rules::{Seg, Surface};
+use solid_segs::Cover;
+use view_frame::{ColumnRange, View};
+
+// The columns in which a seg is seen.
+#[tactic(auto, unfolding(walk_rules::specs::Segs::seg_range))]
+fn seg_range(view: &View<'_>, seg: &Seg) -> ColumnRange
+    ensures value { result ≡ seg_range view.now seg.now }
+    ensures order { (x1 x2 : ℕ) → result ≡ ColumnRange.Columns x1 x2 → (x1 ≤ x2) × (x2 ≤ view.now.shape.width) }
+{
+    view.column_range(
+        view.point_angle(seg.x1, seg.y1),
+        view.point_angle(seg.x2, seg.y2),
+    )
+}
+
+// Whether nothing is seen between two sectors.
+#[tactic(auto, unfolding(walk_rules::specs::Segs::is_closed))]
+fn is_closed(front: &Surface, back: &Surface) -> bool
+    ensures { result ≡ is_closed front.now back.now }
+{
+    back.ceiling <= front.floor || front.ceiling <= back.floor
+}
+
+#[tactic(auto, unfolding(walk_rules::specs::Segs::heights_differ))]
+fn heights_differ(front: &Surface, back: &Surface) -> bool
+    ensures { result ≡ heights_differ front.now back.now }
+{
+    !same_word(front.ceiling, back.ceiling) || !same_word(front.floor, back.floor)
+}
+
+#[tactic(auto, unfolding(walk_rules::specs::Segs::faces_differ))]
+fn faces_differ(front: &Surface, back: &Surface) -> bool
+    ensures { result ≡ faces_differ front.now back.now }
+{
+    front.ceiling_flat != back.ceiling_flat
+        || front.floor_flat != back.floor_flat
+        || !same_word(front.light as i32, back.light as i32)
+}
+
+// Whether the seg covers what is behind it.
+#[tactic(auto, unfolding(walk_rules::specs::Segs::is_solid, walk_rules::specs::Segs::back_of))]
+fn is_solid(lists: &Lists<'_>, front: &Surface, seg: &Seg) -> bool
+    requires { IsSegOf lists.now seg.now }
+    ensures { result ≡ is_solid front.now (back_of lists.now seg.now) }
+{
+    match seg.back {
+        None => true,
+        Some(sector) => is_closed(front, lists.surface(sector)),
+    }
+}
+
+// Whether the seg shows something where it is not solid.
+#[tactic(auto, unfolding(walk_rules::specs::Segs::is_pass, walk_rules::specs::Segs::back_of, walk_rules::specs::Segs::middle_of))]
+fn is_pass(lists: &Lists<'_>, front: &Surface, seg: &Seg) -> bool
+    requires { IsSegOf lists.now seg.now }
+    ensures { result ≡ is_pass front.now (back_of lists.now seg.now) (middle_of lists.now seg.now) }
+{
+    match seg.back {
+        None => false,
+        Some(sector) => {
+            let back = lists.surface(sector);
+            heights_differ(front, back) || faces_differ(front, back) || lists.middle(seg.side) != 0
+        }
+    }
+}
+
+// Shows the runs of columns from `first` to `last` that are not covered.
+fn show<V: Visitor>(
+    cover: &Cover,
+    seg: u16,
+    first: u16,
+    last: u16,
+    visitor: &mut V,
+) -> Result<(), V::Stop>
+    requires ordered { first ≤ last }
+    requires within { last < length cover.now }
+    requires takes { (p q : ℕ) → first ≤ p → p ≤ q → q ≤ last → V.takes visitor.old (FragmentEvent seg p q) }
+    ensures { Visits (V.takes visitor.old) (V.takes visitor.new) (V.stands visitor.old) (V.stands visitor.new)
+        (V.stopped visitor.new) (map (λ r. FragmentEvent seg r.0 r.1) (fragments cover.now first last)) result }
+{
+    for (p, q) in cover.fragments(first, last) {
+        visitor.fragment(seg, p, q)?;
+    }
+    Ok(())
+}
+
+// A seg that is seen in columns `first` to `last`: a solid one is shown and covers, a pass is shown.
+fn visit_columns<V: Visitor>(
+    lists: &Lists<'_>,
+    front: &Surface,
+    n: u16,
+    first: u16,
+    last: u16,
+    cover: &mut Cover,
+    visitor: &mut V,
+) -> Result<(), V::Stop>
+    requires seg { n < length lists.now.segs }
+    requires ordered { first ≤ last }
+    requires within { last < length cover.old }
+    requires takes { (p q : ℕ) → first ≤ p → p ≤ q → q ≤ last → V.takes visitor.old (FragmentEvent n p q) }
+    ensures walks { let seg = seg_at lists.now n in
+        let back = back_of lists.now seg in
+        Walks (V.takes visitor.old) (V.takes visitor.new) (V.stands visitor.old) (V.stands visitor.new)
+        (V.stopped visitor.new) (at_columns (is_solid front.now back) (is_pass front.now back (middle_of lists.now seg)) n first last (part_start cover.old)) cover.new result }
+    ensures width { length cover.new ≡ length cover.old }
+{
+    let seg = lists.seg(n);
+    if is_solid(lists, front, seg) {
+        show(cover, n, first, last, visitor)?;
+        cover.cover(first, last);
+        Ok(())
+    } else if is_pass(lists, front, seg) {
+        show(cover, n, first, last, visitor)
+    } else {
+        Ok(())
+    }
+}
+
+/// Takes a seg of a leaf whose sector is `front`.
+///
+/// The original: `R_AddLine`, r_bsp.c.
+pub(crate) fn visit_seg<V: Visitor>(
+    lists: &Lists<'_>,
+    view: &View<'_>,
+    front: &Surface,
+    n: u16,
+    cover: &mut Cover,
+    visitor: &mut V,
+) -> Result<(), V::Stop>
+    requires seg { n < length lists.now.segs }
+    requires width { length cover.old ≡ view.now.shape.width }
+    requires takes { TakesAll (V.takes visitor.old) (length lists.now.leaves) (length lists.now.segs) view.now.shape.width }
+    ensures walks { Walks (V.takes visitor.old) (V.takes visitor.new) (V.stands visitor.old) (V.stands visitor.new)
+        (V.stopped visitor.new) (at_seg view.now lists.now front.now n (part_start cover.old)) cover.new result }
+    ensures width { length cover.new ≡ length cover.old }
+{
+    match seg_range(view, lists.seg(n)) {
+        ColumnRange::Behind => Ok(()),
+        ColumnRange::Outside => Ok(()),
+        ColumnRange::Columns { x1, x2 } => {
+            if x1 == x2 {
+                return Ok(());
+            }
+            visit_columns(lists, front, n, x1, x2 - 1, cover, visitor)
+        }
+    }
+}

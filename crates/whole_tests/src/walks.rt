@@ -1,0 +1,225 @@
+// A room of one leaf, whose walls are 256 map units from the eye, walked by a visitor that writes
+// down what it is given.
+ghost use Rattle.std.specs.Prelude.{◌≡◌, ◌+◌, ◌<◌, ◌≤◌, length, OnOk};
+
+use angle_tables::Tables;
+use level_maker::make_tables;
+use level_rules::Surface;
+use map_lumps::{Level, LevelBuilder, MapFault, MapLump};
+use node_walk::{Visitor, WalkScene, walk};
+use solid_segs::Cover;
+use std::alloc::{AllocError, Global};
+use std::test::Fail;
+use view_frame::View;
+use view_rules::Eye;
+
+const UNIT: i32 = 65536;
+
+// An eye at the level's origin, looking east.
+const EAST: Eye = Eye {
+    x: 0,
+    y: 0,
+    z: 41 * UNIT,
+    angle: 0,
+    extralight: 0,
+    colormap: 0,
+};
+
+const ROOM: usize = 8;
+
+#[derive(Clone, Copy, Debug, PartialEq, Eq)]
+enum Seen {
+    Nothing,
+    Leaf(u16),
+    Fragment { seg: u16, first: u16, last: u16 },
+}
+
+// Writes down up to `limit` events, and stops at the last of them.
+#[derive(Drop)]
+struct Recorder {
+    seen: [Seen; ROOM],
+    count: usize,
+    limit: usize,
+}
+
+#[derive(Clone, Copy, Debug, PartialEq, Eq)]
+struct Full;
+
+impl Recorder {
+    fn new(limit: usize) -> Recorder
+        ensures count { result.count ≡ 0 }
+        ensures limit { result.limit ≡ limit }
+    {
+        Recorder {
+            seen: [Seen::Nothing; ROOM],
+            count: 0,
+            limit,
+        }
+    }
+
+    fn record(&mut self, event: Seen) -> Result<(), Full>
+        requires room { self.old.count < self.old.limit }
+        requires limit { self.old.limit ≤ ROOM }
+        ensures count { self.new.count ≡ self.old.count + 1 }
+        ensures limit { self.new.limit ≡ self.old.limit }
+        ensures ok { OnOk result (self.new.count < self.new.limit) }
+    {
+        self.seen[self.count] = event;
+        self.count += 1;
+        if self.count == self.limit {
+            Err(Full)
+        } else {
+            Ok(())
+        }
+    }
+}
+
+// It stands for the lists of as many events as it was given.
+impl Visitor for Recorder {
+    type Stop = Full;
+
+    ghost use Rattle.whole_tests.specs.declared.walks.TheConstants.{ROOM};
+
+    ghost stands = { λ r start events. length events ≡ r.count };
+
+    ghost stopped = { λ r start events stop. length events ≡ r.count };
+
+    ghost takes = { λ r event. (r.count < r.limit) × (r.limit ≤ ROOM) };
+
+    fn leaf(&mut self, leaf: u16) -> Result<(), Full> {
+        self.record(Seen::Leaf(leaf))
+    }
+
+    fn fragment(&mut self, seg: u16, first: u16, last: u16) -> Result<(), Full> {
+        self.record(Seen::Fragment { seg, first, last })
+    }
+}
+
+// Four walls seen from inside, and the leaf of all four: LINEDEFS to SECTORS, as numbers of 16 bits.
+const LINES: [i16; 28] = [
+    0, 1, 1, 0, 0, 0, -1, 1, 2, 1, 0, 0, 1, -1, 2, 3, 1, 0, 0, 2, -1, 3, 0, 1, 0, 0, 3, -1,
+];
+
+const SIDES: [i16; 60] = [0; 60];
+
+const VERTEXES: [i16; 8] = [256, 256, 256, -256, -256, -256, -256, 256];
+
+const SEGS: [i16; 24] = [
+    0, 1, -16384, 0, 0, 0, 1, 2, -32768, 1, 0, 0, 2, 3, 16384, 2, 0, 0, 3, 0, 0, 3, 0, 0,
+];
+
+const LEAVES: [i16; 2] = [4, 0];
+
+const SECTORS: [i16; 13] = [0, 128, 0, 0, 0, 0, 0, 0, 0, 0, 160, 0, 0];
+
+// The numbers of a lump by its number.
+fn words(lump: usize) -> &'static [i16] {
+    match lump {
+        1 => &LINES,
+        2 => &SIDES,
+        3 => &VERTEXES,
+        4 => &SEGS,
+        5 => &LEAVES,
+        7 => &SECTORS,
+        _ => &[],
+    }
+}
+
+// The bytes of a lump.
+fn bytes_of(alloc: Global, lump: usize) -> Result<Vec<u8>, AllocError> {
+    let mut bytes = Vec::new(alloc);
+    for word in words(lump) {
+        bytes.extend_from_slice(&word.to_le_bytes())?;
+    }
+    Ok(bytes)
+}
+
+// The bytes of the eight lumps.
+fn lumps(alloc: Global) -> Result<[Vec<u8>; 8], AllocError> {
+    Ok([
+        bytes_of(alloc, 0)?,
+        bytes_of(alloc, 1)?,
+        bytes_of(alloc, 2)?,
+        bytes_of(alloc, 3)?,
+        bytes_of(alloc, 4)?,
+        bytes_of(alloc, 5)?,
+        bytes_of(alloc, 6)?,
+        bytes_of(alloc, 7)?,
+    ])
+}
+
+// The level of eight lumps.
+#[tactic(auto, unfolding(map_lumps::specs::Builders::empty_builder, map_lumps::specs::Builders::is_added, map_lumps::specs::Builders::with_lump, map_rules::specs::Lumps::lump_no))]
+fn level(alloc: Global, lumps: &[Vec<u8>; 8]) -> Result<Level, MapFault> {
+    let mut builder = LevelBuilder::new();
+    builder.add(alloc, MapLump::Things, &lumps[0])?;
+    builder.add(alloc, MapLump::Linedefs, &lumps[1])?;
+    builder.add(alloc, MapLump::Sidedefs, &lumps[2])?;
+    builder.add(alloc, MapLump::Vertexes, &lumps[3])?;
+    builder.add(alloc, MapLump::Segs, &lumps[4])?;
+    builder.add(alloc, MapLump::Ssectors, &lumps[5])?;
+    builder.add(alloc, MapLump::Nodes, &lumps[6])?;
+    builder.add(alloc, MapLump::Sectors, &lumps[7])?;
+    builder.finish(alloc)
+}
+
+// Floor 0, ceiling 128, light 160.
+const SURFACE: Surface = Surface {
+    floor: 0,
+    ceiling: 128 * UNIT,
+    floor_flat: 1,
+    ceiling_flat: 2,
+    light: 160,
+};
+
+// Walks a scene seen by a view, up to `limit` events.
+fn walked(scene: &WalkScene<'_>, view: &View<'_>, limit: usize) -> (Recorder, Result<(), Full>)
+    requires surfaces { length scene.now.surfaces.now ≡ length scene.now.level.now.sectors }
+    requires middles { length scene.now.middles.now ≡ length scene.now.level.now.sides }
+    requires room { 0 < limit }
+    requires limit { limit ≤ ROOM }
+{
+    let mut cover = Cover::new(view.shape().width);
+    let mut recorder = Recorder::new(limit);
+    let answer = walk(scene, view, &mut cover, &mut recorder);
+    (recorder, answer)
+}
+
+#[test]
+fn a_room_is_walked_up_to_the_last_event_that_is_taken(rt: HostRuntime) -> Result<(), Fail> {
+    let bytes = make_tables(rt.alloc())?;
+    let tables = Tables::from_bytes(rt.alloc(), &bytes, 11).expect(&rt, "accepted");
+    let lumps = lumps(rt.alloc()).expect(&rt, "memory");
+    let level = level(rt.alloc(), &lumps).expect(&rt, "level");
+    assert!(rt; level.sectors().len() == 1);
+    assert!(rt; level.sides().len() == 4);
+    let scene = WalkScene {
+        level: &level,
+        surfaces: &[SURFACE],
+        middles: &[1; 4],
+    };
+    let view = View::new(&tables, EAST);
+    let east = Seen::Fragment {
+        seg: 0,
+        first: 1,
+        last: 319,
+    };
+    let north = Seen::Fragment {
+        seg: 3,
+        first: 0,
+        last: 0,
+    };
+    let (recorder, answer) = walked(&scene, &view, ROOM);
+    assert_eq!(rt; answer, Ok(()));
+    assert_eq!(rt;
+        &recorder.seen[..4],
+        [Seen::Leaf(0), east, north, Seen::Nothing].as_slice()
+    );
+    let (recorder, answer) = walked(&scene, &view, 2);
+    assert_eq!(rt; answer, Err(Full));
+    assert_eq!(rt;
+        &recorder.seen[..3],
+        [Seen::Leaf(0), east, Seen::Nothing].as_slice()
+    );
+    Ok(())
+}
