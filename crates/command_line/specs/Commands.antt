@@ -1,5 +1,5 @@
 -- Which words are a command, and which command they are.
-use Rattle.std.specs.Prelude.{ℕ, Bool, cond, ◌==◌, ◌||◌, List, [], ◌∷◌, length, map, Option, Some, None, option_and_then, option_map, codes, bytes_eq}
+use Rattle.std.specs.Prelude.{ℕ, ◌≤◌, Bool, cond, ◌==◌, ◌||◌, List, [], ◌∷◌, length, map, Option, Some, None, option_and_then, option_map, codes, bytes_eq}
 use Rattle.clap.specs.Words.{Row, Text, all_of, fault_of, first_of, matches_of}
 use Rattle.lump_rules.specs.Names.{name_of_text}
 use Rattle.command_line.specs.declared.command.Command.{Command}
@@ -25,6 +25,24 @@ told (command.Flat name file) = flat name file.now
 told (command.Scene job level wads) = scene job (told_scene level) (map (λ w. w.now) wads.items)
 told (command.Make job) = make job
 told (command.Exercise count zone format) = exercise count zone format
+
+-- a number of made files
+pub record IsCount (n : ℕ) : Type 0 where
+  pub least : MIN_COUNT ≤ n
+  pub most : n ≤ MAX_COUNT
+
+abbrev pub IsCountedMake : MakeJob → Type 0
+IsCountedMake (Wad n) = IsCount n
+IsCountedMake (Path n) = IsCount n
+IsCountedMake Tables = Unit {0}
+IsCountedMake Things = Unit {0}
+
+-- the number of made files, where a command has one, is in its range
+abbrev pub IsCounted : Told → Type 0
+IsCounted (flat name file) = Unit {0}
+IsCounted (scene job level wads) = Unit {0}
+IsCounted (make job) = IsCountedMake job
+IsCounted (exercise count zone format) = IsCount count
 
 -- the jobs that are built; the others are no command yet
 unfoldable pub is_built : Text → Bool

@@ -52,6 +52,7 @@ pub const DEFAULT_OPENINGS: u32 = 20_480;
 #[tactic(auto, unfolding(crate::specs::Choices::number_within))]
 pub(crate) fn number_within(low: u32, high: u32, text: &str) -> Option<u32>
     ensures value { result ≡ number_within low high text.now }
+    ensures least { IfSome result (λ n. low ≤ n) }
     ensures limit { IfSome result (λ n. n ≤ high) }
 {
     match numeral(text.as_bytes()) {

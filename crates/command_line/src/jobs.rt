@@ -1,8 +1,8 @@
 // The job of the words, by its name and the words after it.
 
-ghost use Rattle.std.specs.Prelude.{◌≡◌, ◌≢◌, ◌==◌, true, false, [], Err, IfOk, IfErr, Some, None, map, option_map, codes, string_bytes};
+ghost use Rattle.std.specs.Prelude.{◌≡◌, ◌≢◌, ◌==◌, true, false, [], Err, IfOk, IfErr, IfSome, Some, None, map, option_map, codes, string_bytes};
 ghost use Rattle.clap.specs.Words.{found_of, rows_of};
-ghost use Rattle.command_line.specs.Commands.{command_in, command_of, count_of, exercise_of, flat_of, is_built, job_named, make_job_of, make_of, numbered_make, plain_make, scene_command, scene_with, exercise_numbers, told};
+ghost use Rattle.command_line.specs.Commands.{IsCount, IsCounted, IsCountedMake, command_in, command_of, count_of, exercise_of, flat_of, is_built, job_named, make_job_of, make_of, numbered_make, plain_make, scene_command, scene_with, exercise_numbers, told};
 
 use crate::choices::{format_in, has_no_options, has_no_settings, number_within, zone_in};
 use crate::command::{Command, CommandFault, Format, MakeJob, SceneJob};
@@ -17,7 +17,7 @@ pub const MIN_COUNT: u32 = 1;
 
 pub const MAX_COUNT: u32 = 32;
 
-/// The command of the words after the program's name.
+/// The command of the words after the program's name. The number of made files is in its range.
 ///
 /// Takes memory for what `clap` finds and for the list of WADs.
 ///
@@ -27,6 +27,7 @@ pub const MAX_COUNT: u32 = 32;
 #[tactic(auto, unfolding(crate::specs::Commands::command_of))]
 pub fn command_of<'a>(alloc: Global, words: &'a [String]) -> Result<Command<'a>, CommandFault>
     ensures ok { IfOk result (λ command. command_of (map string_bytes words.now) ≡ Some (told command)) }
+    ensures counted { IfOk result (λ command. IsCounted (told command)) }
     ensures usage { result ≡ Err CommandFault.Usage → command_of (map string_bytes words.now) ≡ None }
 {
     match matches(alloc, words) {
@@ -39,6 +40,7 @@ pub fn command_of<'a>(alloc: Global, words: &'a [String]) -> Result<Command<'a>,
 #[tactic(auto, unfolding(crate::specs::Commands::command_in))]
 fn command_in<'a>(alloc: Global, found: &ArgMatches<'a>) -> Result<Command<'a>, CommandFault>
     ensures ok { IfOk result (λ command. command_in (rows_of (found_of found.now)) ≡ Some (told command)) }
+    ensures counted { IfOk result (λ command. IsCounted (told command)) }
     ensures usage { result ≡ Err CommandFault.Usage → command_in (rows_of (found_of found.now)) ≡ None }
 {
     match value(found, "job") {
@@ -73,6 +75,7 @@ fn job_named<'m, 'a>(
     rest: &'m [&'a str],
 ) -> Result<Command<'a>, CommandFault>
     ensures ok { IfOk result (λ command. job_named (rows_of (found_of found.now)) job.now (map (λ w. w.now) rest.now) ≡ Some (told command)) }
+    ensures counted { IfOk result (λ command. IsCounted (told command)) }
     ensures usage { result ≡ Err CommandFault.Usage → job_named (rows_of (found_of found.now)) job.now (map (λ w. w.now) rest.now) ≡ None }
 {
     if job == "flat" {
@@ -90,6 +93,7 @@ fn job_named<'m, 'a>(
 #[tactic(auto, unfolding(crate::specs::Commands::flat_of))]
 fn flat_of<'m, 'a>(found: &ArgMatches<'a>, rest: &'m [&'a str]) -> Result<Command<'a>, CommandFault>
     ensures ok { IfOk result (λ command. flat_of (rows_of (found_of found.now)) (map (λ w. w.now) rest.now) ≡ Some (told command)) }
+    ensures counted { IfOk result (λ command. IsCounted (told command)) }
     ensures usage { IfErr result (λ _. flat_of (rows_of (found_of found.now)) (map (λ w. w.now) rest.now) ≡ None) }
 {
     match rest {
@@ -110,6 +114,7 @@ fn flat_of<'m, 'a>(found: &ArgMatches<'a>, rest: &'m [&'a str]) -> Result<Comman
 #[tactic(auto, unfolding(crate::specs::Commands::make_of))]
 fn make_of<'m, 'a>(found: &ArgMatches<'a>, rest: &'m [&'a str]) -> Result<Command<'a>, CommandFault>
     ensures ok { IfOk result (λ command. make_of (rows_of (found_of found.now)) (map (λ w. w.now) rest.now) ≡ Some (told command)) }
+    ensures counted { IfOk result (λ command. IsCounted (told command)) }
     ensures usage { IfErr result (λ _. make_of (rows_of (found_of found.now)) (map (λ w. w.now) rest.now) ≡ None) }
 {
     if !has_no_options(found) {
@@ -124,7 +129,8 @@ fn make_of<'m, 'a>(found: &ArgMatches<'a>, rest: &'m [&'a str]) -> Result<Comman
 // What is to be made.
 #[tactic(auto, unfolding(crate::specs::Commands::make_job_of))]
 fn make_job_of(rest: &[&str]) -> Option<MakeJob>
-    ensures { result ≡ make_job_of (map (λ w. w.now) rest.now) }
+    ensures value { result ≡ make_job_of (map (λ w. w.now) rest.now) }
+    ensures counted { IfSome result (λ job. IsCountedMake job) }
 {
     match rest {
         [what] => plain_make(what),
@@ -136,7 +142,8 @@ fn make_job_of(rest: &[&str]) -> Option<MakeJob>
 // A file that is made without a number.
 #[tactic(auto, unfolding(crate::specs::Commands::plain_make))]
 fn plain_make(what: &str) -> Option<MakeJob>
-    ensures { result ≡ plain_make what.now }
+    ensures value { result ≡ plain_make what.now }
+    ensures counted { IfSome result (λ job. IsCountedMake job) }
 {
     if what == "tables" {
         Some(MakeJob::Tables)
@@ -150,7 +157,8 @@ fn plain_make(what: &str) -> Option<MakeJob>
 // A file that is made with a number.
 #[tactic(auto, unfolding(crate::specs::Commands::numbered_make))]
 fn numbered_make(what: &str, count: &str) -> Option<MakeJob>
-    ensures { result ≡ numbered_make what.now count.now }
+    ensures value { result ≡ numbered_make what.now count.now }
+    ensures counted { IfSome result (λ job. IsCountedMake job) }
 {
     let count = count_of(count)?;
     if what == "wad" {
@@ -165,7 +173,8 @@ fn numbered_make(what: &str, count: &str) -> Option<MakeJob>
 // The number of made files.
 #[tactic(auto, unfolding(crate::specs::Commands::count_of))]
 fn count_of(text: &str) -> Option<u8>
-    ensures { result ≡ count_of text.now }
+    ensures value { result ≡ count_of text.now }
+    ensures counted { IfSome result (λ n. IsCount n) }
 {
     let count = number_within(MIN_COUNT, MAX_COUNT, text)?;
     Some(count as u8)
@@ -178,6 +187,7 @@ fn exercise_of<'m, 'a>(
     rest: &'m [&'a str],
 ) -> Result<Command<'a>, CommandFault>
     ensures ok { IfOk result (λ command. exercise_of (rows_of (found_of found.now)) (map (λ w. w.now) rest.now) ≡ Some (told command)) }
+    ensures counted { IfOk result (λ command. IsCounted (told command)) }
     ensures usage { IfErr result (λ _. exercise_of (rows_of (found_of found.now)) (map (λ w. w.now) rest.now) ≡ None) }
 {
     match rest {
@@ -201,7 +211,8 @@ fn exercise_of<'m, 'a>(
 // The number of an exercise, the size of its zone and its format.
 #[tactic(auto, unfolding(crate::specs::Commands::exercise_numbers))]
 fn exercise_numbers(found: &ArgMatches<'_>, count: &str) -> Option<(u8, u32, Format)>
-    ensures { result ≡ exercise_numbers (rows_of (found_of found.now)) count.now }
+    ensures value { result ≡ exercise_numbers (rows_of (found_of found.now)) count.now }
+    ensures counted { IfSome result (λ numbers. IsCount numbers.0) }
 {
     let count = count_of(count)?;
     let zone = zone_in(found)?;
@@ -218,6 +229,7 @@ fn scene_command<'m, 'a>(
     rest: &'m [&'a str],
 ) -> Result<Command<'a>, CommandFault>
     ensures ok { IfOk result (λ command. scene_command (rows_of (found_of found.now)) job.now (map (λ w. w.now) rest.now) ≡ Some (told command)) }
+    ensures counted { IfOk result (λ command. IsCounted (told command)) }
     ensures usage { result ≡ Err CommandFault.Usage → scene_command (rows_of (found_of found.now)) job.now (map (λ w. w.now) rest.now) ≡ None }
 {
     match rest.split_first() {
@@ -239,6 +251,7 @@ fn scene_with<'a>(
     wads: &[&'a str],
 ) -> Result<Command<'a>, CommandFault>
     ensures ok { IfOk result (λ command. scene_with (rows_of (found_of found.now)) job level.now (map (λ w. w.now) wads.now) ≡ Some (told command)) }
+    ensures counted { IfOk result (λ command. IsCounted (told command)) }
     ensures usage { result ≡ Err CommandFault.Usage → scene_with (rows_of (found_of found.now)) job level.now (map (λ w. w.now) wads.now) ≡ None }
 {
     if !are_wads(wads) {

@@ -1,12 +1,13 @@
--- What a status tells of the output.
-use Rattle.std.proofs.Common.{◌≡◌, ℕ, Bool, List, [], Result, Ok, subst}
+-- What a status tells of the output, and what a verdict tells of the status.
+use Rattle.std.proofs.Common.{◌≡◌, ◌⊎◌, inl, inr, ℕ, Bool, IsTrue, List, [], Result, Ok, Err, refl, sym, ap, ◌∙◌, subst}
 use Rattle.outside.specs.Sink.{Grew, GrewByPrefix}
 use Rattle.outside.proofs.WriteLemmas.{grew_whole, prefix_of_none}
+use Rattle.doom_run.specs.declared.refusal.Refusal.{Refusal}
 use Rattle.doom_run.specs.declared.status.Status.{Status}
 use Rattle.doom_run.specs.declared.status.Status.TheVariants.{Done, Usage, Refused, ReadFault, WriteFault, Limit, ZoneFull, OutOfMemory}
-use Rattle.doom_run.specs.Ends.{EndsAt, EndsWith, IsUnwritten}
-use Rattle.doom_run.specs.Steps.{Stop}
-use Rattle.doom_run.specs.Verdict.{Accepted, output}
+use Rattle.doom_run.specs.Ends.{EndsAt, EndsWith, IsEnd, IsUnwritten}
+use Rattle.doom_run.specs.Steps.{Stop, usage, absent, refused}
+use Rattle.doom_run.specs.Verdict.{Accepted, end_of, output}
 
 same_accepted : (verdict : Result Accepted Stop) (p q : Accepted) → verdict ≡ Ok p → verdict ≡ Ok q → p ≡ q
 same_accepted verdict p q a b = cc
@@ -29,3 +30,90 @@ prefix_at_end steady verdict old new WriteFault accepted ends unwritten e =
 prefix_at_end steady verdict old new (Limit view kind count) accepted ends unwritten e = whole_at_end verdict old new (Limit view kind count) accepted ends e
 prefix_at_end steady verdict old new (ZoneFull wanted widest) accepted ends unwritten e = absurd ends
 prefix_at_end steady verdict old new OutOfMemory accepted ends unwritten e = prefix_of_none _ (unwritten tt)
+
+-- an end is that of the verdict
+pub end_at : (steady : Bool) (verdict : Result Accepted Stop) (old new : List ℕ → Type 0) (status : Status) →
+    EndsAt steady verdict old new status → IsEnd status → EndsWith verdict old new status
+end_at steady verdict old new Done ends is = ends
+end_at steady verdict old new Usage ends is = absurd is
+end_at steady verdict old new (Refused refusal) ends is = absurd is
+end_at steady verdict old new ReadFault ends is = absurd is
+end_at steady verdict old new WriteFault ends is = absurd is
+end_at steady verdict old new (Limit view kind count) ends is = ends
+end_at steady verdict old new (ZoneFull wanted widest) ends is = absurd is
+end_at steady verdict old new OutOfMemory ends is = absurd is
+
+accepts_or_stops : (verdict : Result Accepted Stop) (accepted : Accepted) (stop : Stop) → verdict ≡ Ok accepted → verdict ≡ Err stop → ⊥
+accepts_or_stops verdict accepted stop a s = cc
+
+-- where the verdict stops, nothing was written
+pub stopped_at : (steady : Bool) (verdict : Result Accepted Stop) (old new : List ℕ → Type 0) (status : Status) (stop : Stop) →
+    EndsAt steady verdict old new status → verdict ≡ Err stop → IsUnwritten status
+stopped_at steady verdict old new Done stop ends e = accepts_or_stops verdict ends.accepted stop ends.is e
+stopped_at steady verdict old new Usage stop ends e = tt
+stopped_at steady verdict old new (Refused refusal) stop ends e = tt
+stopped_at steady verdict old new ReadFault stop ends e = tt
+stopped_at steady verdict old new WriteFault stop ends e = accepts_or_stops verdict ends.accepted stop ends.is e
+stopped_at steady verdict old new (Limit view kind count) stop ends e = accepts_or_stops verdict ends.accepted stop ends.is e
+stopped_at steady verdict old new (ZoneFull wanted widest) stop ends e = ends
+stopped_at steady verdict old new OutOfMemory stop ends e = tt
+
+not_usage : (verdict : Result Accepted Stop) (refusal : Refusal) → verdict ≡ Err usage → verdict ≡ Err (refused refusal) → ⊥
+not_usage verdict refusal u e = cc
+
+same_refusal : (verdict : Result Accepted Stop) (r s : Refusal) → verdict ≡ Err (refused r) → verdict ≡ Err (refused s) → Refused r ≡ Refused s
+same_refusal verdict r s a b = cc
+
+-- where the verdict refuses, that refusal comes, but for the faults
+pub refusal_at : (steady : Bool) (verdict : Result Accepted Stop) (old new : List ℕ → Type 0) (status : Status) (refusal : Refusal) →
+    EndsAt steady verdict old new status → verdict ≡ Err (refused refusal) → (status ≡ Refused refusal) ⊎ (status ≡ ReadFault) ⊎ (status ≡ OutOfMemory)
+refusal_at steady verdict old new Done refusal ends e = absurd (accepts_or_stops verdict ends.accepted (refused refusal) ends.is e)
+refusal_at steady verdict old new Usage refusal ends e = absurd (not_usage verdict refusal ends e)
+refusal_at steady verdict old new (Refused other) refusal ends e = inl (same_refusal verdict other refusal ends e)
+refusal_at steady verdict old new ReadFault refusal ends e = inr (inl refl)
+refusal_at steady verdict old new WriteFault refusal ends e = absurd (accepts_or_stops verdict ends.accepted (refused refusal) ends.is e)
+refusal_at steady verdict old new (Limit view kind count) refusal ends e = absurd (accepts_or_stops verdict ends.accepted (refused refusal) ends.is e)
+refusal_at steady verdict old new (ZoneFull wanted widest) refusal ends e = absurd ends
+refusal_at steady verdict old new OutOfMemory refusal ends e = inr (inr refl)
+
+not_absent : (verdict : Result Accepted Stop) → verdict ≡ Err usage → verdict ≡ Err absent → ⊥
+not_absent verdict u e = cc
+
+not_refused : (verdict : Result Accepted Stop) (refusal : Refusal) → verdict ≡ Err (refused refusal) → verdict ≡ Err absent → ⊥
+not_refused verdict refusal r e = cc
+
+-- where a file is absent, that is told as a read fault
+pub absent_at : (steady : Bool) (verdict : Result Accepted Stop) (old new : List ℕ → Type 0) (status : Status) →
+    EndsAt steady verdict old new status → verdict ≡ Err absent → (status ≡ ReadFault) ⊎ (status ≡ OutOfMemory)
+absent_at steady verdict old new Done ends e = absurd (accepts_or_stops verdict ends.accepted absent ends.is e)
+absent_at steady verdict old new Usage ends e = absurd (not_absent verdict ends e)
+absent_at steady verdict old new (Refused refusal) ends e = absurd (not_refused verdict refusal ends e)
+absent_at steady verdict old new ReadFault ends e = inl refl
+absent_at steady verdict old new WriteFault ends e = absurd (accepts_or_stops verdict ends.accepted absent ends.is e)
+absent_at steady verdict old new (Limit view kind count) ends e = absurd (accepts_or_stops verdict ends.accepted absent ends.is e)
+absent_at steady verdict old new (ZoneFull wanted widest) ends e = absurd ends
+absent_at steady verdict old new OutOfMemory ends e = inr refl
+
+due_end : (verdict : Result Accepted Stop) (old new : List ℕ → Type 0) (status : Status) (accepted : Accepted) →
+    EndsWith verdict old new status → verdict ≡ Ok accepted → status ≡ end_of accepted
+due_end verdict old new status accepted ends e = sym ends.due ∙ ap (λ (a : Accepted). end_of a) (same_accepted verdict ends.accepted accepted ends.is e)
+
+-- an accepted run in which no fault stands comes to its end
+pub complete_at : (steady : Bool) (verdict : Result Accepted Stop) (old new : List ℕ → Type 0) (status : Status) (accepted : Accepted) →
+    EndsAt steady verdict old new status → verdict ≡ Ok accepted → (status ≡ ReadFault → ⊥) → (status ≡ WriteFault → ⊥) →
+    (status ≡ end_of accepted) ⊎ (status ≡ OutOfMemory)
+complete_at steady verdict old new Done accepted ends e read write = inl (due_end verdict old new Done accepted ends e)
+complete_at steady verdict old new Usage accepted ends e read write = absurd (accepts_or_stops verdict accepted usage e ends)
+complete_at steady verdict old new (Refused refusal) accepted ends e read write = absurd (accepts_or_stops verdict accepted (refused refusal) e ends)
+complete_at steady verdict old new ReadFault accepted ends e read write = absurd (read refl)
+complete_at steady verdict old new WriteFault accepted ends e read write = absurd (write refl)
+complete_at steady verdict old new (Limit view kind count) accepted ends e read write = inl (due_end verdict old new (Limit view kind count) accepted ends e)
+complete_at steady verdict old new (ZoneFull wanted widest) accepted ends e read write = absurd ends
+complete_at steady verdict old new OutOfMemory accepted ends e read write = inr refl
+
+-- over a steady shelf an accepted run meets no read fault
+pub steady_reads : (steady : Bool) (verdict : Result Accepted Stop) (old new : List ℕ → Type 0) (status : Status) (accepted : Accepted) →
+    EndsAt steady verdict old new status → verdict ≡ Ok accepted → (status ≡ ReadFault → IsTrue steady) → status ≡ ReadFault → ⊥
+steady_reads steady verdict old new status accepted ends e holds is =
+    let h : EndsAt steady verdict old new ReadFault = rw is at ends in
+    accepts_or_stops verdict accepted absent e (h (holds is))

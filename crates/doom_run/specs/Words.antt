@@ -1,25 +1,25 @@
--- The words of a command line, after the program's name.
-use Rattle.std.specs.Prelude.{ℕ, if◌then◌else◌, List, [], ◌∷◌, map, String, string_bytes, Option, None, codes}
-use Rattle.std.specs.Option.{option_map}
-use Rattle.std.specs.Str.{bytes_eq}
+-- The words of a command line, after the program's name, and whether they ask for files.
+use Rattle.std.specs.Prelude.{ℕ, Bool, true, false, IsTrue, List, map, String, string_bytes}
+use Rattle.std.specs.Option.{option_map_or}
 use Rattle.std.specs.declared.alloc.Global.{Global}
-use Rattle.lump_rules.specs.Names.{name_of_text}
-
--- what a run is asked for
-pub data Command : Type 0 where
-  -- the flat of that name in the file of that name
-  flat : (name file : List ℕ) → Command
-
--- a name and a file
-abbrev pub flat_command : List (List ℕ) → Option Command
-flat_command (name ∷ file ∷ []) = option_map (λ found. flat found file) (name_of_text name)
-flat_command words = None
-
--- what the words ask for, where they are a command
-abbrev pub command_of : List (List ℕ) → Option Command
-command_of [] = None
-command_of (job ∷ rest) = if bytes_eq job (codes "flat") then flat_command rest else None
+use Rattle.command_line.specs.Commands.{Told, flat, scene, make, exercise, command_of}
 
 -- the texts of the words
 abbrev pub texts : List (String Global) → List (List ℕ)
 texts words = map (λ word. string_bytes word) words
+
+-- The job asks the shelf for files. A made file is told by its words alone, and a job that is not
+-- built asks for nothing.
+abbrev pub asks_for_files : Told → Bool
+asks_for_files (flat name file) = true
+asks_for_files (scene job level wads) = false
+asks_for_files (make job) = false
+asks_for_files (exercise count zone format) = false
+
+-- the words are a command that asks for files
+abbrev pub ask_for_files : List (List ℕ) → Bool
+ask_for_files words = option_map_or asks_for_files (command_of words) false
+
+-- a premise on the shelf: it counts only where the words ask for files
+abbrev pub WhereAsked : List (List ℕ) → Type 0 → Type 0
+WhereAsked words Premise = IsTrue (ask_for_files words) → Premise

@@ -1,12 +1,12 @@
 //! A run of the program, from the words of its command line to its status.
 //!
-//! A run has a command, which its words give, and a job, which the command asks for. Each job has
-//! two halves: `prepare_..` reads and checks all that it needs and takes all memory, `deliver_..`
-//! writes. So nothing is written before the first step that can refuse has passed.
+//! A run has a command, which its words give (`command_line`). Each job has two halves:
+//! `prepare_..` reads and checks all that it needs and takes all memory, `deliver_..` writes. So
+//! nothing is written before the first step that can refuse has passed.
 //!
-//! Rules: specs, Words (what the words ask for), Flats (the picture of a flat), Steps (where a run
-//! stops), Verdict (what a run comes to, and its output), Ends (what a status says), Lines (what is
-//! noted). Proved: what `run` writes, each status and its cause, and the line for each status.
+//! Rules: specs, Words (whether the words ask for files), Flats (the picture of a flat), Made (the
+//! bytes of a made file), Steps (where a run stops), Verdict (what a run comes to, and its output),
+//! Ends (what a status says), Lines (what is noted). Proved: what `run` writes, each status and its cause, and the line for each status.
 //! Tested only: that memory is found. The original: none; `D_DoomMain`, d_main.c, stands in its
 //! place there.
 #![tactic(auto)]
@@ -16,6 +16,7 @@ mod drawing;
 mod fault;
 mod flat;
 mod lumps;
+mod make;
 mod notes;
 mod refusal;
 mod status;
@@ -23,7 +24,6 @@ mod status;
 mod tests;
 mod tiling;
 mod top;
-mod words;
 
 pub use notes::put_note;
 pub use refusal::{ArtRefusal, Refusal, SceneRefusal};

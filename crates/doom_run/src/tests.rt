@@ -7,6 +7,8 @@ use std::test::Fail;
 
 const PPM_BYTES: usize = 192015;
 
+const MADE_WAD_BYTES: usize = 200066;
+
 const LINE_ROOM: usize = 100;
 
 // The calls of the shelf for a flat: find, size, header, directory, PLAYPAL and the flat.
@@ -54,7 +56,7 @@ fn run_over(
     let name = "tiny.wad".to_string(alloc)?;
     let files = vec![in alloc; MemoryFile { name, bytes: wad }]?;
     let mut shelf = MemoryShelf::new(files, failing);
-    let mut out = MemorySink::new(alloc, PPM_BYTES, put_faults)?;
+    let mut out = MemorySink::new(alloc, MADE_WAD_BYTES, put_faults)?;
     let mut notes = MemorySink::new(alloc, LINE_ROOM, Vec::new(alloc))?;
     let words = words_of(alloc, words)?;
     let status = run(alloc, &words, &mut shelf, &mut out, &mut notes);
@@ -81,6 +83,38 @@ fn a_flat_is_tiled_over_the_frame(rt: HostRuntime) -> Result<(), Fail> {
     assert_eq!(rt; &out[45..48], [0, 255, 0].as_slice());
     assert_eq!(rt; &out[207..210], [1, 254, 7].as_slice());
     assert_eq!(rt; ended.notes.bytes(), [].as_slice());
+    Ok(())
+}
+
+#[test]
+fn made_files_are_written_without_the_shelf(rt: HostRuntime) -> Result<(), Fail> {
+    let alloc = rt.alloc();
+    for (words, length, first) in [
+        ("make wad 10", MADE_WAD_BYTES, "IWAD"),
+        ("make tables", 65540, "\x19\0\0\0"),
+        (
+            "make path 1",
+            106,
+            "x,y,z,angle\n2621440,2621440,4718592,0\n5046272,6094848,4718592,286331153\n7471104,9568256,4718592,572662306\n",
+        ),
+        (
+            "make things",
+            55,
+            "type,sprite,frame,bright,hang,shadow\n2035,TREE,A,0,0,0\n",
+        ),
+    ] {
+        let ended = run_over(
+            alloc,
+            words,
+            Vec::new(alloc),
+            vec![in alloc; 1]?,
+            Vec::new(alloc),
+        )?;
+        assert_eq!(rt; ended.status, Status::Done, "{words}");
+        assert_eq!(rt; ended.out.bytes().len(), length, "{words}");
+        assert!(rt; ended.out.bytes().starts_with(first.as_bytes()), "{words}");
+        assert_eq!(rt; ended.notes.bytes(), [].as_slice(), "{words}");
+    }
     Ok(())
 }
 
@@ -135,16 +169,21 @@ fn each_call_of_the_shelf_that_fails_ends_the_run(rt: HostRuntime) -> Result<(),
 #[test]
 fn a_put_that_fails_ends_the_run(rt: HostRuntime) -> Result<(), Fail> {
     let alloc = rt.alloc();
-    for (call, passed, length) in [(1, 0, 0), (1, 7, 7), (2, 0, 15), (2, 100, 115)] {
+    for (words, call, passed, length) in [
+        ("flat TILE tiny.wad", 1, 7, 7),
+        ("flat TILE tiny.wad", 2, 0, 15),
+        ("flat TILE tiny.wad", 2, 100, 115),
+        ("make things", 1, 7, 7),
+    ] {
         let ended = run_over(
             alloc,
-            "flat TILE tiny.wad",
+            words,
             tiny_wad(alloc)?,
             Vec::new(alloc),
             vec![in alloc; PutFault { call, passed }]?,
         )?;
-        assert_eq!(rt; ended.status, Status::WriteFault, "{call}");
-        assert_eq!(rt; ended.out.bytes().len(), length, "{call}");
+        assert_eq!(rt; ended.status, Status::WriteFault, "{words}");
+        assert_eq!(rt; ended.out.bytes().len(), length, "{words}");
         assert_eq!(rt; ended.notes.bytes(), b"doomview: write fault\n".as_slice());
     }
     Ok(())

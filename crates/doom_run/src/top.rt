@@ -1,19 +1,21 @@
 // A run, from its words to its status.
-ghost use Rattle.std.specs.Prelude.{◌≡◌, ◌⊎◌, ℕ, List, [], Some, None, Ok, Err, IsTrue};
+ghost use Rattle.std.specs.Prelude.{◌≡◌, ◌⊎◌, ℕ, Bool, false, List, [], Ok, Err, IsTrue};
 ghost use Rattle.outside.specs.Causes.{Rose};
 ghost use Rattle.outside.specs.Shelf.{File, Holds};
 ghost use Rattle.outside.specs.Sink.{Grew, GrewByPrefix};
+ghost use Rattle.command_line.specs.Commands.{IsCounted, IsCountedMake, flat, make, told};
 ghost use Rattle.doom_run.specs.Ends.{EndsAt, EndsWith, IsEnd, IsUnwritten};
 ghost use Rattle.doom_run.specs.Lines.{line_of};
 ghost use Rattle.doom_run.specs.Steps.{Stop, usage, absent, refused};
-ghost use Rattle.doom_run.specs.Verdict.{Accepted, command_in, job_verdict, verdict, end_of, output};
-ghost use Rattle.doom_run.specs.Words.{flat, command_of, texts};
+ghost use Rattle.doom_run.specs.Verdict.{Accepted, job_verdict, verdict, end_of, output};
+ghost use Rattle.doom_run.specs.Words.{WhereAsked, ask_for_files, asks_for_files, texts};
 
 use crate::Refusal;
 use crate::flat::{deliver_flat, prepare_flat};
+use crate::make::{deliver_make, prepare_make};
 use crate::notes::put_note;
 use crate::status::Status;
-use crate::words::{Job, read_words};
+use command_line::{Command, CommandFault, MakeJob, command_of};
 use outside::{Shelf, Sink};
 use std::alloc::Global;
 use wad_dir::Name8;
@@ -22,7 +24,8 @@ use wad_dir::Name8;
 /// output to `out`, and one line for a status other than `Done` to `notes`.
 ///
 /// `words` are those after the program's name. All memory is taken before the first byte of the
-/// output is written; the line takes none. A fault of `notes` changes no status.
+/// output is written; the line takes none. A fault of `notes` changes no status. Where the words
+/// ask for no file, the shelf stays as it was and may be any.
 ///
 /// Errors: the status says which step ended the run, and why.
 ///
@@ -35,15 +38,18 @@ pub fn run<S: Shelf, K: Sink, N: Sink>(
     notes: &mut N,
 ) -> Status
     // Done: the whole output was written, and nothing else.
-    ensures ends { (files : List File) → IsEnd result → Holds (S.view shelf.old) files →
+    ensures ends { (files : List File) → IsEnd result →
+        WhereAsked (texts words.now) (Holds (S.view shelf.old) files) →
         EndsWith (verdict (texts words.now) files) (K.written out.old) (K.written out.new) result }
 
     // Another status: a prefix of the output, and nothing where none is due or memory ran out.
-    ensures prefix { (files : List File) (accepted : Accepted) → Holds (S.view shelf.old) files →
+    ensures prefix { (files : List File) (accepted : Accepted) →
+        WhereAsked (texts words.now) (Holds (S.view shelf.old) files) →
         verdict (texts words.now) files ≡ Ok accepted →
         GrewByPrefix (K.written out.old) (K.written out.new) (output accepted) }
     ensures unwritten { IsUnwritten result → Grew (K.written out.old) (K.written out.new) [] }
-    ensures stopped { (files : List File) (stop : Stop) → Holds (S.view shelf.old) files →
+    ensures stopped { (files : List File) (stop : Stop) →
+        WhereAsked (texts words.now) (Holds (S.view shelf.old) files) →
         verdict (texts words.now) files ≡ Err stop →
         Grew (K.written out.old) (K.written out.new) [] }
 
@@ -55,35 +61,43 @@ pub fn run<S: Shelf, K: Sink, N: Sink>(
 
     // A refusal is the verdict's, and where the verdict has one it comes, but for the faults.
     ensures refused { (files : List File) (refusal : Refusal) → result ≡ Status.Refused refusal →
-        Holds (S.view shelf.old) files →
+        WhereAsked (texts words.now) (Holds (S.view shelf.old) files) →
         verdict (texts words.now) files ≡ Err (refused refusal) }
-    ensures refusal { (files : List File) (refusal : Refusal) → Holds (S.view shelf.old) files →
+    ensures refusal { (files : List File) (refusal : Refusal) →
+        WhereAsked (texts words.now) (Holds (S.view shelf.old) files) →
         verdict (texts words.now) files ≡ Err (refused refusal) →
         (result ≡ Status.Refused refusal) ⊎ (result ≡ Status.ReadFault)
         ⊎ (result ≡ Status.OutOfMemory) }
 
-    // A fault comes only from the object that counted it. A flat needs no zone.
+    // A fault comes only from the object that counted it. No job needs a zone yet.
     ensures read_fault { result ≡ Status.ReadFault →
         Rose (S.view shelf.old).faults (S.view shelf.new).faults }
     ensures steady { (files : List File) → result ≡ Status.ReadFault →
-        Holds (S.view shelf.old) files →
+        WhereAsked (texts words.now) (Holds (S.view shelf.old) files) →
         IsTrue (S.view shelf.old).steady → verdict (texts words.now) files ≡ Err absent }
-    ensures absent { (files : List File) → Holds (S.view shelf.old) files →
+    ensures absent { (files : List File) →
+        WhereAsked (texts words.now) (Holds (S.view shelf.old) files) →
         verdict (texts words.now) files ≡ Err absent →
         (result ≡ Status.ReadFault) ⊎ (result ≡ Status.OutOfMemory) }
     ensures write_fault { result ≡ Status.WriteFault → Rose (K.faults out.old) (K.faults out.new) }
     ensures zone_full { (wanted widest : ℕ) → result ≡ Status.ZoneFull wanted widest → ⊥ }
 
+    // Words that ask for no file leave the shelf alone.
+    ensures asked { result ≡ Status.ReadFault → IsTrue (ask_for_files (texts words.now)) }
+    ensures untouched { ask_for_files (texts words.now) ≡ false → shelf.new ≡ shelf.old }
+
     // Where nothing fails, an accepted run comes to its end.
-    ensures complete { (files : List File) (accepted : Accepted) → Holds (S.view shelf.old) files →
+    ensures complete { (files : List File) (accepted : Accepted) →
+        WhereAsked (texts words.now) (Holds (S.view shelf.old) files) →
         verdict (texts words.now) files ≡ Ok accepted →
-        (Rose (S.view shelf.old).faults (S.view shelf.new).faults → ⊥) →
+        WhereAsked (texts words.now) (Rose (S.view shelf.old).faults (S.view shelf.new).faults → ⊥) →
         (Rose (K.faults out.old) (K.faults out.new) → ⊥) →
         (result ≡ end_of accepted) ⊎ (result ≡ Status.OutOfMemory) }
     ensures complete_steady { (files : List File) (accepted : Accepted) →
-        Holds (S.view shelf.old) files →
+        WhereAsked (texts words.now) (Holds (S.view shelf.old) files) →
         verdict (texts words.now) files ≡ Ok accepted →
-        IsTrue (S.view shelf.old).steady → (Rose (K.faults out.old) (K.faults out.new) → ⊥) →
+        WhereAsked (texts words.now) (IsTrue (S.view shelf.old).steady) →
+        (Rose (K.faults out.old) (K.faults out.new) → ⊥) →
         (result ≡ end_of accepted) ⊎ (result ≡ Status.OutOfMemory) }
 
     // The line of the status is noted, unless the notes fail.
@@ -99,36 +113,57 @@ pub fn run<S: Shelf, K: Sink, N: Sink>(
 
 // The run without its line.
 fn perform<S: Shelf, K: Sink>(alloc: Global, words: &[String], shelf: &mut S, out: &mut K) -> Status
-    ensures ends { (files : List File) → Holds (S.view shelf.old) files →
+    ensures ends { (files : List File) →
+        WhereAsked (texts words.now) (Holds (S.view shelf.old) files) →
         EndsAt (S.view shelf.old).steady (verdict (texts words.now) files)
         (K.written out.old) (K.written out.new) result }
     ensures unwritten { IsUnwritten result → Grew (K.written out.old) (K.written out.new) [] }
-    ensures usage { result ≡ Status.Usage → command_of (texts words.now) ≡ None }
-    ensures wrong_words { command_of (texts words.now) ≡ None → result ≡ Status.Usage }
+    ensures usage { (files : List File) → result ≡ Status.Usage →
+        verdict (texts words.now) files ≡ Err usage }
+    ensures wrong_words { (files : List File) → verdict (texts words.now) files ≡ Err usage →
+        (result ≡ Status.Usage) ⊎ (result ≡ Status.OutOfMemory) }
     ensures read_fault { result ≡ Status.ReadFault →
         Rose (S.view shelf.old).faults (S.view shelf.new).faults }
     ensures write_fault { result ≡ Status.WriteFault → Rose (K.faults out.old) (K.faults out.new) }
     ensures zone_full { (wanted widest : ℕ) → result ≡ Status.ZoneFull wanted widest → ⊥ }
+    ensures asked { result ≡ Status.ReadFault → IsTrue (ask_for_files (texts words.now)) }
+    ensures untouched { ask_for_files (texts words.now) ≡ false → shelf.new ≡ shelf.old }
 {
-    match read_words(words) {
-        None => Status::Usage,
-        Some(job) => perform_job(alloc, job, shelf, out),
+    match command_of(alloc, words) {
+        Ok(command) => perform_job(alloc, &command, shelf, out),
+        Err(CommandFault::Usage) => Status::Usage,
+        Err(CommandFault::OutOfMemory) => Status::OutOfMemory,
     }
 }
 
-fn perform_job<S: Shelf, K: Sink>(alloc: Global, job: Job<'_>, shelf: &mut S, out: &mut K) -> Status
-    ensures ends { (files : List File) → Holds (S.view shelf.old) files →
-        EndsAt (S.view shelf.old).steady (job_verdict (command_in job.entry) files)
+fn perform_job<S: Shelf, K: Sink>(
+    alloc: Global,
+    command: &Command<'_>,
+    shelf: &mut S,
+    out: &mut K,
+) -> Status
+    requires { IsCounted (told command.now) }
+    ensures ends { (files : List File) →
+        (IsTrue (asks_for_files (told command.now)) → Holds (S.view shelf.old) files) →
+        EndsAt (S.view shelf.old).steady (job_verdict (told command.now) files)
         (K.written out.old) (K.written out.new) result }
     ensures unwritten { IsUnwritten result → Grew (K.written out.old) (K.written out.new) [] }
-    ensures not_usage { result ≡ Status.Usage → ⊥ }
+    ensures usage { (files : List File) → result ≡ Status.Usage →
+        job_verdict (told command.now) files ≡ Err usage }
+    ensures not_built { (files : List File) → job_verdict (told command.now) files ≡ Err usage →
+        result ≡ Status.Usage }
     ensures read_fault { result ≡ Status.ReadFault →
         Rose (S.view shelf.old).faults (S.view shelf.new).faults }
     ensures write_fault { result ≡ Status.WriteFault → Rose (K.faults out.old) (K.faults out.new) }
     ensures zone_full { (wanted widest : ℕ) → result ≡ Status.ZoneFull wanted widest → ⊥ }
+    ensures asked { result ≡ Status.ReadFault → IsTrue (asks_for_files (told command.now)) }
+    ensures untouched { asks_for_files (told command.now) ≡ false → shelf.new ≡ shelf.old }
 {
-    match job {
-        Job::Flat { name, file } => perform_flat(alloc, &name, file, shelf, out),
+    match command {
+        Command::Flat { name, file } => perform_flat(alloc, name, file, shelf, out),
+        Command::Make(job) => perform_make(alloc, *job, out),
+        Command::Scene { .. } => Status::Usage,
+        Command::Exercise { .. } => Status::Usage,
     }
 }
 
@@ -152,5 +187,21 @@ fn perform_flat<S: Shelf, K: Sink>(
     match prepare_flat(alloc, shelf, name, file) {
         Ok(drawing) => deliver_flat(&drawing, out),
         Err(fault) => Status::of(fault),
+    }
+}
+
+fn perform_make<K: Sink>(alloc: Global, job: MakeJob, out: &mut K) -> Status
+    requires { IsCountedMake job }
+    ensures ends { (steady : Bool) (files : List File) →
+        EndsAt steady (job_verdict (make job) files) (K.written out.old) (K.written out.new) result }
+    ensures unwritten { IsUnwritten result → Grew (K.written out.old) (K.written out.new) [] }
+    ensures not_usage { result ≡ Status.Usage → ⊥ }
+    ensures not_read { result ≡ Status.ReadFault → ⊥ }
+    ensures write_fault { result ≡ Status.WriteFault → Rose (K.faults out.old) (K.faults out.new) }
+    ensures zone_full { (wanted widest : ℕ) → result ≡ Status.ZoneFull wanted widest → ⊥ }
+{
+    match prepare_make(alloc, job) {
+        Ok(bytes) => deliver_make(&bytes, out),
+        Err(_) => Status::OutOfMemory,
     }
 }

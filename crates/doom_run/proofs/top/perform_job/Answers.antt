@@ -1,0 +1,5 @@
+use Rattle.doom_run.proofs.top.perform_job.Goals as goal
+
+pub returns-in-Make-clause-ends : goal.returns-in-Make-clause-ends
+returns-in-Make-clause-ends g c files held =
+    rw c.in-Make.is (c.perform_make.ensures.ends (g.S.Shelf.view c.args.shelf.now).steady files)

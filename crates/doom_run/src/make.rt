@@ -1,0 +1,37 @@
+// The job `make`: the bytes of a made file, told by a number alone.
+ghost use Rattle.std.specs.Prelude.{◌≡◌, IfOk};
+ghost use Rattle.outside.specs.Causes.{Rose};
+ghost use Rattle.command_line.specs.Commands.{IsCountedMake};
+ghost use Rattle.doom_run.specs.Ends.{DeliversAt};
+ghost use Rattle.doom_run.specs.Made.{made_file};
+ghost use Rattle.doom_run.specs.Verdict.{made};
+
+use crate::status::Status;
+use command_line::MakeJob;
+use level_maker::{make_path, make_tables, make_things, make_wad};
+use outside::{OutOfMemory, Sink};
+use std::alloc::Global;
+
+// The bytes of a made file. Takes all memory of the job, and asks for no file.
+pub fn prepare_make(alloc: Global, job: MakeJob) -> Result<Vec<u8>, OutOfMemory>
+    requires { IsCountedMake job }
+    ensures { IfOk result (λ bytes. bytes.items ≡ made_file job) }
+{
+    match job {
+        MakeJob::Wad(n) => make_wad(alloc, n as u32),
+        MakeJob::Path(n) => make_path(alloc, n as u32),
+        MakeJob::Tables => make_tables(alloc),
+        MakeJob::Things => make_things(alloc),
+    }
+}
+
+// Writes the bytes of a made file. Takes no memory.
+pub fn deliver_make<K: Sink>(bytes: &[u8], out: &mut K) -> Status
+    ensures ends { DeliversAt (made bytes.now) (K.written out.old) (K.written out.new) result }
+    ensures write_fault { result ≡ Status.WriteFault → Rose (K.faults out.old) (K.faults out.new) }
+{
+    match out.put(bytes) {
+        Ok(()) => Status::Done,
+        Err(_) => Status::WriteFault,
+    }
+}
