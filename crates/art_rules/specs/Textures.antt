@@ -1,6 +1,7 @@
 -- The names of patches and the two lists of textures, or the first refusal of these lumps
 -- (R_InitTextures, r_data.c).
-use Rattle.std.specs.Prelude.{◌≡◌, ℕ, zero, suc, ◌+◌, ◌-◌, ◌*◌, ◌^◌, ◌==◌, ◌||◌, Bool, false, nat_lt, pos, int_lt, if◌then◌else◌, List, [], ◌++◌, length, take, drop, map, Option, Some, None, Result, Ok, Err, slice_index, slice_index_or, option_map, refl}
+use Rattle.std.specs.Prelude.{◌≡◌, ℕ, zero, suc, ◌+◌, ◌-◌, ◌*◌, ◌^◌, ◌==◌, ◌||◌, Bool, false, nat_lt, pos, int_lt, if◌then◌else◌, List, [], ◌++◌, length, take, drop, Option, Some, None, Result, Ok, Err, slice_index, slice_get, slice_index_or, option_map, refl}
+use Rattle.std.specs.Option.{option_map_or}
 use Rattle.std.specs.Str.{bytes_eq}
 use Rattle.outside.specs.Told.{and_then}
 use Rattle.word_rules.specs.Least.{least, or_else}
@@ -107,30 +108,48 @@ later_wrong before (Some bytes) = option_map (λ i. before + i) (wrong_record by
 unfoldable pub first_wrong : List ℕ → Option (List ℕ) → Option ℕ
 first_wrong first second = or_else (wrong_record first) (later_wrong (list_count first) second)
 
-unfoldable pub unless_wrong : Option ℕ → TextureLists → Result TextureLists TexRefusal
-unless_wrong None lists = Ok lists
-unless_wrong (Some number) lists = Err (Entry number)
+unfoldable pub unless_wrong : Option ℕ → List Texture → Result (List Texture) TexRefusal
+unless_wrong None textures = Ok textures
+unless_wrong (Some number) textures = Err (Entry number)
 
--- the lists, once neither is short: refused for the first wrong record
-unfoldable pub lists_of : List (List ℕ) → List ℕ → Option (List ℕ) → Result TextureLists TexRefusal
-lists_of names first second =
-    unless_wrong (first_wrong first second) (record { names = names; textures = textures_in first ++ later_textures second })
+-- the textures of both lists, refused for the first wrong record
+unfoldable pub joined_textures : List ℕ → Option (List ℕ) → Result (List Texture) TexRefusal
+joined_textures first second = unless_wrong (first_wrong first second) (textures_in first ++ later_textures second)
+
+-- both lists are judged as wholes before a record of either is
+unfoldable pub both_lists : Option (List ℕ) → Option (List ℕ) → Result (List Texture) TexRefusal
+both_lists texture1 texture2 =
+    and_then (first_list texture1) (λ first.
+    and_then (second_list (list_count first) texture2) (λ second. joined_textures first second))
 
 -- the lists by their three lumps, judged one after the other
 unfoldable pub texture_lists : Option (List ℕ) → Option (List ℕ) → Option (List ℕ) → Result TextureLists TexRefusal
 texture_lists pnames texture1 texture2 =
     and_then (patch_names pnames) (λ names.
-    and_then (first_list texture1) (λ first.
-    and_then (second_list (list_count first) texture2) (λ second. lists_of names first second)))
+    and_then (both_lists texture1 texture2) (λ textures. Ok (record { names = names; textures = textures })))
 
 -- a name that begins so stands for no texture
 unfoldable pub is_no_texture : List ℕ → Bool
 is_no_texture name = slice_index name 0 == NO_TEXTURE
 
+-- a texture for numbers that no texture has, and the texture of a number
+abbrev pub unlisted : Texture
+unlisted = record { name = []; width = 0; height = 0; patches = [] }
+
+abbrev pub texture_at : List Texture → ℕ → Texture
+texture_at textures number = slice_index_or textures number unlisted
+
+-- texture i has that name
+abbrev pub is_named : List Texture → List ℕ → ℕ → Bool
+is_named textures name i = option_map_or (λ t. bytes_eq t.name name) (slice_get textures i) false
+
+-- the least texture of a name
+unfoldable pub least_named : List Texture → List ℕ → Option ℕ
+least_named textures name = least (is_named textures name) (length textures)
+
 -- the number of a texture's name: 0 for none, else the least texture of that name
 unfoldable pub texture_number : List Texture → List ℕ → Option ℕ
-texture_number textures name =
-    if is_no_texture name then Some 0 else least (λ i. slice_index_or (map (λ t. bytes_eq t.name name) textures) i false) (length textures)
+texture_number textures name = if is_no_texture name then Some 0 else least_named textures name
 
 -- the greatest power of two that is at most the width, halved down from n
 unfoldable pub mask_from : ℕ → ℕ → ℕ

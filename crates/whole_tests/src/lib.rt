@@ -9,5 +9,6 @@ mod tests;
 #[cfg(test)]
 mod things;
 #[cfg(test)]
-mod walls;
 mod walks;
+#[cfg(test)]
+mod walls;
