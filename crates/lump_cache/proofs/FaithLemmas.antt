@@ -1,20 +1,18 @@
 -- What a faithful cache is, through fills, purges and new tags.
-use Rattle.std.proofs.Common.{◌≡◌, ℕ, zero, suc, ◌+◌, ◌<◌, ◌≤◌, Bool, true, false, cond, List, [], ◌∷◌, length, take, drop, map, get_or, Option, Some, None, refl, sym, subst, ap, ◌∙◌, option_map, inl, inr, arith}
+use Rattle.std.proofs.Common.{◌≡◌, ℕ, zero, suc, ◌<◌, Bool, true, false, cond, List, [], ◌∷◌, length, take, drop, Option, Some, None, refl, sym, subst, ap, ◌∙◌, option_map, inl, inr, arith}
 use Rattle.std.specs.Prelude.{IfSome, option_and_then, ◌⊎◌, slice_get}
-use Rattle.std.proofs.lemmas.Bool.{cond-true, cond-false, ne_eqb, cases_eq}
-use Rattle.std.proofs.lemmas.List.Elements.{All-get_or}
+use Rattle.std.proofs.lemmas.Bool.{ne_eqb, cases_eq}
 use Rattle.outside.specs.declared.shelf.FileNo.{FileNo}
 use Rattle.outside.specs.Shelf.{ShelfView, AllStand, IsPieceAt}
-use Rattle.outside.proofs.ShelfLemmas.{stands_at, as_many}
 use Rattle.lump_rules.specs.declared.wad.Lump.{Lump}
-use Rattle.lump_rules.specs.Lookups.{lump_at, no_lump}
-use Rattle.lump_rules.specs.Contents.{lump_bytes, file_bytes, LiesWithin, AllWithin}
+use Rattle.lump_rules.specs.Lookups.{lump_at}
+use Rattle.lump_rules.specs.Contents.{lump_bytes, file_bytes}
 use Rattle.zone_rules.specs.Zones.{Owner, Holding, Block, Heap, owned_block, bytes_of, same_owner, holding_of, is_held_by}
 use Rattle.zone_rules.specs.declared.Tag.{Tag}
 use Rattle.zone_rules.specs.declared.Tag.TheVariants.{Cache}
 use Rattle.zone_rules.specs.Frees.{with_tag, retag_block, set_tag}
 use Rattle.zone_rules.proofs.OwnerLemmas.{owned_block-map, retag_held}
-use Rattle.lump_cache.specs.Caches.{KeptOrPurged, MayPurge, IsFaithful, lump_owner, with_tag_unless_static, holds_static, release_heap, released_heap}
+use Rattle.lump_cache.specs.Caches.{KeptOrPurged, IsFaithful, lump_owner, with_tag_unless_static, holds_static, release_heap, released_heap}
 
 -- the file of a lump stands for its bytes
 pub file_stands : (view : ShelfView) (numbers : List FileNo) (contents : List (List ℕ)) (k : ℕ) (number : FileNo) → AllStand view numbers contents → slice_get numbers k ≡ Some number → view.file number.0 ≡ Some (file_bytes contents k)

@@ -1,17 +1,19 @@
 -- A block that was taken and then written, and what other slots keep.
-use Rattle.std.proofs.Common.{◌≡◌, ℕ, ◌<◌, Bool, true, false, cond, ◌&&◌, List, [], ◌∷◌, length, map, Option, Some, None, refl, sym, subst, ap, ◌∙◌, option_map, inl, inr, Result, Ok, Err}
-use Rattle.std.specs.Prelude.{OnOk, OnErr, IsSome, option_and_then, ◌⊎◌, ◌==◌}
-use Rattle.std.proofs.lemmas.Bool.{cond-true, cond-false, and_parts, and_from, eq-eqb, eqb-true, false≢true}
+use Rattle.std.proofs.Common.{◌≡◌, ℕ, Bool, true, false, cond, ◌&&◌, List, [], ◌∷◌, length, map, Option, Some, None, refl, sym, subst, ap, ◌∙◌, option_map, inl, inr, Result, Ok, Err}
+use Rattle.std.specs.Prelude.{OnOk, OnErr, IsNone, IsSome, option_and_then, ◌==◌}
+use Rattle.std.proofs.lemmas.Bool.{cond-true, and_parts, and_from, eq-eqb, eqb-true}
 use Rattle.zone_rules.specs.declared.Tag.{Tag}
-use Rattle.zone_rules.specs.declared.Tag.TheVariants.{Static, Level, Cache}
-use Rattle.zone_rules.specs.Zones.{Owner, Holding, Block, Heap, IsSound, AllFit, FitsHolding, is_held_by, holds_for, same_owner, owned_block, holding_of, bytes_of, is_purgeable, is_pinned, is_purgeable_tag, pins}
+use Rattle.zone_rules.specs.declared.Tag.TheVariants.{Cache}
+use Rattle.zone_rules.specs.Zones.{Owner, Holding, Block, Heap, IsSound, AllFit, FitsHolding, is_held_by, same_owner, owned_block, holding_of, bytes_of, is_purgeable, block_size}
 use Rattle.zone_rules.specs.Requests.{TakesBlock, block_left, is_among}
-use Rattle.zone_rules.specs.Frees.{with_bytes, with_tag, write_block, write_holding, retag_block, set_tag}
-use Rattle.zone_rules.proofs.OwnerLemmas.{owned_written_others, owned_retagged_others, owned_block-map, write_held, retag_held}
+use Rattle.zone_rules.specs.Frees.{with_bytes, with_tag, write_block, write_holding}
+use Rattle.zone_rules.proofs.OwnerLemmas.{owned_written_others, owned_retagged_others, owned_block-map, write_held}
 use Rattle.zone_rules.proofs.ChangeLemmas.{with_bytes_sound, with_tag_sound}
+use Rattle.zone_rules.proofs.SoundLemmas.{lacked, searched_lacks}
+use Rattle.zone_rules.proofs.WrittenLemmas.{block_written}
 use Rattle.zone_rules.specs.Loans.{after_loan, bytes_length, bytes_place, held_length, overlay_block}
 use Rattle.zone_rules.proofs.LoanLemmas.{overlay_sound}
-use Rattle.lump_cache.specs.Caches.{release_heap, released_heap, IsFilled, HasBlock, HasUse, KeptOrPurged, MayPurge, holds_static, is_static_tag, with_tag_unless_static}
+use Rattle.lump_cache.specs.Caches.{release_heap, released_heap, IsFilled, HasBlock, HasUse, KeptOrPurged, holds_static, is_static_tag, with_tag_unless_static}
 
 pub left_kept : (ch : List Block) (b : Option Block) → KeptOrPurged b (block_left ch b)
 left_kept ch None = inl refl
@@ -137,6 +139,20 @@ release_others o p z apart = go (holding_of o z.blocks) where
 -- a block that was taken has its use
 pub takes_use : (o : Owner) (size : ℕ) (tag : Tag) (old new : Heap) → TakesBlock old new o size tag → HasBlock tag size (owned_block o new.blocks)
 takes_use o size tag old new t = subst (HasBlock tag size) (sym t.block) (refl, refl, t.len)
+
+-- a block that was taken and then written is one that was taken with these bytes
+pub filled_takes : (o : Owner) (size : ℕ) (tag : Tag) (first old new : Heap) (P : List ℕ → Type 0) → IsNone (holding_of o first.blocks) → TakesBlock first old o size tag → IsFilled o old new P → TakesBlock first new o size tag
+filled_takes o size tag first old new P none t f = record {
+  place = t.place;
+  place_is = t.place_is;
+  bytes = f.bytes;
+  len = written_len o size tag first old new P t f;
+  size = t.size;
+  least = t.least;
+  most = t.most;
+  block = written_is o size tag first old new P t f;
+  zone = f.zone ∙ ap (with_bytes o f.bytes) t.zone ∙ block_written o f.bytes (record { owner = o; tag = tag; asked = size; bytes = t.bytes }) refl (block_size size) t.place first (searched_lacks (block_size size) first o (lacked o first.blocks none));
+}
 
 -- what follows of an answer
 pub on_err : {A E P Q : Type 0} → (r : Result A E) → (P → Q) → OnErr r P → OnErr r Q

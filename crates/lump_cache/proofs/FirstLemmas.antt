@@ -1,5 +1,5 @@
 -- The first lump of an empty cache, pinned for the whole run, leaves it at rest.
-use Rattle.std.proofs.Common.{◌≡◌, ℕ, ◌<◌, ◌≤◌, Bool, true, false, List, Option, Some, None, refl, sym, subst, ap, ◌∙◌, arith}
+use Rattle.std.proofs.Common.{◌≡◌, ℕ, false, Some, ◌∙◌, arith}
 use Rattle.zone_rules.specs.declared.Tag.{Tag}
 use Rattle.zone_rules.specs.declared.Tag.TheVariants.{Static}
 use Rattle.zone_rules.specs.Zones.{Owner, Block, Heap, IsSound, owned_block, same_owner, block_size}

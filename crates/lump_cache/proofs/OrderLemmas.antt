@@ -1,6 +1,6 @@
 -- A cache in order, through requests, releases and new tags.
-use Rattle.std.proofs.Common.{◌≡◌, ℕ, ◌+◌, ◌≤◌, ◌<◌, Bool, true, false, cond, List, Option, Some, None, refl, ◌∙◌, ◌^◌, ◌-◌, min, arith, Result, Ok, Err}
-use Rattle.std.specs.Prelude.{All, IsOk, IsErr, OnOk, is_ok, is_err}
+use Rattle.std.proofs.Common.{◌≡◌, ℕ, ◌+◌, ◌≤◌, ◌<◌, Bool, true, false, cond, List, Option, Some, None, refl, ◌∙◌, arith, Result, Ok, Err}
+use Rattle.std.specs.Prelude.{All, IsOk, IsErr, OnOk}
 use Rattle.zone_rules.specs.declared.Tag.{Tag}
 use Rattle.zone_rules.specs.declared.Tag.TheVariants.{Cache}
 use Rattle.zone_rules.specs.Zones.{Owner, Holding, Heap, IsSound, holding_of, block_size}

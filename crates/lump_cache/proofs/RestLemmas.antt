@@ -1,9 +1,9 @@
 -- What a cache at rest is, through fills, purges and new tags.
-use Rattle.std.proofs.Common.{◌≡◌, ℕ, ◌<◌, Bool, true, false, cond, not, List, [], ◌∷◌, length, map, Option, Some, None, refl, sym, subst, ap, ◌∙◌, option_map, inl, inr, Result, Ok, Err}
-use Rattle.std.specs.Prelude.{option_and_then, ◌⊎◌, OnOk, OnErr, ◌==◌}
-use Rattle.std.proofs.lemmas.Bool.{cond-true, cond-false, false≢true, and_from, eq-eqb}
+use Rattle.std.proofs.Common.{◌≡◌, ℕ, Bool, true, false, cond, not, Option, Some, None, refl, sym, subst, ap, ◌∙◌, option_map, inl, inr, Result, Ok, Err}
+use Rattle.std.specs.Prelude.{option_and_then, OnOk, OnErr}
+use Rattle.std.proofs.lemmas.Bool.{false≢true}
 use Rattle.zone_rules.specs.declared.Tag.{Tag}
-use Rattle.zone_rules.specs.declared.Tag.TheVariants.{Static, Level, Cache}
+use Rattle.zone_rules.specs.declared.Tag.TheVariants.{Cache}
 use Rattle.zone_rules.specs.Zones.{Owner, Holding, Block, Heap, owned_block, holding_of, same_owner, is_held_by, is_pinned, is_purgeable, pins, may_purge, is_purgeable_tag}
 use Rattle.zone_rules.specs.Frees.{with_tag, retag_block, set_tag}
 use Rattle.zone_rules.proofs.PurgeLemmas.{pinned_stays}

@@ -1,11 +1,10 @@
 -- The room of a zone at rest: what no gap of it holds does not stand beside the colormap.
 use Rattle.std.proofs.Common.{◌≡◌, ℕ, ◌+◌, ◌<◌, ◌≤◌, Bool, true, false, List, [], ◌∷◌, Option, Some, None, refl, sym, subst, ap, ◌∙◌, arith, Result, Ok, Err}
 use Rattle.std.specs.Prelude.{All, ⊤}
-use Rattle.std.proofs.lemmas.Bool.{cond-true, cond-false, and_from, and_parts, eqb-true, eq-eqb, false≢true}
+use Rattle.std.proofs.lemmas.Bool.{cond-true, cond-false, and_from, eq-eqb, false≢true}
 use Rattle.std.proofs.lemmas.List.Elements.{All-head}
 use Rattle.zone_rules.specs.Zones.{Owner, Holding, Block, Heap, IsSound, Tiles, Unique, OwnsOnce, Lacks, AllFit, FitsHolding, is_pinned, pins, is_held_by, holds_for, same_owner, owned_block, block_size}
 use Rattle.zone_rules.specs.Requests.{gaps, total, in_front, opens}
-use Rattle.zone_rules.proofs.GapLemmas.{total-cons}
 use Rattle.zone_rules.proofs.PurgeLemmas.{tiles_end, tiles_within, Within}
 use Rattle.zone_rules.proofs.OwnerLemmas.{owner_eq, none_owned, lacks_held}
 use Rattle.lump_cache.specs.declared.fault.CacheFault.{CacheFault}

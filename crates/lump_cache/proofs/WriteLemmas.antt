@@ -1,13 +1,12 @@
 -- What the bytes of a composite, lent and written, leave of a cache.
-use Rattle.std.proofs.Common.{◌≡◌, ℕ, ◌<◌, Bool, true, false, cond, List, length, map, Option, Some, None, refl, sym, subst, ap, ◌∙◌, option_map, inl}
-use Rattle.std.specs.Prelude.{option_and_then, ◌==◌, IfSome, IsSome, is_some}
+use Rattle.std.proofs.Common.{◌≡◌, ℕ, Bool, true, false, cond, List, length, map, Option, Some, None, refl, sym, ap, ◌∙◌, option_map, inl}
+use Rattle.std.specs.Prelude.{option_and_then, ◌==◌}
 use Rattle.std.proofs.lemmas.Bool.{cond-true, eq-eqb}
 use Rattle.lump_rules.specs.declared.wad.Lump.{Lump}
 use Rattle.lump_rules.specs.Contents.{lump_bytes}
-use Rattle.zone_rules.specs.Zones.{Owner, Holding, Block, Heap, IsLive, owned_block, holding_of, bytes_of, same_owner}
-use Rattle.zone_rules.specs.Frees.{with_bytes, write_block, write_holding}
+use Rattle.zone_rules.specs.Zones.{Owner, Holding, Block, Heap, owned_block, bytes_of, same_owner}
+use Rattle.zone_rules.specs.Frees.{with_bytes}
 use Rattle.zone_rules.specs.Loans.{after_loan, bytes_length, held_length, bytes_place, overlay_block}
-use Rattle.zone_rules.specs.Orders.{is_live}
 use Rattle.zone_rules.proofs.OwnerLemmas.{owned_written_others}
 use Rattle.lump_cache.specs.Caches.{KeptOrPurged, IsFaithful, KeepsCounts, lump_owner, composite_owner}
 use Rattle.lump_cache.proofs.FaithLemmas.{kept_bytes}

@@ -6,11 +6,11 @@ use Rattle.lump_rules.specs.Contents.{lump_bytes}
 use Rattle.zone_rules.specs.declared.Tag.{Tag}
 use Rattle.zone_rules.specs.declared.Tag.TheVariants.{Static, Level, Cache}
 use Rattle.zone_rules.specs.Zones.{Owner, Holding, Block, Heap, owner_at, owned_block, bytes_of, same_owner, is_pinned, is_purgeable, holding_of, block_size}
-use Rattle.zone_rules.specs.Requests.{gaps, widest, total}
+use Rattle.zone_rules.specs.Requests.{gaps, widest, total, TakesBlock}
 use Rattle.outside.specs.Told.{Told, zone_full, read_failed}
 use Rattle.lump_cache.specs.declared.fault.CacheFault.{CacheFault}
 use Rattle.lump_cache.specs.declared.fault.CacheFault.TheVariants.{ZoneFull, ReadFault}
-use Rattle.zone_rules.specs.Frees.{with_bytes, with_tag}
+use Rattle.zone_rules.specs.Frees.{with_bytes, with_tag, without_block}
 
 -- who holds the blocks of lumps and of composites
 abbrev pub lump_owner : ℕ → Owner
@@ -109,6 +109,18 @@ abbrev pub is_full : {A : Type 0} → Result A CacheFault → Bool
 is_full (Ok value) = false
 is_full (Err (ZoneFull wanted widest)) = true
 is_full (Err ReadFault) = false
+
+-- a block was taken and given back
+pub record GivesBack (old new : Heap) (o : Owner) (size : ℕ) (tag : Tag) : Type 0 where
+  pub between : Heap
+  pub takes : TakesBlock old between o size tag
+  pub freed : new ≡ without_block o between
+
+-- what is left by either fault
+abbrev pub LeftBy : {A : Type 0} → Result A CacheFault → Type 0 → Type 0 → Type 0
+LeftBy (Ok value) full read = ⊤
+LeftBy (Err (ZoneFull wanted widest)) full read = full
+LeftBy (Err ReadFault) full read = read
 
 -- no gap holds the block of so many bytes
 pub record NoRoom (size : ℕ) (z : Heap) (wanted widest' : ℕ) : Type 0 where

@@ -17,7 +17,7 @@ ghost use Rattle.zone_rules.specs.Requests.{gaps, total, widest, without_room, T
 ghost use Rattle.zone_rules.specs.Frees.{without_block, with_bytes};
 ghost use Rattle.zone_rules.specs.Loans.{after_loan};
 ghost use Rattle.zone_rules.specs.Orders.{Item, has_item, AreRoomy, IsInOrder, KeepsOrder};
-ghost use Rattle.lump_cache.specs.Caches.{lump_owner, composite_owner, with_tag_unless_static, release_heap, is_static_tag, is_full, WhereFull, NoRoom, HasBlock, KeptOrPurged, IsFaithful, IsAtRest, IsAtRestBut, IsEmpty, IsPinned, KeepsCounts, cache_told};
+ghost use Rattle.lump_cache.specs.Caches.{lump_owner, composite_owner, with_tag_unless_static, release_heap, is_static_tag, is_full, WhereFull, LeftBy, GivesBack, NoRoom, HasBlock, KeptOrPurged, IsFaithful, IsAtRest, IsAtRestBut, IsEmpty, IsPinned, KeepsCounts, cache_told};
 
 use crate::fault::CacheFault;
 use crate::read::{lump_slot, read_into};
@@ -54,6 +54,8 @@ fn take_and_read<S: Shelf>(
     ensures full { WhereFull result (NoRoom (lump_at dir.now.lumps lump.0).size zone.old) }
     ensures full_where { All (λ g. total g < block_size (lump_at dir.now.lumps lump.0).size) (gaps zone.old.blocks) → is_full result ≡ true }
     ensures block { OnOk result (HasBlock tag (lump_at dir.now.lumps lump.0).size (owned_block (lump_owner lump.0) zone.new.blocks)) }
+    ensures ok { OnOk result (TakesBlock zone.old zone.new (lump_owner lump.0) (lump_at dir.now.lumps lump.0).size tag) }
+    ensures left { LeftBy result (zone.new ≡ without_room (block_size (lump_at dir.now.lumps lump.0).size) zone.old) (GivesBack zone.old zone.new (lump_owner lump.0) (lump_at dir.now.lumps lump.0).size tag) }
     ensures empty { OnErr result (owned_block (lump_owner lump.0) zone.new.blocks ≡ None) }
     ensures others { (o : Owner) → same_owner (lump_owner lump.0) o ≡ false → KeptOrPurged (owned_block o zone.old.blocks) (owned_block o zone.new.blocks) }
     ensures sound { IsSound zone.new }
@@ -109,6 +111,8 @@ fn fetch_lump<S: Shelf>(
     ensures room { (colormap size : ℕ) → IsAtRest colormap size zone.old → WhereFull result (λ wanted widest'. zone.old.size < block_size size + wanted + MIN_FRAGMENT) }
     ensures full_where { IsNone (holding_of (lump_owner lump.0) zone.old.blocks) → All (λ g. total g < block_size (lump_at dir.now.lumps lump.0).size) (gaps zone.old.blocks) → is_full result ≡ true }
     ensures block { OnOk result (IsNone (holding_of (lump_owner lump.0) zone.old.blocks) → HasBlock tag (lump_at dir.now.lumps lump.0).size (owned_block (lump_owner lump.0) zone.new.blocks)) }
+    ensures ok { OnOk result (IsNone (holding_of (lump_owner lump.0) zone.old.blocks) → TakesBlock zone.old zone.new (lump_owner lump.0) (lump_at dir.now.lumps lump.0).size tag) }
+    ensures left { LeftBy result (zone.new ≡ without_room (block_size (lump_at dir.now.lumps lump.0).size) zone.old) (GivesBack zone.old zone.new (lump_owner lump.0) (lump_at dir.now.lumps lump.0).size tag) }
     ensures empty { OnErr result (owned_block (lump_owner lump.0) zone.new.blocks ≡ None) }
     ensures others { (o : Owner) → same_owner (lump_owner lump.0) o ≡ false → KeptOrPurged (owned_block o zone.old.blocks) (owned_block o zone.new.blocks) }
     ensures sound { IsSound zone.new }
@@ -172,7 +176,7 @@ impl LumpCache {
     ghost use Rattle.lump_cache.specs.Lending.{LendsBytes};
 
     /// A cache over a zone of `size` bytes, with a slot for each lump of the directory and so many
-    /// for composites. No slot is live.
+    /// for composites. No slot is live, and it is in order for each list that the zone has room for.
     ///
     /// Errors: `BadSize` exactly where the zone's size is refused; it comes first. `OutOfMemory`.
     pub fn new(
@@ -214,8 +218,11 @@ impl LumpCache {
     /// block of the lump's size and reads the lump into it. Takes no memory.
     ///
     /// Errors: `ZoneFull` exactly where the slot is empty and no gap holds the block; `ReadFault` only
-    /// where the shelf's count of faults rose. After either the slot is empty, and every pinned block
-    /// stands.
+    /// where the shelf's count of faults rose, and never over a steady shelf with the files that the
+    /// directory was loaded from. After either the slot is empty, and every pinned block stands.
+    ///
+    /// Where the cache is in order for a list that has the lump, it stays so after Ok, no slot is
+    /// emptied, and `ZoneFull` does not come.
     ///
     /// The original: `W_CacheLumpNum`, w_wad.c.
     pub fn fetch<S: Shelf>(
@@ -232,6 +239,8 @@ impl LumpCache {
         ensures room { (colormap size : ℕ) → IsAtRest colormap size self.old → WhereFull result (λ wanted widest'. self.old.size < block_size size + wanted + MIN_FRAGMENT) }
         ensures full_where { IsNone (holding_of (lump_owner lump.0) self.old.blocks) → All (λ g. total g < block_size (lump_at dir.now.lumps lump.0).size) (gaps self.old.blocks) → is_full result ≡ true }
         ensures block { OnOk result (IsNone (holding_of (lump_owner lump.0) self.old.blocks) → HasBlock tag (lump_at dir.now.lumps lump.0).size (owned_block (lump_owner lump.0) self.new.blocks)) }
+        ensures ok { OnOk result (IsNone (holding_of (lump_owner lump.0) self.old.blocks) → TakesBlock self.old self.new (lump_owner lump.0) (lump_at dir.now.lumps lump.0).size tag) }
+        ensures left { LeftBy result (self.new ≡ without_room (block_size (lump_at dir.now.lumps lump.0).size) self.old) (GivesBack self.old self.new (lump_owner lump.0) (lump_at dir.now.lumps lump.0).size tag) }
         ensures empty { OnErr result (owned_block (lump_owner lump.0) self.new.blocks ≡ None) }
         ensures others { (o : Owner) → same_owner (lump_owner lump.0) o ≡ false → KeptOrPurged (owned_block o self.old.blocks) (owned_block o self.new.blocks) }
         ensures counts { KeepsCounts self.old self.new }
@@ -267,7 +276,8 @@ impl LumpCache {
 
     /// Takes a pinned block of `size` bytes for an empty composite.
     ///
-    /// Errors: `ZoneFull` exactly where no gap holds the block.
+    /// Errors: `ZoneFull` exactly where no gap holds the block. It does not come where the cache is
+    /// in order for a list that has the composite with that size.
     pub fn take_composite(&mut self, number: u32, size: u32) -> Result<(), ZoneFull>
         requires in_range { number < self.old.composites }
         requires empty { IsNone (holding_of (composite_owner number) self.old.blocks) }
@@ -298,6 +308,8 @@ impl LumpCache {
     }
 
     /// The bytes of a live composite, to be written. The slice keeps its length.
+    ///
+    /// What is said of the cache once it is given back holds for whatever was written.
     pub fn composite_mut(&mut self, number: u32) -> &mut [u8]
         requires in_range { number < self.old.composites }
         requires live { IsLive self.old (composite_owner number) }

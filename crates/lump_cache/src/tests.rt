@@ -1,4 +1,4 @@
-// Whole runs of a cache over a shelf in memory.
+// A cache over a shelf in memory, from its making to its bytes.
 ghost use Rattle.std.specs.Prelude.{◌<◌, IfSome, length};
 
 use crate::{CacheFault, LumpCache};
@@ -6,13 +6,17 @@ use outside::{MemoryFile, MemoryShelf, Shelf};
 use std::alloc::{AllocError, Global};
 use std::test::Fail;
 use wad_dir::{Directory, LumpNo, Name8};
-use zone_heap::{CompositeKind, LumpKind, Slot, Tag};
+use zone_heap::{CompositeKind, LumpKind, Slot, Tag, ZoneFigures};
 
-// The lump FIVE with the bytes 1 to 5, and the empty lump NONE.
+// The lump FIVE with the bytes 1 to 5, the empty lump NONE, and LONG of 45 bytes.
 fn small_wad(alloc: Global) -> Result<Vec<u8>, AllocError> {
-    let mut wad = b"PWAD\x02\0\0\0\x11\0\0\0\x01\x02\x03\x04\x05".to_vec(alloc)?;
+    let mut wad = b"PWAD\x03\0\0\0\x3e\0\0\0\x01\x02\x03\x04\x05".to_vec(alloc)?;
+    for _ in 0..45 {
+        wad.push(0)?;
+    }
     wad.extend_from_slice(b"\x0c\0\0\0\x05\0\0\0FIVE\0\0\0\0")?;
     wad.extend_from_slice(b"\x11\0\0\0\0\0\0\0NONE\0\0\0\0")?;
+    wad.extend_from_slice(b"\x11\0\0\0\x2d\0\0\0LONG\0\0\0\0")?;
     Ok(wad)
 }
 
@@ -33,51 +37,81 @@ fn lump(dir: &Directory, name: &str) -> Option<LumpNo>
     dir.last(&name)
 }
 
-#[test]
-fn a_lump_is_read_once_and_an_empty_one_never(rt: HostRuntime) -> Result<(), Fail> {
-    let alloc = rt.alloc();
-    let mut shelf = small_shelf(alloc, 6)?;
+// What a first request comes to, whether the lump then has these bytes, and the figures.
+#[derive(Drop)]
+struct Answer {
+    fault: Option<CacheFault>,
+    is_wanted: bool,
+    figures: ZoneFigures,
+}
+
+fn fetched(
+    alloc: Global,
+    failing: u64,
+    size: u32,
+    name: &str,
+    wanted: Option<&[u8]>,
+) -> Result<Answer, Fail> {
+    let mut shelf = small_shelf(alloc, failing)?;
     let number = shelf.find("small.wad")?;
     let dir = Directory::load(alloc, &mut shelf, &[number])?;
-    let five = lump(&dir, "five").ok_or("a lump")?;
-    let none = lump(&dir, "none").ok_or("a lump")?;
-    let mut cache = LumpCache::new(alloc, &dir, 4096, 1)?;
-    assert!(rt; cache.bytes(five).is_none() && cache.bytes(none).is_none());
-    cache.fetch(&mut shelf, &dir, five, Tag::Static)?;
-    cache.fetch(&mut shelf, &dir, five, Tag::Cache)?;
-    cache.fetch(&mut shelf, &dir, none, Tag::Cache)?;
-    assert_eq!(rt; cache.bytes(five), Some([1, 2, 3, 4, 5].as_slice()));
-    assert_eq!(rt; cache.bytes(none), Some([].as_slice()));
-    let figures = cache.zone().figures();
-    assert_eq!(rt;
-        (figures.used, figures.purgeable, figures.free),
-        (32, 24, 4040)
-    );
-    Ok(())
+    let lump = lump(&dir, name).ok_or("a lump")?;
+    let mut cache = LumpCache::new(alloc, &dir, size, 1)?;
+    let fault = cache.fetch(&mut shelf, &dir, lump, Tag::Static).err();
+    Ok(Answer {
+        fault,
+        is_wanted: cache.bytes(lump) == wanted,
+        figures: cache.zone().figures(),
+    })
+}
+
+fn figures(used: u32, free: u32) -> ZoneFigures {
+    ZoneFigures {
+        used,
+        purgeable: 0,
+        free,
+        purges: 0,
+    }
 }
 
 #[test]
-fn a_fault_leaves_the_slot_empty(rt: HostRuntime) -> Result<(), Fail> {
-    let alloc = rt.alloc();
-    let mut shelf = small_shelf(alloc, 5)?;
-    let number = shelf.find("small.wad")?;
-    let dir = Directory::load(alloc, &mut shelf, &[number])?;
-    let five = lump(&dir, "five").ok_or("a lump")?;
-    let none = lump(&dir, "none").ok_or("a lump")?;
-    let mut cache = LumpCache::new(alloc, &dir, 64, 1)?;
-    let fault = CacheFault::ReadFault;
-    assert_eq!(rt;
-        cache.fetch(&mut shelf, &dir, five, Tag::Static),
-        Err(fault)
-    );
-    assert!(rt; cache.bytes(five).is_none());
-    assert_eq!(rt; cache.fetch(&mut shelf, &dir, five, Tag::Static), Ok(()));
+fn a_lump_is_read_where_it_has_bytes_and_room(rt: HostRuntime) -> Result<(), Fail> {
     let full = CacheFault::ZoneFull {
-        wanted: 24,
-        widest: 0,
+        wanted: 72,
+        widest: 64,
     };
-    assert_eq!(rt; cache.fetch(&mut shelf, &dir, none, Tag::Cache), Err(full));
-    assert!(rt; cache.bytes(five).is_some() && cache.bytes(none).is_none());
+    for (failing, size, name, fault, wanted, after) in [
+        (
+            9,
+            4096,
+            "five",
+            None,
+            Some([1, 2, 3, 4, 5].as_slice()),
+            figures(32, 4064),
+        ),
+        (
+            5,
+            4096,
+            "five",
+            Some(CacheFault::ReadFault),
+            None,
+            figures(0, 4096),
+        ),
+        (
+            5,
+            4096,
+            "none",
+            None,
+            Some([].as_slice()),
+            figures(24, 4072),
+        ),
+        (9, 64, "long", Some(full), None, figures(0, 64)),
+    ] {
+        let answer = fetched(rt.alloc(), failing, size, name, wanted)?;
+        assert_eq!(rt; answer.fault, fault);
+        assert!(rt; answer.is_wanted, "at {name}");
+        assert_eq!(rt; answer.figures, after);
+    }
     Ok(())
 }
 
@@ -101,20 +135,9 @@ fn a_composite_is_built_and_dropped(rt: HostRuntime) -> Result<(), Fail> {
     cache.take_composite(0, 5)?;
     cache.fetch(&mut shelf, &dir, five, Tag::Level)?;
     assert!(rt; cache.zone().is_live(source) && cache.zone().is_live(target));
-    cache.composite_mut(0).fill(9);
-    assert!(rt; cache.composite(0) == Some(&[9, 9, 9, 9, 9]));
-    assert!(rt; cache.zone().is_live(source) && cache.zone().is_live(target));
     cache.lump_and_composite(five, 0, copy);
-    cache.release(five);
-    cache.release_composite(0);
-    assert!(rt; cache.composite(0) == Some(&[1, 2, 3, 4, 5]));
-    assert!(rt; cache.zone().is_live(target));
+    assert!(rt; cache.composite(0) == Some([1, 2, 3, 4, 5].as_slice()));
     cache.drop_composite(0);
     assert!(rt; cache.composite(0).is_none());
-    let figures = cache.zone().figures();
-    assert_eq!(rt;
-        (figures.used, figures.purgeable, figures.free),
-        (0, 32, 4064)
-    );
     Ok(())
 }

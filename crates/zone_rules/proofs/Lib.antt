@@ -16,3 +16,4 @@ pub mod OrderRequestLemmas
 pub mod OrderLemmas
 pub mod OrderChangeLemmas
 pub mod EmptyLemmas
+pub mod WrittenLemmas

@@ -1,9 +1,9 @@
 -- A change of blocks that leaves each its place, its size and what its owner asked for leaves a zone in order: a new tag, or new bytes.
 use Rattle.std.proofs.Common.{◌≡◌, ℕ, ◌+◌, Bool, true, false, cond, ◌||◌, List, [], ◌∷◌, ◌++◌, map, Option, Some, None, refl, sym, subst, ap, ap₂, ◌∙◌, arith, inl, inr}
-use Rattle.std.specs.Prelude.{◌==◌, ◌⊎◌, is_none}
+use Rattle.std.specs.Prelude.{◌⊎◌, is_none}
 use Rattle.std.proofs.lemmas.List.{map-append}
 use Rattle.zone_rules.specs.declared.Tag.{Tag}
-use Rattle.zone_rules.specs.Zones.{Owner, Holding, Block, Heap, IsLive, is_free, is_held_by, holds_for, same_owner, free_block, block_size}
+use Rattle.zone_rules.specs.Zones.{Owner, Holding, Block, Heap, is_held_by, holds_for, same_owner, free_block, block_size}
 use Rattle.zone_rules.specs.Frees.{retag_block, set_tag, with_tag, write_block, write_holding, with_bytes}
 use Rattle.zone_rules.specs.Orders.{Item, has_item, is_listed, AllListed, LiveFirst, is_live, AllLive, IsExact, AllExact, LeavesRest, IsInOrder, live_sum, lump_size, KeepsOrder}
 use Rattle.zone_rules.proofs.OrderSumLemmas.{item, live_step}

@@ -1,12 +1,12 @@
 -- A zone in order stays so: through a request for an item that is not live, and where tags and bytes change.
-use Rattle.std.proofs.Common.{◌≡◌, ℕ, ◌+◌, ◌-◌, ◌<◌, ◌≤◌, Bool, true, false, cond, List, [], ◌∷◌, ◌++◌, map, Option, Some, None, refl, sym, subst, ap, ap₂, ◌∙◌, arith, inl, inr}
-use Rattle.std.specs.Prelude.{◌==◌, ◌⊎◌, All, is_none, nat_lt}
+use Rattle.std.proofs.Common.{◌≡◌, ℕ, ◌+◌, ◌-◌, ◌<◌, ◌≤◌, Bool, true, false, cond, List, [], ◌∷◌, ◌++◌, Some, refl, sym, subst, ap, ap₂, ◌∙◌, arith, inl, inr}
+use Rattle.std.specs.Prelude.{◌==◌, ◌⊎◌, All, nat_lt}
 use Rattle.std.proofs.lemmas.Bool.{cond-false, ltb-true, ltb-false, ne_eqb, false≢true}
 use Rattle.std.proofs.lemmas.List.{append_assoc}
 use Rattle.zone_rules.specs.declared.Tag.{Tag}
-use Rattle.zone_rules.specs.Zones.{Owner, Holding, Block, Heap, IsLive, IsSound, Lacks, Unique, Tiles, free_block, block_size, holding_of, fresh_heap}
+use Rattle.zone_rules.specs.Zones.{Owner, Holding, Block, Heap, IsSound, Lacks, Unique, Tiles, free_block, block_size, fresh_heap}
 use Rattle.zone_rules.specs.Requests.{TakesBlock, cut_block, take_at, with_block, after_search, stretches, first_room, gaps, total, place_after}
-use Rattle.zone_rules.specs.Orders.{Item, has_item, items_size, AreRoomy, is_listed, AllListed, LiveFirst, is_live, AllLive, IsExact, AllExact, LeavesRest, IsInOrder, live_sum, lump_size, KeepsOrder}
+use Rattle.zone_rules.specs.Orders.{Item, has_item, AreRoomy, is_listed, AllListed, LiveFirst, is_live, AllLive, LeavesRest, IsInOrder, live_sum, lump_size, KeepsOrder}
 use Rattle.zone_rules.proofs.SoundLemmas.{full_some, lacked}
 use Rattle.zone_rules.proofs.TakeLemmas.{take_at_is, unique_cut_block}
 use Rattle.zone_rules.proofs.OrderSumLemmas.{item, item_block, held_sum, held_sum-append, live_is_held, live_room, full_live, all_live_has, live_behind}

@@ -2,7 +2,7 @@ use Rattle.std.proofs.Common.{◌≡◌, ◌∷◌, ap, ◌∙◌, inl, sym, sub
 use Rattle.std.specs.Prelude.{is_some}
 use Rattle.lump_rules.specs.Lookups.{lump_at}
 use Rattle.zone_rules.specs.declared.Tag.{Tag}
-use Rattle.zone_rules.specs.Zones.{Heap, Holding, holding_of, Owner, owner_at, owned_block}
+use Rattle.zone_rules.specs.Zones.{Heap, Holding, holding_of, owner_at, owned_block}
 use Rattle.lump_cache.specs.Caches.{IsFaithful, IsAtRest, IsAtRestBut, lump_owner, with_tag_unless_static, holds_static}
 use Rattle.lump_cache.proofs.FillLemmas.{unless_static_others, tag_none, use_live, on_ok}
 use Rattle.lump_cache.proofs.FaithLemmas.{faithful_by, faithful_retag}

@@ -1,18 +1,17 @@
-use Rattle.std.proofs.Common.{◌≡◌, ◌∙◌, ◌+◌, ◌<◌, ◌≤◌, ap, ap₂, sym, subst, ℕ, List, length, Option, Some, None, true, false, refl, arith, inl, inr}
-use Rattle.std.specs.Prelude.{All, IfSome, IsTrue, IsOk, is_none, is_ok, ◌⊎◌, Ok, Err}
+use Rattle.std.proofs.Common.{◌≡◌, ◌∙◌, ◌+◌, ◌<◌, ◌≤◌, ap, sym, subst, ℕ, List, length, Option, true, false, refl, arith, inl, inr}
+use Rattle.std.specs.Prelude.{All, IfSome, ◌⊎◌}
 use Rattle.std.proofs.lemmas.Bool.{false≢true, cases_lt}
-use Rattle.outside.specs.Shelf.{ShelfView, AllStand, counted}
-use Rattle.lump_rules.specs.declared.wad.Lump.{Lump}
+use Rattle.outside.specs.Shelf.{counted}
 use Rattle.lump_rules.specs.Lookups.{lump_at, no_lump}
-use Rattle.lump_rules.specs.Contents.{AllWithin, LiesWithin, file_bytes}
-use Rattle.zone_rules.specs.declared.Tag.TheVariants.{Static}
-use Rattle.zone_rules.specs.Zones.{Owner, Block, Heap, IsSound, owner_at, owned_block, bytes_of, same_owner, block_size}
-use Rattle.zone_rules.specs.Requests.{TakesBlock, passed_blocks, stretches, block_left, gaps, total}
-use Rattle.zone_rules.specs.Orders.{KeepsOrder, has_item, IsInOrder}
+use Rattle.lump_rules.specs.Contents.{LiesWithin, file_bytes}
+use Rattle.zone_rules.specs.Zones.{Owner, Heap, owner_at, owned_block, bytes_of, same_owner, block_size}
+use Rattle.zone_rules.specs.Requests.{TakesBlock, block_left, gaps, total}
+use Rattle.zone_rules.specs.Frees.{without_block}
+use Rattle.zone_rules.specs.Orders.{KeepsOrder}
 use Rattle.zone_rules.proofs.OrderLemmas.{order_has_room, order_taken, order_then}
 use Rattle.zone_rules.proofs.OrderChangeLemmas.{order_written}
-use Rattle.lump_cache.specs.Caches.{KeptOrPurged, IsAtRest, IsUnpinned, IsEmpty, lump_owner, is_full}
-use Rattle.lump_cache.proofs.FillLemmas.{written_is, written_len, written_bytes, left_kept, filled_others, filled_sound, written_use, use_live}
+use Rattle.lump_cache.specs.Caches.{KeptOrPurged, IsUnpinned, lump_owner}
+use Rattle.lump_cache.proofs.FillLemmas.{filled_takes, written_is, written_len, written_bytes, left_kept, filled_others, filled_sound, written_use, use_live}
 use Rattle.lump_cache.proofs.FaithLemmas.{bytes_in, some_bytes, file_stands, filled_lump, nothing_is_lump}
 use Rattle.lump_cache.proofs.FirstLemmas.{first_at_rest}
 use Rattle.lump_cache.proofs.OrderLemmas.{counted_least}
@@ -144,3 +143,17 @@ returns-in-Err-clause-answers g c = λ contents stand within.
         go : (0 < m) ⊎ (m ≤ 0) → 0 < m
         go (inl l) = l
         go (inr l) = absurd (h (omega (arith, e, l)))
+
+-- the zone is that of a request, with the bytes that were read
+filled : (g : Over) (c : After-read_into g) → TakesBlock c.args.zone.now c.read_into.new.zone (lump_owner c.args.lump.0) (lump_at c.args.dir.now.lumps c.args.lump.0).size c.args.tag
+filled g c = filled_takes (lump_owner c.args.lump.0) (lump_at c.args.dir.now.lumps c.args.lump.0).size c.args.tag c.args.zone.now c.malloc.new.self c.read_into.new.zone _ c.requires.empty (taken g c) c.read_into.ensures.filled
+
+pub returns-in-Ok-clause-ok : goal.returns-in-Ok-clause-ok
+returns-in-Ok-clause-ok g c = filled g (goal.at.returns-in-Ok-clause-ok g c).After-read_into
+
+pub returns-in-Err-clause-left : goal.returns-in-Err-clause-left
+returns-in-Err-clause-left g c = record {
+  between = c.read_into.new.zone;
+  takes = filled g (goal.at.returns-in-Err-clause-left g c).After-read_into;
+  freed = c.free.ensures.freed ∙ ap (λ n. without_block (owner_at 0 n) c.read_into.new.zone) c.lump_slot-in-Err.ensures;
+}

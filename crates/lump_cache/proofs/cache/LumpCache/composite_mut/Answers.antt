@@ -1,6 +1,6 @@
 use Rattle.std.proofs.Common.{◌≡◌, ◌∙◌, ℕ, List, ap, ap₂, sym, subst, refl}
 use Rattle.std.specs.Prelude.{length, Some}
-use Rattle.zone_rules.specs.Zones.{Heap, Owner, owner_at, owned_block, bytes_of}
+use Rattle.zone_rules.specs.Zones.{Heap, owner_at, owned_block, bytes_of}
 use Rattle.zone_rules.specs.Frees.{with_bytes}
 use Rattle.zone_rules.specs.Loans.{after_loan}
 use Rattle.zone_rules.specs.Orders.{KeepsOrder}

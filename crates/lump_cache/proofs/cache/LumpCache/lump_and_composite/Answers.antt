@@ -1,5 +1,5 @@
-use Rattle.std.proofs.Common.{◌≡◌, ◌∙◌, ℕ, List, ap, ap₂, sym, subst, refl, true}
-use Rattle.zone_rules.specs.Zones.{Heap, Owner, owner_at, owned_block}
+use Rattle.std.proofs.Common.{◌≡◌, ◌∙◌, ap, ap₂, sym, subst, refl}
+use Rattle.zone_rules.specs.Zones.{Heap, owner_at, owned_block}
 use Rattle.zone_rules.specs.Frees.{with_bytes}
 use Rattle.zone_rules.specs.Orders.{KeepsOrder, is_live}
 use Rattle.zone_rules.proofs.OrderChangeLemmas.{order_written, live_written}

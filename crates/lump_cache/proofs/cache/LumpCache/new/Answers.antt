@@ -1,5 +1,4 @@
-use Rattle.std.proofs.Common.{◌≡◌, sym, subst}
-use Rattle.zone_rules.specs.Zones.{Heap}
+use Rattle.std.proofs.Common.{sym, subst}
 use Rattle.zone_rules.specs.Orders.{IsInOrder}
 use Rattle.zone_rules.proofs.OrderLemmas.{order_fresh}
 use Rattle.lump_cache.proofs.cache.LumpCache.new.Goals as goal

@@ -1,5 +1,5 @@
 use Rattle.std.proofs.Common.{◌≡◌, ◌∙◌, ap, sym, subst}
-use Rattle.zone_rules.specs.Zones.{Heap, Owner, IsSound, owner_at, owned_block, same_owner}
+use Rattle.zone_rules.specs.Zones.{Heap, IsSound, owner_at, owned_block}
 use Rattle.lump_cache.specs.Caches.{IsFaithful, IsAtRest, IsAtRestBut, release_heap, composite_owner}
 use Rattle.lump_cache.proofs.FillLemmas.{release_sound, release_others}
 use Rattle.lump_cache.proofs.cache.LumpCache.release_composite.Goals as goal

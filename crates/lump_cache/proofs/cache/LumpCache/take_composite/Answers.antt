@@ -1,9 +1,9 @@
-use Rattle.std.proofs.Common.{◌≡◌, ◌∙◌, ◌<◌, ◌≤◌, ap, sym, subst, false, List, [], None, Result, Ok, Err, refl, arith}
+use Rattle.std.proofs.Common.{◌≡◌, ◌∙◌, ◌<◌, ap, sym, subst, false, [], None, refl, arith}
 use Rattle.std.specs.Prelude.{OnErr, OnOk, IsErr, All}
 use Rattle.zone_rules.specs.declared.Tag.TheVariants.{Level}
 use Rattle.zone_rules.specs.Zones.{Heap, Owner, IsSound, owner_at, owned_block, same_owner, block_size}
 use Rattle.zone_rules.specs.Requests.{without_room, block_left, passed_blocks, stretches, TakesBlock, gaps, total}
-use Rattle.lump_cache.specs.Caches.{KeptOrPurged, HasBlock, IsUnpinned, composite_owner}
+use Rattle.lump_cache.specs.Caches.{KeptOrPurged, IsUnpinned, composite_owner}
 use Rattle.lump_cache.proofs.FillLemmas.{left_kept, kept_along, takes_use, on_ok, on_err}
 use Rattle.lump_cache.proofs.RestLemmas.{kept_pinned}
 use Rattle.lump_cache.proofs.RestButLemmas.{rest_but_none, rest_of_none, rest_but_more, rest_but_same, passing_after}
