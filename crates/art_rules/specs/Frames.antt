@@ -1,14 +1,13 @@
 -- The pictures of a sprite's frame, by the names of sprite lumps (R_InitSpriteDefs, r_things.c).
-use Rattle.std.specs.Prelude.{◌≡◌, ℕ, suc, ◌+◌, ◌-◌, ◌==◌, ◌&&◌, Bool, true, false, cond, not, nat_le, List, [], ◌∷◌, ◌++◌, take, Option, Some, None, is_none, slice_index, refl}
+use Rattle.std.specs.Prelude.{◌≡◌, ℕ, suc, ◌+◌, ◌-◌, ◌==◌, ◌&&◌, Bool, true, false, cond, nat_le, List, [], ◌∷◌, ◌++◌, take, Option, Some, None, slice_index, refl}
 use Rattle.std.specs.Str.{bytes_eq}
-use Rattle.word_rules.specs.Least.{least, or_else}
+use Rattle.word_rules.specs.Least.{or_else}
 use Rattle.word_rules.specs.Listed.{joined_lists}
 use Rattle.lump_rules.specs.declared.wad.Lump.{Lump}
 use Rattle.lump_rules.specs.declared.names.Group.TheVariants.{Sprites}
 use Rattle.lump_rules.specs.Lookups.{lump_at, members}
 use Rattle.art_rules.specs.declared.Mention.{Mention}
-use Rattle.art_rules.specs.declared.TheConstants.{SPRITE_LETTERS, SECOND_PAIR_AT, FIRST_FRAME, LAST_FRAME, FIRST_ROTATION, LAST_ROTATION, ROTATIONS}
-use Rattle.art_rules.specs.Patches.{is_patch}
+use Rattle.art_rules.specs.declared.TheConstants.{SPRITE_LETTERS, SECOND_PAIR_AT, FIRST_FRAME, LAST_FRAME, FIRST_ROTATION, LAST_ROTATION}
 
 -- a frame letter and a rotation digit
 unfoldable pub is_pair : ℕ → ℕ → Bool
@@ -61,23 +60,6 @@ picture_if all frame (Some last) k = picture_by all frame last k
 
 unfoldable pub frame_picture : List Mention → ℕ → ℕ → Option Mention
 frame_picture all frame k = picture_if all frame (last_that (is_of_frame frame) all) k
-
--- no lump mentions the frame
-unfoldable pub has_no_frame : List Mention → ℕ → Bool
-has_no_frame all frame = is_none (last_that (is_of_frame frame) all)
-
--- the least k from which the frame has no picture
-unfoldable pub missing_rotation : List Mention → ℕ → Option ℕ
-missing_rotation all frame = least (λ k. is_none (frame_picture all frame k)) ROTATIONS
-
--- the picture's lump is no patch
-unfoldable pub is_bad_picture : (ℕ → List ℕ) → Option Mention → Bool
-is_bad_picture bytes None = false
-is_bad_picture bytes (Some mention) = not (is_patch (bytes mention.lump))
-
--- the least k whose picture is no patch
-unfoldable pub bad_picture : (ℕ → List ℕ) → List Mention → ℕ → Option ℕ
-bad_picture bytes all frame = least (λ k. is_bad_picture bytes (frame_picture all frame k)) ROTATIONS
 
 -- TREEA0, and TREEA2A8, whose second mention is flipped
 pub name_mentions_row : name_mentions 7 (84 ∷ 82 ∷ 69 ∷ 69 ∷ 65 ∷ 50 ∷ 65 ∷ 56 ∷ []) ≡

@@ -1,5 +1,6 @@
-// Near and far children of a node, and whether a far box is to be entered. Rules: `walk_rules`, Boxes.
-ghost use Rattle.std.specs.Prelude.{◌≡◌, ℕ, ◌≤◌, ◌+◌, length};
+// Near and far children of a node, and whether a far box is to be entered. Rules: `walk_rules`,
+// Boxes.
+ghost use Rattle.std.specs.Prelude.{◌≡◌, ℕ, ◌≤◌, length};
 ghost use Rattle.view_rules.specs.declared.ColumnRange.{ColumnRange};
 ghost use Rattle.level_rules.specs.Levels.{child_on};
 ghost use Rattle.walk_rules.specs.Boxes.{partition_of, eye_side, box_on, box_column, box_row, corners_above, corners_beside, corners_below, box_corners, corners_range, range_is_open, is_within_box, box_passes};
@@ -142,7 +143,8 @@ fn box_corners(b: &Box4, row: u8, column: u8) -> Corners
 #[tactic(auto, unfolding(walk_rules::specs::Boxes::corners_range))]
 fn corners_range(view: &View<'_>, c: Corners) -> ColumnRange
     ensures value { result ≡ corners_range view.now c }
-    ensures order { (x1 x2 : ℕ) → result ≡ ColumnRange.Columns x1 x2 → (x1 ≤ x2) × (x2 ≤ view.now.shape.width) }
+    ensures order { (x1 x2 : ℕ) → result ≡ ColumnRange.Columns x1 x2 →
+        (x1 ≤ x2) × (x2 ≤ view.now.shape.width) }
 {
     view.column_range(view.point_angle(c.x1, c.y1), view.point_angle(c.x2, c.y2))
 }
@@ -150,7 +152,8 @@ fn corners_range(view: &View<'_>, c: Corners) -> ColumnRange
 // Whether some column of the range is not covered.
 #[tactic(auto, unfolding(walk_rules::specs::Boxes::range_is_open))]
 fn range_is_open(cover: &Cover, range: ColumnRange) -> bool
-    requires { (x1 x2 : ℕ) → range ≡ ColumnRange.Columns x1 x2 → (x1 ≤ x2) × (x2 ≤ length cover.now) }
+    requires { (x1 x2 : ℕ) → range ≡ ColumnRange.Columns x1 x2 →
+        (x1 ≤ x2) × (x2 ≤ length cover.now) }
     ensures { result ≡ range_is_open cover.now range }
 {
     match range {

@@ -1,6 +1,5 @@
 // The walk of the nodes under the root. Rules: `walk_rules`, Walk.
 ghost use Rattle.std.specs.Prelude.{◌≡◌, ℕ, ◌≤◌, ◌<◌, ◌+◌, false, length, replicate, OnOk};
-ghost use Rattle.level_rules.specs.Levels.{leaf_at};
 ghost use Rattle.map_rules.specs.declared.lumps.TheConstants.{MAX_RECORDS};
 ghost use Rattle.walk_rules.specs.Walk.{walk_start, at_segs, at_leaf, walk_child, view_events};
 ghost use Rattle.node_walk.specs.Lists.{walk_lists, part_start, IsThere};
@@ -32,15 +31,20 @@ pub fn walk<V: Visitor>(
     requires surfaces { length scene.now.surfaces.now ≡ length scene.now.level.now.sectors }
     requires middles { length scene.now.middles.now ≡ length scene.now.level.now.sides }
     requires uncovered { cover.old ≡ replicate view.now.shape.width false }
-    requires takes { TakesAll (V.takes visitor.old) (length scene.now.level.now.leaves) (length scene.now.level.now.segs) view.now.shape.width }
+    requires takes { TakesAll (V.takes visitor.old) (length scene.now.level.now.leaves)
+        (length scene.now.level.now.segs) view.now.shape.width }
     ensures visits { let lists = walk_lists scene.now.level.now scene.now.surfaces.now scene.now.middles.now in
-        Visits (V.takes visitor.old) (V.takes visitor.new) (V.stands visitor.old) (V.stands visitor.new)
-        (V.stopped visitor.new) (view_events view.now lists) result }
+        Visits (V.takes visitor.old) (V.takes visitor.new) (V.stands visitor.old)
+        (V.stands visitor.new) (V.stopped visitor.new) (view_events view.now lists) result }
     ensures covered { let lists = walk_lists scene.now.level.now scene.now.surfaces.now scene.now.middles.now in
-        OnOk result (cover.new ≡ (walk_child view.now lists MAX_DEPTH lists.root (walk_start view.now.shape.width)).covered) }
+        let start = walk_start view.now.shape.width in
+        OnOk result (cover.new ≡ (walk_child view.now lists MAX_DEPTH lists.root start).covered) }
     ensures width { length cover.new ≡ length cover.old }
-    ensures depth { (more : ℕ) → let lists = walk_lists scene.now.level.now scene.now.surfaces.now scene.now.middles.now in
-        walk_child view.now lists (MAX_DEPTH + more) lists.root (walk_start view.now.shape.width) ≡ walk_child view.now lists MAX_DEPTH lists.root (walk_start view.now.shape.width) }
+    ensures depth { (more : ℕ) →
+        let lists = walk_lists scene.now.level.now scene.now.surfaces.now scene.now.middles.now in
+        let start = walk_start view.now.shape.width in
+        walk_child view.now lists (MAX_DEPTH + more) lists.root start
+        ≡ walk_child view.now lists MAX_DEPTH lists.root start }
 {
     let lists = Lists::new(scene);
     walk_child(&lists, view, lists.root(), MAX_DEPTH, cover, visitor)
@@ -58,9 +62,11 @@ fn walk_child<V: Visitor>(
 ) -> Result<(), V::Stop>
     requires there { IsThere lists.now child }
     requires width { length cover.old ≡ view.now.shape.width }
-    requires takes { TakesAll (V.takes visitor.old) (length lists.now.leaves) (length lists.now.segs) view.now.shape.width }
-    ensures walks { Walks (V.takes visitor.old) (V.takes visitor.new) (V.stands visitor.old) (V.stands visitor.new)
-        (V.stopped visitor.new) (walk_child view.now lists.now depth child (part_start cover.old)) cover.new result }
+    requires takes { TakesAll (V.takes visitor.old) (length lists.now.leaves)
+        (length lists.now.segs) view.now.shape.width }
+    ensures walks { Walks (V.takes visitor.old) (V.takes visitor.new) (V.stands visitor.old)
+        (V.stands visitor.new) (V.stopped visitor.new)
+        (walk_child view.now lists.now depth child (part_start cover.old)) cover.new result }
     ensures width { length cover.new ≡ length cover.old }
 {
     match child {
@@ -91,9 +97,11 @@ fn visit_leaf<V: Visitor>(
 ) -> Result<(), V::Stop>
     requires leaf { n < length lists.now.leaves }
     requires width { length cover.old ≡ view.now.shape.width }
-    requires takes { TakesAll (V.takes visitor.old) (length lists.now.leaves) (length lists.now.segs) view.now.shape.width }
-    ensures walks { Walks (V.takes visitor.old) (V.takes visitor.new) (V.stands visitor.old) (V.stands visitor.new)
-        (V.stopped visitor.new) (at_leaf view.now lists.now n (part_start cover.old)) cover.new result }
+    requires takes { TakesAll (V.takes visitor.old) (length lists.now.leaves)
+        (length lists.now.segs) view.now.shape.width }
+    ensures walks { Walks (V.takes visitor.old) (V.takes visitor.new) (V.stands visitor.old)
+        (V.stands visitor.new) (V.stopped visitor.new)
+        (at_leaf view.now lists.now n (part_start cover.old)) cover.new result }
     ensures width { length cover.new ≡ length cover.old }
 {
     visitor.leaf(n)?;
@@ -114,9 +122,12 @@ fn visit_segs<V: Visitor>(
     requires count { length lists.now.segs ≤ MAX_RECORDS }
     requires segs { leaf.now.first + leaf.now.count ≤ length lists.now.segs }
     requires width { length cover.old ≡ view.now.shape.width }
-    requires takes { TakesAll (V.takes visitor.old) (length lists.now.leaves) (length lists.now.segs) view.now.shape.width }
-    ensures walks { Walks (V.takes visitor.old) (V.takes visitor.new) (V.stands visitor.old) (V.stands visitor.new)
-        (V.stopped visitor.new) (at_segs view.now lists.now front.now leaf.now.first leaf.now.count (part_start cover.old)) cover.new result }
+    requires takes { TakesAll (V.takes visitor.old) (length lists.now.leaves)
+        (length lists.now.segs) view.now.shape.width }
+    ensures walks { Walks (V.takes visitor.old) (V.takes visitor.new) (V.stands visitor.old)
+        (V.stands visitor.new) (V.stopped visitor.new)
+        (at_segs view.now lists.now front.now leaf.now.first leaf.now.count (part_start cover.old))
+        cover.new result }
     ensures width { length cover.new ≡ length cover.old }
 {
     for k in 0..leaf.count {

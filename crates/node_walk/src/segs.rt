@@ -1,5 +1,5 @@
 // What a seg hides and what of it is seen. Rules: `walk_rules`, Segs and Walk.
-ghost use Rattle.std.specs.Prelude.{◌≡◌, ℕ, ◌≤◌, ◌<◌, ◌-◌, ◌+◌, length, map, OnOk};
+ghost use Rattle.std.specs.Prelude.{◌≡◌, ℕ, ◌≤◌, ◌<◌, ◌-◌, length, map};
 ghost use Rattle.view_rules.specs.declared.ColumnRange.{ColumnRange};
 ghost use Rattle.level_rules.specs.Levels.{seg_at};
 ghost use Rattle.walk_rules.specs.Covered.{fragments};
@@ -20,7 +20,8 @@ use view_frame::{ColumnRange, View};
 #[tactic(auto, unfolding(walk_rules::specs::Segs::seg_range))]
 fn seg_range(view: &View<'_>, seg: &Seg) -> ColumnRange
     ensures value { result ≡ seg_range view.now seg.now }
-    ensures order { (x1 x2 : ℕ) → result ≡ ColumnRange.Columns x1 x2 → (x1 ≤ x2) × (x2 ≤ view.now.shape.width) }
+    ensures order { (x1 x2 : ℕ) → result ≡ ColumnRange.Columns x1 x2 →
+        (x1 ≤ x2) × (x2 ≤ view.now.shape.width) }
 {
     view.column_range(
         view.point_angle(seg.x1, seg.y1),
@@ -89,9 +90,11 @@ fn show<V: Visitor>(
 ) -> Result<(), V::Stop>
     requires ordered { first ≤ last }
     requires within { last < length cover.now }
-    requires takes { (p q : ℕ) → first ≤ p → p ≤ q → q ≤ last → V.takes visitor.old (FragmentEvent seg p q) }
-    ensures { Visits (V.takes visitor.old) (V.takes visitor.new) (V.stands visitor.old) (V.stands visitor.new)
-        (V.stopped visitor.new) (map (λ r. FragmentEvent seg r.0 r.1) (fragments cover.now first last)) result }
+    requires takes { (p q : ℕ) → first ≤ p → p ≤ q → q ≤ last →
+        V.takes visitor.old (FragmentEvent seg p q) }
+    ensures { Visits (V.takes visitor.old) (V.takes visitor.new) (V.stands visitor.old)
+        (V.stands visitor.new) (V.stopped visitor.new)
+        (map (λ r. FragmentEvent seg r.0 r.1) (fragments cover.now first last)) result }
 {
     for (p, q) in cover.fragments(first, last) {
         visitor.fragment(seg, p, q)?;
@@ -112,11 +115,14 @@ fn visit_columns<V: Visitor>(
     requires seg { n < length lists.now.segs }
     requires ordered { first ≤ last }
     requires within { last < length cover.old }
-    requires takes { (p q : ℕ) → first ≤ p → p ≤ q → q ≤ last → V.takes visitor.old (FragmentEvent n p q) }
+    requires takes { (p q : ℕ) → first ≤ p → p ≤ q → q ≤ last →
+        V.takes visitor.old (FragmentEvent n p q) }
     ensures walks { let seg = seg_at lists.now n in
-        let back = back_of lists.now seg in
-        Walks (V.takes visitor.old) (V.takes visitor.new) (V.stands visitor.old) (V.stands visitor.new)
-        (V.stopped visitor.new) (at_columns (is_solid front.now back) (is_pass front.now back (middle_of lists.now seg)) n first last (part_start cover.old)) cover.new result }
+        let solid = is_solid front.now (back_of lists.now seg) in
+        let pass = is_pass front.now (back_of lists.now seg) (middle_of lists.now seg) in
+        Walks (V.takes visitor.old) (V.takes visitor.new) (V.stands visitor.old)
+        (V.stands visitor.new) (V.stopped visitor.new)
+        (at_columns solid pass n first last (part_start cover.old)) cover.new result }
     ensures width { length cover.new ≡ length cover.old }
 {
     let seg = lists.seg(n);
@@ -144,9 +150,11 @@ pub(crate) fn visit_seg<V: Visitor>(
 ) -> Result<(), V::Stop>
     requires seg { n < length lists.now.segs }
     requires width { length cover.old ≡ view.now.shape.width }
-    requires takes { TakesAll (V.takes visitor.old) (length lists.now.leaves) (length lists.now.segs) view.now.shape.width }
-    ensures walks { Walks (V.takes visitor.old) (V.takes visitor.new) (V.stands visitor.old) (V.stands visitor.new)
-        (V.stopped visitor.new) (at_seg view.now lists.now front.now n (part_start cover.old)) cover.new result }
+    requires takes { TakesAll (V.takes visitor.old) (length lists.now.leaves)
+        (length lists.now.segs) view.now.shape.width }
+    ensures walks { Walks (V.takes visitor.old) (V.takes visitor.new) (V.stands visitor.old)
+        (V.stands visitor.new) (V.stopped visitor.new)
+        (at_seg view.now lists.now front.now n (part_start cover.old)) cover.new result }
     ensures width { length cover.new ≡ length cover.old }
 {
     match seg_range(view, lists.seg(n)) {

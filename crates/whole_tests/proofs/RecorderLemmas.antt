@@ -1,5 +1,5 @@
 -- A visitor that counts the events that it is given.
-use Rattle.std.proofs.Common.{◌≡◌, ℕ, ◌+◌, ◌<◌, ◌≤◌, List, [], ◌∷◌, ◌++◌, length, Result, Ok, Err, OnOk, arith}
+use Rattle.std.proofs.Common.{◌≡◌, ℕ, ◌+◌, ◌<◌, ◌≤◌, [], ◌∷◌, length, Result, Ok, Err, OnOk, arith}
 use Rattle.std.proofs.lemmas.List.{length_push}
 use Rattle.walk_rules.specs.Events.{Event}
 use Rattle.node_walk.specs.Visits.{Visits}

@@ -1,0 +1,8 @@
+pub mod CallLemmas
+pub mod EachLemmas
+pub mod FrameLemmas
+pub mod ListLemmas
+pub mod MentionLemmas
+pub mod NeedLemmas
+pub mod PictureLemmas
+pub mod ReadLemmas

@@ -1,0 +1,40 @@
+-- How the pictures of a frame are found.
+use Rattle.std.proofs.Common.{◌≡◌, ℕ, List, Option, Some, None, Result, Ok, Err, refl, sym, ap, ◌∙◌, IsErrAnd, MatchResult}
+use Rattle.std.specs.Option.{ok_or}
+use Rattle.std.specs.List.{range_with_len}
+use Rattle.std.proofs.lemmas.Result.{err_from_is_err_and}
+use Rattle.art_rules.specs.declared.Mention.{Mention}
+use Rattle.art_rules.specs.declared.TheConstants.{ROTATIONS}
+use Rattle.art_rules.specs.declared.refusal.SpriteRefusal.{SpriteRefusal}
+use Rattle.art_rules.specs.declared.refusal.SpriteRefusal.TheVariants.{NoFrame}
+use Rattle.art_rules.specs.Frames.{last_that, is_of_frame}
+use Rattle.sprite_book.specs.declared.shapes.Need.{Need}
+use Rattle.sprite_book.specs.Books.{each_of, last_mention, picture_or_missing, pictures_of}
+
+found_in : {X E : Type 0} (o : Option X) (e : E) (v : X) → ok_or o e ≡ Ok v → o ≡ Some v
+found_in None e v h = cc
+found_in (Some x) e v h = let d : x ≡ v = cc in ap Some d
+
+-- the last mention was found
+pub last_found : (all : List Mention) (need : Need) (last : Mention) (r : Result Mention SpriteRefusal) → r ≡ last_mention all need → r ≡ Ok last → last_that (is_of_frame need.frame) all ≡ Some last
+unfolding last_mention
+last_found all need last r is was = found_in (last_that (is_of_frame need.frame) all) (NoFrame need.thing) last (sym is ∙ was)
+
+-- the same error goes on
+pub same_error : {A : Type 0} (result : Result A SpriteRefusal) (e : SpriteRefusal) → IsErrAnd result (λ f. f ≡ e) → result ≡ Err e
+same_error result e h = let p = err_from_is_err_and result h in p.1 ∙ ap Err p.2
+
+pub told_error : {A : Type 0} (P : A → Type 0) (result : Result A SpriteRefusal) (e : SpriteRefusal) (expected : Result (List Mention) SpriteRefusal) → IsErrAnd result (λ f. f ≡ e) → expected ≡ Err e →
+    MatchResult result P (λ refusal. expected ≡ Err refusal)
+told_error {A} P (Ok v) e expected h is = absurd h
+told_error {A} P (Err f) e expected h is = is ∙ ap Err (sym h)
+
+-- no lump mentions the frame
+pub pictures_none : (all : List Mention) (need : Need) (r : Result Mention SpriteRefusal) (e : SpriteRefusal) → r ≡ last_mention all need → r ≡ Err e → Err e ≡ pictures_of all need
+unfolding pictures_of
+pictures_none all need r e is was = let h : last_mention all need ≡ Err e = sym is ∙ was in rw h refl
+
+-- some lump does, and so the pictures of the rotations decide
+pub pictures_by : (all : List Mention) (need : Need) (r : Result Mention SpriteRefusal) (last : Mention) → r ≡ last_mention all need → r ≡ Ok last → each_of (picture_or_missing all need) (range_with_len 0 ROTATIONS) ≡ pictures_of all need
+unfolding pictures_of
+pictures_by all need r last is was = let h : last_mention all need ≡ Ok last = sym is ∙ was in rw h refl

@@ -1,0 +1,11 @@
+use Rattle.std.proofs.Common.{subst, sym, List, map, ℕ}
+use Rattle.std.specs.Prelude.{◌↔◌, Contains}
+use Rattle.wad_dir.specs.declared.directory.LumpNo.{LumpNo}
+use Rattle.sprite_book.specs.declared.shapes.Frame.{Frame}
+use Rattle.sprite_book.specs.Books.{book_lumps}
+use Rattle.sprite_book.proofs.book.SpriteBook.pictures.Goals as goal
+
+pub returns-clause-lumps : goal.returns-clause-lumps
+returns-clause-lumps c =
+    let P : List LumpNo → List Frame → Type 0 = λ v f. (lump : ℕ) → Contains (map (λ (l : LumpNo). l.0) v) lump ↔ Contains (book_lumps f) lump in
+    subst (P c.deref.result.now) c.self.view_is (subst (λ v. P v c.self.inside.list.frames.items) (sym c.deref.ensures.value) c.self.invariant.1.lumps)

@@ -1,0 +1,11 @@
+use Rattle.std.proofs.Common.{◌≡◌, List, ℕ, length, take, Some, Ok}
+use Rattle.std.specs.List.{range_with_len}
+use Rattle.art_rules.specs.declared.Mention.{Mention}
+use Rattle.art_rules.specs.Frames.{last_that, is_of_frame}
+use Rattle.sprite_book.specs.Books.{picture_or_missing, each_of}
+use Rattle.sprite_book.specs.Indexes.{IsIndexOf}
+use Rattle.sprite_book.proofs.pictures.fill_pictures.Given as goal
+
+abbrev pub invariant-loop-k : goal.invariant-loop-k
+invariant-loop-k l = (all : List ℕ → List Mention) → IsIndexOf l.index all → last_that (is_of_frame l.need.frame) (all l.need.sprite) ≡ Some l.last →
+    each_of (picture_or_missing (all l.need.sprite) l.need) (range_with_len 0 l.k) ≡ Ok (take l.k l.pictures)

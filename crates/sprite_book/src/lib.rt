@@ -1,0 +1,25 @@
+//! The pictures of sprites: which lumps show the frames that things need, from each of eight
+//! rotations.
+//!
+//! Rules: `art_rules`, Frames (what the names of sprite lumps mention) and Patches, and
+//! `specs/Books` (a book, or why it is refused). Proved: what `load` answers over any shelf and what
+//! it keeps of a cache, and that `pick` gives the definition's shape. Tested only: that memory is
+//! found. A shape is the field's spriteframe with its picture's width and offsets. The original:
+//! `R_InitSprites`, r_things.c.
+#![tactic(auto)]
+
+mod book;
+mod fault;
+mod list;
+mod mentions;
+mod needs;
+mod pictures;
+mod read;
+mod shapes;
+#[cfg(test)]
+mod tests;
+
+pub use art_rules::SpriteRefusal;
+pub use book::SpriteBook;
+pub use fault::SpriteFault;
+pub use shapes::{Frame, Need, Shape};

@@ -1,0 +1,75 @@
+// The frames that are needed, one after another.
+ghost use Rattle.std.specs.Prelude.{◌≡◌, ◌≤◌, ℕ, List, [], length, map, replicate, Option, None, Ok, IfOk, OnOk};
+ghost use Rattle.art_rules.specs.declared.patch.Patch.{Patch};
+ghost use Rattle.art_rules.specs.Frames.{mentions};
+ghost use Rattle.sprite_book.specs.Books.{frame_of, outline, outline_of, each_of, first_needs};
+ghost use Rattle.sprite_book.specs.Calls.{Tells, IsWanted};
+ghost use Rattle.sprite_book.specs.Indexes.{IsIndexOf, IsPlaceOf};
+
+use crate::fault::SpriteFault;
+use crate::list::FrameList;
+use crate::mentions::Mentions;
+use crate::read::read_frame;
+use crate::shapes::Need;
+use art_rules::Patch;
+use lump_cache::LumpCache;
+use outside::{OutOfMemory, Shelf};
+use std::alloc::Global;
+use wad_dir::Directory;
+
+// The needed frames.
+pub fn read_list<S: Shelf>(
+    alloc: Global,
+    needed: &[Need],
+    index: &Mentions,
+    dir: &Directory,
+    cache: &mut LumpCache,
+    shelf: &mut S,
+) -> Result<FrameList, SpriteFault>
+    requires slots { length dir.now.lumps ≤ cache.old.lumps }
+    requires indexed { IsIndexOf index.now (mentions dir.now.lumps) }
+    ensures tells { Tells (S.view shelf.old) (S.view shelf.new) dir.now cache.old cache.new [] [] (IsWanted dir.now.lumps needed.now) (λ list. list.frames.items) (λ bytes. each_of (frame_of bytes dir.now.lumps) (first_needs needed.now)) result }
+    ensures outlines { IfOk result (λ list. each_of (outline_of dir.now.lumps) (first_needs needed.now) ≡ Ok (map outline list.frames.items)) }
+    ensures placed { IfOk result (λ list. IsPlaceOf list.index list.frames.items) }
+{
+    let mut patches = no_patches(alloc, dir.count() as usize)?;
+    let mut list = FrameList::new(alloc);
+    read_frames(&mut list, &mut patches, needed, index, dir, cache, shelf)?;
+    Ok(list)
+}
+
+// A place for the patch of each lump.
+fn no_patches(alloc: Global, count: usize) -> Result<Vec<Option<Patch>>, OutOfMemory>
+    ensures { IfOk result (λ patches. patches.items ≡ replicate count None) }
+{
+    vec![in alloc; None; count]
+}
+
+// Reads the frames that are not there yet.
+fn read_frames<S: Shelf>(
+    list: &mut FrameList,
+    patches: &mut [Option<Patch>],
+    needed: &[Need],
+    index: &Mentions,
+    dir: &Directory,
+    cache: &mut LumpCache,
+    shelf: &mut S,
+) -> Result<(), SpriteFault>
+    requires slots { length dir.now.lumps ≤ cache.old.lumps }
+    requires rows { length dir.now.lumps ≤ length patches.old }
+    requires indexed { IsIndexOf index.now (mentions dir.now.lumps) }
+    requires empty { list.old.frames.items ≡ [] }
+    requires placed { IsPlaceOf list.old.index list.old.frames.items }
+    ensures tells { Tells (S.view shelf.old) (S.view shelf.new) dir.now cache.old cache.new patches.old patches.new (IsWanted dir.now.lumps needed.now) (λ _. list.new.frames.items) (λ bytes. each_of (frame_of bytes dir.now.lumps) (first_needs needed.now)) result }
+    ensures outlines { OnOk result (each_of (outline_of dir.now.lumps) (first_needs needed.now) ≡ Ok (map outline list.new.frames.items)) }
+    ensures placed { OnOk result (IsPlaceOf list.new.index list.new.frames.items) }
+{
+    for need in needed {
+        if list.has(need) {
+            continue;
+        }
+        let frame = read_frame(need, index, patches, dir, cache, shelf)?;
+        list.add(frame)?;
+    }
+    Ok(())
+}
