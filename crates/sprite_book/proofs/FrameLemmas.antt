@@ -22,7 +22,7 @@ use Rattle.art_rules.specs.Frames.{mentions, lump_mentions, name_mentions, menti
 use Rattle.sprite_book.specs.declared.shapes.Need.{Need}
 use Rattle.sprite_book.specs.declared.shapes.Shape.{Shape}
 use Rattle.sprite_book.specs.declared.shapes.Frame.{Frame}
-use Rattle.sprite_book.specs.Books.{each_of, last_mention, picture_or_missing, pictures_of, patch_or_bad, shape_in, shape_of, frame_in, frame_of, shape_outline, mention_outline, outline, outline_in, outline_of}
+use Rattle.sprite_book.specs.Books.{each_of, last_mention, picture_or_missing, pictures_of, patch_or_bad, shape_in, shape_of, frame_in, frame_of, shape_outline, mention_outline, outline, outline_in, outline_of, Outline}
 use Rattle.sprite_book.proofs.EachLemmas.{each_of-push, each_of-stop}
 use Rattle.sprite_book.proofs.MentionLemmas.{members_below}
 
@@ -158,3 +158,40 @@ module _ (lumps : List Lump) where
 
   pub pictures_there : (need : Need) (pictures : List Mention) → pictures_of (mentions lumps need.sprite) need ≡ Ok pictures → All (λ mention. mention.lump < length lumps) pictures
   pictures_there need pictures e = pictures_hold IsThere (mentions lumps need.sprite) need pictures (mentions_there need.sprite) e
+
+-- each shape is of a lump of the directory
+module _ (lumps : List Lump) where
+  shapes_there : (shapes : List Shape) (pictures : List Mention) → map shape_outline shapes ≡ map mention_outline pictures → All (λ (mention : Mention). mention.lump < length lumps) pictures → All (λ (shape : Shape). shape.lump.0 < length lumps) shapes
+  unfolding shape_outline mention_outline
+  shapes_there [] pictures e all = All-nil (λ (shape : Shape). shape.lump.0 < length lumps)
+  shapes_there (s ∷ shapes) [] e all = cc
+  shapes_there (s ∷ shapes) (m ∷ pictures) e all =
+      let head : (s.lump.0, s.flip) ≡ (m.lump, m.flip) = cc in
+      let tail : map shape_outline shapes ≡ map mention_outline pictures = cc in
+      let there : m.lump < length lumps = All-head (λ (mention : Mention). mention.lump < length lumps) m pictures all in
+      All-cons (λ (shape : Shape). shape.lump.0 < length lumps) s shapes (subst (λ n. n < length lumps) (sym (ap (λ (x : ℕ × Bool). x.0) head)) there) (shapes_there shapes pictures tail (All-tail (λ (mention : Mention). mention.lump < length lumps) m pictures all))
+
+  frame_there : (need : Need) (frame : Frame) → outline_of lumps need ≡ Ok (outline frame) → All (λ (shape : Shape). shape.lump.0 < length lumps) frame.shapes
+  unfolding outline_of outline_in outline
+  frame_there need frame e = by_pictures (pictures_of (mentions lumps need.sprite) need) refl (outline frame) e refl where
+    by_pictures : (r : Result (List Mention) SpriteRefusal) → pictures_of (mentions lumps need.sprite) need ≡ r → (o : Outline) → and_then r (λ pictures. Ok (record { sprite = need.sprite; frame = need.frame; pictures = map mention_outline pictures })) ≡ Ok o → map shape_outline frame.shapes ≡ o.pictures →
+        All (λ (shape : Shape). shape.lump.0 < length lumps) frame.shapes
+    by_pictures (Ok pictures) is o h same =
+        let d : ◌≡◌ {A = Outline} (record { sprite = need.sprite; frame = need.frame; pictures = map mention_outline pictures }) o = cc in
+        shapes_there frame.shapes pictures (same ∙ sym (ap (λ (x : Outline). x.pictures) d)) (pictures_there lumps need pictures is)
+    by_pictures (Err r) is o h same = cc
+
+  pub book_there : (needs : List Need) (book : List Frame) → each_of (outline_of lumps) needs ≡ Ok (map outline book) → All (λ (frame : Frame). All (λ (shape : Shape). shape.lump.0 < length lumps) frame.shapes) book
+  unfolding each_of
+  book_there [] [] e = All-nil (λ (frame : Frame). All (λ (shape : Shape). shape.lump.0 < length lumps) frame.shapes)
+  book_there [] (f ∷ fs) e = cc
+  book_there (n ∷ ns) book e = by_item (outline_of lumps n) (each_of (outline_of lumps) ns) refl refl book e (book_there ns) where
+    by_item : (a : Result Outline SpriteRefusal) (b : Result (List Outline) SpriteRefusal) → outline_of lumps n ≡ a → each_of (outline_of lumps) ns ≡ b → (fs : List Frame) → and_then a (λ v. and_then b (λ vs. Ok (v ∷ vs))) ≡ Ok (map outline fs) →
+        ((gs : List Frame) → each_of (outline_of lumps) ns ≡ Ok (map outline gs) → All (λ (frame : Frame). All (λ (shape : Shape). shape.lump.0 < length lumps) frame.shapes) gs) → All (λ (frame : Frame). All (λ (shape : Shape). shape.lump.0 < length lumps) frame.shapes) fs
+    by_item (Ok v) (Ok vs) h k [] g later = All-nil (λ (frame : Frame). All (λ (shape : Shape). shape.lump.0 < length lumps) frame.shapes)
+    by_item (Ok v) (Ok vs) h k (f ∷ fs) g later =
+        let head : v ≡ outline f = cc in
+        let tail : vs ≡ map outline fs = cc in
+        All-cons (λ (frame : Frame). All (λ (shape : Shape). shape.lump.0 < length lumps) frame.shapes) f fs (frame_there n f (h ∙ ap Ok head)) (later fs (k ∙ ap Ok tail))
+    by_item (Ok v) (Err r) h k fs g later = cc
+    by_item (Err r) b h k fs g later = cc

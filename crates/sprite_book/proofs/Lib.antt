@@ -2,6 +2,7 @@ pub mod CallLemmas
 pub mod EachLemmas
 pub mod FrameLemmas
 pub mod ListLemmas
+pub mod LiveLemmas
 pub mod MentionLemmas
 pub mod NeedLemmas
 pub mod PictureLemmas

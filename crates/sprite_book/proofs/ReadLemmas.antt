@@ -21,7 +21,7 @@ use Rattle.art_rules.specs.Patches.{patch_of}
 use Rattle.lump_cache.specs.declared.fault.CacheFault.{CacheFault}
 use Rattle.lump_cache.specs.declared.fault.CacheFault.TheVariants.{ZoneFull, ReadFault}
 use Rattle.lump_cache.specs.Caches.{IsFaithful, IsAtRest, WhereFull, NoRoom, is_full, cache_told, lump_owner}
-use Rattle.lump_cache.proofs.LiveLemmas.{HasBytes}
+use Rattle.sprite_book.proofs.LiveLemmas.{HasBytes}
 use Rattle.sprite_book.specs.declared.fault.SpriteFault.{SpriteFault}
 use Rattle.sprite_book.specs.declared.fault.SpriteFault.TheVariants.{Refused}
 use Rattle.sprite_book.specs.Faults.{sprite_told, sprite_fault}

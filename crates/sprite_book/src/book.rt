@@ -1,5 +1,5 @@
 // A book of frames.
-ghost use Rattle.std.specs.Prelude.{◌≡◌, ◌<◌, ◌≤◌, ◌+◌, ◌++◌, ◌∷◌, ◌↔◌, true, ℕ, List, [], length, map, Contains, Option, None, Some, Ok, IfOk, IfErr, IfSome, OnOk, MatchResult};
+ghost use Rattle.std.specs.Prelude.{◌≡◌, ◌<◌, ◌≤◌, ◌+◌, ◌++◌, ◌∷◌, ◌↔◌, true, ℕ, List, [], length, map, All, Contains, Option, None, Some, Ok, IfOk, IfErr, IfSome, OnOk, MatchResult};
 ghost use Rattle.std.specs.List.Sorted.{IsStrictlyIncreasing};
 ghost use Rattle.outside.specs.Shelf.{Follows, AllStand};
 ghost use Rattle.outside.specs.Told.{Answers, HasCauses};
@@ -84,6 +84,7 @@ impl SpriteBook {
         ensures answers { (contents : List (List ℕ)) → AllStand (S.view shelf.old) dir.now.files contents → AllWithin contents dir.now.lumps → IsFaithful contents dir.now.lumps cache.old →
             Answers sprite_told (S.view shelf.old).steady (λ book. book) (book_of contents dir.now.lumps needed.now) result }
         ensures outlines { IfOk result (λ book. outlines_of dir.now.lumps needed.now ≡ Ok (map outline book)) }
+        ensures there { IfOk result (λ book. All (λ frame. All (λ shape. shape.lump.0 < length dir.now.lumps) frame.shapes) book) }
         ensures follows { Follows (S.view shelf.old) (S.view shelf.new) }
         ensures causes { HasCauses sprite_told (S.view shelf.old).faults (S.view shelf.new).faults result }
         ensures full { IfErr result (λ fault. IfFull (sprite_told fault) (λ wanted widest'. (lump : ℕ) × IsWanted dir.now.lumps needed.now lump × (wanted ≡ block_size (lump_at dir.now.lumps lump).size) × (widest' < wanted))) }

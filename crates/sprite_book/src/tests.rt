@@ -21,7 +21,7 @@ fn put_entry(wad: &mut Vec<u8>, place: u32, size: u32, name: &[u8]) -> Result<()
 // A file with a sprite lump of each name, all of the same bytes.
 fn sprite_wad(alloc: Global, names: &[[u8; 8]]) -> Result<Vec<u8>, AllocError> {
     let mut wad = b"IWAD".to_vec(alloc)?;
-    wad.extend_from_slice(&(names.len() as u32).wrapping_add(2).to_le_bytes())?;
+    wad.extend_from_slice(&((names.len() & 0xff) as u32 + 2).to_le_bytes())?;
     wad.extend_from_slice(&25u32.to_le_bytes())?;
     wad.extend_from_slice(&PATCH)?;
     put_entry(&mut wad, 0, 0, b"S_START\0")?;

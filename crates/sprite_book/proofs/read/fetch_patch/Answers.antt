@@ -3,7 +3,7 @@ use Rattle.std.proofs.lemmas.Result.{err_from_is_err_and}
 use Rattle.zone_rules.specs.declared.Tag.TheVariants.{Cache}
 use Rattle.lump_cache.specs.declared.fault.CacheFault.{CacheFault}
 use Rattle.lump_cache.specs.Caches.{lump_owner}
-use Rattle.lump_cache.proofs.LiveLemmas.{HasBytes, fetched_bytes}
+use Rattle.sprite_book.proofs.LiveLemmas.{HasBytes, fetched_bytes}
 use Rattle.art_rules.specs.declared.patch.Patch.{Patch}
 use Rattle.sprite_book.specs.declared.fault.SpriteFault.{SpriteFault}
 use Rattle.sprite_book.specs.Faults.{sprite_fault}
