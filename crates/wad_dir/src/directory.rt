@@ -138,7 +138,8 @@ impl Directory {
 
     /// The label of a map: the last lump of its name. `None` where no lump has that name, where it
     /// is not followed by the eight lumps of a map, by name and in order, in the same file, or where
-    /// the eleventh lump after it stands in the same file and has the name `BEHAVIOR`.
+    /// the eleventh lump after it stands in the same file and has the name `BEHAVIOR`. Each of the
+    /// eight has a `LumpNo`.
     ///
     /// The original: `P_SetupLevel`, p_setup.c, which takes the lumps after the label as they come.
     ///
@@ -146,6 +147,7 @@ impl Directory {
     pub fn map(&self, name: &Name8) -> Option<LumpNo>
         ensures found { option_map (λ lump. lump.0) result ≡ map_of self.now.lumps name.now }
         ensures there { IfSome result (λ lump. lump.0 + length MAP_LUMPS < length self.now.lumps) }
+        ensures number { IfSome result (λ lump. lump.0 + length MAP_LUMPS < 2 ^ 16) }
     {
         let label = self.last(name)?;
         label_at(&self.list, label)
@@ -168,7 +170,8 @@ impl Directory {
     ///
     /// The original: `W_NumLumps`, w_wad.c.
     pub fn count(&self) -> u32
-        ensures { result ≡ length self.now.lumps }
+        ensures count { result ≡ length self.now.lumps }
+        ensures few { result < 2 ^ 16 }
     {
         self.list.len() as u32
     }
