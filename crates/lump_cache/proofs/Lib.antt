@@ -2,6 +2,8 @@ pub mod FillLemmas
 pub mod FaithLemmas
 pub mod RestLemmas
 pub mod RoomLemmas
+pub mod RoomButLemmas
+pub mod FitLemmas
 pub mod RestButLemmas
 pub mod WriteLemmas
 pub mod OrderLemmas

@@ -137,6 +137,15 @@ abbrev pub HasBlock : Tag → ℕ → Option Block → Type 0
 HasBlock tag size None = ⊥
 HasBlock tag size (Some b) = HasUse tag size b.holding
 
+-- a live block of so many bytes
+abbrev pub IsAsked : ℕ → Option Holding → Type 0
+IsAsked size None = ⊥
+IsAsked size (Some h) = h.asked ≡ size
+
+abbrev pub HasAsked : ℕ → Option Block → Type 0
+HasAsked size None = ⊥
+HasAsked size (Some b) = IsAsked size b.holding
+
 abbrev pub cache_told : CacheFault → Told ⊥
 cache_told (ZoneFull wanted widest) = zone_full wanted widest
 cache_told ReadFault = read_failed

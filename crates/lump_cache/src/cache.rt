@@ -1,7 +1,7 @@
 // The cache and its calls.
 //
 // Rules: `specs/Caches`, over `zone_rules`. The original: w_wad.c.
-ghost use Rattle.std.specs.Prelude.{◌≡◌, ◌<◌, ◌+◌, ◌↔◌, ◌∷◌, ℕ, List, length, false, true, Ok, Err, Some, None, All, IfOk, IfSome, IsOk, IsErr, IfErr, OnOk, OnErr, IsNone, IsTrue, option_map};
+ghost use Rattle.std.specs.Prelude.{◌≡◌, ◌<◌, ◌≤◌, ◌+◌, ◌*◌, ◌↔◌, [], ◌∷◌, ℕ, List, length, false, true, Ok, Err, Some, None, All, IfOk, IfSome, IsOk, IsErr, IfErr, OnOk, OnErr, IsNone, IsTrue, option_map};
 ghost use Rattle.std.specs.Option.{option_copied};
 ghost use Rattle.std.specs.Borrow.{sem};
 ghost use Rattle.zone_heap.specs.Calls.{PairCalled};
@@ -17,7 +17,7 @@ ghost use Rattle.zone_rules.specs.Requests.{gaps, total, widest, without_room, T
 ghost use Rattle.zone_rules.specs.Frees.{without_block, with_bytes};
 ghost use Rattle.zone_rules.specs.Loans.{after_loan};
 ghost use Rattle.zone_rules.specs.Orders.{Item, has_item, AreRoomy, IsInOrder, KeepsOrder};
-ghost use Rattle.lump_cache.specs.Caches.{lump_owner, composite_owner, with_tag_unless_static, release_heap, is_static_tag, is_full, WhereFull, LeftBy, GivesBack, NoRoom, HasBlock, KeptOrPurged, IsFaithful, IsAtRest, IsAtRestBut, IsEmpty, IsPinned, KeepsCounts, cache_told};
+ghost use Rattle.lump_cache.specs.Caches.{lump_owner, composite_owner, with_tag_unless_static, release_heap, is_static_tag, is_full, WhereFull, LeftBy, GivesBack, NoRoom, HasBlock, HasAsked, KeptOrPurged, IsFaithful, IsAtRest, IsAtRestBut, IsEmpty, IsPinned, KeepsCounts, cache_told};
 
 use crate::fault::CacheFault;
 use crate::read::{lump_slot, read_into};
@@ -109,6 +109,7 @@ fn fetch_lump<S: Shelf>(
     ensures hit { IsLive zone.old (lump_owner lump.0) → (result ≡ Ok tt) × (shelf.new ≡ shelf.old) × (zone.new ≡ with_tag_unless_static (lump_owner lump.0) tag zone.old) }
     ensures full { WhereFull result (NoRoom (lump_at dir.now.lumps lump.0).size zone.old) }
     ensures room { (colormap size : ℕ) → IsAtRest colormap size zone.old → WhereFull result (λ wanted widest'. zone.old.size < block_size size + wanted + MIN_FRAGMENT) }
+    ensures room_but { (colormap count : ℕ) (o : Owner) (asked : ℕ) → IsAtRestBut colormap count (o ∷ []) zone.old → same_owner (lump_owner colormap) o ≡ false → HasAsked asked (owned_block o zone.old.blocks) → WhereFull result (λ wanted widest'. zone.old.size < block_size count + block_size asked + 2 * wanted + 2 * MIN_FRAGMENT) }
     ensures full_where { IsNone (holding_of (lump_owner lump.0) zone.old.blocks) → All (λ g. total g < block_size (lump_at dir.now.lumps lump.0).size) (gaps zone.old.blocks) → is_full result ≡ true }
     ensures block { OnOk result (IsNone (holding_of (lump_owner lump.0) zone.old.blocks) → HasBlock tag (lump_at dir.now.lumps lump.0).size (owned_block (lump_owner lump.0) zone.new.blocks)) }
     ensures ok { OnOk result (IsNone (holding_of (lump_owner lump.0) zone.old.blocks) → TakesBlock zone.old zone.new (lump_owner lump.0) (lump_at dir.now.lumps lump.0).size tag) }
@@ -207,9 +208,13 @@ impl LumpCache {
     }
 
     /// The bytes of a lump, or None exactly where it is not live.
+    ///
+    /// A zone at rest has room for a block of the colormap's size and one of as many bytes as are
+    /// lent, unless the lump is the colormap.
     pub fn bytes(&self, lump: LumpNo) -> Option<&[u8]>
         requires { lump.0 < self.now.lumps }
-        ensures { option_copied result ≡ bytes_of (lump_owner lump.0) self.now.blocks }
+        ensures value { option_copied result ≡ bytes_of (lump_owner lump.0) self.now.blocks }
+        ensures fits { (colormap count : ℕ) → IsAtRest colormap count self.now → same_owner (lump_owner colormap) (lump_owner lump.0) ≡ false → IfSome (option_copied result) (λ bytes. block_size count + block_size (length bytes) ≤ self.now.size) }
     {
         self.zone.bytes(lump_slot(lump))
     }
@@ -220,6 +225,10 @@ impl LumpCache {
     /// Errors: `ZoneFull` exactly where the slot is empty and no gap holds the block; `ReadFault` only
     /// where the shelf's count of faults rose, and never over a steady shelf with the files that the
     /// directory was loaded from. After either the slot is empty, and every pinned block stands.
+    ///
+    /// A zone that had no room is small. At rest it has fewer bytes than a block for the colormap, the
+    /// wanted block and `MIN_FRAGMENT`. While one more block may be pinned, as that of a composite, it
+    /// has fewer than a block for each of the two, twice the wanted block and twice `MIN_FRAGMENT`.
     ///
     /// Where the cache is in order for a list that has the lump, it stays so after Ok, no slot is
     /// emptied, and `ZoneFull` does not come.
@@ -237,6 +246,7 @@ impl LumpCache {
         ensures hit { IsLive self.old (lump_owner lump.0) → (result ≡ Ok tt) × (shelf.new ≡ shelf.old) × (self.new ≡ with_tag_unless_static (lump_owner lump.0) tag self.old) }
         ensures full { WhereFull result (NoRoom (lump_at dir.now.lumps lump.0).size self.old) }
         ensures room { (colormap size : ℕ) → IsAtRest colormap size self.old → WhereFull result (λ wanted widest'. self.old.size < block_size size + wanted + MIN_FRAGMENT) }
+        ensures room_but { (colormap count : ℕ) (o : Owner) (asked : ℕ) → IsAtRestBut colormap count (o ∷ []) self.old → same_owner (lump_owner colormap) o ≡ false → HasAsked asked (owned_block o self.old.blocks) → WhereFull result (λ wanted widest'. self.old.size < block_size count + block_size asked + 2 * wanted + 2 * MIN_FRAGMENT) }
         ensures full_where { IsNone (holding_of (lump_owner lump.0) self.old.blocks) → All (λ g. total g < block_size (lump_at dir.now.lumps lump.0).size) (gaps self.old.blocks) → is_full result ≡ true }
         ensures block { OnOk result (IsNone (holding_of (lump_owner lump.0) self.old.blocks) → HasBlock tag (lump_at dir.now.lumps lump.0).size (owned_block (lump_owner lump.0) self.new.blocks)) }
         ensures ok { OnOk result (IsNone (holding_of (lump_owner lump.0) self.old.blocks) → TakesBlock self.old self.new (lump_owner lump.0) (lump_at dir.now.lumps lump.0).size tag) }
@@ -278,11 +288,15 @@ impl LumpCache {
     ///
     /// Errors: `ZoneFull` exactly where no gap holds the block. It does not come where the cache is
     /// in order for a list that has the composite with that size.
+    ///
+    /// A zone at rest that had no room is small: it has fewer bytes than a block for the colormap, the
+    /// wanted block and `MIN_FRAGMENT`.
     pub fn take_composite(&mut self, number: u32, size: u32) -> Result<(), ZoneFull>
         requires in_range { number < self.old.composites }
         requires empty { IsNone (holding_of (composite_owner number) self.old.blocks) }
         ensures full { IsErr result ↔ All (λ g. total g < block_size size) (gaps self.old.blocks) }
         ensures report { IfErr result (λ e. (e.wanted ≡ block_size size) × (e.widest ≡ widest (gaps self.old.blocks))) }
+        ensures room { (colormap count : ℕ) → IsAtRest colormap count self.old → IfErr result (λ e. self.old.size < block_size count + e.wanted + MIN_FRAGMENT) }
         ensures err { OnErr result (self.new ≡ without_room (block_size size) self.old) }
         ensures ok { OnOk result (TakesBlock self.old self.new (composite_owner number) size Level) }
         ensures empty { OnErr result (owned_block (composite_owner number) self.new.blocks ≡ None) }
@@ -300,9 +314,13 @@ impl LumpCache {
     }
 
     /// The bytes of a composite, or None exactly where it is not live.
+    ///
+    /// A zone at rest has room for a block of the colormap's size and one of as many bytes as are
+    /// lent.
     pub fn composite(&self, number: u32) -> Option<&[u8]>
         requires { number < self.now.composites }
-        ensures { option_copied result ≡ bytes_of (composite_owner number) self.now.blocks }
+        ensures value { option_copied result ≡ bytes_of (composite_owner number) self.now.blocks }
+        ensures fits { (colormap count : ℕ) → IsAtRest colormap count self.now → IfSome (option_copied result) (λ bytes. block_size count + block_size (length bytes) ≤ self.now.size) }
     {
         self.zone.bytes(composite_slot(number))
     }

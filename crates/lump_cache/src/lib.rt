@@ -1,8 +1,9 @@
 //! The lump cache: lumps and composites in the blocks of a zone, read when they are first asked for.
 //!
 //! Rules: `specs/Caches`, over `zone_rules`. Proved: what `fetch` answers over any shelf, what it
-//! reads, and what each call keeps of a cache that is faithful to its files, of one at rest, and of
-//! one in order. Tested only: that memory is found. The original: `W_CacheLumpNum`, w_wad.c.
+//! reads, how small a zone is that had no room, that what is lent has room beside the colormap, and
+//! what each call keeps of a cache that is faithful to its files, of one at rest, and of one in order.
+//! Tested only: that memory is found. The original: `W_CacheLumpNum`, w_wad.c.
 #![tactic(auto)]
 
 mod cache;

@@ -1,13 +1,14 @@
-use Rattle.std.proofs.Common.{◌≡◌, ◌∙◌, ◌<◌, ap, sym, subst, false, [], None, refl, arith}
-use Rattle.std.specs.Prelude.{OnErr, OnOk, IsErr, All}
+use Rattle.std.proofs.Common.{◌≡◌, ◌∙◌, ℕ, ◌+◌, ◌<◌, ap, sym, subst, false, [], None, refl, arith}
+use Rattle.std.specs.Prelude.{OnErr, OnOk, IsErr, IfErr, All}
 use Rattle.zone_rules.specs.declared.Tag.TheVariants.{Level}
 use Rattle.zone_rules.specs.Zones.{Heap, Owner, IsSound, owner_at, owned_block, same_owner, block_size}
 use Rattle.zone_rules.specs.Requests.{without_room, block_left, passed_blocks, stretches, TakesBlock, gaps, total}
-use Rattle.lump_cache.specs.Caches.{KeptOrPurged, IsUnpinned, composite_owner}
+use Rattle.lump_cache.specs.Caches.{KeptOrPurged, IsAtRest, IsUnpinned, composite_owner}
 use Rattle.lump_cache.proofs.FillLemmas.{left_kept, kept_along, takes_use, on_ok, on_err}
 use Rattle.lump_cache.proofs.RestLemmas.{kept_pinned}
 use Rattle.lump_cache.proofs.RestButLemmas.{rest_but_none, rest_of_none, rest_but_more, rest_but_same, passing_after}
 use Rattle.lump_cache.proofs.OrderLemmas.{order_answer}
+use Rattle.lump_cache.proofs.RoomLemmas.{room_err}
 use Rattle.lump_cache.proofs.cache.LumpCache.take_composite.Goals as goal
 use Rattle.lump_cache.proofs.cache.LumpCache.take_composite.Goals.{After-malloc}
 
@@ -34,6 +35,11 @@ takes : (c : After-malloc) → OnOk c.malloc.result (TakesBlock c.args.self.now 
 takes c =
     subst (λ (z : Heap). OnOk c.malloc.result (TakesBlock z c.malloc.new.self (composite_owner c.args.number) c.args.size Level)) c.self.view_is
     (subst (λ n. OnOk c.malloc.result (TakesBlock c.self.inside.zone c.malloc.new.self (owner_at 1 n) c.args.size Level)) c.composite_slot.ensures c.malloc.ensures.ok)
+
+pub returns-clause-room : goal.returns-clause-room
+returns-clause-room c =
+    let P : Heap → Type 0 = λ z. (colormap count : ℕ) → IsAtRest colormap count z → IfErr c.malloc.result (λ e. z.size < block_size count + e.wanted + 64) in
+    subst P c.self.view_is (room_err c.malloc.result c.args.size c.self.inside.zone c.self.invariant c.malloc.ensures.full.0 c.malloc.ensures.report)
 
 pub returns-clause-rest : goal.returns-clause-rest
 returns-clause-rest c = λ colormap size r.

@@ -1,0 +1,102 @@
+-- The room of a zone where one block beside the colormap's is pinned: what no gap of it holds has no
+-- place before that block, and none behind it.
+use Rattle.std.proofs.Common.{◌≡◌, ℕ, ◌+◌, ◌*◌, ◌<◌, Bool, true, false, not, List, [], ◌∷◌, ◌++◌, Option, Some, None, refl, sym, subst, ap, ◌∙◌, arith, Result, Ok, Err}
+use Rattle.std.proofs.lemmas.Bool.{cond-true, cond-false, or_from}
+use Rattle.std.proofs.lemmas.List.Sums.{sum_by-append}
+use Rattle.zone_rules.specs.Zones.{Owner, Block, Heap, IsSound, Unique, OwnsOnce, Lacks, AllFit, FitsHolding, is_pinned, is_held_by, same_owner, owned_block, block_size}
+use Rattle.zone_rules.specs.Requests.{gaps, total}
+use Rattle.zone_rules.proofs.GapLemmas.{total-cons}
+use Rattle.zone_rules.proofs.OwnerLemmas.{owner_eq, none_owned, lacks_held}
+use Rattle.lump_cache.specs.declared.fault.CacheFault.{CacheFault}
+use Rattle.lump_cache.specs.declared.fault.CacheFault.TheVariants.{ZoneFull, ReadFault}
+use Rattle.lump_cache.specs.Caches.{IsAtRestBut, HasAsked, IsUnpinned, WhereFull, NoRoom, lump_owner}
+use Rattle.lump_cache.proofs.RoomLemmas.{AllSmall, AllOpen, OthersOpen, Behind, first_small, open_small, gaps_behind, owner_turned, others_behind, front_open, all_open, asked_size, behind}
+
+open-append : (xs ys : List Block) → AllOpen xs → AllOpen ys → AllOpen (xs ++ ys)
+open-append [] ys a k = k
+open-append (x ∷ xs) ys a k = (a.0, open-append xs ys a.1 k)
+
+-- a block with others before and behind it, of which none is pinned
+record Around (b : Block) (bs : List Block) : Type 0 where
+  front : List Block
+  back : List Block
+  is : bs ≡ front ++ (b ∷ back)
+  open_front : AllOpen front
+  open_back : AllOpen back
+
+-- the one owner whose block may be pinned
+module _ (o : Owner) (b : Block) where
+  around_step : (c : Block) (bs : List Block) → OwnsOnce c.holding bs → Unique bs → OthersOpen o (c ∷ bs) → (owned_block o bs ≡ Some b → Around b bs) → owned_block o (c ∷ bs) ≡ Some b → (t : Bool) → is_held_by o c ≡ t → Around b (c ∷ bs)
+  around_step c bs once u k later e true h =
+      let s : Some c ≡ Some b = sym (cond-true (is_held_by o c) (Some c) (owned_block o bs) h) ∙ e in
+      let d : c ≡ b = cc in
+      let here : Around c (c ∷ bs) = record { front = []; back = bs; is = refl; open_front = tt; open_back = all_open o bs u (lacks_held o c.holding bs h once) (others_behind o c bs once k) } in
+      subst (λ (x : Block). Around x (c ∷ bs)) d here
+  around_step c bs once u k later e false h =
+      let r = later (sym (cond-false (is_held_by o c) (Some c) (owned_block o bs) h) ∙ e) in
+      record { front = c ∷ r.front; back = r.back; is = ap (λ xs. c ∷ xs) r.is; open_front = (front_open o c bs c.holding refl h k, r.open_front); open_back = r.open_back }
+
+  around : (bs : List Block) → Unique bs → OthersOpen o bs → owned_block o bs ≡ Some b → Around b bs
+  around [] u k e = cc
+  around (c ∷ bs) u k e = around_step c bs u.0 u.1 k (around bs u.1 (others_behind o c bs u.0 k)) e (is_held_by o c) refl
+
+  -- a block that an owner holds has a size that fits
+  pub owned_fits : (lumps composites : ℕ) (bs : List Block) → AllFit lumps composites bs → owned_block o bs ≡ Some b → FitsHolding lumps composites b.size b.holding
+  owned_fits lumps composites [] f e = cc
+  owned_fits lumps composites (c ∷ bs) f e = go (is_held_by o c) refl (owned_fits lumps composites bs f.1) where
+    go : (t : Bool) → is_held_by o c ≡ t → (owned_block o bs ≡ Some b → FitsHolding lumps composites b.size b.holding) → FitsHolding lumps composites b.size b.holding
+    go true h later =
+        let s : Some c ≡ Some b = sym (cond-true (is_held_by o c) (Some c) (owned_block o bs) h) ∙ e in
+        let d : c ≡ b = cc in
+        subst (λ (x : Block). FitsHolding lumps composites x.size x.holding) d f.0
+    go false h later = later (sym (cond-false (is_held_by o c) (Some c) (owned_block o bs) h) ∙ e)
+
+-- at most two gaps
+two_gaps : (w : ℕ) (b : Block) (bs : List Block) → 0 < w → Around b bs → AllSmall w (gaps bs) → total bs < b.size + 2 * w
+two_gaps w b bs some r k = go (is_pinned b) refl where
+  small : AllSmall w (gaps (r.front ++ (b ∷ r.back)))
+  small = subst (λ xs. AllSmall w (gaps xs)) r.is k
+
+  sum : total bs ≡ total r.front + (b.size + total r.back)
+  sum = ap total r.is ∙ sum_by-append (λ (c : Block). c.size) r.front (b ∷ r.back) ∙ ap (λ n. total r.front + n) (total-cons b r.back)
+
+  go : (t : Bool) → is_pinned b ≡ t → total bs < b.size + 2 * w
+  go true p =
+      let f = first_small w r.front (b ∷ r.back) some r.open_front (ap not p) small in
+      let s = open_small w r.back some r.open_back (subst (AllSmall w) (gaps_behind b r.back p) f.1) in
+      omega (arith, f.0, s, sum)
+  go false p =
+      let s = open_small w (r.front ++ (b ∷ r.back)) some (open-append r.front (b ∷ r.back) r.open_front (p, r.open_back)) small in
+      let e = ap total r.is in
+      omega (arith, s, e)
+
+-- a zone at rest but for a block of so many bytes
+module _ (colormap size : ℕ) (o : Owner) (asked : ℕ) (z : Heap) (rest : IsAtRestBut colormap size (o ∷ []) z) (apart : same_owner (lump_owner colormap) o ≡ false) where
+  -- behind the colormap's block no other than the owner's is pinned
+  others_open : (r : Behind (lump_owner colormap) size z) → OthersOpen o r.rest
+  others_open r q h = go (same_owner (lump_owner colormap) q) refl where
+    go : (t : Bool) → same_owner (lump_owner colormap) q ≡ t → IsUnpinned (owned_block q r.rest)
+    go true e = subst IsUnpinned (sym (none_owned q r.rest (subst (λ (p : Owner). Lacks p r.rest) (owner_eq (lump_owner colormap) q e) r.lacks))) tt
+    go false e = subst IsUnpinned (r.owned q e) (rest.others q e (or_from (same_owner q o) false (owner_turned o q h) refl))
+
+  -- where no gap of it holds a block, the zone is smaller than both pinned blocks, that block twice, and the
+  -- most that both may have too much
+  pub rest_but_room : (w : ℕ) → 0 < w → HasAsked asked (owned_block o z.blocks) → IsSound z → AllSmall w (gaps z.blocks) → z.size < block_size size + block_size asked + 2 * w + 128
+  rest_but_room w some has sound small =
+      let r = behind (lump_owner colormap) size z rest.block rest.place rest.static sound rest.is in
+      go r (owned_block o r.rest) refl (subst (HasAsked asked) (r.owned o apart) has) where
+        go : (r : Behind (lump_owner colormap) size z) (x : Option Block) → owned_block o r.rest ≡ x → HasAsked asked x → z.size < block_size size + block_size asked + 2 * w + 128
+        go r None e h = absurd h
+        go r (Some b) e h =
+            let few = two_gaps w b r.rest some (around o b r.rest r.unique (others_open r) e) (subst (AllSmall w) r.gaps_are small) in
+            let large = asked_size z.lumps z.composites b.size asked b.holding h (owned_fits o b z.lumps z.composites r.rest r.fits e) in
+            omega (arith, few, large, r.sum)
+
+-- the same of a call that found no room
+pub room_but_where : (result : Result (Unit {0}) CacheFault) (n : ℕ) (z : Heap) → IsSound z → WhereFull result (NoRoom n z) → (colormap size : ℕ) (o : Owner) (asked : ℕ) → IsAtRestBut colormap size (o ∷ []) z → same_owner (lump_owner colormap) o ≡ false → HasAsked asked (owned_block o z.blocks)
+    → WhereFull result (λ wanted widest'. z.size < block_size size + block_size asked + 2 * wanted + 128)
+room_but_where (Ok done) n z sound full colormap size o asked rest apart has = tt
+room_but_where (Err (ZoneFull wanted widest')) n z sound full colormap size o asked rest apart has =
+    let small = rest_but_room colormap size o asked z rest apart (block_size n) (omega arith) has sound full.none in
+    subst (λ (w : ℕ). z.size < block_size size + block_size asked + 2 * w + 128) (sym full.wanted_is) small
+room_but_where (Err ReadFault) n z sound full colormap size o asked rest apart has = tt
