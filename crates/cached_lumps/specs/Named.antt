@@ -1,0 +1,19 @@
+-- Lumps that are asked for by name.
+use Rattle.std.specs.Prelude.{◌≡◌, ℕ, List, Option, Some, option_map, option_and_then}
+use Rattle.lump_rules.specs.declared.wad.Lump.{Lump}
+use Rattle.lump_rules.specs.Lookups.{last_of}
+use Rattle.zone_rules.specs.Zones.{Heap, bytes_of}
+use Rattle.wad_dir.specs.declared.directory.LumpNo.{LumpNo}
+use Rattle.lump_cache.specs.Caches.{lump_owner}
+
+-- the bytes of the last lump of a name
+abbrev pub named_bytes : (ℕ → List ℕ) → List Lump → List ℕ → Option (List ℕ)
+named_bytes bytes lumps name = option_map bytes (last_of lumps name)
+
+-- the lump is the last of a name
+abbrev pub IsLast : List Lump → List ℕ → ℕ → Type 0
+IsLast lumps name lump = last_of lumps name ≡ Some lump
+
+-- the bytes that a cache has of a lump, if there is one
+abbrev pub live_bytes : Option LumpNo → Heap → Option (List ℕ)
+live_bytes lump z = option_and_then (λ (l : LumpNo). bytes_of (lump_owner l.0) z.blocks) lump
