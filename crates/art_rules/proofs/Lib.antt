@@ -1,2 +1,3 @@
 pub mod PostLemmas
 pub mod MaskLemmas
+pub mod LookupLemmas
