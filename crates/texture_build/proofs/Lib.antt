@@ -1,6 +1,10 @@
-pub mod MaskLemmas
-pub mod PartLemmas
-pub mod IndexLemmas
-pub mod StepLemmas
-pub mod FetchLemmas
-pub mod FullLemmas
+pub mod MarkLemmas
+pub mod PlaceLemmas
+pub mod FillLemmas
+pub mod BuildLemmas
+pub mod ColumnLemmas
+pub mod EndLemmas
+pub mod ReadyLemmas
+pub mod ViewLemmas
+pub mod TexelLemmas
+pub mod PrepareLemmas

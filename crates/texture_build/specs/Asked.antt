@@ -1,37 +1,67 @@
--- The lumps that are asked for by name, and what an answer that the zone is full tells of their blocks.
-use Rattle.std.specs.Prelude.{◌≡◌, ℕ, ◌+◌, ◌<◌, List, Option, IsSomeAnd, option_map, option_and_then, ◌⊎◌}
+-- What may be asked of the zone, and how small a zone is that had no room.
+use Rattle.std.specs.Prelude.{◌≡◌, ℕ, ◌+◌, ◌*◌, ◌<◌, Bool, true, List, Contains, Option, Some, length, option_and_then, slice_get, ◌⊎◌}
 use Rattle.lump_rules.specs.declared.wad.Lump.{Lump}
-use Rattle.lump_rules.specs.Contents.{lump_bytes}
 use Rattle.lump_rules.specs.Lookups.{last_of, lump_at}
 use Rattle.zone_rules.specs.declared.TheConstants.{MIN_FRAGMENT}
-use Rattle.zone_rules.specs.Zones.{Heap, block_size, bytes_of}
-use Rattle.wad_dir.specs.declared.directory.LumpNo.{LumpNo}
-use Rattle.lump_cache.specs.Caches.{IsAtRest, lump_owner}
-use Rattle.art_rules.specs.declared.TheConstants.{PNAMES, TEXTURE1, TEXTURE2}
+use Rattle.zone_rules.specs.Zones.{Owner, Heap, block_size}
+use Rattle.zone_rules.specs.Orders.{Item, has_item}
+use Rattle.lump_cache.specs.Caches.{IsAtRest, lump_owner, composite_owner}
+use Rattle.art_rules.specs.declared.PlacedPatch.{PlacedPatch}
+use Rattle.art_rules.specs.declared.TextureEntry.{TextureEntry}
+use Rattle.art_rules.specs.declared.ColumnLookup.{ColumnLookup}
+use Rattle.art_rules.specs.declared.ColumnLookup.TheVariants.{Empty, Single, Composed}
+use Rattle.art_rules.specs.Textures.{Texture, TextureLists}
+use Rattle.art_rules.specs.Columns.{composite_size}
+use Rattle.art_rules.specs.Wanted.{PreparedTexture}
 
--- the bytes of the last lump of a name
-abbrev pub named_bytes : List (List ℕ) → List Lump → List ℕ → Option (List ℕ)
-named_bytes contents lumps name = option_map (lump_bytes contents lumps) (last_of lumps name)
+-- the lump of a patch's name
+abbrev pub patch_lump : List Lump → List (List ℕ) → TextureEntry → Option ℕ
+patch_lump lumps names entry = option_and_then (last_of lumps) (slice_get names entry.number)
 
--- the bytes that a cache has of a lump, if there is one
-abbrev pub live_bytes : Option LumpNo → Heap → Option (List ℕ)
-live_bytes lump z = option_and_then (λ (l : LumpNo). bytes_of (lump_owner l.0) z.blocks) lump
+-- a patch of a wanted texture
+pub record IsWantedPatch (lumps : List Lump) (lists : TextureLists) (wanted : ℕ → Bool) (lump : ℕ) : Type 0 where
+  pub number : ℕ
+  pub texture : Texture
+  pub at : slice_get lists.textures number ≡ Some texture
+  pub chosen : wanted number ≡ true
+  pub entry : TextureEntry
+  pub among : Contains texture.patches entry
+  pub is : patch_lump lumps lists.names entry ≡ Some lump
 
--- the size of the block of the last lump of a name
-abbrev pub IsNamedBlock : List Lump → List ℕ → ℕ → Type 0
-IsNamedBlock lumps name wanted = IsSomeAnd (last_of lumps name) (λ number. wanted ≡ block_size (lump_at lumps number).size)
+-- the bytes of a prepared texture's composite
+abbrev pub size_of : PreparedTexture → ℕ
+size_of t = composite_size t.patches (length t.columns) t.height
 
--- the size of the block of a list of textures
-abbrev pub IsTextureBlock : List Lump → ℕ → Type 0
-IsTextureBlock lumps wanted = IsNamedBlock lumps TEXTURE1 wanted ⊎ IsNamedBlock lumps TEXTURE2 wanted
+-- for whom, and how many bytes: the composite of the texture of that number, or one of its patches
+abbrev pub IsComposite : ℕ → PreparedTexture → Owner → ℕ → Type 0
+IsComposite number t o size = (o ≡ composite_owner number) × (size ≡ size_of t)
 
--- the same, or that of the names of patches
-abbrev pub IsListBlock : List Lump → ℕ → Type 0
-IsListBlock lumps wanted = IsNamedBlock lumps PNAMES wanted ⊎ IsTextureBlock lumps wanted
+abbrev pub IsPatch : List Lump → PreparedTexture → Owner → ℕ → Type 0
+IsPatch lumps t o size = (patch : PlacedPatch) × Contains t.patches patch × (o ≡ lump_owner patch.lump) × (size ≡ (lump_at lumps patch.lump).size)
 
--- A block of a size that may be asked for found no gap; from a cache at rest the zone does not hold it
--- beside the colormap.
-pub record IsFullFor (IsAsked : ℕ → Type 0) (z : Heap) (wanted widest : ℕ) : Type 0 where
-  pub asked : IsAsked wanted
-  pub narrow : widest < wanted
-  pub rest : (colormap size : ℕ) → IsAtRest colormap size z → z.size < block_size size + wanted + MIN_FRAGMENT
+-- what a column asks for, by what it is read from
+abbrev pub IsAsked : List Lump → ℕ → PreparedTexture → ColumnLookup → Owner → ℕ → Type 0
+IsAsked lumps number t Empty o size = ⊥
+IsAsked lumps number t (Single lump place) o size = (o ≡ lump_owner lump) × (size ≡ (lump_at lumps lump).size)
+IsAsked lumps number t (Composed place) o size = IsComposite number t o size ⊎ IsPatch lumps t o size
+
+-- the zone does not hold a block beside the colormap of so many bytes
+abbrev pub IsSmall : ℕ → ℕ → ℕ → Type 0
+IsSmall zone colormap wanted = zone < block_size colormap + wanted + MIN_FRAGMENT
+
+-- the zone does not hold two such blocks beside the colormap and a composite
+abbrev pub IsSmallBeside : ℕ → ℕ → ℕ → ℕ → Type 0
+IsSmallBeside zone colormap composite wanted = zone < block_size colormap + block_size composite + 2 * wanted + 2 * MIN_FRAGMENT
+
+-- no gap held what a column asked for; where the cache was at rest, the zone is that small
+pub record IsFullFor (lumps : List Lump) (number : ℕ) (t : PreparedTexture) (lookup : ColumnLookup) (z : Heap) (wanted widest' : ℕ) : Type 0 where
+  pub owner : Owner
+  pub size : ℕ
+  pub asked : IsAsked lumps number t lookup owner size
+  pub wanted_is : wanted ≡ block_size size
+  pub narrow : widest' < wanted
+  pub room : (colormap count : ℕ) → IsAtRest colormap count z → IsSmall z.size count wanted ⊎ (IsPatch lumps t owner size × IsSmallBeside z.size count (size_of t) wanted)
+
+-- a list has all that a column asks for
+abbrev pub HasAsked : List Item → List Lump → ℕ → PreparedTexture → ColumnLookup → Type 0
+HasAsked items lumps number t lookup = (o : Owner) (size : ℕ) → IsAsked lumps number t lookup o size → has_item items o size ≡ true

@@ -1,5 +1,7 @@
-pub mod Asked
-pub mod Faults
-pub mod Keeps
-pub mod Parts
 pub mod Views
+pub mod Sources
+pub mod Asked
+pub mod Parts
+pub mod Composites
+pub mod Builds
+pub mod Ready

@@ -1,37 +1,37 @@
--- What is kept of each list of textures while both are read: no byte of a list.
-use Rattle.std.specs.Prelude.{ℕ, ◌+◌, List, [], ◌++◌, Option, None, Some, Result, Ok, option_map}
-use Rattle.outside.specs.Told.{and_then}
-use Rattle.word_rules.specs.Least.{or_else}
+-- A texture while its patches come one after the other.
+use Rattle.std.specs.Prelude.{◌≡◌, ℕ, List, Contains, Option, None, Some, Result, Ok, Err}
+use Rattle.lump_rules.specs.declared.wad.Lump.{Lump}
+use Rattle.art_rules.specs.declared.PlacedPatch.{PlacedPatch}
+use Rattle.art_rules.specs.declared.ColumnLookup.{ColumnLookup}
+use Rattle.art_rules.specs.declared.TextureEntry.{TextureEntry}
 use Rattle.art_rules.specs.declared.refusal.TexRefusal.{TexRefusal}
-use Rattle.art_rules.specs.Textures.{Texture, list_count, wrong_record, textures_in, first_list, second_list, unless_wrong}
+use Rattle.art_rules.specs.declared.refusal.TexRefusal.TheVariants.{MissingPatch}
+use Rattle.texture_columns.specs.Seen.{columns_with, seen_lookups}
+use Rattle.texture_build.specs.Asked.{patch_lump}
 
--- how many textures a list counts, its first wrong record, and its textures where none is wrong
-pub record ListPart : Type 0 where
-  pub count : ℕ
-  pub wrong : Option ℕ
-  pub textures : List Texture
+-- refused where a patch is missing
+unfoldable pub or_missing : {A : Type 0} → ℕ → Option A → Result A TexRefusal
+or_missing number None = Err (MissingPatch number)
+or_missing number (Some found) = Ok found
 
--- the textures of a list, none where a record is wrong
-unfoldable pub if_sound : Option ℕ → List Texture → List Texture
-if_sound None textures = textures
-if_sound (Some number) textures = []
+-- one patch more, and what each column is read from with it
+pub record PatchStep : Type 0 where
+  pub patch : PlacedPatch
+  pub columns : List ColumnLookup
 
-unfoldable pub part_of : List ℕ → ListPart
-part_of bytes = record { count = list_count bytes; wrong = wrong_record bytes; textures = if_sound (wrong_record bytes) (textures_in bytes) }
+unfoldable pub step_of : (ℕ → List ℕ) → List ColumnLookup → PlacedPatch → PatchStep
+step_of bytes columns patch = record { patch = patch; columns = columns_with (bytes patch.lump) patch columns }
 
--- the part of a list that need not be there
-unfoldable pub part_of_second : Option (List ℕ) → ListPart
-part_of_second None = record { count = 0; wrong = None; textures = [] }
-part_of_second (Some bytes) = part_of bytes
+-- the patches so far, and what each column is read from by them
+pub record PatchesPart : Type 0 where
+  pub patches : List PlacedPatch
+  pub columns : List ColumnLookup
 
--- the parts, unless their lists are refused as wholes
-unfoldable pub first_part : Option (List ℕ) → Result ListPart TexRefusal
-first_part texture1 = and_then (first_list texture1) (λ bytes. Ok (part_of bytes))
+unfoldable pub part_of : (ℕ → List ℕ) → ℕ → List PlacedPatch → PatchesPart
+part_of bytes width patches = record { patches = patches; columns = seen_lookups bytes patches width }
 
-unfoldable pub second_part : ℕ → Option (List ℕ) → Result ListPart TexRefusal
-second_part before texture2 = and_then (second_list before texture2) (λ bytes. Ok (part_of_second bytes))
-
--- the textures of two parts, refused for the first wrong record
-unfoldable pub joined_parts : ListPart → ListPart → Result (List Texture) TexRefusal
-joined_parts first second =
-    unless_wrong (or_else first.wrong (option_map (λ i. first.count + i) second.wrong)) (first.textures ++ second.textures)
+-- a patch of one of these entries
+pub record IsEntryPatch (lumps : List Lump) (names : List (List ℕ)) (entries : List TextureEntry) (lump : ℕ) : Type 0 where
+  pub entry : TextureEntry
+  pub among : Contains entries entry
+  pub is : patch_lump lumps names entry ≡ Some lump

@@ -1,72 +1,75 @@
 // The textures of a directory.
-ghost use Rattle.std.specs.Prelude.{◌≡◌, ◌<◌, ◌≤◌, ℕ, List, length, option_map, IfOk, IfSome};
-ghost use Rattle.outside.specs.Shelf.{AllStand};
+//
+// Rules: `art_rules`, Textures, Columns, Lookups and Wanted; `specs/Views`, `specs/Sources`,
+// `specs/Asked` and `specs/Composites`. The original: r_data.c.
+ghost use Rattle.std.specs.Prelude.{◌≡◌, ◌<◌, ◌≤◌, ◌+◌, ℕ, [], List, All, length, is_some, map, option_map, IfErr, IfOk, IfSome, IsSome, MatchResult, Ok, OnErr, OnOk, Some, None, ◌^◌};
+ghost use Rattle.outside.specs.Shelf.{AllStand, Follows};
 ghost use Rattle.outside.specs.Told.{Answers, HasCauses};
-ghost use Rattle.lump_rules.specs.Contents.{AllWithin};
-ghost use Rattle.lump_cache.specs.Caches.{IsFaithful};
-ghost use Rattle.art_rules.specs.Textures.{is_no_texture, mask_of, texture_at, texture_lists, texture_number};
-ghost use Rattle.texture_build.specs.Asked.{IsFullFor, IsListBlock, named_bytes};
-ghost use Rattle.texture_build.specs.Faults.{tex_told, WhereFull};
-ghost use Rattle.texture_build.specs.Keeps.{KeepsCache};
+ghost use Rattle.lump_rules.specs.Contents.{AllWithin, lump_bytes};
+ghost use Rattle.lump_rules.specs.declared.wad.Lump.{Lump};
+ghost use Rattle.lump_rules.specs.Lookups.{last_of};
+ghost use Rattle.zone_rules.specs.Zones.{owned_block};
+ghost use Rattle.zone_rules.specs.Orders.{Item, IsInOrder, KeepsOrder};
+ghost use Rattle.lump_cache.specs.Caches.{IsAtRest, IsFaithful, KeepsCounts, cache_told, composite_owner};
+ghost use Rattle.cached_lumps.specs.Calls.{IfFull, InOrderAt, IsTold, Tells};
+ghost use Rattle.cached_lumps.specs.Named.{named_bytes};
+ghost use Rattle.art_rules.specs.Bytes.{byte_at};
+ghost use Rattle.art_rules.specs.Columns.{is_single, texel};
+ghost use Rattle.art_rules.specs.Lookups.{single_place};
+ghost use Rattle.art_rules.specs.Textures.{mask_of, texture_at, texture_lists, texture_number};
+ghost use Rattle.art_rules.specs.Wanted.{patch_lumps, prepared_textures};
+ghost use Rattle.texture_lists.specs.Asked.{IsListLump};
+ghost use Rattle.texture_lists.specs.Faults.{tex_told};
+ghost use Rattle.texture_build.specs.Asked.{HasAsked, IsFullFor, IsWantedPatch, size_of};
+ghost use Rattle.texture_build.specs.Composites.{AreComposites};
+ghost use Rattle.texture_build.specs.Sources.{IsColumnLive, IsComposedColumn, column_in, column_of, own_column, source_of, IsThere};
+ghost use Rattle.texture_build.specs.Views.{AllListed, AllThere, AreTexturesOf, AreThere, IsPrepared, is_wanted, prepared_at, prepared_texture};
 
-use crate::TexFault;
-use crate::index::{index_textures, look_up};
-use crate::load::{load_both, load_names};
-use crate::records::ListedTexture;
-use art_rules::{MAX_TEXTURES, NAME_SIZE, NO_TEXTURE, PNAMES, TEXTURE1, TEXTURE2};
-use lump_cache::LumpCache;
-use lump_rules::Name8;
-use outside::{OutOfMemory, Shelf};
+use crate::column::{Column, lend_column};
+use crate::prepare::prepare_wanted;
+use crate::prepared_list::PreparedList;
+use crate::ready::make_ready;
+use crate::source::{ColumnSource, posts_place, source_of};
+use art_rules::{MAX_COMPOSITE, MAX_TEXTURES, PNAMES, TEXTURE1, TEXTURE2};
+use lump_cache::{CacheFault, LumpCache};
+use lump_rules::{MAX_LUMPS, Name8};
+use outside::Shelf;
 use std::alloc::Global;
-use std::collections::BTreeMap;
 use std::marker::Model;
-use wad_dir::Directory;
+use texture_lists::{ListedTextures, TexFault, TexNo};
+use wad_dir::{Directory, LumpNo};
 
-/// The number of a texture: its index among those of TEXTURE1 and then TEXTURE2. On a wall number 0
-/// draws nothing.
-#[derive(Clone, Copy, Debug, PartialEq, Eq)]
-pub struct TexNo(pub u16);
-
-/// The textures of a directory. Contracts see the lists that were read.
+/// The textures of a directory. Contracts see the lists, and by number what is prepared.
 ///
 /// The original: `textures`, r_data.c.
 #[derive(Drop)]
 pub struct Textures {
-    names: Vec<Name8>,
-    textures: Vec<ListedTexture>,
-    // the least texture of each name
-    index: BTreeMap<[u8; NAME_SIZE], u16>,
+    lists: ListedTextures,
+    prepared: PreparedList,
 }
 
 impl Model for Textures {
-    ghost use Rattle.std.specs.Prelude.{◌≡◌, ◌≤◌, ℕ, List, length};
-    ghost use Rattle.art_rules.specs.declared.TheConstants.{MAX_TEXTURES};
-    ghost use Rattle.art_rules.specs.Textures.{least_named};
-    ghost use Rattle.texture_build.specs.Views.{TexturesView, indexed};
+    ghost use Rattle.std.specs.Prelude.{◌≤◌, length};
+    ghost use Rattle.texture_build.specs.Views.{TexturesView};
 
     ghost Value = { TexturesView };
 
-    ghost view = { λ t. record { lists = record { names = t.names.items; textures = t.textures.items } } };
+    ghost view = { λ t. record { lists = t.lists; prepared = t.prepared } };
 
-    ghost invariant = { λ t.
-        (length t.textures.items ≤ MAX_TEXTURES)
-        × ((name : List ℕ) → indexed t.index name ≡ least_named t.textures.items name) };
+    ghost invariant = { λ t. length t.prepared ≤ length t.lists.textures };
 }
 
 impl Textures {
     /// Reads the names of patches and both lists of textures: PNAMES, TEXTURE1 and, where it is
-    /// there, TEXTURE2, each the last lump of its name, fetched with the tag `Cache` one after the
-    /// other. Takes memory for the lists and an index by name; no byte of a lump is kept.
+    /// there, TEXTURE2, each the last lump of its name. No texture is prepared. Takes memory for the
+    /// lists and an index by name; no byte of a lump is kept.
     ///
     /// Errors: `Refused` with the first refusal of these lumps: `Pnames`, `Lump`, and only then
-    /// `Entry`. `ZoneFull` only where no gap of the zone held the block of one of them; a cache at
-    /// rest has such a gap where the zone holds the block beside COLORMAP's and 64 bytes. `ReadFault`
-    /// only where a call of the shelf failed. `OutOfMemory`. Whatever comes, a cache at rest is at
-    /// rest, and one that was faithful is faithful.
+    /// `Entry`. `ZoneFull` only where no gap of the zone held the block of one of them. `ReadFault`
+    /// only where the shelf's count of faults rose. `OutOfMemory`. Whatever comes, a cache at rest is
+    /// at rest, and one that was faithful is faithful.
     ///
     /// The original: `R_InitTextures`, r_data.c, which ends the program there.
-    ///
-    /// This project's own: both lists are judged as wholes before a record of either is.
     pub fn load<S: Shelf>(
         alloc: Global,
         dir: &Directory,
@@ -74,43 +77,72 @@ impl Textures {
         shelf: &mut S,
     ) -> Result<Textures, TexFault>
         requires { length dir.now.lumps ≤ cache.old.lumps }
-        ensures answers { (contents : List (List ℕ)) → AllStand (S.view shelf.old) dir.now.files contents → AllWithin contents dir.now.lumps → IsFaithful contents dir.now.lumps cache.old →
-            Answers tex_told (S.view shelf.old).steady (λ textures. textures.lists)
-            (texture_lists (named_bytes contents dir.now.lumps PNAMES) (named_bytes contents dir.now.lumps TEXTURE1) (named_bytes contents dir.now.lumps TEXTURE2)) result }
+        ensures tells { Tells tex_told (S.view shelf.old) (S.view shelf.new) dir.now cache.old cache.new (IsListLump dir.now.lumps) (λ textures. textures.lists) (λ bytes. texture_lists (named_bytes bytes dir.now.lumps PNAMES) (named_bytes bytes dir.now.lumps TEXTURE1) (named_bytes bytes dir.now.lumps TEXTURE2)) result }
         ensures few { IfOk result (λ textures. length textures.lists.textures ≤ MAX_TEXTURES) }
-        ensures keeps { KeepsCache dir.now.files dir.now.lumps (S.view shelf.old) (S.view shelf.new) cache.old cache.new }
-        ensures causes { HasCauses tex_told (S.view shelf.old).faults (S.view shelf.new).faults result }
-        ensures full { WhereFull result (IsFullFor (IsListBlock dir.now.lumps) cache.old) }
+        ensures unprepared { IfOk result (λ textures. textures.prepared ≡ []) }
     {
-        let names = load_names(alloc, dir, cache, shelf)?;
-        let textures = load_both(alloc, dir, cache, shelf)?;
-        Ok(Textures::new(alloc, names, textures)?)
+        let lists = ListedTextures::load(alloc, dir, cache, shelf)?;
+        Ok(Textures {
+            lists,
+            prepared: PreparedList::none(alloc),
+        })
     }
 
-    // The textures of these lists, with their index.
-    fn new(
+    /// Prepares the wanted textures, and forgets what was prepared before: finds the lumps of their
+    /// patches, and what each of their columns is read from. Takes memory for the patches and the
+    /// columns, and while it runs a byte for each texture and for each lump that there may be.
+    ///
+    /// Errors: `Refused` with the refusal of the least wanted number that has one, in whatever order
+    /// the numbers come: `MissingPatch` where a patch is not among the names of patches, its name has
+    /// no lump, or the lump is no patch; then `TooBig` where the composite has more than 65536 bytes.
+    /// `ZoneFull` only where no gap of the zone held the block of a wanted patch. `ReadFault` only
+    /// where the shelf's count of faults rose. `OutOfMemory`. After any of them no texture is
+    /// prepared, and it may be called again. Whatever comes, a cache at rest is at rest, and one that
+    /// was faithful is faithful.
+    ///
+    /// The original: `R_InitTextures`, `R_GenerateLookup` and `R_PrecacheLevel`, r_data.c, which end
+    /// the program there. This project's own: only the textures that are wanted are looked at, and a
+    /// lump that is no patch is refused.
+    pub fn prepare<S: Shelf>(
+        &mut self,
         alloc: Global,
-        names: Vec<Name8>,
-        textures: Vec<ListedTexture>,
-    ) -> Result<Textures, OutOfMemory>
-        requires { length textures.items ≤ MAX_TEXTURES }
-        ensures { IfOk result (λ t. t.lists ≡ record { names = names.items; textures = textures.items }) }
+        wanted: &[TexNo],
+        dir: &Directory,
+        cache: &mut LumpCache,
+        shelf: &mut S,
+    ) -> Result<(), TexFault>
+        requires slots { length dir.now.lumps ≤ cache.old.lumps }
+        requires below { All (λ tex. tex.0 < length self.old.lists.textures) wanted.now }
+        ensures tells { Tells tex_told (S.view shelf.old) (S.view shelf.new) dir.now cache.old cache.new (IsWantedPatch dir.now.lumps self.old.lists (is_wanted wanted.now)) (λ _. self.new.prepared) (λ bytes. prepared_textures (last_of dir.now.lumps) bytes self.old.lists (is_wanted wanted.now)) result }
+        ensures lists { self.new.lists ≡ self.old.lists }
+        ensures err { OnErr result (self.new.prepared ≡ []) }
+        ensures there { AllThere dir.now.lumps self.new }
+        ensures listed { AllListed self.new }
+        ensures wanted { OnOk result (All (λ tex. IsPrepared self.new tex.0) wanted.now) }
     {
-        let index = index_textures(alloc, &textures)?;
-        Ok(Textures {
-            names,
-            textures,
-            index,
-        })
+        self.prepared = PreparedList::none(alloc);
+        self.prepared = prepare_wanted(alloc, wanted, &self.lists, dir, cache, shelf)?;
+        Ok(())
+    }
+
+    /// The lists of textures, prepared or not. Takes no memory.
+    ///
+    /// The original: `textures`, r_data.c.
+    pub fn lists(&self) -> &ListedTextures
+        ensures { result.now ≡ self.now.lists }
+    {
+        &self.lists
     }
 
     /// How many textures there are, at most 32767.
     ///
     /// The original: `numtextures`, r_data.c.
     pub fn count(&self) -> u32
-        ensures { result ≡ length self.now.lists.textures }
+        ensures value { result ≡ length self.now.lists.textures }
+        ensures few { result ≤ MAX_TEXTURES }
+        ensures prepared { length self.now.prepared ≤ result }
     {
-        self.textures.len() as u32
+        self.lists.count()
     }
 
     /// The number of a texture's name: 0 where its first byte is `-`, else the least texture of that
@@ -119,18 +151,21 @@ impl Textures {
     /// `None` exactly where the name does not begin with `-` and no texture has it.
     ///
     /// The original: `R_CheckTextureNumForName`, r_data.c.
-    #[tactic(auto, unfolding(art_rules::specs::Textures::texture_number))]
     pub fn number(&self, name: &Name8) -> Option<TexNo>
         ensures found { option_map (λ tex. tex.0) result ≡ texture_number self.now.lists.textures name.now }
         ensures there { IfSome result (λ tex. 0 < tex.0 → tex.0 < length self.now.lists.textures) }
     {
-        if is_no_texture(name) {
-            return Some(TexNo(0));
-        }
-        match look_up(&self.index, name) {
-            Some(number) => Some(TexNo(number)),
-            None => None,
-        }
+        self.lists.number(name)
+    }
+
+    /// The columns of a texture.
+    ///
+    /// The original: `texture_t.width`, r_data.c.
+    pub fn width(&self, tex: TexNo) -> u16
+        requires { tex.0 < length self.now.lists.textures }
+        ensures { result ≡ (texture_at self.now.lists.textures tex.0).width }
+    {
+        self.lists.width(tex)
     }
 
     /// The rows of a texture.
@@ -140,7 +175,7 @@ impl Textures {
         requires { tex.0 < length self.now.lists.textures }
         ensures { result ≡ (texture_at self.now.lists.textures tex.0).height }
     {
-        self.textures[tex.0 as usize].height()
+        self.lists.height(tex)
     }
 
     /// The mask of a texture's columns: 1 less than the greatest power of two that is at most its
@@ -151,14 +186,140 @@ impl Textures {
         requires { tex.0 < length self.now.lists.textures }
         ensures { result ≡ mask_of (texture_at self.now.lists.textures tex.0).width }
     {
-        self.textures[tex.0 as usize].mask()
+        self.lists.mask(tex)
     }
-}
 
-// A name that stands for no texture.
-#[tactic(auto, unfolding(art_rules::specs::Textures::is_no_texture))]
-fn is_no_texture(name: &Name8) -> bool
-    ensures { result ≡ is_no_texture name.now }
-{
-    name.bytes()[0] == NO_TEXTURE
+    /// Whether a texture is prepared. Not before the first `prepare`, nor after one that fails.
+    ///
+    /// This project's own.
+    pub fn is_prepared(&self, tex: TexNo) -> bool
+        ensures { result ≡ is_some (prepared_at self.now.prepared tex.0) }
+    {
+        self.prepared.is_prepared(tex.0)
+    }
+
+    /// The last column of a prepared texture, counted from its left one, that a texture column stands
+    /// for: its mask.
+    ///
+    /// The original: `texturewidthmask`, r_data.c.
+    pub fn last_column(&self, tex: TexNo) -> u16
+        requires { IsPrepared self.now tex.0 }
+        ensures value { result ≡ mask_of (length (prepared_texture self.now tex.0).columns) }
+        ensures within { result < length (prepared_texture self.now tex.0).columns }
+    {
+        self.prepared.texture(tex.0).mask()
+    }
+
+    /// Whether exactly one patch stands in column `col` of a prepared texture, counted from its left
+    /// one.
+    ///
+    /// The original: `texturecolumnlump`, r_data.c, above 0.
+    pub fn single(&self, tex: TexNo, col: u16) -> bool
+        requires prepared { IsPrepared self.now tex.0 }
+        requires within { col < length (prepared_texture self.now tex.0).columns }
+        ensures { result ≡ is_single (prepared_texture self.now tex.0).patches col }
+    {
+        self.prepared.texture(tex.0).is_single(col)
+    }
+
+    /// Whose bytes a texture column of a prepared texture has. Of `col` the bits of the texture's
+    /// mask count.
+    ///
+    /// The original: `R_GetColumn`, r_data.c, where it reads `texturecolumnlump`.
+    pub fn source(&self, tex: TexNo, col: i32) -> ColumnSource
+        requires { IsPrepared self.now tex.0 }
+        ensures value { result ≡ source_of tex.0 (column_in (prepared_texture self.now tex.0) col) }
+        ensures there { (lumps : List Lump) → AreThere lumps (prepared_texture self.now tex.0) → IsThere lumps (column_in (prepared_texture self.now tex.0) col) }
+    {
+        source_of(tex, self.prepared.texture(tex.0).lookup(col))
+    }
+
+    /// The bytes of the composite of a prepared texture, at most 65536.
+    ///
+    /// The original: `texturecompositesize`, r_data.c.
+    pub fn composite_size(&self, tex: TexNo) -> u32
+        requires { IsPrepared self.now tex.0 }
+        ensures value { result ≡ size_of (prepared_texture self.now tex.0) }
+        ensures limit { result ≤ MAX_COMPOSITE }
+    {
+        self.prepared.texture(tex.0).size()
+    }
+
+    /// The lumps of the patches of all prepared textures, ascending and each once.
+    ///
+    /// The original: `R_PrecacheLevel`, r_data.c, where it goes over `texture->patches`.
+    pub fn patches(&self) -> &[LumpNo]
+        ensures { map (λ lump. lump.0) result.now ≡ patch_lumps self.now.prepared MAX_LUMPS }
+    {
+        self.prepared.lumps()
+    }
+
+    /// The one patch lump that a texture column of a prepared texture is read from, and the byte of
+    /// it where the posts begin. Of `col` the bits of the texture's mask count.
+    ///
+    /// The original: `R_GetColumn`, r_data.c, as `R_RenderMaskedSegRange` has it, 3 bytes on.
+    pub fn posts_place(&self, tex: TexNo, col: i32) -> (LumpNo, u64)
+        requires prepared { IsPrepared self.now tex.0 }
+        requires single { IsSome (single_place (column_in (prepared_texture self.now tex.0) col)) }
+        ensures { single_place (column_in (prepared_texture self.now tex.0) col) ≡ Some (result.0.0, result.1) }
+    {
+        posts_place(self.prepared.texture(tex.0).lookup(col))
+    }
+
+    /// Makes live what a texture column of a prepared texture is read from: the lump of its one patch,
+    /// or the composite, which is built where it is not live. Of `col` the bits of the texture's mask
+    /// count. Nothing is pinned after it. Takes no memory.
+    ///
+    /// Errors: `ZoneFull` only where no gap of the zone held the block of the lump, or of the
+    /// composite or one of its patches; `ReadFault` only where the shelf's count of faults rose. The
+    /// composite is not live then. Whatever comes, a cache at rest is at rest, one that was faithful
+    /// is faithful, and composites that had their bytes have them.
+    ///
+    /// The original: `R_GetColumn` and `R_GenerateComposite`, r_data.c.
+    pub fn ready<S: Shelf>(
+        &self,
+        cache: &mut LumpCache,
+        dir: &Directory,
+        shelf: &mut S,
+        tex: TexNo,
+        col: i32,
+    ) -> Result<(), CacheFault>
+        requires slots { length dir.now.lumps ≤ cache.old.lumps }
+        requires composite { tex.0 < cache.old.composites }
+        requires prepared { IsPrepared self.now tex.0 }
+        requires there { AreThere dir.now.lumps (prepared_texture self.now tex.0) }
+        ensures answers { (contents : List (List ℕ)) → AllStand (S.view shelf.old) dir.now.files contents → AllWithin contents dir.now.lumps → Answers cache_told (S.view shelf.old).steady (λ done. done) (Ok tt) result }
+        ensures live { OnOk result (IsColumnLive tex.0 cache.new (column_in (prepared_texture self.now tex.0) col)) }
+        ensures there { IsThere dir.now.lumps (column_in (prepared_texture self.now tex.0) col) }
+        ensures hit { IsColumnLive tex.0 cache.old (column_in (prepared_texture self.now tex.0) col) → (result ≡ Ok tt) × (shelf.new ≡ shelf.old) }
+        ensures follows { Follows (S.view shelf.old) (S.view shelf.new) }
+        ensures causes { HasCauses cache_told (S.view shelf.old).faults (S.view shelf.new).faults result }
+        ensures counts { KeepsCounts cache.old cache.new }
+        ensures rest { (colormap count : ℕ) → IsAtRest colormap count cache.old → IsAtRest colormap count cache.new }
+        ensures faithful { (contents : List (List ℕ)) → AllStand (S.view shelf.old) dir.now.files contents → IsFaithful contents dir.now.lumps cache.old → IsFaithful contents dir.now.lumps cache.new }
+        ensures composites { (contents : List (List ℕ)) → IsTold (S.view shelf.old) dir.now cache.old contents → AreComposites (lump_bytes contents dir.now.lumps) self.now cache.old → AreComposites (lump_bytes contents dir.now.lumps) self.now cache.new }
+        ensures empty { OnErr result (IsComposedColumn (column_in (prepared_texture self.now tex.0) col) → owned_block (composite_owner tex.0) cache.new.blocks ≡ None) }
+        ensures full { IfErr result (λ fault. IfFull (cache_told fault) (IsFullFor dir.now.lumps tex.0 (prepared_texture self.now tex.0) (column_in (prepared_texture self.now tex.0) col) cache.old)) }
+        ensures order { (items : List Item) → HasAsked items dir.now.lumps tex.0 (prepared_texture self.now tex.0) (column_in (prepared_texture self.now tex.0) col) → IsInOrder items cache.old →
+            MatchResult result (λ _. KeepsOrder items cache.old cache.new (S.view shelf.old).taken (S.view shelf.new).taken) (λ fault. InOrderAt (cache_told fault) (KeepsOrder items cache.old cache.new (S.view shelf.old).taken (S.view shelf.new).taken)) }
+    {
+        let texture = self.prepared.texture(tex.0);
+        make_ready(texture, u32::from(tex.0), col, dir, cache, shelf)
+    }
+
+    /// The texels of a texture column of a prepared texture; `None` exactly where the bytes that it is
+    /// read from are not live. Of `col` the bits of the texture's mask count. Takes no memory.
+    ///
+    /// The original: `R_GetColumn`, r_data.c.
+    pub fn column<'c>(&self, cache: &'c LumpCache, tex: TexNo, col: i32) -> Option<Column<'c>>
+        requires lumps { IfSome (single_place (column_in (prepared_texture self.now tex.0) col)) (λ s. s.0 < cache.now.lumps) }
+        requires composite { tex.0 < cache.now.composites }
+        requires prepared { IsPrepared self.now tex.0 }
+        ensures column { result ≡ column_of tex.0 cache.now (column_in (prepared_texture self.now tex.0) col) }
+        ensures first { IfSome result (λ column. column.first < 2 ^ 33) }
+        ensures texel { (contents : List (List ℕ)) (lumps : List Lump) → AreThere lumps (prepared_texture self.now tex.0) → IsFaithful contents lumps cache.now → AreComposites (lump_bytes contents lumps) self.now cache.now → AreTexturesOf contents lumps self.now →
+            IfSome result (λ column. (r : ℕ) → byte_at column.bytes (column.first + r) ≡ texel (lump_bytes contents lumps) (prepared_texture self.now tex.0).patches (length (prepared_texture self.now tex.0).columns) (prepared_texture self.now tex.0).height (own_column (prepared_texture self.now tex.0) col) r) }
+    {
+        lend_column(self.prepared.texture(tex.0), u32::from(tex.0), cache, col)
+    }
 }

@@ -1,0 +1,144 @@
+-- The steps by which a composite is built, one after another.
+use Rattle.std.proofs.Common.{◌≡◌, ℕ, ◌+◌, ◌<◌, ◌≤◌, false, List, [], ◌∷◌, Result, Ok, Err, refl, sym, subst, ap, ◌∙◌, arith, MatchResult, IsErrAnd}
+use Rattle.std.specs.Prelude.{IfErr, Contains, ◌*◌}
+use Rattle.std.proofs.lemmas.Result.{err_from_is_err_and}
+use Rattle.outside.specs.Causes.{Rose}
+use Rattle.outside.specs.Shelf.{ShelfView}
+use Rattle.outside.specs.Told.{Answers, HasCauses}
+use Rattle.outside.proofs.ShelfLemmas.{follows_none, follows_then, all_stand_later}
+use Rattle.lump_rules.specs.declared.wad.Lump.{Lump}
+use Rattle.lump_rules.specs.Lookups.{lump_at}
+use Rattle.zone_rules.specs.declared.TheConstants.{MIN_FRAGMENT}
+use Rattle.zone_rules.specs.Zones.{Owner, Heap, owned_block, block_size, same_owner}
+use Rattle.zone_rules.specs.Orders.{Item, KeepsOrder}
+use Rattle.zone_rules.proofs.GapLemmas.{small_all}
+use Rattle.zone_rules.proofs.OrderLemmas.{order_none, order_then}
+use Rattle.wad_dir.specs.DirectoryView.{DirectoryView}
+use Rattle.lump_cache.specs.declared.fault.CacheFault.{CacheFault}
+use Rattle.lump_cache.specs.declared.fault.CacheFault.TheVariants.{ZoneFull, ReadFault}
+use Rattle.lump_cache.specs.Caches.{HasAsked, IsAtRestBut, KeepsCounts, NoRoom, WhereFull, cache_told, composite_owner, lump_owner}
+use Rattle.cached_lumps.specs.Calls.{IfFull, InOrderAt, IsTold}
+use Rattle.art_rules.specs.declared.PlacedPatch.{PlacedPatch}
+use Rattle.art_rules.specs.Wanted.{PreparedTexture}
+use Rattle.texture_build.specs.Asked.{IsSmallBeside, size_of}
+use Rattle.texture_build.specs.Builds.{KeepsBuild, IsFullForPatch, PutsPatches}
+use Rattle.texture_build.proofs.FillLemmas.{others_none, others_then}
+
+-- an error that goes on is the same
+pub same_error : {B E : Type 0} (result : Result B E) (fault : E) (P : Result B E → Type 0) → IsErrAnd result (λ e. e ≡ fault) → P (Err fault) → P result
+same_error result fault P is k = let s = err_from_is_err_and result is in subst P (sym (s.1 ∙ ap Err s.2)) k
+
+pub counts_then : (x y z : Heap) → KeepsCounts x y → KeepsCounts y z → KeepsCounts x z
+counts_then x y z first next = (next.0 ∙ first.0, next.1 ∙ first.1, next.2 ∙ first.2)
+
+-- a call's causes, and its answer, counted from before it
+pub causes_earlier : (a b c : ℕ) (result : Result (Unit {0}) CacheFault) → a ≤ b → HasCauses cache_told b c result → HasCauses cache_told a c result
+causes_earlier a b c (Ok done) h k = record { err = tt }
+causes_earlier a b c (Err (ZoneFull wanted widest')) h k = record { err = tt }
+causes_earlier a b c (Err ReadFault) h k = record { err = rose a b c h k.err } where
+  rose : (a b c : ℕ) → a ≤ b → Rose b c → Rose a c
+  rose a b c h r = omega (arith, h, r)
+
+pub order_after : (items : List Item) (x y z : Heap) (a b c : ℕ) (result : Result (Unit {0}) CacheFault) → KeepsOrder items x y a b → MatchResult result (λ _. KeepsOrder items y z b c) (λ fault. InOrderAt (cache_told fault) (KeepsOrder items y z b c)) →
+    MatchResult result (λ _. KeepsOrder items x z a c) (λ fault. InOrderAt (cache_told fault) (KeepsOrder items x z a c))
+order_after items x y z a b c (Ok done) k next = order_then k next
+order_after items x y z a b c (Err (ZoneFull wanted widest')) k next = next
+order_after items x y z a b c (Err ReadFault) k next = tt
+
+-- no step, and one after another
+pub keeps_build_none : (number : ℕ) (view : ShelfView) (dir : DirectoryView) (z : Heap) → KeepsBuild number view view dir z z
+keeps_build_none number view dir z = record {
+  follows = follows_none view;
+  counts = (refl, refl, refl);
+  rest = λ colormap count k. k;
+  faithful = λ contents stand k. k;
+  others = others_none number z;
+  building = λ size k. k;
+}
+
+module _ {number : ℕ} {u v w : ShelfView} {dir : DirectoryView} {x y z : Heap} where
+  pub keeps_build_then : KeepsBuild number u v dir x y → KeepsBuild number v w dir y z → KeepsBuild number u w dir x z
+  keeps_build_then first next = record {
+    follows = follows_then first.follows next.follows;
+    counts = counts_then x y z first.counts next.counts;
+    rest = λ colormap count k. next.rest colormap count (first.rest colormap count k);
+    faithful = λ contents stand k. next.faithful contents (all_stand_later u v dir.files contents first.follows stand) (first.faithful contents stand k);
+    others = others_then first.others next.others;
+    building = λ size k. next.building size (first.building size k);
+  }
+
+pub told_build : {number : ℕ} {u v : ShelfView} {dir : DirectoryView} {x y : Heap} {contents : List (List ℕ)} → KeepsBuild number u v dir x y → IsTold u dir x contents → IsTold v dir y contents
+told_build {u} {v} {dir} {contents} keeps told = record {
+  stand = all_stand_later u v dir.files contents keeps.follows told.stand;
+  within = told.within;
+  faithful = keeps.faithful contents told.stand told.faithful;
+}
+
+module _ {number : ℕ} (t : PreparedTexture) {u v : ShelfView} {dir : DirectoryView} {x y : Heap} (keeps : KeepsBuild number u v dir x y) where
+  -- a zone that was full for a patch was so from the beginning
+  patch_earlier : (wanted widest' : ℕ) → IsFullForPatch dir.lumps number t y wanted widest' → IsFullForPatch dir.lumps number t x wanted widest'
+  patch_earlier wanted widest' full = record {
+    owner = full.owner;
+    size = full.size;
+    asked = full.asked;
+    wanted_is = full.wanted_is;
+    narrow = full.narrow;
+    room = λ colormap count rest building. subst (λ (n : ℕ). IsSmallBeside n count (size_of t) wanted) keeps.counts.0 (full.room colormap count (keeps.rest colormap count rest) (keeps.building (size_of t) building));
+  }
+
+  full_earlier : (result : Result (Unit {0}) CacheFault) → IfErr result (λ fault. IfFull (cache_told fault) (IsFullForPatch dir.lumps number t y)) → IfErr result (λ fault. IfFull (cache_told fault) (IsFullForPatch dir.lumps number t x))
+  full_earlier (Ok done) k = tt
+  full_earlier (Err (ZoneFull wanted widest')) k = patch_earlier wanted widest' k
+  full_earlier (Err ReadFault) k = tt
+
+-- no gap held a block of that size
+pub narrow_where : (size : ℕ) (z : Heap) (wanted widest' : ℕ) → NoRoom size z wanted widest' → widest' < wanted
+narrow_where size z wanted widest' full = omega (arith, full.wanted_is, full.widest_is, small_all (block_size size) _ (omega arith) full.none)
+
+-- the zone was full for a patch of the texture
+pub patch_full : (lumps : List Lump) (number : ℕ) (t : PreparedTexture) (patch : PlacedPatch) (z : Heap) (r : Result (Unit {0}) CacheFault) → Contains t.patches patch → WhereFull r (NoRoom (lump_at lumps patch.lump).size z) →
+    ((colormap count : ℕ) (o : Owner) (asked : ℕ) → IsAtRestBut colormap count (o ∷ []) z → same_owner (lump_owner colormap) o ≡ false → HasAsked asked (owned_block o z.blocks) → WhereFull r (λ wanted widest'. z.size < block_size count + block_size asked + 2 * wanted + 2 * MIN_FRAGMENT)) →
+    IfErr r (λ fault. IfFull (cache_told fault) (IsFullForPatch lumps number t z))
+patch_full lumps number t patch z (Ok done) among full room = tt
+patch_full lumps number t patch z (Err ReadFault) among full room = tt
+patch_full lumps number t patch z (Err (ZoneFull wanted widest')) among full room = record {
+  owner = lump_owner patch.lump;
+  size = (lump_at lumps patch.lump).size;
+  asked = (patch, among, refl, refl);
+  wanted_is = full.wanted_is;
+  narrow = narrow_where (lump_at lumps patch.lump).size z wanted widest' full;
+  room = λ colormap count rest building. room colormap count (composite_owner number) (size_of t) rest refl building.asked;
+}
+
+-- no patch is put, and some after others
+pub puts_none : (number : ℕ) (t : PreparedTexture) (n : ℕ) (view : ShelfView) (dir : DirectoryView) (z : Heap) → PutsPatches number t n n view view dir z z (Ok tt)
+puts_none number t n view dir z = record {
+  keeps = keeps_build_none number view dir z;
+  answers = λ contents stand within. record { ok = refl; err = tt };
+  causes = record { err = tt };
+  full = tt;
+  order = λ items all k. order_none items z view.taken k;
+  put = λ contents told k. k;
+}
+
+module _ {number : ℕ} {t : PreparedTexture} {i j k : ℕ} {u v w : ShelfView} {dir : DirectoryView} {x y z : Heap} where
+  pub puts_then : {result : Result (Unit {0}) CacheFault} → PutsPatches number t i j u v dir x y (Ok tt) → PutsPatches number t j k v w dir y z result → PutsPatches number t i k u w dir x z result
+  puts_then {result} first next = record {
+    keeps = keeps_build_then first.keeps next.keeps;
+    answers = λ contents stand within. subst (λ s. Answers cache_told s (λ (done : Unit {0}). done) (Ok tt) result) first.keeps.follows.steady (next.answers contents (all_stand_later u v dir.files contents first.keeps.follows stand) within);
+    causes = causes_earlier u.faults v.faults w.faults result first.keeps.follows.faults next.causes;
+    full = full_earlier t first.keeps result next.full;
+    order = λ items all ord. let before = first.order items all ord in order_after items x y z u.taken v.taken w.taken result before (next.order items all before.order);
+    put = λ contents told has. next.put contents (told_build first.keeps told) (first.put contents told has);
+  }
+
+-- a fault stops the call, wherever it would have come to
+pub puts_stop : {number : ℕ} {t : PreparedTexture} {i j : ℕ} (k : ℕ) {v w : ShelfView} {dir : DirectoryView} {x y : Heap} {fault : CacheFault} → PutsPatches number t i j v w dir x y (Err fault) → PutsPatches number t i k v w dir x y (Err fault)
+puts_stop k puts = record {
+  keeps = puts.keeps;
+  answers = puts.answers;
+  causes = puts.causes;
+  full = puts.full;
+  order = puts.order;
+  put = λ contents told has. tt;
+}

@@ -1,0 +1,172 @@
+-- A patch that is fetched and placed, and the patches of a texture one after the other.
+use Rattle.std.proofs.Common.{◌≡◌, ℕ, suc, ◌+◌, ◌<◌, List, [], ◌∷◌, ◌++◌, length, get_or, take, drop, Option, Some, None, Result, Ok, Err, refl, ap, sym, subst, ◌∙◌}
+use Rattle.std.specs.Prelude.{IfSome, option_and_then, option_map}
+use Rattle.std.proofs.Math.Seq.{split_at}
+use Rattle.std.proofs.lemmas.List.{take_more}
+use Rattle.outside.specs.Shelf.{ShelfView}
+use Rattle.outside.specs.Told.{told_above}
+use Rattle.lump_rules.specs.declared.wad.Lump.{Lump}
+use Rattle.lump_rules.specs.Lookups.{last_of}
+use Rattle.zone_rules.specs.Zones.{Heap}
+use Rattle.wad_dir.specs.DirectoryView.{DirectoryView}
+use Rattle.wad_dir.specs.declared.directory.LumpNo.{LumpNo}
+use Rattle.lump_cache.specs.declared.fault.CacheFault.{CacheFault}
+use Rattle.lump_cache.specs.declared.fault.CacheFault.TheVariants.{ZoneFull, ReadFault}
+use Rattle.lump_cache.specs.Caches.{cache_told}
+use Rattle.cached_lumps.specs.Calls.{Tells}
+use Rattle.cached_lumps.proofs.CallLemmas.{tells_above}
+use Rattle.art_rules.specs.declared.patch.Patch.{Patch}
+use Rattle.art_rules.specs.declared.PlacedPatch.{PlacedPatch}
+use Rattle.art_rules.specs.declared.ColumnLookup.{ColumnLookup}
+use Rattle.art_rules.specs.declared.TextureEntry.{TextureEntry}
+use Rattle.art_rules.specs.declared.refusal.TexRefusal.{TexRefusal}
+use Rattle.art_rules.specs.declared.refusal.TexRefusal.TheVariants.{MissingPatch}
+use Rattle.art_rules.specs.Patches.{patch_of}
+use Rattle.art_rules.specs.Wanted.{place_lump, place_patch, placed_patch, placed_patches}
+use Rattle.texture_columns.specs.Seen.{columns_with, seen_lookups}
+use Rattle.texture_columns.proofs.SeenLemmas.{columns_with-seen}
+use Rattle.texture_lists.specs.Faults.{above_cache, tex_told}
+use Rattle.texture_build.specs.Asked.{patch_lump}
+use Rattle.texture_build.specs.Parts.{PatchStep, PatchesPart, or_missing, part_of, step_of}
+
+no_refusal : ⊥ → TexRefusal
+no_refusal x = absurd x
+
+same_told : (fault : CacheFault) → tex_told (above_cache fault) ≡ told_above no_refusal (cache_told fault)
+same_told (ZoneFull wanted widest') = refl
+same_told ReadFault = refl
+
+-- a fetch, in the words of textures
+module _ {v w : ShelfView} {dir : DirectoryView} {a b : Heap} {wants : ℕ → Type 0} where
+  pub fetched_ok : (result : Result (Unit {0}) CacheFault) (done : Unit {0}) → Tells cache_told v w dir a b wants (λ (done : Unit {0}). done) (λ bytes. Ok tt) result → result ≡ Ok done → Tells tex_told v w dir a b wants (λ (done : Unit {0}). done) (λ bytes. Ok tt) (Ok done)
+  fetched_ok result done one is = tells_above no_refusal above_cache same_told (Ok done) (subst (Tells cache_told v w dir a b wants (λ (done : Unit {0}). done) (λ bytes. Ok tt)) is one)
+
+placed_lump : (entry : TextureEntry) (lump : ℕ) (patch : Option Patch) (placed : PlacedPatch) → option_map (place_patch entry lump) patch ≡ Some placed → placed.lump ≡ lump
+unfolding place_patch
+placed_lump entry lump None placed e = cc
+placed_lump entry lump (Some patch) placed e =
+    let s : place_patch entry lump patch ≡ placed = cc in ap (λ (p : PlacedPatch). p.lump) (sym s)
+
+-- where a patch was placed, it is of that lump
+pub lump_placed : (entry : TextureEntry) (lump : ℕ) (live : Option (List ℕ)) (result : Option PlacedPatch) (placed : PlacedPatch) → result ≡ option_and_then (λ bytes. option_map (place_patch entry lump) (patch_of bytes)) live → result ≡ Some placed → placed.lump ≡ lump
+lump_placed entry lump None result placed e is = cc
+lump_placed entry lump (Some bytes) result placed e is = placed_lump entry lump (patch_of bytes) placed (sym e ∙ is)
+
+placed_live : (bytes : ℕ → List ℕ) (entry : TextureEntry) (lump : ℕ) (live : Option (List ℕ)) (result : Option PlacedPatch) → live ≡ Some (bytes lump) → result ≡ option_and_then (λ bytes. option_map (place_patch entry lump) (patch_of bytes)) live → place_lump bytes entry lump ≡ result
+unfolding place_lump
+placed_live bytes entry lump live result is e = sym (ap (option_and_then (λ bytes. option_map (place_patch entry lump) (patch_of bytes))) is) ∙ sym e
+
+-- a patch of a live lump, whose bytes are known
+pub step_made : (bytes : ℕ → List ℕ) (number : ℕ) (entry : TextureEntry) (lump : ℕ) (live : Option (List ℕ)) (columns new : List ColumnLookup) (result : Option PlacedPatch) (patch : PlacedPatch) → live ≡ Some (bytes lump) →
+    result ≡ option_and_then (λ bytes. option_map (place_patch entry lump) (patch_of bytes)) live → IfSome result (λ p. IfSome live (λ xs. new ≡ columns_with xs p columns)) → result ≡ Some patch →
+    or_missing number (option_map (step_of bytes columns) (place_lump bytes entry lump)) ≡ Ok (record { patch = patch; columns = new })
+unfolding or_missing step_of
+step_made bytes number entry lump live columns new result patch known value told is =
+    let of : patch.lump ≡ lump = lump_placed entry lump live result patch value is in
+    let made : IfSome live (λ xs. new ≡ columns_with xs patch columns) = subst (λ r. IfSome r (λ p. IfSome live (λ xs. new ≡ columns_with xs p columns))) is told in
+    let same : new ≡ columns_with (bytes lump) patch columns = subst (λ o. IfSome o (λ xs. new ≡ columns_with xs patch columns)) known made in
+    ap (λ o. or_missing number (option_map (step_of bytes columns) o)) (placed_live bytes entry lump live result known value ∙ is)
+    ∙ ap (λ xs. Ok (record { patch = patch; columns = xs })) (ap (λ (n : ℕ). columns_with (bytes n) patch columns) of ∙ sym same)
+
+pub step_missing : (bytes : ℕ → List ℕ) (number : ℕ) (entry : TextureEntry) (lump : ℕ) (live : Option (List ℕ)) (columns : List ColumnLookup) (result : Option PlacedPatch) → live ≡ Some (bytes lump) →
+    result ≡ option_and_then (λ bytes. option_map (place_patch entry lump) (patch_of bytes)) live → result ≡ None →
+    or_missing number (option_map (step_of bytes columns) (place_lump bytes entry lump)) ≡ Err (MissingPatch number)
+unfolding or_missing
+step_missing bytes number entry lump live columns result known value is =
+    ap (λ o. or_missing number (option_map (step_of bytes columns) o)) (placed_live bytes entry lump live result known value ∙ is)
+
+-- the lump of a patch's name
+pub entry_lump : (lumps : List Lump) (names : List (List ℕ)) (entry : TextureEntry) (result : Option LumpNo) (lump : LumpNo) → option_map (λ (l : LumpNo). l.0) result ≡ patch_lump lumps names entry → result ≡ Some lump → patch_lump lumps names entry ≡ Some lump.0
+entry_lump lumps names entry result lump found is = sym found ∙ ap (option_map (λ (l : LumpNo). l.0)) is
+
+pub entry_none : (lumps : List Lump) (names : List (List ℕ)) (entry : TextureEntry) (result : Option LumpNo) → option_map (λ (l : LumpNo). l.0) result ≡ patch_lump lumps names entry → result ≡ None → patch_lump lumps names entry ≡ None
+entry_none lumps names entry result found is = sym found ∙ ap (option_map (λ (l : LumpNo). l.0)) is
+
+pub entry_placed : (bytes : ℕ → List ℕ) (lumps : List Lump) (names : List (List ℕ)) (entry : TextureEntry) (lump : ℕ) → patch_lump lumps names entry ≡ Some lump → place_lump bytes entry lump ≡ placed_patch (last_of lumps) bytes names entry
+unfolding placed_patch
+entry_placed bytes lumps names entry lump is = sym (ap (option_and_then (place_lump bytes entry)) is)
+
+pub entry_missing : (bytes : ℕ → List ℕ) (number : ℕ) (columns : List ColumnLookup) (lumps : List Lump) (names : List (List ℕ)) (entry : TextureEntry) → patch_lump lumps names entry ≡ None → or_missing number (option_map (step_of bytes columns) (placed_patch (last_of lumps) bytes names entry)) ≡ Err (MissingPatch number)
+unfolding placed_patch or_missing
+entry_missing bytes number columns lumps names entry is = ap (λ o. or_missing number (option_map (step_of bytes columns) (option_and_then (place_lump bytes entry) o))) is
+
+-- what a value that is not missing tells
+pub record IsFound {A B : Type 0} (f : A → B) (found : Option A) (value : B) : Type 0 where
+  pub item : A
+  pub is : found ≡ Some item
+  pub gives : f item ≡ value
+
+pub found_is : {A B : Type 0} (number : ℕ) (f : A → B) (found : Option A) (value : B) → or_missing number (option_map f found) ≡ Ok value → IsFound f found value
+unfolding or_missing
+found_is number f None value e = cc
+found_is number f (Some item) value e = record { item = item; is = refl; gives = cc }
+
+pub missing_is : {A B : Type 0} (number : ℕ) (f : A → B) (found : Option A) (reason : TexRefusal) → or_missing number (option_map f found) ≡ Err reason → (found ≡ None) × (reason ≡ MissingPatch number)
+unfolding or_missing
+missing_is number f None reason e = (refl, cc)
+missing_is number f (Some item) reason e = cc
+
+module _ (last : List ℕ → Option ℕ) (bytes : ℕ → List ℕ) (names : List (List ℕ)) where
+  whole : (ps : Option (List PlacedPatch)) → ps ≡ option_map (λ qs. [] ++ qs) ps
+  whole None = refl
+  whole (Some ps) = refl
+
+  joined : (p : Option PlacedPatch) (ps qs : Option (List PlacedPatch)) →
+      option_and_then (λ patch. option_map (λ patches. patch ∷ patches) (option_and_then (λ xs. option_map (λ ys. xs ++ ys) qs) ps)) p
+      ≡ option_and_then (λ xs. option_map (λ ys. xs ++ ys) qs) (option_and_then (λ patch. option_map (λ patches. patch ∷ patches) ps) p)
+  joined None ps qs = refl
+  joined (Some patch) None qs = refl
+  joined (Some patch) (Some xs) None = refl
+  joined (Some patch) (Some xs) (Some ys) = refl
+
+  placed_patches-append : (xs ys : List TextureEntry) → placed_patches last bytes names (xs ++ ys) ≡ option_and_then (λ ps. option_map (λ qs. ps ++ qs) (placed_patches last bytes names ys)) (placed_patches last bytes names xs)
+  unfolding placed_patches
+  placed_patches-append [] ys = whole (placed_patches last bytes names ys)
+  placed_patches-append (entry ∷ xs) ys =
+      ap (λ ps. option_and_then (λ patch. option_map (λ patches. patch ∷ patches) ps) (placed_patch last bytes names entry)) (placed_patches-append xs ys)
+      ∙ joined (placed_patch last bytes names entry) (placed_patches last bytes names xs) (placed_patches last bytes names ys)
+
+  placed_push : (entries : List TextureEntry) (entry : TextureEntry) (ps : List PlacedPatch) (patch : PlacedPatch) → placed_patches last bytes names entries ≡ Some ps → placed_patch last bytes names entry ≡ Some patch → placed_patches last bytes names (entries ++ entry ∷ []) ≡ Some (ps ++ patch ∷ [])
+  unfolding placed_patches
+  placed_push entries entry ps patch e f = placed_patches-append entries (entry ∷ []) ∙ rw (e, f) refl
+
+  placed_stop : (entries more : List TextureEntry) (entry : TextureEntry) (ps : List PlacedPatch) → placed_patches last bytes names entries ≡ Some ps → placed_patch last bytes names entry ≡ None → placed_patches last bytes names (entries ++ entry ∷ more) ≡ None
+  unfolding placed_patches
+  placed_stop entries more entry ps e f = placed_patches-append entries (entry ∷ more) ∙ rw (e, f) refl
+
+  -- before the first patch
+  pub part_none : (number width : ℕ) (columns : List ColumnLookup) → columns ≡ seen_lookups bytes [] width → or_missing number (option_map (part_of bytes width) (placed_patches last bytes names [])) ≡ Ok (record { patches = []; columns = columns })
+  unfolding placed_patches or_missing part_of
+  part_none number width columns e = ap (λ xs. Ok (record { patches = []; columns = xs })) (sym e)
+
+  -- one patch more
+  pub part_push : (number width : ℕ) (entries : List TextureEntry) (k : ℕ) (d : TextureEntry) (patches : List PlacedPatch) (columns new : List ColumnLookup) (patch : PlacedPatch) → k < length entries →
+      or_missing number (option_map (part_of bytes width) (placed_patches last bytes names (take k entries))) ≡ Ok (record { patches = patches; columns = columns }) →
+      or_missing number (option_map (step_of bytes columns) (placed_patch last bytes names (get_or entries k d))) ≡ Ok (record { patch = patch; columns = new }) →
+      or_missing number (option_map (part_of bytes width) (placed_patches last bytes names (take (k + 1) entries))) ≡ Ok (record { patches = patches ++ patch ∷ []; columns = new })
+  unfolding or_missing part_of step_of
+  part_push number width entries k d patches columns new patch l so_far step =
+      let one = found_is number (part_of bytes width) _ _ so_far in
+      let two = found_is number (step_of bytes columns) _ _ step in
+      let ps : one.item ≡ patches = ap (λ (p : PatchesPart). p.patches) one.gives in
+      let cs : seen_lookups bytes one.item width ≡ columns = ap (λ (p : PatchesPart). p.columns) one.gives in
+      let p : two.item ≡ patch = ap (λ (s : PatchStep). s.patch) two.gives in
+      let ns : columns_with (bytes two.item.lump) two.item columns ≡ new = ap (λ (s : PatchStep). s.columns) two.gives in
+      let more = ap (placed_patches last bytes names) (take_more entries k d l) ∙ placed_push (take k entries) (get_or entries k d) one.item two.item one.is two.is in
+      ap (λ o. or_missing number (option_map (part_of bytes width) o)) more
+      ∙ ap Ok (
+      ap (λ xs. record { patches = one.item ++ two.item ∷ []; columns = xs }) (sym (columns_with-seen bytes one.item two.item width) ∙ ap (columns_with (bytes two.item.lump) two.item) cs ∙ ns)
+      ∙ ap (λ xs. record { patches = xs ++ two.item ∷ []; columns = new }) ps
+      ∙ ap (λ x. record { patches = patches ++ x ∷ []; columns = new }) p)
+
+  -- a patch is missing, and none before it
+  pub part_stop : (number width : ℕ) (entries : List TextureEntry) (k : ℕ) (d : TextureEntry) (part : PatchesPart) (columns : List ColumnLookup) (reason : TexRefusal) → k < length entries →
+      or_missing number (option_map (part_of bytes width) (placed_patches last bytes names (take k entries))) ≡ Ok part →
+      or_missing number (option_map (step_of bytes columns) (placed_patch last bytes names (get_or entries k d))) ≡ Err reason →
+      or_missing number (option_map (part_of bytes width) (placed_patches last bytes names entries)) ≡ Err reason
+  unfolding or_missing
+  part_stop number width entries k d part columns reason l so_far step =
+      let one = found_is number (part_of bytes width) _ _ so_far in
+      let two = missing_is number (step_of bytes columns) _ _ step in
+      ap (λ o. or_missing number (option_map (part_of bytes width) o)) (ap (placed_patches last bytes names) (split_at entries k d l) ∙ placed_stop (take k entries) (drop (suc k) entries) (get_or entries k d) one.item one.is two.0)
+      ∙ ap Err (sym two.1)

@@ -1,0 +1,88 @@
+-- What a column is read from, made live: by each kind of column.
+use Rattle.std.proofs.Common.{◌≡◌, ℕ, ◌<◌, ◌+◌, Bool, true, false, List, Option, Some, None, Result, Ok, Err, refl, sym, subst, inl}
+use Rattle.std.specs.Prelude.{IfErr, IfSome, OnErr, OnOk, ◌==◌}
+use Rattle.std.proofs.lemmas.Bool.{eqb-true}
+use Rattle.outside.specs.Shelf.{ShelfView}
+use Rattle.outside.proofs.ShelfLemmas.{follows_none}
+use Rattle.lump_rules.specs.declared.wad.Lump.{Lump}
+use Rattle.lump_rules.specs.Lookups.{lump_at}
+use Rattle.zone_rules.specs.declared.TheConstants.{MIN_FRAGMENT}
+use Rattle.zone_rules.specs.Zones.{Block, Heap, block_size, bytes_of, owned_block}
+use Rattle.zone_rules.proofs.OrderLemmas.{order_none}
+use Rattle.wad_dir.specs.DirectoryView.{DirectoryView}
+use Rattle.lump_cache.specs.declared.fault.CacheFault.{CacheFault}
+use Rattle.lump_cache.specs.declared.fault.CacheFault.TheVariants.{ZoneFull, ReadFault}
+use Rattle.lump_cache.specs.Caches.{IsAtRest, KeptOrPurged, NoRoom, WhereFull, cache_told, composite_owner, lump_owner}
+use Rattle.lump_cache.proofs.FaithLemmas.{bytes_in, kept_bytes}
+use Rattle.cached_lumps.specs.Calls.{IfFull}
+use Rattle.art_rules.specs.declared.ColumnLookup.{ColumnLookup}
+use Rattle.art_rules.specs.declared.ColumnLookup.TheVariants.{Single}
+use Rattle.art_rules.specs.Wanted.{PreparedTexture}
+use Rattle.texture_build.specs.Asked.{IsFullFor}
+use Rattle.texture_build.specs.Builds.{OthersKeep}
+use Rattle.texture_build.specs.Composites.{AreComposites, composite_of}
+use Rattle.texture_build.specs.Ready.{Readies}
+use Rattle.texture_build.specs.Sources.{IsColumnLive}
+use Rattle.texture_build.specs.Views.{TexturesView, prepared_at}
+use Rattle.texture_build.proofs.BuildLemmas.{narrow_where}
+
+-- nothing was asked for
+pub readies_nothing : (number : ℕ) (t : PreparedTexture) (lookup : ColumnLookup) (view : ShelfView) (dir : DirectoryView) (z : Heap) → IsColumnLive number z lookup → Readies number t lookup view view dir z z (Ok tt)
+readies_nothing number t lookup view dir z live = record {
+  answers = λ contents stand within. record { ok = refl; err = tt };
+  live = live;
+  follows = follows_none view;
+  causes = record { err = tt };
+  counts = (refl, refl, refl);
+  rest = λ colormap count k. k;
+  faithful = λ contents stand k. k;
+  composites = λ contents textures is told k. k;
+  empty = tt;
+  full = tt;
+  order = λ items all k. order_none items z view.taken k;
+}
+
+-- the zone was full for the lump of a column
+pub single_full : (lumps : List Lump) (number : ℕ) (t : PreparedTexture) (lump place : ℕ) (z : Heap) (r : Result (Unit {0}) CacheFault) → WhereFull r (NoRoom (lump_at lumps lump).size z) →
+    ((colormap size : ℕ) → IsAtRest colormap size z → WhereFull r (λ wanted widest'. z.size < block_size size + wanted + MIN_FRAGMENT)) → IfErr r (λ fault. IfFull (cache_told fault) (IsFullFor lumps number t (Single lump place) z))
+single_full lumps number t lump place z (Ok done) full room = tt
+single_full lumps number t lump place z (Err ReadFault) full room = tt
+single_full lumps number t lump place z (Err (ZoneFull wanted widest')) full room = record {
+  owner = lump_owner lump;
+  size = (lump_at lumps lump).size;
+  asked = (refl, refl);
+  wanted_is = full.wanted_is;
+  narrow = narrow_where (lump_at lumps lump).size z wanted widest' full;
+  room = λ colormap count rest. inl (room colormap count rest);
+}
+
+-- composites that were kept or purged
+module _ (bytes : ℕ → List ℕ) (textures : TexturesView) (old new : Heap) where
+  abbrev is_its : ℕ → Heap → Option PreparedTexture → Type 0
+  is_its n z prepared = IfSome prepared (λ t. IfSome (bytes_of (composite_owner n) z.blocks) (λ xs. xs ≡ composite_of bytes t))
+
+  pub composites_kept : ((n : ℕ) → KeptOrPurged (owned_block (composite_owner n) old.blocks) (owned_block (composite_owner n) new.blocks)) → AreComposites bytes textures old → AreComposites bytes textures new
+  composites_kept kept k = record { at = λ n. go n (prepared_at textures.prepared n) (k.at n) } where
+    go : (n : ℕ) (prepared : Option PreparedTexture) → is_its n old prepared → is_its n new prepared
+    go n None h = tt
+    go n (Some t) h = kept_bytes (owned_block (composite_owner n) old.blocks) (owned_block (composite_owner n) new.blocks) (λ xs. xs ≡ composite_of bytes t) (kept n) h
+
+  -- and where one was built
+  others_are : (x y : Option (List ℕ)) (P : List ℕ → Type 0) → IfSome y (λ xs. x ≡ Some xs) → IfSome x P → IfSome y P
+  others_are x None P h k = tt
+  others_are x (Some xs) P h k = subst (λ (z : Option (List ℕ)). IfSome z P) h k
+
+  pub composites_built : (number : ℕ) (t : PreparedTexture) → prepared_at textures.prepared number ≡ Some t → OthersKeep number old new → IfSome (bytes_of (composite_owner number) new.blocks) (λ xs. xs ≡ composite_of bytes t) → AreComposites bytes textures old → AreComposites bytes textures new
+  composites_built number t is others here k = record { at = λ n. go n (number == n) refl } where
+    beside : (n : ℕ) (prepared : Option PreparedTexture) → (number == n) ≡ false → is_its n old prepared → is_its n new prepared
+    beside n None apart h = tt
+    beside n (Some u) apart h = others_are (bytes_of (composite_owner n) old.blocks) (bytes_of (composite_owner n) new.blocks) (λ xs. xs ≡ composite_of bytes u) (others.at n apart) h
+
+    go : (n : ℕ) (b : Bool) → (number == n) ≡ b → is_its n new (prepared_at textures.prepared n)
+    go n false e = beside n (prepared_at textures.prepared n) e (k.at n)
+    go n true e = subst (λ m. is_its m new (prepared_at textures.prepared m)) (eqb-true number n e) (subst (is_its number new) (sym is) here)
+
+-- what stands in the slot of a composite that was built, or was not
+pub built_here : {A E : Type 0} (r : Result A E) (b : Option Block) (ys : List ℕ) → OnOk r (bytes_in b ≡ Some ys) → OnErr r (b ≡ None) → IfSome (bytes_in b) (λ xs. xs ≡ ys)
+built_here (Ok value) b ys built empty = subst (λ (z : Option (List ℕ)). IfSome z (λ xs. xs ≡ ys)) (sym built) refl
+built_here (Err fault) b ys built empty = subst (λ (z : Option Block). IfSome (bytes_in z) (λ xs. xs ≡ ys)) (sym empty) tt

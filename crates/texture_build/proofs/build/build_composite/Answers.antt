@@ -1,0 +1,77 @@
+use Rattle.std.proofs.Common.{◌≡◌, ◌∙◌, [], Err, refl, subst, ap, inl, inr}
+use Rattle.std.proofs.lemmas.Result.{err_from_is_err_and}
+use Rattle.outside.proofs.ShelfLemmas.{follows_none}
+use Rattle.lump_rules.specs.Contents.{lump_bytes}
+use Rattle.lump_cache.specs.declared.fault.CacheFault.TheVariants.{ZoneFull}
+use Rattle.lump_cache.specs.Caches.{composite_owner}
+use Rattle.lump_cache.proofs.RestButLemmas.{rest_of_none}
+use Rattle.cached_lumps.specs.Calls.{IsTold}
+use Rattle.texture_build.specs.Asked.{size_of}
+use Rattle.texture_build.specs.Builds.{Begins, FailsToBegin}
+use Rattle.texture_build.proofs.FillLemmas.{building_live, others_kept, others_then}
+use Rattle.texture_build.proofs.BuildLemmas.{counts_then}
+use Rattle.texture_build.proofs.EndLemmas.{built_none, ends_live, ends_built, ends_order, composite_full, ends_full}
+use Rattle.texture_build.proofs.build.build_composite.Given.{Over}
+use Rattle.texture_build.proofs.build.build_composite.Goals as goal
+use Rattle.texture_build.proofs.build.build_composite.Goals.{In_ok-begin_composite}
+
+begins : (g : Over) (c : In_ok-begin_composite g) → Begins c.args.number (size_of c.args.texture.now) c.args.cache.now c.begin_composite.new.cache
+begins g c = subst (λ n. Begins c.args.number n c.args.cache.now c.begin_composite.new.cache) c.size.ensures.value c.in_ok-begin_composite.ensures
+
+pub returns-in_err-begin_composite : goal.returns-in_err-begin_composite
+returns-in_err-begin_composite g c =
+    let s = err_from_is_err_and c.from_residual.result c.from_residual.ensures.1 in
+    let fails : FailsToBegin c.args.number (size_of c.args.texture.now) c.args.cache.now c.begin_composite.new.cache c.in_err-begin_composite.field-0.0.wanted c.in_err-begin_composite.field-0.0.widest =
+    subst (λ n. FailsToBegin c.args.number n c.args.cache.now c.begin_composite.new.cache c.in_err-begin_composite.field-0.0.wanted c.in_err-begin_composite.field-0.0.widest) c.size.ensures.value c.in_err-begin_composite.ensures in
+    let e : c.from_residual.result ≡ Err (ZoneFull c.in_err-begin_composite.field-0.0.wanted c.in_err-begin_composite.field-0.0.widest) = s.1 ∙ ap Err s.2 in
+    record {
+      answers = λ contents stand within. rw e (record { ok = tt; err = tt });
+      live = rw e tt;
+      follows = follows_none (g.S.Shelf.view c.args.shelf.now);
+      causes = rw e (record { err = tt });
+      counts = fails.counts;
+      rest = fails.rest;
+      faithful = λ contents stand k. fails.faithful contents c.args.dir.now.lumps k;
+      composite = λ contents told. rw e tt;
+      others = fails.others;
+      empty = rw e fails.empty;
+      full = λ place. rw e (composite_full c.args.dir.now.lumps c.args.number c.args.texture.now place c.args.cache.now c.begin_composite.new.cache _ _ fails);
+      order = λ place items all k. absurd (fails.order items (all (composite_owner c.args.number) (size_of c.args.texture.now) (inl (refl, refl))) k);
+    }
+
+pub end_composite-requires-clause-live : goal.end_composite-requires-clause-live
+end_composite-requires-clause-live g c = building_live (c.put_patches-built.ensures.keeps.building (size_of c.args.texture.now) (begins g (goal.at.end_composite-requires-clause-live g c).In_ok-begin_composite).building)
+
+pub returns : goal.returns
+returns g c =
+    let o = composite_owner c.args.number in
+    let t = c.args.texture.now in
+    let old = c.args.cache.now in
+    let begun = c.begin_composite.new.cache in
+    let put = c.put_patches-built.new.cache in
+    let new = c.end_composite.new.cache in
+    let built = c.put_patches-built.result in
+    let before = (g.S.Shelf.view c.args.shelf.now).taken in
+    let after = (g.S.Shelf.view c.put_patches-built.new.shelf).taken in
+    let b = begins g (goal.at.returns g c).In_ok-begin_composite in
+    let p = c.put_patches-built.ensures in
+    let e = c.end_composite.ensures in
+    record {
+      answers = p.answers;
+      live = ends_live c.args.number put new built (building_live (p.keeps.building (size_of t) b.building)) e.released;
+      follows = p.keeps.follows;
+      causes = p.causes;
+      counts = counts_then old begun new b.counts (counts_then begun put new p.keeps.counts e.counts);
+      rest = λ colormap count k. rest_of_none colormap count new (e.rest colormap count [] (p.keeps.rest colormap count (b.rest colormap count k)));
+      faithful = λ contents stand k. e.faithful contents c.args.dir.now.lumps (p.keeps.faithful contents stand (b.faithful contents c.args.dir.now.lumps k));
+      composite = λ contents told.
+          let bytes = lump_bytes contents c.args.dir.now.lumps in
+          let later : IsTold (g.S.Shelf.view c.args.shelf.now) c.args.dir.now begun contents = record { stand = told.stand; within = told.within; faithful = b.faithful contents c.args.dir.now.lumps told.faithful } in
+          ends_built c.args.number put new built bytes t (p.put contents later (built_none bytes c.args.number t begun b.zeros)) e.released;
+      others = others_then b.others (others_then p.keeps.others (others_kept c.args.number put new (λ n apart. inl (e.others (composite_owner n) apart))));
+      empty = e.empty;
+      full = λ place. ends_full c.args.dir.now.lumps c.args.number t place old begun built b p.full;
+      order = λ place items all k.
+          let k1 = b.order items before (all o (size_of t) (inl (refl, refl))) k in
+          ends_order items old begun put new before after built k1 (p.order items (λ owner size is. all owner size (inr is)) k1.order) e.order;
+    }

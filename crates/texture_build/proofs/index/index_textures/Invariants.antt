@@ -1,8 +1,0 @@
-use Rattle.std.proofs.Common.{◌≡◌, ℕ, List}
-use Rattle.word_rules.specs.Least.{least}
-use Rattle.art_rules.specs.Textures.{is_named}
-use Rattle.texture_build.specs.Views.{indexed}
-use Rattle.texture_build.proofs.index.index_textures.Given as goal
-
-abbrev pub invariant-loop-i : goal.invariant-loop-i
-invariant-loop-i l = (name : List ℕ) → indexed l.index name ≡ least (is_named l.textures name) l.i

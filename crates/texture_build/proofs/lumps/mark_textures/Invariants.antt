@@ -1,0 +1,9 @@
+use Rattle.std.proofs.Common.{◌≡◌, ℕ, ◌<◌, false, length, get_or, take}
+use Rattle.std.specs.Prelude.{◌||◌}
+use Rattle.std.specs.List.{list_any}
+use Rattle.art_rules.specs.Wanted.{is_patch_of}
+use Rattle.texture_build.proofs.lumps.mark_textures.Given as goal
+
+abbrev pub invariant-loop-texture : goal.invariant-loop-texture
+invariant-loop-texture l =
+    (lump : ℕ) → lump < length l.initial.marks → get_or l.marks lump false ≡ (get_or l.initial.marks lump false || list_any (is_patch_of lump) (take l.texture-index l.textures))

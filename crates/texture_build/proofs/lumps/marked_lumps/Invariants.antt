@@ -1,0 +1,7 @@
+use Rattle.std.proofs.Common.{◌≡◌, false, map, filter, get_or}
+use Rattle.std.specs.List.{range_with_len}
+use Rattle.wad_dir.specs.declared.directory.LumpNo.{LumpNo}
+use Rattle.texture_build.proofs.lumps.marked_lumps.Given as goal
+
+abbrev pub invariant-loop-number : goal.invariant-loop-number
+invariant-loop-number l = map (λ (lump : LumpNo). lump.0) l.lumps.items ≡ filter (λ k. get_or l.marks k false) (range_with_len 0 l.number)

@@ -1,8 +1,0 @@
-use Rattle.std.proofs.Common.{◌≡◌, ◌+◌, ◌*◌}
-use Rattle.word_rules.specs.Listed.{listed}
-use Rattle.art_rules.specs.declared.layout.TheConstants.{COUNT_SIZE, NAME_SIZE}
-use Rattle.art_rules.specs.Textures.{name_at}
-use Rattle.texture_build.proofs.names.read_names.Given as goal
-
-abbrev pub invariant-loop-i : goal.invariant-loop-i
-invariant-loop-i l = l.names.items ≡ listed (λ i. name_at l.bytes (COUNT_SIZE + NAME_SIZE * i)) l.i

@@ -1,0 +1,73 @@
+use Rattle.std.proofs.Common.{◌+◌, ◌<◌, ◌++◌, ◌∷◌, [], ℕ, List, length, get_or, pos, take, Ok, refl, sym, subst, ap, ◌∙◌, arith}
+use Rattle.std.specs.Prelude.{All, option_map}
+use Rattle.std.proofs.lemmas.List.Elements.{Contains-get_or, All-nil, All-push}
+use Rattle.lump_rules.specs.Lookups.{last_of}
+use Rattle.cached_lumps.proofs.CallLemmas.{tells_known, tells_more, tells_stop, tells_same, tells_short}
+use Rattle.art_rules.specs.declared.ColumnLookup.{ColumnLookup}
+use Rattle.art_rules.specs.declared.PlacedPatch.{PlacedPatch}
+use Rattle.art_rules.specs.declared.TextureEntry.{TextureEntry}
+use Rattle.art_rules.specs.Wanted.{placed_patches}
+use Rattle.texture_columns.specs.Seen.{AreSeen}
+use Rattle.texture_columns.proofs.AnyBytesLemmas.{seen_all}
+use Rattle.texture_lists.specs.declared.fault.TexFault.TheVariants.{OutOfMemory}
+use Rattle.texture_build.specs.Parts.{IsEntryPatch, PatchesPart, or_missing, part_of}
+use Rattle.texture_build.proofs.PlaceLemmas.{part_none, part_push, part_stop}
+use Rattle.texture_build.proofs.place.place_patches.Goals as goal
+
+abbrev no_entry : TextureEntry
+no_entry = record { x = pos 0; y = pos 0; number = 0 }
+
+abbrev part : List PlacedPatch → List ColumnLookup → PatchesPart
+part patches columns = record { patches = patches; columns = columns }
+
+pub loop-entry-init : goal.loop-entry-init
+loop-entry-init g c = record {
+  tells = tells_known (g.S.Shelf.view c.args.shelf.now) c.args.dir.now c.args.cache.now tt
+      (λ contents told. part_none (last_of c.args.dir.now.lumps) _ c.args.lists.now.names c.args.tex.0 (length c.args.columns.now) c.args.columns.now (c.requires.empty _) ∙ ap (λ xs. Ok (part xs c.args.columns.now)) (sym c.requires.none));
+  seen = subst (λ xs. AreSeen xs c.args.columns.now) (sym c.requires.none) (seen_all (λ _. []) [] c.args.columns.now (c.requires.empty (λ _. [])));
+  there = subst (All (λ (patch : PlacedPatch). patch.lump < length c.args.dir.now.lumps)) (sym c.requires.none) (All-nil _);
+}
+
+pub loop-entry-preserved : goal.loop-entry-preserved
+loop-entry-preserved g c =
+    let entries = c.args.entries.now in
+    let k = c.loop-entry.entry-index in
+    let l : k < length entries = omega arith in
+    let inv = c.loop-entry.invariant in
+    let patches = c.loop-entry.patches.items in
+    let placed = c.in_ok-patch.patch in
+    record {
+      tells = tells_more (λ bytes. or_missing c.args.tex.0 (option_map (part_of bytes (length c.args.columns.now)) (placed_patches (last_of c.args.dir.now.lumps) bytes c.args.lists.now.names (take (k + 1) entries)))) placed tt
+          inv.tells c.place_entry.result c.place_entry.ensures.tells c.in_ok-patch.was
+          (λ lump is. record { entry = get_or entries k no_entry; among = Contains-get_or entries k no_entry l; is = is })
+          (λ bytes one two. part_push (last_of c.args.dir.now.lumps) bytes c.args.lists.now.names c.args.tex.0 (length c.args.columns.now) entries k no_entry patches c.loop-entry.columns c.place_entry.new.columns placed l one two
+          ∙ ap (λ xs. Ok (part xs c.place_entry.new.columns)) (sym c.in_ok-push.ensures.items));
+      seen = subst (λ xs. AreSeen xs c.place_entry.new.columns) (sym c.in_ok-push.ensures.items) (c.in_ok-patch.ensures.seen patches inv.seen);
+      there = subst (All (λ (patch : PlacedPatch). patch.lump < length c.args.dir.now.lumps)) (sym c.in_ok-push.ensures.items) (All-push (λ (patch : PlacedPatch). patch.lump < length c.args.dir.now.lumps) patches placed inv.there c.in_ok-patch.ensures.there);
+    }
+
+pub returns-in_err-patch-clause-tells : goal.returns-in_err-patch-clause-tells
+returns-in_err-patch-clause-tells g c =
+    let entries = c.args.entries.now in
+    let k = c.loop-entry.entry-index in
+    let l : k < length entries = omega arith in
+    let expected = λ (bytes : ℕ → List ℕ). or_missing c.args.tex.0 (option_map (part_of bytes (length c.args.columns.now)) (placed_patches (last_of c.args.dir.now.lumps) bytes c.args.lists.now.names entries)) in
+    tells_same c.from_residual.result c.in_err-patch.field-0.0 expected c.from_residual.ensures.1
+    (tells_stop expected c.in_err-patch.field-0.0 c.loop-entry.invariant.tells c.place_entry.result c.place_entry.ensures.tells c.in_err-patch.was
+    (λ lump is. record { entry = get_or entries k no_entry; among = Contains-get_or entries k no_entry l; is = is })
+    (λ bytes e one two. part_stop (last_of c.args.dir.now.lumps) bytes c.args.lists.now.names c.args.tex.0 (length c.args.columns.now) entries k no_entry _ c.loop-entry.columns e l one two))
+
+pub returns-in_err-push-clause-tells : goal.returns-in_err-push-clause-tells
+returns-in_err-push-clause-tells g c =
+    let entries = c.args.entries.now in
+    let k = c.loop-entry.entry-index in
+    let l : k < length entries = omega arith in
+    let placed = c.in_ok-patch.patch in
+    let expected = λ (bytes : ℕ → List ℕ). or_missing c.args.tex.0 (option_map (part_of bytes (length c.args.columns.now)) (placed_patches (last_of c.args.dir.now.lumps) bytes c.args.lists.now.names entries)) in
+    let value : Unit {0} → PatchesPart = λ done. part (c.loop-entry.patches.items ++ placed ∷ []) c.place_entry.new.columns in
+    let one = tells_more {wants = IsEntryPatch c.args.dir.now.lumps c.args.lists.now.names entries} {value = value}
+    (λ bytes. or_missing c.args.tex.0 (option_map (part_of bytes (length c.args.columns.now)) (placed_patches (last_of c.args.dir.now.lumps) bytes c.args.lists.now.names (take (k + 1) entries)))) placed tt
+    c.loop-entry.invariant.tells c.place_entry.result c.place_entry.ensures.tells c.in_ok-patch.was
+    (λ lump is. record { entry = get_or entries k no_entry; among = Contains-get_or entries k no_entry l; is = is })
+    (λ bytes one two. part_push (last_of c.args.dir.now.lumps) bytes c.args.lists.now.names c.args.tex.0 (length c.args.columns.now) entries k no_entry c.loop-entry.patches.items c.loop-entry.columns c.place_entry.new.columns placed l one two) in
+    tells_same c.from_residual-in_err-push.result OutOfMemory expected c.from_residual-in_err-push.ensures.1 (tells_short OutOfMemory refl (λ lump w. w) one)

@@ -1,0 +1,57 @@
+-- What a texture column is read from.
+use Rattle.std.specs.Prelude.{ℕ, ◌+◌, ◌<◌, ℤ, List, [], Option, Some, length, option_map, slice_index_or}
+use Rattle.lump_rules.specs.declared.wad.Lump.{Lump}
+use Rattle.zone_rules.specs.Zones.{Heap, IsLive, bytes_of}
+use Rattle.lump_cache.specs.Caches.{lump_owner, composite_owner}
+use Rattle.art_rules.specs.declared.ColumnLookup.{ColumnLookup}
+use Rattle.art_rules.specs.declared.ColumnLookup.TheVariants.{Empty, Single, Composed}
+use Rattle.art_rules.specs.declared.layout.TheConstants.{POST_BYTES_AT}
+use Rattle.art_rules.specs.Textures.{mask_of}
+use Rattle.art_rules.specs.Lookups.{masked_column}
+use Rattle.art_rules.specs.Wanted.{PreparedTexture}
+use Rattle.texture_build.specs.declared.source.ColumnSource.{ColumnSource}
+use Rattle.texture_build.specs.declared.source.ColumnSource.TheVariants as source
+
+-- which column of a prepared texture a texture column stands for, and what it is read from
+abbrev pub own_column : PreparedTexture → ℤ → ℕ
+own_column t column = masked_column (mask_of (length t.columns)) column
+
+abbrev pub column_in : PreparedTexture → ℤ → ColumnLookup
+column_in t column = slice_index_or t.columns (own_column t column) Empty
+
+-- whose bytes it has, in the texture of that number
+unfoldable pub source_of : ℕ → ColumnLookup → ColumnSource
+source_of number Empty = source.Empty
+source_of number (Single lump place) = source.Lump (record { 0 = lump })
+source_of number (Composed place) = source.Composite (record { 0 = number })
+
+-- the lump that a column is read from is of the directory
+abbrev pub IsThere : List Lump → ColumnLookup → Type 0
+IsThere lumps Empty = Unit {0}
+IsThere lumps (Single lump place) = lump < length lumps
+IsThere lumps (Composed place) = Unit {0}
+
+-- a column is read from the composite
+abbrev pub IsComposedColumn : ColumnLookup → Type 0
+IsComposedColumn Empty = ⊥
+IsComposedColumn (Single lump place) = ⊥
+IsComposedColumn (Composed place) = Unit {0}
+
+-- those bytes are live
+abbrev pub IsColumnLive : ℕ → Heap → ColumnLookup → Type 0
+IsColumnLive number z Empty = Unit {0}
+IsColumnLive number z (Single lump place) = IsLive z (lump_owner lump)
+IsColumnLive number z (Composed place) = IsLive z (composite_owner number)
+
+-- what a column is lent as: the bytes, and which of them is its first texel
+pub record ColumnView : Type 0 where
+  pub bytes : List ℕ
+  pub first : ℕ
+
+abbrev pub column_from : ℕ → List ℕ → ColumnView
+column_from first bytes = record { bytes = bytes; first = first }
+
+abbrev pub column_of : ℕ → Heap → ColumnLookup → Option ColumnView
+column_of number z Empty = Some (column_from 0 [])
+column_of number z (Single lump place) = option_map (column_from (place + POST_BYTES_AT)) (bytes_of (lump_owner lump) z.blocks)
+column_of number z (Composed place) = option_map (column_from place) (bytes_of (composite_owner number) z.blocks)

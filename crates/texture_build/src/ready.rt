@@ -1,0 +1,96 @@
+// What a texture column is read from, made live.
+//
+// Rules: `specs/Ready`, `specs/Sources` and `specs/Asked`. The original: `R_GetColumn`, r_data.c.
+ghost use Rattle.std.specs.Prelude.{◌≡◌, ◌<◌, ◌≤◌, ℕ, List, length, Ok, Some, None, IfErr, OnOk, OnErr, MatchResult};
+ghost use Rattle.outside.specs.Shelf.{AllStand, Follows};
+ghost use Rattle.outside.specs.Told.{Answers, HasCauses};
+ghost use Rattle.lump_rules.specs.Contents.{AllWithin, lump_bytes};
+ghost use Rattle.zone_rules.specs.Zones.{IsLive, owned_block};
+ghost use Rattle.zone_rules.specs.Orders.{Item, IsInOrder, KeepsOrder, is_live};
+ghost use Rattle.lump_cache.specs.Caches.{IsAtRest, IsFaithful, KeepsCounts, cache_told, composite_owner};
+ghost use Rattle.cached_lumps.specs.Calls.{IfFull, InOrderAt, IsTold};
+ghost use Rattle.art_rules.specs.declared.ColumnLookup.TheVariants.{Composed};
+ghost use Rattle.texture_build.specs.Asked.{HasAsked, IsFullFor};
+ghost use Rattle.texture_build.specs.Composites.{AreComposites};
+ghost use Rattle.texture_build.specs.Ready.{Readies};
+ghost use Rattle.texture_build.specs.Sources.{IsColumnLive, IsComposedColumn, IsThere, column_in};
+ghost use Rattle.texture_build.specs.Views.{AreThere, TexturesView, prepared_at};
+
+use crate::build::build_composite;
+use crate::prepared::PreparedTexture;
+use art_rules::ColumnLookup;
+use lump_cache::{CacheFault, LumpCache};
+use outside::Shelf;
+use wad_dir::{Directory, LumpNo};
+use zone_heap::Tag;
+
+// Makes live what a column of the texture of that number is read from: the lump of its one patch,
+// or the composite, which is built where it is not live. A cache at rest is at rest after it. Takes
+// no memory.
+//
+// Errors: `ZoneFull` where no gap of the zone held the block of the lump, of the composite or of a
+// patch of it, `ReadFault` where a call of the shelf failed.
+pub(crate) fn make_ready<S: Shelf>(
+    texture: &PreparedTexture,
+    number: u32,
+    col: i32,
+    dir: &Directory,
+    cache: &mut LumpCache,
+    shelf: &mut S,
+) -> Result<(), CacheFault>
+    requires slots { length dir.now.lumps ≤ cache.old.lumps }
+    requires composite { number < cache.old.composites }
+    requires there { AreThere dir.now.lumps texture.now }
+    ensures answers { (contents : List (List ℕ)) → AllStand (S.view shelf.old) dir.now.files contents → AllWithin contents dir.now.lumps → Answers cache_told (S.view shelf.old).steady (λ done. done) (Ok tt) result }
+    ensures live { OnOk result (IsColumnLive number cache.new (column_in texture.now col)) }
+    ensures there { IsThere dir.now.lumps (column_in texture.now col) }
+    ensures hit { IsColumnLive number cache.old (column_in texture.now col) → (result ≡ Ok tt) × (shelf.new ≡ shelf.old) }
+    ensures follows { Follows (S.view shelf.old) (S.view shelf.new) }
+    ensures causes { HasCauses cache_told (S.view shelf.old).faults (S.view shelf.new).faults result }
+    ensures counts { KeepsCounts cache.old cache.new }
+    ensures rest { (colormap count : ℕ) → IsAtRest colormap count cache.old → IsAtRest colormap count cache.new }
+    ensures faithful { (contents : List (List ℕ)) → AllStand (S.view shelf.old) dir.now.files contents → IsFaithful contents dir.now.lumps cache.old → IsFaithful contents dir.now.lumps cache.new }
+    ensures composites { (contents : List (List ℕ)) (textures : TexturesView) → prepared_at textures.prepared number ≡ Some texture.now → IsTold (S.view shelf.old) dir.now cache.old contents →
+        AreComposites (lump_bytes contents dir.now.lumps) textures cache.old → AreComposites (lump_bytes contents dir.now.lumps) textures cache.new }
+    ensures empty { OnErr result (IsComposedColumn (column_in texture.now col) → owned_block (composite_owner number) cache.new.blocks ≡ None) }
+    ensures full { IfErr result (λ fault. IfFull (cache_told fault) (IsFullFor dir.now.lumps number texture.now (column_in texture.now col) cache.old)) }
+    ensures order { (items : List Item) → HasAsked items dir.now.lumps number texture.now (column_in texture.now col) → IsInOrder items cache.old →
+        MatchResult result (λ _. KeepsOrder items cache.old cache.new (S.view shelf.old).taken (S.view shelf.new).taken) (λ fault. InOrderAt (cache_told fault) (KeepsOrder items cache.old cache.new (S.view shelf.old).taken (S.view shelf.new).taken)) }
+{
+    match texture.lookup(col) {
+        ColumnLookup::Empty => Ok(()),
+        ColumnLookup::Single { lump, place: _ } => {
+            cache.fetch(shelf, dir, LumpNo(lump), Tag::Cache)
+        }
+        ColumnLookup::Composed { place: _ } => {
+            ready_composite(texture, number, dir, cache, shelf)
+        }
+    }
+}
+
+// Makes the composite of a texture live.
+fn ready_composite<S: Shelf>(
+    texture: &PreparedTexture,
+    number: u32,
+    dir: &Directory,
+    cache: &mut LumpCache,
+    shelf: &mut S,
+) -> Result<(), CacheFault>
+    requires slots { length dir.now.lumps ≤ cache.old.lumps }
+    requires composite { number < cache.old.composites }
+    requires there { AreThere dir.now.lumps texture.now }
+    ensures readies { (place : ℕ) → Readies number texture.now (Composed place) (S.view shelf.old) (S.view shelf.new) dir.now cache.old cache.new result }
+    ensures hit { IsLive cache.old (composite_owner number) → (result ≡ Ok tt) × (shelf.new ≡ shelf.old) }
+{
+    if is_composite_live(cache, number) {
+        return Ok(());
+    }
+    build_composite(texture, number, dir, cache, shelf)
+}
+
+fn is_composite_live(cache: &LumpCache, number: u32) -> bool
+    requires { number < cache.now.composites }
+    ensures { result ≡ is_live cache.now.blocks (composite_owner number) }
+{
+    cache.composite(number).is_some()
+}

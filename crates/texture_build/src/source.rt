@@ -1,0 +1,43 @@
+// What a texture column is read from.
+//
+// Rules: `specs/Sources`. The original: `texturecolumnlump`, r_data.c.
+ghost use Rattle.std.specs.Prelude.{◌≡◌, IsSome, Some};
+ghost use Rattle.art_rules.specs.Lookups.{single_place};
+ghost use Rattle.texture_build.specs.Sources.{source_of};
+
+use art_rules::ColumnLookup;
+use texture_lists::TexNo;
+use wad_dir::LumpNo;
+
+/// Whose bytes a texture column has: of no patch, of one patch lump, or of the texture's composite.
+///
+/// The original: `texturecolumnlump`, r_data.c.
+#[derive(Clone, Copy, Debug, PartialEq, Eq)]
+pub enum ColumnSource {
+    Empty,
+    Lump(LumpNo),
+    Composite(TexNo),
+}
+
+#[tactic(auto, unfolding(crate::specs::Sources::source_of))]
+pub(crate) fn source_of(tex: TexNo, lookup: ColumnLookup) -> ColumnSource
+    ensures { result ≡ source_of tex.0 lookup }
+{
+    match lookup {
+        ColumnLookup::Empty => ColumnSource::Empty,
+        ColumnLookup::Single { lump, place: _ } => ColumnSource::Lump(LumpNo(lump)),
+        ColumnLookup::Composed { place: _ } => ColumnSource::Composite(tex),
+    }
+}
+
+// The one lump that a column is read from, and where its posts begin there.
+#[tactic(auto, unfolding(art_rules::specs::Lookups::single_place))]
+pub(crate) fn posts_place(lookup: ColumnLookup) -> (LumpNo, u64)
+    requires { IsSome (single_place lookup) }
+    ensures { single_place lookup ≡ Some (result.0.0, result.1) }
+{
+    match lookup {
+        ColumnLookup::Single { lump, place } => (LumpNo(lump), u64::from(place)),
+        _ => (LumpNo(0), 0),
+    }
+}

@@ -1,0 +1,26 @@
+-- A list of textures that was fetched by name stands beside the colormap.
+use Rattle.std.proofs.Common.{◌≡◌, ◌<◌, ◌≤◌, ◌+◌, ℕ, false, List, length, Option, Some, None, Result, Ok, Err, ap, ◌∙◌}
+use Rattle.std.specs.Prelude.{IfSome, OnOk, option_map}
+use Rattle.outside.specs.Shelf.{ShelfView}
+use Rattle.lump_rules.specs.Lookups.{last_of}
+use Rattle.zone_rules.specs.Zones.{Heap, IsLive, block_size, same_owner}
+use Rattle.wad_dir.specs.DirectoryView.{DirectoryView}
+use Rattle.wad_dir.specs.declared.directory.LumpNo.{LumpNo}
+use Rattle.lump_cache.specs.Caches.{IsAtRest, lump_owner}
+use Rattle.cached_lumps.specs.Calls.{Keeps}
+use Rattle.cached_lumps.specs.Named.{IsLast, live_bytes}
+use Rattle.cached_lumps.specs.Sizes.{StandsBeside}
+use Rattle.cached_lumps.proofs.SizeLemmas.{beside_earlier, beside_named}
+
+-- whatever a call of that outcome gives
+pub on_ok : {A E P : Type 0} (r : Result A E) → P → OnOk r P
+on_ok (Ok found) p = p
+on_ok (Err fault) p = tt
+
+-- the last lump of a name was made live and lent
+pub list_beside : {A E : Type 0} {v w : ShelfView} {dir : DirectoryView} {a b : Heap} {name key : List ℕ} → name ≡ key → (lump : Option LumpNo) (lent : Option (List ℕ)) (result : Result A E) → Keeps v w dir a b →
+    option_map (λ (l : LumpNo). l.0) lump ≡ last_of dir.lumps name → IfSome lump (λ l. l.0 < length dir.lumps) → IfSome lump (λ l. IsLive b (lump_owner l.0)) → lent ≡ live_bytes lump b →
+    ((colormap count : ℕ) → IsAtRest colormap count b → IfSome lump (λ l. same_owner (lump_owner colormap) (lump_owner l.0) ≡ false) → IfSome lent (λ bytes. block_size count + block_size (length bytes) ≤ b.size)) →
+    OnOk result ((number : ℕ) → IsLast dir.lumps key number → StandsBeside dir.lumps a number)
+list_beside {dir} {b} {name} same lump lent result keeps found there live is fits =
+    on_ok result (λ number last. beside_earlier number keeps (beside_named dir.lumps name b lump lent found there live is fits number (ap (last_of dir.lumps) same ∙ last)))

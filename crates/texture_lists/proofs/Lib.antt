@@ -1,0 +1,5 @@
+pub mod MaskLemmas
+pub mod PartLemmas
+pub mod IndexLemmas
+pub mod JudgeLemmas
+pub mod BesideLemmas

@@ -1,0 +1,8 @@
+use Rattle.std.proofs.Common.{◌≡◌, ◌+◌, ◌*◌}
+use Rattle.word_rules.specs.Listed.{listed}
+use Rattle.art_rules.specs.declared.layout.TheConstants.{ENTRY_SIZE}
+use Rattle.art_rules.specs.Textures.{entry_at}
+use Rattle.texture_lists.proofs.records.read_entries.Given as goal
+
+abbrev pub invariant-loop-i : goal.invariant-loop-i
+invariant-loop-i l = l.entries.items ≡ listed (λ i. entry_at l.bytes (l.place + ENTRY_SIZE * i)) l.i

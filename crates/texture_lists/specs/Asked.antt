@@ -1,0 +1,13 @@
+-- The lumps that are asked for by name.
+use Rattle.std.specs.Prelude.{ℕ, List, ◌⊎◌}
+use Rattle.lump_rules.specs.declared.wad.Lump.{Lump}
+use Rattle.cached_lumps.specs.Named.{IsLast}
+use Rattle.art_rules.specs.declared.TheConstants.{PNAMES, TEXTURE1, TEXTURE2}
+
+-- a list of textures
+abbrev pub IsTextureLump : List Lump → ℕ → Type 0
+IsTextureLump lumps lump = IsLast lumps TEXTURE1 lump ⊎ IsLast lumps TEXTURE2 lump
+
+-- the same, or the names of patches
+abbrev pub IsListLump : List Lump → ℕ → Type 0
+IsListLump lumps lump = IsLast lumps PNAMES lump ⊎ IsLast lumps TEXTURE1 lump ⊎ IsLast lumps TEXTURE2 lump

@@ -1,0 +1,37 @@
+-- What is kept of each list of textures while both are read: no byte of a list.
+use Rattle.std.specs.Prelude.{ℕ, ◌+◌, List, [], ◌++◌, Option, None, Some, Result, Ok, option_map}
+use Rattle.outside.specs.Told.{and_then}
+use Rattle.word_rules.specs.Least.{or_else}
+use Rattle.art_rules.specs.declared.refusal.TexRefusal.{TexRefusal}
+use Rattle.art_rules.specs.Textures.{Texture, list_count, wrong_record, textures_in, first_list, second_list, unless_wrong}
+
+-- how many textures a list counts, its first wrong record, and its textures where none is wrong
+pub record ListPart : Type 0 where
+  pub count : ℕ
+  pub wrong : Option ℕ
+  pub textures : List Texture
+
+-- the textures of a list, none where a record is wrong
+unfoldable pub if_sound : Option ℕ → List Texture → List Texture
+if_sound None textures = textures
+if_sound (Some number) textures = []
+
+unfoldable pub part_of : List ℕ → ListPart
+part_of bytes = record { count = list_count bytes; wrong = wrong_record bytes; textures = if_sound (wrong_record bytes) (textures_in bytes) }
+
+-- the part of a list that need not be there
+unfoldable pub part_of_second : Option (List ℕ) → ListPart
+part_of_second None = record { count = 0; wrong = None; textures = [] }
+part_of_second (Some bytes) = part_of bytes
+
+-- the parts, unless their lists are refused as wholes
+unfoldable pub first_part : Option (List ℕ) → Result ListPart TexRefusal
+first_part texture1 = and_then (first_list texture1) (λ bytes. Ok (part_of bytes))
+
+unfoldable pub second_part : ℕ → Option (List ℕ) → Result ListPart TexRefusal
+second_part before texture2 = and_then (second_list before texture2) (λ bytes. Ok (part_of_second bytes))
+
+-- the textures of two parts, refused for the first wrong record
+unfoldable pub joined_parts : ListPart → ListPart → Result (List Texture) TexRefusal
+joined_parts first second =
+    unless_wrong (or_else first.wrong (option_map (λ i. first.count + i) second.wrong)) (first.textures ++ second.textures)

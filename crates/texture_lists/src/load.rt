@@ -1,0 +1,90 @@
+// The lists of textures, read through the cache: PNAMES, TEXTURE1 and TEXTURE2, each fetched and then
+// judged, and of no list more than its textures kept.
+ghost use Rattle.std.specs.Prelude.{◌≤◌, ◌+◌, ℕ, length, IfOk, OnOk};
+ghost use Rattle.art_rules.specs.Textures.{both_lists, patch_names};
+ghost use Rattle.cached_lumps.specs.Calls.{Tells};
+ghost use Rattle.cached_lumps.specs.Named.{IsLast, named_bytes};
+ghost use Rattle.cached_lumps.specs.Sizes.{StandsBeside};
+ghost use Rattle.texture_lists.specs.Asked.{IsTextureLump};
+ghost use Rattle.texture_lists.specs.Faults.{tex_told};
+ghost use Rattle.texture_lists.specs.Parts.{first_part, second_part};
+
+use crate::TexFault;
+use crate::lists::{ReadList, first_part, second_part};
+use crate::names::patch_names;
+use crate::records::ListedTexture;
+use art_rules::{MAX_TEXTURES, PNAMES, TEXTURE1, TEXTURE2};
+use cached_lumps::{fetch_named, live_bytes};
+use lump_cache::LumpCache;
+use lump_rules::Name8;
+use outside::Shelf;
+use std::alloc::Global;
+use wad_dir::Directory;
+
+// The names of patches.
+pub(crate) fn load_names<S: Shelf>(
+    alloc: Global,
+    dir: &Directory,
+    cache: &mut LumpCache,
+    shelf: &mut S,
+) -> Result<Vec<Name8>, TexFault>
+    requires { length dir.now.lumps ≤ cache.old.lumps }
+    ensures tells { Tells tex_told (S.view shelf.old) (S.view shelf.new) dir.now cache.old cache.new (IsLast dir.now.lumps PNAMES) (λ names. names.items) (λ bytes. patch_names (named_bytes bytes dir.now.lumps PNAMES)) result }
+    ensures fits { OnOk result ((lump : ℕ) → IsLast dir.now.lumps PNAMES lump → StandsBeside dir.now.lumps cache.old lump) }
+{
+    let lump = fetch_named(cache, dir, shelf, &Name8::from_bytes(PNAMES))?;
+    patch_names(alloc, live_bytes(cache, lump))
+}
+
+// What is kept of the first list.
+fn load_first<S: Shelf>(
+    alloc: Global,
+    dir: &Directory,
+    cache: &mut LumpCache,
+    shelf: &mut S,
+) -> Result<ReadList, TexFault>
+    requires { length dir.now.lumps ≤ cache.old.lumps }
+    ensures tells { Tells tex_told (S.view shelf.old) (S.view shelf.new) dir.now cache.old cache.new (IsLast dir.now.lumps TEXTURE1) (λ part. part) (λ bytes. first_part (named_bytes bytes dir.now.lumps TEXTURE1)) result }
+    ensures fits { OnOk result ((lump : ℕ) → IsLast dir.now.lumps TEXTURE1 lump → StandsBeside dir.now.lumps cache.old lump) }
+    ensures few { IfOk result (λ part. part.count ≤ MAX_TEXTURES) }
+    ensures count { IfOk result (λ part. length part.textures ≤ part.count) }
+{
+    let lump = fetch_named(cache, dir, shelf, &Name8::from_bytes(TEXTURE1))?;
+    first_part(alloc, live_bytes(cache, lump))
+}
+
+// What is kept of the second list, where so many textures are before it.
+fn load_second<S: Shelf>(
+    alloc: Global,
+    before: u32,
+    dir: &Directory,
+    cache: &mut LumpCache,
+    shelf: &mut S,
+) -> Result<ReadList, TexFault>
+    requires slots { length dir.now.lumps ≤ cache.old.lumps }
+    requires before { before ≤ MAX_TEXTURES }
+    ensures tells { Tells tex_told (S.view shelf.old) (S.view shelf.new) dir.now cache.old cache.new (IsLast dir.now.lumps TEXTURE2) (λ part. part) (λ bytes. second_part before (named_bytes bytes dir.now.lumps TEXTURE2)) result }
+    ensures fits { OnOk result ((lump : ℕ) → IsLast dir.now.lumps TEXTURE2 lump → StandsBeside dir.now.lumps cache.old lump) }
+    ensures few { IfOk result (λ part. before + part.count ≤ MAX_TEXTURES) }
+    ensures count { IfOk result (λ part. length part.textures ≤ part.count) }
+{
+    let lump = fetch_named(cache, dir, shelf, &Name8::from_bytes(TEXTURE2))?;
+    second_part(alloc, before, live_bytes(cache, lump))
+}
+
+// The textures of both lists.
+pub(crate) fn load_both<S: Shelf>(
+    alloc: Global,
+    dir: &Directory,
+    cache: &mut LumpCache,
+    shelf: &mut S,
+) -> Result<Vec<ListedTexture>, TexFault>
+    requires { length dir.now.lumps ≤ cache.old.lumps }
+    ensures tells { Tells tex_told (S.view shelf.old) (S.view shelf.new) dir.now cache.old cache.new (IsTextureLump dir.now.lumps) (λ textures. textures.items) (λ bytes. both_lists (named_bytes bytes dir.now.lumps TEXTURE1) (named_bytes bytes dir.now.lumps TEXTURE2)) result }
+    ensures fits { OnOk result ((lump : ℕ) → IsTextureLump dir.now.lumps lump → StandsBeside dir.now.lumps cache.old lump) }
+    ensures few { IfOk result (λ textures. length textures.items ≤ MAX_TEXTURES) }
+{
+    let first = load_first(alloc, dir, cache, shelf)?;
+    let second = load_second(alloc, first.count(), dir, cache, shelf)?;
+    first.joined(second)
+}
