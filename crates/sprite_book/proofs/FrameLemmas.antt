@@ -1,6 +1,6 @@
 -- The shapes of a frame, one picture after another, and the lumps of its pictures.
-use Rattle.std.proofs.Common.{◌≡◌, ℕ, ◌+◌, ◌<◌, Bool, true, false, cond, List, [], ◌∷◌, ◌++◌, length, take, drop, get_or, map, Option, Some, None, Result, Ok, Err, refl, sym, subst, ap, ◌∙◌, arith, append_assoc, add-one, suc, ◌-◌}
-use Rattle.std.specs.Prelude.{All, ◌&&◌, ◌==◌, filter}
+use Rattle.std.proofs.Common.{◌≡◌, ℕ, ◌+◌, ◌<◌, Bool, true, false, cond, List, [], ◌∷◌, ◌++◌, length, take, drop, get_or, map, Option, Some, None, Result, Ok, Err, refl, sym, subst, ap, ◌∙◌, suc, ◌-◌}
+use Rattle.std.specs.Prelude.{All, ◌==◌}
 use Rattle.std.specs.Option.{ok_or}
 use Rattle.std.specs.List.{range_with_len}
 use Rattle.std.proofs.Math.ListN.{set}
@@ -166,8 +166,8 @@ module _ (lumps : List Lump) where
   shapes_there [] pictures e all = All-nil (λ (shape : Shape). shape.lump.0 < length lumps)
   shapes_there (s ∷ shapes) [] e all = cc
   shapes_there (s ∷ shapes) (m ∷ pictures) e all =
-      let head : (s.lump.0, s.flip) ≡ (m.lump, m.flip) = cc in
       let tail : map shape_outline shapes ≡ map mention_outline pictures = cc in
+      let head : (s.lump.0, s.flip) ≡ (m.lump, m.flip) = cc in
       let there : m.lump < length lumps = All-head (λ (mention : Mention). mention.lump < length lumps) m pictures all in
       All-cons (λ (shape : Shape). shape.lump.0 < length lumps) s shapes (subst (λ n. n < length lumps) (sym (ap (λ (x : ℕ × Bool). x.0) head)) there) (shapes_there shapes pictures tail (All-tail (λ (mention : Mention). mention.lump < length lumps) m pictures all))
 

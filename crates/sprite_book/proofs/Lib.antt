@@ -2,7 +2,6 @@ pub mod CallLemmas
 pub mod EachLemmas
 pub mod FrameLemmas
 pub mod ListLemmas
-pub mod LiveLemmas
 pub mod MentionLemmas
 pub mod NeedLemmas
 pub mod PictureLemmas

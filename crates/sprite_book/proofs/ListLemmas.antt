@@ -1,15 +1,13 @@
 -- The places of frames, and the lumps of their shapes.
-use Rattle.std.proofs.Common.{◌≡◌, ℕ, ◌+◌, ◌-◌, ◌<◌, ◌≤◌, Bool, true, false, cond, List, [], ◌∷◌, ◌++◌, length, take, get_or, map, find, Option, Some, None, refl, sym, subst, ap, ◌∙◌, arith, append-nil, add-zero, suc, zero, eqb}
-use Rattle.std.specs.Prelude.{◌&&◌, ◌==◌, ◌↔◌, All, Contains, IfSome, option_map, slice_get}
+use Rattle.std.proofs.Common.{◌≡◌, ℕ, ◌+◌, ◌<◌, Bool, true, false, cond, List, [], ◌∷◌, ◌++◌, length, take, get_or, map, find, Option, Some, None, refl, sym, subst, ap, ◌∙◌, arith, append-nil, add-zero, suc, eqb}
+use Rattle.std.specs.Prelude.{◌&&◌, ◌==◌, Contains, slice_get}
 use Rattle.std.specs.List.{position_from, dedup}
 use Rattle.std.specs.List.Sorted.{IsPermutation, IsSorted, IsStrictlyIncreasing}
-use Rattle.std.specs.Option.{option_and_then}
 use Rattle.std.specs.Ordering.{nat_cmp}
-use Rattle.std.specs.Bool.{Decides}
 use Rattle.std.specs.Str.{bytes_eq}
 use Rattle.std.specs.BTreeMap.{BTreeMap, Updates, get}
-use Rattle.std.proofs.lemmas.Bool.{and_parts, eqb-true, cond-true}
-use Rattle.std.proofs.lemmas.List.{take_more, map-append}
+use Rattle.std.proofs.lemmas.Bool.{and_parts, eqb-true}
+use Rattle.std.proofs.lemmas.List.{take_more}
 use Rattle.std.proofs.lemmas.List.Elements.{All-contains, All-contains_itself}
 use Rattle.std.proofs.lemmas.List.Filters.{All-dedup}
 use Rattle.std.proofs.lemmas.List.Kept.{Contains-dedup_nat}
@@ -19,7 +17,6 @@ use Rattle.std.proofs.lemmas.Slice.Eq.{bytes_eq-Decides}
 use Rattle.word_rules.specs.Least.{or_else}
 use Rattle.word_rules.specs.Listed.{joined_lists}
 use Rattle.word_rules.proofs.ListedLemmas.{joined_lists-append}
-use Rattle.wad_dir.specs.declared.directory.LumpNo.{LumpNo}
 use Rattle.sprite_book.specs.declared.shapes.Frame.{Frame}
 use Rattle.sprite_book.specs.declared.shapes.Shape.{Shape}
 use Rattle.sprite_book.specs.Books.{is_frame, picked, shape_lumps, book_lumps}

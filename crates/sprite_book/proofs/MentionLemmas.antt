@@ -1,6 +1,6 @@
 -- The last mention of a list, and an index of mentions as it grows.
 use Rattle.std.proofs.Common.{◌≡◌, ℕ, ◌+◌, ◌<◌, Bool, true, false, cond, List, [], ◌∷◌, ◌++◌, length, map, get_or, take, Option, Some, None, refl, sym, subst, ap, ◌∙◌, arith, inl, inr, append-nil}
-use Rattle.std.specs.Prelude.{◌&&◌, ◌==◌, filter, All, IfSome, ◌⊎◌}
+use Rattle.std.specs.Prelude.{◌&&◌, ◌==◌, All}
 use Rattle.std.specs.List.{range_with_len}
 use Rattle.std.specs.declared.cmp.Ordering.{Ordering}
 use Rattle.std.specs.declared.cmp.Ordering.TheVariants.{Less, Equal, Greater}
@@ -8,25 +8,25 @@ use Rattle.std.specs.Ordering.{nat_cmp, is_eq, ordering_then}
 use Rattle.std.specs.Cmp.{nat_cmp_is}
 use Rattle.std.specs.Cmp.Lexicographic.{slice_cmp}
 use Rattle.std.specs.Str.{bytes_eq}
-use Rattle.std.specs.BTreeMap.{BTreeMap, Updates, IsEmpty, get}
+use Rattle.std.specs.BTreeMap.{Updates, IsEmpty, get}
 use Rattle.std.specs.Map.{lookup}
 use Rattle.std.specs.BTreeMap.{is_at}
 use Rattle.std.proofs.lemmas.Bool.{cases_lt, cases_eq, ne_eqb, eq-eqb}
 use Rattle.std.proofs.lemmas.Map.Text.{is_eq-slice_cmp}
-use Rattle.std.proofs.lemmas.List.Elements.{All-filter, All-from_get_or, All-get_or, All-append, All-nil, All-cons}
+use Rattle.std.proofs.lemmas.List.Elements.{All-filter, All-from_get_or, All-get_or}
 use Rattle.std.proofs.lemmas.List.{take_more, length-map}
 use Rattle.std.proofs.Math.ListN.{get_or-map}
 use Rattle.std.proofs.Math.Seq.{take-length}
 use Rattle.std.proofs.lemmas.List.FromFn.{length-range_with_len, get_or-range_with_len}
 use Rattle.word_rules.specs.Least.{or_else}
 use Rattle.word_rules.specs.Listed.{joined_lists}
-use Rattle.word_rules.proofs.ListedLemmas.{joined_lists-cons, joined_lists-append}
+use Rattle.word_rules.proofs.ListedLemmas.{joined_lists-append}
 use Rattle.wad_dir.specs.declared.directory.LumpNo.{LumpNo}
 use Rattle.lump_rules.specs.declared.wad.Lump.{Lump}
 use Rattle.lump_rules.specs.declared.names.Group.TheVariants.{Sprites}
 use Rattle.lump_rules.specs.Lookups.{members, is_member, lump_at}
 use Rattle.art_rules.specs.declared.Mention.{Mention}
-use Rattle.art_rules.specs.Frames.{last_that, is_of_frame, is_of_rotation, mentions, lump_mentions, name_mentions, mention_at, is_of_sprite, is_pair}
+use Rattle.art_rules.specs.Frames.{last_that, is_of_frame, is_of_rotation, mentions, lump_mentions, name_mentions, is_of_sprite}
 use Rattle.sprite_book.specs.declared.mentions.Mentions.{Mentions}
 use Rattle.sprite_book.specs.Indexes.{IsIndexOf, frame_cmp, turned_cmp}
 

@@ -1,18 +1,14 @@
 -- What a fetched lump is, as a patch.
-use Rattle.std.proofs.Common.{◌≡◌, ℕ, ◌+◌, ◌<◌, ◌≤◌, Bool, true, false, List, length, Option, Some, None, Result, Ok, Err, refl, sym, subst, ap, ◌∙◌, arith, get_or, inl, inr, get_or-set_same, get_or-set_other, IsErrAnd}
-use Rattle.std.specs.Prelude.{IfOk, IfErr, IfSome, IsTrue, OnOk, ◌⊎◌, slice_index_or, slice_set}
-use Rattle.std.specs.Option.{option_and_then, ok_or}
+use Rattle.std.proofs.Common.{◌≡◌, ℕ, ◌<◌, List, length, Option, Some, None, Result, Ok, Err, refl, sym, subst, ap, ◌∙◌, get_or, inl, inr, get_or-set_same, get_or-set_other, IsErrAnd}
+use Rattle.std.specs.Prelude.{IfSome, ◌⊎◌, slice_index_or}
+use Rattle.std.specs.Option.{ok_or}
 use Rattle.std.proofs.Math.ListN.{set}
 use Rattle.std.proofs.lemmas.List.{length-set}
-use Rattle.std.proofs.lemmas.Bool.{cases_eq, false≢true}
-use Rattle.std.proofs.lemmas.Result.{err_from_is_err_and}
-use Rattle.outside.specs.Shelf.{ShelfView, AllStand}
-use Rattle.outside.specs.Told.{TellsAt, Answers, CauseAt, HasCauses}
-use Rattle.zone_rules.specs.Zones.{Heap, block_size, bytes_of}
-use Rattle.zone_rules.specs.Orders.{Item, has_item, IsInOrder, KeepsOrder}
-use Rattle.zone_rules.proofs.GapLemmas.{small_all}
-use Rattle.lump_rules.specs.Lookups.{lump_at}
-use Rattle.lump_rules.specs.Contents.{lump_bytes, AllWithin}
+use Rattle.std.proofs.lemmas.Bool.{cases_eq}
+use Rattle.outside.specs.Shelf.{ShelfView}
+use Rattle.outside.specs.Told.{told_above}
+use Rattle.zone_rules.specs.Zones.{Heap}
+use Rattle.lump_rules.specs.Contents.{lump_bytes}
 use Rattle.wad_dir.specs.DirectoryView.{DirectoryView}
 use Rattle.art_rules.specs.declared.patch.Patch.{Patch}
 use Rattle.art_rules.specs.declared.refusal.SpriteRefusal.{SpriteRefusal}
@@ -20,29 +16,22 @@ use Rattle.art_rules.specs.declared.refusal.SpriteRefusal.TheVariants.{BadPatch}
 use Rattle.art_rules.specs.Patches.{patch_of}
 use Rattle.lump_cache.specs.declared.fault.CacheFault.{CacheFault}
 use Rattle.lump_cache.specs.declared.fault.CacheFault.TheVariants.{ZoneFull, ReadFault}
-use Rattle.lump_cache.specs.Caches.{IsFaithful, IsAtRest, WhereFull, NoRoom, is_full, cache_told, lump_owner}
-use Rattle.sprite_book.proofs.LiveLemmas.{HasBytes}
+use Rattle.lump_cache.specs.Caches.{cache_told}
+use Rattle.cached_lumps.specs.Calls.{Tells, IsTold}
+use Rattle.cached_lumps.proofs.CallLemmas.{tells_stop_first, tells_then_found, tells_then_refused, tells_above, fault_above}
 use Rattle.sprite_book.specs.declared.fault.SpriteFault.{SpriteFault}
 use Rattle.sprite_book.specs.declared.fault.SpriteFault.TheVariants.{Refused}
 use Rattle.sprite_book.specs.Faults.{sprite_told, sprite_fault}
 use Rattle.sprite_book.specs.Books.{patch_or_bad}
-use Rattle.sprite_book.specs.Calls.{Tells, Keeps, IsTold, IsFull, ArePatchesOf}
+use Rattle.sprite_book.specs.Calls.{Reads, ArePatchesOf}
 
--- what is known of a fetch
-pub record Fetches (view after : ShelfView) (dir : DirectoryView) (old new : Heap) (lump : ℕ) (r : Result (Unit {0}) CacheFault) : Type 0 where
-  pub keeps : Keeps view after dir old new
-  pub answers : (contents : List (List ℕ)) → AllStand view dir.files contents → AllWithin contents dir.lumps → Answers cache_told view.steady (λ (done : Unit {0}). done) (Ok tt) r
-  pub causes : HasCauses cache_told view.faults after.faults r
-  pub full : WhereFull r (NoRoom (lump_at dir.lumps lump).size old)
-  pub room : (colormap size : ℕ) → IsAtRest colormap size old → WhereFull r (λ wanted widest'. old.size < block_size size + wanted + 64)
-  pub order : (items : List Item) → has_item items (lump_owner lump) (lump_at dir.lumps lump).size ≡ true → IsInOrder items old → (is_full r ≡ false) × OnOk r (KeepsOrder items old new view.taken after.taken)
+-- the cache refuses nothing, and its other faults are told as those of a book
+no_refusal : ⊥ → SpriteRefusal
+no_refusal none = absurd none
 
--- a live lump of a faithful cache is judged by its bytes
-live_is : (contents : List (List ℕ)) (dir : DirectoryView) (z : Heap) (lump : ℕ) (live : Option Patch) → lump < length dir.lumps → IsFaithful contents dir.lumps z → HasBytes (lump_owner lump) z → live ≡ option_and_then patch_of (bytes_of (lump_owner lump) z.blocks) →
-    live ≡ patch_of (lump_bytes contents dir.lumps lump)
-live_is contents dir z lump live lt faithful has is =
-    let same : has.bytes ≡ lump_bytes contents dir.lumps lump = subst (λ x. IfSome x (λ bytes. bytes ≡ lump_bytes contents dir.lumps lump)) has.is (faithful.at lump lt) in
-    is ∙ ap (option_and_then patch_of) has.is ∙ ap patch_of same
+told_same : (below : CacheFault) → sprite_told (sprite_fault below) ≡ told_above no_refusal (cache_told below)
+told_same (ZoneFull wanted widest') = refl
+told_same ReadFault = refl
 
 patch_is : (bytes : ℕ → List ℕ) (lump : ℕ) (patch : Patch) → patch_of (bytes lump) ≡ Some patch → patch_or_bad bytes lump ≡ Ok patch
 unfolding patch_or_bad
@@ -60,60 +49,25 @@ patch_was : (bytes : ℕ → List ℕ) (lump : ℕ) (patch : Patch) → patch_or
 unfolding patch_or_bad
 patch_was bytes lump patch e = found_patch (patch_of (bytes lump)) (BadPatch lump) patch e
 
-module _ (view after : ShelfView) (dir : DirectoryView) (old new : Heap) (lump : ℕ) (patches : List (Option Patch)) where
-  pub fetch_stops : (fault : CacheFault) → Fetches view after dir old new lump (Err fault) → Tells view after dir old new patches patches (λ n. n ≡ lump) (λ (patch : Patch). patch) (λ bytes. patch_or_bad bytes lump) (Err (sprite_fault fault))
-  fetch_stops (ZoneFull wanted widest') f = record {
-    keeps = f.keeps;
-    read = λ contents told. told.read;
-    count = refl;
-    answers = λ contents told. record { ok = tt; err = tt };
-    causes = record { err = tt };
-    full = (
-      lump,
-      refl,
-      record {
-        wanted_is = f.full.wanted_is;
-        less = omega (arith, f.full.wanted_is, f.full.widest_is, small_all (block_size (lump_at dir.lumps lump).size) _ (omega arith) f.full.none);
-        room = f.room;
-      },
-    );
-    order = λ items all k. absurd (false≢true (sym (f.order items (all lump refl) k).0));
-  }
-  fetch_stops ReadFault f = record {
-    keeps = f.keeps;
-    read = λ contents told. told.read;
-    count = refl;
-    answers = λ contents told. record { ok = tt; err = (f.answers contents told.stand told.within).err };
-    causes = record { err = f.causes.err };
-    full = tt;
-    order = λ items all k. tt;
-  }
+module _ {view after : ShelfView} {dir : DirectoryView} {old new : Heap} (lump : ℕ) where
+  -- the lump was not fetched
+  pub fetch_stopped : (fetched : Result (Unit {0}) CacheFault) (below : CacheFault) (result : Result Patch SpriteFault) → Tells cache_told view after dir old new (λ n. n ≡ lump) (λ (done : Unit {0}). done) (λ bytes. Ok tt) fetched →
+      fetched ≡ Err below → IsErrAnd result (λ e. e ≡ sprite_fault below) → Tells sprite_told view after dir old new (λ n. n ≡ lump) (λ (patch : Patch). patch) (λ bytes. patch_or_bad bytes lump) result
+  fetch_stopped fetched below result one was is =
+      tells_stop_first (λ bytes. patch_or_bad bytes lump) (fault_above sprite_fault fetched) (sprite_fault below) result
+      (tells_above no_refusal sprite_fault told_same fetched one) (ap (fault_above sprite_fault) was) is (λ n same. same) (λ bytes e stopped. absurd (cc))
 
-  module _ (f : Fetches view after dir old new lump (Ok tt)) (has : HasBytes (lump_owner lump) new) (there : lump < length dir.lumps) (live : Option Patch) (live_as : live ≡ option_and_then patch_of (bytes_of (lump_owner lump) new.blocks)) where
-    judged : (contents : List (List ℕ)) → IsTold view dir old patches contents → live ≡ patch_of (lump_bytes contents dir.lumps lump)
-    judged contents told = live_is contents dir new lump live there (f.keeps.faithful contents told.stand told.faithful) has live_as
+  -- the lump was fetched, and is judged by its bytes
+  module _ (one : Tells cache_told view after dir old new (λ n. n ≡ lump) (λ (done : Unit {0}). done) (λ bytes. Ok tt) (Ok tt)) (live : Option Patch) (judged : (contents : List (List ℕ)) → IsTold view dir old contents → live ≡ patch_of (lump_bytes contents dir.lumps lump)) where
+    pub fetch_found : (patch : Patch) → live ≡ Some patch → Tells sprite_told view after dir old new (λ n. n ≡ lump) (λ (patch : Patch). patch) (λ bytes. patch_or_bad bytes lump) (Ok patch)
+    fetch_found patch is =
+        tells_then_found patch (λ n same. same) (tells_above no_refusal sprite_fault told_same (Ok tt) one)
+        (λ contents told done. patch_is (lump_bytes contents dir.lumps) lump patch (sym (judged contents told) ∙ is))
 
-    pub fetch_found : (patch : Patch) → live ≡ Some patch → Tells view after dir old new patches patches (λ n. n ≡ lump) (λ (patch : Patch). patch) (λ bytes. patch_or_bad bytes lump) (Ok patch)
-    fetch_found patch is = record {
-      keeps = f.keeps;
-      read = λ contents told. told.read;
-      count = refl;
-      answers = λ contents told. record { ok = patch_is (lump_bytes contents dir.lumps) lump patch (sym (judged contents told) ∙ is); err = tt };
-      causes = record { err = tt };
-      full = tt;
-      order = λ items all k. (f.order items (all lump refl) k).1;
-    }
-
-    pub fetch_bad : (number : ℕ) → number ≡ lump → live ≡ None → Tells view after dir old new patches patches (λ n. n ≡ lump) (λ (patch : Patch). patch) (λ bytes. patch_or_bad bytes lump) (Err (Refused (BadPatch number)))
-    fetch_bad number e is = record {
-      keeps = f.keeps;
-      read = λ contents told. told.read;
-      count = refl;
-      answers = λ contents told. record { ok = tt; err = patch_bad (lump_bytes contents dir.lumps) lump (sym (judged contents told) ∙ is) ∙ ap (λ n. Err (BadPatch n)) (sym e) };
-      causes = record { err = tt };
-      full = tt;
-      order = λ items all k. (f.order items (all lump refl) k).1;
-    }
+    pub fetch_bad : (number : ℕ) → number ≡ lump → live ≡ None → Tells sprite_told view after dir old new (λ n. n ≡ lump) (λ (patch : Patch). patch) (λ bytes. patch_or_bad bytes lump) (Err (Refused (BadPatch number)))
+    fetch_bad number e is =
+        tells_then_refused (Refused (BadPatch number)) (BadPatch number) refl (λ n same. same) (tells_above no_refusal sprite_fault told_same (Ok tt) one)
+        (λ contents told done. patch_bad (lump_bytes contents dir.lumps) lump (sym (judged contents told) ∙ is) ∙ ap (λ n. Err (BadPatch n)) (sym e))
 
 -- the lump was read before
 pub read_before : (bytes : ℕ → List ℕ) (patches : List (Option Patch)) (lump : ℕ) (patch : Patch) → ArePatchesOf bytes patches → slice_index_or patches lump None ≡ Some patch → patch_or_bad bytes lump ≡ Ok patch
@@ -130,17 +84,15 @@ set_read bytes patches lump patch lt are is = record { at = λ n. go n (cases_eq
   go n (inr h) = subst (λ x. IfSome x (λ p. patch_of (bytes n) ≡ Some p)) (sym (get_or-set_other patches lump n (Some patch) None h)) (are.at n)
 
 -- what was read is kept
-pub read_kept : {view after : ShelfView} {dir : DirectoryView} {old new : Heap} (patches : List (Option Patch)) (lump : ℕ) (patch : Patch) {wants : ℕ → Type 0} (r : Result Patch SpriteFault) → lump < length patches →
-    Tells view after dir old new patches patches wants (λ (patch : Patch). patch) (λ bytes. patch_or_bad bytes lump) r → r ≡ Ok patch →
-    Tells view after dir old new patches (set patches lump (Some patch)) wants (λ (patch : Patch). patch) (λ bytes. patch_or_bad bytes lump) (Ok patch)
-read_kept {view} {after} {dir} {old} {new} patches lump patch {wants} r lt tells is =
-    let found : Tells view after dir old new patches patches wants (λ (patch : Patch). patch) (λ bytes. patch_or_bad bytes lump) (Ok patch) = subst (Tells view after dir old new patches patches wants (λ (patch : Patch). patch) (λ bytes. patch_or_bad bytes lump)) is tells in
-    record {
-      keeps = found.keeps;
-      read = λ contents told. set_read (lump_bytes contents dir.lumps) patches lump patch lt (found.read contents told) (patch_was (lump_bytes contents dir.lumps) lump patch (found.answers contents told).ok);
-      count = length-set patches lump (Some patch);
-      answers = found.answers;
-      causes = found.causes;
-      full = found.full;
-      order = found.order;
-    }
+pub read_kept : {view after : ShelfView} {dir : DirectoryView} {old new : Heap} {wants : ℕ → Type 0} (patches : List (Option Patch)) (lump : ℕ) (patch : Patch) → lump < length patches →
+    Tells sprite_told view after dir old new wants (λ (patch : Patch). patch) (λ bytes. patch_or_bad bytes lump) (Ok patch) →
+    Reads view after dir old new patches (set patches lump (Some patch)) wants (λ (patch : Patch). patch) (λ bytes. patch_or_bad bytes lump) (Ok patch)
+read_kept {dir} patches lump patch lt one = record {
+  keeps = one.keeps;
+  read = λ contents told. set_read (lump_bytes contents dir.lumps) patches lump patch lt told.read (patch_was (lump_bytes contents dir.lumps) lump patch (one.answers contents told.told).ok);
+  count = length-set patches lump (Some patch);
+  answers = λ contents told. one.answers contents told.told;
+  causes = one.causes;
+  full = one.full;
+  order = one.order;
+}

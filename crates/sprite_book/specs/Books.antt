@@ -1,6 +1,6 @@
 -- The book of the frames that things need, or why it is refused.
-use Rattle.std.specs.Prelude.{◌≡◌, ℕ, suc, ◌==◌, ◌&&◌, Bool, not, List, [], ◌∷◌, filter, find, map, Option, Some, None, option_map, slice_get, Result, Ok, Err, refl}
-use Rattle.std.specs.List.{range_with_len, list_any}
+use Rattle.std.specs.Prelude.{ℕ, suc, ◌==◌, ◌&&◌, Bool, not, List, [], ◌∷◌, filter, find, map, Option, slice_get, Result, Ok}
+use Rattle.std.specs.List.{range_with_len}
 use Rattle.std.specs.Option.{ok_or, option_and_then}
 use Rattle.std.specs.Str.{bytes_eq}
 use Rattle.outside.specs.Told.{and_then}

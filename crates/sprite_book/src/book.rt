@@ -1,22 +1,21 @@
 // A book of frames.
-ghost use Rattle.std.specs.Prelude.{◌≡◌, ◌<◌, ◌≤◌, ◌+◌, ◌++◌, ◌∷◌, ◌↔◌, true, ℕ, List, [], length, map, All, Contains, Option, None, Some, Ok, IfOk, IfErr, IfSome, OnOk, MatchResult};
+ghost use Rattle.std.specs.Prelude.{◌≡◌, ◌<◌, ◌≤◌, ◌+◌, ◌↔◌, true, ℕ, List, length, map, All, Contains, Option, Some, Ok, IfOk, IfErr, IfSome, MatchResult};
 ghost use Rattle.std.specs.List.Sorted.{IsStrictlyIncreasing};
 ghost use Rattle.outside.specs.Shelf.{Follows, AllStand};
 ghost use Rattle.outside.specs.Told.{Answers, HasCauses};
-ghost use Rattle.lump_rules.specs.declared.wad.Lump.{Lump};
 ghost use Rattle.lump_rules.specs.Lookups.{lump_at};
-ghost use Rattle.lump_rules.specs.Contents.{lump_bytes, AllWithin};
+ghost use Rattle.lump_rules.specs.Contents.{AllWithin};
 ghost use Rattle.zone_rules.specs.declared.TheConstants.{MIN_FRAGMENT};
-ghost use Rattle.zone_rules.specs.Zones.{block_size};
+ghost use Rattle.zone_rules.specs.Zones.{block_size, bytes_of};
 ghost use Rattle.zone_rules.specs.Orders.{Item, has_item, IsInOrder, KeepsOrder};
-ghost use Rattle.art_rules.specs.declared.patch.Patch.{Patch};
 ghost use Rattle.art_rules.specs.Frames.{mentions};
-ghost use Rattle.lump_cache.specs.Caches.{IsFaithful, IsAtRest, KeepsCounts, lump_owner};
+ghost use Rattle.lump_cache.specs.Caches.{IsFaithful, IsAtRest, KeepsCounts, lump_owner, composite_owner};
+ghost use Rattle.cached_lumps.specs.Calls.{Tells, IfFull, InOrderAt};
 ghost use Rattle.sprite_book.specs.declared.shapes.Frame.{Frame};
-ghost use Rattle.sprite_book.specs.Books.{book_of, outlines_of, outline, frame_of, outline_of, each_of, first_needs, same_frame, is_frame, picked, book_lumps};
+ghost use Rattle.sprite_book.specs.Books.{book_of, outlines_of, outline, frame_of, outline_of, each_of, first_needs, picked, book_lumps};
 ghost use Rattle.sprite_book.specs.Faults.{sprite_told};
-ghost use Rattle.sprite_book.specs.Calls.{Tells, IsWanted, IfFull, InOrderAt};
-ghost use Rattle.sprite_book.specs.Indexes.{IsIndexOf, IsPlaceOf, frame_cmp};
+ghost use Rattle.sprite_book.specs.Calls.{IsWanted};
+ghost use Rattle.sprite_book.specs.Indexes.{IsPlaceOf};
 
 use crate::fault::SpriteFault;
 use crate::list::{FrameList, list_pictures};
@@ -60,15 +59,15 @@ impl SpriteBook {
     /// The frames that are needed, found by the names of the sprite lumps and read through the
     /// cache.
     ///
-    /// Each need is judged before the next. A lump is fetched at most once, with the tag `Cache`.
-    /// Takes memory for what the names mention, for the frames, and while it runs a few bytes for
-    /// each lump.
+    /// Each need is judged before the next. Takes memory for what the names mention, for the frames,
+    /// and while it runs a few bytes for each lump.
     ///
     /// Errors: `Refused` with the first refusal of the needs in their order: of each first that no
     /// lump mentions the frame, then the least rotation without a picture, then the first picture
     /// that is no patch. `ReadFault` only where the shelf's count of faults rose. `ZoneFull` only
     /// where no gap held the block of a picture of a needed frame. `OutOfMemory`. The shelf goes on
-    /// to stand for what it stood for, and a cache that was at rest or faithful stays so.
+    /// to stand for what it stood for, a cache that was at rest or faithful stays so, and no composite
+    /// is made.
     ///
     /// The original: `R_InitSprites` and `R_InitSpriteDefs`, r_things.c, which end the program
     /// there. This project's own: only the frames that are needed are looked at, a lump that is no
@@ -93,6 +92,7 @@ impl SpriteBook {
         ensures faithful { (contents : List (List ℕ)) → AllStand (S.view shelf.old) dir.now.files contents → IsFaithful contents dir.now.lumps cache.old → IsFaithful contents dir.now.lumps cache.new }
         ensures rest { (colormap size : ℕ) → IsAtRest colormap size cache.old → IsAtRest colormap size cache.new }
         ensures counts { KeepsCounts cache.old cache.new }
+        ensures composites { (number : ℕ) → IfSome (bytes_of (composite_owner number) cache.new.blocks) (λ bytes. bytes_of (composite_owner number) cache.old.blocks ≡ Some bytes) }
         ensures order { (items : List Item) → ((lump : ℕ) → IsWanted dir.now.lumps needed.now lump → has_item items (lump_owner lump) (lump_at dir.now.lumps lump).size ≡ true) → IsInOrder items cache.old →
             MatchResult result (λ _. KeepsOrder items cache.old cache.new (S.view shelf.old).taken (S.view shelf.new).taken) (λ fault. InOrderAt (sprite_told fault) (KeepsOrder items cache.old cache.new (S.view shelf.old).taken (S.view shelf.new).taken)) }
     {
@@ -102,8 +102,8 @@ impl SpriteBook {
     /// The shape of a frame from a rotation, 0 to 7, or `None` exactly where the frame was not
     /// needed. Takes no memory.
     ///
-    /// Rotation 0 is seen from the front, and the further ones counterclockwise by an eighth of a
-    /// turn each.
+    /// Rotation 0 is the picture of the digit 1, seen from the front, and the further ones are seen
+    /// counterclockwise from there, by an eighth of a turn each.
     ///
     /// The original: `R_ProjectSprite`, r_things.c, where it reads `sprframe->lump` and `flip`.
     pub fn pick(&self, sprite: [u8; SPRITE_LETTERS], frame: u8, rotation: u8) -> Option<Shape>
@@ -131,7 +131,7 @@ fn make_book<S: Shelf>(
     shelf: &mut S,
 ) -> Result<SpriteBook, SpriteFault>
     requires { length dir.now.lumps ≤ cache.old.lumps }
-    ensures tells { Tells (S.view shelf.old) (S.view shelf.new) dir.now cache.old cache.new [] [] (IsWanted dir.now.lumps needed.now) (λ book. book) (λ bytes. each_of (frame_of bytes dir.now.lumps) (first_needs needed.now)) result }
+    ensures tells { Tells sprite_told (S.view shelf.old) (S.view shelf.new) dir.now cache.old cache.new (IsWanted dir.now.lumps needed.now) (λ book. book) (λ bytes. each_of (frame_of bytes dir.now.lumps) (first_needs needed.now)) result }
     ensures outlines { IfOk result (λ book. each_of (outline_of dir.now.lumps) (first_needs needed.now) ≡ Ok (map outline book)) }
 {
     let index = index_mentions(alloc, dir)?;

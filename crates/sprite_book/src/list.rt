@@ -1,5 +1,5 @@
 // The frames of a book, and the lumps of their shapes.
-ghost use Rattle.std.specs.Prelude.{◌≡◌, ◌<◌, ◌++◌, ◌∷◌, [], ℕ, length, map, is_some, slice_get, None, IfOk, OnOk};
+ghost use Rattle.std.specs.Prelude.{◌≡◌, ◌<◌, ◌++◌, ◌∷◌, [], map, is_some, slice_get, None, IfOk, OnOk};
 ghost use Rattle.std.specs.List.{position_from};
 ghost use Rattle.sprite_book.specs.Books.{is_frame, picked, book_lumps};
 ghost use Rattle.sprite_book.specs.Indexes.{IsPlaceOf, ArePictures};

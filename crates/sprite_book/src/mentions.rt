@@ -1,5 +1,5 @@
 // The last mention of each frame of each sprite, and of each of its rotations.
-ghost use Rattle.std.specs.Prelude.{◌≡◌, ◌==◌, ◌+◌, ◌<◌, ◌++◌, [], true, cond, List, ℕ, length, take, slice_index, IfOk, OnOk};
+ghost use Rattle.std.specs.Prelude.{◌≡◌, ◌==◌, ◌+◌, ◌<◌, ◌++◌, [], true, cond, List, ℕ, take, slice_index, IfOk, OnOk};
 ghost use Rattle.std.specs.Option.{option_to_list};
 ghost use Rattle.std.specs.Str.{bytes_eq};
 ghost use Rattle.art_rules.specs.declared.Mention.{Mention};

@@ -1,5 +1,5 @@
 // The pictures of a needed frame.
-ghost use Rattle.std.specs.Prelude.{◌≡◌, ◌<◌, ◌+◌, ◌*◌, ◌^◌, ◌-◌, List, ℕ, length, Some, IfOk, IfErr, OnOk, MatchResult, Ok, Err};
+ghost use Rattle.std.specs.Prelude.{◌≡◌, ◌<◌, ◌+◌, ◌*◌, ◌^◌, ◌-◌, List, ℕ, length, Some, MatchResult, Ok, Err};
 ghost use Rattle.std.specs.List.{range_with_len};
 ghost use Rattle.art_rules.specs.declared.Mention.{Mention};
 ghost use Rattle.art_rules.specs.Frames.{frame_picture, last_that, is_of_frame};

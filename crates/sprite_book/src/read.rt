@@ -1,14 +1,15 @@
 // The shapes of a frame, read from its lumps.
-ghost use Rattle.std.specs.Prelude.{◌≡◌, ◌<◌, ◌≤◌, List, ℕ, length, map, All, Option, Ok, IfOk, OnOk};
+ghost use Rattle.std.specs.Prelude.{◌≡◌, ◌<◌, ◌≤◌, length, map, All, Option, Ok, IfOk, OnOk};
 ghost use Rattle.std.specs.Option.{option_and_then};
-ghost use Rattle.lump_rules.specs.declared.wad.Lump.{Lump};
 ghost use Rattle.zone_rules.specs.Zones.{bytes_of};
 ghost use Rattle.art_rules.specs.declared.patch.Patch.{Patch};
 ghost use Rattle.art_rules.specs.Patches.{patch_of};
 ghost use Rattle.art_rules.specs.Frames.{mentions};
 ghost use Rattle.lump_cache.specs.Caches.{lump_owner};
+ghost use Rattle.cached_lumps.specs.Calls.{Tells};
 ghost use Rattle.sprite_book.specs.Books.{patch_or_bad, shape_in, shape_of, each_of, frame_of, shape_outline, mention_outline, outline, outline_of};
-ghost use Rattle.sprite_book.specs.Calls.{Tells, IsLumpOf, IsWantedBy};
+ghost use Rattle.sprite_book.specs.Calls.{Reads, IsLumpOf, IsWantedBy};
+ghost use Rattle.sprite_book.specs.Faults.{sprite_told};
 ghost use Rattle.sprite_book.specs.Indexes.{IsIndexOf};
 
 use crate::fault::SpriteFault;
@@ -16,10 +17,10 @@ use crate::mentions::Mentions;
 use crate::pictures::find_pictures;
 use crate::shapes::{Frame, Need, Shape};
 use art_rules::{Mention, Patch, ROTATIONS, SpriteRefusal};
+use cached_lumps::fetch_live;
 use lump_cache::LumpCache;
 use outside::Shelf;
 use wad_dir::{Directory, LumpNo};
-use zone_heap::Tag;
 
 // What stands in the place of a shape that is not read yet.
 const NO_SHAPE: Shape = Shape {
@@ -42,7 +43,7 @@ pub fn read_frame<S: Shelf>(
     requires slots { length dir.now.lumps ≤ cache.old.lumps }
     requires rows { length dir.now.lumps ≤ length patches.old }
     requires indexed { IsIndexOf index.now (mentions dir.now.lumps) }
-    ensures tells { Tells (S.view shelf.old) (S.view shelf.new) dir.now cache.old cache.new patches.old patches.new (IsWantedBy dir.now.lumps need.now) (λ frame. frame) (λ bytes. frame_of bytes dir.now.lumps need.now) result }
+    ensures tells { Reads (S.view shelf.old) (S.view shelf.new) dir.now cache.old cache.new patches.old patches.new (IsWantedBy dir.now.lumps need.now) (λ frame. frame) (λ bytes. frame_of bytes dir.now.lumps need.now) result }
     ensures outline { IfOk result (λ frame. outline_of dir.now.lumps need.now ≡ Ok (outline frame)) }
 {
     let pictures = find_pictures(index, need)?;
@@ -68,7 +69,7 @@ fn fill_shapes<S: Shelf>(
     requires rows { length dir.now.lumps ≤ length patches.old }
     requires count { length shapes.old ≡ length pictures.now }
     requires there { All (λ mention. mention.lump < length dir.now.lumps) pictures.now }
-    ensures tells { Tells (S.view shelf.old) (S.view shelf.new) dir.now cache.old cache.new patches.old patches.new (IsLumpOf pictures.now) (λ _. shapes.new) (λ bytes. each_of (shape_of bytes) pictures.now) result }
+    ensures tells { Reads (S.view shelf.old) (S.view shelf.new) dir.now cache.old cache.new patches.old patches.new (IsLumpOf pictures.now) (λ _. shapes.new) (λ bytes. each_of (shape_of bytes) pictures.now) result }
     ensures outlines { OnOk result (map shape_outline shapes.new ≡ map mention_outline pictures.now) }
 {
     for (k, mention) in pictures.iter().enumerate() {
@@ -103,7 +104,7 @@ fn read_patch<S: Shelf>(
     requires there { lump < length dir.now.lumps }
     requires slots { length dir.now.lumps ≤ cache.old.lumps }
     requires rows { length dir.now.lumps ≤ length patches.old }
-    ensures { Tells (S.view shelf.old) (S.view shelf.new) dir.now cache.old cache.new patches.old patches.new (λ n. n ≡ lump) (λ patch. patch) (λ bytes. patch_or_bad bytes lump) result }
+    ensures { Reads (S.view shelf.old) (S.view shelf.new) dir.now cache.old cache.new patches.old patches.new (λ n. n ≡ lump) (λ patch. patch) (λ bytes. patch_or_bad bytes lump) result }
 {
     if let Some(patch) = patches[lump as usize] {
         return Ok(patch);
@@ -122,9 +123,9 @@ fn fetch_patch<S: Shelf>(
 ) -> Result<Patch, SpriteFault>
     requires there { lump < length dir.now.lumps }
     requires slots { length dir.now.lumps ≤ cache.old.lumps }
-    ensures { (patches : List (Option Patch)) → Tells (S.view shelf.old) (S.view shelf.new) dir.now cache.old cache.new patches patches (λ n. n ≡ lump) (λ patch. patch) (λ bytes. patch_or_bad bytes lump) result }
+    ensures { Tells sprite_told (S.view shelf.old) (S.view shelf.new) dir.now cache.old cache.new (λ n. n ≡ lump) (λ patch. patch) (λ bytes. patch_or_bad bytes lump) result }
 {
-    cache.fetch(shelf, dir, LumpNo(lump), Tag::Cache)?;
+    fetch_live(cache, dir, shelf, LumpNo(lump))?;
     match live_patch(cache, LumpNo(lump)) {
         Some(patch) => Ok(patch),
         None => Err(SpriteFault::Refused(SpriteRefusal::BadPatch {

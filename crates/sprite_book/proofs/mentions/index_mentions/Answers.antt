@@ -1,7 +1,5 @@
-use Rattle.std.proofs.Common.{◌≡◌, List, map, length, arith, subst, sym, ◌∙◌, ap}
+use Rattle.std.proofs.Common.{map, arith, ◌∙◌}
 use Rattle.wad_dir.specs.declared.directory.LumpNo.{LumpNo}
-use Rattle.art_rules.specs.Frames.{lump_mentions, mentions}
-use Rattle.word_rules.specs.Listed.{joined_lists}
 use Rattle.sprite_book.proofs.MentionLemmas.{index_none, entry_below, index_step, index_whole}
 use Rattle.sprite_book.proofs.mentions.index_mentions.Goals as goal
 

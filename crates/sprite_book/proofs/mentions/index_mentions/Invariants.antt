@@ -1,4 +1,4 @@
-use Rattle.std.proofs.Common.{List, ℕ, take, map}
+use Rattle.std.proofs.Common.{take, map}
 use Rattle.word_rules.specs.Listed.{joined_lists}
 use Rattle.art_rules.specs.Frames.{lump_mentions}
 use Rattle.wad_dir.specs.declared.directory.LumpNo.{LumpNo}

@@ -1,12 +1,12 @@
-use Rattle.std.proofs.Common.{◌≡◌, ◌<◌, ◌+◌, ◌++◌, ◌∷◌, [], ℕ, List, Bool, true, false, length, get_or, take, map, Result, Ok, Err, refl, sym, subst, ap, ◌∙◌, arith}
+use Rattle.std.proofs.Common.{◌≡◌, ◌<◌, ◌+◌, ◌++◌, ◌∷◌, [], List, length, get_or, take, map, Ok, sym, subst, ap, ◌∙◌, arith}
 use Rattle.std.proofs.lemmas.List.{map-append}
 use Rattle.std.proofs.lemmas.List.Elements.{Contains-get_or}
 use Rattle.sprite_book.specs.declared.fault.SpriteFault.TheVariants.{OutOfMemory}
 use Rattle.sprite_book.specs.declared.shapes.Need.{Need}
 use Rattle.sprite_book.specs.declared.shapes.Frame.{Frame}
 use Rattle.sprite_book.specs.Books.{each_of, frame_of, first_needs, outline, outline_of}
-use Rattle.sprite_book.specs.Calls.{Tells, IsWanted}
-use Rattle.sprite_book.proofs.CallLemmas.{tells_known, tells_more, tells_stop, tells_same, tells_short}
+use Rattle.sprite_book.specs.Calls.{Reads, IsWanted}
+use Rattle.sprite_book.proofs.CallLemmas.{reads_known, reads_more, reads_stop, reads_same, reads_short}
 use Rattle.sprite_book.proofs.NeedLemmas.{needs_none, need_same, need_push, need_stop, placed_asked, frame_absent}
 use Rattle.sprite_book.proofs.needs.read_frames.Goals as goal
 
@@ -15,7 +15,7 @@ no_need = record { thing = 0; sprite = []; frame = 0 }
 
 pub loop-need-init : goal.loop-need-init
 loop-need-init g c = record {
-  tells = tells_known (g.S.Shelf.view c.args.shelf.now) c.args.dir.now c.args.cache.now c.args.patches.now tt (λ contents told. needs_none (frame_of _ c.args.dir.now.lumps) ∙ ap Ok (sym c.requires.empty));
+  tells = reads_known (g.S.Shelf.view c.args.shelf.now) c.args.dir.now c.args.cache.now c.args.patches.now tt (λ contents told. needs_none (frame_of _ c.args.dir.now.lumps) ∙ ap Ok (sym c.requires.empty));
   outlines = needs_none (outline_of c.args.dir.now.lumps) ∙ ap (λ v. Ok (map outline v)) (sym c.requires.empty);
   placed = c.requires.placed;
 }
@@ -24,7 +24,7 @@ pub loop-need-preserved-then-has : goal.loop-need-preserved-then-has
 loop-need-preserved-then-has g c =
     let same = need_same c.args.needed.now c.loop-need.need-index no_need (omega arith) (sym (placed_asked c.args.dir.now.lumps (take c.loop-need.need-index c.args.needed.now) c.loop-need.list.frames.items (get_or c.args.needed.now c.loop-need.need-index no_need) c.loop-need.invariant.outlines) ∙ sym c.has.ensures ∙ c.if-has.true) in
     record {
-      tells = subst (λ ns. Tells (g.S.Shelf.view c.args.shelf.now) (g.S.Shelf.view c.loop-need.shelf) c.args.dir.now c.args.cache.now c.loop-need.cache c.args.patches.now c.loop-need.patches (IsWanted c.args.dir.now.lumps c.args.needed.now) (λ (_ : Unit {0}). c.loop-need.list.frames.items) (λ bytes. each_of (frame_of bytes c.args.dir.now.lumps) ns) (Ok tt)) same c.loop-need.invariant.tells;
+      tells = subst (λ ns. Reads (g.S.Shelf.view c.args.shelf.now) (g.S.Shelf.view c.loop-need.shelf) c.args.dir.now c.args.cache.now c.loop-need.cache c.args.patches.now c.loop-need.patches (IsWanted c.args.dir.now.lumps c.args.needed.now) (λ (_ : Unit {0}). c.loop-need.list.frames.items) (λ bytes. each_of (frame_of bytes c.args.dir.now.lumps) ns) (Ok tt)) same c.loop-need.invariant.tells;
       outlines = subst (λ ns. each_of (outline_of c.args.dir.now.lumps) ns ≡ Ok (map outline c.loop-need.list.frames.items)) same c.loop-need.invariant.outlines;
       placed = c.loop-need.invariant.placed;
     }
@@ -42,7 +42,7 @@ loop-need-preserved g c =
     let h : i < length needed = omega arith in
     let new = sym (placed_asked lumps (take i needed) frames (get_or needed i d) c.loop-need.invariant.outlines) ∙ sym c.has.ensures ∙ c.if-has.false in
     record {
-      tells = tells_more (λ bytes. each_of (frame_of bytes lumps) (first_needs (take (i + 1) needed))) c.in_ok-frame.frame tt c.loop-need.invariant.tells c.read_frame.result c.read_frame.ensures.tells c.in_ok-frame.was
+      tells = reads_more (λ bytes. each_of (frame_of bytes lumps) (first_needs (take (i + 1) needed))) c.in_ok-frame.frame tt c.loop-need.invariant.tells c.read_frame.result c.read_frame.ensures.tells c.in_ok-frame.was
           (λ lump w. record { need = get_or needed i d; is = Contains-get_or needed i d h; wanted = w })
           (λ bytes one two. need_push (frame_of bytes lumps) needed i d frames c.in_ok-frame.frame h new one two ∙ ap Ok (sym c.in_ok-add.ensures.frames));
       outlines = need_push (outline_of lumps) needed i d (map outline frames) (outline c.in_ok-frame.frame) h new c.loop-need.invariant.outlines c.in_ok-frame.ensures.outline
@@ -59,8 +59,8 @@ returns-in_err-frame-clause-tells g c =
     let lumps = c.args.dir.now.lumps in
     let h : i < length needed = omega arith in
     let new = sym (placed_asked lumps (take i needed) frames (get_or needed i d) c.loop-need.invariant.outlines) ∙ sym c.has.ensures ∙ c.if-has.false in
-    tells_same c.from_residual.result c.in_err-frame.field-0.0 (λ bytes. each_of (frame_of bytes lumps) (first_needs needed)) c.from_residual.ensures.1
-    (tells_stop (λ bytes. each_of (frame_of bytes lumps) (first_needs needed)) c.in_err-frame.field-0.0 c.loop-need.invariant.tells c.read_frame.result c.read_frame.ensures.tells c.in_err-frame.was
+    reads_same c.from_residual.result c.in_err-frame.field-0.0 (λ bytes. each_of (frame_of bytes lumps) (first_needs needed)) c.from_residual.ensures.1
+    (reads_stop (λ bytes. each_of (frame_of bytes lumps) (first_needs needed)) c.in_err-frame.field-0.0 c.loop-need.invariant.tells c.read_frame.result c.read_frame.ensures.tells c.in_err-frame.was
     (λ lump w. record { need = get_or needed i d; is = Contains-get_or needed i d h; wanted = w })
     (λ bytes e one two. need_stop (frame_of bytes lumps) needed i d frames e h new one two))
 
@@ -74,7 +74,7 @@ returns-in_err-add-clause-tells g c =
     let h : i < length needed = omega arith in
     let new = sym (placed_asked lumps (take i needed) frames (get_or needed i d) c.loop-need.invariant.outlines) ∙ sym c.has.ensures ∙ c.if-has.false in
     let value : Unit {0} → List Frame = λ done. frames ++ c.in_ok-frame.frame ∷ [] in
-    let one = tells_more {wants = IsWanted lumps needed} {value = value} (λ bytes. each_of (frame_of bytes lumps) (first_needs (take (i + 1) needed))) c.in_ok-frame.frame tt c.loop-need.invariant.tells c.read_frame.result c.read_frame.ensures.tells c.in_ok-frame.was
+    let one = reads_more {wants = IsWanted lumps needed} {value = value} (λ bytes. each_of (frame_of bytes lumps) (first_needs (take (i + 1) needed))) c.in_ok-frame.frame tt c.loop-need.invariant.tells c.read_frame.result c.read_frame.ensures.tells c.in_ok-frame.was
     (λ lump w. record { need = get_or needed i d; is = Contains-get_or needed i d h; wanted = w })
     (λ bytes one two. need_push (frame_of bytes lumps) needed i d frames c.in_ok-frame.frame h new one two) in
-    tells_same c.from_residual-in_err-add.result OutOfMemory (λ bytes. each_of (frame_of bytes lumps) (first_needs needed)) c.from_residual-in_err-add.ensures.1 (tells_short one)
+    reads_same c.from_residual-in_err-add.result OutOfMemory (λ bytes. each_of (frame_of bytes lumps) (first_needs needed)) c.from_residual-in_err-add.ensures.1 (reads_short one)

@@ -1,12 +1,12 @@
 use Rattle.std.proofs.Common.{◌≡◌, take, map, Ok}
 use Rattle.sprite_book.specs.Books.{each_of, frame_of, first_needs, outline, outline_of}
-use Rattle.sprite_book.specs.Calls.{Tells, IsWanted}
+use Rattle.sprite_book.specs.Calls.{Reads, IsWanted}
 use Rattle.sprite_book.specs.Indexes.{IsPlaceOf}
 use Rattle.sprite_book.proofs.needs.read_frames.Given as goal
 
 abbrev pub invariant-loop-need : goal.invariant-loop-need
 invariant-loop-need g l = record {
-  tells : Tells (g.S.Shelf.view l.initial.shelf) (g.S.Shelf.view l.shelf) l.dir l.initial.cache l.cache l.initial.patches l.patches (IsWanted l.dir.lumps l.needed) (λ (_ : Unit {0}). l.list.frames.items) (λ bytes. each_of (frame_of bytes l.dir.lumps) (first_needs (take l.need-index l.needed))) (Ok tt);
+  tells : Reads (g.S.Shelf.view l.initial.shelf) (g.S.Shelf.view l.shelf) l.dir l.initial.cache l.cache l.initial.patches l.patches (IsWanted l.dir.lumps l.needed) (λ (_ : Unit {0}). l.list.frames.items) (λ bytes. each_of (frame_of bytes l.dir.lumps) (first_needs (take l.need-index l.needed))) (Ok tt);
   outlines : each_of (outline_of l.dir.lumps) (first_needs (take l.need-index l.needed)) ≡ Ok (map outline l.list.frames.items);
   placed : IsPlaceOf l.list.index l.list.frames.items;
 }

@@ -1,4 +1,4 @@
-use Rattle.std.proofs.Common.{◌≡◌, List, ℕ, length, take, Some, Ok}
+use Rattle.std.proofs.Common.{◌≡◌, List, ℕ, take, Some, Ok}
 use Rattle.std.specs.List.{range_with_len}
 use Rattle.art_rules.specs.declared.Mention.{Mention}
 use Rattle.art_rules.specs.Frames.{last_that, is_of_frame}
