@@ -1,0 +1,4 @@
+pub mod NumberedLemmas
+pub mod SkyLemmas
+pub mod SideLemmas
+pub mod FlatLemmas
