@@ -1,0 +1,63 @@
+-- Laws of `leaf_from` and `is_within`, at a leaf and at a node.
+use Rattle.std.proofs.Common.{◌≡◌, ℕ, zero, suc, ◌-◌, ◌<◌, ◌≤◌, Bool, true, List, Some, ℤ, slice_get, refl, arith, inl, inr, ap, ◌∙◌}
+use Rattle.std.specs.Prelude.{◌&&◌}
+use Rattle.std.proofs.lemmas.Bool.{and_parts, cases_eq, ltb-true}
+use Rattle.level_rules.specs.declared.Node.{Node}
+use Rattle.level_rules.specs.declared.Child.{Child}
+use Rattle.level_rules.specs.declared.Child.TheVariants.{Node as NodeChild, Leaf as LeafChild}
+use Rattle.level_rules.specs.Levels.{child_on}
+use Rattle.map_rules.specs.Ranges.{is_there}
+use Rattle.map_rules.specs.Trees.{is_within}
+use Rattle.view_rules.specs.Sides.{side_of}
+use Rattle.walk_rules.specs.Boxes.{partition_of}
+use Rattle.scene_rules.specs.Places.{leaf_below, leaf_from}
+
+-- a leaf is the leaf itself
+pub leaf_from-leaf : (nodes : List Node) (x y : ℤ) (levels leaf : ℕ) → leaf_from nodes x y levels (LeafChild leaf) ≡ leaf
+unfolding leaf_from
+leaf_from-leaf nodes x y zero leaf = refl
+leaf_from-leaf nodes x y (suc levels) leaf = refl
+
+-- a child that is there is a leaf or a node that is there
+pub there-leaf : (nodes leaves leaf : ℕ) → is_there nodes leaves (LeafChild leaf) ≡ true → leaf < leaves
+unfolding is_there
+there-leaf nodes leaves leaf there = ltb-true leaf leaves there
+
+pub there-node : (nodes leaves n : ℕ) → is_there nodes leaves (NodeChild n) ≡ true → n < nodes
+unfolding is_there
+there-node nodes leaves n there = ltb-true n nodes there
+
+-- a node needs a level
+pub within-node : (nodes : List Node) (levels n : ℕ) → is_within nodes levels (NodeChild n) ≡ true → 0 < levels
+unfolding is_within
+within-node nodes zero n within = cc
+within-node nodes (suc levels) n within = omega arith
+
+-- what both children pass, the child on a side passes
+child_passes : (passes : Child → Bool) (node : Node) (side : ℕ) → side ≤ 1 → (passes (child_on node 0) && passes (child_on node 1)) ≡ true → passes (child_on node side) ≡ true
+child_passes passes node side low both =
+    let each = and_parts (passes (child_on node 0)) (passes (child_on node 1)) both in
+    elim (cases_eq side 0) [
+      | inl front ↦ ap (λ (s : ℕ). passes (child_on node s)) front ∙ each.0
+      | inr behind ↦ (let back : side ≡ 1 = omega arith in ap (λ (s : ℕ). passes (child_on node s)) back ∙ each.1)
+    ]
+
+-- below a node one level less is needed
+pub within-child : (nodes : List Node) (levels n side : ℕ) (node : Node) → side ≤ 1 → slice_get nodes n ≡ Some node → is_within nodes levels (NodeChild n) ≡ true → is_within nodes (levels - 1) (child_on node side) ≡ true
+unfolding is_within
+within-child nodes zero n side node low found within = cc
+within-child nodes (suc levels) n side node low found within =
+    let less : suc levels - 1 ≡ levels = omega arith in
+    rw less (child_passes (is_within nodes levels) node side low (rw found at within))
+
+-- the leaf is that of the child on the point's side
+pub leaf_from-child : (nodes : List Node) (x y : ℤ) (levels n : ℕ) (node : Node) → 0 < levels → slice_get nodes n ≡ Some node →
+    leaf_from nodes x y levels (NodeChild n) ≡ leaf_from nodes x y (levels - 1) (child_on node (side_of (partition_of node.line) x y))
+unfolding leaf_from leaf_below
+leaf_from-child nodes x y zero n node some found = absurd (omega arith)
+leaf_from-child nodes x y (suc levels) n node some found =
+    let less : suc levels - 1 ≡ levels = omega arith in
+    rw (less, found) refl
+
+-- for `grind`: a walk down the nodes
+pub ruleset leaf_steps = (leaf_from-leaf, within-node)

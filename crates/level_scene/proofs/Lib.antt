@@ -1,0 +1,4 @@
+pub mod GroupLemmas
+pub mod LeafLemmas
+pub mod PlacedLemmas
+pub mod ShadowLemmas

@@ -1,0 +1,37 @@
+use Rattle.std.proofs.Common.{◌≡◌, ◌+◌, ◌-◌, ◌<◌, ℕ, w32, to_z, of_z, ap, sym, ◌∙◌, arith, rules}
+use Rattle.std.proofs.lemmas.Int.{to_z-of_z}
+use Rattle.level_rules.specs.declared.Child.{Child}
+use Rattle.scene_rules.specs.Places.{leaf_from}
+use Rattle.level_scene.proofs.LeafLemmas.{leaf_from-leaf, there-leaf, there-node, within-node}
+use Rattle.level_scene.proofs.places.+leaf_from.Goals as goal
+
+pub returns-in-Leaf-clause-there : goal.returns-in-Leaf-clause-there
+returns-in-Leaf-clause-there t c = there-leaf _ _ c.in-Leaf.leaf (rw c.in-Leaf.is at c.requires.there)
+
+pub child_toward-requires : goal.child_toward-requires
+child_toward-requires t c = there-node _ _ c.in-Node.n (rw c.in-Node.is at c.requires.there)
+
+pub returns-in-Leaf-clause-depth : goal.returns-in-Leaf-clause-depth
+returns-in-Leaf-clause-depth t c more =
+    ap (λ (child : Child). leaf_from c.args.level.now.nodes c.args.x c.args.y (c.args.levels + more) child) c.in-Leaf.is
+    ∙ leaf_from-leaf c.args.level.now.nodes c.args.x c.args.y (c.args.levels + more) c.in-Leaf.leaf
+
+-- more levels at a node are more levels at its child
+pub returns-in-Node-clause-depth : goal.returns-in-Node-clause-depth
+returns-in-Node-clause-depth t c more =
+    let nodes = c.args.level.now.nodes in
+    let levels = c.args.levels in
+    let x : to_z w32 (of_z w32 c.args.x) ≡ c.args.x = to_z-of_z w32 c.args.x (search rules) in
+    let y : to_z w32 (of_z w32 c.args.y) ≡ c.args.y = to_z-of_z w32 c.args.y (search rules) in
+    let some : 0 < levels = within-node nodes levels c.in-Node.n (rw c.in-Node.is at c.requires.within) in
+    let left : levels + more - 1 ≡ levels - 1 + more = omega arith in
+    let first = rw (x, y) at (c.child_toward.ensures.leaf (levels + more) (omega arith)) in
+    ap (λ (child : Child). leaf_from nodes c.args.x c.args.y (levels + more) child) c.in-Node.is
+    ∙ first
+    ∙ ap (λ (fuel : ℕ). leaf_from nodes c.args.x c.args.y fuel c.child_toward.result) left
+    ∙ rw (x, y) at (c.leaf_from.ensures.depth more)
+
+pub returns-in-Node-clause-value : goal.returns-in-Node-clause-value
+returns-in-Node-clause-value t c =
+    let none : c.args.levels + 0 ≡ c.args.levels = omega arith in
+    sym (ap (λ (fuel : ℕ). leaf_from c.args.level.now.nodes c.args.x c.args.y fuel c.args.child) (sym none) ∙ returns-in-Node-clause-depth t c 0)

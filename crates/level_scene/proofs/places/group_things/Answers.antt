@@ -1,0 +1,27 @@
+use Rattle.std.proofs.Common.{◌-◌, ℕ, List, length, subst, sym, arith, ◌∙◌}
+use Rattle.std.specs.List.{All}
+use Rattle.std.proofs.lemmas.List.{drop_all, length-reverse, length-set, length_push}
+use Rattle.std.proofs.lemmas.Iterator.Adapters.{YieldsList-from_rev_slice}
+use Rattle.std.proofs.lemmas.Iterator.Consumers.{YieldsList-turn}
+use Rattle.scene_rules.specs.declared.Placed.{Placed}
+use Rattle.level_scene.specs.Groups.{AreGroupsOf, IsIn}
+use Rattle.level_scene.proofs.GroupLemmas.{groups-count, groups-more, groups-none}
+use Rattle.level_scene.proofs.places.group_things.Goals as goal
+
+pub loop-placed-init : goal.loop-placed-init
+loop-placed-init c = record {
+  count = groups-count c.in_ok-groups.groups.items c.args.count c.in_ok-groups.ensures;
+  groups = subst (λ (things : List Placed). AreGroupsOf things c.in_ok-groups.groups.items) (sym (drop_all (length c.args.all.now - 0) c.args.all.now (omega arith))) (groups-none c.in_ok-groups.groups.items c.args.count c.in_ok-groups.ensures);
+}
+
+pub loop-placed-preserved : goal.loop-placed-preserved
+loop-placed-preserved c =
+    let all = c.args.all.now in
+    let groups = c.loop-placed.groups.items in
+    let n = length c.loop-placed.yielded in
+    let turn = YieldsList-turn (YieldsList-from_rev_slice all cc) c.loop-placed.yielded _ c.loop-placed.yielded_by _ _ c.in-Some.placed c.in-Some.is c.next.ensures.steps in
+    let within : All (IsIn (length groups)) all = subst (λ (count : ℕ). All (IsIn count) all) (sym c.loop-placed.invariant.count) c.requires in
+    rw (length_push c.loop-placed.yielded c.in-Some.placed) (record {
+      count = length-set groups c.in-Some.placed.now.sector c.push.new.self ∙ c.loop-placed.invariant.count;
+      groups = groups-more groups all n c.in-Some.placed.now c.index_mut.result.now c.push.new.self within (omega (arith, turn.0, length-reverse all)) turn.1 c.index_mut.ensures.value c.in_ok-push.ensures.items c.loop-placed.invariant.groups;
+    })
