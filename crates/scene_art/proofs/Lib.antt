@@ -1,0 +1,3 @@
+pub mod MiddleLemmas
+pub mod MarkLemmas
+pub mod SizeLemmas

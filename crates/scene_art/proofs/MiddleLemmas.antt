@@ -1,0 +1,54 @@
+-- Laws of `is_all_single` and `bad_middle`.
+use Rattle.std.proofs.Common.{◌≡◌, ℕ, zero, suc, ◌+◌, ◌<◌, ◌≤◌, Bool, true, false, List, length, get_or, refl, ap, sym, ◌∙◌, arith, zero-add}
+use Rattle.std.specs.Prelude.{◌&&◌}
+use Rattle.std.specs.List.{list_all, list_any, range_with_len}
+use Rattle.std.proofs.lemmas.List.{get_or_default}
+use Rattle.std.proofs.lemmas.List.Folds.{list_all_at}
+use Rattle.std.proofs.lemmas.List.FromFn.{get_or-range_with_len, length-range_with_len}
+use Rattle.word_rules.specs.Least.{least}
+use Rattle.level_rules.specs.declared.Seg.{Seg}
+use Rattle.level_rules.specs.declared.SideTextures.{SideTextures}
+use Rattle.art_rules.specs.Wanted.{PreparedTexture}
+use Rattle.art_rules.specs.Columns.{is_single}
+use Rattle.art_rules.specs.Textures.{mask_of}
+use Rattle.texture_build.specs.Views.{is_marked}
+use Rattle.scene_rules.specs.Sides.{three_textures}
+use Rattle.scene_rules.specs.Middles.{bad_middle, is_all_single, is_bad_middle, is_bad_side, is_seen_through, middle_of}
+
+range_all : (p : ℕ → Bool) (a n : ℕ) → ((k : ℕ) → k < a + n → p k ≡ true) → list_all p (range_with_len a n) ≡ true
+range_all p a zero all = refl
+range_all p a (suc n) all = rw (all a (omega arith)) (range_all p (a + 1) n (λ k l. all k (omega arith)))
+
+-- each column to the mask has one patch
+pub all_single : (t : PreparedTexture) (last n : ℕ) → last ≡ mask_of (length t.columns) → last < n → ((x : ℕ) → x < n → is_single t.patches x ≡ true) → is_all_single t ≡ true
+unfolding is_all_single
+all_single t last n e l all = range_all (is_single t.patches) 0 (mask_of (length t.columns) + 1) (λ k m. all k (omega (arith, e)))
+
+-- one of them has not
+pub not_all_single : (t : PreparedTexture) (last x : ℕ) → last ≡ mask_of (length t.columns) → x ≤ last → is_single t.patches x ≡ false → is_all_single t ≡ false
+unfolding is_all_single
+not_all_single t last x e l other =
+    let n = mask_of (length t.columns) + 1 in
+    let m : x < n = omega (arith, e) in
+    let long : x < length (range_with_len 0 n) = omega (arith, length-range_with_len 0 n) in
+    list_all_at (is_single t.patches) (range_with_len 0 n) x 0 long (ap (is_single t.patches) (get_or-range_with_len 0 n x 0 m ∙ zero-add x) ∙ other)
+
+least_same : (p q : ℕ → Bool) (n : ℕ) → ((k : ℕ) → k < n → p k ≡ q k) → least p n ≡ least q n
+unfolding least
+least_same p q zero same = refl
+least_same p q (suc n) same = rw (least_same p q n (λ k l. same k (omega arith)), same n (omega arith)) refl
+
+-- the sides of segs with a sector behind them are marked
+pub bad_middle-marked : (texture : ℕ → PreparedTexture) (segs : List Seg) (sides : List SideTextures) (marks : List Bool) → ((side : ℕ) → side < length sides → is_marked marks side ≡ list_any (is_seen_through side) segs) →
+    least (λ side. is_marked marks side && is_bad_middle texture (middle_of sides side)) (length sides) ≡ bad_middle texture segs sides
+unfolding bad_middle is_bad_side
+bad_middle-marked texture segs sides marks same =
+    least_same (λ side. is_marked marks side && is_bad_middle texture (middle_of sides side)) (is_bad_side texture segs sides) (length sides)
+    (λ side l. ap (λ b. b && is_bad_middle texture (middle_of sides side)) (same side l))
+
+-- one side, read in a loop
+pub marked_read : (texture : ℕ → PreparedTexture) (sides : List SideTextures) (marks : List Bool) (side : ℕ) (d : SideTextures) (marked : Bool) → side < length sides → marked ≡ is_marked marks side →
+    (is_marked marks side && is_bad_middle texture (middle_of sides side)) ≡ (marked && is_bad_middle texture (get_or sides side d).middle)
+marked_read texture sides marks side d marked l e =
+    ap (λ b. b && is_bad_middle texture (middle_of sides side)) (sym e)
+    ∙ ap (λ (one : SideTextures). marked && is_bad_middle texture one.middle) (get_or_default sides side (three_textures 0 0 0) d l)
