@@ -15,6 +15,7 @@ mod weapons;
 
 pub use crate::fault::{CsvFault, CsvRefusal};
 pub use crate::path::{PathRow, PathTable};
+pub use crate::records::MAX_TABLE_BYTES;
 pub use crate::things::{ThingLine, ThingRow, ThingTable};
 pub use crate::weapons::{WeaponRow, WeaponTable};
 

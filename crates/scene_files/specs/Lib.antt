@@ -1,0 +1,5 @@
+pub mod Stops
+pub mod Faults
+pub mod Files
+pub mod Lengths
+pub mod Found
