@@ -2,7 +2,8 @@
 //! without a lump being read: the textures of sides, the flats of sectors, and where things stand.
 //!
 //! Rules: `scene_rules`, Skies, Sides, SectorFlats and Places. Proved: each call is its definition,
-//! with its first refusal. Tested only: that memory is found. The original: p_setup.c, p_mobj.c.
+//! with its first refusal. Tested only: that memory is found, but for `number_sides`. The original:
+//! p_setup.c, p_mobj.c.
 #![tactic(auto)]
 
 mod fault;

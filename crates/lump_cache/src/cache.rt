@@ -130,6 +130,7 @@ fn fetch_lump<S: Shelf>(
     ensures pinned { (o : Owner) → same_owner (lump_owner lump.0) o ≡ false → IsPinned (owned_block o zone.old.blocks) → owned_block o zone.new.blocks ≡ owned_block o zone.old.blocks }
     ensures rest_but { (colormap size : ℕ) (pinned : List Owner) → is_static_tag tag ≡ false → IsAtRestBut colormap size pinned zone.old → IsAtRestBut colormap size (lump_owner lump.0 ∷ pinned) zone.new }
     ensures first { tag ≡ Static → IsEmpty zone.old → OnOk result (IsAtRest lump.0 (lump_at dir.now.lumps lump.0).size zone.new) }
+    ensures room_first { IsEmpty zone.old → WhereFull result (λ wanted widest'. zone.old.size < wanted) }
 {
     match zone.tag(lump_slot(lump)) {
         None => take_and_read(zone, shelf, dir, lump, tag),
@@ -226,9 +227,10 @@ impl LumpCache {
     /// where the shelf's count of faults rose, and never over a steady shelf with the files that the
     /// directory was loaded from. After either the slot is empty, and every pinned block stands.
     ///
-    /// A zone that had no room is small. At rest it has fewer bytes than a block for the colormap, the
-    /// wanted block and `MIN_FRAGMENT`. While one more block may be pinned, as that of a composite, it
-    /// has fewer than a block for each of the two, twice the wanted block and twice `MIN_FRAGMENT`.
+    /// A zone that had no room is small. With no live slot it has fewer bytes than the wanted block. At
+    /// rest it has fewer than a block for the colormap, the wanted block and `MIN_FRAGMENT`. While one
+    /// more block may be pinned, as that of a composite, it has fewer than a block for each of the two,
+    /// twice the wanted block and twice `MIN_FRAGMENT`.
     ///
     /// Where the cache is in order for a list that has the lump, it stays so after Ok, no slot is
     /// emptied, and `ZoneFull` does not come.
@@ -266,6 +268,7 @@ impl LumpCache {
         ensures pinned { (o : Owner) → same_owner (lump_owner lump.0) o ≡ false → IsPinned (owned_block o self.old.blocks) → owned_block o self.new.blocks ≡ owned_block o self.old.blocks }
         ensures rest_but { (colormap size : ℕ) (pinned : List Owner) → is_static_tag tag ≡ false → IsAtRestBut colormap size pinned self.old → IsAtRestBut colormap size (lump_owner lump.0 ∷ pinned) self.new }
         ensures first { tag ≡ Static → IsEmpty self.old → OnOk result (IsAtRest lump.0 (lump_at dir.now.lumps lump.0).size self.new) }
+        ensures room_first { IsEmpty self.old → WhereFull result (λ wanted widest'. self.old.size < wanted) }
     {
         fetch_lump(&mut self.zone, shelf, dir, lump, tag)
     }

@@ -80,6 +80,7 @@ impl SpriteBook {
         shelf: &mut S,
     ) -> Result<SpriteBook, SpriteFault>
         requires slots { length dir.now.lumps ≤ cache.old.lumps }
+        ensures tells { Tells sprite_told (S.view shelf.old) (S.view shelf.new) dir.now cache.old cache.new (IsWanted dir.now.lumps needed.now) (λ book. book) (λ bytes. each_of (frame_of bytes dir.now.lumps) (first_needs needed.now)) result }
         ensures answers { (contents : List (List ℕ)) → AllStand (S.view shelf.old) dir.now.files contents → AllWithin contents dir.now.lumps → IsFaithful contents dir.now.lumps cache.old →
             Answers sprite_told (S.view shelf.old).steady (λ book. book) (book_of contents dir.now.lumps needed.now) result }
         ensures outlines { IfOk result (λ book. outlines_of dir.now.lumps needed.now ≡ Ok (map outline book)) }

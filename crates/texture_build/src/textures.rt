@@ -13,6 +13,7 @@ ghost use Rattle.zone_rules.specs.Orders.{Item, IsInOrder, KeepsOrder};
 ghost use Rattle.lump_cache.specs.Caches.{IsAtRest, IsFaithful, KeepsCounts, cache_told, composite_owner};
 ghost use Rattle.cached_lumps.specs.Calls.{IfFull, InOrderAt, IsTold, Tells};
 ghost use Rattle.cached_lumps.specs.Named.{named_bytes};
+ghost use Rattle.cached_lumps.specs.Sizes.{StandsBeside};
 ghost use Rattle.art_rules.specs.Bytes.{byte_at};
 ghost use Rattle.art_rules.specs.Columns.{is_single, texel};
 ghost use Rattle.art_rules.specs.Lookups.{single_place};
@@ -67,7 +68,9 @@ impl Textures {
     /// Errors: `Refused` with the first refusal of these lumps: `Pnames`, `Lump`, and only then
     /// `Entry`. `ZoneFull` only where no gap of the zone held the block of one of them. `ReadFault`
     /// only where the shelf's count of faults rose. `OutOfMemory`. Whatever comes, a cache at rest is
-    /// at rest, and one that was faithful is faithful.
+    /// at rest, and one that was faithful is faithful. From a cache at rest whose live lumps have the
+    /// directory's sizes, after Ok, the colormap's block and that of any other of the lists are
+    /// together no larger than the zone.
     ///
     /// The original: `R_InitTextures`, r_data.c, which ends the program there.
     pub fn load<S: Shelf>(
@@ -80,6 +83,7 @@ impl Textures {
         ensures tells { Tells tex_told (S.view shelf.old) (S.view shelf.new) dir.now cache.old cache.new (IsListLump dir.now.lumps) (λ textures. textures.lists) (λ bytes. texture_lists (named_bytes bytes dir.now.lumps PNAMES) (named_bytes bytes dir.now.lumps TEXTURE1) (named_bytes bytes dir.now.lumps TEXTURE2)) result }
         ensures few { IfOk result (λ textures. length textures.lists.textures ≤ MAX_TEXTURES) }
         ensures unprepared { IfOk result (λ textures. textures.prepared ≡ []) }
+        ensures fits { OnOk result ((lump : ℕ) → IsListLump dir.now.lumps lump → StandsBeside dir.now.lumps cache.old lump) }
     {
         let lists = ListedTextures::load(alloc, dir, cache, shelf)?;
         Ok(Textures {

@@ -10,7 +10,7 @@ use Rattle.lump_cache.proofs.RestLemmas.{rest_taken, rest_retag, unpinned_after,
 use Rattle.lump_cache.proofs.RestButLemmas.{rest_but_more, rest_but_retag, not_colormap, passing_after}
 use Rattle.lump_cache.proofs.OrderLemmas.{order_unless_static, live_unless_static}
 use Rattle.zone_rules.specs.Orders.{KeepsOrder, is_live}
-use Rattle.lump_cache.proofs.RoomLemmas.{room_where}
+use Rattle.lump_cache.proofs.RoomLemmas.{room_where, empty_where}
 use Rattle.lump_cache.proofs.RoomButLemmas.{room_but_where}
 use Rattle.lump_cache.proofs.cache.fetch_lump.Given.{Over}
 use Rattle.lump_cache.proofs.cache.fetch_lump.Goals as goal
@@ -83,3 +83,6 @@ returns-in-None-clause-room g c = room_where c.take_and_read.result (lump_at c.a
 
 pub returns-in-None-clause-room_but : goal.returns-in-None-clause-room_but
 returns-in-None-clause-room_but g c = room_but_where c.take_and_read.result (lump_at c.args.dir.now.lumps c.args.lump.0).size c.args.zone.now c.requires.sound c.take_and_read.ensures.full
+
+pub returns-in-None-clause-room_first : goal.returns-in-None-clause-room_first
+returns-in-None-clause-room_first g c = empty_where c.take_and_read.result (lump_at c.args.dir.now.lumps c.args.lump.0).size c.args.zone.now c.requires.sound c.take_and_read.ensures.full
