@@ -1,7 +1,9 @@
--- What `rows_after` says of the rows before each record.
-use Rattle.std.proofs.Common.{◌≡◌, ℕ, suc, ◌+◌, ◌<◌, List, [], ◌∷◌, ◌++◌, length, take, get_or, Result, Ok, Err, refl, ap, sym, ◌∙◌, arith, ◌⊎◌, inl, inr}
+-- What `rows_after` says of the rows before each record, and of how many rows there are.
+use Rattle.std.proofs.Common.{◌≡◌, ℕ, suc, ◌+◌, ◌<◌, ◌≤◌, List, [], ◌∷◌, ◌++◌, length, take, get_or, Result, Ok, Err, refl, ap, sym, ◌∙◌, arith, ◌⊎◌, inl, inr}
 use Rattle.std.proofs.lemmas.List.{length-append}
+use Rattle.std.proofs.lemmas.Bool.{cases_eq}
 use Rattle.csv_tables.specs.declared.fault.CsvRefusal.{CsvRefusal}
+use Rattle.csv_tables.specs.declared.fault.CsvRefusal.TheVariants.{TooMany}
 use Rattle.csv_tables.specs.Rows.{rows_after}
 
 -- record k is read where the rows before it were taken, with the next row's number
@@ -10,7 +12,7 @@ pub record ReadsTo {A : Type 0} (read : List A → ℕ → List (List ℕ) → R
   pub taken : rows_after read rows (take k records) ≡ Ok before
   pub is_read : read before (length before + 1) (get_or records k []) ≡ found
 
-ok-err : {A : Type 0} (a : A) (refusal : CsvRefusal) → ◌≡◌ {A = Result A CsvRefusal} (Ok a) (Err refusal) → ⊥
+pub ok-err : {A : Type 0} (a : A) (refusal : CsvRefusal) → ◌≡◌ {A = Result A CsvRefusal} (Ok a) (Err refusal) → ⊥
 ok-err a refusal e = cc
 
 err-same : {A : Type 0} (a b : CsvRefusal) → ◌≡◌ {A = Result A CsvRefusal} (Err a) (Err b) → a ≡ b
@@ -55,5 +57,24 @@ rows_after-length read rows all (fields ∷ rest) e =
           let h = rows_after-length read (rows ++ taken.0 ∷ []) all rest more in
           let n : length (rows ++ taken.0 ∷ []) ≡ length rows + 1 = length-append rows (taken.0 ∷ []) in
           omega (arith, h, n)
+      | inr refused ↦ absurd (ok-err all refused.0 (sym e ∙ rw refused.1 refl))
+    ]
+
+-- and no more rows than the limit, where each row past it is one too many
+pub rows_after-within : {A : Type 0} (read : List A → ℕ → List (List ℕ) → Result A CsvRefusal) (limit : ℕ) (rows all : List A) (records : List (List (List ℕ)))
+    → ((rows : List A) (row : ℕ) (fields : List (List ℕ)) → limit < row → read rows row fields ≡ Err TooMany)
+    → length rows ≤ limit → rows_after read rows records ≡ Ok all → length all ≤ limit
+unfolding rows_after
+rows_after-within read limit rows all [] past l e = let same : rows ≡ all = cc in let n : length rows ≡ length all = ap length same in omega arith
+rows_after-within read limit rows all (fields ∷ rest) past l e =
+    elim (parted (read rows (length rows + 1) fields)) [
+      | inl taken ↦
+          let more : rows_after read (rows ++ taken.0 ∷ []) rest ≡ Ok all = rw taken.1 at e in
+          elim (cases_eq (length rows) limit) [
+            | inl full ↦ absurd (ok-err taken.0 TooMany (sym taken.1 ∙ past rows (length rows + 1) fields (omega (arith, full))))
+            | inr free ↦
+                let n : length (rows ++ taken.0 ∷ []) ≡ length rows + 1 = length-append rows (taken.0 ∷ []) in
+                rows_after-within read limit (rows ++ taken.0 ∷ []) all rest past (omega (arith, l, free, n)) more
+          ]
       | inr refused ↦ absurd (ok-err all refused.0 (sym e ∙ rw refused.1 refl))
     ]

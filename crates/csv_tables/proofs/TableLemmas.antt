@@ -1,5 +1,5 @@
--- The first records of a file say what its table is, where they go past the limit of rows.
-use Rattle.std.proofs.Common.{◌≡◌, ℕ, zero, suc, ◌+◌, ◌<◌, ◌≤◌, true, cond, nat_lt, List, [], ◌∷◌, take, Result, Ok, Err, IfOk, refl, ap, sym, ◌∙◌, arith}
+-- The first records of a file say what its table is, where they go past the limit of rows, which a weapon table keeps.
+use Rattle.std.proofs.Common.{◌≡◌, ℕ, zero, suc, ◌+◌, ◌<◌, ◌≤◌, Bool, true, false, cond, nat_lt, List, [], ◌∷◌, length, take, Result, Ok, Err, IfOk, refl, ap, sym, ◌∙◌, arith}
 use Rattle.std.proofs.lemmas.Bool.Decides.{nat_tests}
 use Rattle.csv_tables.specs.declared.fault.CsvRefusal.{CsvRefusal}
 use Rattle.csv_tables.specs.declared.fault.CsvRefusal.TheVariants.{Header, TooMany}
@@ -12,8 +12,9 @@ use Rattle.csv_tables.specs.declared.weapons.TheConstants.{MAX_WEAPONS, WEAPON_W
 use Rattle.csv_tables.specs.Records.{records_of, row_shape, table_records}
 use Rattle.csv_tables.specs.Paths.{path_in, path_of_records, path_row, path_width}
 use Rattle.csv_tables.specs.Things.{is_thing_header, lines_of_records, read_line, thing_line, things_in}
-use Rattle.csv_tables.specs.Weapons.{is_weapon_header, weapon_row, weapons_in, weapons_of_records}
+use Rattle.csv_tables.specs.Weapons.{is_weapon_header, weapon_row, weapon_rows, weapons_in, weapons_of_records}
 use Rattle.csv_tables.proofs.RowLemmas.{and_then-err, and_then-same, rows_after-first}
+use Rattle.csv_tables.proofs.RowSentences.{ok-err, rows_after-within}
 
 -- a row past the limit is one too many
 row_shape-past : (limit width row : ℕ) (fields : List (List ℕ)) → limit < row → row_shape limit width row fields ≡ Err TooMany
@@ -69,6 +70,18 @@ things_in-first bytes n given r whole first l e = rw whole (sym (lines_of_record
 pub weapons_in-first : (bytes : List ℕ) (n : ℕ) (given : List (List (List ℕ))) (r : Result (List WeaponRow) CsvRefusal) → table_records bytes ≡ Ok (records_of bytes) → given ≡ take n (records_of bytes) → MAX_WEAPONS + 2 ≤ n → weapons_of_records given ≡ r → weapons_in bytes ≡ r
 unfolding weapons_in
 weapons_in-first bytes n given r whole first l e = rw whole (sym (weapons_of_records-first n (records_of bytes) l) ∙ ap weapons_of_records (sym first) ∙ e)
+
+-- where a refusal stands on the other branch, an Ok value is that of the first
+cond-ok : {A : Type 0} (b : Bool) (r : Result A CsvRefusal) (refusal : CsvRefusal) (a : A) → cond b r (Err refusal) ≡ Ok a → r ≡ Ok a
+cond-ok true r refusal a e = e
+cond-ok false r refusal a e = absurd (ok-err a refusal (sym e))
+
+-- a weapon table has no more rows than its limit
+pub weapons_of_records-within : (records : List (List (List ℕ))) (rows : List WeaponRow) → weapons_of_records records ≡ Ok rows → length rows ≤ MAX_WEAPONS
+unfolding weapons_of_records
+weapons_of_records-within [] rows e = absurd (ok-err rows Header (sym e))
+weapons_of_records-within (head ∷ records) rows e =
+    rows_after-within (λ _. weapon_row) MAX_WEAPONS [] rows records (λ _ row fields past. weapon_row-past row fields past) (omega arith) (cond-ok (is_weapon_header head) (weapon_rows records) Header rows e)
 
 -- what holds of an Ok value, from what held of it before
 pub if_ok-map : {A E : Type 0} (r : Result A E) (P Q : A → Type 0) → ((value : A) → P value → Q value) → IfOk r P → IfOk r Q

@@ -3,6 +3,7 @@
 ghost use Rattle.std.specs.Prelude.{◌≡◌, ◌≤◌, ◌+◌, ℕ, List, [], true, false, length, IfOk, map, Result, Ok, Err, All};
 ghost use Rattle.csv.specs.Records.{fields_of, field_at};
 ghost use Rattle.csv_tables.specs.declared.fault.CsvRefusal.{CsvRefusal};
+ghost use Rattle.csv_tables.specs.declared.weapons.TheConstants.{MAX_WEAPONS};
 ghost use Rattle.csv_tables.specs.Weapons.{IsWeaponInRange, weapon_of, weapon_row, weapon_rows, weapons_in, weapons_of_records, is_weapon_header};
 
 use crate::columns::{flag_column, frame_column, natural_column, place_column, sprite_column};
@@ -45,15 +46,16 @@ pub struct WeaponTable {
 }
 
 impl Model for WeaponTable {
-    ghost use Rattle.std.specs.Prelude.{List, All};
+    ghost use Rattle.std.specs.Prelude.{◌≤◌, List, All, length};
     ghost use Rattle.csv_tables.specs.declared.weapons.WeaponRow.{WeaponRow};
+    ghost use Rattle.csv_tables.specs.declared.weapons.TheConstants.{MAX_WEAPONS};
     ghost use Rattle.csv_tables.specs.Weapons.{IsWeaponInRange};
 
     ghost Value = { List WeaponRow };
 
     ghost view = { λ t. t.rows.items };
 
-    ghost invariant = { λ t. All IsWeaponInRange t.rows.items };
+    ghost invariant = { λ t. All IsWeaponInRange t.rows.items × (length t.rows.items ≤ MAX_WEAPONS) };
 }
 
 impl WeaponTable {
@@ -79,6 +81,7 @@ impl WeaponTable {
     pub fn rows(&self) -> &[WeaponRow]
         ensures value { result.now ≡ self.now }
         ensures range { All IsWeaponInRange result.now }
+        ensures count { length result.now ≤ MAX_WEAPONS }
     {
         &self.rows
     }

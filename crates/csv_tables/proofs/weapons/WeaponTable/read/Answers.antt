@@ -1,6 +1,6 @@
 use Rattle.std.proofs.Common.{◌∙◌, ap, map, rules, arith, Err}
 use Rattle.csv.specs.Records.{fields_of}
-use Rattle.csv_tables.proofs.TableLemmas.{weapons_in-first}
+use Rattle.csv_tables.proofs.TableLemmas.{weapons_in-first, weapons_of_records-within}
 use Rattle.csv_tables.proofs.weapons.WeaponTable.read.Goals as goal
 
 pub returns-in_err-rows-clause-refused : goal.returns-in_err-rows-clause-refused
@@ -12,3 +12,6 @@ pub returns-clause-ok : goal.returns-clause-ok
 returns-clause-ok c =
     let first = ap (map fields_of) c.deref.ensures.value ∙ c.in_ok-records.ensures.records in
     weapons_in-first c.args.bytes.now 20002 _ _ c.in_ok-records.ensures.whole first (omega arith) c.in_ok-rows.ensures.ok
+
+pub invariant_of-result : goal.invariant_of-result
+invariant_of-result c = (c.in_ok-rows.ensures.range, weapons_of_records-within _ _ c.in_ok-rows.ensures.ok)
