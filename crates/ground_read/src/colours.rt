@@ -1,0 +1,94 @@
+// The lumps of colours.
+//
+// Rules: `scene_rules`, Scenes. The original: `R_InitColormaps`, r_data.c.
+ghost use Rattle.std.specs.Prelude.{◌≡◌, ◌<◌, ◌≤◌, length, take, Ok, Err, IfOk, IfSome, OnOk, MatchResult, option_map};
+ghost use Rattle.lump_rules.specs.Lookups.{lump_at};
+ghost use Rattle.cached_lumps.specs.Calls.{Tells};
+ghost use Rattle.cached_lumps.specs.Sizes.{StandsBeside};
+ghost use Rattle.audit_fault.specs.Faults.{audit_told};
+ghost use Rattle.scene_rules.specs.declared.TheConstants.{PALETTE_SIZE};
+ghost use Rattle.scene_rules.specs.Scenes.{colormap_of, long_lump, playpal_of};
+
+use crate::{ArtRefusal, AuditFault};
+use cached_lumps::{fetch_live, live_lump};
+use lump_cache::LumpCache;
+use lump_rules::Name8;
+use outside::{OutOfMemory, Shelf};
+use scene_rules::{COLORMAP, COLORMAP_SIZE, PALETTE_SIZE, PLAYPAL};
+use std::alloc::Global;
+use wad_dir::{Directory, LumpNo};
+
+/// The lump COLORMAP: the last of that name. Takes no memory.
+///
+/// Errors: `Colormap` exactly where there is none, or it has less than 8192 bytes.
+///
+/// The original: `R_InitColormaps`, r_data.c, which ends the program where there is none.
+pub fn find_colormap(dir: &Directory) -> Result<LumpNo, ArtRefusal>
+    ensures lump { MatchResult result (λ lump. colormap_of dir.now.lumps ≡ Ok lump.0) (λ refusal. colormap_of dir.now.lumps ≡ Err refusal) }
+    ensures there { IfOk result (λ lump. lump.0 < length dir.now.lumps) }
+{
+    find_long(dir, &Name8::from_bytes(COLORMAP), COLORMAP_SIZE).ok_or(ArtRefusal::Colormap)
+}
+
+/// The lump PLAYPAL: the last of that name. Takes no memory.
+///
+/// Errors: `Playpal` exactly where there is none, or it has less than 768 bytes.
+///
+/// The original: `D_Display`, d_main.c, which asks for it by name.
+pub fn find_playpal(dir: &Directory) -> Result<LumpNo, ArtRefusal>
+    ensures lump { MatchResult result (λ lump. playpal_of dir.now.lumps ≡ Ok lump.0) (λ refusal. playpal_of dir.now.lumps ≡ Err refusal) }
+    ensures there { IfOk result (λ lump. lump.0 < length dir.now.lumps) }
+    ensures long { IfOk result (λ lump. PALETTE_SIZE ≤ (lump_at dir.now.lumps lump.0).size) }
+{
+    find_long(dir, &Name8::from_bytes(PLAYPAL), PALETTE_SIZE).ok_or(ArtRefusal::Playpal)
+}
+
+// The last lump of a name, where it has at least so many bytes.
+fn find_long(dir: &Directory, name: &Name8, size: u32) -> Option<LumpNo>
+    ensures found { option_map (λ lump. lump.0) result ≡ long_lump dir.now.lumps name.now size }
+    ensures there { IfSome result (λ lump. lump.0 < length dir.now.lumps) }
+    ensures long { IfSome result (λ lump. size ≤ (lump_at dir.now.lumps lump.0).size) }
+{
+    let lump = dir.last(name)?;
+    if dir.size(lump) >= size {
+        Some(lump)
+    } else {
+        None
+    }
+}
+
+/// The first 768 bytes of a lump, PLAYPAL: red, green and blue of 256 colours.
+///
+/// The lump is fetched with the tag `Cache`, and is not pinned. Takes memory for the palette.
+///
+/// Errors: `ReadFault` only where a call of the shelf failed. `ZoneFull` where no gap of the zone
+/// held the lump's block. `OutOfMemory`.
+///
+/// From a cache at rest whose live lumps have the directory's sizes, after Ok, the colormap's block
+/// and that of this lump, if it is another one, are together no larger than the zone.
+///
+/// The original: `W_CacheLumpName` with PLAYPAL, as in `D_Display`, d_main.c.
+pub fn read_palette<S: Shelf>(
+    alloc: Global,
+    playpal: LumpNo,
+    dir: &Directory,
+    cache: &mut LumpCache,
+    shelf: &mut S,
+) -> Result<Vec<u8>, AuditFault>
+    requires slots { length dir.now.lumps ≤ cache.old.lumps }
+    requires there { playpal.0 < length dir.now.lumps }
+    ensures tells { Tells audit_told (S.view shelf.old) (S.view shelf.new) dir.now cache.old cache.new (λ lump. lump ≡ playpal.0) (λ palette. palette.items) (λ bytes. Ok (take PALETTE_SIZE (bytes playpal.0))) result }
+    ensures fits { OnOk result (StandsBeside dir.now.lumps cache.old playpal.0) }
+{
+    fetch_live(cache, dir, shelf, playpal)?;
+    Ok(first_palette(alloc, live_lump(cache, playpal))?)
+}
+
+// The first bytes of PLAYPAL, so many as a palette has, or all.
+#[tactic(auto, using(std::proofs::lemmas::List::take_min))]
+fn first_palette(alloc: Global, bytes: &[u8]) -> Result<Vec<u8>, OutOfMemory>
+    ensures { IfOk result (λ palette. palette.items ≡ take PALETTE_SIZE bytes.now) }
+{
+    let size = (PALETTE_SIZE as usize).min(bytes.len());
+    bytes[..size].to_vec(alloc)
+}
