@@ -1,0 +1,65 @@
+// The lumps of a scene's art, read through the cache: patches of wanted textures, pictures of things.
+//
+// Rules: `art_rules`, Wanted; `sprite_book`, Books; `scene_rules`, Scenes. The original:
+// `R_PrecacheLevel`, r_data.c.
+ghost use Rattle.std.specs.Prelude.{◌≡◌, ◌<◌, ◌≤◌, ◌⊎◌, All, length, map, option_map, IfOk, IfSome, OnOk};
+ghost use Rattle.outside.specs.Told.{from_below};
+ghost use Rattle.lump_rules.specs.Lookups.{last_of};
+ghost use Rattle.cached_lumps.specs.Calls.{Tells};
+ghost use Rattle.art_rules.specs.Wanted.{prepared_textures};
+ghost use Rattle.texture_build.specs.Asked.{IsWantedPatch};
+ghost use Rattle.texture_build.specs.Views.{IsPrepared};
+ghost use Rattle.sprite_book.specs.Calls.{IsWanted};
+ghost use Rattle.level_scene.specs.Bounds.{AreBelow};
+ghost use Rattle.scene_rules.specs.declared.refusal.AuditRefusal.TheVariants.{Sprite, Texture};
+ghost use Rattle.scene_rules.specs.Places.{need_of};
+ghost use Rattle.scene_rules.specs.Scenes.{book_in};
+ghost use Rattle.scene_rules.specs.Sides.{is_wanted_texture};
+ghost use Rattle.audit_fault.specs.Faults.{audit_told};
+
+use crate::AuditFault;
+use level_rules::SideTextures;
+use level_scene::{PlacedThings, wanted_textures};
+use lump_cache::LumpCache;
+use outside::Shelf;
+use sprite_book::SpriteBook;
+use std::alloc::Global;
+use texture_build::{TexNo, Textures};
+use wad_dir::Directory;
+
+// Prepares the textures that sides and sky want, in the order of their numbers.
+pub(crate) fn prepare_faces<S: Shelf>(
+    alloc: Global,
+    sides: &[SideTextures],
+    sky: Option<TexNo>,
+    textures: &mut Textures,
+    dir: &Directory,
+    cache: &mut LumpCache,
+    shelf: &mut S,
+) -> Result<(), AuditFault>
+    requires slots { length dir.now.lumps ≤ cache.old.lumps }
+    requires below { All (AreBelow (length textures.old.lists.textures)) sides.now }
+    requires sky { IfSome sky (λ tex. tex.0 < length textures.old.lists.textures) }
+    ensures tells { Tells audit_told (S.view shelf.old) (S.view shelf.new) dir.now cache.old cache.new (IsWantedPatch dir.now.lumps textures.old.lists (is_wanted_texture sides.now (option_map (λ tex. tex.0) sky))) (λ _. textures.new.prepared) (λ bytes. from_below Texture (prepared_textures (last_of dir.now.lumps) bytes textures.old.lists (is_wanted_texture sides.now (option_map (λ tex. tex.0) sky)))) result }
+    ensures lists { textures.new.lists ≡ textures.old.lists }
+    ensures middles { OnOk result (All (λ side. (side.middle ≡ 0) ⊎ IsPrepared textures.new side.middle) sides.now) }
+{
+    let wanted = wanted_textures(alloc, sides, sky)?;
+    textures.prepare(alloc, &wanted, dir, cache, shelf)?;
+    Ok(())
+}
+
+// Reads the pictures of the frames that placed things need.
+pub(crate) fn read_book<S: Shelf>(
+    alloc: Global,
+    placed: &PlacedThings,
+    dir: &Directory,
+    cache: &mut LumpCache,
+    shelf: &mut S,
+) -> Result<SpriteBook, AuditFault>
+    requires { length dir.now.lumps ≤ cache.old.lumps }
+    ensures tells { Tells audit_told (S.view shelf.old) (S.view shelf.new) dir.now cache.old cache.new (IsWanted dir.now.lumps (map need_of placed.now)) (λ book. book) (λ bytes. from_below Sprite (book_in bytes dir.now.lumps placed.now)) result }
+{
+    let needs = placed.needs(alloc)?;
+    Ok(SpriteBook::load(alloc, &needs, dir, cache, shelf)?)
+}
