@@ -1,0 +1,103 @@
+-- What is told of an audit after its first fetch, that of COLORMAP, by what is told of the rest.
+use Rattle.std.proofs.Common.{◌≡◌, ◌≢◌, ◌≤◌, ◌+◌, ℕ, Bool, List, Result, Ok, Err, sym, ap, subst, ◌∙◌, arith, inl, inr, IsErrAnd, MatchResult}
+use Rattle.std.specs.Prelude.{IfErr, IfOk}
+use Rattle.std.proofs.lemmas.Result.{err_from_is_err_and}
+use Rattle.outside.specs.Shelf.{AllStand, Follows, ShelfView}
+use Rattle.outside.specs.Told.{Answers, Told}
+use Rattle.outside.proofs.ShelfLemmas.{all_stand_later}
+use Rattle.lump_rules.specs.Contents.{lump_bytes}
+use Rattle.lump_rules.specs.Lookups.{lump_at}
+use Rattle.zone_rules.specs.Orders.{Item, KeepsOrder}
+use Rattle.zone_rules.specs.Zones.{Heap, block_size}
+use Rattle.zone_rules.proofs.GapLemmas.{small_all}
+use Rattle.zone_rules.proofs.OrderLemmas.{order_then}
+use Rattle.wad_dir.specs.DirectoryView.{DirectoryView}
+use Rattle.lump_cache.specs.declared.fault.CacheFault.{CacheFault}
+use Rattle.lump_cache.specs.declared.fault.CacheFault.TheVariants.{ZoneFull, ReadFault}
+use Rattle.lump_cache.specs.Caches.{IsAtRest, IsFaithful, NoRoom, WhereFull}
+use Rattle.csv_tables.specs.declared.things.ThingLine.{ThingLine}
+use Rattle.cached_lumps.specs.Calls.{IfFull, InOrderAt, IsFullFor, IsTold}
+use Rattle.cached_lumps.specs.Sizes.{HasSizes, StandsBeside}
+use Rattle.cached_lumps.proofs.CallLemmas.{full_at, order_at}
+use Rattle.audit_fault.specs.declared.fault.AuditFault.{AuditFault}
+use Rattle.audit_fault.specs.declared.fault.AuditFault.TheVariants.{Refused}
+use Rattle.audit_fault.specs.Faults.{above_cache, audit_told}
+use Rattle.scene_rules.specs.declared.refusal.AuditRefusal.{AuditRefusal}
+use Rattle.scene_rules.specs.Scenes.{SceneValue, colormap_of}
+use Rattle.ground_read.specs.Asked.{IsOfGround}
+use Rattle.level_audit.specs.Reads.{IsFullAudit, IsReadLater}
+use Rattle.level_audit.specs.Sound.{SoundValue}
+
+-- the contents are told after a fetch
+pub told_after : {v w : ShelfView} {dir : DirectoryView} {a b : Heap} → Follows v w → ((contents : List (List ℕ)) → AllStand v dir.files contents → IsFaithful contents dir.lumps a → IsFaithful contents dir.lumps b) → (contents : List (List ℕ)) → IsTold v dir a contents → IsTold w dir b contents
+told_after {v} {w} {dir} follows faithful contents told = record {
+  stand = all_stand_later v w dir.files contents follows told.stand;
+  within = told.within;
+  faithful = faithful contents told.stand told.faithful;
+}
+
+-- no colormap
+pub answers_none : {B : Type 0} {value : B → SceneValue} (steady : Bool) (expected : Result SceneValue AuditRefusal) (refusal : AuditRefusal) (result : Result B AuditFault) → expected ≡ Err refusal → IsErrAnd result (λ e. e ≡ Refused refusal) → Answers audit_told steady value expected result
+answers_none steady expected refusal result e is =
+    let s = err_from_is_err_and result is in
+    rw (s.1, s.2) (record { ok = tt; err = e })
+
+-- what is said of a zone without room for the fetched lump, said of the audit
+pub full_above : (P Q : ℕ → ℕ → Type 0) (fetched : Result (Unit {0}) CacheFault) (fault : CacheFault) (result : Result SoundValue AuditFault) → fetched ≡ Err fault → IsErrAnd result (λ e. e ≡ above_cache fault) → ((wanted widest' : ℕ) → P wanted widest' → Q wanted widest') → WhereFull fetched P → IfErr result (λ f. IfFull (audit_told f) Q)
+full_above P Q fetched fault result was is then_ full =
+    let s = err_from_is_err_and result is in
+    subst (λ (r : Result SoundValue AuditFault). IfErr r (λ f. IfFull (audit_told f) Q)) (sym (s.1 ∙ ap Err s.2)) (go fault (subst (λ (r : Result (Unit {0}) CacheFault). WhereFull r P) was full)) where
+      go : (f : CacheFault) → WhereFull {A = Unit {0}} (Err f) P → IfFull (audit_told (above_cache f)) Q
+      go ReadFault k = tt
+      go (ZoneFull wanted widest') k = then_ wanted widest' k
+
+-- both are said of it
+pub full_both : (P Q : ℕ → ℕ → Type 0) (fetched : Result (Unit {0}) CacheFault) → WhereFull fetched P → WhereFull fetched Q → WhereFull fetched (λ wanted widest'. P wanted widest' × Q wanted widest')
+full_both P Q (Ok done) one other = tt
+full_both P Q (Err ReadFault) one other = tt
+full_both P Q (Err (ZoneFull wanted widest')) one other = (one, other)
+
+-- no room for COLORMAP itself
+pub full_first : (v : ShelfView) (dir : DirectoryView) (a : Heap) (lines : List ThingLine) (name : List ℕ) (skill colormap wanted widest' : ℕ) → colormap_of dir.lumps ≡ Ok colormap → NoRoom (lump_at dir.lumps colormap).size a wanted widest' → IsFullAudit v dir a lines name skill wanted widest'
+full_first v dir a lines name skill colormap wanted widest' is full = record {
+  lump = colormap;
+  asked = λ contents told. inl is;
+  wanted_is = full.wanted_is;
+  narrow = omega (arith, full.wanted_is, full.widest_is, small_all (block_size (lump_at dir.lumps colormap).size) _ (omega arith) full.none);
+}
+
+module _ {v w : ShelfView} {dir : DirectoryView} {a b : Heap} (later : (contents : List (List ℕ)) → IsTold v dir a contents → IsTold w dir b contents) where
+  pub answers_after : {A B R E : Type 0} {told : E → Told R} {value : B → A} (expected : (ℕ → List ℕ) → Result A R) (result : Result B E) → w.steady ≡ v.steady → ((contents : List (List ℕ)) → IsTold w dir b contents → Answers told w.steady value (expected (lump_bytes contents dir.lumps)) result) →
+      (contents : List (List ℕ)) → IsTold v dir a contents → Answers told v.steady value (expected (lump_bytes contents dir.lumps)) result
+  answers_after {told} {value} expected result steady answers contents t = subst (λ s. Answers told s value (expected (lump_bytes contents dir.lumps)) result) steady (answers contents (later contents t))
+
+  -- no room for a later lump
+  pub full_after : (lines : List ThingLine) (name : List ℕ) (skill : ℕ) (result : Result SoundValue AuditFault) → IfErr result (λ f. IfFull (audit_told f) (IsFullFor (IsReadLater w dir b lines name skill) dir b)) → IfErr result (λ f. IfFull (audit_told f) (IsFullAudit v dir a lines name skill))
+  full_after lines name skill (Ok sound) full = tt
+  full_after lines name skill (Err fault) full =
+      full_at (audit_told fault) (λ wanted widest' k. record { lump = k.lump; asked = λ contents t. inr (k.asked contents (later contents t)); wanted_is = k.full.wanted_is; narrow = k.full.narrow }) full
+
+-- a cache that was in order stays so through both
+pub order_after : {R E A : Type 0} {items : List Item} {a b : Heap} {i j : ℕ} (told : E → Told R) (c : Heap) (k : ℕ) (result : Result A E) → KeepsOrder items a b i j → MatchResult result (λ _. KeepsOrder items b c j k) (λ f. InOrderAt (told f) (KeepsOrder items b c j k)) →
+    MatchResult result (λ _. KeepsOrder items a c i k) (λ f. InOrderAt (told f) (KeepsOrder items a c i k))
+order_after told c k (Ok found) one two = order_then one two
+order_after told c k (Err fault) one two = order_at (told fault) (λ two. order_then one two) two
+
+module _ (dir : DirectoryView) (a b : Heap) (colormap : ℕ) (result : Result SoundValue AuditFault) (same : IfOk result (λ sound. sound.scene.ground.colormap ≡ colormap)) where
+  -- the colormap is pinned, and nothing else
+  pub rest_after : (c : Heap) → IsAtRest colormap (lump_at dir.lumps colormap).size b → ((number count : ℕ) → IsAtRest number count b → IsAtRest number count c) → IfOk result (λ sound. IsAtRest sound.scene.ground.colormap (lump_at dir.lumps sound.scene.ground.colormap).size c)
+  rest_after c rest keeps = go result same where
+    go : (r : Result SoundValue AuditFault) → IfOk r (λ sound. sound.scene.ground.colormap ≡ colormap) → IfOk r (λ sound. IsAtRest sound.scene.ground.colormap (lump_at dir.lumps sound.scene.ground.colormap).size c)
+    go (Ok sound) is = subst (λ n. IsAtRest n (lump_at dir.lumps n).size c) (sym is) (keeps colormap (lump_at dir.lumps colormap).size rest)
+    go (Err fault) is = tt
+
+  -- each lump of the ground stands beside it
+  pub fits_after : (name : List ℕ) → IsAtRest colormap (lump_at dir.lumps colormap).size b → HasSizes dir.lumps b → b.size ≡ a.size → IfOk result (λ sound. (lump : ℕ) → IsOfGround dir.lumps name lump → StandsBeside dir.lumps b lump) →
+      IfOk result (λ sound. (lump : ℕ) → IsOfGround dir.lumps name lump → lump ≢ sound.scene.ground.colormap → block_size (lump_at dir.lumps sound.scene.ground.colormap).size + block_size (lump_at dir.lumps lump).size ≤ a.size)
+  fits_after name rest has size fits = go result same fits where
+    go : (r : Result SoundValue AuditFault) → IfOk r (λ sound. sound.scene.ground.colormap ≡ colormap) → IfOk r (λ sound. (lump : ℕ) → IsOfGround dir.lumps name lump → StandsBeside dir.lumps b lump) →
+        IfOk r (λ sound. (lump : ℕ) → IsOfGround dir.lumps name lump → lump ≢ sound.scene.ground.colormap → block_size (lump_at dir.lumps sound.scene.ground.colormap).size + block_size (lump_at dir.lumps lump).size ≤ a.size)
+    go (Ok sound) is beside = λ lump asked.
+        subst (λ n. lump ≢ n → block_size (lump_at dir.lumps n).size + block_size (lump_at dir.lumps lump).size ≤ a.size) (sym is)
+        (λ other. subst (λ n. block_size (lump_at dir.lumps colormap).size + block_size (lump_at dir.lumps lump).size ≤ n) size (beside lump asked colormap (lump_at dir.lumps colormap).size rest has other))
+    go (Err fault) is beside = tt

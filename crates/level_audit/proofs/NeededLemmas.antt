@@ -1,0 +1,182 @@
+-- Each lump that an audit reads is needed by its scene, and a zone that was full for one is smaller
+-- than `enough`.
+use Rattle.std.proofs.Common.{◌≡◌, ℕ, ◌+◌, ◌<◌, ◌≤◌, true, false, List, [], ◌∷◌, length, Option, Result, Ok, Err, refl, ap, subst, ◌∙◌, arith, inl, inr, eq-eqb}
+use Rattle.std.specs.Prelude.{◌==◌, IfErr}
+use Rattle.std.specs.List.{list_any}
+use Rattle.std.specs.Option.{option_map_or}
+use Rattle.std.proofs.Math.Bool.{or-true}
+use Rattle.std.proofs.lemmas.Bool.{cases_lt, eqb-true, or_cases}
+use Rattle.std.proofs.lemmas.List.{get_or_past}
+use Rattle.outside.specs.Shelf.{ShelfView}
+use Rattle.lump_rules.specs.declared.wad.Lump.{Lump}
+use Rattle.lump_rules.specs.Contents.{lump_bytes}
+use Rattle.lump_rules.specs.Lookups.{lump_at, no_lump}
+use Rattle.zone_rules.specs.declared.TheConstants.{HEADER_SIZE, MIN_FRAGMENT}
+use Rattle.zone_rules.specs.Zones.{Heap, block_size}
+use Rattle.zone_rules.proofs.OrderSumLemmas.{block_least}
+use Rattle.wad_dir.specs.DirectoryView.{DirectoryView}
+use Rattle.csv_tables.specs.declared.things.ThingLine.{ThingLine}
+use Rattle.lump_cache.specs.Caches.{IsAtRest}
+use Rattle.cached_lumps.specs.Calls.{IfFull, IsFullFor, IsTold}
+use Rattle.cached_lumps.specs.Named.{IsLast}
+use Rattle.cached_lumps.proofs.CallLemmas.{full_at}
+use Rattle.art_rules.specs.declared.TheConstants.{PNAMES, TEXTURE1, TEXTURE2}
+use Rattle.art_rules.specs.Wanted.{is_patch_of_any}
+use Rattle.texture_lists.specs.Asked.{IsListLump}
+use Rattle.scene_art.proofs.MarkLemmas.{any_passed}
+use Rattle.audit_fault.specs.declared.fault.AuditFault.{AuditFault}
+use Rattle.audit_fault.specs.Faults.{audit_told}
+use Rattle.scene_rules.specs.Scenes.{Faces, Ground, SceneValue, art_of, book_in, colormap_of, scene_in, sizes_of}
+use Rattle.scene_rules.specs.Sides.{is_wanted_texture}
+use Rattle.scene_rules.specs.Sizes.{SceneArt, enough, greatest_by, is_last, is_list, is_map_lump, is_needed, lump_block, needed_lumps, zone_sizes}
+use Rattle.level_read.specs.Asked.{IsLumpOfMap}
+use Rattle.ground_read.specs.Asked.{IsOfGround}
+use Rattle.scene_read.specs.Asked.{IsOfArt, IsOfScene}
+use Rattle.level_audit.specs.Reads.{IsAfterColormap, IsOverGround, IsReadLater}
+use Rattle.level_audit.specs.Sound.{SoundValue}
+use Rattle.level_audit.proofs.NeededPatchLemmas.{wanted_patch}
+use Rattle.level_audit.proofs.NeededPictureLemmas.{needed_picture}
+use Rattle.level_audit.proofs.SceneLemmas.{IsGroundOf, IsSceneOf, colormap_there, ground_parts, same_value, scene_parts}
+
+-- the reasons for which a lump is needed
+module _ (lumps : List Lump) (art : SceneArt) (lump : ℕ) where
+  pub for_colormap : (art.colormap == lump) ≡ true → is_needed lumps art lump ≡ true
+  unfolding is_needed
+  for_colormap e = rw e refl
+
+  for_palette : (art.playpal == lump) ≡ true → is_needed lumps art lump ≡ true
+  unfolding is_needed
+  for_palette e = rw (e, or-true) refl
+
+  for_map : is_map_lump art.label lump ≡ true → is_needed lumps art lump ≡ true
+  unfolding is_needed
+  for_map e = rw (e, or-true) refl
+
+  for_list : is_list lumps lump ≡ true → is_needed lumps art lump ≡ true
+  unfolding is_needed
+  for_list e = rw (e, or-true) refl
+
+  for_patch : is_patch_of_any art.prepared lump ≡ true → is_needed lumps art lump ≡ true
+  unfolding is_needed
+  for_patch e = rw (e, or-true) refl
+
+  pub for_picture : list_any (λ n. n == lump) art.pictures ≡ true → is_needed lumps art lump ≡ true
+  unfolding is_needed
+  for_picture e = rw (e, or-true) refl
+
+-- one of the lists of textures
+last_is : (lumps : List Lump) (name : List ℕ) (lump : ℕ) → IsLast lumps name lump → is_last lumps name lump ≡ true
+unfolding is_last
+last_is lumps name lump last = ap (λ (o : Option ℕ). option_map_or (λ n. n == lump) o false) last ∙ eq-eqb lump lump refl
+
+list_lump : (lumps : List Lump) (lump : ℕ) → IsListLump lumps lump → is_list lumps lump ≡ true
+unfolding is_list
+list_lump lumps lump (inl names) = rw (last_is lumps PNAMES lump names) refl
+list_lump lumps lump (inr (inl first)) = rw (last_is lumps TEXTURE1 lump first, or-true) refl
+list_lump lumps lump (inr (inr second)) = rw (last_is lumps TEXTURE2 lump second, or-true) refl
+
+module _ (bytes : ℕ → List ℕ) (lumps : List Lump) (lines : List ThingLine) (name : List ℕ) (skill : ℕ) (scene : SceneValue) (parts : IsSceneOf bytes lumps lines name skill scene) (lump : ℕ) where
+  base_parts : IsGroundOf lumps name scene.ground
+  base_parts = ground_parts bytes lumps name scene.ground parts.base
+
+  -- a lump of the map, of the ground
+  needed_map : IsLumpOfMap lumps name lump → is_needed lumps (art_of scene) lump ≡ true
+  unfolding art_of
+  needed_map asked = for_map lumps (art_of scene) lump (ap (λ (label : ℕ). is_map_lump label lump) (same_value scene.ground.label asked.label base_parts.label asked.is) ∙ asked.among)
+
+  needed_ground : IsOfGround lumps name lump → is_needed lumps (art_of scene) lump ≡ true
+  unfolding art_of
+  needed_ground (inl playpal) = for_palette lumps (art_of scene) lump (eq-eqb scene.ground.playpal lump (same_value scene.ground.playpal lump base_parts.playpal playpal))
+  needed_ground (inr (inl map)) = needed_map map
+  needed_ground (inr (inr list)) = for_list lumps (art_of scene) lump (list_lump lumps lump list)
+
+  -- a patch or a picture
+  needed_art : IsOfArt lumps lines skill scene.ground scene.faces lump → is_needed lumps (art_of scene) lump ≡ true
+  unfolding art_of book_in
+  needed_art (inl patch) = for_patch lumps (art_of scene) lump (wanted_patch bytes lumps scene.ground.lists (is_wanted_texture scene.faces.sides scene.faces.sky) scene.prepared lump parts.prepared patch)
+  needed_art (inr picture) = for_picture lumps (art_of scene) lump (needed_picture bytes lumps _ scene.book lump parts.book picture)
+
+  -- the faces of the level, and the ground, are those of the scene
+  needed_scene : IsOfScene lumps lines skill name scene.ground lump → is_needed lumps (art_of scene) lump ≡ true
+  needed_scene asked = needed_art (subst (λ (faces : Faces). IsOfArt lumps lines skill scene.ground faces lump) (same_value asked.faces scene.faces asked.are parts.faces) asked.asked)
+
+  needed_over : IsOverGround bytes lumps lines name skill lump → is_needed lumps (art_of scene) lump ≡ true
+  needed_over asked = needed_scene (subst (λ (base : Ground). IsOfScene lumps lines skill name base lump) (same_value asked.base scene.ground asked.is parts.base) asked.asked)
+
+  -- all that is read after COLORMAP
+  pub needed_later : IsAfterColormap bytes lumps lines name skill lump → is_needed lumps (art_of scene) lump ≡ true
+  needed_later (inl asked) = needed_ground asked
+  needed_later (inr asked) = needed_over asked
+
+-- COLORMAP itself
+needed_colormap : (lumps : List Lump) (scene : SceneValue) → is_needed lumps (art_of scene) scene.ground.colormap ≡ true
+unfolding art_of
+needed_colormap lumps scene = for_colormap lumps (art_of scene) scene.ground.colormap (eq-eqb scene.ground.colormap scene.ground.colormap refl)
+
+-- none is greater than the greatest
+among_greatest : (f : ℕ → ℕ) (xs : List ℕ) (k : ℕ) → list_any (λ n. n == k) xs ≡ true → f k ≤ greatest_by f xs
+unfolding greatest_by
+among_greatest f [] k on = cc
+among_greatest f (x ∷ xs) k on = elim (or_cases (x == k) (list_any (λ n. n == k) xs) on) [
+  | inl same ↦ let at : f x ≡ f k = ap f (eqb-true x k same) in omega (arith, at)
+  | inr later ↦ omega (arith, among_greatest f xs k later)
+]
+
+-- a needed lump of the directory has no greater block than the greatest that is needed
+pub needed_there : (lumps : List Lump) (art : SceneArt) (lump : ℕ) → is_needed lumps art lump ≡ true → lump < length lumps → lump_block lumps lump ≤ greatest_by (lump_block lumps) (needed_lumps lumps art)
+unfolding needed_lumps
+needed_there lumps art lump needed l = among_greatest (lump_block lumps) _ lump (any_passed (is_needed lumps art) 0 (length lumps) lump (omega arith) (omega (arith, l)) ∙ needed)
+
+-- a number of no lump has the least block
+pub past_block : (lumps : List Lump) (lump other : ℕ) → length lumps ≤ lump → lump_block lumps lump ≤ lump_block lumps other
+unfolding lump_block
+past_block lumps lump other l =
+    let none : block_size (lump_at lumps lump).size ≡ HEADER_SIZE = ap (λ (one : Lump). block_size one.size) (get_or_past lumps lump no_lump l) in
+    omega (arith, none, block_least (lump_at lumps other).size)
+
+-- nor has one of any number, since COLORMAP is there
+needed_block : (lumps : List Lump) (scene : SceneValue) (lump : ℕ) → scene.ground.colormap < length lumps → is_needed lumps (art_of scene) lump ≡ true → lump_block lumps lump ≤ greatest_by (lump_block lumps) (needed_lumps lumps (art_of scene))
+needed_block lumps scene lump l needed = elim (cases_lt lump (length lumps)) [
+  | inl there ↦ needed_there lumps (art_of scene) lump needed there
+  | inr past ↦ omega (arith, past_block lumps lump scene.ground.colormap past, needed_there lumps (art_of scene) scene.ground.colormap (needed_colormap lumps scene) l)
+]
+
+-- what `enough` is no smaller than
+enough_colormap : (lumps : List Lump) (scene : SceneValue) → block_size (lump_at lumps scene.ground.colormap).size ≤ (sizes_of lumps scene).enough
+unfolding sizes_of zone_sizes enough lump_block art_of
+enough_colormap lumps scene = omega arith
+
+enough_beside : (lumps : List Lump) (scene : SceneValue) (block : ℕ) → block ≤ greatest_by (lump_block lumps) (needed_lumps lumps (art_of scene)) → block_size (lump_at lumps scene.ground.colormap).size + block + MIN_FRAGMENT ≤ (sizes_of lumps scene).enough
+unfolding sizes_of zone_sizes enough lump_block art_of
+enough_beside lumps scene block l = omega (arith, l)
+
+module _ (bytes : ℕ → List ℕ) (lumps : List Lump) (lines : List ThingLine) (name : List ℕ) (skill : ℕ) (scene : SceneValue) (accepted : scene_in bytes lumps lines name skill ≡ Ok scene) (colormap : ℕ) (is : colormap_of lumps ≡ Ok colormap) where
+  -- the scene's colormap is COLORMAP
+  parts_of : IsSceneOf bytes lumps lines name skill scene
+  parts_of = scene_parts bytes lumps lines name skill scene accepted
+
+  colormap_is : scene.ground.colormap ≡ colormap
+  colormap_is = same_value scene.ground.colormap colormap (ground_parts bytes lumps name scene.ground parts_of.base).colormap is
+
+  -- a zone that does not hold COLORMAP, or COLORMAP and a further lump
+  pub small_first : (size wanted : ℕ) → wanted ≡ block_size (lump_at lumps colormap).size → size < wanted → size < (sizes_of lumps scene).enough
+  small_first size wanted e l =
+      let same : block_size (lump_at lumps scene.ground.colormap).size ≡ block_size (lump_at lumps colormap).size = ap (λ (n : ℕ). block_size (lump_at lumps n).size) colormap_is in
+      omega (arith, e, l, same, enough_colormap lumps scene)
+
+  pub small_later : (size wanted lump : ℕ) → IsAfterColormap bytes lumps lines name skill lump → wanted ≡ block_size (lump_at lumps lump).size → size < block_size (lump_at lumps colormap).size + wanted + MIN_FRAGMENT → size < (sizes_of lumps scene).enough
+  unfolding lump_block
+  small_later size wanted lump asked e l =
+      let there : scene.ground.colormap < length lumps = colormap_there lumps scene.ground.colormap (ground_parts bytes lumps name scene.ground parts_of.base).colormap in
+      let block : wanted ≤ greatest_by (λ number. block_size (lump_at lumps number).size) (needed_lumps lumps (art_of scene)) = omega (arith, e, needed_block lumps scene lump there (needed_later bytes lumps lines name skill scene parts_of lump asked)) in
+      let same : block_size (lump_at lumps scene.ground.colormap).size ≡ block_size (lump_at lumps colormap).size = ap (λ (n : ℕ). block_size (lump_at lumps n).size) colormap_is in
+      omega (arith, l, same, enough_beside lumps scene wanted block)
+
+-- no room for a later lump, from a zone at rest
+pub enough_after : {w : ShelfView} (dir : DirectoryView) (a b : Heap) (contents : List (List ℕ)) (lines : List ThingLine) (name : List ℕ) (skill : ℕ) (scene : SceneValue) (colormap : ℕ) (result : Result SoundValue AuditFault) → colormap_of dir.lumps ≡ Ok colormap → scene_in (lump_bytes contents dir.lumps) dir.lumps lines name skill ≡ Ok scene → IsTold w dir b contents →
+    IsAtRest colormap (lump_at dir.lumps colormap).size b → b.size ≡ a.size → IfErr result (λ f. IfFull (audit_told f) (IsFullFor (IsReadLater w dir b lines name skill) dir b)) → IfErr result (λ f. IfFull (audit_told f) (λ wanted widest'. a.size < (sizes_of dir.lumps scene).enough))
+enough_after dir a b contents lines name skill scene colormap (Ok sound) is accepted told rest size full = tt
+enough_after dir a b contents lines name skill scene colormap (Err fault) is accepted told rest size full =
+    full_at (audit_told fault) (λ wanted widest' k.
+    small_later (lump_bytes contents dir.lumps) dir.lumps lines name skill scene accepted colormap is a.size wanted k.lump (k.asked contents told) k.full.wanted_is
+    (subst (λ n. n < block_size (lump_at dir.lumps colormap).size + wanted + MIN_FRAGMENT) size (k.full.room colormap (lump_at dir.lumps colormap).size rest))) full

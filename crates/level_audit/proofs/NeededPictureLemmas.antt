@@ -1,0 +1,113 @@
+-- A picture of a needed frame is in the book.
+use Rattle.std.proofs.Common.{◌≡◌, ℕ, suc, Bool, true, false, not, List, [], ◌∷◌, Option, Some, None, Ok, refl, sym, ap, subst, ◌∙◌, inl, inr, eq-eqb}
+use Rattle.std.specs.Prelude.{Contains, ◌==◌}
+use Rattle.std.specs.List.{list_any, range_with_len}
+use Rattle.std.specs.Option.{ok_or}
+use Rattle.std.specs.Str.{bytes_eq}
+use Rattle.std.proofs.lemmas.Bool.{and_parts, eqb-true}
+use Rattle.std.proofs.lemmas.Slice.Eq.{bytes_eq-Decides}
+use Rattle.outside.specs.Told.{and_then}
+use Rattle.lump_rules.specs.declared.wad.Lump.{Lump}
+use Rattle.art_rules.specs.declared.Mention.{Mention}
+use Rattle.art_rules.specs.declared.TheConstants.{ROTATIONS}
+use Rattle.art_rules.specs.declared.refusal.SpriteRefusal.TheVariants.{MissingRotation, NoFrame}
+use Rattle.art_rules.specs.Frames.{frame_picture, is_of_frame, last_that, mentions}
+use Rattle.sprite_book.specs.declared.shapes.Frame.{Frame}
+use Rattle.sprite_book.specs.declared.shapes.Need.{Need}
+use Rattle.sprite_book.specs.declared.shapes.Shape.{Shape}
+use Rattle.sprite_book.specs.Books.{book_lumps, each_of, first_needs, frame_in, frame_of, last_mention, patch_or_bad, picture_or_missing, pictures_of, same_frame, shape_in, shape_lumps, shape_of}
+use Rattle.sprite_book.specs.Calls.{IsWanted}
+use Rattle.level_audit.proofs.MemberLemmas.{among_cases, among_first, among_kept, among_later, among_none, any_joined, any_mapped, each_made, each_same}
+use Rattle.level_audit.proofs.SceneLemmas.{and_then-ok, same_value}
+
+-- of each needed frame there is a first need
+pub record IsFirst (needs : List Need) (need : Need) : Type 0 where
+  pub first : Need
+  pub among : Contains (first_needs needs) first
+  pub sprite : first.sprite ≡ need.sprite
+  pub frame : first.frame ≡ need.frame
+
+frame_parts : (a b : Need) → same_frame a b ≡ true → (a.sprite ≡ b.sprite) × (a.frame ≡ b.frame)
+unfolding same_frame
+frame_parts a b e =
+    let p = and_parts (bytes_eq a.sprite b.sprite) (a.frame == b.frame) e in
+    ((bytes_eq-Decides a.sprite b.sprite).0 p.0, eqb-true a.frame b.frame p.1)
+
+first_of : (needs : List Need) (need : Need) → Contains needs need → IsFirst needs need
+unfolding first_needs
+first_of [] need has = among_none need has
+first_of (x ∷ needs) need has = elim (among_cases x needs need has) [
+  | inl same ↦ record { first = x; among = among_first x _; sprite = ap (λ (n : Need). n.sprite) same; frame = ap (λ (n : Need). n.frame) same }
+  | inr later ↦ go (first_of needs need later)
+] where
+  by_test : (f : IsFirst needs need) (b : Bool) → same_frame x f.first ≡ b → IsFirst (x ∷ needs) need
+  by_test f true e =
+      let parts = frame_parts x f.first e in
+      record { first = x; among = among_first x _; sprite = parts.0 ∙ f.sprite; frame = parts.1 ∙ f.frame }
+  by_test f false e = record {
+    first = f.first;
+    among = among_later x _ f.first (among_kept (λ other. not (same_frame x other)) (first_needs needs) f.first f.among (ap not e));
+    sprite = f.sprite;
+    frame = f.frame;
+  }
+
+  go : IsFirst needs need → IsFirst (x ∷ needs) need
+  go f = by_test f (same_frame x f.first) refl
+
+-- a need of the same frame has the same pictures
+found_else : {X E : Type 0} (o : Option X) (e other : E) (x : X) → ok_or o e ≡ Ok x → ok_or o other ≡ Ok x
+found_else None e other x is = cc
+found_else (Some y) e other x is = let same : y ≡ x = cc in ap Ok same
+
+module _ (all : List Mention) (need first : Need) (frame : need.frame ≡ first.frame) where
+  same_last : (mention : Mention) → last_mention all need ≡ Ok mention → last_mention all first ≡ Ok mention
+  unfolding last_mention
+  same_last mention e =
+      ap (λ (f : ℕ). ok_or (last_that (is_of_frame f) all) (NoFrame first.thing)) (sym frame)
+      ∙ found_else (last_that (is_of_frame need.frame) all) (NoFrame need.thing) (NoFrame first.thing) mention e
+
+  same_picture : (k : ℕ) (mention : Mention) → picture_or_missing all need k ≡ Ok mention → picture_or_missing all first k ≡ Ok mention
+  unfolding picture_or_missing
+  same_picture k mention e =
+      ap (λ (f : ℕ). ok_or (frame_picture all f k) (MissingRotation first.thing (suc k))) (sym frame)
+      ∙ found_else (frame_picture all need.frame k) (MissingRotation need.thing (suc k)) (MissingRotation first.thing (suc k)) mention e
+
+  same_pictures : (pictures : List Mention) → pictures_of all need ≡ Ok pictures → pictures_of all first ≡ Ok pictures
+  unfolding pictures_of
+  same_pictures pictures e =
+      let a = and_then-ok (last_mention all need) (λ last. each_of (picture_or_missing all need) (range_with_len 0 ROTATIONS)) pictures e in
+      ap (λ r. and_then r (λ last. each_of (picture_or_missing all first) (range_with_len 0 ROTATIONS))) (same_last a.0 a.1)
+      ∙ each_same (picture_or_missing all need) (picture_or_missing all first) same_picture (range_with_len 0 ROTATIONS) pictures a.2
+
+-- a shape is of the lump of its picture
+shape_there : (bytes : ℕ → List ℕ) (mention : Mention) (shape : Shape) → shape_of bytes mention ≡ Ok shape → shape.lump.0 ≡ mention.lump
+unfolding shape_of shape_in
+shape_there bytes mention shape e =
+    let a = and_then-ok (patch_or_bad bytes mention.lump) (λ patch. Ok (shape_in mention patch)) shape e in
+    let same : shape_in mention a.0 ≡ shape = cc in
+    ap (λ (s : Shape). s.lump.0) (sym same)
+
+-- a frame has the lumps of its pictures
+frame_lumps : (bytes : ℕ → List ℕ) (lumps : List Lump) (need : Need) (pictures : List Mention) (frame : Frame) (mention : Mention) → pictures_of (mentions lumps need.sprite) need ≡ Ok pictures → frame_of bytes lumps need ≡ Ok frame → Contains pictures mention → list_any (λ n. n == mention.lump) (shape_lumps frame) ≡ true
+unfolding frame_of frame_in shape_lumps
+frame_lumps bytes lumps need pictures frame mention are e has =
+    let a = and_then-ok (pictures_of (mentions lumps need.sprite) need) (λ pictures. and_then (each_of (shape_of bytes) pictures) (λ shapes. Ok (frame_in need shapes))) frame e in
+    let b = and_then-ok (each_of (shape_of bytes) a.0) (λ shapes. Ok (frame_in need shapes)) frame a.2 in
+    let made : frame_in need b.0 ≡ frame = cc in
+    let shapes : b.0 ≡ frame.shapes = ap (λ (f : Frame). f.shapes) made in
+    let of : each_of (shape_of bytes) pictures ≡ Ok frame.shapes = ap (each_of (shape_of bytes)) (same_value pictures a.0 are a.1) ∙ b.1 ∙ ap Ok shapes in
+    let one = each_made (shape_of bytes) pictures frame.shapes mention of has in
+    any_mapped (λ n. n == mention.lump) (λ (shape : Shape). shape.lump.0) frame.shapes one.made one.among (eq-eqb one.made.lump.0 mention.lump (shape_there bytes mention one.made one.is))
+
+-- the picture that may be asked for is of one of the book's shapes
+pub needed_picture : (bytes : ℕ → List ℕ) (lumps : List Lump) (needs : List Need) (book : List Frame) (lump : ℕ) → each_of (frame_of bytes lumps) (first_needs needs) ≡ Ok book → IsWanted lumps needs lump → list_any (λ n. n == lump) (book_lumps book) ≡ true
+unfolding book_lumps
+needed_picture bytes lumps needs book lump e asked =
+    let f = first_of needs asked.need asked.is in
+    let wanted = asked.wanted in
+    let mention = wanted.among.0 in
+    let of_first : pictures_of (mentions lumps f.first.sprite) f.first ≡ Ok wanted.pictures =
+    ap (λ s. pictures_of (mentions lumps s) f.first) f.sprite ∙ same_pictures (mentions lumps asked.need.sprite) asked.need f.first (sym f.frame) wanted.pictures wanted.are in
+    let one = each_made (frame_of bytes lumps) (first_needs needs) book f.first e f.among in
+    let there = frame_lumps bytes lumps f.first wanted.pictures one.made mention of_first one.is wanted.among.1 in
+    any_joined (λ n. n == lump) shape_lumps book one.made one.among (subst (λ (k : ℕ). list_any (λ n. n == k) (shape_lumps one.made) ≡ true) wanted.among.2 there)

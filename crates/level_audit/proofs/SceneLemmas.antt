@@ -1,0 +1,166 @@
+-- A scene by its steps: the ground with the first palette and the rest over it, and what an accepted
+-- scene is made of.
+use Rattle.std.proofs.Common.{◌≡◌, ◌<◌, ℕ, Bool, true, false, List, length, Option, Some, None, Result, Ok, Err, refl, sym, ap, subst, ◌∙◌, take}
+use Rattle.std.specs.Option.{ok_or, option_and_then}
+use Rattle.std.specs.Prelude.{cond, nat_le}
+use Rattle.word_rules.proofs.LeastLemmas.{greatest-is}
+use Rattle.outside.specs.Told.{and_then, from_below}
+use Rattle.lump_rules.specs.declared.wad.Lump.{Lump}
+use Rattle.lump_rules.specs.Lookups.{has_name, last_of, lump_at}
+use Rattle.csv_tables.specs.declared.things.ThingLine.{ThingLine}
+use Rattle.art_rules.specs.Wanted.{PreparedTexture, prepared_textures}
+use Rattle.sprite_book.specs.declared.shapes.Frame.{Frame}
+use Rattle.scene_rules.specs.declared.Placed.{Placed}
+use Rattle.scene_rules.specs.declared.TheConstants.{COLORMAP, COLORMAP_SIZE, PALETTE_SIZE}
+use Rattle.scene_rules.specs.declared.refusal.ArtRefusal.{ArtRefusal}
+use Rattle.scene_rules.specs.declared.refusal.ArtRefusal.TheVariants.{Colormap}
+use Rattle.scene_rules.specs.declared.refusal.AuditRefusal.{AuditRefusal}
+use Rattle.scene_rules.specs.declared.refusal.AuditRefusal.TheVariants.{Art, Map, Texture, Sprite, Scene}
+use Rattle.scene_rules.specs.Middles.{bad_middle}
+use Rattle.scene_rules.specs.Places.{placed_things}
+use Rattle.scene_rules.specs.Scenes.{Faces, Ground, SceneValue, book_in, checked, colormap_of, faces_in, ground_in, ground_over, if_long, label_of, level_in, lists_in, long_lump, playpal_of, scene_in, scene_on, scene_over, texture_by}
+use Rattle.scene_rules.specs.Sides.{is_wanted_texture}
+use Rattle.map_rules.specs.Levels.{level_of}
+use Rattle.ground_read.specs.Grounds.{ground_and_palette}
+use Rattle.scene_read.specs.Scenes.{given_palette}
+
+-- a step that was passed
+pub and_then-ok : {A B R : Type 0} (r : Result A R) (next : A → Result B R) (y : B) → and_then r next ≡ Ok y → (x : A) × (r ≡ Ok x) × (next x ≡ Ok y)
+and_then-ok (Ok x) next y e = (x, refl, e)
+and_then-ok (Err reason) next y e = cc
+
+-- a step of the layer below, likewise
+pub from_below-ok : {A R Q : Type 0} (f : R → Q) (r : Result A R) (x : A) → from_below f r ≡ Ok x → r ≡ Ok x
+from_below-ok f (Ok y) x e = let same : y ≡ x = cc in ap Ok same
+from_below-ok f (Err reason) x e = cc
+
+-- a result has one value
+pub same_value : {A R : Type 0} {r : Result A R} (x y : A) → r ≡ Ok x → r ≡ Ok y → x ≡ y
+same_value {A} {R} x y one other = let same : ◌≡◌ {A = Result A R} (Ok x) (Ok y) = sym one ∙ other in cc
+
+-- COLORMAP is a lump of the directory
+some_value : {X E : Type 0} (o : Option X) (e : E) (x : X) → ok_or o e ≡ Ok x → o ≡ Some x
+some_value None e x is = cc
+some_value (Some y) e x is = let same : y ≡ x = cc in ap Some same
+
+long_there : (lumps : List Lump) (size number : ℕ) (last : Option ℕ) → option_and_then (if_long lumps size) last ≡ Some number → last ≡ Some number
+long_there lumps size number None e = cc
+long_there lumps size number (Some n) e = go (nat_le size (lump_at lumps n).size) e where
+  go : (b : Bool) → cond b (Some n) None ≡ Some number → Some n ≡ Some number
+  go true is = is
+  go false is = cc
+
+pub colormap_there : (lumps : List Lump) (number : ℕ) → colormap_of lumps ≡ Ok number → number < length lumps
+unfolding colormap_of
+colormap_there lumps number is =
+    let last = long_there lumps COLORMAP_SIZE number (last_of lumps COLORMAP) (some_value (long_lump lumps COLORMAP COLORMAP_SIZE) Colormap number is) in
+    (greatest-is (has_name lumps COLORMAP) (length lumps) number last).0
+
+-- without a colormap there is no scene
+pub scene_in-none : (bytes : ℕ → List ℕ) (lumps : List Lump) (lines : List ThingLine) (name : List ℕ) (skill : ℕ) (refusal : ArtRefusal) → colormap_of lumps ≡ Err refusal → scene_in bytes lumps lines name skill ≡ Err (Art refusal)
+unfolding scene_in ground_in
+scene_in-none bytes lumps lines name skill refusal e = rw e refl
+
+-- what a scene is made of
+abbrev made_scene : (ℕ → List ℕ) → Ground → Faces → List Placed → List (Option PreparedTexture) → List Frame → SceneValue
+made_scene bytes base faces placed prepared book = record { ground = base; faces = faces; prepared = prepared; placed = placed; book = book; palette = take PALETTE_SIZE (bytes base.playpal) }
+
+module _ (bytes : ℕ → List ℕ) (lumps : List Lump) (base : Ground) (faces : Faces) (placed : List Placed) (prepared : List (Option PreparedTexture)) where
+  -- its palette is the one that was read before
+  over_given : given_palette (take PALETTE_SIZE (bytes base.playpal)) (scene_over bytes lumps base faces placed prepared) ≡ scene_over bytes lumps base faces placed prepared
+  unfolding scene_over given_palette
+  over_given = go (from_below Sprite (book_in bytes lumps placed)) (from_below Scene (checked placed (bad_middle (texture_by prepared) base.level.segs faces.sides))) where
+    go : (book : Result (List Frame) AuditRefusal) (done : Result (Unit {0}) AuditRefusal) →
+        given_palette (take PALETTE_SIZE (bytes base.playpal)) (and_then book (λ book. and_then done (λ done. Ok (made_scene bytes base faces placed prepared book)))) ≡ and_then book (λ book. and_then done (λ done. Ok (made_scene bytes base faces placed prepared book)))
+    go (Ok book) (Ok done) = refl
+    go (Ok book) (Err refusal) = refl
+    go (Err refusal) done = refl
+
+  -- its book is that of the placed things
+  over_parts : (scene : SceneValue) → scene_over bytes lumps base faces placed prepared ≡ Ok scene → (book : List Frame) × (book_in bytes lumps placed ≡ Ok book) × (made_scene bytes base faces placed prepared book ≡ scene)
+  unfolding scene_over
+  over_parts scene e =
+      let done = from_below Scene (checked placed (bad_middle (texture_by prepared) base.level.segs faces.sides)) in
+      let a = and_then-ok (from_below Sprite (book_in bytes lumps placed)) (λ book. and_then done (λ done. Ok (made_scene bytes base faces placed prepared book))) scene e in
+      let b = and_then-ok done (λ done. Ok (made_scene bytes base faces placed prepared a.0)) scene a.2 in
+      (a.0, from_below-ok Sprite (book_in bytes lumps placed) a.0 a.1, let made : made_scene bytes base faces placed prepared a.0 ≡ scene = cc in made)
+
+module _ (bytes : ℕ → List ℕ) (lumps : List Lump) (lines : List ThingLine) (name : List ℕ) (skill : ℕ) where
+  -- likewise of the scene over a ground
+  on_given : (base : Ground) → given_palette (take PALETTE_SIZE (bytes base.playpal)) (scene_on bytes lumps lines skill name base) ≡ scene_on bytes lumps lines skill name base
+  unfolding scene_on given_palette
+  on_given base = by_faces (from_below Scene (faces_in lumps name base.level base.lists)) where
+    by_textures : (faces : Faces) (r : Result (List (Option PreparedTexture)) AuditRefusal) → given_palette (take PALETTE_SIZE (bytes base.playpal)) (and_then r (λ prepared. scene_over bytes lumps base faces (placed_things base.level lines skill) prepared)) ≡ and_then r (λ prepared. scene_over bytes lumps base faces (placed_things base.level lines skill) prepared)
+    by_textures faces (Ok prepared) = over_given bytes lumps base faces (placed_things base.level lines skill) prepared
+    by_textures faces (Err refusal) = refl
+
+    by_faces : (r : Result Faces AuditRefusal) →
+        given_palette (take PALETTE_SIZE (bytes base.playpal)) (and_then r (λ faces. and_then (from_below Texture (prepared_textures (last_of lumps) bytes base.lists (is_wanted_texture faces.sides faces.sky))) (λ prepared. scene_over bytes lumps base faces (placed_things base.level lines skill) prepared)))
+        ≡ and_then r (λ faces. and_then (from_below Texture (prepared_textures (last_of lumps) bytes base.lists (is_wanted_texture faces.sides faces.sky))) (λ prepared. scene_over bytes lumps base faces (placed_things base.level lines skill) prepared))
+    by_faces (Ok faces) = by_textures faces (from_below Texture (prepared_textures (last_of lumps) bytes base.lists (is_wanted_texture faces.sides faces.sky)))
+    by_faces (Err refusal) = refl
+
+  -- the ground with the first palette was refused
+  pub scene_in-stop : (refusal : AuditRefusal) → ground_and_palette bytes lumps name ≡ Err refusal → scene_in bytes lumps lines name skill ≡ Err refusal
+  unfolding scene_in ground_and_palette
+  scene_in-stop refusal e = go (ground_in bytes lumps name) e where
+    go : (r : Result Ground AuditRefusal) → and_then {B = Ground × List ℕ} r (λ base. Ok (base, take PALETTE_SIZE (bytes base.playpal))) ≡ Err refusal → and_then r (scene_on bytes lumps lines skill name) ≡ Err refusal
+    go (Ok base) is = cc
+    go (Err reason) is = let same : reason ≡ refusal = cc in ap Err same
+
+  -- it was found
+  pub ground_told : (base : Ground) (palette : List ℕ) → ground_and_palette bytes lumps name ≡ Ok (base, palette) → (ground_in bytes lumps name ≡ Ok base) × (take PALETTE_SIZE (bytes base.playpal) ≡ palette)
+  unfolding ground_and_palette
+  ground_told base palette e =
+      let p = and_then-ok (ground_in bytes lumps name) (λ base. Ok (base, take PALETTE_SIZE (bytes base.playpal))) (base, palette) e in
+      let pair : (p.0, take PALETTE_SIZE (bytes p.0.playpal)) ≡ (base, palette) = cc in
+      let same : p.0 ≡ base = ap (λ (x : Ground × List ℕ). x.0) pair in
+      (p.1 ∙ ap Ok same, ap (λ (b : Ground). take PALETTE_SIZE (bytes b.playpal)) (sym same) ∙ ap (λ (x : Ground × List ℕ). x.1) pair)
+
+  pub scene_in-more : (base : Ground) (palette : List ℕ) → ground_and_palette bytes lumps name ≡ Ok (base, palette) → scene_in bytes lumps lines name skill ≡ given_palette palette (scene_on bytes lumps lines skill name base)
+  unfolding scene_in
+  scene_in-more base palette e =
+      let told = ground_told base palette e in
+      ap (λ r. and_then r (scene_on bytes lumps lines skill name)) told.0 ∙ sym (on_given base) ∙ ap (λ (p : List ℕ). given_palette p (scene_on bytes lumps lines skill name base)) told.1
+
+-- what the directory tells of a ground
+pub record IsGroundOf (lumps : List Lump) (name : List ℕ) (base : Ground) : Type 0 where
+  pub colormap : colormap_of lumps ≡ Ok base.colormap
+  pub playpal : playpal_of lumps ≡ Ok base.playpal
+  pub label : label_of lumps name ≡ Ok base.label
+
+pub ground_parts : (bytes : ℕ → List ℕ) (lumps : List Lump) (name : List ℕ) (base : Ground) → ground_in bytes lumps name ≡ Ok base → IsGroundOf lumps name base
+unfolding ground_in ground_over level_in
+ground_parts bytes lumps name base e =
+    let a = and_then-ok (from_below Art (colormap_of lumps)) _ base e in
+    let b = and_then-ok (from_below Art (playpal_of lumps)) _ base a.2 in
+    let c = and_then-ok (from_below Map (level_in bytes lumps name)) _ base b.2 in
+    let d = and_then-ok (from_below Texture (lists_in bytes lumps)) _ base c.2 in
+    let found = and_then-ok (label_of lumps name) _ c.0 (from_below-ok Map (level_in bytes lumps name) c.0 c.1) in
+    let level = and_then-ok (level_of _) _ c.0 found.2 in
+    let made : ◌≡◌ {A = Ground} (record { colormap = a.0; playpal = b.0; label = c.0.0; level = c.0.1; lists = d.0 }) base = cc in
+    let pair : (found.0, level.0) ≡ c.0 = cc in
+    subst (IsGroundOf lumps name) made (record { colormap = from_below-ok Art (colormap_of lumps) a.0 a.1; playpal = from_below-ok Art (playpal_of lumps) b.0 b.1; label = found.1 ∙ ap (λ (x : ℕ × _). Ok x.0) pair })
+
+-- what an accepted scene is made of
+pub record IsSceneOf (bytes : ℕ → List ℕ) (lumps : List Lump) (lines : List ThingLine) (name : List ℕ) (skill : ℕ) (scene : SceneValue) : Type 0 where
+  pub base : ground_in bytes lumps name ≡ Ok scene.ground
+  pub faces : faces_in lumps name scene.ground.level scene.ground.lists ≡ Ok scene.faces
+  pub prepared : prepared_textures (last_of lumps) bytes scene.ground.lists (is_wanted_texture scene.faces.sides scene.faces.sky) ≡ Ok scene.prepared
+  pub book : book_in bytes lumps (placed_things scene.ground.level lines skill) ≡ Ok scene.book
+
+module _ (bytes : ℕ → List ℕ) (lumps : List Lump) (lines : List ThingLine) (name : List ℕ) (skill : ℕ) (scene : SceneValue) where
+  parts_over : (base : Ground) (faces : Faces) (prepared : List (Option PreparedTexture)) → ground_in bytes lumps name ≡ Ok base → faces_in lumps name base.level base.lists ≡ Ok faces →
+      prepared_textures (last_of lumps) bytes base.lists (is_wanted_texture faces.sides faces.sky) ≡ Ok prepared → scene_over bytes lumps base faces (placed_things base.level lines skill) prepared ≡ Ok scene → IsSceneOf bytes lumps lines name skill scene
+  parts_over base faces prepared one two three e =
+      let book = over_parts bytes lumps base faces (placed_things base.level lines skill) prepared scene e in
+      subst (IsSceneOf bytes lumps lines name skill) book.2 (record { base = one; faces = two; prepared = three; book = book.1 })
+
+  pub scene_parts : scene_in bytes lumps lines name skill ≡ Ok scene → IsSceneOf bytes lumps lines name skill scene
+  unfolding scene_in scene_on
+  scene_parts e =
+      let a = and_then-ok (ground_in bytes lumps name) (scene_on bytes lumps lines skill name) scene e in
+      let b = and_then-ok (from_below Scene (faces_in lumps name a.0.level a.0.lists)) _ scene a.2 in
+      let c = and_then-ok (from_below Texture (prepared_textures (last_of lumps) bytes a.0.lists (is_wanted_texture b.0.sides b.0.sky))) (scene_over bytes lumps a.0 b.0 (placed_things a.0.level lines skill)) scene b.2 in
+      parts_over a.0 b.0 c.0 a.1 (from_below-ok Scene (faces_in lumps name a.0.level a.0.lists) b.0 b.1)
+      (from_below-ok Texture (prepared_textures (last_of lumps) bytes a.0.lists (is_wanted_texture b.0.sides b.0.sky)) c.0 c.1) c.2

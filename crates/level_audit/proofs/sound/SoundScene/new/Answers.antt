@@ -1,0 +1,13 @@
+use Rattle.std.proofs.Common.{◌∙◌}
+use Rattle.scene_read.specs.Scenes.{scene_value}
+use Rattle.scene_art.specs.Views.{numbers_of}
+use Rattle.level_audit.proofs.PictureLemmas.{needed_alone, sizes_alone}
+use Rattle.level_audit.proofs.sound.SoundScene.new.Goals as goal
+
+pub returns-clause-named : goal.returns-clause-named
+returns-clause-named c =
+    c.in_ok-needed.ensures.lumps ∙ needed_alone c.args.dir.now.lumps (scene_value c.args.scene) (numbers_of c.pictures.result.now) c.pictures.ensures.lumps
+
+pub returns-clause-sizes : goal.returns-clause-sizes
+returns-clause-sizes c =
+    c.in_ok-needed.ensures.sizes ∙ sizes_alone c.args.dir.now.lumps (scene_value c.args.scene) (numbers_of c.pictures.result.now) c.pictures.ensures.lumps

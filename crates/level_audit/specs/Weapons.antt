@@ -1,0 +1,45 @@
+-- What the rows of a weapon table need, and the book of it.
+use Rattle.std.specs.Prelude.{ℕ, suc, List, [], ◌∷◌, Result}
+use Rattle.outside.specs.Told.{from_below}
+use Rattle.lump_rules.specs.declared.wad.Lump.{Lump}
+use Rattle.csv_tables.specs.declared.weapons.WeaponRow.{WeaponRow}
+use Rattle.art_rules.specs.declared.refusal.SpriteRefusal.{SpriteRefusal}
+use Rattle.art_rules.specs.declared.refusal.SpriteRefusal.TheVariants as sprite
+use Rattle.sprite_book.specs.declared.fault.SpriteFault.{SpriteFault}
+use Rattle.sprite_book.specs.declared.fault.SpriteFault.TheVariants as fault
+use Rattle.sprite_book.specs.declared.shapes.Frame.{Frame}
+use Rattle.sprite_book.specs.declared.shapes.Need.{Need}
+use Rattle.sprite_book.specs.Books.{each_of, first_needs, frame_of}
+use Rattle.scene_rules.specs.declared.refusal.AuditRefusal.TheVariants.{WeaponArt}
+use Rattle.scene_rules.specs.declared.refusal.WeaponRefusal.{WeaponRefusal}
+use Rattle.scene_rules.specs.declared.refusal.WeaponRefusal.TheVariants.{NoFrame, MissingRotation, BadPatch}
+use Rattle.audit_fault.specs.declared.fault.AuditFault.{AuditFault}
+use Rattle.audit_fault.specs.declared.fault.AuditFault.TheVariants.{Refused, ReadFault, ZoneFull, OutOfMemory}
+
+-- the frame of a row, which is told by its number
+unfoldable pub need_of_row : ℕ → WeaponRow → Need
+need_of_row number row = record { thing = number; sprite = row.sprite; frame = row.frame }
+
+-- those of all rows from a number on; the first row has number 1
+unfoldable pub needs_from : ℕ → List WeaponRow → List Need
+needs_from number [] = []
+needs_from number (row ∷ rows) = need_of_row number row ∷ needs_from (suc number) rows
+
+unfoldable pub weapon_needs : List WeaponRow → List Need
+weapon_needs rows = needs_from 1 rows
+
+-- a refusal of the book, by the number of the row
+abbrev pub weapon_refusal : SpriteRefusal → WeaponRefusal
+weapon_refusal (sprite.NoFrame thing) = NoFrame thing
+weapon_refusal (sprite.MissingRotation thing rotation) = MissingRotation thing rotation
+weapon_refusal (sprite.BadPatch lump) = BadPatch lump
+
+abbrev pub weapon_fault : SpriteFault → AuditFault
+weapon_fault (fault.Refused refusal) = Refused (WeaponArt (weapon_refusal refusal))
+weapon_fault fault.ReadFault = ReadFault
+weapon_fault (fault.ZoneFull wanted widest) = ZoneFull wanted widest
+weapon_fault fault.OutOfMemory = OutOfMemory
+
+-- the book of the rows' frames, refused for the first row that lacks something
+unfoldable pub weapon_book : (ℕ → List ℕ) → List Lump → List WeaponRow → Result (List Frame) WeaponRefusal
+weapon_book bytes lumps rows = from_below weapon_refusal (each_of (frame_of bytes lumps) (first_needs (weapon_needs rows)))

@@ -1,0 +1,24 @@
+//! The audit of a level: a scene that every drawing layer may rely on, or the first thing that is
+//! wrong with the lumps.
+//!
+//! Rules: `scene_rules`, Scenes (`scene_in`, the order of all checks) and Sizes; what contracts see
+//! of a sound scene is in `specs/Sound`, which lumps an audit reads in `specs/Reads`, weapons in
+//! `specs/Weapons`. Proved: what an audit answers over any shelf, what it keeps and leaves of the
+//! cache, how small a zone was that had no room, and what a sound scene lends. Tested only: that
+//! memory is found. The original: `P_SetupLevel`, p_setup.c, `R_InitData` and `R_PrecacheLevel`,
+//! r_data.c, `R_InitSprites`, r_things.c, which end the program at what is refused here.
+#![tactic(auto)]
+
+mod pictures;
+mod sound;
+mod steps;
+#[cfg(test)]
+mod tests;
+mod weapons;
+
+pub use audit_fault::{ArtRefusal, AuditFault, AuditRefusal, SceneRefusal, WeaponRefusal};
+pub use level_rules::{PlacedThing, SideTextures, Surface};
+pub use scene_rules::{Flat, SectorFlats, ZoneSizes};
+pub use sound::SoundScene;
+pub use steps::audit;
+pub use weapons::audit_weapons;

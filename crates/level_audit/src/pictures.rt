@@ -1,0 +1,46 @@
+// The lumps that a scene needs with these pictures, and how large a zone has to be for them.
+//
+// Rules: `scene_rules`, Sizes. The original: `R_PrecacheLevel`, r_data.c, which reads them.
+ghost use Rattle.std.specs.Prelude.{◌≡◌, ◌<◌, length, IfOk};
+ghost use Rattle.scene_rules.specs.Sizes.{needed_lumps, zone_sizes};
+ghost use Rattle.scene_art.specs.Views.{numbers_of};
+ghost use Rattle.scene_read.specs.Scenes.{scene_value};
+ghost use Rattle.level_audit.specs.Sound.{art_with};
+
+use outside::OutOfMemory;
+use scene_art::{NeededArt, needed_lumps, zone_sizes};
+use scene_read::ReadScene;
+use scene_rules::ZoneSizes;
+use std::alloc::Global;
+use wad_dir::{Directory, LumpNo};
+
+// The lumps that are needed, and the sizes of a zone for them.
+#[derive(Drop)]
+pub(crate) struct Needed {
+    pub lumps: Vec<LumpNo>,
+    pub sizes: ZoneSizes,
+}
+
+// What a scene needs, with the pictures of these lumps.
+pub(crate) fn find_needed(
+    alloc: Global,
+    dir: &Directory,
+    scene: &ReadScene,
+    pictures: &[LumpNo],
+) -> Result<Needed, OutOfMemory>
+    requires { scene.now.ground.colormap.0 < length dir.now.lumps }
+    ensures lumps { IfOk result (λ needed. numbers_of needed.lumps.items ≡ needed_lumps dir.now.lumps (art_with (scene_value scene.now) (numbers_of pictures.now))) }
+    ensures sizes { IfOk result (λ needed. needed.sizes ≡ zone_sizes dir.now.lumps (art_with (scene_value scene.now) (numbers_of pictures.now))) }
+{
+    let art = NeededArt {
+        colormap: scene.ground.colormap,
+        playpal: scene.ground.playpal,
+        label: scene.ground.label,
+        textures: &scene.ground.textures,
+        flats: &scene.faces.flats,
+        pictures,
+    };
+    let lumps = needed_lumps(alloc, dir, &art)?;
+    let sizes = zone_sizes(dir, &art, &lumps);
+    Ok(Needed { lumps, sizes })
+}

@@ -1,0 +1,119 @@
+// The steps of an audit, in their order.
+//
+// Rules: `scene_rules`, Scenes; `specs/Reads`. The original: `P_SetupLevel`, p_setup.c,
+// `R_InitData`, r_data.c.
+ghost use Rattle.std.specs.Prelude.{◌≡◌, ◌≢◌, ◌<◌, ◌≤◌, ◌+◌, ◌⊎◌, ℕ, List, length, true, Some, Ok, IfOk, IfErr, IfSome, IsOk, MatchResult};
+ghost use Rattle.outside.specs.Shelf.{AllStand, Follows};
+ghost use Rattle.outside.specs.Told.{Answers, HasCauses};
+ghost use Rattle.lump_rules.specs.Contents.{lump_bytes};
+ghost use Rattle.lump_rules.specs.Lookups.{lump_at};
+ghost use Rattle.zone_rules.specs.declared.TheConstants.{MIN_FRAGMENT};
+ghost use Rattle.zone_rules.specs.Zones.{block_size, bytes_of};
+ghost use Rattle.zone_rules.specs.Orders.{Item, has_item, IsInOrder, KeepsOrder};
+ghost use Rattle.lump_cache.specs.Caches.{IsAtRest, IsEmpty, IsFaithful, KeepsCounts, composite_owner, lump_owner};
+ghost use Rattle.cached_lumps.specs.Calls.{IfFull, InOrderAt, IsTold, Tells};
+ghost use Rattle.cached_lumps.specs.Sizes.{HasSizes, StandsBeside};
+ghost use Rattle.scene_rules.specs.Scenes.{SceneValue, art_of, colormap_of, scene_in, sizes_of};
+ghost use Rattle.scene_rules.specs.Sizes.{needed_lumps};
+ghost use Rattle.audit_fault.specs.Faults.{audit_told};
+ghost use Rattle.ground_read.specs.Asked.{IsOfGround};
+ghost use Rattle.level_audit.specs.Reads.{IsFullAudit, IsReadBy, IsReadLater};
+
+use crate::{AuditFault, SoundScene};
+use csv_tables::ThingTable;
+use ground_read::{find_colormap, read_ground};
+use lump_cache::LumpCache;
+use lump_rules::Name8;
+use outside::Shelf;
+use scene_read::read_scene;
+use std::alloc::Global;
+use wad_dir::{Directory, LumpNo};
+use zone_heap::Tag;
+
+/// The scene of a map, for a skill of 1 to 5, with things that look as the thing table says; or the
+/// first thing that is wrong with it.
+///
+/// In order: COLORMAP is found, and fetched with the tag `Static`; PLAYPAL; the eight lumps of the
+/// map; PNAMES, TEXTURE1 and, where it is there, TEXTURE2; the textures of sides, the sky, the flats
+/// of sectors; the wanted textures; the pictures of things; no shadow; masked mid textures of single
+/// columns. One lump at a time is fetched with the tag `Cache`, read, and left purgeable. Takes
+/// memory for the scene.
+///
+/// Errors: `Refused` with the first refusal in that order. `ReadFault` only where the shelf's count
+/// of faults rose, and never over a steady shelf with the files that the directory was loaded from.
+/// `ZoneFull` only once COLORMAP is found (`found`), where no gap of the zone held the block of one
+/// of these lumps; from a cache without a live slot only in a zone smaller than the block of
+/// COLORMAP, that block and `MIN_FRAGMENT` (`room`), and, where nothing refuses, smaller than the
+/// scene's `enough` (`enough`). `OutOfMemory`.
+///
+/// From a cache without a live slot, after Ok, COLORMAP is pinned for the whole run at place 0, and
+/// no other block is pinned (`rest`); its block and that of each of the other lumps of colours, of
+/// the map, and of the lists are together no larger than the zone (`fits`).
+///
+/// The original: `P_SetupLevel`, p_setup.c, `R_InitData` and `R_PrecacheLevel`, r_data.c,
+/// `R_InitSprites`, r_things.c. This project's own: that all is checked before anything is drawn.
+pub fn audit<S: Shelf>(
+    alloc: Global,
+    dir: &Directory,
+    cache: &mut LumpCache,
+    shelf: &mut S,
+    things: &ThingTable,
+    map: &Name8,
+    skill: u8,
+) -> Result<SoundScene, AuditFault>
+    requires slots { length dir.now.lumps ≤ cache.old.lumps }
+    requires skill { (1 ≤ skill) × (skill ≤ 5) }
+    ensures answers { (contents : List (List ℕ)) → IsTold (S.view shelf.old) dir.now cache.old contents →
+        Answers audit_told (S.view shelf.old).steady (λ sound. sound.scene) (scene_in (lump_bytes contents dir.now.lumps) dir.now.lumps things.now map.now skill) result }
+    ensures named { IfOk result (λ sound. sound.named ≡ needed_lumps dir.now.lumps (art_of sound.scene)) }
+    ensures sizes { IfOk result (λ sound. sound.sizes ≡ sizes_of dir.now.lumps sound.scene) }
+    ensures colormap { IfOk result (λ sound. colormap_of dir.now.lumps ≡ Ok sound.scene.ground.colormap) }
+    ensures causes { HasCauses audit_told (S.view shelf.old).faults (S.view shelf.new).faults result }
+    ensures found { IfErr result (λ fault. IfFull (audit_told fault) (λ wanted widest'. IsOk (colormap_of dir.now.lumps))) }
+    ensures full { IfErr result (λ fault. IfFull (audit_told fault) (IsFullAudit (S.view shelf.old) dir.now cache.old things.now map.now skill)) }
+    ensures room { (colormap : ℕ) → colormap_of dir.now.lumps ≡ Ok colormap → IsEmpty cache.old →
+        IfErr result (λ fault. IfFull (audit_told fault) (λ wanted widest'. cache.old.size < block_size (lump_at dir.now.lumps colormap).size + wanted + MIN_FRAGMENT)) }
+    ensures enough { (contents : List (List ℕ)) (scene : SceneValue) → IsTold (S.view shelf.old) dir.now cache.old contents →
+        scene_in (lump_bytes contents dir.now.lumps) dir.now.lumps things.now map.now skill ≡ Ok scene → IsEmpty cache.old →
+        IfErr result (λ fault. IfFull (audit_told fault) (λ wanted widest'. cache.old.size < (sizes_of dir.now.lumps scene).enough)) }
+    ensures rest { IsEmpty cache.old → IfOk result (λ sound. IsAtRest sound.scene.ground.colormap (lump_at dir.now.lumps sound.scene.ground.colormap).size cache.new) }
+    ensures fits { IsEmpty cache.old → IfOk result (λ sound. (lump : ℕ) → IsOfGround dir.now.lumps map.now lump → lump ≢ sound.scene.ground.colormap →
+        block_size (lump_at dir.now.lumps sound.scene.ground.colormap).size + block_size (lump_at dir.now.lumps lump).size ≤ cache.old.size) }
+    ensures follows { Follows (S.view shelf.old) (S.view shelf.new) }
+    ensures counts { KeepsCounts cache.old cache.new }
+    ensures faithful { (contents : List (List ℕ)) → AllStand (S.view shelf.old) dir.now.files contents → IsFaithful contents dir.now.lumps cache.old → IsFaithful contents dir.now.lumps cache.new }
+    ensures composites { (number : ℕ) → IfSome (bytes_of (composite_owner number) cache.new.blocks) (λ bytes. bytes_of (composite_owner number) cache.old.blocks ≡ Some bytes) }
+    ensures order { (contents : List (List ℕ)) (items : List Item) → IsTold (S.view shelf.old) dir.now cache.old contents →
+        ((lump : ℕ) → IsReadBy (lump_bytes contents dir.now.lumps) dir.now.lumps things.now map.now skill lump → has_item items (lump_owner lump) (lump_at dir.now.lumps lump).size ≡ true) →
+        IsInOrder items cache.old →
+        MatchResult result (λ _. KeepsOrder items cache.old cache.new (S.view shelf.old).taken (S.view shelf.new).taken) (λ fault. InOrderAt (audit_told fault) (KeepsOrder items cache.old cache.new (S.view shelf.old).taken (S.view shelf.new).taken)) }
+{
+    let colormap = find_colormap(dir)?;
+    cache.fetch(shelf, dir, colormap, Tag::Static)?;
+    audit_rest(alloc, colormap, dir, cache, shelf, things, map, skill)
+}
+
+// The steps after COLORMAP, whose lump this is.
+fn audit_rest<S: Shelf>(
+    alloc: Global,
+    colormap: LumpNo,
+    dir: &Directory,
+    cache: &mut LumpCache,
+    shelf: &mut S,
+    things: &ThingTable,
+    map: &Name8,
+    skill: u8,
+) -> Result<SoundScene, AuditFault>
+    requires slots { length dir.now.lumps ≤ cache.old.lumps }
+    requires skill { (1 ≤ skill) × (skill ≤ 5) }
+    requires colormap { colormap_of dir.now.lumps ≡ Ok colormap.0 }
+    ensures tells { Tells audit_told (S.view shelf.old) (S.view shelf.new) dir.now cache.old cache.new (IsReadLater (S.view shelf.old) dir.now cache.old things.now map.now skill) (λ sound. sound.scene) (λ bytes. scene_in bytes dir.now.lumps things.now map.now skill) result }
+    ensures named { IfOk result (λ sound. sound.named ≡ needed_lumps dir.now.lumps (art_of sound.scene)) }
+    ensures sizes { IfOk result (λ sound. sound.sizes ≡ sizes_of dir.now.lumps sound.scene) }
+    ensures colormap { IfOk result (λ sound. sound.scene.ground.colormap ≡ colormap.0) }
+    ensures fits { IfOk result (λ sound. (lump : ℕ) → IsOfGround dir.now.lumps map.now lump → StandsBeside dir.now.lumps cache.old lump) }
+{
+    let ground = read_ground(alloc, colormap, map, dir, cache, shelf)?;
+    let scene = read_scene(alloc, ground, map, things, skill, dir, cache, shelf)?;
+    Ok(SoundScene::new(alloc, dir, scene)?)
+}
