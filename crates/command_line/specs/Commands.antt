@@ -11,7 +11,7 @@ use Rattle.command_line.specs.declared.command.SceneJob.{SceneJob}
 use Rattle.command_line.specs.declared.jobs.TheConstants.{MAX_COUNT, MIN_COUNT}
 use Rattle.command_line.specs.Simple.{simple_command}
 use Rattle.command_line.specs.Choices.{format_in, has_no_options, has_no_settings, number_within, zone_in}
-use Rattle.command_line.specs.Scenes.{ToldScene, are_wads, scene_job_in, scene_of, told_scene}
+use Rattle.command_line.specs.Scenes.{IsScene, ToldScene, are_wads, scene_job_in, scene_of, told_scene}
 
 -- a command, as text and numbers
 pub data Told : Type 0 where
@@ -37,16 +37,16 @@ IsCountedMake (Path n) = IsCount n
 IsCountedMake Tables = Unit {0}
 IsCountedMake Things = Unit {0}
 
--- the number of made files, where a command has one, is in its range
+-- the number of made files, or the numbers of a job over a level, are in their ranges
 abbrev pub IsCounted : Told → Type 0
 IsCounted (flat name file) = Unit {0}
-IsCounted (scene job level wads) = Unit {0}
+IsCounted (scene job level wads) = IsScene level wads
 IsCounted (make job) = IsCountedMake job
 IsCounted (exercise count zone format) = IsCount count
 
 -- the jobs that are built; the others are no command yet
 unfoldable pub is_built : Text → Bool
-is_built job = bytes_eq job (codes "flat") || bytes_eq job (codes "make")
+is_built job = bytes_eq job (codes "flat") || (bytes_eq job (codes "make") || bytes_eq job (codes "audit"))
 
 -- flat NAME FILE, and no option
 unfoldable pub flat_of : List Row → List Text → Option Told

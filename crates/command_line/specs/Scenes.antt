@@ -8,7 +8,7 @@ use Rattle.command_line.specs.declared.command.SceneJob.{SceneJob}
 use Rattle.command_line.specs.declared.command.SceneJob.TheVariants.{Render, Audit, Limits, Trim, Trace}
 use Rattle.command_line.specs.declared.command.Settings.{Settings}
 use Rattle.command_line.specs.declared.scenes.TheConstants.{MAX_WADS}
-use Rattle.command_line.specs.Choices.{format_in, lacks, settings_in}
+use Rattle.command_line.specs.Choices.{AreSettings, IsWithin, format_in, lacks, settings_in}
 
 -- the names of files, as text
 pub record ToldFiles : Type 0 where
@@ -28,6 +28,11 @@ pub record ToldScene : Type 0 where
 
 abbrev pub told_scene : Scene → ToldScene
 told_scene scene = record { map_name = scene.map; files = told_files scene.files; settings = scene.settings }
+
+-- the numbers of a job over a level and the number of its WADs are in their ranges
+pub record IsScene (level : ToldScene) (wads : List Text) : Type 0 where
+  pub settings : AreSettings level.settings
+  pub count : IsWithin 1 MAX_WADS (length wads)
 
 unfoldable pub other_scene_job : Text → Option SceneJob
 other_scene_job job =

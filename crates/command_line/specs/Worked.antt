@@ -1,16 +1,19 @@
 -- Worked words.
-use Rattle.std.specs.Prelude.{◌≡◌, ℕ, [], ◌∷◌, Some, None, codes, refl}
+use Rattle.std.specs.Prelude.{◌≡◌, ℕ, List, [], ◌∷◌, Some, None, codes, refl}
+use Rattle.clap.specs.Words.{Text}
 use Rattle.clap.proofs.OnLiterals.{clap_on_literals}
 use Rattle.numerals.specs.Numerals.{digits_after, is_numeral, numeral}
 use Rattle.lump_rules.specs.Names.{filled}
 use Rattle.command_line.specs.declared.command.MakeJob.TheVariants.{Wad}
+use Rattle.command_line.specs.declared.command.SceneJob.TheVariants.{Audit}
 use Rattle.command_line.specs.Simple.{simple_command, with_files, with_limits, with_option, with_settings}
-use Rattle.command_line.specs.Choices.{has_no_files, has_no_options, has_no_settings, number_within}
-use Rattle.command_line.specs.Commands.{command_in, command_of, count_of, flat, flat_of, is_built, job_named, make, make_job_of, make_of, numbered_make, plain_make}
+use Rattle.command_line.specs.Choices.{has_no_files, has_no_options, has_no_settings, multiple_of_step, number_option, number_within, settings_in, zone_in}
+use Rattle.command_line.specs.Scenes.{are_wads, files_in, other_scene_job, scene_job_in, scene_of}
+use Rattle.command_line.specs.Commands.{command_in, command_of, count_of, flat, flat_of, is_built, job_named, make, make_job_of, make_of, numbered_make, plain_make, scene, scene_command, scene_with}
 
 -- what the rows below unfold
 unfoldable pub words_unfolded : ℕ
-unfolding clap_on_literals digits_after is_numeral numeral filled simple_command with_files with_limits with_option with_settings has_no_files has_no_options has_no_settings number_within command_in command_of count_of flat_of is_built job_named make_job_of make_of numbered_make plain_make
+unfolding clap_on_literals digits_after is_numeral numeral filled simple_command with_files with_limits with_option with_settings has_no_files has_no_options has_no_settings multiple_of_step number_option number_within settings_in zone_in are_wads files_in other_scene_job scene_job_in scene_of command_in command_of count_of flat_of is_built job_named make_job_of make_of numbered_make plain_make scene_command scene_with
 words_unfolded = 0
 
 -- words after `--` are no options
@@ -31,3 +34,22 @@ make_most = refl
 pub make_more : command_of (codes "make" ∷ codes "wad" ∷ codes "33" ∷ []) ≡ None
 unfolding words_unfolded
 make_more = refl
+
+-- words of an audit with two of its three files, and more words
+abbrev pub audit_words : List Text → List Text
+audit_words more = codes "audit" ∷ codes "e1m1" ∷ codes "a" ∷ codes "--tables" ∷ codes "t" ∷ codes "--things" ∷ codes "o" ∷ more
+
+-- an audit with the greatest skill
+pub audit_most : command_of (audit_words (codes "--path" ∷ codes "p" ∷ codes "--skill" ∷ codes "5" ∷ [])) ≡ Some (scene Audit (record { map_name = 69 ∷ 49 ∷ 77 ∷ 49 ∷ 0 ∷ 0 ∷ 0 ∷ 0 ∷ []; files = record { tables = codes "t"; things = codes "o"; path = codes "p"; weapon = None }; settings = record { zone = 6291456; skill = 5; size = 11; planes = 128; openings = 20480 } }) (codes "a" ∷ []))
+unfolding words_unfolded
+audit_most = refl
+
+-- the skill past it
+pub audit_more : command_of (audit_words (codes "--path" ∷ codes "p" ∷ codes "--skill" ∷ codes "6" ∷ [])) ≡ None
+unfolding words_unfolded
+audit_more = refl
+
+-- one of the files is not given
+pub audit_pathless : command_of (audit_words []) ≡ None
+unfolding words_unfolded
+audit_pathless = refl

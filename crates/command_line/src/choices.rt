@@ -1,8 +1,8 @@
 // The options of a job by their values: numbers within a range, and the format.
 
-ghost use Rattle.std.specs.Prelude.{◌≡◌, ◌≤◌, IfSome, option_map};
+ghost use Rattle.std.specs.Prelude.{◌≡◌, ◌%◌, IfSome, option_map};
 ghost use Rattle.clap.specs.Words.{found_of, rows_of};
-ghost use Rattle.command_line.specs.Choices.{format_in, format_named, has_no_files, has_no_options, has_no_settings, multiple_of_step, number_option, number_within, settings_in, zone_in};
+ghost use Rattle.command_line.specs.Choices.{AreSettings, IsWithin, IsZone, format_in, format_named, has_no_files, has_no_options, has_no_settings, multiple_of_step, number_option, number_within, settings_in, zone_in};
 ghost use Rattle.command_line.specs.declared.command.Settings.{Settings};
 
 use crate::command::{Format, Settings};
@@ -52,8 +52,7 @@ pub const DEFAULT_OPENINGS: u32 = 20_480;
 #[tactic(auto, unfolding(crate::specs::Choices::number_within))]
 pub(crate) fn number_within(low: u32, high: u32, text: &str) -> Option<u32>
     ensures value { result ≡ number_within low high text.now }
-    ensures least { IfSome result (λ n. low ≤ n) }
-    ensures limit { IfSome result (λ n. n ≤ high) }
+    ensures within { IfSome result (λ n. IsWithin low high n) }
 {
     match numeral(text.as_bytes()) {
         None => None,
@@ -70,9 +69,9 @@ pub(crate) fn number_within(low: u32, high: u32, text: &str) -> Option<u32>
 // The number of an option, or the default of one that is not given.
 #[tactic(auto, unfolding(crate::specs::Choices::number_option))]
 fn number_option(low: u32, high: u32, default: u32, given: Option<&str>) -> Option<u32>
-    requires { default ≤ high }
+    requires { IsWithin low high default }
     ensures value { result ≡ number_option low high default (option_map (λ s. s.now) given.entry) }
-    ensures limit { IfSome result (λ n. n ≤ high) }
+    ensures within { IfSome result (λ n. IsWithin low high n) }
 {
     match given {
         None => Some(default),
@@ -83,7 +82,9 @@ fn number_option(low: u32, high: u32, default: u32, given: Option<&str>) -> Opti
 // A size that is a multiple of the step.
 #[tactic(auto, unfolding(crate::specs::Choices::multiple_of_step))]
 fn multiple_of_step(size: u32) -> Option<u32>
-    ensures { result ≡ multiple_of_step size }
+    ensures value { result ≡ multiple_of_step size }
+    ensures step { IfSome result (λ n. n % ZONE_STEP ≡ 0) }
+    ensures same { IfSome result (λ n. n ≡ size) }
 {
     if size % ZONE_STEP == 0 {
         Some(size)
@@ -95,7 +96,8 @@ fn multiple_of_step(size: u32) -> Option<u32>
 // The size of the zone.
 #[tactic(auto, unfolding(crate::specs::Choices::zone_in))]
 pub(crate) fn zone_in(found: &ArgMatches<'_>) -> Option<u32>
-    ensures { result ≡ zone_in (rows_of (found_of found.now)) }
+    ensures value { result ≡ zone_in (rows_of (found_of found.now)) }
+    ensures zone { IfSome result (λ n. IsZone n) }
 {
     let size = number_option(MIN_ZONE, MAX_ZONE, DEFAULT_ZONE, value(found, "zone"))?;
     multiple_of_step(size)
@@ -104,7 +106,8 @@ pub(crate) fn zone_in(found: &ArgMatches<'_>) -> Option<u32>
 // The numbers of a job over a level.
 #[tactic(auto, unfolding(crate::specs::Choices::settings_in))]
 pub(crate) fn settings_in(found: &ArgMatches<'_>) -> Option<Settings>
-    ensures { result ≡ settings_in (rows_of (found_of found.now)) }
+    ensures value { result ≡ settings_in (rows_of (found_of found.now)) }
+    ensures within { IfSome result (λ numbers. AreSettings numbers) }
 {
     let zone = zone_in(found)?;
     let skill = number_option(MIN_SKILL, MAX_SKILL, DEFAULT_SKILL, value(found, "skill"))?;

@@ -17,7 +17,8 @@ pub const MIN_COUNT: u32 = 1;
 
 pub const MAX_COUNT: u32 = 32;
 
-/// The command of the words after the program's name. The number of made files is in its range.
+/// The command of the words after the program's name. The number of made files, and the numbers of
+/// a job over a level, are in their ranges.
 ///
 /// Takes memory for what `clap` finds and for the list of WADs.
 ///
@@ -63,7 +64,7 @@ fn command_in<'a>(alloc: Global, found: &ArgMatches<'a>) -> Result<Command<'a>, 
 fn is_built(job: &str) -> bool
     ensures { result ≡ is_built job.now }
 {
-    job == "flat" || job == "make"
+    job == "flat" || job == "make" || job == "audit"
 }
 
 // The command of the job of that name.

@@ -1,7 +1,8 @@
 // The jobs over a level: the level's name, the files, the numbers and the WADs.
 
-ghost use Rattle.std.specs.Prelude.{◌≡◌, [], Err, IfOk, Some, None, map, option_map};
+ghost use Rattle.std.specs.Prelude.{◌≡◌, IsTrue, [], length, Err, IfOk, IfSome, Some, None, map, option_map};
 ghost use Rattle.clap.specs.Words.{found_of, rows_of};
+ghost use Rattle.command_line.specs.Choices.{AreSettings, IsWithin};
 ghost use Rattle.command_line.specs.Scenes.{are_wads, files_in, other_scene_job, scene_job_in, scene_of, told_files, told_scene};
 
 use crate::choices::{format_in, settings_in};
@@ -67,7 +68,8 @@ fn files_in<'a>(found: &ArgMatches<'a>) -> Option<Files<'a>>
 // The level of that name, its files and its numbers.
 #[tactic(auto, unfolding(crate::specs::Scenes::scene_of))]
 pub(crate) fn scene_of<'a>(found: &ArgMatches<'a>, map: &str) -> Option<Scene<'a>>
-    ensures { option_map told_scene result ≡ scene_of (rows_of (found_of found.now)) map.now }
+    ensures value { option_map told_scene result ≡ scene_of (rows_of (found_of found.now)) map.now }
+    ensures within { IfSome result (λ level. AreSettings level.settings) }
 {
     let map = Name8::from_text(map)?;
     let files = files_in(found)?;
@@ -82,7 +84,8 @@ pub(crate) fn scene_of<'a>(found: &ArgMatches<'a>, map: &str) -> Option<Scene<'a
 // Whether there are 1 to 16 WADs.
 #[tactic(auto, unfolding(crate::specs::Scenes::are_wads))]
 pub(crate) fn are_wads(wads: &[&str]) -> bool
-    ensures { result ≡ are_wads (map (λ w. w.now) wads.now) }
+    ensures value { result ≡ are_wads (map (λ w. w.now) wads.now) }
+    ensures within { IsTrue result → IsWithin 1 MAX_WADS (length (map (λ w. w.now) wads.now)) }
 {
     wads.len() > 0 && wads.len() <= MAX_WADS
 }

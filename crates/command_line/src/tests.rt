@@ -1,4 +1,4 @@
-use crate::{Command, CommandFault, MakeJob, command_of};
+use crate::{Command, CommandFault, MakeJob, SceneJob, Settings, command_of};
 use std::alloc::{AllocError, Global};
 use std::test::Fail;
 
@@ -36,6 +36,15 @@ fn is_made(command: &Command<'_>, made: MakeJob) -> bool {
     }
 }
 
+fn is_audit_of_two(command: &Command<'_>, numbers: Settings) -> bool {
+    match command {
+        Command::Scene { job, scene, wads } => {
+            *job == SceneJob::Audit && scene.settings == numbers && wads.len() == 2
+        }
+        _ => false,
+    }
+}
+
 #[test]
 fn a_flat_of_one_wad(rt: HostRuntime) -> Result<(), Fail> {
     let alloc = rt.alloc();
@@ -63,11 +72,38 @@ fn a_made_file(rt: HostRuntime) -> Result<(), Fail> {
 }
 
 #[test]
+fn an_audit_of_two_wads(rt: HostRuntime) -> Result<(), Fail> {
+    let alloc = rt.alloc();
+    let numbers = Settings {
+        zone: 4_096,
+        skill: 3,
+        size: 11,
+        planes: 128,
+        openings: 20_480,
+    };
+    match owned(
+        alloc,
+        &[
+            "audit", "MAP01", "a.wad", "b.wad", "--tables", "t.csv", "--things", "o.csv", "--path",
+            "p.csv", "--zone", "4096",
+        ],
+    ) {
+        Ok(words) => match command_of(alloc, &words) {
+            Ok(command) => assert!(rt; is_audit_of_two(&command, numbers)),
+            Err(_) => assert!(rt; false),
+        },
+        Err(_) => assert!(rt; false),
+    }
+    Ok(())
+}
+
+#[test]
 fn words_that_are_no_command(rt: HostRuntime) -> Result<(), Fail> {
     let alloc = rt.alloc();
     assert!(rt; is_usage(alloc, &[]));
     assert!(rt; is_usage(alloc, &["paint", "MAP01", "a.wad"]));
     assert!(rt; is_usage(alloc, &["render", "MAP01"]));
+    assert!(rt; is_usage(alloc, &["audit", "MAP01", "a.wad"]));
     assert!(rt; is_usage(alloc, &["flat", "TILE"]));
     assert!(rt; is_usage(alloc, &["make", "wad", "33"]));
     assert!(rt; is_usage(alloc, &["--zone", "4098", "make", "tables"]));
