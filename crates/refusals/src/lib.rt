@@ -1,0 +1,19 @@
+//! Why a run is refused, and the numbers by which that is told.
+//!
+//! Rules: specs, Groups (what a refusal of a layer is here) and Lines (its code and its numbers).
+//! Proved: each conversion, and what `put_numbers_of` writes. No call takes memory. This project's
+//! own.
+#![tactic(auto)]
+
+mod codes;
+mod lines;
+mod refusal;
+
+pub use art_rules::{SpriteRefusal, TexRefusal};
+pub use csv_tables::CsvRefusal;
+pub use lines::{put_labelled, put_numbers_of};
+pub use lump_rules::DirRefusal;
+pub use map_rules::MapRefusal;
+pub use refusal::Refusal;
+pub use scene_rules::{ArtRefusal, SceneRefusal, WeaponRefusal};
+pub use view_rules::TablesRefusal;
