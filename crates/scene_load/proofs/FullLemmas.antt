@@ -1,0 +1,121 @@
+-- When the zone is full while files are audited, and while all is loaded.
+use Rattle.std.proofs.Common.{◌≡◌, ℕ, ◌+◌, ◌<◌, List, Option, Result, Ok, Err, refl, sym, ap, subst, ◌∙◌, arith, inl, inr, IsErrAnd}
+use Rattle.std.specs.Prelude.{IfErr, IsOk}
+use Rattle.std.proofs.lemmas.Result.{err_from_is_err_and}
+use Rattle.outside.specs.Shelf.{File, ShelfView}
+use Rattle.lump_rules.specs.Contents.{lump_bytes}
+use Rattle.lump_rules.specs.Lookups.{lump_at}
+use Rattle.zone_rules.specs.declared.TheConstants.{MIN_FRAGMENT}
+use Rattle.zone_rules.specs.Zones.{Heap, block_size}
+use Rattle.lump_cache.specs.Caches.{IsAtRest, IsEmpty}
+use Rattle.cached_lumps.specs.Calls.{IfFull, IsFullFor, IsTold}
+use Rattle.sprite_book.specs.declared.shapes.Frame.{Frame}
+use Rattle.command_line.specs.Scenes.{ToldScene}
+use Rattle.scene_files.specs.declared.read.SceneFiles.{SceneFiles}
+use Rattle.scene_files.specs.Files.{FilesValue, files_in, value_of}
+use Rattle.scene_rules.specs.Scenes.{SceneValue, colormap_of, scene_in, sizes_of}
+use Rattle.audit_fault.specs.declared.fault.AuditFault.{AuditFault}
+use Rattle.audit_fault.specs.declared.fault.AuditFault.TheVariants.{Refused, ReadFault, ZoneFull, OutOfMemory}
+use Rattle.audit_fault.specs.Faults.{audit_told}
+use Rattle.level_audit.specs.Reads.{IsFullAudit}
+use Rattle.level_audit.specs.Sound.{SoundValue}
+use Rattle.level_audit.proofs.SceneLemmas.{colormap_there, same_value}
+use Rattle.scene_load.specs.declared.fault.LoadFault.{LoadFault}
+use Rattle.scene_load.specs.Faults.{above_audit, load_told}
+use Rattle.scene_load.specs.Fulls.{IsFullLoad, IsFullOver, IsOfLayers}
+use Rattle.scene_load.specs.Loads.{loaded_sizes, wad_bytes}
+use Rattle.scene_load.proofs.AuditedLemmas.{audited_by}
+use Rattle.scene_load.proofs.MoreLemmas.{enough_layers, enough_loaded}
+use Rattle.scene_load.proofs.LoadLemmas.{audited_of}
+
+-- the same is said of the fault that is returned
+pub same_full : {B D : Type 0} (P : ℕ → ℕ → Type 0) (r : Result D AuditFault) (fault : AuditFault) (result : Result B AuditFault) → IfErr r (λ f. IfFull (audit_told f) P) → r ≡ Err fault → IsErrAnd result (λ e. e ≡ fault) → IfErr result (λ f. IfFull (audit_told f) P)
+same_full {B} {D} P r fault result full was is =
+    let s = err_from_is_err_and result is in
+    let k : IfFull (audit_told fault) P = subst (λ (y : Result D AuditFault). IfErr y (λ f. IfFull (audit_told f) P)) was full in
+    subst (λ (y : Result B AuditFault). IfErr y (λ f. IfFull (audit_told f) P)) (sym (s.1 ∙ ap Err s.2)) k
+
+-- the value of a result that is one
+ok_value : {A E : Type 0} (r : Result A E) → IsOk r → (x : A) × (r ≡ Ok x)
+ok_value (Ok x) there = (x, refl)
+ok_value (Err e) there = cc
+
+module _ (contents : List (List ℕ)) (level : ToldScene) (files : SceneFiles) where
+  -- no room for a lump of the scene
+  pub audit_full : {v : ShelfView} {z : Heap} (r : Result SoundValue AuditFault) → IsTold v files.dir z contents → IsEmpty z → z.size ≡ level.settings.zone →
+      IfErr r (λ f. IfFull (audit_told f) (IsFullAudit v files.dir z files.things level.map_name level.settings.skill)) →
+      IfErr r (λ f. IfFull (audit_told f) (λ wanted widest'. IsOk (colormap_of files.dir.lumps))) →
+      ((colormap : ℕ) → colormap_of files.dir.lumps ≡ Ok colormap → IsEmpty z → IfErr r (λ f. IfFull (audit_told f) (λ wanted widest'. z.size < block_size (lump_at files.dir.lumps colormap).size + wanted + MIN_FRAGMENT))) →
+      ((contents : List (List ℕ)) (scene : SceneValue) → IsTold v files.dir z contents → scene_in (lump_bytes contents files.dir.lumps) files.dir.lumps files.things level.map_name level.settings.skill ≡ Ok scene → IsEmpty z → IfErr r (λ f. IfFull (audit_told f) (λ wanted widest'. z.size < (sizes_of files.dir.lumps scene).enough))) →
+      IfErr r (λ f. IfFull (audit_told f) (IsFullOver (lump_bytes contents files.dir.lumps) level (value_of files)))
+  audit_full (Ok sound) told empty size full found room enough = tt
+  audit_full (Err (Refused refusal)) told empty size full found room enough = tt
+  audit_full (Err ReadFault) told empty size full found room enough = tt
+  audit_full (Err OutOfMemory) told empty size full found room enough = tt
+  audit_full (Err (ZoneFull wanted widest')) told empty size full found room enough =
+      let colormap = ok_value (colormap_of files.dir.lumps) found in
+      record {
+        lump = full.lump;
+        asked = inl (full.asked contents told);
+        wanted_is = full.wanted_is;
+        narrow = full.narrow;
+        colormap = colormap.0;
+        colormap_is = colormap.1;
+        small = subst (λ n. n < block_size (lump_at files.dir.lumps colormap.0).size + wanted + MIN_FRAGMENT) size (room colormap.0 colormap.1 empty);
+        enough = λ loaded e. audited_by (λ l. level.settings.zone < (loaded_sizes l).enough) (lump_bytes contents files.dir.lumps) level (value_of files) loaded e
+            (λ scene weapons accepted layers. omega (arith, size, enough contents scene told accepted empty, enough_loaded (record { files = value_of files; scene = scene; weapons = weapons })));
+      }
+
+  -- no room for a picture of a weapon layer, beside COLORMAP
+  pub layers_full : {z : Heap} (scene : SceneValue) (r : Result (Option (List Frame)) AuditFault) → scene_in (lump_bytes contents files.dir.lumps) files.dir.lumps files.things level.map_name level.settings.skill ≡ Ok scene → colormap_of files.dir.lumps ≡ Ok scene.ground.colormap →
+      IsAtRest scene.ground.colormap (lump_at files.dir.lumps scene.ground.colormap).size z → z.size ≡ level.settings.zone →
+      IfErr r (λ f. IfFull (audit_told f) (IsFullFor (IsOfLayers files.dir.lumps files.weapons) files.dir z)) → IfErr r (λ f. IfFull (audit_told f) (IsFullOver (lump_bytes contents files.dir.lumps) level (value_of files)))
+  layers_full scene (Ok layers) accepted is rest size full = tt
+  layers_full scene (Err (Refused refusal)) accepted is rest size full = tt
+  layers_full scene (Err ReadFault) accepted is rest size full = tt
+  layers_full scene (Err OutOfMemory) accepted is rest size full = tt
+  layers_full scene (Err (ZoneFull wanted widest')) accepted is rest size full =
+      let small : level.settings.zone < block_size (lump_at files.dir.lumps scene.ground.colormap).size + wanted + MIN_FRAGMENT =
+      subst (λ n. n < block_size (lump_at files.dir.lumps scene.ground.colormap).size + wanted + MIN_FRAGMENT) size (full.full.room scene.ground.colormap (lump_at files.dir.lumps scene.ground.colormap).size rest) in
+      record {
+        lump = full.lump;
+        asked = inr full.asked;
+        wanted_is = full.full.wanted_is;
+        narrow = full.full.narrow;
+        colormap = scene.ground.colormap;
+        colormap_is = is;
+        small = small;
+        enough = λ loaded e. audited_by (λ l. level.settings.zone < (loaded_sizes l).enough) (lump_bytes contents files.dir.lumps) level (value_of files) loaded e
+            (λ other weapons known layers.
+            subst (λ (s : SceneValue). level.settings.zone < (loaded_sizes (record { files = value_of files; scene = s; weapons = weapons })).enough) (same_value scene other accepted known)
+            (omega (
+              arith,
+              small,
+              full.full.wanted_is,
+              enough_layers (lump_bytes contents files.dir.lumps) (record { files = value_of files; scene = scene; weapons = weapons }) full.lump layers (colormap_there files.dir.lumps scene.ground.colormap is) full.asked,
+            )));
+      }
+
+-- the zone is full while all is loaded
+pub load_full : {B D : Type 0} (level : ToldScene) (wads : List (List ℕ)) (held : List File) (found : FilesValue) (r : Result D AuditFault) (fault : AuditFault) (result : Result B LoadFault) → files_in level.files wads level.settings.size held ≡ Ok found →
+    IfErr r (λ f. IfFull (audit_told f) (IsFullOver (wad_bytes wads held found.lumps) level found)) → r ≡ Err fault → IsErrAnd result (λ e. e ≡ above_audit fault) → IfErr result (λ f. IfFull (load_told f) (IsFullLoad level wads held))
+load_full {B} {D} level wads held found r fault result are full was is =
+    let s = err_from_is_err_and result is in
+    let k : IfFull (audit_told fault) (IsFullOver (wad_bytes wads held found.lumps) level found) = subst (λ (y : Result D AuditFault). IfErr y (λ f. IfFull (audit_told f) (IsFullOver (wad_bytes wads held found.lumps) level found))) was full in
+    subst (λ (y : Result B LoadFault). IfErr y (λ f. IfFull (load_told f) (IsFullLoad level wads held))) (sym (s.1 ∙ ap Err s.2)) (go fault k) where
+      go : (f : AuditFault) → IfFull (audit_told f) (IsFullOver (wad_bytes wads held found.lumps) level found) → IfFull (load_told (above_audit f)) (IsFullLoad level wads held)
+      go (Refused refusal) k = tt
+      go ReadFault k = tt
+      go OutOfMemory k = tt
+      go (ZoneFull wanted widest') k = record {
+        found = found;
+        are = are;
+        lump = k.lump;
+        asked = k.asked;
+        wanted_is = k.wanted_is;
+        narrow = k.narrow;
+        colormap = k.colormap;
+        colormap_is = k.colormap_is;
+        small = k.small;
+        enough = λ loaded e. k.enough loaded (audited_of level wads held found loaded are e);
+      }

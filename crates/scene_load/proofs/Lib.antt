@@ -1,0 +1,5 @@
+pub mod AuditedLemmas
+pub mod LayerLemmas
+pub mod MoreLemmas
+pub mod FullLemmas
+pub mod LoadLemmas

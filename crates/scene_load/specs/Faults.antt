@@ -1,0 +1,28 @@
+-- What the faults of loading a scene tell.
+use Rattle.outside.specs.Told.{Told, refused, read_failed, zone_full, out_of_memory}
+use Rattle.scene_files.specs.declared.fault.FilesFault.{FilesFault}
+use Rattle.scene_files.specs.declared.fault.FilesFault.TheVariants as files
+use Rattle.audit_fault.specs.declared.fault.AuditFault.{AuditFault}
+use Rattle.audit_fault.specs.declared.fault.AuditFault.TheVariants as audit
+use Rattle.refusals.specs.declared.refusal.Refusal.{Refusal}
+use Rattle.refusals.specs.Groups.{of_audit, of_files}
+use Rattle.scene_load.specs.declared.fault.LoadFault.{LoadFault}
+use Rattle.scene_load.specs.declared.fault.LoadFault.TheVariants.{Refused, ReadFault, ZoneFull, OutOfMemory}
+
+abbrev pub load_told : LoadFault → Told Refusal
+load_told (Refused refusal) = refused refusal
+load_told ReadFault = read_failed
+load_told (ZoneFull wanted widest) = zone_full wanted widest
+load_told OutOfMemory = out_of_memory
+
+-- what a fault of the files, and one of the audit, is here
+abbrev pub above_files : FilesFault → LoadFault
+above_files (files.Refused refusal) = Refused (of_files refusal)
+above_files files.ReadFault = ReadFault
+above_files files.OutOfMemory = OutOfMemory
+
+abbrev pub above_audit : AuditFault → LoadFault
+above_audit (audit.Refused refusal) = Refused (of_audit refusal)
+above_audit audit.ReadFault = ReadFault
+above_audit (audit.ZoneFull wanted widest) = ZoneFull wanted widest
+above_audit audit.OutOfMemory = OutOfMemory

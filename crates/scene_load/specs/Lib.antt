@@ -1,0 +1,3 @@
+pub mod Faults
+pub mod Loads
+pub mod Fulls

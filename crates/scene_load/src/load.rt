@@ -1,0 +1,187 @@
+// The files and the scene of a job over a level.
+//
+// Rules: specs, Loads and Fulls. The original: `D_DoomMain`, d_main.c, `P_SetupLevel`, p_setup.c.
+ghost use Rattle.std.specs.Prelude.{◌≡◌, ◌<◌, ◌≤◌, ◌^◌, ℕ, List, length, map, IfOk, IfErr};
+ghost use Rattle.outside.specs.Shelf.{AllStand, File, Follows, Holds};
+ghost use Rattle.outside.specs.Told.{Answers, HasCauses};
+ghost use Rattle.lump_rules.specs.Contents.{AllWithin, lump_bytes};
+ghost use Rattle.lump_rules.specs.Lookups.{lump_at};
+ghost use Rattle.zone_rules.specs.Zones.{IsZoneSize};
+ghost use Rattle.view_rules.specs.declared.TheConstants.{MIN_SIZE, MAX_SIZE};
+ghost use Rattle.lump_cache.specs.Caches.{IsAtRest, IsEmpty, IsFaithful, KeepsCounts};
+ghost use Rattle.cached_lumps.specs.Calls.{IfFull, IsTold, Tells};
+ghost use Rattle.command_line.specs.Scenes.{told_scene};
+ghost use Rattle.scene_files.specs.Files.{files_named, value_of};
+ghost use Rattle.scene_files.specs.Stops.{Agrees};
+ghost use Rattle.audit_fault.specs.Faults.{audit_told};
+ghost use Rattle.scene_load.specs.Faults.{load_told};
+ghost use Rattle.scene_load.specs.Fulls.{IsFullLoad, IsFullOver, IsOfLayers};
+ghost use Rattle.scene_load.specs.Loads.{audited_in, audited_value, load_in, loaded_lumps, loaded_sizes, loaded_value, weapons_of, with_layers};
+
+use crate::LoadFault;
+use command_line::Scene;
+use csv_tables::WeaponTable;
+use level_audit::{AuditFault, SoundScene, audit, audit_weapons};
+use lump_cache::LumpCache;
+use outside::Shelf;
+use scene_files::{SceneFiles, read_files};
+use sprite_book::SpriteBook;
+use std::alloc::Global;
+use wad_dir::Directory;
+use zone_heap::ZoneMake;
+
+/// The slots of composites: one for each texture that there may be.
+pub const COMPOSITE_SLOTS: u32 = 32767;
+
+/// What a job over a level has before it draws or tells anything: what its files give, the cache with
+/// its zone, the scene that passed its audit, and the pictures of weapon layers, where a file of them
+/// is named.
+///
+/// The original: the globals that `D_DoomMain`, d_main.c, and `P_SetupLevel`, p_setup.c, set.
+#[derive(Drop)]
+pub struct LoadedScene {
+    pub files: SceneFiles,
+    pub cache: LumpCache,
+    pub scene: SoundScene,
+    pub weapons: Option<SpriteBook>,
+}
+
+/// The files of a job over a level, in these WADs, and its scene in a zone of the size that the
+/// settings tell.
+///
+/// In order: the files, each asked for and read in its turn; then the zone is made; then the audit of
+/// the level; then the pictures of the weapon layers, where a file of them is named. Takes memory for
+/// the files' tables, the directory, the zone with its slots, and the scene.
+///
+/// Errors: `Refused` with the first refusal in that order. `ReadFault` only where a call of the shelf
+/// failed; over a steady shelf only where a file is not held. `ZoneFull` only where the files are in
+/// order, and the zone is small (`full`). `OutOfMemory`. The shelf goes on to stand for what it stood
+/// for.
+///
+/// The original: `D_DoomMain`, d_main.c, with `R_Init`, r_main.c, and `P_SetupLevel`, p_setup.c.
+pub fn load_scene<S: Shelf>(
+    alloc: Global,
+    level: &Scene<'_>,
+    wads: &[&str],
+    shelf: &mut S,
+) -> Result<LoadedScene, LoadFault>
+    requires zone { IsZoneSize level.now.settings.zone }
+    requires skill { (1 ≤ level.now.settings.skill) × (level.now.settings.skill ≤ 5) }
+    requires least { MIN_SIZE ≤ level.now.settings.size }
+    requires greatest { level.now.settings.size ≤ MAX_SIZE }
+    ensures answers { (files : List File) → Holds (S.view shelf.old) files →
+        Agrees load_told (S.view shelf.old).steady loaded_value (load_in (told_scene level.now) (map (λ wad. wad.now) wads.now) files) result }
+    ensures named { IfOk result (λ loaded. loaded.scene.named ≡ loaded_lumps (loaded_value loaded)) }
+    ensures sizes { IfOk result (λ loaded. loaded.scene.sizes ≡ loaded_sizes (loaded_value loaded)) }
+    ensures full { (files : List File) → Holds (S.view shelf.old) files →
+        IfErr result (λ fault. IfFull (load_told fault) (IsFullLoad (told_scene level.now) (map (λ wad. wad.now) wads.now) files)) }
+    ensures rest { IfOk result (λ loaded. IsAtRest loaded.scene.scene.ground.colormap (lump_at loaded.files.dir.lumps loaded.scene.scene.ground.colormap).size loaded.cache) }
+    ensures contents { (files : List File) (contents : List (List ℕ)) → Holds (S.view shelf.old) files →
+        files_named (map (λ wad. wad.now) wads.now) files ≡ Some contents →
+        IfOk result (λ loaded. AllStand (S.view shelf.new) loaded.files.dir.files contents × AllWithin contents loaded.files.dir.lumps × IsFaithful contents loaded.files.dir.lumps loaded.cache) }
+    ensures slots { IfOk result (λ loaded. length loaded.files.dir.lumps ≤ loaded.cache.lumps) }
+    ensures zone { IfOk result (λ loaded. loaded.cache.size ≡ level.now.settings.zone) }
+    ensures follows { Follows (S.view shelf.old) (S.view shelf.new) }
+    ensures causes { HasCauses load_told (S.view shelf.old).faults (S.view shelf.new).faults result }
+{
+    let files = read_files(alloc, &level.files, wads, level.settings.size, shelf)?;
+    let mut cache = make_cache(alloc, &files.dir, level.settings.zone)?;
+    let (scene, weapons) = audit_files(alloc, level, &files, &mut cache, shelf)?;
+    Ok(LoadedScene {
+        files,
+        cache,
+        scene,
+        weapons,
+    })
+}
+
+// A cache over a zone of that size, without a live slot.
+fn make_cache(alloc: Global, dir: &Directory, size: u32) -> Result<LumpCache, AuditFault>
+    requires zone { IsZoneSize size }
+    requires few { length dir.now.lumps < 2 ^ 16 }
+    ensures memory { IfErr result (λ fault. fault ≡ AuditFault.OutOfMemory) }
+    ensures empty { IfOk result IsEmpty }
+    ensures size { IfOk result (λ cache. cache.size ≡ size) }
+    ensures slots { IfOk result (λ cache. cache.lumps ≡ length dir.now.lumps) }
+    ensures faithful { (contents : List (List ℕ)) →
+        IfOk result (IsFaithful contents dir.now.lumps) }
+{
+    match LumpCache::new(alloc, dir, size, COMPOSITE_SLOTS) {
+        Ok(cache) => Ok(cache),
+        Err(ZoneMake::BadSize) => unreachable!(),
+        Err(ZoneMake::OutOfMemory) => Err(AuditFault::OutOfMemory),
+    }
+}
+
+// The audit of the level, and the pictures of its weapon layers, where there are some.
+fn audit_files<S: Shelf>(
+    alloc: Global,
+    level: &Scene<'_>,
+    files: &SceneFiles,
+    cache: &mut LumpCache,
+    shelf: &mut S,
+) -> Result<(SoundScene, Option<SpriteBook>), AuditFault>
+    requires skill { (1 ≤ level.now.settings.skill) × (level.now.settings.skill ≤ 5) }
+    requires slots { length files.now.dir.lumps ≤ cache.old.lumps }
+    requires empty { IsEmpty cache.old }
+    requires size { cache.old.size ≡ level.now.settings.zone }
+    ensures answers { (contents : List (List ℕ)) →
+        IsTold (S.view shelf.old) files.now.dir cache.old contents →
+        Answers audit_told (S.view shelf.old).steady (audited_value (value_of files.now))
+        (audited_in (lump_bytes contents files.now.dir.lumps) (told_scene level.now)
+        (value_of files.now)) result }
+    ensures named { IfOk result (λ audited.
+        audited.0.named ≡ loaded_lumps (audited_value (value_of files.now) audited)) }
+    ensures sizes { IfOk result (λ audited.
+        audited.0.sizes ≡ loaded_sizes (audited_value (value_of files.now) audited)) }
+    ensures full { (contents : List (List ℕ)) →
+        IsTold (S.view shelf.old) files.now.dir cache.old contents →
+        IfErr result (λ fault. IfFull (audit_told fault)
+        (IsFullOver (lump_bytes contents files.now.dir.lumps) (told_scene level.now)
+        (value_of files.now))) }
+    ensures rest { IfOk result (λ audited. IsAtRest audited.0.scene.ground.colormap
+        (lump_at files.now.dir.lumps audited.0.scene.ground.colormap).size cache.new) }
+    ensures counts { KeepsCounts cache.old cache.new }
+    ensures faithful { (contents : List (List ℕ)) →
+        AllStand (S.view shelf.old) files.now.dir.files contents →
+        IsFaithful contents files.now.dir.lumps cache.old →
+        IsFaithful contents files.now.dir.lumps cache.new }
+    ensures follows { Follows (S.view shelf.old) (S.view shelf.new) }
+    ensures causes { HasCauses audit_told
+        (S.view shelf.old).faults (S.view shelf.new).faults result }
+{
+    let mut scene = audit(
+        alloc,
+        &files.dir,
+        cache,
+        shelf,
+        &files.things,
+        &level.map,
+        level.settings.skill,
+    )?;
+    let weapons = audit_layers(alloc, &mut scene, &files.weapons, &files.dir, cache, shelf)?;
+    Ok((scene, weapons))
+}
+
+// The pictures of weapon layers, where there are some, which the scene then needs too.
+fn audit_layers<S: Shelf>(
+    alloc: Global,
+    scene: &mut SoundScene,
+    weapons: &Option<WeaponTable>,
+    dir: &Directory,
+    cache: &mut LumpCache,
+    shelf: &mut S,
+) -> Result<Option<SpriteBook>, AuditFault>
+    requires slots { length dir.now.lumps ≤ cache.old.lumps }
+    requires colormap { scene.old.scene.ground.colormap < length dir.now.lumps }
+    ensures tells { Tells audit_told (S.view shelf.old) (S.view shelf.new) dir.now
+        cache.old cache.new (IsOfLayers dir.now.lumps weapons.now) (λ book. book)
+        (λ bytes. weapons_of bytes dir.now.lumps weapons.now) result }
+    ensures scene { IfOk result (λ book.
+        scene.new ≡ with_layers dir.now.lumps book scene.old) }
+{
+    match weapons {
+        Some(weapons) => Ok(Some(audit_weapons(alloc, scene, weapons, dir, cache, shelf)?)),
+        None => Ok(None),
+    }
+}
