@@ -1,6 +1,6 @@
 pub mod FlatLemmas
+pub mod FullLemmas
 pub mod LumpLemmas
-pub mod NoteLemmas
 pub mod RunLemmas
 pub mod StepLemmas
 pub mod TilingLemmas

@@ -9,13 +9,6 @@ use Rattle.outside.proofs.ShelfLemmas.{stands_at}
 use Rattle.lump_rules.specs.declared.wad.Lump.{Lump}
 use Rattle.lump_rules.specs.Contents.{AllWithin, LiesWithin, file_bytes, lump_bytes}
 use Rattle.lump_rules.specs.Lookups.{lump_at, no_lump}
-use Rattle.lump_rules.specs.Names.{name_of, filled}
-use Rattle.doom_run.specs.declared.flat.TheConstants.{PLAYPAL}
-
--- the name of the palettes is in capitals already
-pub playpal_name : name_of PLAYPAL ≡ PLAYPAL
-unfolding filled
-playpal_name = refl
 
 -- the number of a lump's file stands for the bytes of that file
 pub file_stands : (view : ShelfView) (numbers : List FileNo) (contents : List (List ℕ)) (i : ℕ) (number : FileNo) →

@@ -2,7 +2,7 @@
 use Rattle.std.proofs.Common.{◌≡◌, ◌⊎◌, inl, inr, ℕ, Bool, IsTrue, List, [], Result, Ok, Err, refl, sym, ap, ◌∙◌, subst}
 use Rattle.outside.specs.Sink.{Grew, GrewByPrefix}
 use Rattle.outside.proofs.WriteLemmas.{grew_whole, prefix_of_none}
-use Rattle.doom_run.specs.declared.refusal.Refusal.{Refusal}
+use Rattle.refusals.specs.declared.refusal.Refusal.{Refusal}
 use Rattle.doom_run.specs.declared.status.Status.{Status}
 use Rattle.doom_run.specs.declared.status.Status.TheVariants.{Done, Usage, Refused, ReadFault, WriteFault, Limit, ZoneFull, OutOfMemory}
 use Rattle.doom_run.specs.Ends.{EndsAt, EndsWith, IsEnd, IsUnwritten}
@@ -28,7 +28,7 @@ prefix_at_end steady verdict old new ReadFault accepted ends unwritten e = prefi
 prefix_at_end steady verdict old new WriteFault accepted ends unwritten e =
     subst (λ (a : Accepted). GrewByPrefix old new (output a)) (same_accepted verdict ends.accepted accepted ends.is e) ends.written
 prefix_at_end steady verdict old new (Limit view kind count) accepted ends unwritten e = whole_at_end verdict old new (Limit view kind count) accepted ends e
-prefix_at_end steady verdict old new (ZoneFull wanted widest) accepted ends unwritten e = absurd ends
+prefix_at_end steady verdict old new (ZoneFull wanted widest) accepted ends unwritten e = prefix_of_none _ (unwritten tt)
 prefix_at_end steady verdict old new OutOfMemory accepted ends unwritten e = prefix_of_none _ (unwritten tt)
 
 -- an end is that of the verdict
@@ -55,7 +55,7 @@ stopped_at steady verdict old new (Refused refusal) stop ends e = tt
 stopped_at steady verdict old new ReadFault stop ends e = tt
 stopped_at steady verdict old new WriteFault stop ends e = accepts_or_stops verdict ends.accepted stop ends.is e
 stopped_at steady verdict old new (Limit view kind count) stop ends e = accepts_or_stops verdict ends.accepted stop ends.is e
-stopped_at steady verdict old new (ZoneFull wanted widest) stop ends e = ends
+stopped_at steady verdict old new (ZoneFull wanted widest) stop ends e = tt
 stopped_at steady verdict old new OutOfMemory stop ends e = tt
 
 not_usage : (verdict : Result Accepted Stop) (refusal : Refusal) → verdict ≡ Err usage → verdict ≡ Err (refused refusal) → ⊥
@@ -66,15 +66,16 @@ same_refusal verdict r s a b = cc
 
 -- where the verdict refuses, that refusal comes, but for the faults
 pub refusal_at : (steady : Bool) (verdict : Result Accepted Stop) (old new : List ℕ → Type 0) (status : Status) (refusal : Refusal) →
-    EndsAt steady verdict old new status → verdict ≡ Err (refused refusal) → (status ≡ Refused refusal) ⊎ (status ≡ ReadFault) ⊎ (status ≡ OutOfMemory)
+    EndsAt steady verdict old new status → verdict ≡ Err (refused refusal) →
+    (status ≡ Refused refusal) ⊎ (status ≡ ReadFault) ⊎ ((wanted : ℕ) × (widest : ℕ) × (status ≡ ZoneFull wanted widest)) ⊎ (status ≡ OutOfMemory)
 refusal_at steady verdict old new Done refusal ends e = absurd (accepts_or_stops verdict ends.accepted (refused refusal) ends.is e)
 refusal_at steady verdict old new Usage refusal ends e = absurd (not_usage verdict refusal ends e)
 refusal_at steady verdict old new (Refused other) refusal ends e = inl (same_refusal verdict other refusal ends e)
 refusal_at steady verdict old new ReadFault refusal ends e = inr (inl refl)
 refusal_at steady verdict old new WriteFault refusal ends e = absurd (accepts_or_stops verdict ends.accepted (refused refusal) ends.is e)
 refusal_at steady verdict old new (Limit view kind count) refusal ends e = absurd (accepts_or_stops verdict ends.accepted (refused refusal) ends.is e)
-refusal_at steady verdict old new (ZoneFull wanted widest) refusal ends e = absurd ends
-refusal_at steady verdict old new OutOfMemory refusal ends e = inr (inr refl)
+refusal_at steady verdict old new (ZoneFull wanted widest) refusal ends e = inr (inr (inl (wanted, widest, refl)))
+refusal_at steady verdict old new OutOfMemory refusal ends e = inr (inr (inr refl))
 
 not_absent : (verdict : Result Accepted Stop) → verdict ≡ Err usage → verdict ≡ Err absent → ⊥
 not_absent verdict u e = cc
@@ -84,32 +85,33 @@ not_refused verdict refusal r e = cc
 
 -- where a file is absent, that is told as a read fault
 pub absent_at : (steady : Bool) (verdict : Result Accepted Stop) (old new : List ℕ → Type 0) (status : Status) →
-    EndsAt steady verdict old new status → verdict ≡ Err absent → (status ≡ ReadFault) ⊎ (status ≡ OutOfMemory)
-absent_at steady verdict old new Done ends e = absurd (accepts_or_stops verdict ends.accepted absent ends.is e)
-absent_at steady verdict old new Usage ends e = absurd (not_absent verdict ends e)
-absent_at steady verdict old new (Refused refusal) ends e = absurd (not_refused verdict refusal ends e)
-absent_at steady verdict old new ReadFault ends e = inl refl
-absent_at steady verdict old new WriteFault ends e = absurd (accepts_or_stops verdict ends.accepted absent ends.is e)
-absent_at steady verdict old new (Limit view kind count) ends e = absurd (accepts_or_stops verdict ends.accepted absent ends.is e)
-absent_at steady verdict old new (ZoneFull wanted widest) ends e = absurd ends
-absent_at steady verdict old new OutOfMemory ends e = inr refl
+    EndsAt steady verdict old new status → verdict ≡ Err absent → ((wanted widest : ℕ) → status ≡ ZoneFull wanted widest → ⊥) →
+    (status ≡ ReadFault) ⊎ (status ≡ OutOfMemory)
+absent_at steady verdict old new Done ends e full = absurd (accepts_or_stops verdict ends.accepted absent ends.is e)
+absent_at steady verdict old new Usage ends e full = absurd (not_absent verdict ends e)
+absent_at steady verdict old new (Refused refusal) ends e full = absurd (not_refused verdict refusal ends e)
+absent_at steady verdict old new ReadFault ends e full = inl refl
+absent_at steady verdict old new WriteFault ends e full = absurd (accepts_or_stops verdict ends.accepted absent ends.is e)
+absent_at steady verdict old new (Limit view kind count) ends e full = absurd (accepts_or_stops verdict ends.accepted absent ends.is e)
+absent_at steady verdict old new (ZoneFull wanted widest) ends e full = absurd (full wanted widest refl)
+absent_at steady verdict old new OutOfMemory ends e full = inr refl
 
 due_end : (verdict : Result Accepted Stop) (old new : List ℕ → Type 0) (status : Status) (accepted : Accepted) →
     EndsWith verdict old new status → verdict ≡ Ok accepted → status ≡ end_of accepted
 due_end verdict old new status accepted ends e = sym ends.due ∙ ap (λ (a : Accepted). end_of a) (same_accepted verdict ends.accepted accepted ends.is e)
 
--- an accepted run in which no fault stands comes to its end
+-- an accepted run in which no fault stands and no zone is full comes to its end
 pub complete_at : (steady : Bool) (verdict : Result Accepted Stop) (old new : List ℕ → Type 0) (status : Status) (accepted : Accepted) →
-    EndsAt steady verdict old new status → verdict ≡ Ok accepted → (status ≡ ReadFault → ⊥) → (status ≡ WriteFault → ⊥) →
+    EndsAt steady verdict old new status → verdict ≡ Ok accepted → (status ≡ ReadFault → ⊥) → (status ≡ WriteFault → ⊥) → ((wanted widest : ℕ) → status ≡ ZoneFull wanted widest → ⊥) →
     (status ≡ end_of accepted) ⊎ (status ≡ OutOfMemory)
-complete_at steady verdict old new Done accepted ends e read write = inl (due_end verdict old new Done accepted ends e)
-complete_at steady verdict old new Usage accepted ends e read write = absurd (accepts_or_stops verdict accepted usage e ends)
-complete_at steady verdict old new (Refused refusal) accepted ends e read write = absurd (accepts_or_stops verdict accepted (refused refusal) e ends)
-complete_at steady verdict old new ReadFault accepted ends e read write = absurd (read refl)
-complete_at steady verdict old new WriteFault accepted ends e read write = absurd (write refl)
-complete_at steady verdict old new (Limit view kind count) accepted ends e read write = inl (due_end verdict old new (Limit view kind count) accepted ends e)
-complete_at steady verdict old new (ZoneFull wanted widest) accepted ends e read write = absurd ends
-complete_at steady verdict old new OutOfMemory accepted ends e read write = inr refl
+complete_at steady verdict old new Done accepted ends e read write full = inl (due_end verdict old new Done accepted ends e)
+complete_at steady verdict old new Usage accepted ends e read write full = absurd (accepts_or_stops verdict accepted usage e ends)
+complete_at steady verdict old new (Refused refusal) accepted ends e read write full = absurd (accepts_or_stops verdict accepted (refused refusal) e ends)
+complete_at steady verdict old new ReadFault accepted ends e read write full = absurd (read refl)
+complete_at steady verdict old new WriteFault accepted ends e read write full = absurd (write refl)
+complete_at steady verdict old new (Limit view kind count) accepted ends e read write full = inl (due_end verdict old new (Limit view kind count) accepted ends e)
+complete_at steady verdict old new (ZoneFull wanted widest) accepted ends e read write full = absurd (full wanted widest refl)
+complete_at steady verdict old new OutOfMemory accepted ends e read write full = inr refl
 
 -- over a steady shelf an accepted run meets no read fault
 pub steady_reads : (steady : Bool) (verdict : Result Accepted Stop) (old new : List ℕ → Type 0) (status : Status) (accepted : Accepted) →

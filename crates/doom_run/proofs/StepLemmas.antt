@@ -1,15 +1,21 @@
 -- One step of a job after another.
-use Rattle.std.proofs.Common.{◌≡◌, ℕ, Bool, List, Option, Some, None, Result, Ok, Err, IsErrAnd, IsSome, refl}
+use Rattle.std.proofs.Common.{◌≡◌, ℕ, Bool, List, Option, Some, None, Result, Ok, Err, IsErrAnd, IsSome, refl, subst}
 use Rattle.std.proofs.lemmas.Result.{err_from_is_err_and}
 use Rattle.outside.specs.Told.{Told, refused, read_failed, zone_full, out_of_memory, told_above, and_then, from_below, TellsAt, Answers}
 use Rattle.wad_dir.specs.declared.fault.DirFault.{DirFault}
 use Rattle.wad_dir.specs.declared.fault.DirFault.TheVariants as dir
 use Rattle.wad_dir.specs.Faults.{dir_told}
-use Rattle.doom_run.specs.declared.refusal.Refusal.{Refusal}
-use Rattle.doom_run.specs.declared.refusal.Refusal.TheVariants.{Wad}
+use Rattle.cached_lumps.specs.Calls.{IfFull}
+use Rattle.refusals.specs.declared.refusal.Refusal.{Refusal}
+use Rattle.refusals.specs.declared.refusal.Refusal.TheVariants.{Wad}
+use Rattle.scene_load.specs.declared.fault.LoadFault.{LoadFault}
+use Rattle.scene_load.specs.declared.fault.LoadFault.TheVariants as load
+use Rattle.scene_load.specs.Faults.{load_told}
 use Rattle.doom_run.specs.declared.fault.Fault.{Fault}
 use Rattle.doom_run.specs.declared.fault.Fault.TheVariants as fault
 use Rattle.doom_run.specs.Faults.{fault_told, fault_of_dir}
+use Rattle.doom_run.specs.declared.status.Status.TheVariants.{ZoneFull}
+use Rattle.doom_run.specs.Ends.{status_of_load}
 use Rattle.doom_run.specs.Steps as steps
 use Rattle.doom_run.specs.Steps.{Stop, absent, else_stop, StopsAt, Agrees}
 
@@ -52,3 +58,13 @@ pub agrees_found : {A B : Type 0} {steady later : Bool} {value : B → A} (file 
     Agrees steady value (and_then (else_stop absent file) (λ bytes. from_below steps.refused (next bytes))) result
 agrees_found None next result there same answers = absurd (cc)
 agrees_found {A} {B} {steady} {later} {value} (Some bytes) next result there same answers = rw (← same) (agrees_below (next bytes) result (answers bytes refl))
+
+-- where the status of a fault of loading is a full zone, the fault tells of that zone
+pub load_full : (P : ℕ → ℕ → Type 0) (fault : LoadFault) (wanted widest : ℕ) → status_of_load fault ≡ ZoneFull wanted widest → IfFull (load_told fault) P → P wanted widest
+load_full P (load.Refused refusal) wanted widest e h = absurd (cc)
+load_full P load.ReadFault wanted widest e h = absurd (cc)
+load_full P (load.ZoneFull asked gap) wanted widest e h =
+    let first : asked ≡ wanted = cc in
+    let second : gap ≡ widest = cc in
+    subst (λ (n : ℕ). P n widest) first (subst (λ (n : ℕ). P asked n) second h)
+load_full P load.OutOfMemory wanted widest e h = absurd (cc)

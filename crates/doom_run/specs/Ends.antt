@@ -3,6 +3,8 @@ use Rattle.std.specs.Prelude.{◌≡◌, ℕ, Bool, IsTrue, List, Result, Ok, Er
 use Rattle.outside.specs.Sink.{Grew, GrewByPrefix}
 use Rattle.doom_run.specs.declared.fault.Fault.{Fault}
 use Rattle.doom_run.specs.declared.fault.Fault.TheVariants as fault
+use Rattle.scene_load.specs.declared.fault.LoadFault.{LoadFault}
+use Rattle.scene_load.specs.declared.fault.LoadFault.TheVariants as load
 use Rattle.doom_run.specs.declared.status.Status.{Status}
 use Rattle.doom_run.specs.declared.status.Status.TheVariants.{Done, Usage, Refused, ReadFault, WriteFault, Limit, ZoneFull, OutOfMemory}
 use Rattle.doom_run.specs.Steps.{Stop, usage, absent, refused}
@@ -21,7 +23,7 @@ pub record FailsWith (verdict : Result Accepted Stop) (old new : List ℕ → Ty
   pub is : verdict ≡ Ok accepted
   pub written : GrewByPrefix old new (output accepted)
 
--- the verdict, and what was written, by the status
+-- The verdict, and what was written, by the status. When a zone is full is told by IsFullRun.
 abbrev pub EndsAt : Bool → Result Accepted Stop → (List ℕ → Type 0) → (List ℕ → Type 0) → Status → Type 0
 EndsAt steady verdict old new Done = EndsWith verdict old new Done
 EndsAt steady verdict old new Usage = verdict ≡ Err usage
@@ -29,7 +31,7 @@ EndsAt steady verdict old new (Refused refusal) = verdict ≡ Err (refused refus
 EndsAt steady verdict old new ReadFault = IsTrue steady → verdict ≡ Err absent
 EndsAt steady verdict old new WriteFault = FailsWith verdict old new
 EndsAt steady verdict old new (Limit view kind count) = EndsWith verdict old new (Limit view kind count)
-EndsAt steady verdict old new (ZoneFull wanted widest) = ⊥
+EndsAt steady verdict old new (ZoneFull wanted widest) = Unit {0}
 EndsAt steady verdict old new OutOfMemory = Unit {0}
 
 -- what was written of an accepted run, by the status that its delivery gives
@@ -62,7 +64,7 @@ IsUnwritten (Refused refusal) = Unit {0}
 IsUnwritten ReadFault = Unit {0}
 IsUnwritten WriteFault = ⊥
 IsUnwritten (Limit view kind count) = ⊥
-IsUnwritten (ZoneFull wanted widest) = ⊥
+IsUnwritten (ZoneFull wanted widest) = Unit {0}
 IsUnwritten OutOfMemory = Unit {0}
 
 -- the status of a fault
@@ -70,6 +72,13 @@ abbrev pub status_of : Fault → Status
 status_of (fault.Refused refusal) = Refused refusal
 status_of fault.ReadFault = ReadFault
 status_of fault.OutOfMemory = OutOfMemory
+
+-- the status of a fault of loading
+abbrev pub status_of_load : LoadFault → Status
+status_of_load (load.Refused refusal) = Refused refusal
+status_of_load load.ReadFault = ReadFault
+status_of_load (load.ZoneFull wanted widest) = ZoneFull wanted widest
+status_of_load load.OutOfMemory = OutOfMemory
 
 -- the number with which the program ends
 abbrev pub code_of : Status → ℕ

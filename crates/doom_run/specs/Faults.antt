@@ -2,8 +2,8 @@
 use Rattle.outside.specs.Told.{Told, refused, read_failed, out_of_memory}
 use Rattle.wad_dir.specs.declared.fault.DirFault.{DirFault}
 use Rattle.wad_dir.specs.declared.fault.DirFault.TheVariants as dir
-use Rattle.doom_run.specs.declared.refusal.Refusal.{Refusal}
-use Rattle.doom_run.specs.declared.refusal.Refusal.TheVariants.{Wad}
+use Rattle.refusals.specs.declared.refusal.Refusal.{Refusal}
+use Rattle.refusals.specs.declared.refusal.Refusal.TheVariants.{Wad}
 use Rattle.doom_run.specs.declared.fault.Fault.{Fault}
 use Rattle.doom_run.specs.declared.fault.Fault.TheVariants.{Refused, ReadFault, OutOfMemory}
 

@@ -1,20 +1,18 @@
 -- The picture of a flat, which is laid over the frame again and again.
-use Rattle.std.specs.Prelude.{ℕ, ◌+◌, ◌*◌, ◌/◌, ◌%◌, nat_le, if◌then◌else◌, List, [], ◌∷◌, take, slice_index, Option, Some, None, Result, Ok, Err}
-use Rattle.std.specs.Option.{option_and_then}
+use Rattle.std.specs.Prelude.{ℕ, ◌+◌, ◌*◌, ◌/◌, ◌%◌, List, [], ◌∷◌, take, slice_index, Option, Some, None, Result, Ok, Err}
 use Rattle.word_rules.specs.Listed.{listed}
 use Rattle.outside.specs.Shelf.{File, file_named}
 use Rattle.outside.specs.Told.{and_then, from_below}
 use Rattle.lump_rules.specs.declared.wad.Lump.{Lump}
 use Rattle.lump_rules.specs.Wads.{directory}
-use Rattle.lump_rules.specs.Lookups.{lump_at, last_of, flat_of}
+use Rattle.lump_rules.specs.Lookups.{flat_of}
 use Rattle.lump_rules.specs.Contents.{lump_bytes}
 use Rattle.frame_writer.specs.declared.TheConstants.{FRAME_WIDTH, FRAME_BYTES, PALETTE_BYTES}
-use Rattle.doom_run.specs.declared.flat.TheConstants.{PLAYPAL}
 use Rattle.doom_run.specs.declared.tiling.TheConstants.{FLAT_SIDE}
-use Rattle.doom_run.specs.declared.refusal.Refusal.{Refusal}
-use Rattle.doom_run.specs.declared.refusal.Refusal.TheVariants.{Wad, Art, Scene}
-use Rattle.doom_run.specs.declared.refusal.ArtRefusal.TheVariants.{Playpal}
-use Rattle.doom_run.specs.declared.refusal.SceneRefusal.TheVariants.{FlatName}
+use Rattle.refusals.specs.declared.refusal.Refusal.{Refusal}
+use Rattle.refusals.specs.declared.refusal.Refusal.TheVariants.{Wad, Art, Scene}
+use Rattle.scene_rules.specs.declared.refusal.SceneRefusal.TheVariants.{FlatName}
+use Rattle.scene_rules.specs.Scenes.{playpal_of}
 use Rattle.doom_run.specs.Steps.{Stop, absent, refused, else_stop}
 
 -- a frame, and the palette for its indices
@@ -39,21 +37,9 @@ abbrev pub else_refuse : {A : Type 0} → Refusal → Option A → Result A Refu
 else_refuse refusal None = Err refusal
 else_refuse refusal (Some value) = Ok value
 
--- the lump of that number, where it has at least so many bytes
-abbrev pub if_long : List Lump → ℕ → ℕ → Option ℕ
-if_long lumps size number = if nat_le size (lump_at lumps number).size then Some number else None
-
--- the last lump of a name, where it has at least so many bytes
-abbrev pub long_lump : List Lump → List ℕ → ℕ → Option ℕ
-long_lump lumps name size = option_and_then (if_long lumps size) (last_of lumps name)
-
--- the lump of the palettes, which has at least one
-abbrev pub playpal_of : List Lump → Result ℕ Refusal
-playpal_of lumps = else_refuse (Art Playpal) (long_lump lumps PLAYPAL PALETTE_BYTES)
-
 -- the first palette
 abbrev pub palette_in : List (List ℕ) → List Lump → Result (List ℕ) Refusal
-palette_in contents lumps = and_then (playpal_of lumps) (λ lump. Ok (take PALETTE_BYTES (lump_bytes contents lumps lump)))
+palette_in contents lumps = and_then (from_below Art (playpal_of lumps)) (λ lump. Ok (take PALETTE_BYTES (lump_bytes contents lumps lump)))
 
 -- the bytes of the flat of a name
 abbrev pub flat_in : List (List ℕ) → List Lump → List ℕ → Result (List ℕ) Refusal

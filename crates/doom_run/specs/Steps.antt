@@ -1,6 +1,7 @@
 -- The first step that stops a run, and what a fault says of it.
 use Rattle.std.specs.Prelude.{◌≡◌, Bool, IsTrue, Option, Some, None, Result, Ok, Err, IfOk, IfErr}
-use Rattle.doom_run.specs.declared.refusal.Refusal.{Refusal}
+use Rattle.refusals.specs.declared.refusal.Refusal.{Refusal}
+use Rattle.scene_files.specs.Stops as files
 use Rattle.doom_run.specs.declared.fault.Fault.{Fault}
 use Rattle.doom_run.specs.declared.fault.Fault.TheVariants.{Refused, ReadFault, OutOfMemory}
 
@@ -9,6 +10,11 @@ pub data Stop : Type 0 where
   usage : Stop
   absent : Stop
   refused : Refusal → Stop
+
+-- a stop of the files and lumps of a level
+abbrev pub stop_of : files.Stop Refusal → Stop
+stop_of files.absent = absent
+stop_of (files.stopped refusal) = refused refusal
 
 -- the value, or else a stop
 abbrev pub else_stop : {A : Type 0} → Stop → Option A → Result A Stop

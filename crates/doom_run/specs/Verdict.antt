@@ -1,25 +1,41 @@
 -- What a run comes to for its words and the files that are held.
-use Rattle.std.specs.Prelude.{ℕ, List, Result, Ok, Err}
+use Rattle.std.specs.Prelude.{ℕ, zero, List, Result, Ok, Err, codes}
 use Rattle.outside.specs.Shelf.{File}
-use Rattle.outside.specs.Told.{and_then}
+use Rattle.outside.specs.Told.{and_then, from_below}
 use Rattle.frame_writer.specs.Ppm.{ppm}
 use Rattle.command_line.specs.Commands.{Told, flat, scene, make, exercise, command_of}
+use Rattle.command_line.specs.Scenes.{ToldScene}
+use Rattle.command_line.specs.declared.command.SceneJob.{SceneJob}
+use Rattle.command_line.specs.declared.command.SceneJob.TheVariants.{Render, Audit, Limits, Trim, Trace}
+use Rattle.scene_rules.specs.declared.ZoneSizes.{ZoneSizes}
 use Rattle.doom_run.specs.declared.status.Status.{Status}
 use Rattle.doom_run.specs.declared.status.Status.TheVariants.{Done}
+use Rattle.doom_run.specs.Audits.{audit_verdict}
 use Rattle.doom_run.specs.Flats.{Picture, flat_verdict}
+use Rattle.doom_run.specs.Lines.{pair_line}
 use Rattle.doom_run.specs.Made.{made_file}
-use Rattle.doom_run.specs.Steps.{Stop, usage, else_stop}
+use Rattle.doom_run.specs.Steps.{Stop, usage, else_stop, stop_of}
 
 -- what an accepted run writes of, a constructor for each job
 pub data Accepted : Type 0 where
   tiled_flat : Picture → Accepted
   -- the bytes of a made file
   made : List ℕ → Accepted
+  -- how large a zone has to be for a level
+  audited : ZoneSizes → Accepted
+
+-- what a job over a level comes to
+abbrev pub scene_verdict : SceneJob → ToldScene → List (List ℕ) → List File → Result Accepted Stop
+scene_verdict (Render format) level wads files = Err usage
+scene_verdict Audit level wads files = and_then (from_below stop_of (audit_verdict level wads files)) (λ sizes. Ok (audited sizes))
+scene_verdict Limits level wads files = Err usage
+scene_verdict Trim level wads files = Err usage
+scene_verdict Trace level wads files = Err usage
 
 -- What a job comes to. A job that is not built is no command.
 abbrev pub job_verdict : Told → List File → Result Accepted Stop
 job_verdict (flat name file) files = and_then (flat_verdict name file files) (λ picture. Ok (tiled_flat picture))
-job_verdict (scene job level wads) files = Err usage
+job_verdict (scene job level wads) files = scene_verdict job level wads files
 job_verdict (make job) files = Ok (made (made_file job))
 job_verdict (exercise count zone format) files = Err usage
 
@@ -31,8 +47,16 @@ verdict words files = and_then (else_stop usage (command_of words)) (λ command.
 abbrev pub end_of : Accepted → Status
 end_of (tiled_flat picture) = Done
 end_of (made bytes) = Done
+end_of (audited sizes) = Done
 
 -- all that an accepted run writes
 abbrev pub output : Accepted → List ℕ
 output (tiled_flat picture) = ppm picture.frame picture.palette
 output (made bytes) = bytes
+output (audited sizes) = pair_line (codes "accepted enough ") sizes.enough (codes " roomy ") sizes.roomy
+
+-- how many bytes a zone needs that is never full, 0 where the job has none
+abbrev pub enough_for : Accepted → ℕ
+enough_for (tiled_flat picture) = zero
+enough_for (made bytes) = zero
+enough_for (audited sizes) = sizes.enough

@@ -1,9 +1,10 @@
 // What ends a job before anything is written.
 ghost use Rattle.std.specs.Prelude.{◌≡◌};
 ghost use Rattle.doom_run.specs.Faults.{fault_of_dir};
+ghost use Rattle.refusals.specs.declared.refusal.Refusal.TheVariants.{Art};
 ghost use Rattle.doom_run.specs.declared.fault.Fault.TheVariants.{Refused, ReadFault, OutOfMemory};
 
-use crate::Refusal;
+use crate::{ArtRefusal, Refusal};
 use outside::Failed;
 use std::alloc::{AllocError, AllocFailed};
 use wad_dir::DirFault;
@@ -21,6 +22,14 @@ impl From<Refusal> for Fault {
 
     fn from(refusal: Refusal) -> Self {
         Fault::Refused(refusal)
+    }
+}
+
+impl From<ArtRefusal> for Fault {
+    ghost from_gives = { λ refusal fault. fault ≡ Refused (Art refusal) };
+
+    fn from(refusal: ArtRefusal) -> Self {
+        Fault::Refused(Refusal::Art(refusal))
     }
 }
 

@@ -8,7 +8,7 @@ ghost use Rattle.lump_rules.specs.Contents.{AllWithin};
 ghost use Rattle.lump_rules.specs.Lookups.{lump_at, flat_of};
 ghost use Rattle.doom_run.specs.Ends.{DeliversAt};
 ghost use Rattle.doom_run.specs.Faults.{fault_told};
-ghost use Rattle.doom_run.specs.Flats.{else_refuse, long_lump, playpal_of, palette_in, flat_in, picture_in, flat_picture, flat_verdict};
+ghost use Rattle.doom_run.specs.Flats.{else_refuse, palette_in, flat_in, picture_in, flat_picture, flat_verdict};
 ghost use Rattle.doom_run.specs.Steps.{Agrees};
 ghost use Rattle.doom_run.specs.Verdict.{tiled_flat};
 
@@ -17,14 +17,12 @@ use crate::fault::Fault;
 use crate::lumps::{read_front, read_lump};
 use crate::status::Status;
 use crate::tiling::tile;
-use crate::{ArtRefusal, Refusal, SceneRefusal};
+use crate::{Refusal, SceneRefusal};
 use frame_writer::{FRAME_BYTES, PALETTE_BYTES, put_ppm};
+use ground_read::find_playpal;
 use outside::{FileNo, Shelf, Sink};
 use std::alloc::Global;
 use wad_dir::{Directory, LumpNo, Name8};
-
-/// The lump of the palettes.
-pub const PLAYPAL: [u8; 8] = *b"PLAYPAL\0";
 
 // The picture of a flat in the first file of that name. Takes all memory of the job.
 pub fn prepare_flat<S: Shelf>(
@@ -107,34 +105,6 @@ fn read_palette<S: Shelf>(alloc: Global, shelf: &mut S, dir: &Directory) -> Resu
 {
     let lump = find_playpal(dir)?;
     read_front(alloc, shelf, dir, lump, PALETTE_BYTES)
-}
-
-// The lump of the palettes, which has at least one.
-#[tactic(auto, using(crate::proofs::LumpLemmas::playpal_name))]
-fn find_playpal(dir: &Directory) -> Result<LumpNo, Refusal>
-    ensures answers { Answers (λ refusal. refused refusal) true (λ lump. lump.0)
-        (playpal_of dir.now.lumps) result }
-    ensures there { IfOk result (λ lump. lump.0 < length dir.now.lumps) }
-    ensures long { IfOk result (λ lump. PALETTE_BYTES ≤ (lump_at dir.now.lumps lump.0).size) }
-{
-    match find_long(dir, &Name8::from_bytes(PLAYPAL), PALETTE_BYTES) {
-        Some(lump) => Ok(lump),
-        None => Err(Refusal::Art(ArtRefusal::Playpal)),
-    }
-}
-
-// The last lump of a name, where it has at least so many bytes.
-fn find_long(dir: &Directory, name: &Name8, size: usize) -> Option<LumpNo>
-    ensures found { option_map (λ lump. lump.0) result ≡ long_lump dir.now.lumps name.now size }
-    ensures there { IfSome result (λ lump. lump.0 < length dir.now.lumps) }
-    ensures long { IfSome result (λ lump. size ≤ (lump_at dir.now.lumps lump.0).size) }
-{
-    let lump = dir.last(name)?;
-    if dir.size(lump) as usize >= size {
-        Some(lump)
-    } else {
-        None
-    }
 }
 
 // The bytes of the flat of a name.

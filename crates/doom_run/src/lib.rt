@@ -4,21 +4,21 @@
 //! `prepare_..` reads and checks all that it needs and takes all memory, `deliver_..` writes. So
 //! nothing is written before the first step that can refuse has passed.
 //!
-//! Rules: specs, Words (whether the words ask for files), Flats (the picture of a flat), Made (the
-//! bytes of a made file), Steps (where a run stops), Verdict (what a run comes to, and its output),
-//! Ends (what a status says), Lines (what is noted). Proved: what `run` writes, each status and its cause, and the line for each status.
-//! Tested only: that memory is found. The original: none; `D_DoomMain`, d_main.c, stands in its
-//! place there.
+//! Rules: specs, Words (whether the words ask for files), Flats (the picture of a flat), Audits (how
+//! large a zone has to be for a level), Made (the bytes of a made file), Steps (where a run stops),
+//! Verdict (what a run comes to, and its output), Ends (what a status says), Fulls (when a zone is
+//! full), Lines (what is noted). Proved: what `run` writes, each status and its cause, and the line
+//! for each status. Tested only: that memory is found. The original: none; `D_DoomMain`, d_main.c,
+//! stands in its place there.
 #![tactic(auto)]
 
-mod codes;
+mod audit;
 mod drawing;
 mod fault;
 mod flat;
 mod lumps;
 mod make;
 mod notes;
-mod refusal;
 mod status;
 #[cfg(test)]
 mod tests;
@@ -26,6 +26,6 @@ mod tiling;
 mod top;
 
 pub use notes::put_note;
-pub use refusal::{ArtRefusal, Refusal, SceneRefusal};
+pub use refusals::{ArtRefusal, Refusal, SceneRefusal};
 pub use status::{LimitKind, Status};
 pub use top::run;

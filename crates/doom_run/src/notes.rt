@@ -1,17 +1,12 @@
 // The line that is noted for a status. No call takes memory.
 ghost use Rattle.std.specs.Prelude.{codes};
-ghost use Rattle.std.specs.List.{flat_map};
 ghost use Rattle.outside.specs.Sink.{Writes};
-ghost use Rattle.doom_run.specs.Lines.{line_of, limit_label, refusal_line, refusal_numbers, wad_numbers, spaced, labelled, pair_line};
+ghost use Rattle.doom_run.specs.Lines.{line_of, limit_label, refusal_line, pair_line};
 
-use crate::codes::{
-    CODE_ENTRY, CODE_FLAT_NAME, CODE_NOT_WAD, CODE_PLAYPAL, CODE_SHORT, CODE_TOO_MANY,
-};
+use crate::Refusal;
 use crate::status::{LimitKind, Status};
-use crate::{ArtRefusal, Refusal, SceneRefusal};
-use itoa::Buffer;
 use outside::{Failed, Sink};
-use wad_dir::DirRefusal;
+use refusals::{put_labelled, put_numbers_of};
 
 /// Appends the line of a status, and nothing for `Done`. Takes no memory.
 ///
@@ -74,7 +69,7 @@ fn put_zone_full<N: Sink>(notes: &mut N, wanted: u64, widest: u64) -> Result<(),
 }
 
 // Appends a line with two numbers.
-fn put_pair<N: Sink>(
+pub(crate) fn put_pair<N: Sink>(
     notes: &mut N,
     first: &[u8],
     a: u64,
@@ -94,51 +89,6 @@ fn put_refusal<N: Sink>(notes: &mut N, refusal: Refusal) -> Result<(), Failed>
         (N.faults notes.old) (N.faults notes.new) (refusal_line refusal) result }
 {
     notes.put(b"doomview: refused")?;
-    put_refusal_numbers(notes, refusal)?;
+    put_numbers_of(notes, refusal)?;
     notes.put(b"\n")
-}
-
-fn put_refusal_numbers<N: Sink>(notes: &mut N, refusal: Refusal) -> Result<(), Failed>
-    ensures { Writes (N.written notes.old) (N.written notes.new)
-        (N.faults notes.old) (N.faults notes.new)
-        (flat_map spaced (refusal_numbers refusal)) result }
-{
-    match refusal {
-        Refusal::Wad(refusal) => put_wad_numbers(notes, refusal),
-        Refusal::Art(ArtRefusal::Playpal) => put_numbers(notes, &[CODE_PLAYPAL]),
-        Refusal::Scene(SceneRefusal::FlatName) => put_numbers(notes, &[CODE_FLAT_NAME]),
-    }
-}
-
-fn put_wad_numbers<N: Sink>(notes: &mut N, refusal: DirRefusal) -> Result<(), Failed>
-    ensures { Writes (N.written notes.old) (N.written notes.new)
-        (N.faults notes.old) (N.faults notes.new) (flat_map spaced (wad_numbers refusal)) result }
-{
-    match refusal {
-        DirRefusal::NotWad { file } => put_numbers(notes, &[CODE_NOT_WAD, file]),
-        DirRefusal::Short { file } => put_numbers(notes, &[CODE_SHORT, file]),
-        DirRefusal::Entry { file, index } => put_numbers(notes, &[CODE_ENTRY, file, index]),
-        DirRefusal::TooMany => put_numbers(notes, &[CODE_TOO_MANY]),
-    }
-}
-
-// Appends each number after a space.
-fn put_numbers<N: Sink>(notes: &mut N, numbers: &[u64]) -> Result<(), Failed>
-    ensures { Writes (N.written notes.old) (N.written notes.new)
-        (N.faults notes.old) (N.faults notes.new) (flat_map spaced numbers.now) result }
-{
-    for number in numbers {
-        put_labelled(notes, b" ", *number)?;
-    }
-    Ok(())
-}
-
-// Appends a number after some text.
-fn put_labelled<N: Sink>(notes: &mut N, label: &[u8], number: u64) -> Result<(), Failed>
-    ensures { Writes (N.written notes.old) (N.written notes.new)
-        (N.faults notes.old) (N.faults notes.new) (labelled label.now number) result }
-{
-    notes.put(label)?;
-    let mut buffer = Buffer::new();
-    notes.put(buffer.format(number).as_bytes())
 }

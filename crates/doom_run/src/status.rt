@@ -1,9 +1,10 @@
 // How a run ends.
 ghost use Rattle.std.specs.Prelude.{◌≡◌};
-ghost use Rattle.doom_run.specs.Ends.{code_of, status_of};
+ghost use Rattle.doom_run.specs.Ends.{code_of, status_of, status_of_load};
 
 use crate::Refusal;
 use crate::fault::Fault;
+use scene_load::LoadFault;
 
 /// How a run ends.
 #[derive(Clone, Copy, Debug, PartialEq, Eq)]
@@ -68,6 +69,18 @@ impl Status {
             Fault::Refused(refusal) => Status::Refused(refusal),
             Fault::ReadFault => Status::ReadFault,
             Fault::OutOfMemory => Status::OutOfMemory,
+        }
+    }
+
+    // The status of a fault of loading.
+    pub fn of_load(fault: LoadFault) -> Status
+        ensures { result ≡ status_of_load fault }
+    {
+        match fault {
+            LoadFault::Refused(refusal) => Status::Refused(refusal),
+            LoadFault::ReadFault => Status::ReadFault,
+            LoadFault::ZoneFull { wanted, widest } => Status::ZoneFull { wanted, widest },
+            LoadFault::OutOfMemory => Status::OutOfMemory,
         }
     }
 }

@@ -1,6 +1,7 @@
 // What no clause says: values from outside, the lines as they are spelled, that memory is found.
 use crate::notes::put_note;
 use crate::{LimitKind, Status, run};
+use level_maker::{make_path, make_tables, make_things, make_wad};
 use outside::{MemoryFile, MemoryShelf, MemorySink, PutFault};
 use std::alloc::{AllocError, Global};
 use std::test::Fail;
@@ -13,6 +14,17 @@ const LINE_ROOM: usize = 100;
 
 // The calls of the shelf for a flat: find, size, header, directory, PLAYPAL and the flat.
 const SHELF_CALLS: u64 = 6;
+
+// An audit of the map of the made files, one of a map that they lack, and some in other zones.
+const AUDIT: &str = "audit MAP01 made.wad --tables t --things h --path p";
+
+const AUDIT_OF_MAP02: &str = "audit MAP02 made.wad --tables t --things h --path p";
+
+const AUDIT_IN_64: &str = "audit MAP01 made.wad --tables t --things h --path p --zone 64";
+
+const AUDIT_IN_8216: &str = "audit MAP01 made.wad --tables t --things h --path p --zone 8216";
+
+const AUDIT_IN_4098: &str = "audit MAP01 made.wad --tables t --things h --path p --zone 4098";
 
 // How a run ended, with what it wrote.
 #[derive(Drop)]
@@ -55,12 +67,45 @@ fn run_over(
 ) -> Result<Ended, AllocError> {
     let name = "tiny.wad".to_string(alloc)?;
     let files = vec![in alloc; MemoryFile { name, bytes: wad }]?;
-    let mut shelf = MemoryShelf::new(files, failing);
+    run_shelf(alloc, words, MemoryShelf::new(files, failing), put_faults)
+}
+
+// Runs the words over a shelf.
+fn run_shelf(
+    alloc: Global,
+    words: &str,
+    shelf: MemoryShelf,
+    put_faults: Vec<PutFault>,
+) -> Result<Ended, AllocError> {
+    let mut shelf = shelf;
     let mut out = MemorySink::new(alloc, MADE_WAD_BYTES, put_faults)?;
     let mut notes = MemorySink::new(alloc, LINE_ROOM, Vec::new(alloc))?;
     let words = words_of(alloc, words)?;
     let status = run(alloc, &words, &mut shelf, &mut out, &mut notes);
     Ok(Ended { status, out, notes })
+}
+
+fn file_of(alloc: Global, name: &str, bytes: &[u8]) -> Result<MemoryFile, AllocError> {
+    Ok(MemoryFile {
+        name: name.to_string(alloc)?,
+        bytes: bytes.to_vec(alloc)?,
+    })
+}
+
+// A shelf with the files of an audit: WAD, tables, things, path.
+fn audit_shelf(
+    alloc: Global,
+    wad: &[u8],
+    tables: &[u8],
+    things: &[u8],
+    path: &[u8],
+) -> Result<MemoryShelf, AllocError> {
+    let wad = file_of(alloc, "made.wad", wad)?;
+    let tables = file_of(alloc, "t", tables)?;
+    let things = file_of(alloc, "h", things)?;
+    let path = file_of(alloc, "p", path)?;
+    let files = vec![in alloc; wad, tables, things, path]?;
+    Ok(MemoryShelf::new(files, Vec::new(alloc)))
 }
 
 #[test]
@@ -216,6 +261,125 @@ fn a_limit_and_a_full_zone_have_their_lines(rt: HostRuntime) -> Result<(), Fail>
         assert_eq!(rt; put_note(&mut notes, &status), Ok(()));
         assert_eq!(rt; notes.bytes(), line.as_bytes());
         assert_eq!(rt; status.code(), code);
+    }
+    Ok(())
+}
+
+#[test]
+fn an_audit_tells_the_sizes_of_a_zone(rt: HostRuntime) -> Result<(), Fail> {
+    let alloc = rt.alloc();
+    let tables = make_tables(alloc)?;
+    let things = make_things(alloc)?;
+    let path = make_path(alloc, 10)?;
+    let shelf = audit_shelf(alloc, &make_wad(alloc, 10)?, &tables, &things, &path)?;
+    let ended = run_shelf(alloc, AUDIT, shelf, Vec::new(alloc))?;
+    assert_eq!(rt; ended.status, Status::Done);
+    assert_eq!(rt;
+        ended.out.bytes(),
+        b"accepted enough 108512 roomy 204328\n".as_slice()
+    );
+    assert_eq!(rt; ended.notes.bytes(), [].as_slice());
+    Ok(())
+}
+
+#[test]
+fn each_refusal_of_an_audit_has_its_line(rt: HostRuntime) -> Result<(), Fail> {
+    let alloc = rt.alloc();
+    let wad = make_wad(alloc, 1)?;
+    let tree = "type,sprite,frame,bright,hang,shadow\n2035,TREE,A,0,0,0\n";
+    let twice = "type,sprite,frame,bright,hang,shadow\n2035,TREE,A,0,0,0\n2035,TREE,A,0,0,0\n";
+    let shadow = "type,sprite,frame,bright,hang,shadow\n2035,TREE,A,0,0,1\n";
+    let view = "x,y,z,angle\n1,2,3,4\n";
+    let letter = "x,y,z,angle\n1,2,x,4\n";
+    let short = "x,y,z,angle\n1,2,3\n";
+    for (words, size, things, path, line) in [
+        (AUDIT_OF_MAP02, 65540, tree, view, "doomview: refused 601\n"),
+        (AUDIT, 65540, shadow, view, "doomview: refused 904 0\n"),
+        (AUDIT, 65540, twice, view, "doomview: refused 206 2\n"),
+        (AUDIT, 65540, tree, letter, "doomview: refused 304 1 2\n"),
+        (AUDIT, 65540, tree, short, "doomview: refused 303 1\n"),
+        (AUDIT, 65539, tree, view, "doomview: refused 101 65539\n"),
+        (AUDIT_IN_4098, 65540, tree, view, "doomview: usage\n"),
+    ] {
+        let mut tables = make_tables(alloc)?;
+        tables.truncate(size);
+        let shelf = audit_shelf(alloc, &wad, &tables, things.as_bytes(), path.as_bytes())?;
+        let ended = run_shelf(alloc, words, shelf, Vec::new(alloc))?;
+        assert_eq!(rt; ended.notes.bytes(), line.as_bytes(), "{line}");
+        assert_eq!(rt; ended.out.bytes(), [].as_slice(), "{line}");
+    }
+    Ok(())
+}
+
+// The made WAD of 1 with other bytes at an offset, or in a small zone.
+#[test]
+fn a_damaged_wad_has_its_line(rt: HostRuntime) -> Result<(), Fail> {
+    let alloc = rt.alloc();
+    let tables = make_tables(alloc)?;
+    let things = make_things(alloc)?;
+    let path = make_path(alloc, 1)?;
+    for (words, offset, bytes, out, line) in [
+        (
+            AUDIT,
+            82_294,
+            b"\xbc\x02".as_slice(),
+            "",
+            "doomview: refused 502\n",
+        ),
+        (
+            AUDIT,
+            81_164,
+            b"\x0f\x27",
+            "",
+            "doomview: refused 604 1 0 5\n",
+        ),
+        (AUDIT, 82_086, b"\0\0", "", "doomview: refused 605 0\n"),
+        (AUDIT, 82_182, b"\x02\0", "", "doomview: refused 606 2\n"),
+        (AUDIT, 8972, b"\x05", "", "doomview: refused 701\n"),
+        (
+            AUDIT,
+            9012,
+            b"\xf0\xff\xff\xff",
+            "",
+            "doomview: refused 703 0\n",
+        ),
+        (
+            AUDIT,
+            82_354,
+            b"\x12\x43\x01\0",
+            "",
+            "doomview: refused 403 0 4\n",
+        ),
+        (
+            AUDIT,
+            8984,
+            b"COLORMAP",
+            "accepted enough 32112 roomy 44536\n",
+            "",
+        ),
+        (
+            AUDIT_IN_64,
+            0,
+            b"I",
+            "",
+            "doomview: zone full wanted 8216 widest 64\n",
+        ),
+        (
+            AUDIT_IN_8216,
+            0,
+            b"I",
+            "",
+            "doomview: zone full wanted 792 widest 0\n",
+        ),
+    ] {
+        let mut wad = make_wad(alloc, 1)?;
+        for (old, new) in wad.iter_mut().skip(offset).zip(bytes) {
+            *old = *new;
+        }
+        let shelf = audit_shelf(alloc, &wad, &tables, &things, &path)?;
+        let ended = run_shelf(alloc, words, shelf, Vec::new(alloc))?;
+        assert_eq!(rt; ended.out.bytes(), out.as_bytes(), "{line}");
+        assert_eq!(rt; ended.notes.bytes(), line.as_bytes(), "{line}");
     }
     Ok(())
 }

@@ -1,21 +1,26 @@
 // A run, from its words to its status.
-ghost use Rattle.std.specs.Prelude.{◌≡◌, ◌⊎◌, ℕ, Bool, false, List, [], Ok, Err, IsTrue};
+ghost use Rattle.std.specs.Prelude.{◌≡◌, ◌⊎◌, ℕ, Bool, false, List, [], map, Ok, Err, IsTrue, IfSome};
 ghost use Rattle.outside.specs.Causes.{Rose};
 ghost use Rattle.outside.specs.Shelf.{File, Holds};
 ghost use Rattle.outside.specs.Sink.{Grew, GrewByPrefix};
-ghost use Rattle.command_line.specs.Commands.{IsCounted, IsCountedMake, flat, make, told};
+ghost use Rattle.command_line.specs.Commands.{IsCounted, IsCountedMake, command_of, flat, make, scene, told};
+ghost use Rattle.command_line.specs.Scenes.{IsScene, told_scene};
+ghost use Rattle.command_line.specs.declared.command.SceneJob.TheVariants.{Audit};
+ghost use Rattle.scene_load.specs.Fulls.{IsFullLoad};
 ghost use Rattle.doom_run.specs.Ends.{EndsAt, EndsWith, IsEnd, IsUnwritten};
+ghost use Rattle.doom_run.specs.Fulls.{HasRoom, IsFullRun};
 ghost use Rattle.doom_run.specs.Lines.{line_of};
 ghost use Rattle.doom_run.specs.Steps.{Stop, usage, absent, refused};
-ghost use Rattle.doom_run.specs.Verdict.{Accepted, job_verdict, verdict, end_of, output};
-ghost use Rattle.doom_run.specs.Words.{WhereAsked, ask_for_files, asks_for_files, texts};
+ghost use Rattle.doom_run.specs.Verdict.{Accepted, job_verdict, scene_verdict, verdict, end_of, output};
+ghost use Rattle.doom_run.specs.Words.{WhereAsked, ask_for_files, asks_for_files, scene_asks, texts};
 
 use crate::Refusal;
+use crate::audit::{deliver_audit, prepare_audit};
 use crate::flat::{deliver_flat, prepare_flat};
 use crate::make::{deliver_make, prepare_make};
 use crate::notes::put_note;
 use crate::status::Status;
-use command_line::{Command, CommandFault, MakeJob, command_of};
+use command_line::{Command, CommandFault, MakeJob, Scene, SceneJob, command_of};
 use outside::{Shelf, Sink};
 use std::alloc::Global;
 use wad_dir::Name8;
@@ -67,9 +72,10 @@ pub fn run<S: Shelf, K: Sink, N: Sink>(
         WhereAsked (texts words.now) (Holds (S.view shelf.old) files) →
         verdict (texts words.now) files ≡ Err (refused refusal) →
         (result ≡ Status.Refused refusal) ⊎ (result ≡ Status.ReadFault)
+        ⊎ ((wanted : ℕ) × (widest : ℕ) × (result ≡ Status.ZoneFull wanted widest))
         ⊎ (result ≡ Status.OutOfMemory) }
 
-    // A fault comes only from the object that counted it. No job needs a zone yet.
+    // A fault comes only from the object that counted it.
     ensures read_fault { result ≡ Status.ReadFault →
         Rose (S.view shelf.old).faults (S.view shelf.new).faults }
     ensures steady { (files : List File) → result ≡ Status.ReadFault →
@@ -80,22 +86,29 @@ pub fn run<S: Shelf, K: Sink, N: Sink>(
         verdict (texts words.now) files ≡ Err absent →
         (result ≡ Status.ReadFault) ⊎ (result ≡ Status.OutOfMemory) }
     ensures write_fault { result ≡ Status.WriteFault → Rose (K.faults out.old) (K.faults out.new) }
-    ensures zone_full { (wanted widest : ℕ) → result ≡ Status.ZoneFull wanted widest → ⊥ }
+
+    // A full zone comes only for a job over a level whose files are in order, and the zone is small.
+    ensures zone_full { (files : List File) (wanted widest : ℕ) →
+        result ≡ Status.ZoneFull wanted widest →
+        WhereAsked (texts words.now) (Holds (S.view shelf.old) files) →
+        IfSome (command_of (texts words.now)) (λ command. IsFullRun command files wanted widest) }
 
     // Words that ask for no file leave the shelf alone.
     ensures asked { result ≡ Status.ReadFault → IsTrue (ask_for_files (texts words.now)) }
     ensures untouched { ask_for_files (texts words.now) ≡ false → shelf.new ≡ shelf.old }
 
-    // Where nothing fails, an accepted run comes to its end.
+    // Where nothing fails and the zone is large enough, an accepted run comes to its end.
     ensures complete { (files : List File) (accepted : Accepted) →
         WhereAsked (texts words.now) (Holds (S.view shelf.old) files) →
         verdict (texts words.now) files ≡ Ok accepted →
+        HasRoom (texts words.now) accepted →
         WhereAsked (texts words.now) (Rose (S.view shelf.old).faults (S.view shelf.new).faults → ⊥) →
         (Rose (K.faults out.old) (K.faults out.new) → ⊥) →
         (result ≡ end_of accepted) ⊎ (result ≡ Status.OutOfMemory) }
     ensures complete_steady { (files : List File) (accepted : Accepted) →
         WhereAsked (texts words.now) (Holds (S.view shelf.old) files) →
         verdict (texts words.now) files ≡ Ok accepted →
+        HasRoom (texts words.now) accepted →
         WhereAsked (texts words.now) (IsTrue (S.view shelf.old).steady) →
         (Rose (K.faults out.old) (K.faults out.new) → ⊥) →
         (result ≡ end_of accepted) ⊎ (result ≡ Status.OutOfMemory) }
@@ -125,7 +138,10 @@ fn perform<S: Shelf, K: Sink>(alloc: Global, words: &[String], shelf: &mut S, ou
     ensures read_fault { result ≡ Status.ReadFault →
         Rose (S.view shelf.old).faults (S.view shelf.new).faults }
     ensures write_fault { result ≡ Status.WriteFault → Rose (K.faults out.old) (K.faults out.new) }
-    ensures zone_full { (wanted widest : ℕ) → result ≡ Status.ZoneFull wanted widest → ⊥ }
+    ensures zone_full { (files : List File) (wanted widest : ℕ) →
+        result ≡ Status.ZoneFull wanted widest →
+        WhereAsked (texts words.now) (Holds (S.view shelf.old) files) →
+        IfSome (command_of (texts words.now)) (λ command. IsFullRun command files wanted widest) }
     ensures asked { result ≡ Status.ReadFault → IsTrue (ask_for_files (texts words.now)) }
     ensures untouched { ask_for_files (texts words.now) ≡ false → shelf.new ≡ shelf.old }
 {
@@ -155,15 +171,81 @@ fn perform_job<S: Shelf, K: Sink>(
     ensures read_fault { result ≡ Status.ReadFault →
         Rose (S.view shelf.old).faults (S.view shelf.new).faults }
     ensures write_fault { result ≡ Status.WriteFault → Rose (K.faults out.old) (K.faults out.new) }
-    ensures zone_full { (wanted widest : ℕ) → result ≡ Status.ZoneFull wanted widest → ⊥ }
+    ensures zone_full { (files : List File) (wanted widest : ℕ) →
+        result ≡ Status.ZoneFull wanted widest →
+        (IsTrue (asks_for_files (told command.now)) → Holds (S.view shelf.old) files) →
+        IsFullRun (told command.now) files wanted widest }
     ensures asked { result ≡ Status.ReadFault → IsTrue (asks_for_files (told command.now)) }
     ensures untouched { asks_for_files (told command.now) ≡ false → shelf.new ≡ shelf.old }
 {
     match command {
         Command::Flat { name, file } => perform_flat(alloc, name, file, shelf, out),
         Command::Make(job) => perform_make(alloc, *job, out),
-        Command::Scene { .. } => Status::Usage,
+        Command::Scene { job, scene, wads } => perform_scene(alloc, *job, scene, wads, shelf, out),
         Command::Exercise { .. } => Status::Usage,
+    }
+}
+
+fn perform_scene<S: Shelf, K: Sink>(
+    alloc: Global,
+    job: SceneJob,
+    level: &Scene<'_>,
+    wads: &[&str],
+    shelf: &mut S,
+    out: &mut K,
+) -> Status
+    requires { IsScene (told_scene level.now) (map (λ wad. wad.now) wads.now) }
+    ensures ends { (files : List File) →
+        (IsTrue (scene_asks job) → Holds (S.view shelf.old) files) →
+        EndsAt (S.view shelf.old).steady
+        (scene_verdict job (told_scene level.now) (map (λ wad. wad.now) wads.now) files)
+        (K.written out.old) (K.written out.new) result }
+    ensures unwritten { IsUnwritten result → Grew (K.written out.old) (K.written out.new) [] }
+    ensures usage { (files : List File) → result ≡ Status.Usage →
+        scene_verdict job (told_scene level.now) (map (λ wad. wad.now) wads.now) files ≡ Err usage }
+    ensures not_built { (files : List File) →
+        scene_verdict job (told_scene level.now) (map (λ wad. wad.now) wads.now) files ≡ Err usage →
+        result ≡ Status.Usage }
+    ensures read_fault { result ≡ Status.ReadFault →
+        Rose (S.view shelf.old).faults (S.view shelf.new).faults }
+    ensures write_fault { result ≡ Status.WriteFault → Rose (K.faults out.old) (K.faults out.new) }
+    ensures zone_full { (files : List File) (wanted widest : ℕ) →
+        result ≡ Status.ZoneFull wanted widest →
+        (IsTrue (scene_asks job) → Holds (S.view shelf.old) files) →
+        IsFullLoad (told_scene level.now) (map (λ wad. wad.now) wads.now) files wanted widest }
+    ensures asked { result ≡ Status.ReadFault → IsTrue (scene_asks job) }
+    ensures untouched { scene_asks job ≡ false → shelf.new ≡ shelf.old }
+{
+    match job {
+        SceneJob::Audit => perform_audit(alloc, level, wads, shelf, out),
+        SceneJob::Render(_) | SceneJob::Limits | SceneJob::Trim | SceneJob::Trace => Status::Usage,
+    }
+}
+
+fn perform_audit<S: Shelf, K: Sink>(
+    alloc: Global,
+    level: &Scene<'_>,
+    wads: &[&str],
+    shelf: &mut S,
+    out: &mut K,
+) -> Status
+    requires { IsScene (told_scene level.now) (map (λ wad. wad.now) wads.now) }
+    ensures ends { (files : List File) → Holds (S.view shelf.old) files →
+        EndsAt (S.view shelf.old).steady
+        (scene_verdict Audit (told_scene level.now) (map (λ wad. wad.now) wads.now) files)
+        (K.written out.old) (K.written out.new) result }
+    ensures unwritten { IsUnwritten result → Grew (K.written out.old) (K.written out.new) [] }
+    ensures not_usage { result ≡ Status.Usage → ⊥ }
+    ensures read_fault { result ≡ Status.ReadFault →
+        Rose (S.view shelf.old).faults (S.view shelf.new).faults }
+    ensures write_fault { result ≡ Status.WriteFault → Rose (K.faults out.old) (K.faults out.new) }
+    ensures zone_full { (files : List File) (wanted widest : ℕ) →
+        result ≡ Status.ZoneFull wanted widest → Holds (S.view shelf.old) files →
+        IsFullLoad (told_scene level.now) (map (λ wad. wad.now) wads.now) files wanted widest }
+{
+    match prepare_audit(alloc, level, wads, shelf) {
+        Ok(sizes) => deliver_audit(sizes, out),
+        Err(fault) => Status::of_load(fault),
     }
 }
 

@@ -4,7 +4,7 @@ use Rattle.outside.specs.Shelf.{AllStand}
 use Rattle.outside.proofs.ShelfLemmas.{all_stand_later, follows_then}
 use Rattle.outside.proofs.StepLemmas.{step, stop}
 use Rattle.lump_rules.specs.Wads.{directory}
-use Rattle.doom_run.specs.declared.refusal.Refusal.TheVariants.{Wad}
+use Rattle.refusals.specs.declared.refusal.Refusal.TheVariants.{Wad}
 use Rattle.doom_run.specs.Faults.{fault_of_dir}
 use Rattle.doom_run.specs.Flats.{picture_in}
 use Rattle.doom_run.proofs.StepLemmas.{dir_told_above}

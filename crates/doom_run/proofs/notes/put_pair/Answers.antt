@@ -1,7 +1,7 @@
 use Rattle.std.proofs.Common.{refl, ◌++◌, append_assoc}
 use Rattle.std.specs.Prelude.{codes}
 use Rattle.outside.proofs.WriteLemmas.{writes_stop, writes_then, writes_more, writes_stopped}
-use Rattle.doom_run.specs.Lines.{labelled}
+use Rattle.refusals.specs.Lines.{labelled}
 use Rattle.doom_run.proofs.notes.put_pair.Goals as goal
 
 pub returns-in_err-put_labelled : goal.returns-in_err-put_labelled

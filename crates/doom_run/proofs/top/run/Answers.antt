@@ -1,4 +1,8 @@
 use Rattle.outside.proofs.WriteLemmas.{prefix_written}
+use Rattle.std.proofs.Common.{refl}
+use Rattle.command_line.specs.Commands.{command_of}
+use Rattle.doom_run.specs.Words.{texts}
+use Rattle.doom_run.proofs.FullLemmas.{run_held, run_room}
 use Rattle.doom_run.proofs.RunLemmas.{absent_at, complete_at, end_at, prefix_at_end, refusal_at, steady_reads, stopped_at}
 use Rattle.doom_run.proofs.top.run.Goals as goal
 
@@ -24,19 +28,23 @@ pub returns-clause-steady : goal.returns-clause-steady
 returns-clause-steady g c files is held steady = (rw is at (c.perform-status.ensures.ends files held)) steady
 
 pub returns-clause-absent : goal.returns-clause-absent
-returns-clause-absent g c files held is = absent_at _ _ _ _ c.perform-status.result (c.perform-status.ensures.ends files held) is
+returns-clause-absent g c files held is =
+    absent_at _ _ _ _ c.perform-status.result (c.perform-status.ensures.ends files held) is
+    (λ wanted widest full. run_held (command_of (texts c.args.words.now)) files wanted widest (c.perform-status.ensures.zone_full files wanted widest full held) is)
 
 pub returns-clause-complete : goal.returns-clause-complete
-returns-clause-complete g c files accepted held is read write =
+returns-clause-complete g c files accepted held is room read write =
     complete_at _ _ _ _ c.perform-status.result accepted (c.perform-status.ensures.ends files held) is
     (λ fault. read (c.perform-status.ensures.asked fault) (c.perform-status.ensures.read_fault fault))
     (λ fault. write (c.perform-status.ensures.write_fault fault))
+    (λ wanted widest full. run_room (texts c.args.words.now) _ files accepted wanted widest refl (c.perform-status.ensures.zone_full files wanted widest full held) room is)
 
 pub returns-clause-complete_steady : goal.returns-clause-complete_steady
-returns-clause-complete_steady g c files accepted held is steady write =
+returns-clause-complete_steady g c files accepted held is room steady write =
     complete_at _ _ _ _ c.perform-status.result accepted (c.perform-status.ensures.ends files held) is
     (steady_reads _ _ _ _ c.perform-status.result accepted (c.perform-status.ensures.ends files held) is (λ fault. steady (c.perform-status.ensures.asked fault)))
     (λ fault. write (c.perform-status.ensures.write_fault fault))
+    (λ wanted widest full. run_room (texts c.args.words.now) _ files accepted wanted widest refl (c.perform-status.ensures.zone_full files wanted widest full held) room is)
 
 pub returns-clause-noted_prefix : goal.returns-clause-noted_prefix
 returns-clause-noted_prefix g c = prefix_written c.put_note.ensures

@@ -1,0 +1,65 @@
+// The job `audit`: how large a zone has to be for a level that is accepted.
+ghost use Rattle.std.specs.Prelude.{◌≡◌, ◌≤◌, ℕ, List, map, IfErr};
+ghost use Rattle.outside.specs.Causes.{Rose};
+ghost use Rattle.outside.specs.Shelf.{File, Follows, Holds};
+ghost use Rattle.outside.specs.Told.{HasCauses};
+ghost use Rattle.zone_rules.specs.Zones.{IsZoneSize};
+ghost use Rattle.view_rules.specs.declared.TheConstants.{MIN_SIZE, MAX_SIZE};
+ghost use Rattle.cached_lumps.specs.Calls.{IfFull};
+ghost use Rattle.command_line.specs.Scenes.{told_scene};
+ghost use Rattle.scene_files.specs.Stops.{Agrees};
+ghost use Rattle.scene_load.specs.Faults.{load_told};
+ghost use Rattle.scene_load.specs.Fulls.{IsFullLoad};
+ghost use Rattle.doom_run.specs.Audits.{audit_verdict};
+ghost use Rattle.doom_run.specs.Ends.{DeliversAt};
+ghost use Rattle.doom_run.specs.Verdict.{audited};
+
+use crate::notes::put_pair;
+use crate::status::Status;
+use command_line::Scene;
+use outside::{Shelf, Sink};
+use scene_load::{LoadFault, load_scene};
+use scene_rules::ZoneSizes;
+use std::alloc::Global;
+
+// The sizes of a zone for a level in these WADs. Takes all memory of the job.
+pub fn prepare_audit<S: Shelf>(
+    alloc: Global,
+    level: &Scene<'_>,
+    wads: &[&str],
+    shelf: &mut S,
+) -> Result<ZoneSizes, LoadFault>
+    requires zone { IsZoneSize level.now.settings.zone }
+    requires skill { (1 ≤ level.now.settings.skill) × (level.now.settings.skill ≤ 5) }
+    requires least { MIN_SIZE ≤ level.now.settings.size }
+    requires greatest { level.now.settings.size ≤ MAX_SIZE }
+    ensures answers { (files : List File) → Holds (S.view shelf.old) files →
+        Agrees load_told (S.view shelf.old).steady (λ sizes. sizes)
+        (audit_verdict (told_scene level.now) (map (λ wad. wad.now) wads.now) files) result }
+    ensures full { (files : List File) → Holds (S.view shelf.old) files →
+        IfErr result (λ fault. IfFull (load_told fault)
+        (IsFullLoad (told_scene level.now) (map (λ wad. wad.now) wads.now) files)) }
+    ensures follows { Follows (S.view shelf.old) (S.view shelf.new) }
+    ensures causes { HasCauses load_told
+        (S.view shelf.old).faults (S.view shelf.new).faults result }
+{
+    let loaded = load_scene(alloc, level, wads, shelf)?;
+    Ok(loaded.scene.sizes())
+}
+
+// Writes the line of an accepted level. Takes no memory.
+pub fn deliver_audit<K: Sink>(sizes: ZoneSizes, out: &mut K) -> Status
+    ensures ends { DeliversAt (audited sizes) (K.written out.old) (K.written out.new) result }
+    ensures write_fault { result ≡ Status.WriteFault → Rose (K.faults out.old) (K.faults out.new) }
+{
+    match put_pair(
+        out,
+        b"accepted enough ",
+        sizes.enough,
+        b" roomy ",
+        sizes.roomy,
+    ) {
+        Ok(()) => Status::Done,
+        Err(_) => Status::WriteFault,
+    }
+}
