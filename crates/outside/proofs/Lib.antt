@@ -2,5 +2,6 @@ pub mod FileLemmas
 pub mod MemorySinkLemmas
 pub mod ShelfLemmas
 pub mod StepLemmas
+pub mod StopLemmas
 pub mod TallySinkLemmas
 pub mod WriteLemmas

@@ -1,8 +1,9 @@
 pub mod Causes
+pub mod Faults
 pub mod Host
 pub mod MemoryShelf
 pub mod MemorySink
 pub mod Shelf
 pub mod Sink
+pub mod Stops
 pub mod TallySink
-pub mod Told

@@ -3,8 +3,8 @@
 //! Rules: `specs/MemoryShelf`. Proved: each call is the trait's, and when it fails and what it leaves.
 ghost use Rattle.std.specs.Prelude.{◌≡◌, ◌<◌, ◌≤◌, ◌+◌, ◌^◌, ◌↔◌, ◌⊎◌, refl, false, length, position, Contains, MatchOption, IsTrue, IsSome, IfSome, IsOk, IsErr, IfOk, OnOk, OnErr};
 ghost use Rattle.std.specs.Str.{bytes_eq};
-ghost use Rattle.outside.specs.Causes.{Rose};
-ghost use Rattle.outside.specs.Shelf.{Follows, StandsForNamed, file_named, file_at, IsPieceAt, counted};
+ghost use Rattle.outside.specs.Causes.{FaultsRose};
+ghost use Rattle.outside.specs.Shelf.{IsLaterShelf, StandsForNamed, file_named, file_at, IsPieceAt, counted};
 ghost use Rattle.outside.specs.MemoryShelf.{ShelfInMemory, memory_view, called, failed, read, IsFailing, first_named, has_piece};
 
 use crate::{Failed, FileNo, Shelf};
@@ -144,9 +144,9 @@ impl Shelf for MemoryShelf {
     /// Errors: `Failed` exactly where this call is one that fails, or no file has the name.
     fn find(&mut self, name: &str) -> Result<FileNo, Failed>
         ensures found { IfOk result (λ number. IfSome (memory_view self.old).held (StandsForNamed (memory_view self.new) number.0 name.now)) }
-        ensures follows { Follows (memory_view self.old) (memory_view self.new) }
+        ensures follows { IsLaterShelf (memory_view self.old) (memory_view self.new) }
         ensures untaken { (memory_view self.new).taken ≡ (memory_view self.old).taken }
-        ensures failed { OnErr result (Rose (memory_view self.old).faults (memory_view self.new).faults) }
+        ensures failed { OnErr result (FaultsRose (memory_view self.old).faults (memory_view self.new).faults) }
         ensures steady { IsTrue (memory_view self.old).steady → IfSome (memory_view self.old).held (λ files. IsSome (file_named name.now files) → IsOk result) }
         ensures first { IfOk result (λ number. Some number.0 ≡ first_named name.now self.old.files) }
         ensures ok { OnOk result (self.new ≡ called self.old) }
@@ -167,9 +167,9 @@ impl Shelf for MemoryShelf {
     /// Errors: `Failed` exactly where this call is one that fails, or no file has the index.
     fn size_of(&mut self, file: FileNo) -> Result<u64, Failed>
         ensures size { IfOk result (λ size. IfSome ((memory_view self.old).file file.0) (λ bytes. size ≡ length bytes)) }
-        ensures follows { Follows (memory_view self.old) (memory_view self.new) }
+        ensures follows { IsLaterShelf (memory_view self.old) (memory_view self.new) }
         ensures untaken { (memory_view self.new).taken ≡ (memory_view self.old).taken }
-        ensures failed { OnErr result (Rose (memory_view self.old).faults (memory_view self.new).faults) }
+        ensures failed { OnErr result (FaultsRose (memory_view self.old).faults (memory_view self.new).faults) }
         ensures steady { IsTrue (memory_view self.old).steady → IsSome ((memory_view self.old).file file.0) → IsOk result }
         ensures ok { OnOk result (self.new ≡ called self.old) }
         ensures err { OnErr result (self.new ≡ failed self.old) }
@@ -190,10 +190,10 @@ impl Shelf for MemoryShelf {
     /// file ends before the piece is full.
     fn read_at(&mut self, file: FileNo, place: u64, piece: &mut [u8]) -> Result<(), Failed>
         ensures bytes { OnOk result (IfSome ((memory_view self.old).file file.0) (λ bytes. IsPieceAt bytes place piece.new)) }
-        ensures follows { Follows (memory_view self.old) (memory_view self.new) }
+        ensures follows { IsLaterShelf (memory_view self.old) (memory_view self.new) }
         ensures taken { OnOk result ((memory_view self.new).taken ≡ counted (memory_view self.old).taken (length piece.old)) }
         ensures untaken { OnErr result ((memory_view self.new).taken ≡ (memory_view self.old).taken) }
-        ensures failed { OnErr result (Rose (memory_view self.old).faults (memory_view self.new).faults) }
+        ensures failed { OnErr result (FaultsRose (memory_view self.old).faults (memory_view self.new).faults) }
         ensures steady { IsTrue (memory_view self.old).steady → IfSome ((memory_view self.old).file file.0) (λ bytes. place + length piece.old ≤ length bytes → IsOk result) }
         ensures ok { OnOk result (self.new ≡ read self.old (length piece.old)) }
         ensures err { OnErr result (self.new ≡ failed self.old) }
