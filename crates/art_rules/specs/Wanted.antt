@@ -2,7 +2,7 @@
 -- (R_GenerateLookup, r_data.c).
 use Rattle.std.specs.Prelude.{ℕ, suc, ◌==◌, Bool, false, true, cond, nat_lt, List, [], ◌∷◌, filter, Option, Some, None, Result, Ok, Err, slice_get, option_and_then, option_map}
 use Rattle.std.specs.List.{range_with_len, list_any}
-use Rattle.outside.specs.Told.{and_then}
+use Rattle.outside.specs.Faults.{and_then}
 use Rattle.art_rules.specs.declared.patch.Patch.{Patch}
 use Rattle.art_rules.specs.declared.PlacedPatch.{PlacedPatch}
 use Rattle.art_rules.specs.declared.ColumnLookup.{ColumnLookup}

@@ -1,5 +1,6 @@
 -- What the faults of an audit tell, and what the faults of the layers below are there.
-use Rattle.outside.specs.Told.{Told, refused, read_failed, zone_full, out_of_memory}
+use Rattle.outside.specs.declared.fault.Fault.{Fault}
+use Rattle.outside.specs.declared.fault.Fault.TheVariants.{Refused, ReadFault, ZoneFull, OutOfMemory}
 use Rattle.lump_cache.specs.declared.fault.CacheFault.{CacheFault}
 use Rattle.lump_cache.specs.declared.fault.CacheFault.TheVariants as cache
 use Rattle.level_read.specs.declared.fault.LevelFault.{LevelFault}
@@ -15,11 +16,11 @@ use Rattle.scene_rules.specs.declared.refusal.AuditRefusal.TheVariants.{Map, Tex
 use Rattle.audit_fault.specs.declared.fault.AuditFault.{AuditFault}
 use Rattle.audit_fault.specs.declared.fault.AuditFault.TheVariants.{Refused, ReadFault, ZoneFull, OutOfMemory}
 
-abbrev pub audit_told : AuditFault → Told AuditRefusal
-audit_told (Refused refusal) = refused refusal
-audit_told ReadFault = read_failed
-audit_told (ZoneFull wanted widest) = zone_full wanted widest
-audit_told OutOfMemory = out_of_memory
+abbrev pub audit_told : AuditFault → Fault AuditRefusal
+audit_told (Refused refusal) = Refused refusal
+audit_told ReadFault = ReadFault
+audit_told (ZoneFull wanted widest) = ZoneFull wanted widest
+audit_told OutOfMemory = OutOfMemory
 
 abbrev pub above_cache : CacheFault → AuditFault
 above_cache (cache.ZoneFull wanted widest) = ZoneFull wanted widest

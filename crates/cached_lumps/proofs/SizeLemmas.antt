@@ -15,7 +15,7 @@ use Rattle.wad_dir.specs.declared.directory.LumpNo.{LumpNo}
 use Rattle.lump_cache.specs.declared.fault.CacheFault.{CacheFault}
 use Rattle.lump_cache.specs.Caches.{IsAtRest, IsEmpty, HasBlock, HasUse, KeptOrPurged, lump_owner, with_tag_unless_static}
 use Rattle.lump_cache.proofs.FaithLemmas.{bytes_in, kept_bytes, none_bytes, unless_static_bytes}
-use Rattle.cached_lumps.specs.Calls.{Keeps, IsTold}
+use Rattle.cached_lumps.specs.Calls.{PreservesCache, HoldContents}
 use Rattle.cached_lumps.specs.Named.{IsLast, live_bytes}
 use Rattle.cached_lumps.specs.Sizes.{HasSizes, StandsBeside}
 
@@ -27,7 +27,7 @@ some_else : {X : Type 0} {P Q : X → Type 0} (x : Option X) → ((v : X) → P 
 some_else None f p = tt
 some_else (Some v) f p = f v p
 
-pub sizes_told : (view : ShelfView) (dir : DirectoryView) (z : Heap) (contents : List (List ℕ)) → IsTold view dir z contents → HasSizes dir.lumps z
+pub sizes_told : (view : ShelfView) (dir : DirectoryView) (z : Heap) (contents : List (List ℕ)) → HoldContents view dir z contents → HasSizes dir.lumps z
 sizes_told view dir z contents told = record {
   at = λ number there. some_else (bytes_of (lump_owner number) z.blocks) (λ bytes is. ap length is ∙ lump_bytes-length contents dir.lumps number (All-get_or (LiesWithin contents) dir.lumps number no_lump there told.within)) (told.faithful.at number there);
 }
@@ -63,12 +63,12 @@ sizes_fetched lumps lump tag old new r inside hit block empty others has = recor
       (others (lump_owner number) (ne_eqb lump number (λ e. h (sym e)))) (has.at number there)
 
 -- a lump that stands beside the colormap later did so before
-pub beside_earlier : {v w : ShelfView} {dir : DirectoryView} {a b : Heap} (lump : ℕ) → Keeps v w dir a b → StandsBeside dir.lumps b lump → StandsBeside dir.lumps a lump
+pub beside_earlier : {v w : ShelfView} {dir : DirectoryView} {a b : Heap} (lump : ℕ) → PreservesCache v w dir a b → StandsBeside dir.lumps b lump → StandsBeside dir.lumps a lump
 beside_earlier {dir} lump keeps beside = λ colormap count rest has other.
     subst (λ n. block_size count + block_size (lump_at dir.lumps lump).size ≤ n) keeps.counts.0 (beside colormap count (keeps.rest colormap count rest) (keeps.sizes has) other)
 
 -- lumps of an earlier and of a later call
-pub either_beside : {v w : ShelfView} {dir : DirectoryView} {a b : Heap} {early late : ℕ → Type 0} → Keeps v w dir a b → ((lump : ℕ) → early lump → StandsBeside dir.lumps a lump) → ((lump : ℕ) → late lump → StandsBeside dir.lumps b lump) → (lump : ℕ) → early lump ⊎ late lump → StandsBeside dir.lumps a lump
+pub either_beside : {v w : ShelfView} {dir : DirectoryView} {a b : Heap} {early late : ℕ → Type 0} → PreservesCache v w dir a b → ((lump : ℕ) → early lump → StandsBeside dir.lumps a lump) → ((lump : ℕ) → late lump → StandsBeside dir.lumps b lump) → (lump : ℕ) → early lump ⊎ late lump → StandsBeside dir.lumps a lump
 either_beside keeps first next lump (inl asked) = first lump asked
 either_beside keeps first next lump (inr asked) = beside_earlier lump keeps (next lump asked)
 

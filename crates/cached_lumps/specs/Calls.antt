@@ -1,8 +1,10 @@
 -- What is told of a call that reads lumps through the cache: what it answers by the bytes of lumps, and
 -- what it keeps of the cache and of the shelf.
 use Rattle.std.specs.Prelude.{◌≡◌, ℕ, ◌+◌, ◌<◌, true, List, Some, IfSome, IfErr, MatchResult, Result, ⊤}
-use Rattle.outside.specs.Shelf.{ShelfView, Follows, AllStand}
-use Rattle.outside.specs.Told.{Told, refused, read_failed, zone_full, out_of_memory, Answers, HasCauses}
+use Rattle.outside.specs.Shelf.{ShelfView, IsLaterShelf, NameFiles}
+use Rattle.outside.specs.declared.fault.Fault.{Fault}
+use Rattle.outside.specs.declared.fault.Fault.TheVariants.{Refused, ReadFault, ZoneFull, OutOfMemory}
+use Rattle.outside.specs.Faults.{ResultIs, HasCauses}
 use Rattle.lump_rules.specs.Lookups.{lump_at}
 use Rattle.lump_rules.specs.Contents.{lump_bytes, AllWithin}
 use Rattle.zone_rules.specs.declared.TheConstants.{MIN_FRAGMENT}
@@ -16,11 +18,11 @@ use Rattle.cached_lumps.specs.Sizes.{HasSizes}
 -- and slots, a cache at rest is at rest, one that was faithful to the lumps of these files is faithful,
 -- one whose live lumps have the directory's sizes has such, and no composite is made: each has its bytes,
 -- or is not live.
-pub record Keeps (view after : ShelfView) (dir : DirectoryView) (old new : Heap) : Type 0 where
-  pub follows : Follows view after
+pub record PreservesCache (view after : ShelfView) (dir : DirectoryView) (old new : Heap) : Type 0 where
+  pub follows : IsLaterShelf view after
   pub counts : KeepsCounts old new
   pub rest : (colormap count : ℕ) → IsAtRest colormap count old → IsAtRest colormap count new
-  pub faithful : (contents : List (List ℕ)) → AllStand view dir.files contents → IsFaithful contents dir.lumps old → IsFaithful contents dir.lumps new
+  pub faithful : (contents : List (List ℕ)) → NameFiles view dir.files contents → IsFaithful contents dir.lumps old → IsFaithful contents dir.lumps new
   pub sizes : HasSizes dir.lumps old → HasSizes dir.lumps new
   pub composites : (number : ℕ) → IfSome (bytes_of (composite_owner number) new.blocks) (λ bytes. bytes_of (composite_owner number) old.blocks ≡ Some bytes)
 
@@ -32,11 +34,11 @@ pub record IsFull (size : ℕ) (z : Heap) (wanted widest' : ℕ) : Type 0 where
   pub room : (colormap count : ℕ) → IsAtRest colormap count z → z.size < block_size count + wanted + MIN_FRAGMENT
 
 -- what is said of a fault that the zone is full
-abbrev pub IfFull : {R : Type 0} → Told R → (ℕ → ℕ → Type 0) → Type 0
-IfFull (refused reason) P = ⊤
-IfFull read_failed P = ⊤
-IfFull (zone_full wanted widest') P = P wanted widest'
-IfFull out_of_memory P = ⊤
+abbrev pub IfFull : {R : Type 0} → Fault R → (ℕ → ℕ → Type 0) → Type 0
+IfFull (Refused reason) P = ⊤
+IfFull ReadFault P = ⊤
+IfFull (ZoneFull wanted widest') P = P wanted widest'
+IfFull OutOfMemory P = ⊤
 
 -- a lump that may be asked for found no room
 pub record IsFullFor (wants : ℕ → Type 0) (dir : DirectoryView) (z : Heap) (wanted widest' : ℕ) : Type 0 where
@@ -45,15 +47,15 @@ pub record IsFullFor (wants : ℕ → Type 0) (dir : DirectoryView) (z : Heap) (
   pub full : IsFull (lump_at dir.lumps lump).size z wanted widest'
 
 -- a zone that is in order for all that may be asked for is not full, and stays so unless a read fails
-abbrev pub InOrderAt : {R : Type 0} → Told R → Type 0 → Type 0
-InOrderAt (refused reason) P = P
-InOrderAt read_failed P = ⊤
-InOrderAt (zone_full wanted widest') P = ⊥
-InOrderAt out_of_memory P = P
+abbrev pub InOrderAt : {R : Type 0} → Fault R → Type 0 → Type 0
+InOrderAt (Refused reason) P = P
+InOrderAt ReadFault P = ⊤
+InOrderAt (ZoneFull wanted widest') P = ⊥
+InOrderAt OutOfMemory P = P
 
 -- the shelf and the cache tell these contents
-pub record IsTold (view : ShelfView) (dir : DirectoryView) (z : Heap) (contents : List (List ℕ)) : Type 0 where
-  pub stand : AllStand view dir.files contents
+pub record HoldContents (view : ShelfView) (dir : DirectoryView) (z : Heap) (contents : List (List ℕ)) : Type 0 where
+  pub stand : NameFiles view dir.files contents
   pub within : AllWithin contents dir.lumps
   pub faithful : IsFaithful contents dir.lumps z
 
@@ -63,9 +65,9 @@ HasAll items dir wants = (lump : ℕ) → wants lump → has_item items (lump_ow
 
 -- A call by what it is expected to give for the bytes of lumps, and by the lumps that it may ask for: its
 -- answer, what it keeps, when a read fails, when the zone is full, and that a cache in order stays so.
-pub record Tells {A B R E : Type 0} (told : E → Told R) (view after : ShelfView) (dir : DirectoryView) (old new : Heap) (wants : ℕ → Type 0) (value : B → A) (expected : (ℕ → List ℕ) → Result A R) (result : Result B E) : Type 0 where
-  pub keeps : Keeps view after dir old new
-  pub answers : (contents : List (List ℕ)) → IsTold view dir old contents → Answers told view.steady value (expected (lump_bytes contents dir.lumps)) result
+pub record ReadsLumps {A B R E : Type 0} (told : E → Fault R) (view after : ShelfView) (dir : DirectoryView) (old new : Heap) (wants : ℕ → Type 0) (value : B → A) (expected : (ℕ → List ℕ) → Result A R) (result : Result B E) : Type 0 where
+  pub keeps : PreservesCache view after dir old new
+  pub answers : (contents : List (List ℕ)) → HoldContents view dir old contents → ResultIs told view.steady value (expected (lump_bytes contents dir.lumps)) result
   pub causes : HasCauses told view.faults after.faults result
   pub full : IfErr result (λ fault. IfFull (told fault) (IsFullFor wants dir old))
   pub order : (items : List Item) → HasAll items dir wants → IsInOrder items old →

@@ -7,7 +7,7 @@ ghost use Rattle.lump_rules.specs.Contents.{lump_bytes};
 ghost use Rattle.lump_rules.specs.Lookups.{last_of};
 ghost use Rattle.zone_rules.specs.Zones.{IsLive, bytes_of, block_size, same_owner};
 ghost use Rattle.lump_cache.specs.Caches.{IsAtRest, cache_told, lump_owner};
-ghost use Rattle.cached_lumps.specs.Calls.{IsTold, Tells};
+ghost use Rattle.cached_lumps.specs.Calls.{HoldContents, ReadsLumps};
 ghost use Rattle.cached_lumps.specs.Named.{IsLast, live_bytes, named_bytes};
 
 use lump_cache::{CacheFault, LumpCache};
@@ -31,9 +31,9 @@ pub fn fetch_live<S: Shelf>(
 ) -> Result<(), CacheFault>
     requires slots { length dir.now.lumps ≤ cache.old.lumps }
     requires there { lump.0 < length dir.now.lumps }
-    ensures tells { Tells cache_told (S.view shelf.old) (S.view shelf.new) dir.now cache.old cache.new (λ number. number ≡ lump.0) (λ done. done) (λ bytes. Ok tt) result }
+    ensures tells { ReadsLumps cache_told (S.view shelf.old) (S.view shelf.new) dir.now cache.old cache.new (λ number. number ≡ lump.0) (λ done. done) (λ bytes. Ok tt) result }
     ensures live { OnOk result (IsLive cache.new (lump_owner lump.0)) }
-    ensures bytes { (contents : List (List ℕ)) → IsTold (S.view shelf.old) dir.now cache.old contents → OnOk result (bytes_of (lump_owner lump.0) cache.new.blocks ≡ Some (lump_bytes contents dir.now.lumps lump.0)) }
+    ensures bytes { (contents : List (List ℕ)) → HoldContents (S.view shelf.old) dir.now cache.old contents → OnOk result (bytes_of (lump_owner lump.0) cache.new.blocks ≡ Some (lump_bytes contents dir.now.lumps lump.0)) }
 {
     cache.fetch(shelf, dir, lump, Tag::Cache)
 }
@@ -51,11 +51,11 @@ pub fn fetch_named<S: Shelf>(
     name: &Name8,
 ) -> Result<Option<LumpNo>, CacheFault>
     requires slots { length dir.now.lumps ≤ cache.old.lumps }
-    ensures tells { Tells cache_told (S.view shelf.old) (S.view shelf.new) dir.now cache.old cache.new (IsLast dir.now.lumps name.now) (λ lump. option_map (λ l. l.0) lump) (λ bytes. Ok (last_of dir.now.lumps name.now)) result }
+    ensures tells { ReadsLumps cache_told (S.view shelf.old) (S.view shelf.new) dir.now cache.old cache.new (IsLast dir.now.lumps name.now) (λ lump. option_map (λ l. l.0) lump) (λ bytes. Ok (last_of dir.now.lumps name.now)) result }
     ensures found { IfOk result (λ lump. option_map (λ l. l.0) lump ≡ last_of dir.now.lumps name.now) }
     ensures there { IfOk result (λ lump. IfSome lump (λ l. l.0 < length dir.now.lumps)) }
     ensures live { IfOk result (λ lump. IfSome lump (λ l. IsLive cache.new (lump_owner l.0))) }
-    ensures bytes { (contents : List (List ℕ)) → IsTold (S.view shelf.old) dir.now cache.old contents → IfOk result (λ lump. live_bytes lump cache.new ≡ named_bytes (lump_bytes contents dir.now.lumps) dir.now.lumps name.now) }
+    ensures bytes { (contents : List (List ℕ)) → HoldContents (S.view shelf.old) dir.now cache.old contents → IfOk result (λ lump. live_bytes lump cache.new ≡ named_bytes (lump_bytes contents dir.now.lumps) dir.now.lumps name.now) }
 {
     match dir.last(name) {
         Some(lump) => {

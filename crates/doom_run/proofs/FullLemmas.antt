@@ -1,7 +1,7 @@
 -- What a full zone leaves out.
 use Rattle.std.proofs.Common.{◌≡◌, ◌<◌, ◌≤◌, ℕ, List, Option, Some, None, Result, Ok, Err, IfSome, refl, arith, ap, ◌∙◌}
 use Rattle.outside.specs.Shelf.{File}
-use Rattle.outside.specs.Told.{and_then, from_below}
+use Rattle.outside.specs.Faults.{and_then, from_below}
 use Rattle.command_line.specs.Commands.{Told, command_of}
 use Rattle.command_line.specs.Scenes.{ToldScene}
 use Rattle.command_line.specs.declared.command.SceneJob.{SceneJob}

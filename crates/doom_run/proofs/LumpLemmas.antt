@@ -4,7 +4,7 @@ use Rattle.std.specs.List.{slice_get}
 use Rattle.std.proofs.lemmas.List.Elements.{All-get_or}
 use Rattle.std.proofs.lemmas.Option.{slice_get_within, get_or_from_slice_get}
 use Rattle.outside.specs.declared.shelf.FileNo.{FileNo}
-use Rattle.outside.specs.Shelf.{ShelfView, AllStand, IsPieceAt, Stands}
+use Rattle.outside.specs.Shelf.{ShelfView, NameFiles, IsPieceAt, Stands}
 use Rattle.outside.proofs.ShelfLemmas.{stands_at}
 use Rattle.lump_rules.specs.declared.wad.Lump.{Lump}
 use Rattle.lump_rules.specs.Contents.{AllWithin, LiesWithin, file_bytes, lump_bytes}
@@ -12,7 +12,7 @@ use Rattle.lump_rules.specs.Lookups.{lump_at, no_lump}
 
 -- the number of a lump's file stands for the bytes of that file
 pub file_stands : (view : ShelfView) (numbers : List FileNo) (contents : List (List ℕ)) (i : ℕ) (number : FileNo) →
-    AllStand view numbers contents → slice_get numbers i ≡ Some number → Stands view number.0 (file_bytes contents i)
+    NameFiles view numbers contents → slice_get numbers i ≡ Some number → Stands view number.0 (file_bytes contents i)
 file_stands view numbers contents i number stand e =
     let here : get_or numbers i number ≡ number = get_or_from_slice_get numbers i number number e in
     rw here at (stands_at view numbers contents i number stand (slice_get_within numbers i number e))

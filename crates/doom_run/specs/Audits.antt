@@ -1,7 +1,7 @@
 -- How large a zone has to be for a level, or the first step that stops.
 use Rattle.std.specs.Prelude.{ℕ, List, Result, Ok}
 use Rattle.outside.specs.Shelf.{File}
-use Rattle.outside.specs.Told.{and_then}
+use Rattle.outside.specs.Faults.{and_then}
 use Rattle.command_line.specs.Scenes.{ToldScene}
 use Rattle.scene_files.specs.Stops.{Stop}
 use Rattle.scene_rules.specs.declared.ZoneSizes.{ZoneSizes}

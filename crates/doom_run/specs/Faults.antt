@@ -1,5 +1,6 @@
 -- What the faults of a job tell.
-use Rattle.outside.specs.Told.{Told, refused, read_failed, out_of_memory}
+use Rattle.outside.specs.declared.fault.Fault.{Fault}
+use Rattle.outside.specs.declared.fault.Fault.TheVariants.{Refused, ReadFault, OutOfMemory}
 use Rattle.wad_dir.specs.declared.fault.DirFault.{DirFault}
 use Rattle.wad_dir.specs.declared.fault.DirFault.TheVariants as dir
 use Rattle.refusals.specs.declared.refusal.Refusal.{Refusal}
@@ -7,10 +8,10 @@ use Rattle.refusals.specs.declared.refusal.Refusal.TheVariants.{Wad}
 use Rattle.doom_run.specs.declared.fault.Fault.{Fault}
 use Rattle.doom_run.specs.declared.fault.Fault.TheVariants.{Refused, ReadFault, OutOfMemory}
 
-abbrev pub fault_told : Fault → Told Refusal
-fault_told (Refused refusal) = refused refusal
-fault_told ReadFault = read_failed
-fault_told OutOfMemory = out_of_memory
+abbrev pub fault_told : Fault → Fault Refusal
+fault_told (Refused refusal) = Refused refusal
+fault_told ReadFault = ReadFault
+fault_told OutOfMemory = OutOfMemory
 
 -- what a fault of the directory is for a job
 abbrev pub fault_of_dir : DirFault → Fault

@@ -2,7 +2,7 @@
 use Rattle.std.specs.Prelude.{ℕ, ◌+◌, ◌*◌, ◌/◌, ◌%◌, List, [], ◌∷◌, take, slice_index, Option, Some, None, Result, Ok, Err}
 use Rattle.word_rules.specs.Listed.{listed}
 use Rattle.outside.specs.Shelf.{File, file_named}
-use Rattle.outside.specs.Told.{and_then, from_below}
+use Rattle.outside.specs.Faults.{and_then, from_below}
 use Rattle.lump_rules.specs.declared.wad.Lump.{Lump}
 use Rattle.lump_rules.specs.Wads.{directory}
 use Rattle.lump_rules.specs.Lookups.{flat_of}

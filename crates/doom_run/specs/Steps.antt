@@ -28,6 +28,6 @@ StopsAt steady expected ReadFault = IsTrue steady → expected ≡ Err absent
 StopsAt steady expected OutOfMemory = Unit {0}
 
 -- what is told of a call whose steps, with those that ask for files, give `expected`
-pub record Agrees {A B : Type 0} (steady : Bool) (value : B → A) (expected : Result A Stop) (result : Result B Fault) : Type 0 where
+pub record ResultIsOrAbsent {A B : Type 0} (steady : Bool) (value : B → A) (expected : Result A Stop) (result : Result B Fault) : Type 0 where
   pub ok : IfOk result (λ found. expected ≡ Ok (value found))
   pub err : IfErr result (StopsAt steady expected)

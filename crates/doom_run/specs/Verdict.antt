@@ -1,7 +1,7 @@
 -- What a run comes to for its words and the files that are held.
 use Rattle.std.specs.Prelude.{ℕ, zero, List, Result, Ok, Err, codes}
 use Rattle.outside.specs.Shelf.{File}
-use Rattle.outside.specs.Told.{and_then, from_below}
+use Rattle.outside.specs.Faults.{and_then, from_below}
 use Rattle.frame_writer.specs.Ppm.{ppm}
 use Rattle.command_line.specs.Commands.{Told, flat, scene, make, exercise, command_of}
 use Rattle.command_line.specs.Scenes.{ToldScene}

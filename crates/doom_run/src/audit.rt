@@ -1,13 +1,13 @@
 // The job `audit`: how large a zone has to be for a level that is accepted.
 ghost use Rattle.std.specs.Prelude.{◌≡◌, ◌≤◌, ℕ, List, map, IfErr};
-ghost use Rattle.outside.specs.Causes.{Rose};
-ghost use Rattle.outside.specs.Shelf.{File, Follows, Holds};
-ghost use Rattle.outside.specs.Told.{HasCauses};
+ghost use Rattle.outside.specs.Causes.{FaultsRose};
+ghost use Rattle.outside.specs.Shelf.{File, IsLaterShelf, Holds};
+ghost use Rattle.outside.specs.Faults.{HasCauses};
 ghost use Rattle.zone_rules.specs.Zones.{IsZoneSize};
 ghost use Rattle.view_rules.specs.declared.TheConstants.{MIN_SIZE, MAX_SIZE};
 ghost use Rattle.cached_lumps.specs.Calls.{IfFull};
 ghost use Rattle.command_line.specs.Scenes.{told_scene};
-ghost use Rattle.scene_files.specs.Stops.{Agrees};
+ghost use Rattle.scene_files.specs.Stops.{ResultIsOrAbsent};
 ghost use Rattle.scene_load.specs.Faults.{load_told};
 ghost use Rattle.scene_load.specs.Fulls.{IsFullLoad};
 ghost use Rattle.doom_run.specs.Audits.{audit_verdict};
@@ -34,12 +34,12 @@ pub fn prepare_audit<S: Shelf>(
     requires least { MIN_SIZE ≤ level.now.settings.size }
     requires greatest { level.now.settings.size ≤ MAX_SIZE }
     ensures answers { (files : List File) → Holds (S.view shelf.old) files →
-        Agrees load_told (S.view shelf.old).steady (λ sizes. sizes)
+        ResultIsOrAbsent load_told (S.view shelf.old).steady (λ sizes. sizes)
         (audit_verdict (told_scene level.now) (map (λ wad. wad.now) wads.now) files) result }
     ensures full { (files : List File) → Holds (S.view shelf.old) files →
         IfErr result (λ fault. IfFull (load_told fault)
         (IsFullLoad (told_scene level.now) (map (λ wad. wad.now) wads.now) files)) }
-    ensures follows { Follows (S.view shelf.old) (S.view shelf.new) }
+    ensures follows { IsLaterShelf (S.view shelf.old) (S.view shelf.new) }
     ensures causes { HasCauses load_told
         (S.view shelf.old).faults (S.view shelf.new).faults result }
 {
@@ -50,7 +50,7 @@ pub fn prepare_audit<S: Shelf>(
 // Writes the line of an accepted level. Takes no memory.
 pub fn deliver_audit<K: Sink>(sizes: ZoneSizes, out: &mut K) -> Status
     ensures ends { DeliversAt (audited sizes) (K.written out.old) (K.written out.new) result }
-    ensures write_fault { result ≡ Status.WriteFault → Rose (K.faults out.old) (K.faults out.new) }
+    ensures write_fault { result ≡ Status.WriteFault → FaultsRose (K.faults out.old) (K.faults out.new) }
 {
     match put_pair(
         out,

@@ -1,15 +1,16 @@
 // The job `flat`: one PPM of a flat that is tiled over the frame.
 ghost use Rattle.std.specs.Prelude.{◌≡◌, ◌<◌, ◌≤◌, ◌∷◌, [], ℕ, List, length, true, IfOk, IfSome};
 ghost use Rattle.std.specs.Option.{option_map};
-ghost use Rattle.outside.specs.Causes.{Rose};
-ghost use Rattle.outside.specs.Shelf.{AllStand, File, Follows, Holds, Stands};
-ghost use Rattle.outside.specs.Told.{Answers, HasCauses, refused};
+ghost use Rattle.outside.specs.Causes.{FaultsRose};
+ghost use Rattle.outside.specs.Shelf.{NameFiles, File, IsLaterShelf, Holds, Stands};
+ghost use Rattle.outside.specs.declared.fault.Fault.TheVariants.{Refused};
+ghost use Rattle.outside.specs.Faults.{ResultIs, HasCauses};
 ghost use Rattle.lump_rules.specs.Contents.{AllWithin};
 ghost use Rattle.lump_rules.specs.Lookups.{lump_at, flat_of};
 ghost use Rattle.doom_run.specs.Ends.{DeliversAt};
 ghost use Rattle.doom_run.specs.Faults.{fault_told};
 ghost use Rattle.doom_run.specs.Flats.{else_refuse, palette_in, flat_in, picture_in, flat_picture, flat_verdict};
-ghost use Rattle.doom_run.specs.Steps.{Agrees};
+ghost use Rattle.doom_run.specs.Steps.{ResultIsOrAbsent};
 ghost use Rattle.doom_run.specs.Verdict.{tiled_flat};
 
 use crate::drawing::Drawing;
@@ -32,9 +33,9 @@ pub fn prepare_flat<S: Shelf>(
     file: &str,
 ) -> Result<Drawing, Fault>
     ensures answers { (files : List File) → Holds (S.view shelf.old) files →
-        Agrees (S.view shelf.old).steady (λ drawing. drawing)
+        ResultIsOrAbsent (S.view shelf.old).steady (λ drawing. drawing)
         (flat_verdict name.now file.now files) result }
-    ensures follows { Follows (S.view shelf.old) (S.view shelf.new) }
+    ensures follows { IsLaterShelf (S.view shelf.old) (S.view shelf.new) }
     ensures causes { HasCauses fault_told
         (S.view shelf.old).faults (S.view shelf.new).faults result }
 {
@@ -46,7 +47,7 @@ pub fn prepare_flat<S: Shelf>(
 pub fn deliver_flat<K: Sink>(drawing: &Drawing, out: &mut K) -> Status
     ensures ends { DeliversAt (tiled_flat drawing.now) (K.written out.old)
         (K.written out.new) result }
-    ensures write_fault { result ≡ Status.WriteFault → Rose (K.faults out.old) (K.faults out.new) }
+    ensures write_fault { result ≡ Status.WriteFault → FaultsRose (K.faults out.old) (K.faults out.new) }
 {
     match put_ppm(out, drawing.frame(), drawing.playpal()) {
         Ok(()) => Status::Done,
@@ -62,9 +63,9 @@ fn load_flat<S: Shelf>(
     number: FileNo,
 ) -> Result<Drawing, Fault>
     ensures answers { (bytes : List ℕ) → Stands (S.view shelf.old) number.0 bytes →
-        Answers fault_told (S.view shelf.old).steady (λ drawing. drawing)
+        ResultIs fault_told (S.view shelf.old).steady (λ drawing. drawing)
         (flat_picture name.now (bytes ∷ [])) result }
-    ensures follows { Follows (S.view shelf.old) (S.view shelf.new) }
+    ensures follows { IsLaterShelf (S.view shelf.old) (S.view shelf.new) }
     ensures causes { HasCauses fault_told
         (S.view shelf.old).faults (S.view shelf.new).faults result }
 {
@@ -80,10 +81,10 @@ fn draw_flat<S: Shelf>(
     name: &Name8,
 ) -> Result<Drawing, Fault>
     ensures answers { (contents : List (List ℕ)) →
-        AllStand (S.view shelf.old) dir.now.files contents → AllWithin contents dir.now.lumps →
-        Answers fault_told (S.view shelf.old).steady (λ drawing. drawing)
+        NameFiles (S.view shelf.old) dir.now.files contents → AllWithin contents dir.now.lumps →
+        ResultIs fault_told (S.view shelf.old).steady (λ drawing. drawing)
         (picture_in contents name.now dir.now.lumps) result }
-    ensures follows { Follows (S.view shelf.old) (S.view shelf.new) }
+    ensures follows { IsLaterShelf (S.view shelf.old) (S.view shelf.new) }
     ensures causes { HasCauses fault_told
         (S.view shelf.old).faults (S.view shelf.new).faults result }
 {
@@ -95,11 +96,11 @@ fn draw_flat<S: Shelf>(
 // The first palette of a directory.
 fn read_palette<S: Shelf>(alloc: Global, shelf: &mut S, dir: &Directory) -> Result<Vec<u8>, Fault>
     ensures answers { (contents : List (List ℕ)) →
-        AllStand (S.view shelf.old) dir.now.files contents → AllWithin contents dir.now.lumps →
-        Answers fault_told (S.view shelf.old).steady (λ palette. palette.items)
+        NameFiles (S.view shelf.old) dir.now.files contents → AllWithin contents dir.now.lumps →
+        ResultIs fault_told (S.view shelf.old).steady (λ palette. palette.items)
         (palette_in contents dir.now.lumps) result }
     ensures size { IfOk result (λ palette. length palette.items ≡ PALETTE_BYTES) }
-    ensures follows { Follows (S.view shelf.old) (S.view shelf.new) }
+    ensures follows { IsLaterShelf (S.view shelf.old) (S.view shelf.new) }
     ensures causes { HasCauses fault_told
         (S.view shelf.old).faults (S.view shelf.new).faults result }
 {
@@ -115,10 +116,10 @@ fn read_flat<S: Shelf>(
     name: &Name8,
 ) -> Result<Vec<u8>, Fault>
     ensures answers { (contents : List (List ℕ)) →
-        AllStand (S.view shelf.old) dir.now.files contents → AllWithin contents dir.now.lumps →
-        Answers fault_told (S.view shelf.old).steady (λ flat. flat.items)
+        NameFiles (S.view shelf.old) dir.now.files contents → AllWithin contents dir.now.lumps →
+        ResultIs fault_told (S.view shelf.old).steady (λ flat. flat.items)
         (flat_in contents dir.now.lumps name.now) result }
-    ensures follows { Follows (S.view shelf.old) (S.view shelf.new) }
+    ensures follows { IsLaterShelf (S.view shelf.old) (S.view shelf.new) }
     ensures causes { HasCauses fault_told
         (S.view shelf.old).faults (S.view shelf.new).faults result }
 {
@@ -128,7 +129,7 @@ fn read_flat<S: Shelf>(
 
 // The last flat of a name.
 fn find_flat(dir: &Directory, name: &Name8) -> Result<LumpNo, Refusal>
-    ensures answers { Answers (λ refusal. refused refusal) true (λ lump. lump.0)
+    ensures answers { ResultIs (λ refusal. refused refusal) true (λ lump. lump.0)
         (else_refuse (Refusal.Scene SceneRefusal.FlatName) (flat_of dir.now.lumps name.now))
         result }
     ensures there { IfOk result (λ lump. lump.0 < length dir.now.lumps) }

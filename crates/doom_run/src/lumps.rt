@@ -1,8 +1,8 @@
 // Lumps that are read straight from the shelf, without a zone.
 ghost use Rattle.std.specs.Prelude.{◌≡◌, ◌<◌, ◌≤◌, ℕ, List, length, take, Ok, IsTrue, IsOk, IfOk, OnOk, OnErr};
-ghost use Rattle.outside.specs.Causes.{Rose};
-ghost use Rattle.outside.specs.Shelf.{AllStand, Follows};
-ghost use Rattle.outside.specs.Told.{Answers, HasCauses};
+ghost use Rattle.outside.specs.Causes.{FaultsRose};
+ghost use Rattle.outside.specs.Shelf.{NameFiles, IsLaterShelf};
+ghost use Rattle.outside.specs.Faults.{ResultIs, HasCauses};
 ghost use Rattle.lump_rules.specs.Contents.{AllWithin, lump_bytes};
 ghost use Rattle.lump_rules.specs.Lookups.{lump_at};
 ghost use Rattle.doom_run.specs.Faults.{fault_told};
@@ -23,11 +23,11 @@ pub fn read_front<S: Shelf>(
     requires lump { lump.0 < length dir.now.lumps }
     requires within { size ≤ (lump_at dir.now.lumps lump.0).size }
     ensures answers { (contents : List (List ℕ)) →
-        AllStand (S.view shelf.old) dir.now.files contents → AllWithin contents dir.now.lumps →
-        Answers fault_told (S.view shelf.old).steady (λ piece. piece.items)
+        NameFiles (S.view shelf.old) dir.now.files contents → AllWithin contents dir.now.lumps →
+        ResultIs fault_told (S.view shelf.old).steady (λ piece. piece.items)
         (Ok (take size (lump_bytes contents dir.now.lumps lump.0))) result }
     ensures size { IfOk result (λ piece. length piece.items ≡ size) }
-    ensures follows { Follows (S.view shelf.old) (S.view shelf.new) }
+    ensures follows { IsLaterShelf (S.view shelf.old) (S.view shelf.new) }
     ensures causes { HasCauses fault_told
         (S.view shelf.old).faults (S.view shelf.new).faults result }
 {
@@ -46,13 +46,13 @@ fn fill_front<S: Shelf>(
     requires lump { lump.0 < length dir.now.lumps }
     requires within { length piece.old ≤ (lump_at dir.now.lumps lump.0).size }
     ensures bytes { (contents : List (List ℕ)) →
-        AllStand (S.view shelf.old) dir.now.files contents → AllWithin contents dir.now.lumps →
+        NameFiles (S.view shelf.old) dir.now.files contents → AllWithin contents dir.now.lumps →
         OnOk result (piece.new ≡ take (length piece.old)
         (lump_bytes contents dir.now.lumps lump.0)) }
-    ensures follows { Follows (S.view shelf.old) (S.view shelf.new) }
-    ensures failed { OnErr result (Rose (S.view shelf.old).faults (S.view shelf.new).faults) }
+    ensures follows { IsLaterShelf (S.view shelf.old) (S.view shelf.new) }
+    ensures failed { OnErr result (FaultsRose (S.view shelf.old).faults (S.view shelf.new).faults) }
     ensures steady { (contents : List (List ℕ)) →
-        AllStand (S.view shelf.old) dir.now.files contents → AllWithin contents dir.now.lumps →
+        NameFiles (S.view shelf.old) dir.now.files contents → AllWithin contents dir.now.lumps →
         IsTrue (S.view shelf.old).steady → IsOk result }
 {
     if piece.is_empty() {
@@ -70,10 +70,10 @@ pub fn read_lump<S: Shelf>(
 ) -> Result<Vec<u8>, Fault>
     requires { lump.0 < length dir.now.lumps }
     ensures answers { (contents : List (List ℕ)) →
-        AllStand (S.view shelf.old) dir.now.files contents → AllWithin contents dir.now.lumps →
-        Answers fault_told (S.view shelf.old).steady (λ piece. piece.items)
+        NameFiles (S.view shelf.old) dir.now.files contents → AllWithin contents dir.now.lumps →
+        ResultIs fault_told (S.view shelf.old).steady (λ piece. piece.items)
         (Ok (lump_bytes contents dir.now.lumps lump.0)) result }
-    ensures follows { Follows (S.view shelf.old) (S.view shelf.new) }
+    ensures follows { IsLaterShelf (S.view shelf.old) (S.view shelf.new) }
     ensures causes { HasCauses fault_told
         (S.view shelf.old).faults (S.view shelf.new).faults result }
 {

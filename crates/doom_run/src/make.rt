@@ -1,6 +1,6 @@
 // The job `make`: the bytes of a made file, told by a number alone.
 ghost use Rattle.std.specs.Prelude.{◌≡◌, IfOk};
-ghost use Rattle.outside.specs.Causes.{Rose};
+ghost use Rattle.outside.specs.Causes.{FaultsRose};
 ghost use Rattle.command_line.specs.Commands.{IsCountedMake};
 ghost use Rattle.doom_run.specs.Ends.{DeliversAt};
 ghost use Rattle.doom_run.specs.Made.{made_file};
@@ -28,7 +28,7 @@ pub fn prepare_make(alloc: Global, job: MakeJob) -> Result<Vec<u8>, OutOfMemory>
 // Writes the bytes of a made file. Takes no memory.
 pub fn deliver_make<K: Sink>(bytes: &[u8], out: &mut K) -> Status
     ensures ends { DeliversAt (made bytes.now) (K.written out.old) (K.written out.new) result }
-    ensures write_fault { result ≡ Status.WriteFault → Rose (K.faults out.old) (K.faults out.new) }
+    ensures write_fault { result ≡ Status.WriteFault → FaultsRose (K.faults out.old) (K.faults out.new) }
 {
     match out.put(bytes) {
         Ok(()) => Status::Done,

@@ -1,6 +1,6 @@
 // A run, from its words to its status.
 ghost use Rattle.std.specs.Prelude.{◌≡◌, ◌⊎◌, ℕ, Bool, false, List, [], map, Ok, Err, IsTrue, IfSome};
-ghost use Rattle.outside.specs.Causes.{Rose};
+ghost use Rattle.outside.specs.Causes.{FaultsRose};
 ghost use Rattle.outside.specs.Shelf.{File, Holds};
 ghost use Rattle.outside.specs.Sink.{Grew, GrewByPrefix};
 ghost use Rattle.command_line.specs.Commands.{IsCounted, IsCountedMake, command_of, flat, make, scene, told};
@@ -77,7 +77,7 @@ pub fn run<S: Shelf, K: Sink, N: Sink>(
 
     // A fault comes only from the object that counted it.
     ensures read_fault { result ≡ Status.ReadFault →
-        Rose (S.view shelf.old).faults (S.view shelf.new).faults }
+        FaultsRose (S.view shelf.old).faults (S.view shelf.new).faults }
     ensures steady { (files : List File) → result ≡ Status.ReadFault →
         WhereAsked (texts words.now) (Holds (S.view shelf.old) files) →
         IsTrue (S.view shelf.old).steady → verdict (texts words.now) files ≡ Err absent }
@@ -85,7 +85,7 @@ pub fn run<S: Shelf, K: Sink, N: Sink>(
         WhereAsked (texts words.now) (Holds (S.view shelf.old) files) →
         verdict (texts words.now) files ≡ Err absent →
         (result ≡ Status.ReadFault) ⊎ (result ≡ Status.OutOfMemory) }
-    ensures write_fault { result ≡ Status.WriteFault → Rose (K.faults out.old) (K.faults out.new) }
+    ensures write_fault { result ≡ Status.WriteFault → FaultsRose (K.faults out.old) (K.faults out.new) }
 
     // A full zone comes only for a job over a level whose files are in order, and the zone is small.
     ensures zone_full { (files : List File) (wanted widest : ℕ) →
@@ -102,19 +102,19 @@ pub fn run<S: Shelf, K: Sink, N: Sink>(
         WhereAsked (texts words.now) (Holds (S.view shelf.old) files) →
         verdict (texts words.now) files ≡ Ok accepted →
         HasRoom (texts words.now) accepted →
-        WhereAsked (texts words.now) (Rose (S.view shelf.old).faults (S.view shelf.new).faults → ⊥) →
-        (Rose (K.faults out.old) (K.faults out.new) → ⊥) →
+        WhereAsked (texts words.now) (FaultsRose (S.view shelf.old).faults (S.view shelf.new).faults → ⊥) →
+        (FaultsRose (K.faults out.old) (K.faults out.new) → ⊥) →
         (result ≡ end_of accepted) ⊎ (result ≡ Status.OutOfMemory) }
     ensures complete_steady { (files : List File) (accepted : Accepted) →
         WhereAsked (texts words.now) (Holds (S.view shelf.old) files) →
         verdict (texts words.now) files ≡ Ok accepted →
         HasRoom (texts words.now) accepted →
         WhereAsked (texts words.now) (IsTrue (S.view shelf.old).steady) →
-        (Rose (K.faults out.old) (K.faults out.new) → ⊥) →
+        (FaultsRose (K.faults out.old) (K.faults out.new) → ⊥) →
         (result ≡ end_of accepted) ⊎ (result ≡ Status.OutOfMemory) }
 
     // The line of the status is noted, unless the notes fail.
-    ensures noted { (Rose (N.faults notes.old) (N.faults notes.new) → ⊥) →
+    ensures noted { (FaultsRose (N.faults notes.old) (N.faults notes.new) → ⊥) →
         Grew (N.written notes.old) (N.written notes.new) (line_of result) }
     ensures noted_prefix { GrewByPrefix (N.written notes.old) (N.written notes.new)
         (line_of result) }
@@ -136,8 +136,8 @@ fn perform<S: Shelf, K: Sink>(alloc: Global, words: &[String], shelf: &mut S, ou
     ensures wrong_words { (files : List File) → verdict (texts words.now) files ≡ Err usage →
         (result ≡ Status.Usage) ⊎ (result ≡ Status.OutOfMemory) }
     ensures read_fault { result ≡ Status.ReadFault →
-        Rose (S.view shelf.old).faults (S.view shelf.new).faults }
-    ensures write_fault { result ≡ Status.WriteFault → Rose (K.faults out.old) (K.faults out.new) }
+        FaultsRose (S.view shelf.old).faults (S.view shelf.new).faults }
+    ensures write_fault { result ≡ Status.WriteFault → FaultsRose (K.faults out.old) (K.faults out.new) }
     ensures zone_full { (files : List File) (wanted widest : ℕ) →
         result ≡ Status.ZoneFull wanted widest →
         WhereAsked (texts words.now) (Holds (S.view shelf.old) files) →
@@ -169,8 +169,8 @@ fn perform_job<S: Shelf, K: Sink>(
     ensures not_built { (files : List File) → job_verdict (told command.now) files ≡ Err usage →
         result ≡ Status.Usage }
     ensures read_fault { result ≡ Status.ReadFault →
-        Rose (S.view shelf.old).faults (S.view shelf.new).faults }
-    ensures write_fault { result ≡ Status.WriteFault → Rose (K.faults out.old) (K.faults out.new) }
+        FaultsRose (S.view shelf.old).faults (S.view shelf.new).faults }
+    ensures write_fault { result ≡ Status.WriteFault → FaultsRose (K.faults out.old) (K.faults out.new) }
     ensures zone_full { (files : List File) (wanted widest : ℕ) →
         result ≡ Status.ZoneFull wanted widest →
         (IsTrue (asks_for_files (told command.now)) → Holds (S.view shelf.old) files) →
@@ -207,8 +207,8 @@ fn perform_scene<S: Shelf, K: Sink>(
         scene_verdict job (told_scene level.now) (map (λ wad. wad.now) wads.now) files ≡ Err usage →
         result ≡ Status.Usage }
     ensures read_fault { result ≡ Status.ReadFault →
-        Rose (S.view shelf.old).faults (S.view shelf.new).faults }
-    ensures write_fault { result ≡ Status.WriteFault → Rose (K.faults out.old) (K.faults out.new) }
+        FaultsRose (S.view shelf.old).faults (S.view shelf.new).faults }
+    ensures write_fault { result ≡ Status.WriteFault → FaultsRose (K.faults out.old) (K.faults out.new) }
     ensures zone_full { (files : List File) (wanted widest : ℕ) →
         result ≡ Status.ZoneFull wanted widest →
         (IsTrue (scene_asks job) → Holds (S.view shelf.old) files) →
@@ -237,8 +237,8 @@ fn perform_audit<S: Shelf, K: Sink>(
     ensures unwritten { IsUnwritten result → Grew (K.written out.old) (K.written out.new) [] }
     ensures not_usage { result ≡ Status.Usage → ⊥ }
     ensures read_fault { result ≡ Status.ReadFault →
-        Rose (S.view shelf.old).faults (S.view shelf.new).faults }
-    ensures write_fault { result ≡ Status.WriteFault → Rose (K.faults out.old) (K.faults out.new) }
+        FaultsRose (S.view shelf.old).faults (S.view shelf.new).faults }
+    ensures write_fault { result ≡ Status.WriteFault → FaultsRose (K.faults out.old) (K.faults out.new) }
     ensures zone_full { (files : List File) (wanted widest : ℕ) →
         result ≡ Status.ZoneFull wanted widest → Holds (S.view shelf.old) files →
         IsFullLoad (told_scene level.now) (map (λ wad. wad.now) wads.now) files wanted widest }
@@ -262,8 +262,8 @@ fn perform_flat<S: Shelf, K: Sink>(
     ensures unwritten { IsUnwritten result → Grew (K.written out.old) (K.written out.new) [] }
     ensures not_usage { result ≡ Status.Usage → ⊥ }
     ensures read_fault { result ≡ Status.ReadFault →
-        Rose (S.view shelf.old).faults (S.view shelf.new).faults }
-    ensures write_fault { result ≡ Status.WriteFault → Rose (K.faults out.old) (K.faults out.new) }
+        FaultsRose (S.view shelf.old).faults (S.view shelf.new).faults }
+    ensures write_fault { result ≡ Status.WriteFault → FaultsRose (K.faults out.old) (K.faults out.new) }
     ensures zone_full { (wanted widest : ℕ) → result ≡ Status.ZoneFull wanted widest → ⊥ }
 {
     match prepare_flat(alloc, shelf, name, file) {
@@ -279,7 +279,7 @@ fn perform_make<K: Sink>(alloc: Global, job: MakeJob, out: &mut K) -> Status
     ensures unwritten { IsUnwritten result → Grew (K.written out.old) (K.written out.new) [] }
     ensures not_usage { result ≡ Status.Usage → ⊥ }
     ensures not_read { result ≡ Status.ReadFault → ⊥ }
-    ensures write_fault { result ≡ Status.WriteFault → Rose (K.faults out.old) (K.faults out.new) }
+    ensures write_fault { result ≡ Status.WriteFault → FaultsRose (K.faults out.old) (K.faults out.new) }
     ensures zone_full { (wanted widest : ℕ) → result ≡ Status.ZoneFull wanted widest → ⊥ }
 {
     match prepare_make(alloc, job) {

@@ -1,6 +1,6 @@
 -- A ground with the first palette.
 use Rattle.std.specs.Prelude.{ℕ, List, take, Result, Ok}
-use Rattle.outside.specs.Told.{and_then, from_below}
+use Rattle.outside.specs.Faults.{and_then, from_below}
 use Rattle.lump_rules.specs.declared.wad.Lump.{Lump}
 use Rattle.wad_dir.specs.declared.directory.LumpNo.{LumpNo}
 use Rattle.map_rules.specs.Levels.{LevelValue}

@@ -2,8 +2,9 @@
 use Rattle.std.proofs.Common.{◌≡◌, ◌≢◌, ◌≤◌, ◌+◌, ℕ, Bool, List, Result, Ok, Err, sym, ap, subst, ◌∙◌, arith, inl, inr, IsErrAnd, MatchResult}
 use Rattle.std.specs.Prelude.{IfErr, IfOk}
 use Rattle.std.proofs.lemmas.Result.{err_from_is_err_and}
-use Rattle.outside.specs.Shelf.{AllStand, Follows, ShelfView}
-use Rattle.outside.specs.Told.{Answers, Told}
+use Rattle.outside.specs.Shelf.{NameFiles, IsLaterShelf, ShelfView}
+use Rattle.outside.specs.declared.fault.Fault.{Fault}
+use Rattle.outside.specs.Faults.{ResultIs}
 use Rattle.outside.proofs.ShelfLemmas.{all_stand_later}
 use Rattle.lump_rules.specs.Contents.{lump_bytes}
 use Rattle.lump_rules.specs.Lookups.{lump_at}
@@ -16,7 +17,7 @@ use Rattle.lump_cache.specs.declared.fault.CacheFault.{CacheFault}
 use Rattle.lump_cache.specs.declared.fault.CacheFault.TheVariants.{ZoneFull, ReadFault}
 use Rattle.lump_cache.specs.Caches.{IsAtRest, IsFaithful, NoRoom, WhereFull}
 use Rattle.csv_tables.specs.declared.things.ThingLine.{ThingLine}
-use Rattle.cached_lumps.specs.Calls.{IfFull, InOrderAt, IsFullFor, IsTold}
+use Rattle.cached_lumps.specs.Calls.{IfFull, InOrderAt, IsFullFor, HoldContents}
 use Rattle.cached_lumps.specs.Sizes.{HasSizes, StandsBeside}
 use Rattle.cached_lumps.proofs.CallLemmas.{full_at, order_at}
 use Rattle.audit_fault.specs.declared.fault.AuditFault.{AuditFault}
@@ -29,7 +30,7 @@ use Rattle.level_audit.specs.Reads.{IsFullAudit, IsReadLater}
 use Rattle.level_audit.specs.Sound.{SoundValue}
 
 -- the contents are told after a fetch
-pub told_after : {v w : ShelfView} {dir : DirectoryView} {a b : Heap} → Follows v w → ((contents : List (List ℕ)) → AllStand v dir.files contents → IsFaithful contents dir.lumps a → IsFaithful contents dir.lumps b) → (contents : List (List ℕ)) → IsTold v dir a contents → IsTold w dir b contents
+pub told_after : {v w : ShelfView} {dir : DirectoryView} {a b : Heap} → IsLaterShelf v w → ((contents : List (List ℕ)) → NameFiles v dir.files contents → IsFaithful contents dir.lumps a → IsFaithful contents dir.lumps b) → (contents : List (List ℕ)) → HoldContents v dir a contents → HoldContents w dir b contents
 told_after {v} {w} {dir} follows faithful contents told = record {
   stand = all_stand_later v w dir.files contents follows told.stand;
   within = told.within;
@@ -37,7 +38,7 @@ told_after {v} {w} {dir} follows faithful contents told = record {
 }
 
 -- no colormap
-pub answers_none : {B : Type 0} {value : B → SceneValue} (steady : Bool) (expected : Result SceneValue AuditRefusal) (refusal : AuditRefusal) (result : Result B AuditFault) → expected ≡ Err refusal → IsErrAnd result (λ e. e ≡ Refused refusal) → Answers audit_told steady value expected result
+pub answers_none : {B : Type 0} {value : B → SceneValue} (steady : Bool) (expected : Result SceneValue AuditRefusal) (refusal : AuditRefusal) (result : Result B AuditFault) → expected ≡ Err refusal → IsErrAnd result (λ e. e ≡ Refused refusal) → ResultIs audit_told steady value expected result
 answers_none steady expected refusal result e is =
     let s = err_from_is_err_and result is in
     rw (s.1, s.2) (record { ok = tt; err = e })
@@ -66,10 +67,10 @@ full_first v dir a lines name skill colormap wanted widest' is full = record {
   narrow = omega (arith, full.wanted_is, full.widest_is, small_all (block_size (lump_at dir.lumps colormap).size) _ (omega arith) full.none);
 }
 
-module _ {v w : ShelfView} {dir : DirectoryView} {a b : Heap} (later : (contents : List (List ℕ)) → IsTold v dir a contents → IsTold w dir b contents) where
-  pub answers_after : {A B R E : Type 0} {told : E → Told R} {value : B → A} (expected : (ℕ → List ℕ) → Result A R) (result : Result B E) → w.steady ≡ v.steady → ((contents : List (List ℕ)) → IsTold w dir b contents → Answers told w.steady value (expected (lump_bytes contents dir.lumps)) result) →
-      (contents : List (List ℕ)) → IsTold v dir a contents → Answers told v.steady value (expected (lump_bytes contents dir.lumps)) result
-  answers_after {told} {value} expected result steady answers contents t = subst (λ s. Answers told s value (expected (lump_bytes contents dir.lumps)) result) steady (answers contents (later contents t))
+module _ {v w : ShelfView} {dir : DirectoryView} {a b : Heap} (later : (contents : List (List ℕ)) → HoldContents v dir a contents → HoldContents w dir b contents) where
+  pub answers_after : {A B R E : Type 0} {told : E → Fault R} {value : B → A} (expected : (ℕ → List ℕ) → Result A R) (result : Result B E) → w.steady ≡ v.steady → ((contents : List (List ℕ)) → HoldContents w dir b contents → ResultIs told w.steady value (expected (lump_bytes contents dir.lumps)) result) →
+      (contents : List (List ℕ)) → HoldContents v dir a contents → ResultIs told v.steady value (expected (lump_bytes contents dir.lumps)) result
+  answers_after {told} {value} expected result steady answers contents t = subst (λ s. ResultIs told s value (expected (lump_bytes contents dir.lumps)) result) steady (answers contents (later contents t))
 
   -- no room for a later lump
   pub full_after : (lines : List ThingLine) (name : List ℕ) (skill : ℕ) (result : Result SoundValue AuditFault) → IfErr result (λ f. IfFull (audit_told f) (IsFullFor (IsReadLater w dir b lines name skill) dir b)) → IfErr result (λ f. IfFull (audit_told f) (IsFullAudit v dir a lines name skill))
@@ -78,7 +79,7 @@ module _ {v w : ShelfView} {dir : DirectoryView} {a b : Heap} (later : (contents
       full_at (audit_told fault) (λ wanted widest' k. record { lump = k.lump; asked = λ contents t. inr (k.asked contents (later contents t)); wanted_is = k.full.wanted_is; narrow = k.full.narrow }) full
 
 -- a cache that was in order stays so through both
-pub order_after : {R E A : Type 0} {items : List Item} {a b : Heap} {i j : ℕ} (told : E → Told R) (c : Heap) (k : ℕ) (result : Result A E) → KeepsOrder items a b i j → MatchResult result (λ _. KeepsOrder items b c j k) (λ f. InOrderAt (told f) (KeepsOrder items b c j k)) →
+pub order_after : {R E A : Type 0} {items : List Item} {a b : Heap} {i j : ℕ} (told : E → Fault R) (c : Heap) (k : ℕ) (result : Result A E) → KeepsOrder items a b i j → MatchResult result (λ _. KeepsOrder items b c j k) (λ f. InOrderAt (told f) (KeepsOrder items b c j k)) →
     MatchResult result (λ _. KeepsOrder items a c i k) (λ f. InOrderAt (told f) (KeepsOrder items a c i k))
 order_after told c k (Ok found) one two = order_then one two
 order_after told c k (Err fault) one two = order_at (told fault) (λ two. order_then one two) two

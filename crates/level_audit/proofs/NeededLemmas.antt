@@ -17,7 +17,7 @@ use Rattle.zone_rules.proofs.OrderSumLemmas.{block_least}
 use Rattle.wad_dir.specs.DirectoryView.{DirectoryView}
 use Rattle.csv_tables.specs.declared.things.ThingLine.{ThingLine}
 use Rattle.lump_cache.specs.Caches.{IsAtRest}
-use Rattle.cached_lumps.specs.Calls.{IfFull, IsFullFor, IsTold}
+use Rattle.cached_lumps.specs.Calls.{IfFull, IsFullFor, HoldContents}
 use Rattle.cached_lumps.specs.Named.{IsLast}
 use Rattle.cached_lumps.proofs.CallLemmas.{full_at}
 use Rattle.art_rules.specs.declared.TheConstants.{PNAMES, TEXTURE1, TEXTURE2}
@@ -173,7 +173,7 @@ module _ (bytes : ℕ → List ℕ) (lumps : List Lump) (lines : List ThingLine)
       omega (arith, l, same, enough_beside lumps scene wanted block)
 
 -- no room for a later lump, from a zone at rest
-pub enough_after : {w : ShelfView} (dir : DirectoryView) (a b : Heap) (contents : List (List ℕ)) (lines : List ThingLine) (name : List ℕ) (skill : ℕ) (scene : SceneValue) (colormap : ℕ) (result : Result SoundValue AuditFault) → colormap_of dir.lumps ≡ Ok colormap → scene_in (lump_bytes contents dir.lumps) dir.lumps lines name skill ≡ Ok scene → IsTold w dir b contents →
+pub enough_after : {w : ShelfView} (dir : DirectoryView) (a b : Heap) (contents : List (List ℕ)) (lines : List ThingLine) (name : List ℕ) (skill : ℕ) (scene : SceneValue) (colormap : ℕ) (result : Result SoundValue AuditFault) → colormap_of dir.lumps ≡ Ok colormap → scene_in (lump_bytes contents dir.lumps) dir.lumps lines name skill ≡ Ok scene → HoldContents w dir b contents →
     IsAtRest colormap (lump_at dir.lumps colormap).size b → b.size ≡ a.size → IfErr result (λ f. IfFull (audit_told f) (IsFullFor (IsReadLater w dir b lines name skill) dir b)) → IfErr result (λ f. IfFull (audit_told f) (λ wanted widest'. a.size < (sizes_of dir.lumps scene).enough))
 enough_after dir a b contents lines name skill scene colormap (Ok sound) is accepted told rest size full = tt
 enough_after dir a b contents lines name skill scene colormap (Err fault) is accepted told rest size full =

@@ -1,11 +1,11 @@
 -- What rows of weapon layers need, one row at a time, and faults of their book in the words of an audit.
 use Rattle.std.proofs.Common.{◌≡◌, ℕ, zero, suc, ◌+◌, ◌<◌, List, [], ◌∷◌, ◌++◌, length, get_or, take, Result, Ok, Err, refl, sym, subst, ap, ◌∙◌, arith}
-use Rattle.outside.specs.Told.{told_above, from_below}
+use Rattle.outside.specs.Faults.{fault_above, from_below}
 use Rattle.outside.specs.Shelf.{ShelfView}
 use Rattle.lump_rules.specs.declared.wad.Lump.{Lump}
 use Rattle.zone_rules.specs.Zones.{Heap}
 use Rattle.wad_dir.specs.DirectoryView.{DirectoryView}
-use Rattle.cached_lumps.specs.Calls.{Tells}
+use Rattle.cached_lumps.specs.Calls.{ReadsLumps}
 use Rattle.cached_lumps.proofs.CallLemmas.{fault_above, tells_above, tells_wider}
 use Rattle.csv_tables.specs.declared.weapons.WeaponRow.{WeaponRow}
 use Rattle.art_rules.specs.declared.refusal.SpriteRefusal.{SpriteRefusal}
@@ -47,7 +47,7 @@ abbrev pub weapon_art : SpriteRefusal → AuditRefusal
 weapon_art refusal = WeaponArt (weapon_refusal refusal)
 
 -- what a fault tells
-pub weapon_told : (fault : SpriteFault) → audit_told (weapon_fault fault) ≡ told_above weapon_art (sprite_told fault)
+pub weapon_told : (fault : SpriteFault) → audit_told (weapon_fault fault) ≡ fault_above weapon_art (sprite_told fault)
 weapon_told (Refused refusal) = refl
 weapon_told ReadFault = refl
 weapon_told (ZoneFull wanted widest) = refl
@@ -68,8 +68,8 @@ book_above bytes lumps rows needs same =
 
 -- what is told of the book, in the words of an audit
 pub weapons_above : {v w : ShelfView} {dir : DirectoryView} {a b : Heap} (rows : List WeaponRow) (needs : List Need) (result : Result (List Frame) SpriteFault) → needs ≡ weapon_needs rows →
-    Tells sprite_told v w dir a b (IsWanted dir.lumps needs) (λ book. book) (λ bytes. each_of (frame_of bytes dir.lumps) (first_needs needs)) result →
-    Tells audit_told v w dir a b (IsWanted dir.lumps (weapon_needs rows)) (λ book. book) (λ bytes. from_below WeaponArt (weapon_book bytes dir.lumps rows)) (fault_above weapon_fault result)
+    ReadsLumps sprite_told v w dir a b (IsWanted dir.lumps needs) (λ book. book) (λ bytes. each_of (frame_of bytes dir.lumps) (first_needs needs)) result →
+    ReadsLumps audit_told v w dir a b (IsWanted dir.lumps (weapon_needs rows)) (λ book. book) (λ bytes. from_below WeaponArt (weapon_book bytes dir.lumps rows)) (fault_above weapon_fault result)
 weapons_above {dir} rows needs result same told =
     tells_wider (fault_above weapon_fault result) (λ lump wanted. subst (λ (xs : List Need). IsWanted dir.lumps xs lump) same wanted) (λ bytes. book_above bytes dir.lumps rows needs same)
     (tells_above weapon_art weapon_fault weapon_told result told)

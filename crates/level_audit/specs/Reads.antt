@@ -7,7 +7,7 @@ use Rattle.lump_rules.specs.Lookups.{lump_at}
 use Rattle.zone_rules.specs.Zones.{Heap, block_size}
 use Rattle.wad_dir.specs.DirectoryView.{DirectoryView}
 use Rattle.csv_tables.specs.declared.things.ThingLine.{ThingLine}
-use Rattle.cached_lumps.specs.Calls.{IsTold}
+use Rattle.cached_lumps.specs.Calls.{HoldContents}
 use Rattle.scene_rules.specs.Scenes.{Ground, colormap_of, ground_in}
 use Rattle.ground_read.specs.Asked.{IsOfGround}
 use Rattle.scene_read.specs.Asked.{IsOfScene}
@@ -28,11 +28,11 @@ IsReadBy bytes lumps lines name skill lump = (colormap_of lumps ≡ Ok lump) ⊎
 -- the lump is read whatever contents are told
 abbrev pub IsReadLater : ShelfView → DirectoryView → Heap → List ThingLine → List ℕ → ℕ → ℕ → Type 0
 IsReadLater view dir z lines name skill lump =
-    (contents : List (List ℕ)) → IsTold view dir z contents → IsAfterColormap (lump_bytes contents dir.lumps) dir.lumps lines name skill lump
+    (contents : List (List ℕ)) → HoldContents view dir z contents → IsAfterColormap (lump_bytes contents dir.lumps) dir.lumps lines name skill lump
 
 -- no gap held the block of a lump that an audit reads
 pub record IsFullAudit (view : ShelfView) (dir : DirectoryView) (z : Heap) (lines : List ThingLine) (name : List ℕ) (skill wanted widest' : ℕ) : Type 0 where
   pub lump : ℕ
-  pub asked : (contents : List (List ℕ)) → IsTold view dir z contents → IsReadBy (lump_bytes contents dir.lumps) dir.lumps lines name skill lump
+  pub asked : (contents : List (List ℕ)) → HoldContents view dir z contents → IsReadBy (lump_bytes contents dir.lumps) dir.lumps lines name skill lump
   pub wanted_is : wanted ≡ block_size (lump_at dir.lumps lump).size
   pub narrow : widest' < wanted

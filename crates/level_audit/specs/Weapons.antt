@@ -1,6 +1,6 @@
 -- What the rows of a weapon table need, and the book of it.
 use Rattle.std.specs.Prelude.{ℕ, suc, List, [], ◌∷◌, Result}
-use Rattle.outside.specs.Told.{from_below}
+use Rattle.outside.specs.Faults.{from_below}
 use Rattle.lump_rules.specs.declared.wad.Lump.{Lump}
 use Rattle.csv_tables.specs.declared.weapons.WeaponRow.{WeaponRow}
 use Rattle.art_rules.specs.declared.refusal.SpriteRefusal.{SpriteRefusal}

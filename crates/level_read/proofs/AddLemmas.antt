@@ -12,7 +12,7 @@ use Rattle.map_lumps.specs.declared.fault.MapFault.{MapFault}
 use Rattle.map_lumps.specs.declared.fault.MapFault.TheVariants.{Refused, OutOfMemory}
 use Rattle.map_lumps.specs.Builders.{BuilderValue, with_lump}
 use Rattle.lump_cache.specs.Caches.{cache_told}
-use Rattle.cached_lumps.specs.Calls.{Tells, IsTold}
+use Rattle.cached_lumps.specs.Calls.{ReadsLumps, HoldContents}
 use Rattle.cached_lumps.proofs.CallLemmas.{tells_same}
 use Rattle.level_read.specs.declared.fault.LevelFault.{LevelFault}
 use Rattle.level_read.specs.Faults.{level_told, above_map}
@@ -36,10 +36,10 @@ unfolding lump_added unless
 added_of_large b lump bytes refusal e = rw e refl
 
 module _ {v w : ShelfView} {dir : DirectoryView} {a b : Heap} (lump : MapLump) (old new : BuilderValue) (number : ℕ) (live : List ℕ)
-    (fetched : Tells cache_told v w dir a b (λ n. n ≡ number) (λ (done : Unit {0}). done) (λ bytes. Ok tt) (Ok tt)) (known : (contents : List (List ℕ)) → IsTold v dir a contents → live ≡ lump_bytes contents dir.lumps number)
+    (fetched : ReadsLumps cache_told v w dir a b (λ n. n ≡ number) (λ (done : Unit {0}). done) (λ bytes. Ok tt) (Ok tt)) (known : (contents : List (List ℕ)) → HoldContents v dir a contents → live ≡ lump_bytes contents dir.lumps number)
     (r : Result (Unit {0}) MapFault) (sizes : (refusal : MapRefusal) → (r ≡ Err (Refused refusal)) ↔ (size_refusal lump live ≡ Some refusal)) where
   -- the lump was added
-  pub add_passed : r ≡ Ok tt → new ≡ with_lump old lump live → Tells level_told v w dir a b (λ n. n ≡ number) (λ (done : Unit {0}). new) (λ bytes. lump_added old lump (bytes number)) (Ok tt)
+  pub add_passed : r ≡ Ok tt → new ≡ with_lump old lump live → ReadsLumps level_told v w dir a b (λ n. n ≡ number) (λ (done : Unit {0}). new) (λ bytes. lump_added old lump (bytes number)) (Ok tt)
   add_passed was is =
       let small = none_refused (size_refusal lump live) (λ refusal e. let k = (sizes refusal).1 e in cc) in
       record {
@@ -51,7 +51,7 @@ module _ {v w : ShelfView} {dir : DirectoryView} {a b : Heap} (lump : MapLump) (
       }
 
   -- it was not
-  stopped : (fault : MapFault) → r ≡ Err fault → Tells level_told v w dir a b (λ n. n ≡ number) (λ (done : Unit {0}). new) (λ bytes. lump_added old lump (bytes number)) (Err (above_map fault))
+  stopped : (fault : MapFault) → r ≡ Err fault → ReadsLumps level_told v w dir a b (λ n. n ≡ number) (λ (done : Unit {0}). new) (λ bytes. lump_added old lump (bytes number)) (Err (above_map fault))
   stopped (Refused refusal) was = record {
     keeps = fetched.keeps;
     answers = λ contents t. record { ok = tt; err = ap (lump_added old lump) (sym (known contents t)) ∙ added_of_large old lump live refusal ((sizes refusal).0 was) };
@@ -67,5 +67,5 @@ module _ {v w : ShelfView} {dir : DirectoryView} {a b : Heap} (lump : MapLump) (
     order = fetched.order;
   }
 
-  pub add_stopped : (fault : MapFault) (result : Result (Unit {0}) LevelFault) → r ≡ Err fault → IsErrAnd result (λ e. e ≡ above_map fault) → Tells level_told v w dir a b (λ n. n ≡ number) (λ (done : Unit {0}). new) (λ bytes. lump_added old lump (bytes number)) result
+  pub add_stopped : (fault : MapFault) (result : Result (Unit {0}) LevelFault) → r ≡ Err fault → IsErrAnd result (λ e. e ≡ above_map fault) → ReadsLumps level_told v w dir a b (λ n. n ≡ number) (λ (done : Unit {0}). new) (λ bytes. lump_added old lump (bytes number)) result
   add_stopped fault result was is = tells_same result (above_map fault) (λ bytes. lump_added old lump (bytes number)) is (stopped fault was)

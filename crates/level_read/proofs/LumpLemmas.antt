@@ -6,7 +6,7 @@ use Rattle.std.proofs.lemmas.Bool.{cases_eq}
 use Rattle.std.proofs.lemmas.Bool.Decides.{nat_tests}
 use Rattle.std.proofs.lemmas.List.{get_or-map, length-map}
 use Rattle.std.proofs.lemmas.List.FromFn.{get_or-range_with_len, length-range_with_len}
-use Rattle.outside.specs.Told.{and_then}
+use Rattle.outside.specs.Faults.{and_then}
 use Rattle.map_rules.specs.declared.lumps.MapLump.{MapLump}
 use Rattle.map_rules.specs.declared.refusal.MapRefusal.{MapRefusal}
 use Rattle.map_rules.specs.Lumps.{lump_no}

@@ -1,6 +1,6 @@
 -- A builder with some lumps of a map, or the first of them that is too large.
 use Rattle.std.specs.Prelude.{ℕ, suc, ◌+◌, List, [], ◌∷◌, Result, Ok}
-use Rattle.outside.specs.Told.{and_then}
+use Rattle.outside.specs.Faults.{and_then}
 use Rattle.map_rules.specs.declared.lumps.MapLump.{MapLump}
 use Rattle.map_rules.specs.declared.refusal.MapRefusal.{MapRefusal}
 use Rattle.map_rules.specs.Levels.{unless}

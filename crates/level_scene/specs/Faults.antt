@@ -1,9 +1,10 @@
 -- What the faults of a part of a scene tell.
-use Rattle.outside.specs.Told.{Told, refused, out_of_memory}
+use Rattle.outside.specs.declared.fault.Fault.{Fault}
+use Rattle.outside.specs.declared.fault.Fault.TheVariants.{Refused, OutOfMemory}
 use Rattle.scene_rules.specs.declared.refusal.SceneRefusal.{SceneRefusal}
 use Rattle.level_scene.specs.declared.fault.SceneFault.{SceneFault}
 use Rattle.level_scene.specs.declared.fault.SceneFault.TheVariants.{Refused, OutOfMemory}
 
-abbrev pub scene_told : SceneFault → Told SceneRefusal
-scene_told (Refused refusal) = refused refusal
-scene_told OutOfMemory = out_of_memory
+abbrev pub scene_told : SceneFault → Fault SceneRefusal
+scene_told (Refused refusal) = Refused refusal
+scene_told OutOfMemory = OutOfMemory

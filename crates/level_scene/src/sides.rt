@@ -4,7 +4,8 @@
 // `G_DoLoadLevel`, g_game.c.
 ghost use Rattle.std.specs.Prelude.{◌≡◌, ◌<◌, ◌==◌, ◌&&◌, ◌||◌, ℕ, true, not, length, option_map, All, IfOk, IfSome, OnOk};
 ghost use Rattle.std.specs.List.{list_any};
-ghost use Rattle.outside.specs.Told.{Answers, refused};
+ghost use Rattle.outside.specs.declared.fault.Fault.TheVariants.{Refused};
+ghost use Rattle.outside.specs.Faults.{ResultIs};
 ghost use Rattle.scene_rules.specs.Skies.{episode_sky, has_sky, is_digit, is_episode_map, is_numbered_map, is_sky_name, map_number, numbered_sky, shows_sky, sky_name};
 ghost use Rattle.scene_rules.specs.Sides.{is_sky_texture, is_wanted_texture, shows_texture, side_textures, sky_texture, textures_of};
 ghost use Rattle.level_scene.specs.Bounds.{AreBelow, IsNoneOrBelow};
@@ -34,7 +35,7 @@ pub fn number_sides(
     lists: &ListedTextures,
     sides: &[Side],
 ) -> Result<Vec<SideTextures>, SceneFault>
-    ensures answers { Answers scene_told true (λ numbers. numbers.items)
+    ensures answers { ResultIs scene_told true (λ numbers. numbers.items)
         (side_textures lists.now.textures sides.now) result }
     ensures count { IfOk result (λ numbers. length numbers.items ≡ length sides.now) }
     ensures below { IfOk result (λ numbers.
@@ -169,7 +170,7 @@ pub fn find_sky(
     map: &Name8,
     sectors: &[Sector],
 ) -> Result<Option<TexNo>, SceneRefusal>
-    ensures answers { Answers (λ refusal. refused refusal) true
+    ensures answers { ResultIs (λ refusal. refused refusal) true
         (λ sky. option_map (λ tex. tex.0) sky)
         (sky_texture lists.now.textures map.now sectors.now) result }
     ensures there { IfOk result (λ sky. IfSome sky (λ tex. tex.0 < length lists.now.textures)) }

@@ -3,7 +3,7 @@ use Rattle.std.proofs.Common.{◌≡◌, ℕ, zero, suc, ◌<◌, Bool, true, fa
 use Rattle.std.specs.Prelude.{IfSome, option_and_then, ◌⊎◌, slice_get}
 use Rattle.std.proofs.lemmas.Bool.{ne_eqb, cases_eq}
 use Rattle.outside.specs.declared.shelf.FileNo.{FileNo}
-use Rattle.outside.specs.Shelf.{ShelfView, AllStand, IsPieceAt}
+use Rattle.outside.specs.Shelf.{ShelfView, NameFiles, IsPieceAt}
 use Rattle.lump_rules.specs.declared.wad.Lump.{Lump}
 use Rattle.lump_rules.specs.Lookups.{lump_at}
 use Rattle.lump_rules.specs.Contents.{lump_bytes, file_bytes}
@@ -15,7 +15,7 @@ use Rattle.zone_rules.proofs.OwnerLemmas.{owned_block-map, retag_held}
 use Rattle.lump_cache.specs.Caches.{KeptOrPurged, IsFaithful, lump_owner, with_tag_unless_static, holds_static, release_heap, released_heap}
 
 -- the file of a lump stands for its bytes
-pub file_stands : (view : ShelfView) (numbers : List FileNo) (contents : List (List ℕ)) (k : ℕ) (number : FileNo) → AllStand view numbers contents → slice_get numbers k ≡ Some number → view.file number.0 ≡ Some (file_bytes contents k)
+pub file_stands : (view : ShelfView) (numbers : List FileNo) (contents : List (List ℕ)) (k : ℕ) (number : FileNo) → NameFiles view numbers contents → slice_get numbers k ≡ Some number → view.file number.0 ≡ Some (file_bytes contents k)
 file_stands view [] contents k number a e = cc
 file_stands view (n ∷ ns) [] k number a e = absurd a
 file_stands view (n ∷ ns) (c ∷ cs) zero number a e = let s : n ≡ number = cc in subst (λ (m : FileNo). view.file m.0 ≡ Some c) s a.0
@@ -45,7 +45,7 @@ none_bytes o bs Q e = subst (λ x. IfSome (bytes_in x) Q) (sym e) tt
 pub some_bytes : (o : Owner) (bs : List Block) (xs : List ℕ) (Q : List ℕ → Type 0) → bytes_of o bs ≡ Some xs → Q xs → IfSome (bytes_of o bs) Q
 some_bytes o bs xs Q e q = subst (λ x. IfSome x Q) (sym e) q
 
-pub filled_lump : (contents : List (List ℕ)) (lumps : List Lump) (view : ShelfView) (numbers : List FileNo) (n : ℕ) (number : FileNo) (place : ℕ) (w : List ℕ) → AllStand view numbers contents → slice_get numbers (lump_at lumps n).file ≡ Some number → place ≡ (lump_at lumps n).place → length w ≡ (lump_at lumps n).size
+pub filled_lump : (contents : List (List ℕ)) (lumps : List Lump) (view : ShelfView) (numbers : List FileNo) (n : ℕ) (number : FileNo) (place : ℕ) (w : List ℕ) → NameFiles view numbers contents → slice_get numbers (lump_at lumps n).file ≡ Some number → place ≡ (lump_at lumps n).place → length w ≡ (lump_at lumps n).size
     → IfSome (view.file number.0) (λ bytes. IsPieceAt bytes place w) → w ≡ lump_bytes contents lumps n
 filled_lump contents lumps view numbers n number place w a s p len says =
     let e = file_stands view numbers contents (lump_at lumps n).file number a s in

@@ -8,7 +8,7 @@ use Rattle.zone_rules.specs.declared.Tag.TheVariants.{Static, Level, Cache}
 use Rattle.zone_rules.specs.Zones.{Owner, Holding, Block, Heap, owned_block, holding_of, same_owner, is_held_by, is_pinned, pins, is_purgeable_tag}
 use Rattle.zone_rules.specs.Frees.{with_tag, retag_block, set_tag, with_bytes, write_block, write_holding}
 use Rattle.zone_rules.proofs.OwnerLemmas.{owner_eq, owned_block-map, owned_retagged_others, owned_written_others, retag_held, write_held}
-use Rattle.lump_cache.specs.Caches.{KeptOrPurged, IsAtRest, IsAtRestBut, IsUnpinned, IsPinned, HasBlock, HasUse, lump_owner, with_tag_unless_static, holds_static, is_static_tag, release_heap, released_heap}
+use Rattle.lump_cache.specs.Caches.{KeptOrPurged, IsAtRest, IsAtRestExcept, IsUnpinned, IsPinned, HasBlock, HasUse, lump_owner, with_tag_unless_static, holds_static, is_static_tag, release_heap, released_heap}
 use Rattle.lump_cache.proofs.FillLemmas.{same_refl}
 use Rattle.lump_cache.proofs.RestLemmas.{kept_unpinned, kept_static, static_held}
 
@@ -29,10 +29,10 @@ unpinned_passing (Some b) u = go b.holding u where
   go (Some h) u = tag h.tag u
 
 -- at rest is at rest but for nobody
-pub rest_but_none : (colormap size : ℕ) (z : Heap) → IsAtRest colormap size z → IsAtRestBut colormap size [] z
+pub rest_but_none : (colormap size : ℕ) (z : Heap) → IsAtRest colormap size z → IsAtRestExcept colormap size [] z
 rest_but_none colormap size z r = record { block = r.block; is = r.is; place = r.place; static = r.pinned; others = λ o h n. r.others o h; passing = λ o h. unpinned_passing (owned_block o z.blocks) (r.others o h) }
 
-pub rest_of_none : (colormap size : ℕ) (z : Heap) → IsAtRestBut colormap size [] z → IsAtRest colormap size z
+pub rest_of_none : (colormap size : ℕ) (z : Heap) → IsAtRestExcept colormap size [] z → IsAtRest colormap size z
 rest_of_none colormap size z r = record { block = r.block; is = r.is; place = r.place; pinned = r.static; others = λ o h. r.others o h refl }
 
 owner_flip : (a b : Owner) → same_owner a b ≡ false → same_owner b a ≡ false
@@ -57,7 +57,7 @@ passing_after (Ok x) tag size b t k e = block b k where
   block (Some b) k = use' b.holding k
 
 -- an owner that is pinned for the whole run is the colormap's
-pub not_colormap : (colormap size : ℕ) (pinned : List Owner) (z : Heap) (l : Owner) → IsAtRestBut colormap size pinned z → holds_static (holding_of l z.blocks) ≡ false → same_owner l (lump_owner colormap) ≡ false
+pub not_colormap : (colormap size : ℕ) (pinned : List Owner) (z : Heap) (l : Owner) → IsAtRestExcept colormap size pinned z → holds_static (holding_of l z.blocks) ≡ false → same_owner l (lump_owner colormap) ≡ false
 not_colormap colormap size pinned z l rest s = go (same_owner l (lump_owner colormap)) refl where
   go : (t : Bool) → same_owner l (lump_owner colormap) ≡ t → t ≡ false
   go true e =
@@ -66,7 +66,7 @@ not_colormap colormap size pinned z l rest s = go (same_owner l (lump_owner colo
   go false e = refl
 
 -- one owner beside the colormap's has another block, or none, and the others are kept or purged
-module _ (colormap size : ℕ) (pinned : List Owner) (old new : Heap) (l : Owner) (apart : same_owner l (lump_owner colormap) ≡ false) (others : (o : Owner) → same_owner l o ≡ false → KeptOrPurged (owned_block o old.blocks) (owned_block o new.blocks)) (rest : IsAtRestBut colormap size pinned old) where
+module _ (colormap size : ℕ) (pinned : List Owner) (old new : Heap) (l : Owner) (apart : same_owner l (lump_owner colormap) ≡ false) (others : (o : Owner) → same_owner l o ≡ false → KeptOrPurged (owned_block o old.blocks) (owned_block o new.blocks)) (rest : IsAtRestExcept colormap size pinned old) where
   colormap_stays : owned_block (lump_owner colormap) new.blocks ≡ Some rest.block
   colormap_stays = kept_static size rest.block (owned_block (lump_owner colormap) new.blocks) rest.static (subst (λ x. KeptOrPurged x (owned_block (lump_owner colormap) new.blocks)) rest.is (others (lump_owner colormap) apart))
 
@@ -76,7 +76,7 @@ module _ (colormap size : ℕ) (pinned : List Owner) (old new : Heap) (l : Owner
     go true e = ap (λ (q : Owner). static_in (owned_block q new.blocks)) (sym (owner_eq l o e)) ∙ s
     go false e = kept_passing (owned_block o old.blocks) (owned_block o new.blocks) (others o e) (rest.passing o h)
 
-  pub rest_but_more : static_in (owned_block l new.blocks) ≡ false → IsAtRestBut colormap size (l ∷ pinned) new
+  pub rest_but_more : static_in (owned_block l new.blocks) ≡ false → IsAtRestExcept colormap size (l ∷ pinned) new
   rest_but_more s = record {
     block = rest.block;
     is = colormap_stays;
@@ -86,7 +86,7 @@ module _ (colormap size : ℕ) (pinned : List Owner) (old new : Heap) (l : Owner
     passing = passing_stays s;
   }
 
-  pub rest_but_same : IsUnpinned (owned_block l new.blocks) → IsAtRestBut colormap size pinned new
+  pub rest_but_same : IsUnpinned (owned_block l new.blocks) → IsAtRestExcept colormap size pinned new
   rest_but_same u = record {
     block = rest.block;
     is = colormap_stays;
@@ -99,12 +99,12 @@ module _ (colormap size : ℕ) (pinned : List Owner) (old new : Heap) (l : Owner
     go o h n true e = subst (λ (q : Owner). IsUnpinned (owned_block q new.blocks)) (owner_eq l o e) u
     go o h n false e = kept_unpinned (owned_block o old.blocks) (owned_block o new.blocks) (others o e) (rest.others o h n)
 
-pub rest_but_wider : (colormap size : ℕ) (pinned : List Owner) (z : Heap) (l : Owner) → IsAtRestBut colormap size pinned z → IsAtRestBut colormap size (l ∷ pinned) z
+pub rest_but_wider : (colormap size : ℕ) (pinned : List Owner) (z : Heap) (l : Owner) → IsAtRestExcept colormap size pinned z → IsAtRestExcept colormap size (l ∷ pinned) z
 rest_but_wider colormap size pinned z l r =
     record { block = r.block; is = r.is; place = r.place; static = r.static; others = λ o h n. r.others o h (or_parts (same_owner o l) (list_any (same_owner o) pinned) n).1; passing = r.passing }
 
 -- a list without an owner that is not pinned
-pub rest_but_fewer : (colormap size : ℕ) (pinned : List Owner) (z : Heap) (l : Owner) → (same_owner (lump_owner colormap) l ≡ false → IsUnpinned (owned_block l z.blocks)) → IsAtRestBut colormap size (l ∷ pinned) z → IsAtRestBut colormap size pinned z
+pub rest_but_fewer : (colormap size : ℕ) (pinned : List Owner) (z : Heap) (l : Owner) → (same_owner (lump_owner colormap) l ≡ false → IsUnpinned (owned_block l z.blocks)) → IsAtRestExcept colormap size (l ∷ pinned) z → IsAtRestExcept colormap size pinned z
 rest_but_fewer colormap size pinned z l u r = record { block = r.block; is = r.is; place = r.place; static = r.static; others = λ o h n. go o h n (same_owner o l) refl; passing = r.passing } where
   go : (o : Owner) → same_owner (lump_owner colormap) o ≡ false → list_any (same_owner o) pinned ≡ false → (t : Bool) → same_owner o l ≡ t → IsUnpinned (owned_block o z.blocks)
   go o h n true e = let k = owner_eq o l e in subst (λ (q : Owner). IsUnpinned (owned_block q z.blocks)) (sym k) (u (ap (same_owner (lump_owner colormap)) (sym k) ∙ h))
@@ -147,23 +147,23 @@ empty_unpinned None e = tt
 empty_unpinned (Some b) e = ap pins e
 
 module _ (colormap size : ℕ) (l : Owner) (old : Heap) where
-  pub rest_but_retag : (tag : Tag) (pinned : List Owner) → is_static_tag tag ≡ false → IsAtRestBut colormap size pinned old → IsAtRestBut colormap size (l ∷ pinned) (with_tag_unless_static l tag old)
+  pub rest_but_retag : (tag : Tag) (pinned : List Owner) → is_static_tag tag ≡ false → IsAtRestExcept colormap size pinned old → IsAtRestExcept colormap size (l ∷ pinned) (with_tag_unless_static l tag old)
   rest_but_retag tag pinned t rest = go (holds_static (holding_of l old.blocks)) refl where
-    go : (s : Bool) → holds_static (holding_of l old.blocks) ≡ s → IsAtRestBut colormap size (l ∷ pinned) (cond s old (with_tag l tag old))
+    go : (s : Bool) → holds_static (holding_of l old.blocks) ≡ s → IsAtRestExcept colormap size (l ∷ pinned) (cond s old (with_tag l tag old))
     go true s = rest_but_wider colormap size pinned old l rest
     go false s =
         rest_but_more colormap size pinned old (with_tag l tag old) l (not_colormap colormap size pinned old l rest s) (λ o e. inl (owned_retagged_others o l tag e old.blocks)) rest (retag_passing l tag old.blocks t)
 
   -- a release
-  pub rest_but_released : (pinned : List Owner) → IsAtRestBut colormap size (l ∷ pinned) old → IsAtRestBut colormap size pinned (release_heap l old)
+  pub rest_but_released : (pinned : List Owner) → IsAtRestExcept colormap size (l ∷ pinned) old → IsAtRestExcept colormap size pinned (release_heap l old)
   rest_but_released pinned rest = go (holding_of l old.blocks) refl where
-    inner : (s : Bool) → holds_static (holding_of l old.blocks) ≡ s → IsAtRestBut colormap size pinned (cond s old (with_tag l Cache old))
+    inner : (s : Bool) → holds_static (holding_of l old.blocks) ≡ s → IsAtRestExcept colormap size pinned (cond s old (with_tag l Cache old))
     inner true s = rest_but_fewer colormap size pinned old l (λ h. absurd (false≢true (sym (rest.passing l h) ∙ s))) rest
     inner false s =
         rest_but_fewer colormap size pinned (with_tag l Cache old) l (λ h. cached_unpinned l old.blocks)
         (rest_but_same colormap size (l ∷ pinned) old (with_tag l Cache old) l (not_colormap colormap size (l ∷ pinned) old l rest s) (λ o e. inl (owned_retagged_others o l Cache e old.blocks)) rest (cached_unpinned l old.blocks))
 
-    go : (h : Option Holding) → holding_of l old.blocks ≡ h → IsAtRestBut colormap size pinned (released_heap l old h)
+    go : (h : Option Holding) → holding_of l old.blocks ≡ h → IsAtRestExcept colormap size pinned (released_heap l old h)
     go None e = rest_but_fewer colormap size pinned old l (λ h. empty_unpinned (owned_block l old.blocks) e) rest
     go (Some h) e = inner (holds_static (holding_of l old.blocks)) refl
 
@@ -207,7 +207,7 @@ module _ (l : Owner) (w : List ℕ) where
   write_is : (o : Owner) (bs : List Block) → owned_block o (map (write_block l w) bs) ≡ option_map (write_block l w) (owned_block o bs)
   write_is o bs = owned_block-map o (write_block l w) (λ b. write_held o l w b) bs
 
-  pub rest_but_written : (colormap size : ℕ) (pinned : List Owner) (z : Heap) → same_owner l (lump_owner colormap) ≡ false → IsAtRestBut colormap size pinned z → IsAtRestBut colormap size pinned (with_bytes l w z)
+  pub rest_but_written : (colormap size : ℕ) (pinned : List Owner) (z : Heap) → same_owner l (lump_owner colormap) ≡ false → IsAtRestExcept colormap size pinned z → IsAtRestExcept colormap size pinned (with_bytes l w z)
   rest_but_written colormap size pinned z apart r = record {
     block = r.block;
     is = owned_written_others (lump_owner colormap) l w apart z.blocks ∙ r.is;

@@ -9,7 +9,7 @@ use Rattle.zone_rules.proofs.GapLemmas.{total-cons}
 use Rattle.zone_rules.proofs.OwnerLemmas.{owner_eq, none_owned, lacks_held}
 use Rattle.lump_cache.specs.declared.fault.CacheFault.{CacheFault}
 use Rattle.lump_cache.specs.declared.fault.CacheFault.TheVariants.{ZoneFull, ReadFault}
-use Rattle.lump_cache.specs.Caches.{IsAtRestBut, HasAsked, IsUnpinned, WhereFull, NoRoom, lump_owner}
+use Rattle.lump_cache.specs.Caches.{IsAtRestExcept, HasAsked, IsUnpinned, WhereFull, NoRoom, lump_owner}
 use Rattle.lump_cache.proofs.RoomLemmas.{AllSmall, AllOpen, OthersOpen, Behind, first_small, open_small, gaps_behind, owner_turned, others_behind, front_open, all_open, asked_size, behind}
 
 open-append : (xs ys : List Block) → AllOpen xs → AllOpen ys → AllOpen (xs ++ ys)
@@ -71,7 +71,7 @@ two_gaps w b bs some r k = go (is_pinned b) refl where
       omega (arith, s, e)
 
 -- a zone at rest but for a block of so many bytes
-module _ (colormap size : ℕ) (o : Owner) (asked : ℕ) (z : Heap) (rest : IsAtRestBut colormap size (o ∷ []) z) (apart : same_owner (lump_owner colormap) o ≡ false) where
+module _ (colormap size : ℕ) (o : Owner) (asked : ℕ) (z : Heap) (rest : IsAtRestExcept colormap size (o ∷ []) z) (apart : same_owner (lump_owner colormap) o ≡ false) where
   -- behind the colormap's block no other than the owner's is pinned
   others_open : (r : Behind (lump_owner colormap) size z) → OthersOpen o r.rest
   others_open r q h = go (same_owner (lump_owner colormap) q) refl where
@@ -93,7 +93,7 @@ module _ (colormap size : ℕ) (o : Owner) (asked : ℕ) (z : Heap) (rest : IsAt
             omega (arith, few, large, r.sum)
 
 -- the same of a call that found no room
-pub room_but_where : (result : Result (Unit {0}) CacheFault) (n : ℕ) (z : Heap) → IsSound z → WhereFull result (NoRoom n z) → (colormap size : ℕ) (o : Owner) (asked : ℕ) → IsAtRestBut colormap size (o ∷ []) z → same_owner (lump_owner colormap) o ≡ false → HasAsked asked (owned_block o z.blocks)
+pub room_but_where : (result : Result (Unit {0}) CacheFault) (n : ℕ) (z : Heap) → IsSound z → WhereFull result (NoRoom n z) → (colormap size : ℕ) (o : Owner) (asked : ℕ) → IsAtRestExcept colormap size (o ∷ []) z → same_owner (lump_owner colormap) o ≡ false → HasAsked asked (owned_block o z.blocks)
     → WhereFull result (λ wanted widest'. z.size < block_size size + block_size asked + 2 * wanted + 128)
 room_but_where (Ok done) n z sound full colormap size o asked rest apart has = tt
 room_but_where (Err (ZoneFull wanted widest')) n z sound full colormap size o asked rest apart has =

@@ -7,7 +7,8 @@ use Rattle.zone_rules.specs.declared.Tag.{Tag}
 use Rattle.zone_rules.specs.declared.Tag.TheVariants.{Static, Level, Cache}
 use Rattle.zone_rules.specs.Zones.{Owner, Holding, Block, Heap, owner_at, owned_block, bytes_of, same_owner, is_pinned, is_purgeable, holding_of, block_size}
 use Rattle.zone_rules.specs.Requests.{gaps, widest, total, TakesBlock}
-use Rattle.outside.specs.Told.{Told, zone_full, read_failed}
+use Rattle.outside.specs.declared.fault.Fault.{Fault}
+use Rattle.outside.specs.declared.fault.Fault.TheVariants.{ZoneFull, ReadFault}
 use Rattle.lump_cache.specs.declared.fault.CacheFault.{CacheFault}
 use Rattle.lump_cache.specs.declared.fault.CacheFault.TheVariants.{ZoneFull, ReadFault}
 use Rattle.zone_rules.specs.Frees.{with_bytes, with_tag, without_block}
@@ -80,7 +81,7 @@ holds_static None = false
 holds_static (Some h) = is_static_tag h.tag
 
 -- at rest, but that the blocks of some owners may be pinned too, though not for the whole run
-pub record IsAtRestBut (colormap size : ℕ) (pinned : List Owner) (z : Heap) : Type 0 where
+pub record IsAtRestExcept (colormap size : ℕ) (pinned : List Owner) (z : Heap) : Type 0 where
   pub block : Block
   pub is : owned_block (lump_owner colormap) z.blocks ≡ Some block
   pub place : block.place ≡ 0
@@ -146,6 +147,6 @@ abbrev pub HasAsked : ℕ → Option Block → Type 0
 HasAsked size None = ⊥
 HasAsked size (Some b) = IsAsked size b.holding
 
-abbrev pub cache_told : CacheFault → Told ⊥
-cache_told (ZoneFull wanted widest) = zone_full wanted widest
-cache_told ReadFault = read_failed
+abbrev pub cache_told : CacheFault → Fault ⊥
+cache_told (ZoneFull wanted widest) = ZoneFull wanted widest
+cache_told ReadFault = ReadFault

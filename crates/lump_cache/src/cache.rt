@@ -7,8 +7,8 @@ ghost use Rattle.std.specs.Borrow.{sem};
 ghost use Rattle.zone_heap.specs.Calls.{PairCalled};
 ghost use Rattle.zone_rules.specs.declared.Tag.TheVariants.{Static, Level, Cache};
 ghost use Rattle.zone_rules.specs.declared.TheConstants.{MIN_FRAGMENT};
-ghost use Rattle.outside.specs.Shelf.{Follows, AllStand, counted};
-ghost use Rattle.outside.specs.Told.{Answers, HasCauses};
+ghost use Rattle.outside.specs.Shelf.{IsLaterShelf, NameFiles, counted};
+ghost use Rattle.outside.specs.Faults.{ResultIs, HasCauses};
 ghost use Rattle.lump_rules.specs.Lookups.{lump_at};
 ghost use Rattle.lump_rules.specs.Contents.{lump_bytes, AllWithin};
 ghost use Rattle.lump_rules.specs.declared.wad.Lump.{Lump};
@@ -17,7 +17,7 @@ ghost use Rattle.zone_rules.specs.Requests.{gaps, total, widest, without_room, T
 ghost use Rattle.zone_rules.specs.Frees.{without_block, with_bytes};
 ghost use Rattle.zone_rules.specs.Loans.{after_loan};
 ghost use Rattle.zone_rules.specs.Orders.{Item, has_item, AreRoomy, IsInOrder, KeepsOrder};
-ghost use Rattle.lump_cache.specs.Caches.{lump_owner, composite_owner, with_tag_unless_static, release_heap, is_static_tag, is_full, WhereFull, LeftBy, GivesBack, NoRoom, HasBlock, HasAsked, KeptOrPurged, IsFaithful, IsAtRest, IsAtRestBut, IsEmpty, IsPinned, KeepsCounts, cache_told};
+ghost use Rattle.lump_cache.specs.Caches.{lump_owner, composite_owner, with_tag_unless_static, release_heap, is_static_tag, is_full, WhereFull, LeftBy, GivesBack, NoRoom, HasBlock, HasAsked, KeptOrPurged, IsFaithful, IsAtRest, IsAtRestExcept, IsEmpty, IsPinned, KeepsCounts, cache_told};
 
 use crate::fault::CacheFault;
 use crate::read::{lump_slot, read_into};
@@ -60,12 +60,12 @@ fn take_and_read<S: Shelf>(
     ensures others { (o : Owner) → same_owner (lump_owner lump.0) o ≡ false → KeptOrPurged (owned_block o zone.old.blocks) (owned_block o zone.new.blocks) }
     ensures sound { IsSound zone.new }
     ensures counts { KeepsCounts zone.old zone.new }
-    ensures follows { Follows (S.view shelf.old) (S.view shelf.new) }
+    ensures follows { IsLaterShelf (S.view shelf.old) (S.view shelf.new) }
     ensures causes { HasCauses cache_told (S.view shelf.old).faults (S.view shelf.new).faults result }
-    ensures bytes { (contents : List (List ℕ)) → AllStand (S.view shelf.old) dir.now.files contents → IfSome (bytes_of (lump_owner lump.0) zone.new.blocks) (λ xs. xs ≡ lump_bytes contents dir.now.lumps lump.0) }
+    ensures bytes { (contents : List (List ℕ)) → NameFiles (S.view shelf.old) dir.now.files contents → IfSome (bytes_of (lump_owner lump.0) zone.new.blocks) (λ xs. xs ≡ lump_bytes contents dir.now.lumps lump.0) }
     ensures taken { OnOk result (0 < (lump_at dir.now.lumps lump.0).size → (S.view shelf.new).taken ≡ counted (S.view shelf.old).taken (lump_at dir.now.lumps lump.0).size) }
     ensures untouched { (lump_at dir.now.lumps lump.0).size ≡ 0 → shelf.new ≡ shelf.old }
-    ensures answers { (contents : List (List ℕ)) → AllStand (S.view shelf.old) dir.now.files contents → AllWithin contents dir.now.lumps → Answers cache_told (S.view shelf.old).steady (λ done. done) (Ok tt) result }
+    ensures answers { (contents : List (List ℕ)) → NameFiles (S.view shelf.old) dir.now.files contents → AllWithin contents dir.now.lumps → ResultIs cache_told (S.view shelf.old).steady (λ done. done) (Ok tt) result }
     ensures order { (items : List Item) → has_item items (lump_owner lump.0) (lump_at dir.now.lumps lump.0).size ≡ true → IsInOrder items zone.old → (is_full result ≡ false) × OnOk result (KeepsOrder items zone.old zone.new (S.view shelf.old).taken (S.view shelf.new).taken) }
     ensures first { tag ≡ Static → IsEmpty zone.old → OnOk result (IsAtRest lump.0 (lump_at dir.now.lumps lump.0).size zone.new) }
 {
@@ -109,7 +109,7 @@ fn fetch_lump<S: Shelf>(
     ensures hit { IsLive zone.old (lump_owner lump.0) → (result ≡ Ok tt) × (shelf.new ≡ shelf.old) × (zone.new ≡ with_tag_unless_static (lump_owner lump.0) tag zone.old) }
     ensures full { WhereFull result (NoRoom (lump_at dir.now.lumps lump.0).size zone.old) }
     ensures room { (colormap size : ℕ) → IsAtRest colormap size zone.old → WhereFull result (λ wanted widest'. zone.old.size < block_size size + wanted + MIN_FRAGMENT) }
-    ensures room_but { (colormap count : ℕ) (o : Owner) (asked : ℕ) → IsAtRestBut colormap count (o ∷ []) zone.old → same_owner (lump_owner colormap) o ≡ false → HasAsked asked (owned_block o zone.old.blocks) → WhereFull result (λ wanted widest'. zone.old.size < block_size count + block_size asked + 2 * wanted + 2 * MIN_FRAGMENT) }
+    ensures room_but { (colormap count : ℕ) (o : Owner) (asked : ℕ) → IsAtRestExcept colormap count (o ∷ []) zone.old → same_owner (lump_owner colormap) o ≡ false → HasAsked asked (owned_block o zone.old.blocks) → WhereFull result (λ wanted widest'. zone.old.size < block_size count + block_size asked + 2 * wanted + 2 * MIN_FRAGMENT) }
     ensures full_where { IsNone (holding_of (lump_owner lump.0) zone.old.blocks) → All (λ g. total g < block_size (lump_at dir.now.lumps lump.0).size) (gaps zone.old.blocks) → is_full result ≡ true }
     ensures block { OnOk result (IsNone (holding_of (lump_owner lump.0) zone.old.blocks) → HasBlock tag (lump_at dir.now.lumps lump.0).size (owned_block (lump_owner lump.0) zone.new.blocks)) }
     ensures ok { OnOk result (IsNone (holding_of (lump_owner lump.0) zone.old.blocks) → TakesBlock zone.old zone.new (lump_owner lump.0) (lump_at dir.now.lumps lump.0).size tag) }
@@ -118,17 +118,17 @@ fn fetch_lump<S: Shelf>(
     ensures others { (o : Owner) → same_owner (lump_owner lump.0) o ≡ false → KeptOrPurged (owned_block o zone.old.blocks) (owned_block o zone.new.blocks) }
     ensures sound { IsSound zone.new }
     ensures counts { KeepsCounts zone.old zone.new }
-    ensures follows { Follows (S.view shelf.old) (S.view shelf.new) }
+    ensures follows { IsLaterShelf (S.view shelf.old) (S.view shelf.new) }
     ensures causes { HasCauses cache_told (S.view shelf.old).faults (S.view shelf.new).faults result }
-    ensures faithful { (contents : List (List ℕ)) → AllStand (S.view shelf.old) dir.now.files contents → IsFaithful contents dir.now.lumps zone.old → IsFaithful contents dir.now.lumps zone.new }
+    ensures faithful { (contents : List (List ℕ)) → NameFiles (S.view shelf.old) dir.now.files contents → IsFaithful contents dir.now.lumps zone.old → IsFaithful contents dir.now.lumps zone.new }
     ensures rest { (colormap size : ℕ) → tag ≡ Cache → IsAtRest colormap size zone.old → IsAtRest colormap size zone.new }
     ensures taken { OnOk result (IsNone (holding_of (lump_owner lump.0) zone.old.blocks) → 0 < (lump_at dir.now.lumps lump.0).size → (S.view shelf.new).taken ≡ counted (S.view shelf.old).taken (lump_at dir.now.lumps lump.0).size) }
     ensures untouched { (lump_at dir.now.lumps lump.0).size ≡ 0 → shelf.new ≡ shelf.old }
-    ensures answers { (contents : List (List ℕ)) → AllStand (S.view shelf.old) dir.now.files contents → AllWithin contents dir.now.lumps → Answers cache_told (S.view shelf.old).steady (λ done. done) (Ok tt) result }
+    ensures answers { (contents : List (List ℕ)) → NameFiles (S.view shelf.old) dir.now.files contents → AllWithin contents dir.now.lumps → ResultIs cache_told (S.view shelf.old).steady (λ done. done) (Ok tt) result }
     ensures order { (items : List Item) → has_item items (lump_owner lump.0) (lump_at dir.now.lumps lump.0).size ≡ true → IsInOrder items zone.old → (is_full result ≡ false) × OnOk result (KeepsOrder items zone.old zone.new (S.view shelf.old).taken (S.view shelf.new).taken) }
     ensures live { OnOk result (IsLive zone.new (lump_owner lump.0)) }
     ensures pinned { (o : Owner) → same_owner (lump_owner lump.0) o ≡ false → IsPinned (owned_block o zone.old.blocks) → owned_block o zone.new.blocks ≡ owned_block o zone.old.blocks }
-    ensures rest_but { (colormap size : ℕ) (pinned : List Owner) → is_static_tag tag ≡ false → IsAtRestBut colormap size pinned zone.old → IsAtRestBut colormap size (lump_owner lump.0 ∷ pinned) zone.new }
+    ensures rest_but { (colormap size : ℕ) (pinned : List Owner) → is_static_tag tag ≡ false → IsAtRestExcept colormap size pinned zone.old → IsAtRestExcept colormap size (lump_owner lump.0 ∷ pinned) zone.new }
     ensures first { tag ≡ Static → IsEmpty zone.old → OnOk result (IsAtRest lump.0 (lump_at dir.now.lumps lump.0).size zone.new) }
     ensures room_first { IsEmpty zone.old → WhereFull result (λ wanted widest'. zone.old.size < wanted) }
 {
@@ -248,7 +248,7 @@ impl LumpCache {
         ensures hit { IsLive self.old (lump_owner lump.0) → (result ≡ Ok tt) × (shelf.new ≡ shelf.old) × (self.new ≡ with_tag_unless_static (lump_owner lump.0) tag self.old) }
         ensures full { WhereFull result (NoRoom (lump_at dir.now.lumps lump.0).size self.old) }
         ensures room { (colormap size : ℕ) → IsAtRest colormap size self.old → WhereFull result (λ wanted widest'. self.old.size < block_size size + wanted + MIN_FRAGMENT) }
-        ensures room_but { (colormap count : ℕ) (o : Owner) (asked : ℕ) → IsAtRestBut colormap count (o ∷ []) self.old → same_owner (lump_owner colormap) o ≡ false → HasAsked asked (owned_block o self.old.blocks) → WhereFull result (λ wanted widest'. self.old.size < block_size count + block_size asked + 2 * wanted + 2 * MIN_FRAGMENT) }
+        ensures room_but { (colormap count : ℕ) (o : Owner) (asked : ℕ) → IsAtRestExcept colormap count (o ∷ []) self.old → same_owner (lump_owner colormap) o ≡ false → HasAsked asked (owned_block o self.old.blocks) → WhereFull result (λ wanted widest'. self.old.size < block_size count + block_size asked + 2 * wanted + 2 * MIN_FRAGMENT) }
         ensures full_where { IsNone (holding_of (lump_owner lump.0) self.old.blocks) → All (λ g. total g < block_size (lump_at dir.now.lumps lump.0).size) (gaps self.old.blocks) → is_full result ≡ true }
         ensures block { OnOk result (IsNone (holding_of (lump_owner lump.0) self.old.blocks) → HasBlock tag (lump_at dir.now.lumps lump.0).size (owned_block (lump_owner lump.0) self.new.blocks)) }
         ensures ok { OnOk result (IsNone (holding_of (lump_owner lump.0) self.old.blocks) → TakesBlock self.old self.new (lump_owner lump.0) (lump_at dir.now.lumps lump.0).size tag) }
@@ -256,17 +256,17 @@ impl LumpCache {
         ensures empty { OnErr result (owned_block (lump_owner lump.0) self.new.blocks ≡ None) }
         ensures others { (o : Owner) → same_owner (lump_owner lump.0) o ≡ false → KeptOrPurged (owned_block o self.old.blocks) (owned_block o self.new.blocks) }
         ensures counts { KeepsCounts self.old self.new }
-        ensures follows { Follows (S.view shelf.old) (S.view shelf.new) }
+        ensures follows { IsLaterShelf (S.view shelf.old) (S.view shelf.new) }
         ensures causes { HasCauses cache_told (S.view shelf.old).faults (S.view shelf.new).faults result }
-        ensures faithful { (contents : List (List ℕ)) → AllStand (S.view shelf.old) dir.now.files contents → IsFaithful contents dir.now.lumps self.old → IsFaithful contents dir.now.lumps self.new }
+        ensures faithful { (contents : List (List ℕ)) → NameFiles (S.view shelf.old) dir.now.files contents → IsFaithful contents dir.now.lumps self.old → IsFaithful contents dir.now.lumps self.new }
         ensures rest { (colormap size : ℕ) → tag ≡ Cache → IsAtRest colormap size self.old → IsAtRest colormap size self.new }
         ensures taken { OnOk result (IsNone (holding_of (lump_owner lump.0) self.old.blocks) → 0 < (lump_at dir.now.lumps lump.0).size → (S.view shelf.new).taken ≡ counted (S.view shelf.old).taken (lump_at dir.now.lumps lump.0).size) }
         ensures untouched { (lump_at dir.now.lumps lump.0).size ≡ 0 → shelf.new ≡ shelf.old }
-        ensures answers { (contents : List (List ℕ)) → AllStand (S.view shelf.old) dir.now.files contents → AllWithin contents dir.now.lumps → Answers cache_told (S.view shelf.old).steady (λ done. done) (Ok tt) result }
+        ensures answers { (contents : List (List ℕ)) → NameFiles (S.view shelf.old) dir.now.files contents → AllWithin contents dir.now.lumps → ResultIs cache_told (S.view shelf.old).steady (λ done. done) (Ok tt) result }
         ensures order { (items : List Item) → has_item items (lump_owner lump.0) (lump_at dir.now.lumps lump.0).size ≡ true → IsInOrder items self.old → (is_full result ≡ false) × OnOk result (KeepsOrder items self.old self.new (S.view shelf.old).taken (S.view shelf.new).taken) }
         ensures live { OnOk result (IsLive self.new (lump_owner lump.0)) }
         ensures pinned { (o : Owner) → same_owner (lump_owner lump.0) o ≡ false → IsPinned (owned_block o self.old.blocks) → owned_block o self.new.blocks ≡ owned_block o self.old.blocks }
-        ensures rest_but { (colormap size : ℕ) (pinned : List Owner) → is_static_tag tag ≡ false → IsAtRestBut colormap size pinned self.old → IsAtRestBut colormap size (lump_owner lump.0 ∷ pinned) self.new }
+        ensures rest_but { (colormap size : ℕ) (pinned : List Owner) → is_static_tag tag ≡ false → IsAtRestExcept colormap size pinned self.old → IsAtRestExcept colormap size (lump_owner lump.0 ∷ pinned) self.new }
         ensures first { tag ≡ Static → IsEmpty self.old → OnOk result (IsAtRest lump.0 (lump_at dir.now.lumps lump.0).size self.new) }
         ensures room_first { IsEmpty self.old → WhereFull result (λ wanted widest'. self.old.size < wanted) }
     {
@@ -281,7 +281,7 @@ impl LumpCache {
         ensures rest { (colormap size : ℕ) → IsAtRest colormap size self.old → IsAtRest colormap size self.new }
         ensures others { (o : Owner) → same_owner (lump_owner lump.0) o ≡ false → owned_block o self.new.blocks ≡ owned_block o self.old.blocks }
         ensures counts { KeepsCounts self.old self.new }
-        ensures rest_but { (colormap size : ℕ) (pinned : List Owner) → IsAtRestBut colormap size (lump_owner lump.0 ∷ pinned) self.old → IsAtRestBut colormap size pinned self.new }
+        ensures rest_but { (colormap size : ℕ) (pinned : List Owner) → IsAtRestExcept colormap size (lump_owner lump.0 ∷ pinned) self.old → IsAtRestExcept colormap size pinned self.new }
         ensures order { (items : List Item) (taken : ℕ) → IsInOrder items self.old → KeepsOrder items self.old self.new taken taken }
     {
         release_block(&mut self.zone, lump_slot(lump));
@@ -310,7 +310,7 @@ impl LumpCache {
         ensures counts { KeepsCounts self.old self.new }
         ensures faithful { (contents : List (List ℕ)) (lumps : List Lump) → IsFaithful contents lumps self.old → IsFaithful contents lumps self.new }
         ensures rest { (colormap size : ℕ) → IsAtRest colormap size self.old → OnErr result (IsAtRest colormap size self.new) }
-        ensures rest_but { (colormap size : ℕ) (pinned : List Owner) → IsAtRestBut colormap size pinned self.old → IsAtRestBut colormap size (composite_owner number ∷ pinned) self.new }
+        ensures rest_but { (colormap size : ℕ) (pinned : List Owner) → IsAtRestExcept colormap size pinned self.old → IsAtRestExcept colormap size (composite_owner number ∷ pinned) self.new }
         ensures order { (items : List Item) (taken : ℕ) → has_item items (composite_owner number) size ≡ true → IsInOrder items self.old → IsOk result × KeepsOrder items self.old self.new taken taken }
     {
         self.zone.malloc(composite_slot(number), size, Tag::Level)
@@ -341,7 +341,7 @@ impl LumpCache {
         ensures counts { (w : List ℕ) → KeepsCounts self.old (after_loan (composite_owner number) w self.old) }
         ensures faithful { (w : List ℕ) → length w ≡ length result.now → (contents : List (List ℕ)) (lumps : List Lump) → IsFaithful contents lumps self.old → IsFaithful contents lumps (after_loan (composite_owner number) w self.old) }
         ensures rest { (w : List ℕ) → length w ≡ length result.now → (colormap size : ℕ) → IsAtRest colormap size self.old → IsAtRest colormap size (after_loan (composite_owner number) w self.old) }
-        ensures rest_but { (w : List ℕ) → length w ≡ length result.now → (colormap size : ℕ) (pinned : List Owner) → IsAtRestBut colormap size pinned self.old → IsAtRestBut colormap size pinned (after_loan (composite_owner number) w self.old) }
+        ensures rest_but { (w : List ℕ) → length w ≡ length result.now → (colormap size : ℕ) (pinned : List Owner) → IsAtRestExcept colormap size pinned self.old → IsAtRestExcept colormap size pinned (after_loan (composite_owner number) w self.old) }
         ensures order { (w : List ℕ) → length w ≡ length result.now → (items : List Item) (taken : ℕ) → IsInOrder items self.old → KeepsOrder items self.old (after_loan (composite_owner number) w self.old) taken taken }
     {
         self.zone.bytes_mut(composite_slot(number))
@@ -367,7 +367,7 @@ impl LumpCache {
         ensures pinned { IsPinned (owned_block (composite_owner number) self.old.blocks) → IsPinned (owned_block (composite_owner number) self.new.blocks) }
         ensures faithful { (contents : List (List ℕ)) (lumps : List Lump) → IsFaithful contents lumps self.old → IsFaithful contents lumps self.new }
         ensures rest { (colormap size : ℕ) → IsAtRest colormap size self.old → IsAtRest colormap size self.new }
-        ensures rest_but { (colormap size : ℕ) (pinned : List Owner) → IsAtRestBut colormap size pinned self.old → IsAtRestBut colormap size pinned self.new }
+        ensures rest_but { (colormap size : ℕ) (pinned : List Owner) → IsAtRestExcept colormap size pinned self.old → IsAtRestExcept colormap size pinned self.new }
         ensures order { (items : List Item) (taken : ℕ) → IsInOrder items self.old → KeepsOrder items self.old self.new taken taken }
     {
         self.zone.pair(lump_slot(lump), composite_slot(number), f)
@@ -381,7 +381,7 @@ impl LumpCache {
         ensures rest { (colormap size : ℕ) → IsAtRest colormap size self.old → IsAtRest colormap size self.new }
         ensures others { (o : Owner) → same_owner (composite_owner number) o ≡ false → owned_block o self.new.blocks ≡ owned_block o self.old.blocks }
         ensures counts { KeepsCounts self.old self.new }
-        ensures rest_but { (colormap size : ℕ) (pinned : List Owner) → IsAtRestBut colormap size (composite_owner number ∷ pinned) self.old → IsAtRestBut colormap size pinned self.new }
+        ensures rest_but { (colormap size : ℕ) (pinned : List Owner) → IsAtRestExcept colormap size (composite_owner number ∷ pinned) self.old → IsAtRestExcept colormap size pinned self.new }
         ensures order { (items : List Item) (taken : ℕ) → IsInOrder items self.old → KeepsOrder items self.old self.new taken taken }
     {
         release_block(&mut self.zone, composite_slot(number));
@@ -397,7 +397,7 @@ impl LumpCache {
         ensures counts { KeepsCounts self.old self.new }
         ensures faithful { (contents : List (List ℕ)) (lumps : List Lump) → IsFaithful contents lumps self.old → IsFaithful contents lumps self.new }
         ensures rest { (colormap size : ℕ) → IsAtRest colormap size self.old → IsAtRest colormap size self.new }
-        ensures rest_but { (colormap size : ℕ) (pinned : List Owner) → IsAtRestBut colormap size (composite_owner number ∷ pinned) self.old → IsAtRestBut colormap size pinned self.new }
+        ensures rest_but { (colormap size : ℕ) (pinned : List Owner) → IsAtRestExcept colormap size (composite_owner number ∷ pinned) self.old → IsAtRestExcept colormap size pinned self.new }
     {
         self.zone.free(composite_slot(number));
     }

@@ -1,7 +1,7 @@
 // Bytes of a file, read into the block of a lump.
 ghost use Rattle.std.specs.Prelude.{◌≡◌, ◌<◌, ◌≤◌, ◌+◌, ℕ, List, length, Some, IfSome, OnOk, OnErr, IsTrue, IsOk};
-ghost use Rattle.outside.specs.Causes.{Rose};
-ghost use Rattle.outside.specs.Shelf.{Follows, IsPieceAt, counted};
+ghost use Rattle.outside.specs.Causes.{FaultsRose};
+ghost use Rattle.outside.specs.Shelf.{IsLaterShelf, IsPieceAt, counted};
 ghost use Rattle.zone_rules.specs.Zones.{Heap, IsLive, bytes_of};
 ghost use Rattle.zone_rules.specs.Frees.{with_bytes};
 ghost use Rattle.lump_cache.specs.Caches.{lump_owner, IsFilled};
@@ -28,9 +28,9 @@ pub fn read_into<S: Shelf>(
     requires in_range { lump.0 < zone.old.lumps }
     requires live { IsLive zone.old (lump_owner lump.0) }
     ensures filled { IsFilled (lump_owner lump.0) zone.old zone.new (λ w. OnOk result (IfSome ((S.view shelf.old).file file.0) (λ bytes. IsPieceAt bytes place w))) }
-    ensures follows { Follows (S.view shelf.old) (S.view shelf.new) }
+    ensures follows { IsLaterShelf (S.view shelf.old) (S.view shelf.new) }
     ensures taken { OnOk result (IfSome (bytes_of (lump_owner lump.0) zone.old.blocks) (λ xs. (S.view shelf.new).taken ≡ counted (S.view shelf.old).taken (length xs))) }
-    ensures failed { OnErr result (Rose (S.view shelf.old).faults (S.view shelf.new).faults) }
+    ensures failed { OnErr result (FaultsRose (S.view shelf.old).faults (S.view shelf.new).faults) }
     ensures steady { IsTrue (S.view shelf.old).steady → IfSome ((S.view shelf.old).file file.0) (λ bytes. IfSome (bytes_of (lump_owner lump.0) zone.old.blocks) (λ xs. place + length xs ≤ length bytes → IsOk result)) }
 {
     let piece = zone.bytes_mut(lump_slot(lump));

@@ -1,7 +1,7 @@
 -- What is known of the WADs where all files are accepted.
 use Rattle.std.proofs.Common.{◌≡◌, ℕ, List, Option, Some, None, Result, Ok, Err, refl, ap, ◌∙◌}
 use Rattle.outside.specs.Shelf.{File}
-use Rattle.outside.specs.Told.{and_then, from_below}
+use Rattle.outside.specs.Faults.{and_then, from_below}
 use Rattle.lump_rules.specs.declared.wad.Lump.{Lump}
 use Rattle.lump_rules.specs.declared.wad.DirRefusal.{DirRefusal}
 use Rattle.lump_rules.specs.Wads.{directory}

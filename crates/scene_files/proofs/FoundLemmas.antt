@@ -3,7 +3,7 @@ use Rattle.std.proofs.Common.{◌≡◌, ◌<◌, ℕ, zero, suc, List, [], ◌�
 use Rattle.std.proofs.lemmas.List.{get_or-map, length-map}
 use Rattle.std.specs.Prelude.{option_and_then, option_map}
 use Rattle.outside.specs.declared.shelf.FileNo.{FileNo}
-use Rattle.outside.specs.Shelf.{File, ShelfView, Follows, Stands, AllStand, StandsForNamed, file_named}
+use Rattle.outside.specs.Shelf.{File, ShelfView, IsLaterShelf, Stands, NameFiles, StandsForNamed, file_named}
 use Rattle.outside.proofs.ShelfLemmas.{all_stand_later}
 use Rattle.scene_files.specs.Files.{files_named}
 use Rattle.scene_files.specs.Found.{AllStandForNamed}
@@ -54,7 +54,7 @@ lacking_stops names i d files r failed lt there was =
     rw (named_lacks (map (λ (name : Bor (List ℕ)). name.now) names) i [] files (rw length-map lt) lacks) refl
 
 stand_more : (view : ShelfView) (numbers : List FileNo) (contents : List (List ℕ)) (number : FileNo) (bytes : List ℕ) →
-    AllStand view numbers contents → Stands view number.0 bytes → AllStand view (numbers ++ number ∷ []) (contents ++ bytes ∷ [])
+    NameFiles view numbers contents → Stands view number.0 bytes → NameFiles view (numbers ++ number ∷ []) (contents ++ bytes ∷ [])
 stand_more view [] [] number bytes stand stands = (stands, tt)
 stand_more view [] (file ∷ contents) number bytes stand stands = absurd stand
 stand_more view (first ∷ numbers) [] number bytes stand stands = absurd stand
@@ -71,7 +71,7 @@ held_bytes (Some bytes) there = (bytes, refl)
 
 -- one name more
 pub found_more : (old new : ShelfView) (numbers more : List FileNo) (number : FileNo) (before all : List (List ℕ)) (name : List ℕ) (files : List File) →
-    StandsForNamed new number.0 name files → more ≡ numbers ++ number ∷ [] → all ≡ before ++ name ∷ [] → Follows old new →
+    StandsForNamed new number.0 name files → more ≡ numbers ++ number ∷ [] → all ≡ before ++ name ∷ [] → IsLaterShelf old new →
     AllStandForNamed old numbers before files → AllStandForNamed new more all files
 found_more old new numbers more number before all name files found pushed longer follows so_far =
     let held = held_bytes (file_named name files) found.is_held in

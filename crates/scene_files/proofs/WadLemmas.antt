@@ -2,8 +2,8 @@
 use Rattle.std.proofs.Common.{◌≡◌, ℕ, Bool, List, Option, Some, Result, Err, IsErrAnd, refl}
 use Rattle.std.proofs.lemmas.Result.{err_from_is_err_and}
 use Rattle.outside.specs.declared.shelf.FileNo.{FileNo}
-use Rattle.outside.specs.Shelf.{File, ShelfView, AllStand}
-use Rattle.outside.specs.Told.{told_above}
+use Rattle.outside.specs.Shelf.{File, ShelfView, NameFiles}
+use Rattle.outside.specs.Faults.{fault_above}
 use Rattle.lump_rules.specs.declared.wad.Lump.{Lump}
 use Rattle.wad_dir.specs.declared.fault.DirFault.{DirFault}
 use Rattle.wad_dir.specs.declared.fault.DirFault.TheVariants as dir
@@ -14,11 +14,11 @@ use Rattle.scene_files.specs.declared.fault.FilesFault.{FilesFault}
 use Rattle.scene_files.specs.Faults.{files_told, fault_of_dir}
 use Rattle.scene_files.specs.Files.{files_named, lumps_in, wad_files}
 use Rattle.scene_files.specs.Found.{AllStandForNamed}
-use Rattle.scene_files.specs.Stops.{else_absent, no_file, StopsAt, Agrees}
+use Rattle.scene_files.specs.Stops.{else_absent, no_file, StopsAt, ResultIsOrAbsent}
 use Rattle.scene_files.proofs.StopLemmas.{stops_all}
 
 -- what a fault of the directory tells where files are read
-pub dir_told_above : (fault : DirFault) → files_told (fault_of_dir fault) ≡ told_above Wad (dir_told fault)
+pub dir_told_above : (fault : DirFault) → files_told (fault_of_dir fault) ≡ fault_above Wad (dir_told fault)
 dir_told_above (dir.Refused refusal) = refl
 dir_told_above dir.ReadFault = refl
 dir_told_above dir.OutOfMemory = refl
@@ -26,7 +26,7 @@ dir_told_above dir.OutOfMemory = refl
 -- a file was not found
 pub wads_unfound : {B : Type 0} {steady : Bool} {value : B → List Lump} (names : List (List ℕ)) (files : List File) (fault : FilesFault) (result : Result B FilesFault) →
     StopsAt {R = FilesRefusal} steady (else_absent (files_named names files)) (files_told fault) → IsErrAnd result (λ e. e ≡ fault) →
-    Agrees files_told steady value (lumps_in names files) result
+    ResultIsOrAbsent files_told steady value (lumps_in names files) result
 unfolding lumps_in
 wads_unfound {B} {steady} names files fault result stops is =
     let p : (y : FilesFault) × (result ≡ Err y) × (y ≡ fault) = err_from_is_err_and result is in
@@ -43,7 +43,7 @@ same_found found one other e f = cc
 
 -- the numbers stand for the bytes of the files that have these names
 pub stand_named : (view : ShelfView) (numbers given : List FileNo) (names : List (List ℕ)) (files : List File) (contents : List (List ℕ)) →
-    AllStandForNamed view numbers names files → given ≡ numbers → files_named names files ≡ Some contents → AllStand view given contents
+    AllStandForNamed view numbers names files → given ≡ numbers → files_named names files ≡ Some contents → NameFiles view given contents
 stand_named view numbers given names files contents found same named =
     let these : found.contents ≡ contents = same_found (files_named names files) found.contents contents found.named named in
     rw (same, ← these) found.stand

@@ -1,5 +1,6 @@
 -- What the faults of reading files tell.
-use Rattle.outside.specs.Told.{Told, refused, read_failed, out_of_memory}
+use Rattle.outside.specs.declared.fault.Fault.{Fault}
+use Rattle.outside.specs.declared.fault.Fault.TheVariants.{Refused, ReadFault, OutOfMemory}
 use Rattle.wad_dir.specs.declared.fault.DirFault.{DirFault}
 use Rattle.wad_dir.specs.declared.fault.DirFault.TheVariants as dir
 use Rattle.scene_files.specs.declared.fault.FilesRefusal.{FilesRefusal}
@@ -7,10 +8,10 @@ use Rattle.scene_files.specs.declared.fault.FilesRefusal.TheVariants.{Wad}
 use Rattle.scene_files.specs.declared.fault.FilesFault.{FilesFault}
 use Rattle.scene_files.specs.declared.fault.FilesFault.TheVariants.{Refused, ReadFault, OutOfMemory}
 
-abbrev pub files_told : FilesFault → Told FilesRefusal
-files_told (Refused refusal) = refused refusal
-files_told ReadFault = read_failed
-files_told OutOfMemory = out_of_memory
+abbrev pub files_told : FilesFault → Fault FilesRefusal
+files_told (Refused refusal) = Refused refusal
+files_told ReadFault = ReadFault
+files_told OutOfMemory = OutOfMemory
 
 -- what a fault of the directory is where files are read
 abbrev pub fault_of_dir : DirFault → FilesFault

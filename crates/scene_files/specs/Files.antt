@@ -2,7 +2,7 @@
 -- of them is named, and the lumps of the WADs; or the first step that stops.
 use Rattle.std.specs.Prelude.{◌≡◌, ℕ, List, [], ◌∷◌, Option, Some, None, option_and_then, option_map, Result, Ok, Err, codes, refl}
 use Rattle.outside.specs.Shelf.{File, file_named}
-use Rattle.outside.specs.Told.{and_then, from_below}
+use Rattle.outside.specs.Faults.{and_then, from_below}
 use Rattle.lump_rules.specs.declared.wad.Lump.{Lump}
 use Rattle.lump_rules.specs.Wads.{directory}
 use Rattle.view_rules.specs.declared.TablesRefusal.{TablesRefusal}

@@ -1,6 +1,7 @@
 -- The first step that stops a call which asks for files by name, and what a fault says of it.
 use Rattle.std.specs.Prelude.{◌≡◌, Bool, IsTrue, Option, Some, None, Result, Ok, Err, IfOk, IfErr}
-use Rattle.outside.specs.Told.{Told, refused, read_failed, zone_full, out_of_memory}
+use Rattle.outside.specs.declared.fault.Fault.{Fault}
+use Rattle.outside.specs.declared.fault.Fault.TheVariants.{Refused, ReadFault, ZoneFull, OutOfMemory}
 
 -- a file that the next step needs is not held, or bytes are refused
 pub data Stop (R : Type 0) : Type 0 where
@@ -23,13 +24,13 @@ stop_above f absent = absent
 stop_above f (stopped refusal) = stopped (f refusal)
 
 -- A refusal is that of the steps. Over a steady shelf a read fails only for an absent file.
-abbrev pub StopsAt : {A R : Type 0} → Bool → Result A (Stop R) → Told R → Type 0
-StopsAt steady expected (refused refusal) = expected ≡ Err (stopped refusal)
-StopsAt steady expected read_failed = IsTrue steady → expected ≡ Err absent
-StopsAt steady expected (zone_full wanted widest) = Unit {0}
-StopsAt steady expected out_of_memory = Unit {0}
+abbrev pub StopsAt : {A R : Type 0} → Bool → Result A (Stop R) → Fault R → Type 0
+StopsAt steady expected (Refused refusal) = expected ≡ Err (stopped refusal)
+StopsAt steady expected ReadFault = IsTrue steady → expected ≡ Err absent
+StopsAt steady expected (ZoneFull wanted widest) = Unit {0}
+StopsAt steady expected OutOfMemory = Unit {0}
 
 -- what is told of a call whose steps, with those that ask for files, give `expected`
-pub record Agrees {A B R E : Type 0} (told : E → Told R) (steady : Bool) (value : B → A) (expected : Result A (Stop R)) (result : Result B E) : Type 0 where
+pub record ResultIsOrAbsent {A B R E : Type 0} (told : E → Fault R) (steady : Bool) (value : B → A) (expected : Result A (Stop R)) (result : Result B E) : Type 0 where
   pub ok : IfOk result (λ found. expected ≡ Ok (value found))
   pub err : IfErr result (λ fault. StopsAt steady expected (told fault))

@@ -1,14 +1,14 @@
 // All files of a job over a level, in their order.
 ghost use Rattle.std.specs.Prelude.{◌≡◌, ◌<◌, ◌≤◌, ◌+◌, ◌*◌, ◌^◌, ℕ, List, length, map, Some, IfOk};
-ghost use Rattle.outside.specs.Shelf.{AllStand, File, Follows, Holds};
-ghost use Rattle.outside.specs.Told.{HasCauses};
+ghost use Rattle.outside.specs.Shelf.{NameFiles, File, IsLaterShelf, Holds};
+ghost use Rattle.outside.specs.Faults.{HasCauses};
 ghost use Rattle.lump_rules.specs.Contents.{AllWithin};
 ghost use Rattle.lump_rules.specs.Wads.{listing_sizes};
 ghost use Rattle.view_rules.specs.declared.TheConstants.{MIN_SIZE, MAX_SIZE};
 ghost use Rattle.command_line.specs.Scenes.{told_files};
 ghost use Rattle.scene_files.specs.Faults.{files_told};
 ghost use Rattle.scene_files.specs.Files.{files_in, files_named, value_of};
-ghost use Rattle.scene_files.specs.Stops.{Agrees};
+ghost use Rattle.scene_files.specs.Stops.{ResultIsOrAbsent};
 
 use crate::FilesFault;
 use crate::tables::load_tables;
@@ -58,17 +58,17 @@ pub fn read_files<S: Shelf>(
     requires least { MIN_SIZE ≤ size }
     requires greatest { size ≤ MAX_SIZE }
     ensures answers { (files : List File) → Holds (S.view shelf.old) files →
-        Agrees files_told (S.view shelf.old).steady value_of
+        ResultIsOrAbsent files_told (S.view shelf.old).steady value_of
         (files_in (told_files names.now) (map (λ wad. wad.now) wads.now) size files) result }
     ensures contents { (files : List File) (contents : List (List ℕ)) →
         Holds (S.view shelf.old) files →
         files_named (map (λ wad. wad.now) wads.now) files ≡ Some contents →
-        IfOk result (λ found. AllStand (S.view shelf.new) found.dir.files contents
+        IfOk result (λ found. NameFiles (S.view shelf.new) found.dir.files contents
         × AllWithin contents found.dir.lumps) }
     ensures files { IfOk result (λ found. length found.dir.files ≡ length wads.now) }
     ensures count { IfOk result (λ found. length found.dir.lumps < 2 ^ 16) }
     ensures size { IfOk result (λ found. found.tables.size ≡ size) }
-    ensures follows { Follows (S.view shelf.old) (S.view shelf.new) }
+    ensures follows { IsLaterShelf (S.view shelf.old) (S.view shelf.new) }
     ensures causes { HasCauses files_told
         (S.view shelf.old).faults (S.view shelf.new).faults result }
     ensures taken { (files : List File) (contents : List (List ℕ)) →

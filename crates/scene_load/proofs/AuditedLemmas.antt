@@ -2,7 +2,9 @@
 use Rattle.std.proofs.Common.{◌≡◌, ℕ, Bool, List, Option, Some, None, Result, Ok, Err, refl, sym, ap, subst, ◌∙◌, ◌≤◌, IsErrAnd}
 use Rattle.std.specs.Prelude.{IfErr}
 use Rattle.std.proofs.lemmas.Result.{err_from_is_err_and}
-use Rattle.outside.specs.Told.{Told, refused, read_failed, zone_full, out_of_memory, Answers, CauseAt, HasCauses, TellsAt, and_then}
+use Rattle.outside.specs.declared.fault.Fault.{Fault}
+use Rattle.outside.specs.declared.fault.Fault.TheVariants.{Refused, ReadFault, ZoneFull, OutOfMemory}
+use Rattle.outside.specs.Faults.{ResultIs, HasCauseAt, HasCauses, FaultFits, and_then}
 use Rattle.outside.proofs.StepLemmas.{step}
 use Rattle.lump_rules.specs.declared.wad.Lump.{Lump}
 use Rattle.cached_lumps.proofs.CallLemmas.{cause_later}
@@ -17,31 +19,31 @@ use Rattle.level_audit.proofs.SceneLemmas.{and_then-ok}
 use Rattle.scene_load.specs.Loads.{LoadedValue, audited_in, audited_value, weapons_of, with_layers}
 
 -- what is told of a step that stops is told of all steps
-stops : {A C R : Type 0} (steady : Bool) (first : Result C R) (next : C → Result A R) (fault : Told R) → TellsAt steady first fault → TellsAt steady (and_then first next) fault
-stops steady first next (refused reason) h = rw h refl
-stops steady first next read_failed h = h
-stops steady first next (zone_full wanted widest) h = tt
-stops steady first next out_of_memory h = tt
+stops : {A C R : Type 0} (steady : Bool) (first : Result C R) (next : C → Result A R) (fault : Fault R) → FaultFits steady first fault → FaultFits steady (and_then first next) fault
+stops steady first next (Refused reason) h = rw h refl
+stops steady first next ReadFault h = h
+stops steady first next (ZoneFull wanted widest) h = tt
+stops steady first next OutOfMemory h = tt
 
 -- a step has stopped the call
-step_stopped : {A B C D R E : Type 0} {told : E → Told R} {steady later : Bool} {v : D → C} {value : B → A} {first : Result C R} {r : Result D E} (next : C → Result A R) (fault : E) (result : Result B E) →
-    Answers told later v first r → r ≡ Err fault → later ≡ steady → IsErrAnd result (λ e. e ≡ fault) → Answers told steady value (and_then first next) result
+step_stopped : {A B C D R E : Type 0} {told : E → Fault R} {steady later : Bool} {v : D → C} {value : B → A} {first : Result C R} {r : Result D E} (next : C → Result A R) (fault : E) (result : Result B E) →
+    ResultIs told later v first r → r ≡ Err fault → later ≡ steady → IsErrAnd result (λ e. e ≡ fault) → ResultIs told steady value (and_then first next) result
 step_stopped {A} {B} {C} {D} {R} {E} {told} {steady} {later} {v} {value} {first} {r} next fault result answers was same is =
     let p : (y : E) × (result ≡ Err y) × (y ≡ fault) = err_from_is_err_and result is in
-    let h : TellsAt later first (told fault) = rw was at answers.err in
-    let k : TellsAt steady (and_then first next) (told p.0) = rw (p.2, ← same) (stops later first next (told fault) h) in
+    let h : FaultFits later first (told fault) = rw was at answers.err in
+    let k : FaultFits steady (and_then first next) (told p.0) = rw (p.2, ← same) (stops later first next (told fault) h) in
     rw p.1 (record { ok = tt; err = k })
 
 module _ (bytes : ℕ → List ℕ) (level : ToldScene) (found : FilesValue) where
   -- the scene was not accepted
-  pub scene_stopped : {steady : Bool} {r : Result SoundValue AuditFault} (fault : AuditFault) (result : Result (SoundValue × Option (List Frame)) AuditFault) → Answers audit_told steady (λ (sound : SoundValue). sound.scene) (scene_in bytes found.lumps found.things level.map_name level.settings.skill) r → r ≡ Err fault → IsErrAnd result (λ e. e ≡ fault) →
-      Answers audit_told steady (audited_value found) (audited_in bytes level found) result
+  pub scene_stopped : {steady : Bool} {r : Result SoundValue AuditFault} (fault : AuditFault) (result : Result (SoundValue × Option (List Frame)) AuditFault) → ResultIs audit_told steady (λ (sound : SoundValue). sound.scene) (scene_in bytes found.lumps found.things level.map_name level.settings.skill) r → r ≡ Err fault → IsErrAnd result (λ e. e ≡ fault) →
+      ResultIs audit_told steady (audited_value found) (audited_in bytes level found) result
   unfolding audited_in
   scene_stopped fault result answers was is = step_stopped _ fault result answers was refl is
 
   -- it was, and the layers were not
   pub layers_stopped : {steady later : Bool} {r : Result (Option (List Frame)) AuditFault} (scene : SceneValue) (fault : AuditFault) (result : Result (SoundValue × Option (List Frame)) AuditFault) → scene_in bytes found.lumps found.things level.map_name level.settings.skill ≡ Ok scene →
-      later ≡ steady → Answers audit_told later (λ (weapons : Option (List Frame)). weapons) (weapons_of bytes found.lumps found.weapons) r → r ≡ Err fault → IsErrAnd result (λ e. e ≡ fault) → Answers audit_told steady (audited_value found) (audited_in bytes level found) result
+      later ≡ steady → ResultIs audit_told later (λ (weapons : Option (List Frame)). weapons) (weapons_of bytes found.lumps found.weapons) r → r ≡ Err fault → IsErrAnd result (λ e. e ≡ fault) → ResultIs audit_told steady (audited_value found) (audited_in bytes level found) result
   unfolding audited_in
   layers_stopped scene fault result accepted same answers was is = step _ _ scene accepted refl (step_stopped _ fault result answers was same is)
 
@@ -65,8 +67,8 @@ audited_by P bytes level found loaded e each =
 pub causes_after : {B D : Type 0} {before between now : ℕ} (r : Result D AuditFault) (fault : AuditFault) (result : Result B AuditFault) → before ≤ between → HasCauses audit_told between now r → r ≡ Err fault → IsErrAnd result (λ e. e ≡ fault) → HasCauses audit_told before now result
 causes_after {B} {D} {before} {between} {now} r fault result later causes was is =
     let s = err_from_is_err_and result is in
-    let k : CauseAt between now (audit_told fault) = subst (λ (y : Result D AuditFault). IfErr y (λ f. CauseAt between now (audit_told f))) was causes.err in
-    record { err = subst (λ (y : Result B AuditFault). IfErr y (λ f. CauseAt before now (audit_told f))) (sym (s.1 ∙ ap Err s.2)) (cause_later before between now (audit_told fault) later k) }
+    let k : HasCauseAt between now (audit_told fault) = subst (λ (y : Result D AuditFault). IfErr y (λ f. HasCauseAt between now (audit_told f))) was causes.err in
+    record { err = subst (λ (y : Result B AuditFault). IfErr y (λ f. HasCauseAt before now (audit_told f))) (sym (s.1 ∙ ap Err s.2)) (cause_later before between now (audit_told fault) later k) }
 
 -- the layers leave the scene as it is
 pub scene_kept : (lumps : List Lump) (weapons : Option (List Frame)) (sound : SoundValue) → (with_layers lumps weapons sound).scene ≡ sound.scene

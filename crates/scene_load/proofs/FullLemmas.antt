@@ -8,7 +8,7 @@ use Rattle.lump_rules.specs.Lookups.{lump_at}
 use Rattle.zone_rules.specs.declared.TheConstants.{MIN_FRAGMENT}
 use Rattle.zone_rules.specs.Zones.{Heap, block_size}
 use Rattle.lump_cache.specs.Caches.{IsAtRest, IsEmpty}
-use Rattle.cached_lumps.specs.Calls.{IfFull, IsFullFor, IsTold}
+use Rattle.cached_lumps.specs.Calls.{IfFull, IsFullFor, HoldContents}
 use Rattle.sprite_book.specs.declared.shapes.Frame.{Frame}
 use Rattle.command_line.specs.Scenes.{ToldScene}
 use Rattle.scene_files.specs.declared.read.SceneFiles.{SceneFiles}
@@ -42,11 +42,11 @@ ok_value (Err e) there = cc
 
 module _ (contents : List (List ℕ)) (level : ToldScene) (files : SceneFiles) where
   -- no room for a lump of the scene
-  pub audit_full : {v : ShelfView} {z : Heap} (r : Result SoundValue AuditFault) → IsTold v files.dir z contents → IsEmpty z → z.size ≡ level.settings.zone →
+  pub audit_full : {v : ShelfView} {z : Heap} (r : Result SoundValue AuditFault) → HoldContents v files.dir z contents → IsEmpty z → z.size ≡ level.settings.zone →
       IfErr r (λ f. IfFull (audit_told f) (IsFullAudit v files.dir z files.things level.map_name level.settings.skill)) →
       IfErr r (λ f. IfFull (audit_told f) (λ wanted widest'. IsOk (colormap_of files.dir.lumps))) →
       ((colormap : ℕ) → colormap_of files.dir.lumps ≡ Ok colormap → IsEmpty z → IfErr r (λ f. IfFull (audit_told f) (λ wanted widest'. z.size < block_size (lump_at files.dir.lumps colormap).size + wanted + MIN_FRAGMENT))) →
-      ((contents : List (List ℕ)) (scene : SceneValue) → IsTold v files.dir z contents → scene_in (lump_bytes contents files.dir.lumps) files.dir.lumps files.things level.map_name level.settings.skill ≡ Ok scene → IsEmpty z → IfErr r (λ f. IfFull (audit_told f) (λ wanted widest'. z.size < (sizes_of files.dir.lumps scene).enough))) →
+      ((contents : List (List ℕ)) (scene : SceneValue) → HoldContents v files.dir z contents → scene_in (lump_bytes contents files.dir.lumps) files.dir.lumps files.things level.map_name level.settings.skill ≡ Ok scene → IsEmpty z → IfErr r (λ f. IfFull (audit_told f) (λ wanted widest'. z.size < (sizes_of files.dir.lumps scene).enough))) →
       IfErr r (λ f. IfFull (audit_told f) (IsFullOver (lump_bytes contents files.dir.lumps) level (value_of files)))
   audit_full (Ok sound) told empty size full found room enough = tt
   audit_full (Err (Refused refusal)) told empty size full found room enough = tt

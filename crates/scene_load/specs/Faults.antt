@@ -1,5 +1,6 @@
 -- What the faults of loading a scene tell.
-use Rattle.outside.specs.Told.{Told, refused, read_failed, zone_full, out_of_memory}
+use Rattle.outside.specs.declared.fault.Fault.{Fault}
+use Rattle.outside.specs.declared.fault.Fault.TheVariants.{Refused, ReadFault, ZoneFull, OutOfMemory}
 use Rattle.scene_files.specs.declared.fault.FilesFault.{FilesFault}
 use Rattle.scene_files.specs.declared.fault.FilesFault.TheVariants as files
 use Rattle.audit_fault.specs.declared.fault.AuditFault.{AuditFault}
@@ -9,11 +10,11 @@ use Rattle.refusals.specs.Groups.{of_audit, of_files}
 use Rattle.scene_load.specs.declared.fault.LoadFault.{LoadFault}
 use Rattle.scene_load.specs.declared.fault.LoadFault.TheVariants.{Refused, ReadFault, ZoneFull, OutOfMemory}
 
-abbrev pub load_told : LoadFault → Told Refusal
-load_told (Refused refusal) = refused refusal
-load_told ReadFault = read_failed
-load_told (ZoneFull wanted widest) = zone_full wanted widest
-load_told OutOfMemory = out_of_memory
+abbrev pub load_told : LoadFault → Fault Refusal
+load_told (Refused refusal) = Refused refusal
+load_told ReadFault = ReadFault
+load_told (ZoneFull wanted widest) = ZoneFull wanted widest
+load_told OutOfMemory = OutOfMemory
 
 -- what a fault of the files, and one of the audit, is here
 abbrev pub above_files : FilesFault → LoadFault

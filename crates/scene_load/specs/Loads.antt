@@ -2,7 +2,7 @@
 -- first step that stops.
 use Rattle.std.specs.Prelude.{ℕ, List, [], ◌++◌, Option, Some, None, unwrap_or, Result, Ok}
 use Rattle.outside.specs.Shelf.{File}
-use Rattle.outside.specs.Told.{and_then, from_below}
+use Rattle.outside.specs.Faults.{and_then, from_below}
 use Rattle.lump_rules.specs.declared.wad.Lump.{Lump}
 use Rattle.lump_rules.specs.Contents.{lump_bytes}
 use Rattle.csv_tables.specs.declared.weapons.WeaponRow.{WeaponRow}

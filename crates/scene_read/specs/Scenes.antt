@@ -1,6 +1,6 @@
 -- A scene over its ground, with a palette that was read before.
 use Rattle.std.specs.Prelude.{ℕ, List, Result, Ok, Err, option_map}
-use Rattle.outside.specs.Told.{and_then, from_below}
+use Rattle.outside.specs.Faults.{and_then, from_below}
 use Rattle.lump_rules.specs.declared.wad.Lump.{Lump}
 use Rattle.lump_rules.specs.Lookups.{last_of}
 use Rattle.csv_tables.specs.declared.things.ThingLine.{ThingLine}

@@ -3,7 +3,7 @@
 // Rules: `scene_rules`, Scenes (`scene_on`); `specs/Scenes`. The original: `P_SetupLevel`,
 // p_setup.c, `R_PrecacheLevel`, r_data.c.
 ghost use Rattle.std.specs.Prelude.{◌≡◌, ◌<◌, ◌≤◌, ◌⊎◌, All, length, map, IfOk, IfSome};
-ghost use Rattle.cached_lumps.specs.Calls.{Tells};
+ghost use Rattle.cached_lumps.specs.Calls.{ReadsLumps};
 ghost use Rattle.texture_build.specs.Views.{IsPrepared};
 ghost use Rattle.sprite_book.specs.Calls.{IsWanted};
 ghost use Rattle.level_scene.specs.Bounds.{AreBelow};
@@ -49,7 +49,7 @@ pub struct ReadScene {
 ///
 /// Errors: `Refused` with the first refusal in that order. `ReadFault` only where a call of the shelf
 /// failed. `ZoneFull` where no gap of the zone held the block of a patch or a picture.
-/// `OutOfMemory`. Whatever comes, what `Tells` says is kept of the cache.
+/// `OutOfMemory`. Whatever comes, what `ReadsLumps` says is kept of the cache.
 ///
 /// The original: `P_SetupLevel`, p_setup.c, `R_PrecacheLevel`, r_data.c.
 pub fn read_scene<S: Shelf>(
@@ -64,7 +64,7 @@ pub fn read_scene<S: Shelf>(
 ) -> Result<ReadScene, AuditFault>
     requires slots { length dir.now.lumps ≤ cache.old.lumps }
     requires skill { (1 ≤ skill) × (skill ≤ 5) }
-    ensures tells { Tells audit_told (S.view shelf.old) (S.view shelf.new) dir.now cache.old cache.new (IsOfScene dir.now.lumps things.now skill name.now (ground_of ground)) scene_value (λ bytes. given_palette ground.palette.items (scene_on bytes dir.now.lumps things.now skill name.now (ground_of ground))) result }
+    ensures tells { ReadsLumps audit_told (S.view shelf.old) (S.view shelf.new) dir.now cache.old cache.new (IsOfScene dir.now.lumps things.now skill name.now (ground_of ground)) scene_value (λ bytes. given_palette ground.palette.items (scene_on bytes dir.now.lumps things.now skill name.now (ground_of ground))) result }
     ensures ground { IfOk result (λ scene. ground_of scene.ground ≡ ground_of ground) }
     ensures flats { IfOk result (λ scene. length scene.faces.flats.items ≡ length ground.level.sectors) }
 {
@@ -88,7 +88,7 @@ fn read_art<S: Shelf>(
     requires sides { length faces.sides.items ≡ length ground.level.sides }
     requires below { All (AreBelow (length ground.textures.lists.textures)) faces.sides.items }
     requires sky { IfSome faces.sky (λ tex. tex.0 < length ground.textures.lists.textures) }
-    ensures tells { Tells audit_told (S.view shelf.old) (S.view shelf.new) dir.now cache.old cache.new (IsOfArt dir.now.lumps things.now skill (ground_of ground) (faces_of faces)) scene_value (λ bytes. given_palette ground.palette.items (scene_from bytes dir.now.lumps things.now skill (ground_of ground) (faces_of faces))) result }
+    ensures tells { ReadsLumps audit_told (S.view shelf.old) (S.view shelf.new) dir.now cache.old cache.new (IsOfArt dir.now.lumps things.now skill (ground_of ground) (faces_of faces)) scene_value (λ bytes. given_palette ground.palette.items (scene_from bytes dir.now.lumps things.now skill (ground_of ground) (faces_of faces))) result }
     ensures ground { IfOk result (λ scene. ground_of scene.ground ≡ ground_of ground) }
     ensures faces { IfOk result (λ scene. scene.faces ≡ faces) }
 {
@@ -119,7 +119,7 @@ fn read_things<S: Shelf>(
     requires slots { length dir.now.lumps ≤ cache.old.lumps }
     requires sides { length faces.sides.items ≡ length ground.level.sides }
     requires middles { All (λ side. (side.middle ≡ 0) ⊎ IsPrepared ground.textures side.middle) faces.sides.items }
-    ensures tells { Tells audit_told (S.view shelf.old) (S.view shelf.new) dir.now cache.old cache.new (IsWanted dir.now.lumps (map need_of placed)) scene_value (λ bytes. given_palette ground.palette.items (scene_over bytes dir.now.lumps (ground_of ground) (faces_of faces) placed ground.textures.prepared)) result }
+    ensures tells { ReadsLumps audit_told (S.view shelf.old) (S.view shelf.new) dir.now cache.old cache.new (IsWanted dir.now.lumps (map need_of placed)) scene_value (λ bytes. given_palette ground.palette.items (scene_over bytes dir.now.lumps (ground_of ground) (faces_of faces) placed ground.textures.prepared)) result }
     ensures ground { IfOk result (λ scene. scene.ground ≡ ground) }
     ensures faces { IfOk result (λ scene. scene.faces ≡ faces) }
 {

@@ -1,7 +1,7 @@
 -- Something for each of a list, or the number of the first for which there is nothing.
 use Rattle.std.specs.Prelude.{ℕ, suc, List, [], ◌∷◌, Option, Some, None, Result, Ok, Err}
 use Rattle.std.specs.Option.{ok_or}
-use Rattle.outside.specs.Told.{and_then}
+use Rattle.outside.specs.Faults.{and_then}
 
 -- what f gives of each item, refused with the number of the first of which it gives nothing
 unfoldable pub each_from : {X Y R : Type 0} → (X → Option Y) → (ℕ → R) → ℕ → List X → Result (List Y) R

@@ -1,7 +1,7 @@
 -- A scene, or the first of all checks that refuses it.
 use Rattle.std.specs.Prelude.{ℕ, ◌+◌, nat_le, cond, List, [], take, map, Option, Some, None, Result, Ok, unwrap_or, slice_index_or}
 use Rattle.std.specs.Option.{option_and_then, ok_or}
-use Rattle.outside.specs.Told.{and_then, from_below}
+use Rattle.outside.specs.Faults.{and_then, from_below}
 use Rattle.lump_rules.specs.declared.wad.Lump.{Lump}
 use Rattle.lump_rules.specs.Lookups.{last_of, map_of, lump_at}
 use Rattle.cached_lumps.specs.Named.{named_bytes}

@@ -3,7 +3,7 @@ use Rattle.std.proofs.Common.{◌≡◌, ℕ, List, Option, Some, None, Result, 
 use Rattle.std.specs.Prelude.{IfErr, IfOk, IfSome, slice_index_or}
 use Rattle.std.proofs.lemmas.Result.{err_from_is_err_and}
 use Rattle.outside.specs.Shelf.{ShelfView}
-use Rattle.outside.specs.Told.{TellsAt, CauseAt}
+use Rattle.outside.specs.Faults.{FaultFits, HasCauseAt}
 use Rattle.zone_rules.specs.Zones.{Heap}
 use Rattle.zone_rules.specs.Orders.{KeepsOrder}
 use Rattle.zone_rules.proofs.OrderLemmas.{order_none, order_then}
@@ -12,7 +12,7 @@ use Rattle.wad_dir.specs.DirectoryView.{DirectoryView}
 use Rattle.art_rules.specs.declared.patch.Patch.{Patch}
 use Rattle.art_rules.specs.declared.refusal.SpriteRefusal.{SpriteRefusal}
 use Rattle.art_rules.specs.Patches.{patch_of}
-use Rattle.cached_lumps.specs.Calls.{Tells, Keeps, IsFullFor, IfFull, InOrderAt}
+use Rattle.cached_lumps.specs.Calls.{ReadsLumps, PreservesCache, IsFullFor, IfFull, InOrderAt}
 use Rattle.cached_lumps.proofs.CallLemmas.{keeps_none, keeps_then, told_later, full_for_earlier, cause_later, full_at, order_at, tells_at}
 use Rattle.sprite_book.specs.declared.fault.SpriteFault.{SpriteFault}
 use Rattle.sprite_book.specs.declared.fault.SpriteFault.TheVariants.{Refused, OutOfMemory}
@@ -20,7 +20,7 @@ use Rattle.sprite_book.specs.Faults.{sprite_told}
 use Rattle.sprite_book.specs.Calls.{Reads, IsToldWith, ArePatchesOf}
 
 -- the contents are told later too
-told_with : {a b : ShelfView} {dir : DirectoryView} {x y : Heap} {p q : List (Option Patch)} {contents : List (List ℕ)} → Keeps a b dir x y → IsToldWith a dir x p contents → ArePatchesOf (lump_bytes contents dir.lumps) q → IsToldWith b dir y q contents
+told_with : {a b : ShelfView} {dir : DirectoryView} {x y : Heap} {p q : List (Option Patch)} {contents : List (List ℕ)} → PreservesCache a b dir x y → IsToldWith a dir x p contents → ArePatchesOf (lump_bytes contents dir.lumps) q → IsToldWith b dir y q contents
 told_with keeps told read = record { told = told_later keeps told.told; read = read }
 
 module _ {A B : Type 0} {wants : ℕ → Type 0} {value : B → A} {expected : (ℕ → List ℕ) → Result A SpriteRefusal} where
@@ -86,9 +86,9 @@ module _ {A B C D E F : Type 0} {v w x : ShelfView} {dir : DirectoryView} {a b c
     count = two.count ∙ one.count;
     answers = λ contents told.
         let later = told_with one.keeps told (one.read contents told) in
-        let err = subst (λ (y : Result F SpriteFault). IfErr y (λ f. TellsAt w.steady (part (lump_bytes contents dir.lumps)) (sprite_told f))) is (two.answers contents later).err in
+        let err = subst (λ (y : Result F SpriteFault). IfErr y (λ f. FaultFits w.steady (part (lump_bytes contents dir.lumps)) (sprite_told f))) is (two.answers contents later).err in
         record { ok = tt; err = tells_at v.steady w.steady (part (lump_bytes contents dir.lumps)) (expected (lump_bytes contents dir.lumps)) (sprite_told fault) one.keeps.follows.steady (λ e h. stops (lump_bytes contents dir.lumps) e (one.answers contents told).ok h) err };
-    causes = record { err = cause_later v.faults w.faults x.faults (sprite_told fault) one.keeps.follows.faults (subst (λ (y : Result F SpriteFault). IfErr y (λ f. CauseAt w.faults x.faults (sprite_told f))) is two.causes.err) };
+    causes = record { err = cause_later v.faults w.faults x.faults (sprite_told fault) one.keeps.follows.faults (subst (λ (y : Result F SpriteFault). IfErr y (λ f. HasCauseAt w.faults x.faults (sprite_told f))) is two.causes.err) };
     full = full_at (sprite_told fault) (λ wanted widest' k. full_for_earlier among one.keeps wanted widest' k) (subst (λ (y : Result F SpriteFault). IfErr y (λ f. IfFull (sprite_told f) (IsFullFor some dir b))) is two.full);
     order = λ items all k.
         let k1 = one.order items all k in
@@ -116,7 +116,7 @@ module _ {v w : ShelfView} {dir : DirectoryView} {a b : Heap} {p q : List (Optio
   }
 
   -- what was read is given up
-  pub reads_alone : {A B : Type 0} {value : B → A} {expected : (ℕ → List ℕ) → Result A SpriteRefusal} {result : Result B SpriteFault} → ((bytes : ℕ → List ℕ) → ArePatchesOf bytes p) → Reads v w dir a b p q wants value expected result → Tells sprite_told v w dir a b wants value expected result
+  pub reads_alone : {A B : Type 0} {value : B → A} {expected : (ℕ → List ℕ) → Result A SpriteRefusal} {result : Result B SpriteFault} → ((bytes : ℕ → List ℕ) → ArePatchesOf bytes p) → Reads v w dir a b p q wants value expected result → ReadsLumps sprite_told v w dir a b wants value expected result
   reads_alone none one = record {
     keeps = one.keeps;
     answers = λ contents told. one.answers contents (record { told = told; read = none (lump_bytes contents dir.lumps) });
@@ -126,7 +126,7 @@ module _ {v w : ShelfView} {dir : DirectoryView} {a b : Heap} {p q : List (Optio
   }
 
 -- a call that keeps no patch
-pub reads_of : {A B : Type 0} {v w : ShelfView} {dir : DirectoryView} {a b : Heap} {wants : ℕ → Type 0} {value : B → A} {expected : (ℕ → List ℕ) → Result A SpriteRefusal} {result : Result B SpriteFault} (patches : List (Option Patch)) → Tells sprite_told v w dir a b wants value expected result → Reads v w dir a b patches patches wants value expected result
+pub reads_of : {A B : Type 0} {v w : ShelfView} {dir : DirectoryView} {a b : Heap} {wants : ℕ → Type 0} {value : B → A} {expected : (ℕ → List ℕ) → Result A SpriteRefusal} {result : Result B SpriteFault} (patches : List (Option Patch)) → ReadsLumps sprite_told v w dir a b wants value expected result → Reads v w dir a b patches patches wants value expected result
 reads_of patches one = record {
   keeps = one.keeps;
   read = λ contents told. told.read;

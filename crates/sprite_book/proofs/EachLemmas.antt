@@ -3,7 +3,7 @@ use Rattle.std.proofs.Common.{◌≡◌, ℕ, zero, suc, ◌+◌, ◌<◌, List,
 use Rattle.std.specs.List.{range_with_len}
 use Rattle.std.proofs.Math.ListN.{set}
 use Rattle.std.proofs.lemmas.List.{take_more_set}
-use Rattle.outside.specs.Told.{and_then}
+use Rattle.outside.specs.Faults.{and_then}
 use Rattle.sprite_book.specs.Books.{each_of}
 
 joined : {Y R : Type 0} (a : Result Y R) (b c : Result (List Y) R) →

@@ -7,7 +7,7 @@ use Rattle.std.proofs.Math.ListN.{set}
 use Rattle.std.proofs.Math.Seq.{drop-cons}
 use Rattle.std.proofs.lemmas.List.{take_more, take_more_set, map-append, take-append-drop}
 use Rattle.std.proofs.lemmas.List.Elements.{All-nil, All-cons, All-append, All-head, All-tail}
-use Rattle.outside.specs.Told.{and_then}
+use Rattle.outside.specs.Faults.{and_then}
 use Rattle.word_rules.specs.Least.{or_else}
 use Rattle.word_rules.specs.Listed.{joined_lists}
 use Rattle.lump_rules.specs.declared.wad.Lump.{Lump}

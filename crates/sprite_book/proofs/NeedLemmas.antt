@@ -9,7 +9,7 @@ use Rattle.std.proofs.lemmas.List.{take_more}
 use Rattle.art_rules.specs.declared.Mention.{Mention}
 use Rattle.art_rules.specs.Frames.{mentions}
 use Rattle.std.proofs.lemmas.List.Elements.{filter-append}
-use Rattle.outside.specs.Told.{and_then}
+use Rattle.outside.specs.Faults.{and_then}
 use Rattle.art_rules.specs.declared.refusal.SpriteRefusal.{SpriteRefusal}
 use Rattle.lump_rules.specs.declared.wad.Lump.{Lump}
 use Rattle.sprite_book.specs.declared.shapes.Need.{Need}

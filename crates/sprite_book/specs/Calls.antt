@@ -1,7 +1,7 @@
 -- What is told of a call that reads sprite lumps: which it may ask for, and what was read so far.
 use Rattle.std.specs.Prelude.{◌≡◌, ℕ, List, length, Option, Some, None, IfSome, IfErr, MatchResult, Result, Ok, Contains, slice_index_or}
 use Rattle.outside.specs.Shelf.{ShelfView}
-use Rattle.outside.specs.Told.{Answers, HasCauses}
+use Rattle.outside.specs.Faults.{ResultIs, HasCauses}
 use Rattle.zone_rules.specs.Zones.{Heap}
 use Rattle.zone_rules.specs.Orders.{Item, IsInOrder, KeepsOrder}
 use Rattle.lump_rules.specs.declared.wad.Lump.{Lump}
@@ -12,7 +12,7 @@ use Rattle.art_rules.specs.declared.patch.Patch.{Patch}
 use Rattle.art_rules.specs.declared.refusal.SpriteRefusal.{SpriteRefusal}
 use Rattle.art_rules.specs.Patches.{patch_of}
 use Rattle.art_rules.specs.Frames.{mentions}
-use Rattle.cached_lumps.specs.Calls.{Keeps, IsTold, IsFullFor, IfFull, InOrderAt, HasAll}
+use Rattle.cached_lumps.specs.Calls.{PreservesCache, HoldContents, IsFullFor, IfFull, InOrderAt, HasAll}
 use Rattle.sprite_book.specs.declared.fault.SpriteFault.{SpriteFault}
 use Rattle.sprite_book.specs.declared.shapes.Need.{Need}
 use Rattle.sprite_book.specs.Faults.{sprite_told}
@@ -38,16 +38,16 @@ pub record ArePatchesOf (bytes : ℕ → List ℕ) (patches : List (Option Patch
 
 -- the shelf and the cache tell these contents, and what was read so far are patches of them
 pub record IsToldWith (view : ShelfView) (dir : DirectoryView) (z : Heap) (patches : List (Option Patch)) (contents : List (List ℕ)) : Type 0 where
-  pub told : IsTold view dir z contents
+  pub told : HoldContents view dir z contents
   pub read : ArePatchesOf (lump_bytes contents dir.lumps) patches
 
 -- A call over the cache that also keeps the patches that it reads: its answer, what it keeps, when a read
 -- fails, when the zone is full, and that a cache in order stays so.
 pub record Reads {A B : Type 0} (view after : ShelfView) (dir : DirectoryView) (old new : Heap) (before now : List (Option Patch)) (wants : ℕ → Type 0) (value : B → A) (expected : (ℕ → List ℕ) → Result A SpriteRefusal) (result : Result B SpriteFault) : Type 0 where
-  pub keeps : Keeps view after dir old new
+  pub keeps : PreservesCache view after dir old new
   pub read : (contents : List (List ℕ)) → IsToldWith view dir old before contents → ArePatchesOf (lump_bytes contents dir.lumps) now
   pub count : length now ≡ length before
-  pub answers : (contents : List (List ℕ)) → IsToldWith view dir old before contents → Answers sprite_told view.steady value (expected (lump_bytes contents dir.lumps)) result
+  pub answers : (contents : List (List ℕ)) → IsToldWith view dir old before contents → ResultIs sprite_told view.steady value (expected (lump_bytes contents dir.lumps)) result
   pub causes : HasCauses sprite_told view.faults after.faults result
   pub full : IfErr result (λ fault. IfFull (sprite_told fault) (IsFullFor wants dir old))
   pub order : (items : List Item) → HasAll items dir wants → IsInOrder items old →

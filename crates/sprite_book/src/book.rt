@@ -1,8 +1,8 @@
 // A book of frames.
 ghost use Rattle.std.specs.Prelude.{◌≡◌, ◌<◌, ◌≤◌, ◌+◌, ◌↔◌, true, ℕ, List, length, map, All, Contains, Option, Some, Ok, IfOk, IfErr, IfSome, MatchResult};
 ghost use Rattle.std.specs.List.Sorted.{IsStrictlyIncreasing};
-ghost use Rattle.outside.specs.Shelf.{Follows, AllStand};
-ghost use Rattle.outside.specs.Told.{Answers, HasCauses};
+ghost use Rattle.outside.specs.Shelf.{IsLaterShelf, NameFiles};
+ghost use Rattle.outside.specs.Faults.{ResultIs, HasCauses};
 ghost use Rattle.lump_rules.specs.Lookups.{lump_at};
 ghost use Rattle.lump_rules.specs.Contents.{AllWithin};
 ghost use Rattle.zone_rules.specs.declared.TheConstants.{MIN_FRAGMENT};
@@ -10,7 +10,7 @@ ghost use Rattle.zone_rules.specs.Zones.{block_size, bytes_of};
 ghost use Rattle.zone_rules.specs.Orders.{Item, has_item, IsInOrder, KeepsOrder};
 ghost use Rattle.art_rules.specs.Frames.{mentions};
 ghost use Rattle.lump_cache.specs.Caches.{IsFaithful, IsAtRest, KeepsCounts, lump_owner, composite_owner};
-ghost use Rattle.cached_lumps.specs.Calls.{Tells, IfFull, InOrderAt};
+ghost use Rattle.cached_lumps.specs.Calls.{ReadsLumps, IfFull, InOrderAt};
 ghost use Rattle.sprite_book.specs.declared.shapes.Frame.{Frame};
 ghost use Rattle.sprite_book.specs.Books.{book_of, outlines_of, outline, frame_of, outline_of, each_of, first_needs, picked, book_lumps};
 ghost use Rattle.sprite_book.specs.Faults.{sprite_told};
@@ -80,17 +80,17 @@ impl SpriteBook {
         shelf: &mut S,
     ) -> Result<SpriteBook, SpriteFault>
         requires slots { length dir.now.lumps ≤ cache.old.lumps }
-        ensures tells { Tells sprite_told (S.view shelf.old) (S.view shelf.new) dir.now cache.old cache.new (IsWanted dir.now.lumps needed.now) (λ book. book) (λ bytes. each_of (frame_of bytes dir.now.lumps) (first_needs needed.now)) result }
-        ensures answers { (contents : List (List ℕ)) → AllStand (S.view shelf.old) dir.now.files contents → AllWithin contents dir.now.lumps → IsFaithful contents dir.now.lumps cache.old →
-            Answers sprite_told (S.view shelf.old).steady (λ book. book) (book_of contents dir.now.lumps needed.now) result }
+        ensures tells { ReadsLumps sprite_told (S.view shelf.old) (S.view shelf.new) dir.now cache.old cache.new (IsWanted dir.now.lumps needed.now) (λ book. book) (λ bytes. each_of (frame_of bytes dir.now.lumps) (first_needs needed.now)) result }
+        ensures answers { (contents : List (List ℕ)) → NameFiles (S.view shelf.old) dir.now.files contents → AllWithin contents dir.now.lumps → IsFaithful contents dir.now.lumps cache.old →
+            ResultIs sprite_told (S.view shelf.old).steady (λ book. book) (book_of contents dir.now.lumps needed.now) result }
         ensures outlines { IfOk result (λ book. outlines_of dir.now.lumps needed.now ≡ Ok (map outline book)) }
         ensures there { IfOk result (λ book. All (λ frame. All (λ shape. shape.lump.0 < length dir.now.lumps) frame.shapes) book) }
-        ensures follows { Follows (S.view shelf.old) (S.view shelf.new) }
+        ensures follows { IsLaterShelf (S.view shelf.old) (S.view shelf.new) }
         ensures causes { HasCauses sprite_told (S.view shelf.old).faults (S.view shelf.new).faults result }
         ensures full { IfErr result (λ fault. IfFull (sprite_told fault) (λ wanted widest'. (lump : ℕ) × IsWanted dir.now.lumps needed.now lump × (wanted ≡ block_size (lump_at dir.now.lumps lump).size) × (widest' < wanted))) }
         ensures room { (colormap size : ℕ) → IsAtRest colormap size cache.old →
             IfErr result (λ fault. IfFull (sprite_told fault) (λ wanted widest'. cache.old.size < block_size size + wanted + MIN_FRAGMENT)) }
-        ensures faithful { (contents : List (List ℕ)) → AllStand (S.view shelf.old) dir.now.files contents → IsFaithful contents dir.now.lumps cache.old → IsFaithful contents dir.now.lumps cache.new }
+        ensures faithful { (contents : List (List ℕ)) → NameFiles (S.view shelf.old) dir.now.files contents → IsFaithful contents dir.now.lumps cache.old → IsFaithful contents dir.now.lumps cache.new }
         ensures rest { (colormap size : ℕ) → IsAtRest colormap size cache.old → IsAtRest colormap size cache.new }
         ensures counts { KeepsCounts cache.old cache.new }
         ensures composites { (number : ℕ) → IfSome (bytes_of (composite_owner number) cache.new.blocks) (λ bytes. bytes_of (composite_owner number) cache.old.blocks ≡ Some bytes) }
@@ -132,7 +132,7 @@ fn make_book<S: Shelf>(
     shelf: &mut S,
 ) -> Result<SpriteBook, SpriteFault>
     requires { length dir.now.lumps ≤ cache.old.lumps }
-    ensures tells { Tells sprite_told (S.view shelf.old) (S.view shelf.new) dir.now cache.old cache.new (IsWanted dir.now.lumps needed.now) (λ book. book) (λ bytes. each_of (frame_of bytes dir.now.lumps) (first_needs needed.now)) result }
+    ensures tells { ReadsLumps sprite_told (S.view shelf.old) (S.view shelf.new) dir.now cache.old cache.new (IsWanted dir.now.lumps needed.now) (λ book. book) (λ bytes. each_of (frame_of bytes dir.now.lumps) (first_needs needed.now)) result }
     ensures outlines { IfOk result (λ book. each_of (outline_of dir.now.lumps) (first_needs needed.now) ≡ Ok (map outline book)) }
 {
     let index = index_mentions(alloc, dir)?;

@@ -2,9 +2,9 @@
 use Rattle.std.proofs.Common.{◌≡◌, ℕ, ◌+◌, ◌<◌, ◌≤◌, false, List, [], ◌∷◌, Result, Ok, Err, refl, sym, subst, ap, ◌∙◌, arith, MatchResult, IsErrAnd}
 use Rattle.std.specs.Prelude.{IfErr, Contains, ◌*◌}
 use Rattle.std.proofs.lemmas.Result.{err_from_is_err_and}
-use Rattle.outside.specs.Causes.{Rose}
+use Rattle.outside.specs.Causes.{FaultsRose}
 use Rattle.outside.specs.Shelf.{ShelfView}
-use Rattle.outside.specs.Told.{Answers, HasCauses}
+use Rattle.outside.specs.Faults.{ResultIs, HasCauses}
 use Rattle.outside.proofs.ShelfLemmas.{follows_none, follows_then, all_stand_later}
 use Rattle.lump_rules.specs.declared.wad.Lump.{Lump}
 use Rattle.lump_rules.specs.Lookups.{lump_at}
@@ -16,8 +16,8 @@ use Rattle.zone_rules.proofs.OrderLemmas.{order_none, order_then}
 use Rattle.wad_dir.specs.DirectoryView.{DirectoryView}
 use Rattle.lump_cache.specs.declared.fault.CacheFault.{CacheFault}
 use Rattle.lump_cache.specs.declared.fault.CacheFault.TheVariants.{ZoneFull, ReadFault}
-use Rattle.lump_cache.specs.Caches.{HasAsked, IsAtRestBut, KeepsCounts, NoRoom, WhereFull, cache_told, composite_owner, lump_owner}
-use Rattle.cached_lumps.specs.Calls.{IfFull, InOrderAt, IsTold}
+use Rattle.lump_cache.specs.Caches.{HasAsked, IsAtRestExcept, KeepsCounts, NoRoom, WhereFull, cache_told, composite_owner, lump_owner}
+use Rattle.cached_lumps.specs.Calls.{IfFull, InOrderAt, HoldContents}
 use Rattle.art_rules.specs.declared.PlacedPatch.{PlacedPatch}
 use Rattle.art_rules.specs.Wanted.{PreparedTexture}
 use Rattle.texture_build.specs.Asked.{IsSmallBeside, size_of}
@@ -36,7 +36,7 @@ pub causes_earlier : (a b c : ℕ) (result : Result (Unit {0}) CacheFault) → a
 causes_earlier a b c (Ok done) h k = record { err = tt }
 causes_earlier a b c (Err (ZoneFull wanted widest')) h k = record { err = tt }
 causes_earlier a b c (Err ReadFault) h k = record { err = rose a b c h k.err } where
-  rose : (a b c : ℕ) → a ≤ b → Rose b c → Rose a c
+  rose : (a b c : ℕ) → a ≤ b → FaultsRose b c → FaultsRose a c
   rose a b c h r = omega (arith, h, r)
 
 pub order_after : (items : List Item) (x y z : Heap) (a b c : ℕ) (result : Result (Unit {0}) CacheFault) → KeepsOrder items x y a b → MatchResult result (λ _. KeepsOrder items y z b c) (λ fault. InOrderAt (cache_told fault) (KeepsOrder items y z b c)) →
@@ -67,7 +67,7 @@ module _ {number : ℕ} {u v w : ShelfView} {dir : DirectoryView} {x y z : Heap}
     building = λ size k. next.building size (first.building size k);
   }
 
-pub told_build : {number : ℕ} {u v : ShelfView} {dir : DirectoryView} {x y : Heap} {contents : List (List ℕ)} → KeepsBuild number u v dir x y → IsTold u dir x contents → IsTold v dir y contents
+pub told_build : {number : ℕ} {u v : ShelfView} {dir : DirectoryView} {x y : Heap} {contents : List (List ℕ)} → KeepsBuild number u v dir x y → HoldContents u dir x contents → HoldContents v dir y contents
 told_build {u} {v} {dir} {contents} keeps told = record {
   stand = all_stand_later u v dir.files contents keeps.follows told.stand;
   within = told.within;
@@ -97,7 +97,7 @@ narrow_where size z wanted widest' full = omega (arith, full.wanted_is, full.wid
 
 -- the zone was full for a patch of the texture
 pub patch_full : (lumps : List Lump) (number : ℕ) (t : PreparedTexture) (patch : PlacedPatch) (z : Heap) (r : Result (Unit {0}) CacheFault) → Contains t.patches patch → WhereFull r (NoRoom (lump_at lumps patch.lump).size z) →
-    ((colormap count : ℕ) (o : Owner) (asked : ℕ) → IsAtRestBut colormap count (o ∷ []) z → same_owner (lump_owner colormap) o ≡ false → HasAsked asked (owned_block o z.blocks) → WhereFull r (λ wanted widest'. z.size < block_size count + block_size asked + 2 * wanted + 2 * MIN_FRAGMENT)) →
+    ((colormap count : ℕ) (o : Owner) (asked : ℕ) → IsAtRestExcept colormap count (o ∷ []) z → same_owner (lump_owner colormap) o ≡ false → HasAsked asked (owned_block o z.blocks) → WhereFull r (λ wanted widest'. z.size < block_size count + block_size asked + 2 * wanted + 2 * MIN_FRAGMENT)) →
     IfErr r (λ fault. IfFull (cache_told fault) (IsFullForPatch lumps number t z))
 patch_full lumps number t patch z (Ok done) among full room = tt
 patch_full lumps number t patch z (Err ReadFault) among full room = tt
@@ -125,7 +125,7 @@ module _ {number : ℕ} {t : PreparedTexture} {i j k : ℕ} {u v w : ShelfView} 
   pub puts_then : {result : Result (Unit {0}) CacheFault} → PutsPatches number t i j u v dir x y (Ok tt) → PutsPatches number t j k v w dir y z result → PutsPatches number t i k u w dir x z result
   puts_then {result} first next = record {
     keeps = keeps_build_then first.keeps next.keeps;
-    answers = λ contents stand within. subst (λ s. Answers cache_told s (λ (done : Unit {0}). done) (Ok tt) result) first.keeps.follows.steady (next.answers contents (all_stand_later u v dir.files contents first.keeps.follows stand) within);
+    answers = λ contents stand within. subst (λ s. ResultIs cache_told s (λ (done : Unit {0}). done) (Ok tt) result) first.keeps.follows.steady (next.answers contents (all_stand_later u v dir.files contents first.keeps.follows stand) within);
     causes = causes_earlier u.faults v.faults w.faults result first.keeps.follows.faults next.causes;
     full = full_earlier t first.keeps result next.full;
     order = λ items all ord. let before = first.order items all ord in order_after items x y z u.taken v.taken w.taken result before (next.order items all before.order);

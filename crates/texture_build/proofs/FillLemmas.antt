@@ -9,7 +9,7 @@ use Rattle.zone_rules.specs.Frees.{write_block, write_holding}
 use Rattle.zone_rules.specs.Orders.{Item, IsInOrder, KeepsOrder}
 use Rattle.zone_rules.proofs.OwnerLemmas.{owned_block-map, write_held}
 use Rattle.zone_rules.proofs.OrderChangeLemmas.{order_written}
-use Rattle.lump_cache.specs.Caches.{HasAsked, HasBlock, HasUse, IsAsked, IsAtRestBut, IsFaithful, IsFilled, IsPinned, KeepsCounts, KeptOrPurged, composite_owner}
+use Rattle.lump_cache.specs.Caches.{HasAsked, HasBlock, HasUse, IsAsked, IsAtRestExcept, IsFaithful, IsFilled, IsPinned, KeepsCounts, KeptOrPurged, composite_owner}
 use Rattle.lump_cache.proofs.FaithLemmas.{bytes_in}
 use Rattle.lump_cache.proofs.FillLemmas.{filled_others}
 use Rattle.lump_cache.proofs.RestButLemmas.{rest_but_written, write_pinned}
@@ -120,8 +120,8 @@ module _ {number : ℕ} {old new : Heap} {P : List ℕ → Type 0} (f : IsFilled
   pub filled_faithful : (contents : List (List ℕ)) (lumps : List Lump) → IsFaithful contents lumps old → IsFaithful contents lumps new
   filled_faithful contents lumps k = subst (IsFaithful contents lumps) (sym f.zone) (faithful_written number f.bytes contents lumps old k)
 
-  pub filled_rest : (colormap count : ℕ) (pinned : List Owner) → IsAtRestBut colormap count pinned old → IsAtRestBut colormap count pinned new
-  filled_rest colormap count pinned k = subst (IsAtRestBut colormap count pinned) (sym f.zone) (rest_but_written (composite_owner number) f.bytes colormap count pinned old refl k)
+  pub filled_rest : (colormap count : ℕ) (pinned : List Owner) → IsAtRestExcept colormap count pinned old → IsAtRestExcept colormap count pinned new
+  filled_rest colormap count pinned k = subst (IsAtRestExcept colormap count pinned) (sym f.zone) (rest_but_written (composite_owner number) f.bytes colormap count pinned old refl k)
 
   pub filled_order : (items : List Item) (taken : ℕ) → IsInOrder items old → KeepsOrder items old new taken taken
   filled_order items taken k = subst (λ (z : Heap). KeepsOrder items old z taken taken) (sym f.zone) (order_written (composite_owner number) f.bytes items old taken k)

@@ -21,13 +21,13 @@ use Rattle.art_rules.specs.Wanted.{PreparedTexture}
 use Rattle.texture_build.specs.Asked.{IsFullFor}
 use Rattle.texture_build.specs.Builds.{OthersKeep}
 use Rattle.texture_build.specs.Composites.{AreComposites, composite_of}
-use Rattle.texture_build.specs.Ready.{Readies}
+use Rattle.texture_build.specs.Ready.{MakesColumnLive}
 use Rattle.texture_build.specs.Sources.{IsColumnLive}
 use Rattle.texture_build.specs.Views.{TexturesView, prepared_at}
 use Rattle.texture_build.proofs.BuildLemmas.{narrow_where}
 
 -- nothing was asked for
-pub readies_nothing : (number : ℕ) (t : PreparedTexture) (lookup : ColumnLookup) (view : ShelfView) (dir : DirectoryView) (z : Heap) → IsColumnLive number z lookup → Readies number t lookup view view dir z z (Ok tt)
+pub readies_nothing : (number : ℕ) (t : PreparedTexture) (lookup : ColumnLookup) (view : ShelfView) (dir : DirectoryView) (z : Heap) → IsColumnLive number z lookup → MakesColumnLive number t lookup view view dir z z (Ok tt)
 readies_nothing number t lookup view dir z live = record {
   answers = λ contents stand within. record { ok = refl; err = tt };
   live = live;

@@ -1,15 +1,15 @@
 -- What is told of the steps by which a composite is built, while its block is pinned.
 use Rattle.std.specs.Prelude.{◌≡◌, ℕ, ◌+◌, ◌<◌, ◌==◌, false, true, List, [], ◌∷◌, length, replicate, Some, None, IfSome, IfErr, OnOk, OnErr, MatchResult, Result, Ok, slice_get}
-use Rattle.outside.specs.Shelf.{ShelfView, Follows, AllStand}
-use Rattle.outside.specs.Told.{Answers, HasCauses}
+use Rattle.outside.specs.Shelf.{ShelfView, IsLaterShelf, NameFiles}
+use Rattle.outside.specs.Faults.{ResultIs, HasCauses}
 use Rattle.lump_rules.specs.declared.wad.Lump.{Lump}
 use Rattle.lump_rules.specs.Contents.{AllWithin, lump_bytes}
 use Rattle.zone_rules.specs.Zones.{Owner, Heap, owned_block, bytes_of, block_size, same_owner}
 use Rattle.zone_rules.specs.Orders.{Item, IsInOrder, KeepsOrder, has_item}
 use Rattle.wad_dir.specs.DirectoryView.{DirectoryView}
 use Rattle.lump_cache.specs.declared.fault.CacheFault.{CacheFault}
-use Rattle.lump_cache.specs.Caches.{HasAsked, IsAtRest, IsAtRestBut, IsFaithful, IsPinned, KeepsCounts, cache_told, composite_owner, lump_owner, release_heap}
-use Rattle.cached_lumps.specs.Calls.{IfFull, InOrderAt, IsTold}
+use Rattle.lump_cache.specs.Caches.{HasAsked, IsAtRest, IsAtRestExcept, IsFaithful, IsPinned, KeepsCounts, cache_told, composite_owner, lump_owner, release_heap}
+use Rattle.cached_lumps.specs.Calls.{IfFull, InOrderAt, HoldContents}
 use Rattle.art_rules.specs.declared.PlacedPatch.{PlacedPatch}
 use Rattle.art_rules.specs.Lookups.{composite_of_first}
 use Rattle.art_rules.specs.Wanted.{PreparedTexture}
@@ -27,10 +27,10 @@ pub record OthersKeep (number : ℕ) (old new : Heap) : Type 0 where
 -- What is kept by a step, whatever is answered: no block but the composite's, and the colormap's,
 -- is pinned before it or after it.
 pub record KeepsBuild (number : ℕ) (view after : ShelfView) (dir : DirectoryView) (old new : Heap) : Type 0 where
-  pub follows : Follows view after
+  pub follows : IsLaterShelf view after
   pub counts : KeepsCounts old new
-  pub rest : (colormap count : ℕ) → IsAtRestBut colormap count (composite_owner number ∷ []) old → IsAtRestBut colormap count (composite_owner number ∷ []) new
-  pub faithful : (contents : List (List ℕ)) → AllStand view dir.files contents → IsFaithful contents dir.lumps old → IsFaithful contents dir.lumps new
+  pub rest : (colormap count : ℕ) → IsAtRestExcept colormap count (composite_owner number ∷ []) old → IsAtRestExcept colormap count (composite_owner number ∷ []) new
+  pub faithful : (contents : List (List ℕ)) → NameFiles view dir.files contents → IsFaithful contents dir.lumps old → IsFaithful contents dir.lumps new
   pub others : OthersKeep number old new
   pub building : (size : ℕ) → IsBuilding number size old → IsBuilding number size new
 
@@ -42,7 +42,7 @@ pub record IsFullForPatch (lumps : List Lump) (number : ℕ) (t : PreparedTextur
   pub asked : IsPatch lumps t owner size
   pub wanted_is : wanted ≡ block_size size
   pub narrow : widest' < wanted
-  pub room : (colormap count : ℕ) → IsAtRestBut colormap count (composite_owner number ∷ []) z → IsBuilding number (size_of t) z → IsSmallBeside z.size count (size_of t) wanted
+  pub room : (colormap count : ℕ) → IsAtRestExcept colormap count (composite_owner number ∷ []) z → IsBuilding number (size_of t) z → IsSmallBeside z.size count (size_of t) wanted
 
 -- the list has each patch of the texture
 abbrev pub HasPatches : List Item → List Lump → PreparedTexture → Type 0
@@ -59,21 +59,21 @@ HasBuilt bytes number t n z = bytes_of (composite_owner number) z.blocks ≡ Som
 -- the patches of a texture from one to another were fetched and put, each released before the next
 pub record PutsPatches (number : ℕ) (t : PreparedTexture) (from to : ℕ) (view after : ShelfView) (dir : DirectoryView) (old new : Heap) (result : Result (Unit {0}) CacheFault) : Type 0 where
   pub keeps : KeepsBuild number view after dir old new
-  pub answers : (contents : List (List ℕ)) → AllStand view dir.files contents → AllWithin contents dir.lumps → Answers cache_told view.steady (λ (done : Unit {0}). done) (Ok tt) result
+  pub answers : (contents : List (List ℕ)) → NameFiles view dir.files contents → AllWithin contents dir.lumps → ResultIs cache_told view.steady (λ (done : Unit {0}). done) (Ok tt) result
   pub causes : HasCauses cache_told view.faults after.faults result
   pub full : IfErr result (λ fault. IfFull (cache_told fault) (IsFullForPatch dir.lumps number t old))
   pub order : (items : List Item) → HasPatches items dir.lumps t → IsInOrder items old →
       MatchResult result (λ _. KeepsOrder items old new view.taken after.taken) (λ fault. InOrderAt (cache_told fault) (KeepsOrder items old new view.taken after.taken))
-  pub put : (contents : List (List ℕ)) → IsTold view dir old contents → HasBuilt (lump_bytes contents dir.lumps) number t from old → OnOk result (HasBuilt (lump_bytes contents dir.lumps) number t to new)
+  pub put : (contents : List (List ℕ)) → HoldContents view dir old contents → HasBuilt (lump_bytes contents dir.lumps) number t from old → OnOk result (HasBuilt (lump_bytes contents dir.lumps) number t to new)
 
 -- a patch whose lump's bytes are live is put into the composite's, over those before it
 pub record PutsPatch (number : ℕ) (t : PreparedTexture) (patch : PlacedPatch) (old : Heap) (w : List ℕ) : Type 0 where
   pub put : (bytes : ℕ → List ℕ) (n : ℕ) → slice_get t.patches n ≡ Some patch → bytes_of (lump_owner patch.lump) old.blocks ≡ Some (bytes patch.lump) → HasBuilt bytes number t n old → w ≡ built_of bytes t (n + 1)
 
 -- a composite of so many bytes is begun: its block is taken and pinned, and each of its bytes is 0
-pub record Begins (number size : ℕ) (old new : Heap) : Type 0 where
+pub record StartsComposite (number size : ℕ) (old new : Heap) : Type 0 where
   pub counts : KeepsCounts old new
-  pub rest : (colormap count : ℕ) → IsAtRest colormap count old → IsAtRestBut colormap count (composite_owner number ∷ []) new
+  pub rest : (colormap count : ℕ) → IsAtRest colormap count old → IsAtRestExcept colormap count (composite_owner number ∷ []) new
   pub faithful : (contents : List (List ℕ)) (lumps : List Lump) → IsFaithful contents lumps old → IsFaithful contents lumps new
   pub others : OthersKeep number old new
   pub building : IsBuilding number size new
@@ -93,11 +93,11 @@ pub record FailsToBegin (number size : ℕ) (old new : Heap) (wanted widest' : �
   pub order : (items : List Item) → has_item items (composite_owner number) size ≡ true → IsInOrder items old → ⊥
 
 -- the building of a composite ends: where it was built it is released, and else its block is freed
-pub record Ends (number : ℕ) (old new : Heap) (built : Result (Unit {0}) CacheFault) : Type 0 where
+pub record EndsComposite (number : ℕ) (old new : Heap) (built : Result (Unit {0}) CacheFault) : Type 0 where
   pub released : OnOk built (new ≡ release_heap (composite_owner number) old)
   pub empty : OnErr built (owned_block (composite_owner number) new.blocks ≡ None)
   pub others : (o : Owner) → same_owner (composite_owner number) o ≡ false → owned_block o new.blocks ≡ owned_block o old.blocks
   pub counts : KeepsCounts old new
   pub faithful : (contents : List (List ℕ)) (lumps : List Lump) → IsFaithful contents lumps old → IsFaithful contents lumps new
-  pub rest : (colormap count : ℕ) (pinned : List Owner) → IsAtRestBut colormap count (composite_owner number ∷ pinned) old → IsAtRestBut colormap count pinned new
+  pub rest : (colormap count : ℕ) (pinned : List Owner) → IsAtRestExcept colormap count (composite_owner number ∷ pinned) old → IsAtRestExcept colormap count pinned new
   pub order : OnOk built ((items : List Item) (taken : ℕ) → IsInOrder items old → KeepsOrder items old new taken taken)

@@ -1,14 +1,14 @@
 -- What is told of a call that makes live what a texture column is read from.
 use Rattle.std.specs.Prelude.{◌≡◌, ℕ, List, None, Some, IfErr, OnOk, OnErr, MatchResult, Result, Ok}
-use Rattle.outside.specs.Shelf.{ShelfView, Follows, AllStand}
-use Rattle.outside.specs.Told.{Answers, HasCauses}
+use Rattle.outside.specs.Shelf.{ShelfView, IsLaterShelf, NameFiles}
+use Rattle.outside.specs.Faults.{ResultIs, HasCauses}
 use Rattle.lump_rules.specs.Contents.{AllWithin, lump_bytes}
 use Rattle.zone_rules.specs.Zones.{Heap, owned_block}
 use Rattle.zone_rules.specs.Orders.{Item, IsInOrder, KeepsOrder}
 use Rattle.wad_dir.specs.DirectoryView.{DirectoryView}
 use Rattle.lump_cache.specs.declared.fault.CacheFault.{CacheFault}
 use Rattle.lump_cache.specs.Caches.{IsAtRest, IsFaithful, KeepsCounts, cache_told, composite_owner}
-use Rattle.cached_lumps.specs.Calls.{IfFull, InOrderAt, IsTold}
+use Rattle.cached_lumps.specs.Calls.{IfFull, InOrderAt, HoldContents}
 use Rattle.art_rules.specs.declared.ColumnLookup.{ColumnLookup}
 use Rattle.art_rules.specs.Wanted.{PreparedTexture}
 use Rattle.texture_build.specs.Asked.{HasAsked, IsFullFor}
@@ -17,15 +17,15 @@ use Rattle.texture_build.specs.Sources.{IsColumnLive, IsComposedColumn}
 use Rattle.texture_build.specs.Views.{TexturesView, prepared_at}
 
 -- for a column of the texture of that number, which is read from that
-pub record Readies (number : ℕ) (t : PreparedTexture) (lookup : ColumnLookup) (view after : ShelfView) (dir : DirectoryView) (old new : Heap) (result : Result (Unit {0}) CacheFault) : Type 0 where
-  pub answers : (contents : List (List ℕ)) → AllStand view dir.files contents → AllWithin contents dir.lumps → Answers cache_told view.steady (λ (done : Unit {0}). done) (Ok tt) result
+pub record MakesColumnLive (number : ℕ) (t : PreparedTexture) (lookup : ColumnLookup) (view after : ShelfView) (dir : DirectoryView) (old new : Heap) (result : Result (Unit {0}) CacheFault) : Type 0 where
+  pub answers : (contents : List (List ℕ)) → NameFiles view dir.files contents → AllWithin contents dir.lumps → ResultIs cache_told view.steady (λ (done : Unit {0}). done) (Ok tt) result
   pub live : OnOk result (IsColumnLive number new lookup)
-  pub follows : Follows view after
+  pub follows : IsLaterShelf view after
   pub causes : HasCauses cache_told view.faults after.faults result
   pub counts : KeepsCounts old new
   pub rest : (colormap count : ℕ) → IsAtRest colormap count old → IsAtRest colormap count new
-  pub faithful : (contents : List (List ℕ)) → AllStand view dir.files contents → IsFaithful contents dir.lumps old → IsFaithful contents dir.lumps new
-  pub composites : (contents : List (List ℕ)) (textures : TexturesView) → prepared_at textures.prepared number ≡ Some t → IsTold view dir old contents →
+  pub faithful : (contents : List (List ℕ)) → NameFiles view dir.files contents → IsFaithful contents dir.lumps old → IsFaithful contents dir.lumps new
+  pub composites : (contents : List (List ℕ)) (textures : TexturesView) → prepared_at textures.prepared number ≡ Some t → HoldContents view dir old contents →
       AreComposites (lump_bytes contents dir.lumps) textures old → AreComposites (lump_bytes contents dir.lumps) textures new
   pub empty : OnErr result (IsComposedColumn lookup → owned_block (composite_owner number) new.blocks ≡ None)
   pub full : IfErr result (λ fault. IfFull (cache_told fault) (IsFullFor dir.lumps number t lookup old))

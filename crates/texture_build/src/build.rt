@@ -2,16 +2,16 @@
 //
 // Rules: `specs/Builds`, over `art_rules`, Lookups. The original: `R_GenerateComposite`, r_data.c.
 ghost use Rattle.std.specs.Prelude.{◌≡◌, ◌<◌, ◌≤◌, ◌+◌, ℕ, List, Contains, length, replicate, Ok, Some, None, slice_get, IfErr, OnOk, OnErr, MatchResult, IsNone};
-ghost use Rattle.outside.specs.Shelf.{AllStand, Follows};
-ghost use Rattle.outside.specs.Told.{Answers, HasCauses};
+ghost use Rattle.outside.specs.Shelf.{NameFiles, IsLaterShelf};
+ghost use Rattle.outside.specs.Faults.{ResultIs, HasCauses};
 ghost use Rattle.lump_rules.specs.Contents.{AllWithin, lump_bytes};
 ghost use Rattle.zone_rules.specs.Zones.{IsLive, bytes_of, holding_of, owned_block};
 ghost use Rattle.zone_rules.specs.Orders.{Item, IsInOrder, KeepsOrder};
 ghost use Rattle.lump_cache.specs.Caches.{IsAtRest, IsFaithful, IsFilled, KeepsCounts, cache_told, composite_owner, lump_owner};
-ghost use Rattle.cached_lumps.specs.Calls.{IfFull, InOrderAt, IsTold};
+ghost use Rattle.cached_lumps.specs.Calls.{IfFull, InOrderAt, HoldContents};
 ghost use Rattle.art_rules.specs.declared.ColumnLookup.TheVariants.{Composed};
 ghost use Rattle.texture_build.specs.Asked.{HasAsked, IsFullFor, size_of};
-ghost use Rattle.texture_build.specs.Builds.{Begins, Ends, FailsToBegin, IsBuilding, OthersKeep, PutsPatch, PutsPatches};
+ghost use Rattle.texture_build.specs.Builds.{StartsComposite, EndsComposite, FailsToBegin, IsBuilding, OthersKeep, PutsPatch, PutsPatches};
 ghost use Rattle.texture_build.specs.Composites.{composite_of};
 ghost use Rattle.texture_build.specs.Views.{AreThere};
 
@@ -41,14 +41,14 @@ pub(crate) fn build_composite<S: Shelf>(
     requires composite { number < cache.old.composites }
     requires there { AreThere dir.now.lumps texture.now }
     requires empty { IsNone (holding_of (composite_owner number) cache.old.blocks) }
-    ensures answers { (contents : List (List ℕ)) → AllStand (S.view shelf.old) dir.now.files contents → AllWithin contents dir.now.lumps → Answers cache_told (S.view shelf.old).steady (λ done. done) (Ok tt) result }
+    ensures answers { (contents : List (List ℕ)) → NameFiles (S.view shelf.old) dir.now.files contents → AllWithin contents dir.now.lumps → ResultIs cache_told (S.view shelf.old).steady (λ done. done) (Ok tt) result }
     ensures live { OnOk result (IsLive cache.new (composite_owner number)) }
-    ensures follows { Follows (S.view shelf.old) (S.view shelf.new) }
+    ensures follows { IsLaterShelf (S.view shelf.old) (S.view shelf.new) }
     ensures causes { HasCauses cache_told (S.view shelf.old).faults (S.view shelf.new).faults result }
     ensures counts { KeepsCounts cache.old cache.new }
     ensures rest { (colormap count : ℕ) → IsAtRest colormap count cache.old → IsAtRest colormap count cache.new }
-    ensures faithful { (contents : List (List ℕ)) → AllStand (S.view shelf.old) dir.now.files contents → IsFaithful contents dir.now.lumps cache.old → IsFaithful contents dir.now.lumps cache.new }
-    ensures composite { (contents : List (List ℕ)) → IsTold (S.view shelf.old) dir.now cache.old contents → OnOk result (bytes_of (composite_owner number) cache.new.blocks ≡ Some (composite_of (lump_bytes contents dir.now.lumps) texture.now)) }
+    ensures faithful { (contents : List (List ℕ)) → NameFiles (S.view shelf.old) dir.now.files contents → IsFaithful contents dir.now.lumps cache.old → IsFaithful contents dir.now.lumps cache.new }
+    ensures composite { (contents : List (List ℕ)) → HoldContents (S.view shelf.old) dir.now cache.old contents → OnOk result (bytes_of (composite_owner number) cache.new.blocks ≡ Some (composite_of (lump_bytes contents dir.now.lumps) texture.now)) }
     ensures others { OthersKeep number cache.old cache.new }
     ensures empty { OnErr result (owned_block (composite_owner number) cache.new.blocks ≡ None) }
     ensures full { (place : ℕ) → IfErr result (λ fault. IfFull (cache_told fault) (IsFullFor dir.now.lumps number texture.now (Composed place) cache.old)) }
@@ -65,7 +65,7 @@ pub(crate) fn build_composite<S: Shelf>(
 fn begin_composite(cache: &mut LumpCache, number: u32, size: u32) -> Result<(), ZoneFull>
     requires in_range { number < cache.old.composites }
     requires empty { IsNone (holding_of (composite_owner number) cache.old.blocks) }
-    ensures { MatchResult result (λ _. Begins number size cache.old cache.new) (λ e. FailsToBegin number size cache.old cache.new e.wanted e.widest) }
+    ensures { MatchResult result (λ _. StartsComposite number size cache.old cache.new) (λ e. FailsToBegin number size cache.old cache.new e.wanted e.widest) }
 {
     cache.take_composite(number, size)?;
     clear_composite(cache, number);
@@ -81,12 +81,12 @@ fn clear_composite(cache: &mut LumpCache, number: u32)
     cache.composite_mut(number).fill(0);
 }
 
-// Ends the building of a composite: what was built is made purgeable, and after a fault its block
+// EndsComposite the building of a composite: what was built is made purgeable, and after a fault its block
 // is freed.
 fn end_composite(cache: &mut LumpCache, number: u32, built: &Result<(), CacheFault>)
     requires in_range { number < cache.old.composites }
     requires live { IsLive cache.old (composite_owner number) }
-    ensures { Ends number cache.old cache.new built.now }
+    ensures { EndsComposite number cache.old cache.new built.now }
 {
     match built {
         Ok(()) => cache.release_composite(number),

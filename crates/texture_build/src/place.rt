@@ -6,7 +6,7 @@ ghost use Rattle.std.specs.Prelude.{◌≡◌, ◌<◌, ◌≤◌, ◌^◌, ◌+
 ghost use Rattle.lump_rules.specs.Lookups.{last_of};
 ghost use Rattle.zone_rules.specs.Zones.{bytes_of};
 ghost use Rattle.lump_cache.specs.Caches.{lump_owner};
-ghost use Rattle.cached_lumps.specs.Calls.{Tells};
+ghost use Rattle.cached_lumps.specs.Calls.{ReadsLumps};
 ghost use Rattle.art_rules.specs.Patches.{patch_of};
 ghost use Rattle.art_rules.specs.Wanted.{place_lump, place_patch, placed_patch, placed_patches};
 ghost use Rattle.art_rules.specs.declared.PlacedPatch.{PlacedPatch};
@@ -40,7 +40,7 @@ pub(crate) fn place_patches<S: Shelf>(
     requires width { length columns.old < 2 ^ 16 }
     requires none { patches.old.items ≡ [] }
     requires empty { (bytes : ℕ → List ℕ) → columns.old ≡ seen_lookups bytes [] (length columns.old) }
-    ensures tells { Tells tex_told (S.view shelf.old) (S.view shelf.new) dir.now cache.old cache.new (IsEntryPatch dir.now.lumps lists.now.names entries.now) (λ _. record { patches = patches.new.items; columns = columns.new }) (λ bytes. or_missing tex.0 (option_map (part_of bytes (length columns.old)) (placed_patches (last_of dir.now.lumps) bytes lists.now.names entries.now))) result }
+    ensures tells { ReadsLumps tex_told (S.view shelf.old) (S.view shelf.new) dir.now cache.old cache.new (IsEntryPatch dir.now.lumps lists.now.names entries.now) (λ _. record { patches = patches.new.items; columns = columns.new }) (λ bytes. or_missing tex.0 (option_map (part_of bytes (length columns.old)) (placed_patches (last_of dir.now.lumps) bytes lists.now.names entries.now))) result }
     ensures seen { OnOk result (AreSeen patches.new.items columns.new) }
     ensures there { OnOk result (All (λ patch. patch.lump < length dir.now.lumps) patches.new.items) }
     ensures count { length columns.new ≡ length columns.old }
@@ -64,7 +64,7 @@ fn place_entry<S: Shelf>(
 ) -> Result<PlacedPatch, TexFault>
     requires slots { length dir.now.lumps ≤ cache.old.lumps }
     requires width { length columns.old < 2 ^ 16 }
-    ensures tells { Tells tex_told (S.view shelf.old) (S.view shelf.new) dir.now cache.old cache.new (λ lump. patch_lump dir.now.lumps lists.now.names entry.now ≡ Some lump) (λ patch. record { patch = patch; columns = columns.new }) (λ bytes. or_missing tex.0 (option_map (step_of bytes columns.old) (placed_patch (last_of dir.now.lumps) bytes lists.now.names entry.now))) result }
+    ensures tells { ReadsLumps tex_told (S.view shelf.old) (S.view shelf.new) dir.now cache.old cache.new (λ lump. patch_lump dir.now.lumps lists.now.names entry.now ≡ Some lump) (λ patch. record { patch = patch; columns = columns.new }) (λ bytes. or_missing tex.0 (option_map (step_of bytes columns.old) (placed_patch (last_of dir.now.lumps) bytes lists.now.names entry.now))) result }
     ensures seen { (patches : List PlacedPatch) → AreSeen patches columns.old → IfOk result (λ patch. AreSeen (patches ++ patch ∷ []) columns.new) }
     ensures there { IfOk result (λ patch. patch.lump < length dir.now.lumps) }
     ensures count { length columns.new ≡ length columns.old }
@@ -100,7 +100,7 @@ fn place_lump<S: Shelf>(
     requires slots { length dir.now.lumps ≤ cache.old.lumps }
     requires listed { lump.0 < length dir.now.lumps }
     requires width { length columns.old < 2 ^ 16 }
-    ensures tells { Tells tex_told (S.view shelf.old) (S.view shelf.new) dir.now cache.old cache.new (λ number. number ≡ lump.0) (λ patch. record { patch = patch; columns = columns.new }) (λ bytes. or_missing tex.0 (option_map (step_of bytes columns.old) (place_lump bytes entry.now lump.0))) result }
+    ensures tells { ReadsLumps tex_told (S.view shelf.old) (S.view shelf.new) dir.now cache.old cache.new (λ number. number ≡ lump.0) (λ patch. record { patch = patch; columns = columns.new }) (λ bytes. or_missing tex.0 (option_map (step_of bytes columns.old) (place_lump bytes entry.now lump.0))) result }
     ensures seen { (patches : List PlacedPatch) → AreSeen patches columns.old → IfOk result (λ patch. AreSeen (patches ++ patch ∷ []) columns.new) }
     ensures lump { IfOk result (λ patch. patch.lump ≡ lump.0) }
     ensures count { length columns.new ≡ length columns.old }

@@ -2,17 +2,17 @@
 //
 // Rules: `specs/Ready`, `specs/Sources` and `specs/Asked`. The original: `R_GetColumn`, r_data.c.
 ghost use Rattle.std.specs.Prelude.{◌≡◌, ◌<◌, ◌≤◌, ℕ, List, length, Ok, Some, None, IfErr, OnOk, OnErr, MatchResult};
-ghost use Rattle.outside.specs.Shelf.{AllStand, Follows};
-ghost use Rattle.outside.specs.Told.{Answers, HasCauses};
+ghost use Rattle.outside.specs.Shelf.{NameFiles, IsLaterShelf};
+ghost use Rattle.outside.specs.Faults.{ResultIs, HasCauses};
 ghost use Rattle.lump_rules.specs.Contents.{AllWithin, lump_bytes};
 ghost use Rattle.zone_rules.specs.Zones.{IsLive, owned_block};
 ghost use Rattle.zone_rules.specs.Orders.{Item, IsInOrder, KeepsOrder, is_live};
 ghost use Rattle.lump_cache.specs.Caches.{IsAtRest, IsFaithful, KeepsCounts, cache_told, composite_owner};
-ghost use Rattle.cached_lumps.specs.Calls.{IfFull, InOrderAt, IsTold};
+ghost use Rattle.cached_lumps.specs.Calls.{IfFull, InOrderAt, HoldContents};
 ghost use Rattle.art_rules.specs.declared.ColumnLookup.TheVariants.{Composed};
 ghost use Rattle.texture_build.specs.Asked.{HasAsked, IsFullFor};
 ghost use Rattle.texture_build.specs.Composites.{AreComposites};
-ghost use Rattle.texture_build.specs.Ready.{Readies};
+ghost use Rattle.texture_build.specs.Ready.{MakesColumnLive};
 ghost use Rattle.texture_build.specs.Sources.{IsColumnLive, IsComposedColumn, IsThere, column_in};
 ghost use Rattle.texture_build.specs.Views.{AreThere, TexturesView, prepared_at};
 
@@ -41,16 +41,16 @@ pub(crate) fn make_ready<S: Shelf>(
     requires slots { length dir.now.lumps ≤ cache.old.lumps }
     requires composite { number < cache.old.composites }
     requires there { AreThere dir.now.lumps texture.now }
-    ensures answers { (contents : List (List ℕ)) → AllStand (S.view shelf.old) dir.now.files contents → AllWithin contents dir.now.lumps → Answers cache_told (S.view shelf.old).steady (λ done. done) (Ok tt) result }
+    ensures answers { (contents : List (List ℕ)) → NameFiles (S.view shelf.old) dir.now.files contents → AllWithin contents dir.now.lumps → ResultIs cache_told (S.view shelf.old).steady (λ done. done) (Ok tt) result }
     ensures live { OnOk result (IsColumnLive number cache.new (column_in texture.now col)) }
     ensures there { IsThere dir.now.lumps (column_in texture.now col) }
     ensures hit { IsColumnLive number cache.old (column_in texture.now col) → (result ≡ Ok tt) × (shelf.new ≡ shelf.old) }
-    ensures follows { Follows (S.view shelf.old) (S.view shelf.new) }
+    ensures follows { IsLaterShelf (S.view shelf.old) (S.view shelf.new) }
     ensures causes { HasCauses cache_told (S.view shelf.old).faults (S.view shelf.new).faults result }
     ensures counts { KeepsCounts cache.old cache.new }
     ensures rest { (colormap count : ℕ) → IsAtRest colormap count cache.old → IsAtRest colormap count cache.new }
-    ensures faithful { (contents : List (List ℕ)) → AllStand (S.view shelf.old) dir.now.files contents → IsFaithful contents dir.now.lumps cache.old → IsFaithful contents dir.now.lumps cache.new }
-    ensures composites { (contents : List (List ℕ)) (textures : TexturesView) → prepared_at textures.prepared number ≡ Some texture.now → IsTold (S.view shelf.old) dir.now cache.old contents →
+    ensures faithful { (contents : List (List ℕ)) → NameFiles (S.view shelf.old) dir.now.files contents → IsFaithful contents dir.now.lumps cache.old → IsFaithful contents dir.now.lumps cache.new }
+    ensures composites { (contents : List (List ℕ)) (textures : TexturesView) → prepared_at textures.prepared number ≡ Some texture.now → HoldContents (S.view shelf.old) dir.now cache.old contents →
         AreComposites (lump_bytes contents dir.now.lumps) textures cache.old → AreComposites (lump_bytes contents dir.now.lumps) textures cache.new }
     ensures empty { OnErr result (IsComposedColumn (column_in texture.now col) → owned_block (composite_owner number) cache.new.blocks ≡ None) }
     ensures full { IfErr result (λ fault. IfFull (cache_told fault) (IsFullFor dir.now.lumps number texture.now (column_in texture.now col) cache.old)) }
@@ -79,7 +79,7 @@ fn ready_composite<S: Shelf>(
     requires slots { length dir.now.lumps ≤ cache.old.lumps }
     requires composite { number < cache.old.composites }
     requires there { AreThere dir.now.lumps texture.now }
-    ensures readies { (place : ℕ) → Readies number texture.now (Composed place) (S.view shelf.old) (S.view shelf.new) dir.now cache.old cache.new result }
+    ensures readies { (place : ℕ) → MakesColumnLive number texture.now (Composed place) (S.view shelf.old) (S.view shelf.new) dir.now cache.old cache.new result }
     ensures hit { IsLive cache.old (composite_owner number) → (result ≡ Ok tt) × (shelf.new ≡ shelf.old) }
 {
     if is_composite_live(cache, number) {

@@ -7,7 +7,7 @@ use Rattle.zone_rules.specs.Zones.{Heap, IsLive, block_size, same_owner}
 use Rattle.wad_dir.specs.DirectoryView.{DirectoryView}
 use Rattle.wad_dir.specs.declared.directory.LumpNo.{LumpNo}
 use Rattle.lump_cache.specs.Caches.{IsAtRest, lump_owner}
-use Rattle.cached_lumps.specs.Calls.{Keeps}
+use Rattle.cached_lumps.specs.Calls.{PreservesCache}
 use Rattle.cached_lumps.specs.Named.{IsLast, live_bytes}
 use Rattle.cached_lumps.specs.Sizes.{StandsBeside}
 use Rattle.cached_lumps.proofs.SizeLemmas.{beside_earlier, beside_named}
@@ -18,7 +18,7 @@ on_ok (Ok found) p = p
 on_ok (Err fault) p = tt
 
 -- the last lump of a name was made live and lent
-pub list_beside : {A E : Type 0} {v w : ShelfView} {dir : DirectoryView} {a b : Heap} {name key : List ℕ} → name ≡ key → (lump : Option LumpNo) (lent : Option (List ℕ)) (result : Result A E) → Keeps v w dir a b →
+pub list_beside : {A E : Type 0} {v w : ShelfView} {dir : DirectoryView} {a b : Heap} {name key : List ℕ} → name ≡ key → (lump : Option LumpNo) (lent : Option (List ℕ)) (result : Result A E) → PreservesCache v w dir a b →
     option_map (λ (l : LumpNo). l.0) lump ≡ last_of dir.lumps name → IfSome lump (λ l. l.0 < length dir.lumps) → IfSome lump (λ l. IsLive b (lump_owner l.0)) → lent ≡ live_bytes lump b →
     ((colormap count : ℕ) → IsAtRest colormap count b → IfSome lump (λ l. same_owner (lump_owner colormap) (lump_owner l.0) ≡ false) → IfSome lent (λ bytes. block_size count + block_size (length bytes) ≤ b.size)) →
     OnOk result ((number : ℕ) → IsLast dir.lumps key number → StandsBeside dir.lumps a number)

@@ -4,7 +4,7 @@ use Rattle.std.specs.Prelude.{◌||◌, pos, int_lt}
 use Rattle.std.specs.Int.{w16, cast_signed}
 use Rattle.std.proofs.lemmas.Bool.{false≢true}
 use Rattle.std.proofs.lemmas.Bool.Decides.{nat_tests}
-use Rattle.outside.specs.Told.{and_then}
+use Rattle.outside.specs.Faults.{and_then}
 use Rattle.word_rules.specs.Least.{or_else}
 use Rattle.word_rules.proofs.LeastLemmas.{none-below, least-some}
 use Rattle.art_rules.specs.declared.refusal.TexRefusal.{TexRefusal}

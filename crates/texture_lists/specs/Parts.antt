@@ -1,6 +1,6 @@
 -- What is kept of each list of textures while both are read: no byte of a list.
 use Rattle.std.specs.Prelude.{ℕ, ◌+◌, List, [], ◌++◌, Option, None, Some, Result, Ok, option_map}
-use Rattle.outside.specs.Told.{and_then}
+use Rattle.outside.specs.Faults.{and_then}
 use Rattle.word_rules.specs.Least.{or_else}
 use Rattle.art_rules.specs.declared.refusal.TexRefusal.{TexRefusal}
 use Rattle.art_rules.specs.Textures.{Texture, list_count, wrong_record, textures_in, first_list, second_list, unless_wrong}

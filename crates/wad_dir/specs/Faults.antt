@@ -1,10 +1,11 @@
 -- What the faults of a directory tell.
-use Rattle.outside.specs.Told.{Told, refused, read_failed, out_of_memory}
+use Rattle.outside.specs.declared.fault.Fault.{Fault}
+use Rattle.outside.specs.declared.fault.Fault.TheVariants.{Refused, ReadFault, OutOfMemory}
 use Rattle.lump_rules.specs.declared.wad.DirRefusal.{DirRefusal}
 use Rattle.wad_dir.specs.declared.fault.DirFault.{DirFault}
 use Rattle.wad_dir.specs.declared.fault.DirFault.TheVariants.{Refused, ReadFault, OutOfMemory}
 
-abbrev pub dir_told : DirFault → Told DirRefusal
-dir_told (Refused refusal) = refused refusal
-dir_told ReadFault = read_failed
-dir_told OutOfMemory = out_of_memory
+abbrev pub dir_told : DirFault → Fault DirRefusal
+dir_told (Refused refusal) = Refused refusal
+dir_told ReadFault = ReadFault
+dir_told OutOfMemory = OutOfMemory

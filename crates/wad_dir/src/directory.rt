@@ -1,8 +1,8 @@
 // A directory, and what it finds.
 ghost use Rattle.std.specs.Prelude.{◌≡◌, ℕ, List, ◌<◌, ◌≤◌, ◌+◌, ◌*◌, ◌^◌, length, map, All, IfOk, IfSome, slice_get};
 ghost use Rattle.std.specs.Option.{option_map};
-ghost use Rattle.outside.specs.Shelf.{Follows, AllStand};
-ghost use Rattle.outside.specs.Told.{Answers, HasCauses};
+ghost use Rattle.outside.specs.Shelf.{IsLaterShelf, NameFiles};
+ghost use Rattle.outside.specs.Faults.{ResultIs, HasCauses};
 ghost use Rattle.lump_rules.specs.Wads.{directory, listing_sizes};
 ghost use Rattle.lump_rules.specs.Lookups.{lump_at, last_of, flat_of, map_of, members};
 ghost use Rattle.lump_rules.specs.Contents.{AllWithin};
@@ -73,15 +73,15 @@ impl Directory {
         shelf: &mut S,
         files: &[FileNo],
     ) -> Result<Directory, DirFault>
-        ensures answers { (contents : List (List ℕ)) → AllStand (S.view shelf.old) files.now contents →
-            Answers dir_told (S.view shelf.old).steady (λ dir. dir.lumps) (directory contents) result }
+        ensures answers { (contents : List (List ℕ)) → NameFiles (S.view shelf.old) files.now contents →
+            ResultIs dir_told (S.view shelf.old).steady (λ dir. dir.lumps) (directory contents) result }
         ensures files { IfOk result (λ dir. dir.files ≡ files.now) }
-        ensures within { (contents : List (List ℕ)) → AllStand (S.view shelf.old) files.now contents →
+        ensures within { (contents : List (List ℕ)) → NameFiles (S.view shelf.old) files.now contents →
             IfOk result (λ dir. AllWithin contents dir.lumps) }
         ensures count { IfOk result (λ dir. length dir.lumps < 2 ^ 16) }
-        ensures follows { Follows (S.view shelf.old) (S.view shelf.new) }
+        ensures follows { IsLaterShelf (S.view shelf.old) (S.view shelf.new) }
         ensures causes { HasCauses dir_told (S.view shelf.old).faults (S.view shelf.new).faults result }
-        ensures taken { (contents : List (List ℕ)) → AllStand (S.view shelf.old) files.now contents →
+        ensures taken { (contents : List (List ℕ)) → NameFiles (S.view shelf.old) files.now contents →
             (S.view shelf.new).taken ≤ (S.view shelf.old).taken + listing_sizes contents }
         ensures taken_by_count { IfOk result (λ dir.
             (S.view shelf.new).taken ≤ (S.view shelf.old).taken + (HEADER_SIZE * length dir.files + ENTRY_SIZE * length dir.lumps)) }

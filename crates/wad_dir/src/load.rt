@@ -1,7 +1,7 @@
 // Directories are read from a shelf.
 ghost use Rattle.std.specs.Prelude.{◌≡◌, ℕ, List, ◌<◌, ◌≤◌, ◌+◌, ◌*◌, ◌^◌, length, take, drop, true, position, Ok, All, IfOk, IfNone, OnOk, MatchOption};
-ghost use Rattle.outside.specs.Shelf.{Follows, Stands, AllStand};
-ghost use Rattle.outside.specs.Told.{Answers, HasCauses};
+ghost use Rattle.outside.specs.Shelf.{IsLaterShelf, Stands, NameFiles};
+ghost use Rattle.outside.specs.Faults.{ResultIs, HasCauses};
 ghost use Rattle.lump_rules.specs.Wads.{is_wad, header, header_in, entry_count, directory_place, directory_size, whole_header_refusal, header_refusal, lump_in, lumps_in, file_lumps, passes_end, entry_refusal, file_refusal, unless_refused, directory, listing_size, listing_sizes};
 ghost use Rattle.wad_dir.specs.Faults.{dir_told};
 
@@ -20,13 +20,13 @@ pub fn read_lumps<S: Shelf>(
     shelf: &mut S,
     files: &[FileNo],
 ) -> Result<Vec<Lump>, DirFault>
-    ensures answers { (contents : List (List ℕ)) → AllStand (S.view shelf.old) files.now contents →
-        Answers dir_told (S.view shelf.old).steady (λ lumps. lumps.items) (directory contents) result }
+    ensures answers { (contents : List (List ℕ)) → NameFiles (S.view shelf.old) files.now contents →
+        ResultIs dir_told (S.view shelf.old).steady (λ lumps. lumps.items) (directory contents) result }
     ensures few { IfOk result (λ lumps. length lumps.items ≤ MAX_LUMPS) }
     ensures owned { IfOk result (λ lumps. All (λ lump. lump.file < length files.now) lumps.items) }
-    ensures follows { Follows (S.view shelf.old) (S.view shelf.new) }
+    ensures follows { IsLaterShelf (S.view shelf.old) (S.view shelf.new) }
     ensures causes { HasCauses dir_told (S.view shelf.old).faults (S.view shelf.new).faults result }
-    ensures taken { (contents : List (List ℕ)) → AllStand (S.view shelf.old) files.now contents →
+    ensures taken { (contents : List (List ℕ)) → NameFiles (S.view shelf.old) files.now contents →
         (S.view shelf.new).taken ≤ (S.view shelf.old).taken + listing_sizes contents }
     ensures taken_by_count { IfOk result (λ lumps.
         (S.view shelf.new).taken ≤ (S.view shelf.old).taken + (HEADER_SIZE * length files.now + ENTRY_SIZE * length lumps.items)) }
@@ -49,10 +49,10 @@ fn read_file<S: Shelf>(
 ) -> Result<Vec<Lump>, DirFault>
     requires { before ≤ MAX_LUMPS }
     ensures answers { (bytes : List ℕ) → Stands (S.view shelf.old) file.0 bytes →
-        Answers dir_told (S.view shelf.old).steady (λ lumps. lumps.items) (unless_refused (file_refusal number before bytes) (file_lumps number bytes)) result }
+        ResultIs dir_told (S.view shelf.old).steady (λ lumps. lumps.items) (unless_refused (file_refusal number before bytes) (file_lumps number bytes)) result }
     ensures few { IfOk result (λ lumps. before + length lumps.items ≤ MAX_LUMPS) }
     ensures owned { IfOk result (λ lumps. All (λ lump. lump.file ≡ number) lumps.items) }
-    ensures follows { Follows (S.view shelf.old) (S.view shelf.new) }
+    ensures follows { IsLaterShelf (S.view shelf.old) (S.view shelf.new) }
     ensures causes { HasCauses dir_told (S.view shelf.old).faults (S.view shelf.new).faults result }
     ensures taken { (bytes : List ℕ) → Stands (S.view shelf.old) file.0 bytes →
         (S.view shelf.new).taken ≤ (S.view shelf.old).taken + listing_size bytes }
@@ -74,10 +74,10 @@ fn read_header<S: Shelf>(
 ) -> Result<Header, DirFault>
     requires { before ≤ MAX_LUMPS }
     ensures answers { (bytes : List ℕ) → Stands (S.view shelf.old) file.0 bytes →
-        Answers dir_told (S.view shelf.old).steady (λ head. head) (unless_refused (header_refusal number before bytes) (header_in (length bytes) (header bytes))) result }
+        ResultIs dir_told (S.view shelf.old).steady (λ head. head) (unless_refused (header_refusal number before bytes) (header_in (length bytes) (header bytes))) result }
     ensures within { IfOk result (λ head. head.place + ENTRY_SIZE * head.count ≤ head.size) }
     ensures few { IfOk result (λ head. before + head.count ≤ MAX_LUMPS) }
-    ensures follows { Follows (S.view shelf.old) (S.view shelf.new) }
+    ensures follows { IsLaterShelf (S.view shelf.old) (S.view shelf.new) }
     ensures causes { HasCauses dir_told (S.view shelf.old).faults (S.view shelf.new).faults result }
     ensures taken { (S.view shelf.new).taken ≤ (S.view shelf.old).taken + HEADER_SIZE }
 {
@@ -130,9 +130,9 @@ fn read_piece<S: Shelf>(
     size: usize,
 ) -> Result<Vec<u8>, DirFault>
     ensures answers { (bytes : List ℕ) → Stands (S.view shelf.old) file.0 bytes → place + size ≤ length bytes →
-        Answers dir_told (S.view shelf.old).steady (λ piece. piece.items) (Ok (take size (drop place bytes))) result }
+        ResultIs dir_told (S.view shelf.old).steady (λ piece. piece.items) (Ok (take size (drop place bytes))) result }
     ensures size { IfOk result (λ piece. length piece.items ≡ size) }
-    ensures follows { Follows (S.view shelf.old) (S.view shelf.new) }
+    ensures follows { IsLaterShelf (S.view shelf.old) (S.view shelf.new) }
     ensures causes { HasCauses dir_told (S.view shelf.old).faults (S.view shelf.new).faults result }
     ensures taken { (S.view shelf.new).taken ≤ (S.view shelf.old).taken + size }
 {
@@ -145,7 +145,7 @@ fn read_piece<S: Shelf>(
 fn lumps_of(alloc: Global, number: u64, head: Header, entries: &[u8]) -> Result<Vec<Lump>, DirFault>
     requires { length entries.now ≡ ENTRY_SIZE * head.count }
     ensures answers { let lumps = lumps_in number head.count entries.now in
-        Answers dir_told true (λ found. found.items) (unless_refused (entry_refusal number head.size lumps) lumps) result }
+        ResultIs dir_told true (λ found. found.items) (unless_refused (entry_refusal number head.size lumps) lumps) result }
     ensures count { IfOk result (λ lumps. length lumps.items ≡ head.count) }
     ensures owned { IfOk result (λ lumps. All (λ lump. lump.file ≡ number) lumps.items) }
     ensures causes { (before now : ℕ) → HasCauses dir_told before now result }

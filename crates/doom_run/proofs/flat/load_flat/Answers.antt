@@ -1,6 +1,6 @@
 use Rattle.std.proofs.Common.{ap, ◌∷◌, []}
-use Rattle.outside.specs.Told.{from_below}
-use Rattle.outside.specs.Shelf.{AllStand}
+use Rattle.outside.specs.Faults.{from_below}
+use Rattle.outside.specs.Shelf.{NameFiles}
 use Rattle.outside.proofs.ShelfLemmas.{all_stand_later, follows_then}
 use Rattle.outside.proofs.StepLemmas.{step, stop}
 use Rattle.lump_rules.specs.Wads.{directory}
@@ -17,7 +17,7 @@ returns-in_err-dir-clause-answers g c bytes stands =
 
 pub returns-clause-answers : goal.returns-clause-answers
 returns-clause-answers g c bytes stands =
-    let stand : AllStand (g.S.Shelf.view c.load.new.shelf) (c.args.number ∷ []) (bytes ∷ []) =
+    let stand : NameFiles (g.S.Shelf.view c.load.new.shelf) (c.args.number ∷ []) (bytes ∷ []) =
     all_stand_later _ _ (c.args.number ∷ []) (bytes ∷ []) c.load.ensures.follows (stands, tt) in
     step (from_below Wad (directory (bytes ∷ []))) (picture_in (bytes ∷ []) c.args.name.now) c.in_ok-dir.dir.lumps
     (ap (from_below Wad) (c.in_ok-dir.ensures.answers (bytes ∷ []) (stands, tt)).ok) c.load.ensures.follows.steady

@@ -1,5 +1,5 @@
 use Rattle.std.proofs.Common.{Ok, ap, inl, inr, refl, sym, ◌∙◌}
-use Rattle.outside.specs.Told.{and_then}
+use Rattle.outside.specs.Faults.{and_then}
 use Rattle.scene_rules.specs.declared.refusal.AuditRefusal.TheVariants.{Art}
 use Rattle.cached_lumps.proofs.CallLemmas.{tells_as, tells_refused, tells_same, tells_stop_first, tells_then}
 use Rattle.cached_lumps.proofs.SizeLemmas.{either_beside}

@@ -1,5 +1,5 @@
 use Rattle.std.proofs.Common.{Ok, ap, inl, inr}
-use Rattle.outside.specs.Told.{and_then}
+use Rattle.outside.specs.Faults.{and_then}
 use Rattle.scene_rules.specs.declared.refusal.AuditRefusal.TheVariants.{Map, Texture}
 use Rattle.cached_lumps.proofs.CallLemmas.{fault_above, tells_above, tells_as, tells_stop_first, tells_then}
 use Rattle.cached_lumps.proofs.SizeLemmas.{either_beside}

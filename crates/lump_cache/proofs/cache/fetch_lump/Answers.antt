@@ -3,7 +3,7 @@ use Rattle.std.specs.Prelude.{is_some}
 use Rattle.lump_rules.specs.Lookups.{lump_at}
 use Rattle.zone_rules.specs.declared.Tag.{Tag}
 use Rattle.zone_rules.specs.Zones.{Heap, Holding, holding_of, owner_at, owned_block}
-use Rattle.lump_cache.specs.Caches.{IsFaithful, IsAtRest, IsAtRestBut, lump_owner, with_tag_unless_static, holds_static}
+use Rattle.lump_cache.specs.Caches.{IsFaithful, IsAtRest, IsAtRestExcept, lump_owner, with_tag_unless_static, holds_static}
 use Rattle.lump_cache.proofs.FillLemmas.{unless_static_others, tag_none, use_live, on_ok}
 use Rattle.lump_cache.proofs.FaithLemmas.{faithful_by, faithful_retag}
 use Rattle.lump_cache.proofs.RestLemmas.{rest_taken, rest_retag, unpinned_after, kept_pinned}
@@ -50,7 +50,7 @@ returns-in-None-clause-rest_but g c = λ colormap size pinned t r.
 pub returns-in-Some-clause-rest_but : goal.returns-in-Some-clause-rest_but
 returns-in-Some-clause-rest_but g c = λ colormap size pinned t r.
     let l = lump_owner c.args.lump.0 in
-    subst (IsAtRestBut colormap size (l ∷ pinned)) (sym (c.retag.ensures.zone ∙ ap (λ n. with_tag_unless_static (owner_at 0 n) c.args.tag c.args.zone.now) c.lump_slot-in-Some.ensures)) (rest_but_retag colormap size l c.args.zone.now c.args.tag pinned t r)
+    subst (IsAtRestExcept colormap size (l ∷ pinned)) (sym (c.retag.ensures.zone ∙ ap (λ n. with_tag_unless_static (owner_at 0 n) c.args.tag c.args.zone.now) c.lump_slot-in-Some.ensures)) (rest_but_retag colormap size l c.args.zone.now c.args.tag pinned t r)
 
 pub returns-in-Some-clause-order : goal.returns-in-Some-clause-order
 returns-in-Some-clause-order g c = λ items in_list ord. (

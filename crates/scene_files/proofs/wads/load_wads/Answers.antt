@@ -1,5 +1,5 @@
 use Rattle.std.proofs.Common.{Ok, arith}
-use Rattle.outside.specs.Shelf.{AllStand}
+use Rattle.outside.specs.Shelf.{NameFiles}
 use Rattle.outside.proofs.ShelfLemmas.{all_stand_later, follows_then}
 use Rattle.outside.proofs.StepLemmas.{last_step, last_stop}
 use Rattle.lump_rules.specs.Wads.{directory}
@@ -17,7 +17,7 @@ returns-in_err-numbers-clause-answers g c files holds =
 pub returns-in_err-load-clause-answers : goal.returns-in_err-load-clause-answers
 returns-in_err-load-clause-answers g c files holds =
     let found = c.in_ok-numbers.ensures.found files holds in
-    let stand : AllStand (g.S.Shelf.view c.find_all.new.shelf) c.deref.result.now found.contents = rw c.deref.ensures.value found.stand in
+    let stand : NameFiles (g.S.Shelf.view c.find_all.new.shelf) c.deref.result.now found.contents = rw c.deref.ensures.value found.stand in
     rw (lumps_found _ files found.contents found.named, ← c.find_all.ensures.follows.steady)
     (no_file_agrees (wad_files found.contents) c.from_residual-in_err-load.result
     (last_stop Wad fault_of_dir dir_told_above _ c.from_residual-in_err-load.result
@@ -26,7 +26,7 @@ returns-in_err-load-clause-answers g c files holds =
 pub returns-clause-answers : goal.returns-clause-answers
 returns-clause-answers g c files holds =
     let found = c.in_ok-numbers.ensures.found files holds in
-    let stand : AllStand (g.S.Shelf.view c.find_all.new.shelf) c.deref.result.now found.contents = rw c.deref.ensures.value found.stand in
+    let stand : NameFiles (g.S.Shelf.view c.find_all.new.shelf) c.deref.result.now found.contents = rw c.deref.ensures.value found.stand in
     rw (lumps_found _ files found.contents found.named)
     (no_file_agrees (wad_files found.contents) (Ok c.in_ok-load.field-0)
     (last_step (g.S.Shelf.view c.args.shelf.now).steady (λ dir. dir.lumps) Wad (directory found.contents) c.in_ok-load.field-0

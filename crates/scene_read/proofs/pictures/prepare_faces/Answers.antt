@@ -1,6 +1,6 @@
 use Rattle.std.proofs.Common.{Ok, Err, ap, ◌∙◌}
 use Rattle.std.specs.Prelude.{option_map}
-use Rattle.outside.specs.Told.{from_below}
+use Rattle.outside.specs.Faults.{from_below}
 use Rattle.lump_rules.specs.Lookups.{last_of}
 use Rattle.cached_lumps.proofs.CallLemmas.{tells_same}
 use Rattle.art_rules.specs.Wanted.{prepared_textures}

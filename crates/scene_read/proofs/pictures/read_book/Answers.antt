@@ -1,5 +1,5 @@
 use Rattle.std.proofs.Common.{Ok, Err, ◌∙◌}
-use Rattle.outside.specs.Told.{from_below}
+use Rattle.outside.specs.Faults.{from_below}
 use Rattle.cached_lumps.proofs.CallLemmas.{tells_same}
 use Rattle.scene_rules.specs.declared.refusal.AuditRefusal.TheVariants.{Sprite}
 use Rattle.scene_rules.specs.Scenes.{book_in}

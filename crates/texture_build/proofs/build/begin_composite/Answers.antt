@@ -6,7 +6,7 @@ use Rattle.zone_rules.proofs.GapLemmas.{small_all}
 use Rattle.zone_rules.proofs.OrderLemmas.{order_then}
 use Rattle.lump_cache.specs.Caches.{composite_owner}
 use Rattle.lump_cache.proofs.RestButLemmas.{rest_but_none}
-use Rattle.texture_build.specs.Builds.{Begins, FailsToBegin}
+use Rattle.texture_build.specs.Builds.{StartsComposite, FailsToBegin}
 use Rattle.texture_build.proofs.FillLemmas.{building_taken, taken_length, others_kept, others_then, filled_counts, filled_rest, filled_faithful, filled_same, filled_building, filled_order, filled_bytes}
 use Rattle.texture_build.proofs.BuildLemmas.{same_error, counts_then}
 use Rattle.texture_build.proofs.build.begin_composite.Goals as goal
@@ -16,7 +16,7 @@ returns-in_err-take_composite c =
     let old = c.args.cache.now in
     let new = c.take_composite.new.self in
     let t = c.in_err-take_composite.ensures in
-    same_error c.from_residual.result c.in_err-take_composite.field-0.0 (λ (r : Result _ _). MatchResult r (λ _. Begins c.args.number c.args.size old new) (λ e. FailsToBegin c.args.number c.args.size old new e.wanted e.widest)) c.from_residual.ensures.1 (record {
+    same_error c.from_residual.result c.in_err-take_composite.field-0.0 (λ (r : Result _ _). MatchResult r (λ _. StartsComposite c.args.number c.args.size old new) (λ e. FailsToBegin c.args.number c.args.size old new e.wanted e.widest)) c.from_residual.ensures.1 (record {
       counts = t.counts;
       rest = t.rest;
       faithful = t.faithful;

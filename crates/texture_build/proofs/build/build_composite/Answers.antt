@@ -5,9 +5,9 @@ use Rattle.lump_rules.specs.Contents.{lump_bytes}
 use Rattle.lump_cache.specs.declared.fault.CacheFault.TheVariants.{ZoneFull}
 use Rattle.lump_cache.specs.Caches.{composite_owner}
 use Rattle.lump_cache.proofs.RestButLemmas.{rest_of_none}
-use Rattle.cached_lumps.specs.Calls.{IsTold}
+use Rattle.cached_lumps.specs.Calls.{HoldContents}
 use Rattle.texture_build.specs.Asked.{size_of}
-use Rattle.texture_build.specs.Builds.{Begins, FailsToBegin}
+use Rattle.texture_build.specs.Builds.{StartsComposite, FailsToBegin}
 use Rattle.texture_build.proofs.FillLemmas.{building_live, others_kept, others_then}
 use Rattle.texture_build.proofs.BuildLemmas.{counts_then}
 use Rattle.texture_build.proofs.EndLemmas.{built_none, ends_live, ends_built, ends_order, composite_full, ends_full}
@@ -15,8 +15,8 @@ use Rattle.texture_build.proofs.build.build_composite.Given.{Over}
 use Rattle.texture_build.proofs.build.build_composite.Goals as goal
 use Rattle.texture_build.proofs.build.build_composite.Goals.{In_ok-begin_composite}
 
-begins : (g : Over) (c : In_ok-begin_composite g) → Begins c.args.number (size_of c.args.texture.now) c.args.cache.now c.begin_composite.new.cache
-begins g c = subst (λ n. Begins c.args.number n c.args.cache.now c.begin_composite.new.cache) c.size.ensures.value c.in_ok-begin_composite.ensures
+begins : (g : Over) (c : In_ok-begin_composite g) → StartsComposite c.args.number (size_of c.args.texture.now) c.args.cache.now c.begin_composite.new.cache
+begins g c = subst (λ n. StartsComposite c.args.number n c.args.cache.now c.begin_composite.new.cache) c.size.ensures.value c.in_ok-begin_composite.ensures
 
 pub returns-in_err-begin_composite : goal.returns-in_err-begin_composite
 returns-in_err-begin_composite g c =
@@ -66,7 +66,7 @@ returns g c =
       faithful = λ contents stand k. e.faithful contents c.args.dir.now.lumps (p.keeps.faithful contents stand (b.faithful contents c.args.dir.now.lumps k));
       composite = λ contents told.
           let bytes = lump_bytes contents c.args.dir.now.lumps in
-          let later : IsTold (g.S.Shelf.view c.args.shelf.now) c.args.dir.now begun contents = record { stand = told.stand; within = told.within; faithful = b.faithful contents c.args.dir.now.lumps told.faithful } in
+          let later : HoldContents (g.S.Shelf.view c.args.shelf.now) c.args.dir.now begun contents = record { stand = told.stand; within = told.within; faithful = b.faithful contents c.args.dir.now.lumps told.faithful } in
           ends_built c.args.number put new built bytes t (p.put contents later (built_none bytes c.args.number t begun b.zeros)) e.released;
       others = others_then b.others (others_then p.keeps.others (others_kept c.args.number put new (λ n apart. inl (e.others (composite_owner n) apart))));
       empty = e.empty;

@@ -6,7 +6,7 @@ use Rattle.cached_lumps.specs.Calls.{IfFull}
 use Rattle.art_rules.specs.declared.ColumnLookup.{ColumnLookup}
 use Rattle.art_rules.specs.declared.ColumnLookup.TheVariants.{Composed}
 use Rattle.texture_build.specs.Asked.{IsFullFor}
-use Rattle.texture_build.specs.Ready.{Readies}
+use Rattle.texture_build.specs.Ready.{MakesColumnLive}
 use Rattle.texture_build.specs.Sources.{IsColumnLive, IsThere, column_in}
 use Rattle.texture_build.proofs.ReadyLemmas.{single_full}
 use Rattle.texture_build.proofs.ready.make_ready.Goals as goal
@@ -19,7 +19,7 @@ returns-in-Single-clause-full g c =
 pub returns-in-Composed : goal.returns-in-Composed
 returns-in-Composed g c =
     let is : Composed c.in-Composed.place ≡ column_in c.args.texture.now c.args.col = sym c.in-Composed.is ∙ c.lookup.ensures.column ∙ ap (column_in c.args.texture.now) (to_z-of_z w32 c.args.col (search rules)) in
-    let r = subst (λ (lookup : ColumnLookup). Readies c.args.number c.args.texture.now lookup (g.S.Shelf.view c.args.shelf.now) (g.S.Shelf.view c.ready_composite.new.shelf) c.args.dir.now c.args.cache.now c.ready_composite.new.cache c.ready_composite.result) is (c.ready_composite.ensures.readies c.in-Composed.place) in
+    let r = subst (λ (lookup : ColumnLookup). MakesColumnLive c.args.number c.args.texture.now lookup (g.S.Shelf.view c.args.shelf.now) (g.S.Shelf.view c.ready_composite.new.shelf) c.args.dir.now c.args.cache.now c.ready_composite.new.cache c.ready_composite.result) is (c.ready_composite.ensures.readies c.in-Composed.place) in
     record {
       answers = r.answers;
       live = r.live;

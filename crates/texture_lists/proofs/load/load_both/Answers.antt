@@ -1,5 +1,5 @@
 use Rattle.std.proofs.Common.{ap, inl, inr}
-use Rattle.outside.specs.Told.{and_then}
+use Rattle.outside.specs.Faults.{and_then}
 use Rattle.art_rules.specs.declared.TheConstants.{TEXTURE1, TEXTURE2}
 use Rattle.art_rules.specs.Textures.{both_lists}
 use Rattle.cached_lumps.specs.Named.{named_bytes}

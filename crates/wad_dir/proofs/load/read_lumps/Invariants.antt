@@ -1,5 +1,5 @@
 use Rattle.std.proofs.Common.{ℕ, ◌<◌, ◌≤◌, ◌+◌, ◌*◌, List, drop, length, All}
-use Rattle.outside.specs.Shelf.{Follows, AllStand}
+use Rattle.outside.specs.Shelf.{IsLaterShelf, NameFiles}
 use Rattle.lump_rules.specs.declared.wad.TheConstants.{HEADER_SIZE, ENTRY_SIZE, MAX_LUMPS}
 use Rattle.lump_rules.specs.Wads.{listing_sizes}
 use Rattle.wad_dir.proofs.FileLemmas.{IsReadTo}
@@ -9,9 +9,9 @@ abbrev pub invariant-loop-i : goal.invariant-loop-i
 invariant-loop-i g l = record {
   few : length l.lumps.items ≤ MAX_LUMPS;
   owned : All (λ lump. lump.file < length l.files) l.lumps.items;
-  follows : Follows (g.S.Shelf.view l.fn.shelf) (g.S.Shelf.view l.shelf);
-  read : (contents : List (List ℕ)) → AllStand (g.S.Shelf.view l.fn.shelf) l.files contents → IsReadTo contents l.i l.lumps.items;
-  taken : (contents : List (List ℕ)) → AllStand (g.S.Shelf.view l.fn.shelf) l.files contents →
+  follows : IsLaterShelf (g.S.Shelf.view l.fn.shelf) (g.S.Shelf.view l.shelf);
+  read : (contents : List (List ℕ)) → NameFiles (g.S.Shelf.view l.fn.shelf) l.files contents → IsReadTo contents l.i l.lumps.items;
+  taken : (contents : List (List ℕ)) → NameFiles (g.S.Shelf.view l.fn.shelf) l.files contents →
       (g.S.Shelf.view l.shelf).taken + listing_sizes (drop l.i contents) ≤ (g.S.Shelf.view l.fn.shelf).taken + listing_sizes contents;
   taken_by_count : (g.S.Shelf.view l.shelf).taken ≤ (g.S.Shelf.view l.fn.shelf).taken + (HEADER_SIZE * l.i + ENTRY_SIZE * length l.lumps.items);
 }

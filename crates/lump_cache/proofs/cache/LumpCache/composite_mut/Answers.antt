@@ -5,7 +5,7 @@ use Rattle.zone_rules.specs.Frees.{with_bytes}
 use Rattle.zone_rules.specs.Loans.{after_loan}
 use Rattle.zone_rules.specs.Orders.{KeepsOrder}
 use Rattle.zone_rules.proofs.OrderChangeLemmas.{order_written}
-use Rattle.lump_cache.specs.Caches.{IsFaithful, IsAtRest, IsAtRestBut, composite_owner}
+use Rattle.lump_cache.specs.Caches.{IsFaithful, IsAtRest, IsAtRestExcept, composite_owner}
 use Rattle.lump_cache.proofs.FillLemmas.{loan_sound}
 use Rattle.lump_cache.proofs.WriteLemmas.{loan_written, loan_counts, composite_others, faithful_written}
 use Rattle.lump_cache.proofs.RestButLemmas.{rest_written, rest_but_written}
@@ -36,7 +36,7 @@ returns c =
         counts = λ w. loan_counts o w old;
         faithful = λ w len contents lumps f. subst (IsFaithful contents lumps) (sym (written d w len)) (faithful_written c.args.number w contents lumps old f);
         rest = λ w len colormap size r. subst (IsAtRest colormap size) (sym (written d w len)) (rest_written o w colormap size old refl r);
-        rest_but = λ w len colormap size pinned r. subst (IsAtRestBut colormap size pinned) (sym (written d w len)) (rest_but_written o w colormap size pinned old refl r);
+        rest_but = λ w len colormap size pinned r. subst (IsAtRestExcept colormap size pinned) (sym (written d w len)) (rest_but_written o w colormap size pinned old refl r);
         order = λ w len items taken ord. subst (λ (z : Heap). KeepsOrder items old z taken taken) (sym (written d w len)) (order_written o w items old taken ord);
       },
     )

@@ -2,7 +2,7 @@ use Rattle.std.proofs.Common.{◌≡◌, ℕ, ◌+◌, ◌*◌, ◌<◌, false, 
 use Rattle.lump_rules.specs.Lookups.{lump_at}
 use Rattle.zone_rules.specs.Requests.{without_room}
 use Rattle.zone_rules.specs.Zones.{Owner, Heap, block_size, owned_block, same_owner}
-use Rattle.lump_cache.specs.Caches.{GivesBack, HasAsked, IsAtRest, IsAtRestBut, IsEmpty, LeftBy, WhereFull, lump_owner}
+use Rattle.lump_cache.specs.Caches.{GivesBack, HasAsked, IsAtRest, IsAtRestExcept, IsEmpty, LeftBy, WhereFull, lump_owner}
 use Rattle.lump_cache.proofs.cache.LumpCache.fetch.Goals as goal
 
 pub returns-clause-room : goal.returns-clause-room
@@ -12,7 +12,7 @@ returns-clause-room g c =
 
 pub returns-clause-room_but : goal.returns-clause-room_but
 returns-clause-room_but g c =
-    let P : Heap → Type 0 = λ z. (colormap count : ℕ) (o : Owner) (asked : ℕ) → IsAtRestBut colormap count (o ∷ []) z → same_owner (lump_owner colormap) o ≡ false → HasAsked asked (owned_block o z.blocks) → WhereFull c.fetch_lump.result (λ wanted widest'. z.size < block_size count + block_size asked + 2 * wanted + 128) in
+    let P : Heap → Type 0 = λ z. (colormap count : ℕ) (o : Owner) (asked : ℕ) → IsAtRestExcept colormap count (o ∷ []) z → same_owner (lump_owner colormap) o ≡ false → HasAsked asked (owned_block o z.blocks) → WhereFull c.fetch_lump.result (λ wanted widest'. z.size < block_size count + block_size asked + 2 * wanted + 128) in
     subst P c.self.view_is c.fetch_lump.ensures.room_but
 
 pub returns-clause-left : goal.returns-clause-left

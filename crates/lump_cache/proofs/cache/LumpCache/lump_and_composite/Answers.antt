@@ -3,7 +3,7 @@ use Rattle.zone_rules.specs.Zones.{Heap, owner_at, owned_block}
 use Rattle.zone_rules.specs.Frees.{with_bytes}
 use Rattle.zone_rules.specs.Orders.{KeepsOrder, is_live}
 use Rattle.zone_rules.proofs.OrderChangeLemmas.{order_written, live_written}
-use Rattle.lump_cache.specs.Caches.{IsFaithful, IsAtRest, IsAtRestBut, IsPinned, composite_owner}
+use Rattle.lump_cache.specs.Caches.{IsFaithful, IsAtRest, IsAtRestExcept, IsPinned, composite_owner}
 use Rattle.lump_cache.proofs.FillLemmas.{pair_sound}
 use Rattle.lump_cache.proofs.WriteLemmas.{composite_others, faithful_written}
 use Rattle.lump_cache.proofs.RestButLemmas.{rest_written, rest_but_written, write_pinned}
@@ -42,7 +42,7 @@ returns-clause-rest g c = λ colormap size r.
 pub returns-clause-rest_but : goal.returns-clause-rest_but
 returns-clause-rest_but g c = λ colormap size pinned r.
     let d = (goal.at.returns-clause-rest_but g c).After-pair in
-    subst (IsAtRestBut colormap size pinned) (sym (new_is g d)) (rest_but_written (composite_owner c.args.number) c.pair.ensures.called.w colormap size pinned c.args.self.now refl r)
+    subst (IsAtRestExcept colormap size pinned) (sym (new_is g d)) (rest_but_written (composite_owner c.args.number) c.pair.ensures.called.w colormap size pinned c.args.self.now refl r)
 
 pub returns-clause-order : goal.returns-clause-order
 returns-clause-order g c = λ items taken ord.

@@ -1,6 +1,6 @@
 use Rattle.std.proofs.Common.{◌≡◌, ◌∙◌, ap, sym, subst}
 use Rattle.zone_rules.specs.Zones.{Heap, IsSound, owner_at, owned_block}
-use Rattle.lump_cache.specs.Caches.{IsFaithful, IsAtRest, IsAtRestBut, release_heap, composite_owner}
+use Rattle.lump_cache.specs.Caches.{IsFaithful, IsAtRest, IsAtRestExcept, release_heap, composite_owner}
 use Rattle.lump_cache.proofs.FillLemmas.{release_sound, release_others}
 use Rattle.lump_cache.proofs.cache.LumpCache.release_composite.Goals as goal
 use Rattle.lump_cache.proofs.cache.LumpCache.release_composite.Goals.{After-release_block}
@@ -27,7 +27,7 @@ pub returns-clause-rest : goal.returns-clause-rest
 returns-clause-rest c = λ colormap size r. subst (IsAtRest colormap size) (sym (new_is (goal.at.returns-clause-rest c).After-release_block)) (rest_release colormap size c.args.self.now r (composite_owner c.args.number))
 
 pub returns-clause-rest_but : goal.returns-clause-rest_but
-returns-clause-rest_but c = λ colormap size pinned r. subst (IsAtRestBut colormap size pinned) (sym (new_is (goal.at.returns-clause-rest_but c).After-release_block)) (rest_but_released colormap size (composite_owner c.args.number) c.args.self.now pinned r)
+returns-clause-rest_but c = λ colormap size pinned r. subst (IsAtRestExcept colormap size pinned) (sym (new_is (goal.at.returns-clause-rest_but c).After-release_block)) (rest_but_released colormap size (composite_owner c.args.number) c.args.self.now pinned r)
 
 pub returns-clause-order : goal.returns-clause-order
 returns-clause-order c = λ items taken ord. subst (λ (z : Heap). KeepsOrder items c.args.self.now z taken taken) (sym (new_is (goal.at.returns-clause-order c).After-release_block)) (order_released (composite_owner c.args.number) items c.args.self.now taken ord)
