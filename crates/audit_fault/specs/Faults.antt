@@ -1,4 +1,5 @@
 -- What the faults of an audit tell, and what the faults of the layers below are there.
+use Rattle.outside.specs.Faults.{itself}
 use Rattle.outside.specs.declared.fault.Fault.{Fault}
 use Rattle.outside.specs.declared.fault.Fault.TheVariants.{Refused, ReadFault, ZoneFull, OutOfMemory}
 use Rattle.lump_cache.specs.declared.fault.CacheFault.{CacheFault}
@@ -16,11 +17,11 @@ use Rattle.scene_rules.specs.declared.refusal.AuditRefusal.TheVariants.{Map, Tex
 use Rattle.audit_fault.specs.declared.fault.AuditFault.{AuditFault}
 use Rattle.audit_fault.specs.declared.fault.AuditFault.TheVariants.{Refused, ReadFault, ZoneFull, OutOfMemory}
 
-abbrev pub audit_told : AuditFault → Fault AuditRefusal
-audit_told (Refused refusal) = Refused refusal
-audit_told ReadFault = ReadFault
-audit_told (ZoneFull wanted widest) = ZoneFull wanted widest
-audit_told OutOfMemory = OutOfMemory
+abbrev pub itself : AuditFault → Fault AuditRefusal
+itself (Refused refusal) = Refused refusal
+itself ReadFault = ReadFault
+itself (ZoneFull wanted widest) = ZoneFull wanted widest
+itself OutOfMemory = OutOfMemory
 
 abbrev pub above_cache : CacheFault → AuditFault
 above_cache (cache.ZoneFull wanted widest) = ZoneFull wanted widest

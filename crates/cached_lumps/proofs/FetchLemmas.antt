@@ -10,7 +10,7 @@ use Rattle.lump_rules.specs.Contents.{lump_bytes}
 use Rattle.wad_dir.specs.DirectoryView.{DirectoryView}
 use Rattle.lump_cache.specs.declared.fault.CacheFault.{CacheFault}
 use Rattle.lump_cache.specs.declared.fault.CacheFault.TheVariants.{ZoneFull, ReadFault}
-use Rattle.lump_cache.specs.Caches.{IsFaithful, IsAtRest, WhereFull, NoRoom, KeptOrPurged, is_full, cache_told, lump_owner}
+use Rattle.lump_cache.specs.Caches.{IsFaithful, IsAtRest, WhereFull, NoRoom, KeptOrPurged, is_full, cache_fault, lump_owner}
 use Rattle.lump_cache.proofs.FaithLemmas.{bytes_in}
 use Rattle.cached_lumps.specs.Calls.{IsFullFor, IfFull, InOrderAt}
 
@@ -24,7 +24,7 @@ others_keep old new (inr e) = subst (λ x. IfSome (bytes_in x) (λ bytes. bytes_
 
 -- the zone is full for that lump
 pub fetch_full : (dir : DirectoryView) (old : Heap) (lump : ℕ) (r : Result (Unit {0}) CacheFault) → WhereFull r (NoRoom (lump_at dir.lumps lump).size old) →
-    ((colormap size : ℕ) → IsAtRest colormap size old → WhereFull r (λ wanted widest'. old.size < block_size size + wanted + MIN_FRAGMENT)) → IfErr r (λ fault. IfFull (cache_told fault) (IsFullFor (λ number. number ≡ lump) dir old))
+    ((colormap size : ℕ) → IsAtRest colormap size old → WhereFull r (λ wanted widest'. old.size < block_size size + wanted + MIN_FRAGMENT)) → IfErr r (λ fault. IfFull (cache_fault fault) (IsFullFor (λ number. number ≡ lump) dir old))
 fetch_full dir old lump (Ok done) full room = tt
 fetch_full dir old lump (Err ReadFault) full room = tt
 fetch_full dir old lump (Err (ZoneFull wanted widest')) full room = record {
@@ -37,7 +37,7 @@ fetch_full dir old lump (Err (ZoneFull wanted widest')) full room = record {
   };
 }
 
-pub fetch_order : (P : Type 0) (r : Result (Unit {0}) CacheFault) → (is_full r ≡ false) × OnOk r P → MatchResult r (λ _. P) (λ fault. InOrderAt (cache_told fault) P)
+pub fetch_order : (P : Type 0) (r : Result (Unit {0}) CacheFault) → (is_full r ≡ false) × OnOk r P → MatchResult r (λ _. P) (λ fault. InOrderAt (cache_fault fault) P)
 fetch_order P (Ok done) k = k.1
 fetch_order P (Err ReadFault) k = tt
 fetch_order P (Err (ZoneFull wanted widest')) k = absurd (false≢true (sym k.0))

@@ -6,7 +6,7 @@ ghost use Rattle.std.specs.Option.{option_copied};
 ghost use Rattle.lump_rules.specs.Contents.{lump_bytes};
 ghost use Rattle.lump_rules.specs.Lookups.{last_of};
 ghost use Rattle.zone_rules.specs.Zones.{IsLive, bytes_of, block_size, same_owner};
-ghost use Rattle.lump_cache.specs.Caches.{IsAtRest, cache_told, lump_owner};
+ghost use Rattle.lump_cache.specs.Caches.{IsAtRest, cache_fault, lump_owner};
 ghost use Rattle.cached_lumps.specs.Calls.{HoldContents, ReadsLumps};
 ghost use Rattle.cached_lumps.specs.Named.{IsLast, live_bytes, named_bytes};
 
@@ -31,7 +31,7 @@ pub fn fetch_live<S: Shelf>(
 ) -> Result<(), CacheFault>
     requires slots { length dir.now.lumps ≤ cache.old.lumps }
     requires there { lump.0 < length dir.now.lumps }
-    ensures tells { ReadsLumps cache_told (S.view shelf.old) (S.view shelf.new) dir.now cache.old cache.new (λ number. number ≡ lump.0) (λ done. done) (λ bytes. Ok tt) result }
+    ensures tells { ReadsLumps cache_fault (S.view shelf.old) (S.view shelf.new) dir.now cache.old cache.new (λ number. number ≡ lump.0) (λ done. done) (λ bytes. Ok tt) result }
     ensures live { OnOk result (IsLive cache.new (lump_owner lump.0)) }
     ensures bytes { (contents : List (List ℕ)) → HoldContents (S.view shelf.old) dir.now cache.old contents → OnOk result (bytes_of (lump_owner lump.0) cache.new.blocks ≡ Some (lump_bytes contents dir.now.lumps lump.0)) }
 {
@@ -51,7 +51,7 @@ pub fn fetch_named<S: Shelf>(
     name: &Name8,
 ) -> Result<Option<LumpNo>, CacheFault>
     requires slots { length dir.now.lumps ≤ cache.old.lumps }
-    ensures tells { ReadsLumps cache_told (S.view shelf.old) (S.view shelf.new) dir.now cache.old cache.new (IsLast dir.now.lumps name.now) (λ lump. option_map (λ l. l.0) lump) (λ bytes. Ok (last_of dir.now.lumps name.now)) result }
+    ensures tells { ReadsLumps cache_fault (S.view shelf.old) (S.view shelf.new) dir.now cache.old cache.new (IsLast dir.now.lumps name.now) (λ lump. option_map (λ l. l.0) lump) (λ bytes. Ok (last_of dir.now.lumps name.now)) result }
     ensures found { IfOk result (λ lump. option_map (λ l. l.0) lump ≡ last_of dir.now.lumps name.now) }
     ensures there { IfOk result (λ lump. IfSome lump (λ l. l.0 < length dir.now.lumps)) }
     ensures live { IfOk result (λ lump. IfSome lump (λ l. IsLive cache.new (lump_owner l.0))) }

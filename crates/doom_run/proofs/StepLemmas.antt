@@ -3,19 +3,18 @@ use Rattle.std.proofs.Common.{◌≡◌, ℕ, Bool, List, Option, Some, None, Re
 use Rattle.std.proofs.lemmas.Result.{err_from_is_err_and}
 use Rattle.outside.specs.declared.fault.Fault.{Fault}
 use Rattle.outside.specs.declared.fault.Fault.TheVariants.{Refused, ReadFault, ZoneFull, OutOfMemory}
-use Rattle.outside.specs.Faults.{fault_above, and_then, from_below, FaultFits, ResultIs}
+use Rattle.outside.specs.Faults.{fault_above, and_then, from_below, FaultFits, ResultIs, itself}
 use Rattle.wad_dir.specs.declared.fault.DirFault.{DirFault}
 use Rattle.wad_dir.specs.declared.fault.DirFault.TheVariants as dir
-use Rattle.wad_dir.specs.Faults.{dir_told}
+use Rattle.wad_dir.specs.Faults.{dir_fault}
 use Rattle.cached_lumps.specs.Calls.{IfFull}
 use Rattle.refusals.specs.declared.refusal.Refusal.{Refusal}
 use Rattle.refusals.specs.declared.refusal.Refusal.TheVariants.{Wad}
 use Rattle.scene_load.specs.declared.fault.LoadFault.{LoadFault}
 use Rattle.scene_load.specs.declared.fault.LoadFault.TheVariants as load
-use Rattle.scene_load.specs.Faults.{load_told}
 use Rattle.doom_run.specs.declared.fault.Fault.{Fault}
 use Rattle.doom_run.specs.declared.fault.Fault.TheVariants as fault
-use Rattle.doom_run.specs.Faults.{fault_told, fault_of_dir}
+use Rattle.doom_run.specs.Faults.{fault_of_dir}
 use Rattle.doom_run.specs.declared.status.Status.TheVariants.{ZoneFull}
 use Rattle.doom_run.specs.Ends.{status_of_load}
 use Rattle.doom_run.specs.Steps as steps
@@ -29,7 +28,7 @@ stops_same steady first next (ZoneFull wanted widest) h = tt
 stops_same steady first next OutOfMemory h = tt
 
 -- what a fault of the directory tells of the steps above
-pub dir_told_above : (fault : DirFault) → fault_told (fault_of_dir fault) ≡ fault_above Wad (dir_told fault)
+pub dir_told_above : (fault : DirFault) → itself (fault_of_dir fault) ≡ fault_above Wad (dir_fault fault)
 dir_told_above (dir.Refused refusal) = refl
 dir_told_above dir.ReadFault = refl
 dir_told_above dir.OutOfMemory = refl
@@ -43,26 +42,26 @@ stop_same {A} {B} {C} {D} {R} {E} {told} {steady} {later} {v} {value} {first} {r
     let k : FaultFits steady (and_then first next) (told p.0) = rw (p.2, ← s) (stops_same later first next (told fault) h) in
     rw p.1 (record { ok = tt; err = k })
 
-fault_below : {A : Type 0} (steady : Bool) (expected : Result A Refusal) (fault : Fault) → FaultFits steady expected (fault_told fault) → StopsAt steady (from_below steps.refused expected) fault
+fault_below : {A : Type 0} (steady : Bool) (expected : Result A Refusal) (fault : Fault) → FaultFits steady expected (itself fault) → StopsAt steady (from_below steps.refused expected) fault
 fault_below steady expected (fault.Refused refusal) h = rw h refl
 fault_below steady expected fault.ReadFault h = λ holds. absurd (h holds)
 fault_below steady expected fault.OutOfMemory h = tt
 
 -- what is told of the steps after the files are found
 pub agrees_below : {A B : Type 0} {steady : Bool} {value : B → A} (expected : Result A Refusal) (result : Result B Fault) →
-    ResultIs fault_told steady value expected result → ResultIsOrAbsent steady value (from_below steps.refused expected) result
+    ResultIs itself steady value expected result → ResultIsOrAbsent steady value (from_below steps.refused expected) result
 agrees_below {value} expected (Ok found) answers = record { ok = rw answers.ok refl; err = tt }
 agrees_below {steady} expected (Err fault) answers = record { ok = tt; err = fault_below steady expected fault answers.err }
 
 -- a file is held, and the steps over its bytes follow
 pub agrees_found : {A B : Type 0} {steady later : Bool} {value : B → A} (file : Option (List ℕ)) (next : List ℕ → Result A Refusal) (result : Result B Fault) →
-    IsSome file → later ≡ steady → ((bytes : List ℕ) → file ≡ Some bytes → ResultIs fault_told later value (next bytes) result) →
+    IsSome file → later ≡ steady → ((bytes : List ℕ) → file ≡ Some bytes → ResultIs itself later value (next bytes) result) →
     ResultIsOrAbsent steady value (and_then (else_stop absent file) (λ bytes. from_below steps.refused (next bytes))) result
 agrees_found None next result there same answers = absurd (cc)
 agrees_found {A} {B} {steady} {later} {value} (Some bytes) next result there same answers = rw (← same) (agrees_below (next bytes) result (answers bytes refl))
 
 -- where the status of a fault of loading is a full zone, the fault tells of that zone
-pub load_full : (P : ℕ → ℕ → Type 0) (fault : LoadFault) (wanted widest : ℕ) → status_of_load fault ≡ ZoneFull wanted widest → IfFull (load_told fault) P → P wanted widest
+pub load_full : (P : ℕ → ℕ → Type 0) (fault : LoadFault) (wanted widest : ℕ) → status_of_load fault ≡ ZoneFull wanted widest → IfFull (itself fault) P → P wanted widest
 load_full P (load.Refused refusal) wanted widest e h = absurd (cc)
 load_full P load.ReadFault wanted widest e h = absurd (cc)
 load_full P (load.ZoneFull asked gap) wanted widest e h =

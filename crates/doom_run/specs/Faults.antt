@@ -1,4 +1,5 @@
 -- What the faults of a job tell.
+use Rattle.outside.specs.Faults.{itself}
 use Rattle.outside.specs.declared.fault.Fault.{Fault}
 use Rattle.outside.specs.declared.fault.Fault.TheVariants.{Refused, ReadFault, OutOfMemory}
 use Rattle.wad_dir.specs.declared.fault.DirFault.{DirFault}
@@ -8,10 +9,10 @@ use Rattle.refusals.specs.declared.refusal.Refusal.TheVariants.{Wad}
 use Rattle.doom_run.specs.declared.fault.Fault.{Fault}
 use Rattle.doom_run.specs.declared.fault.Fault.TheVariants.{Refused, ReadFault, OutOfMemory}
 
-abbrev pub fault_told : Fault → Fault Refusal
-fault_told (Refused refusal) = Refused refusal
-fault_told ReadFault = ReadFault
-fault_told OutOfMemory = OutOfMemory
+abbrev pub itself : Fault → Fault Refusal
+itself (Refused refusal) = Refused refusal
+itself ReadFault = ReadFault
+itself OutOfMemory = OutOfMemory
 
 -- what a fault of the directory is for a job
 abbrev pub fault_of_dir : DirFault → Fault

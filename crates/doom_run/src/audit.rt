@@ -2,13 +2,12 @@
 ghost use Rattle.std.specs.Prelude.{◌≡◌, ◌≤◌, ℕ, List, map, IfErr};
 ghost use Rattle.outside.specs.Causes.{FaultsRose};
 ghost use Rattle.outside.specs.Shelf.{File, IsLaterShelf, Holds};
-ghost use Rattle.outside.specs.Faults.{HasCauses};
+ghost use Rattle.outside.specs.Faults.{HasCauses, itself};
 ghost use Rattle.zone_rules.specs.Zones.{IsZoneSize};
 ghost use Rattle.view_rules.specs.declared.TheConstants.{MIN_SIZE, MAX_SIZE};
 ghost use Rattle.cached_lumps.specs.Calls.{IfFull};
 ghost use Rattle.command_line.specs.Scenes.{told_scene};
 ghost use Rattle.scene_files.specs.Stops.{ResultIsOrAbsent};
-ghost use Rattle.scene_load.specs.Faults.{load_told};
 ghost use Rattle.scene_load.specs.Fulls.{IsFullLoad};
 ghost use Rattle.doom_run.specs.Audits.{audit_verdict};
 ghost use Rattle.doom_run.specs.Ends.{DeliversAt};
@@ -34,13 +33,13 @@ pub fn prepare_audit<S: Shelf>(
     requires least { MIN_SIZE ≤ level.now.settings.size }
     requires greatest { level.now.settings.size ≤ MAX_SIZE }
     ensures answers { (files : List File) → Holds (S.view shelf.old) files →
-        ResultIsOrAbsent load_told (S.view shelf.old).steady (λ sizes. sizes)
+        ResultIsOrAbsent itself (S.view shelf.old).steady (λ sizes. sizes)
         (audit_verdict (told_scene level.now) (map (λ wad. wad.now) wads.now) files) result }
     ensures full { (files : List File) → Holds (S.view shelf.old) files →
-        IfErr result (λ fault. IfFull (load_told fault)
+        IfErr result (λ fault. IfFull (itself fault)
         (IsFullLoad (told_scene level.now) (map (λ wad. wad.now) wads.now) files)) }
     ensures follows { IsLaterShelf (S.view shelf.old) (S.view shelf.new) }
-    ensures causes { HasCauses load_told
+    ensures causes { HasCauses itself
         (S.view shelf.old).faults (S.view shelf.new).faults result }
 {
     let loaded = load_scene(alloc, level, wads, shelf)?;

@@ -4,11 +4,10 @@ ghost use Rattle.std.specs.Option.{option_map};
 ghost use Rattle.outside.specs.Causes.{FaultsRose};
 ghost use Rattle.outside.specs.Shelf.{NameFiles, File, IsLaterShelf, Holds, Stands};
 ghost use Rattle.outside.specs.declared.fault.Fault.TheVariants.{Refused};
-ghost use Rattle.outside.specs.Faults.{ResultIs, HasCauses};
+ghost use Rattle.outside.specs.Faults.{ResultIs, HasCauses, itself};
 ghost use Rattle.lump_rules.specs.Contents.{AllWithin};
 ghost use Rattle.lump_rules.specs.Lookups.{lump_at, flat_of};
 ghost use Rattle.doom_run.specs.Ends.{DeliversAt};
-ghost use Rattle.doom_run.specs.Faults.{fault_told};
 ghost use Rattle.doom_run.specs.Flats.{else_refuse, palette_in, flat_in, picture_in, flat_picture, flat_verdict};
 ghost use Rattle.doom_run.specs.Steps.{ResultIsOrAbsent};
 ghost use Rattle.doom_run.specs.Verdict.{tiled_flat};
@@ -36,7 +35,7 @@ pub fn prepare_flat<S: Shelf>(
         ResultIsOrAbsent (S.view shelf.old).steady (λ drawing. drawing)
         (flat_verdict name.now file.now files) result }
     ensures follows { IsLaterShelf (S.view shelf.old) (S.view shelf.new) }
-    ensures causes { HasCauses fault_told
+    ensures causes { HasCauses itself
         (S.view shelf.old).faults (S.view shelf.new).faults result }
 {
     let number = shelf.find(file)?;
@@ -63,10 +62,10 @@ fn load_flat<S: Shelf>(
     number: FileNo,
 ) -> Result<Drawing, Fault>
     ensures answers { (bytes : List ℕ) → Stands (S.view shelf.old) number.0 bytes →
-        ResultIs fault_told (S.view shelf.old).steady (λ drawing. drawing)
+        ResultIs itself (S.view shelf.old).steady (λ drawing. drawing)
         (flat_picture name.now (bytes ∷ [])) result }
     ensures follows { IsLaterShelf (S.view shelf.old) (S.view shelf.new) }
-    ensures causes { HasCauses fault_told
+    ensures causes { HasCauses itself
         (S.view shelf.old).faults (S.view shelf.new).faults result }
 {
     let dir = Directory::load(alloc, shelf, &[number])?;
@@ -82,10 +81,10 @@ fn draw_flat<S: Shelf>(
 ) -> Result<Drawing, Fault>
     ensures answers { (contents : List (List ℕ)) →
         NameFiles (S.view shelf.old) dir.now.files contents → AllWithin contents dir.now.lumps →
-        ResultIs fault_told (S.view shelf.old).steady (λ drawing. drawing)
+        ResultIs itself (S.view shelf.old).steady (λ drawing. drawing)
         (picture_in contents name.now dir.now.lumps) result }
     ensures follows { IsLaterShelf (S.view shelf.old) (S.view shelf.new) }
-    ensures causes { HasCauses fault_told
+    ensures causes { HasCauses itself
         (S.view shelf.old).faults (S.view shelf.new).faults result }
 {
     let playpal = read_palette(alloc, shelf, dir)?;
@@ -97,11 +96,11 @@ fn draw_flat<S: Shelf>(
 fn read_palette<S: Shelf>(alloc: Global, shelf: &mut S, dir: &Directory) -> Result<Vec<u8>, Fault>
     ensures answers { (contents : List (List ℕ)) →
         NameFiles (S.view shelf.old) dir.now.files contents → AllWithin contents dir.now.lumps →
-        ResultIs fault_told (S.view shelf.old).steady (λ palette. palette.items)
+        ResultIs itself (S.view shelf.old).steady (λ palette. palette.items)
         (palette_in contents dir.now.lumps) result }
     ensures size { IfOk result (λ palette. length palette.items ≡ PALETTE_BYTES) }
     ensures follows { IsLaterShelf (S.view shelf.old) (S.view shelf.new) }
-    ensures causes { HasCauses fault_told
+    ensures causes { HasCauses itself
         (S.view shelf.old).faults (S.view shelf.new).faults result }
 {
     let lump = find_playpal(dir)?;
@@ -117,10 +116,10 @@ fn read_flat<S: Shelf>(
 ) -> Result<Vec<u8>, Fault>
     ensures answers { (contents : List (List ℕ)) →
         NameFiles (S.view shelf.old) dir.now.files contents → AllWithin contents dir.now.lumps →
-        ResultIs fault_told (S.view shelf.old).steady (λ flat. flat.items)
+        ResultIs itself (S.view shelf.old).steady (λ flat. flat.items)
         (flat_in contents dir.now.lumps name.now) result }
     ensures follows { IsLaterShelf (S.view shelf.old) (S.view shelf.new) }
-    ensures causes { HasCauses fault_told
+    ensures causes { HasCauses itself
         (S.view shelf.old).faults (S.view shelf.new).faults result }
 {
     let lump = find_flat(dir, name)?;

@@ -2,10 +2,9 @@
 ghost use Rattle.std.specs.Prelude.{◌≡◌, ◌<◌, ◌≤◌, ℕ, List, length, take, Ok, IsTrue, IsOk, IfOk, OnOk, OnErr};
 ghost use Rattle.outside.specs.Causes.{FaultsRose};
 ghost use Rattle.outside.specs.Shelf.{NameFiles, IsLaterShelf};
-ghost use Rattle.outside.specs.Faults.{ResultIs, HasCauses};
+ghost use Rattle.outside.specs.Faults.{ResultIs, HasCauses, itself};
 ghost use Rattle.lump_rules.specs.Contents.{AllWithin, lump_bytes};
 ghost use Rattle.lump_rules.specs.Lookups.{lump_at};
-ghost use Rattle.doom_run.specs.Faults.{fault_told};
 
 use crate::fault::Fault;
 use outside::{Failed, Shelf};
@@ -24,11 +23,11 @@ pub fn read_front<S: Shelf>(
     requires within { size ≤ (lump_at dir.now.lumps lump.0).size }
     ensures answers { (contents : List (List ℕ)) →
         NameFiles (S.view shelf.old) dir.now.files contents → AllWithin contents dir.now.lumps →
-        ResultIs fault_told (S.view shelf.old).steady (λ piece. piece.items)
+        ResultIs itself (S.view shelf.old).steady (λ piece. piece.items)
         (Ok (take size (lump_bytes contents dir.now.lumps lump.0))) result }
     ensures size { IfOk result (λ piece. length piece.items ≡ size) }
     ensures follows { IsLaterShelf (S.view shelf.old) (S.view shelf.new) }
-    ensures causes { HasCauses fault_told
+    ensures causes { HasCauses itself
         (S.view shelf.old).faults (S.view shelf.new).faults result }
 {
     let mut piece = vec![in alloc; 0; size]?;
@@ -71,10 +70,10 @@ pub fn read_lump<S: Shelf>(
     requires { lump.0 < length dir.now.lumps }
     ensures answers { (contents : List (List ℕ)) →
         NameFiles (S.view shelf.old) dir.now.files contents → AllWithin contents dir.now.lumps →
-        ResultIs fault_told (S.view shelf.old).steady (λ piece. piece.items)
+        ResultIs itself (S.view shelf.old).steady (λ piece. piece.items)
         (Ok (lump_bytes contents dir.now.lumps lump.0)) result }
     ensures follows { IsLaterShelf (S.view shelf.old) (S.view shelf.new) }
-    ensures causes { HasCauses fault_told
+    ensures causes { HasCauses itself
         (S.view shelf.old).faults (S.view shelf.new).faults result }
 {
     let size = dir.size(lump) as usize;

@@ -1,11 +1,11 @@
 // The lumps of colours.
 //
 // Rules: `scene_rules`, Scenes. The original: `R_InitColormaps`, r_data.c.
+ghost use Rattle.outside.specs.Faults.{itself};
 ghost use Rattle.std.specs.Prelude.{◌≡◌, ◌<◌, ◌≤◌, length, take, Ok, Err, IfOk, IfSome, OnOk, MatchResult, option_map};
 ghost use Rattle.lump_rules.specs.Lookups.{lump_at};
 ghost use Rattle.cached_lumps.specs.Calls.{ReadsLumps};
 ghost use Rattle.cached_lumps.specs.Sizes.{StandsBeside};
-ghost use Rattle.audit_fault.specs.Faults.{audit_told};
 ghost use Rattle.scene_rules.specs.declared.TheConstants.{PALETTE_SIZE};
 ghost use Rattle.scene_rules.specs.Scenes.{colormap_of, long_lump, playpal_of};
 
@@ -77,7 +77,7 @@ pub fn read_palette<S: Shelf>(
 ) -> Result<Vec<u8>, AuditFault>
     requires slots { length dir.now.lumps ≤ cache.old.lumps }
     requires there { playpal.0 < length dir.now.lumps }
-    ensures tells { ReadsLumps audit_told (S.view shelf.old) (S.view shelf.new) dir.now cache.old cache.new (λ lump. lump ≡ playpal.0) (λ palette. palette.items) (λ bytes. Ok (take PALETTE_SIZE (bytes playpal.0))) result }
+    ensures tells { ReadsLumps itself (S.view shelf.old) (S.view shelf.new) dir.now cache.old cache.new (λ lump. lump ≡ playpal.0) (λ palette. palette.items) (λ bytes. Ok (take PALETTE_SIZE (bytes playpal.0))) result }
     ensures fits { OnOk result (StandsBeside dir.now.lumps cache.old playpal.0) }
 {
     fetch_live(cache, dir, shelf, playpal)?;

@@ -2,12 +2,12 @@
 //
 // Rules: `scene_rules`, Scenes; `specs/Grounds`. The original: `P_SetupLevel`, p_setup.c,
 // `R_InitTextures`, r_data.c.
+ghost use Rattle.outside.specs.Faults.{itself};
 ghost use Rattle.std.specs.Prelude.{◌≡◌, ◌<◌, ◌≤◌, ◌+◌, ℕ, [], length, Ok, IfOk};
 ghost use Rattle.lump_rules.specs.declared.names.TheConstants.{MAP_LUMPS};
 ghost use Rattle.cached_lumps.specs.Calls.{ReadsLumps};
 ghost use Rattle.cached_lumps.specs.Sizes.{StandsBeside};
 ghost use Rattle.art_rules.specs.declared.TheConstants.{MAX_TEXTURES};
-ghost use Rattle.audit_fault.specs.Faults.{audit_told};
 ghost use Rattle.scene_rules.specs.Scenes.{colormap_of};
 ghost use Rattle.ground_read.specs.Asked.{IsOfGround, IsOfMap};
 ghost use Rattle.ground_read.specs.Grounds.{ground_and_palette, map_and_lists, map_value, value_of};
@@ -60,7 +60,7 @@ pub fn read_ground<S: Shelf>(
 ) -> Result<ReadGround, AuditFault>
     requires slots { length dir.now.lumps ≤ cache.old.lumps }
     requires colormap { colormap_of dir.now.lumps ≡ Ok colormap.0 }
-    ensures tells { ReadsLumps audit_told (S.view shelf.old) (S.view shelf.new) dir.now cache.old cache.new (IsOfGround dir.now.lumps name.now) value_of (λ bytes. ground_and_palette bytes dir.now.lumps name.now) result }
+    ensures tells { ReadsLumps itself (S.view shelf.old) (S.view shelf.new) dir.now cache.old cache.new (IsOfGround dir.now.lumps name.now) value_of (λ bytes. ground_and_palette bytes dir.now.lumps name.now) result }
     ensures fits { IfOk result (λ found. (lump : ℕ) → IsOfGround dir.now.lumps name.now lump → StandsBeside dir.now.lumps cache.old lump) }
     ensures colormap { IfOk result (λ found. found.colormap ≡ colormap) }
     ensures label { IfOk result (λ found. found.label.0 + length MAP_LUMPS < length dir.now.lumps) }
@@ -89,7 +89,7 @@ fn read_map<S: Shelf>(
     shelf: &mut S,
 ) -> Result<(LumpNo, Level, Textures), AuditFault>
     requires slots { length dir.now.lumps ≤ cache.old.lumps }
-    ensures tells { ReadsLumps audit_told (S.view shelf.old) (S.view shelf.new) dir.now cache.old cache.new (IsOfMap dir.now.lumps name.now) map_value (λ bytes. map_and_lists bytes dir.now.lumps name.now) result }
+    ensures tells { ReadsLumps itself (S.view shelf.old) (S.view shelf.new) dir.now cache.old cache.new (IsOfMap dir.now.lumps name.now) map_value (λ bytes. map_and_lists bytes dir.now.lumps name.now) result }
     ensures fits { IfOk result (λ found. (lump : ℕ) → IsOfMap dir.now.lumps name.now lump → StandsBeside dir.now.lumps cache.old lump) }
     ensures label { IfOk result (λ found. found.0.0 + length MAP_LUMPS < length dir.now.lumps) }
     ensures few { IfOk result (λ found. length found.2.lists.textures ≤ MAX_TEXTURES) }

@@ -1,4 +1,5 @@
 -- What is told of the steps after COLORMAP, one after the other.
+use Rattle.outside.specs.Faults.{itself}
 use Rattle.std.proofs.Common.{◌≡◌, ℕ, List, Result, Ok, Err, refl, sym, ap, ◌∙◌, inl, inr, IsErrAnd}
 use Rattle.outside.specs.Shelf.{ShelfView}
 use Rattle.zone_rules.specs.Zones.{Heap}
@@ -8,7 +9,6 @@ use Rattle.cached_lumps.specs.Calls.{ReadsLumps}
 use Rattle.cached_lumps.proofs.CallLemmas.{tells_as, tells_more, tells_same, tells_short, tells_stop, tells_stop_first}
 use Rattle.audit_fault.specs.declared.fault.AuditFault.{AuditFault}
 use Rattle.audit_fault.specs.declared.fault.AuditFault.TheVariants.{OutOfMemory}
-use Rattle.audit_fault.specs.Faults.{audit_told}
 use Rattle.scene_rules.specs.Scenes.{scene_in, scene_on}
 use Rattle.ground_read.specs.declared.ground.ReadGround.{ReadGround}
 use Rattle.ground_read.specs.Asked.{IsOfGround}
@@ -22,26 +22,26 @@ use Rattle.level_audit.proofs.SceneLemmas.{ground_told, scene_in-more, scene_in-
 
 module _ {v : ShelfView} {dir : DirectoryView} {a : Heap} (lines : List ThingLine) (name : List ℕ) (skill : ℕ) where
   -- the ground was not read
-  pub ground_stopped : {w : ShelfView} {b : Heap} (one : Result ReadGround AuditFault) (fault : AuditFault) (result : Result SoundValue AuditFault) → ReadsLumps audit_told v w dir a b (IsOfGround dir.lumps name) value_of (λ bytes. ground_and_palette bytes dir.lumps name) one → one ≡ Err fault → IsErrAnd result (λ e. e ≡ fault) →
-      ReadsLumps audit_told v w dir a b (IsReadLater v dir a lines name skill) (λ (sound : SoundValue). sound.scene) (λ bytes. scene_in bytes dir.lumps lines name skill) result
+  pub ground_stopped : {w : ShelfView} {b : Heap} (one : Result ReadGround AuditFault) (fault : AuditFault) (result : Result SoundValue AuditFault) → ReadsLumps itself v w dir a b (IsOfGround dir.lumps name) value_of (λ bytes. ground_and_palette bytes dir.lumps name) one → one ≡ Err fault → IsErrAnd result (λ e. e ≡ fault) →
+      ReadsLumps itself v w dir a b (IsReadLater v dir a lines name skill) (λ (sound : SoundValue). sound.scene) (λ bytes. scene_in bytes dir.lumps lines name skill) result
   ground_stopped one fault result tells was is =
       tells_stop_first (λ bytes. scene_in bytes dir.lumps lines name skill) one fault result tells was is
       (λ lump asked contents told. inl asked) (λ bytes refusal. scene_in-stop bytes dir.lumps lines name skill refusal)
 
   -- it was, and the scene is read over it
-  module _ {w : ShelfView} {b : Heap} (base : ReadGround) (one : ReadsLumps audit_told v w dir a b (IsOfGround dir.lumps name) value_of (λ bytes. ground_and_palette bytes dir.lumps name) (Ok base)) where
+  module _ {w : ShelfView} {b : Heap} (base : ReadGround) (one : ReadsLumps itself v w dir a b (IsOfGround dir.lumps name) value_of (λ bytes. ground_and_palette bytes dir.lumps name) (Ok base)) where
     -- a lump of the scene over that ground is read whatever contents are told
     of_scene : (lump : ℕ) → IsOfScene dir.lumps lines skill name (ground_of base) lump → IsReadLater v dir a lines name skill lump
     of_scene lump asked = λ contents told.
         inr (record { base = ground_of base; is = (ground_told _ dir.lumps lines name skill (ground_of base) base.palette.items (one.answers contents told).ok).0; asked = asked })
 
-    ground_passed : ReadsLumps audit_told v w dir a b (IsReadLater v dir a lines name skill) value_of (λ bytes. ground_and_palette bytes dir.lumps name) (Ok base)
+    ground_passed : ReadsLumps itself v w dir a b (IsReadLater v dir a lines name skill) value_of (λ bytes. ground_and_palette bytes dir.lumps name) (Ok base)
     ground_passed = tells_as {value = value_of} {expected = λ bytes. ground_and_palette bytes dir.lumps name} base base one (λ lump asked contents told. inl asked) (λ bytes is. is)
 
     -- the scene was not read
     pub scene_stopped : {x : ShelfView} {c : Heap} (two : Result ReadScene AuditFault) (fault : AuditFault) (result : Result SoundValue AuditFault) →
-        ReadsLumps audit_told w x dir b c (IsOfScene dir.lumps lines skill name (ground_of base)) scene_value (λ bytes. given_palette base.palette.items (scene_on bytes dir.lumps lines skill name (ground_of base))) two → two ≡ Err fault → IsErrAnd result (λ e. e ≡ fault) →
-        ReadsLumps audit_told v x dir a c (IsReadLater v dir a lines name skill) (λ (sound : SoundValue). sound.scene) (λ bytes. scene_in bytes dir.lumps lines name skill) result
+        ReadsLumps itself w x dir b c (IsOfScene dir.lumps lines skill name (ground_of base)) scene_value (λ bytes. given_palette base.palette.items (scene_on bytes dir.lumps lines skill name (ground_of base))) two → two ≡ Err fault → IsErrAnd result (λ e. e ≡ fault) →
+        ReadsLumps itself v x dir a c (IsReadLater v dir a lines name skill) (λ (sound : SoundValue). sound.scene) (λ bytes. scene_in bytes dir.lumps lines name skill) result
     scene_stopped two fault result tells was is =
         tells_same result fault (λ bytes. scene_in bytes dir.lumps lines name skill) is
         (tells_stop (λ bytes. scene_in bytes dir.lumps lines name skill) fault ground_passed two tells was of_scene
@@ -49,15 +49,15 @@ module _ {v : ShelfView} {dir : DirectoryView} {a : Heap} (lines : List ThingLin
 
     -- it was read
     module _ {x : ShelfView} {c : Heap} (scene : ReadScene)
-        (two : ReadsLumps audit_told w x dir b c (IsOfScene dir.lumps lines skill name (ground_of base)) scene_value (λ bytes. given_palette base.palette.items (scene_on bytes dir.lumps lines skill name (ground_of base))) (Ok scene)) where
-      scene_passed : ReadsLumps audit_told v x dir a c (IsReadLater v dir a lines name skill) scene_value (λ bytes. scene_in bytes dir.lumps lines name skill) (Ok scene)
+        (two : ReadsLumps itself w x dir b c (IsOfScene dir.lumps lines skill name (ground_of base)) scene_value (λ bytes. given_palette base.palette.items (scene_on bytes dir.lumps lines skill name (ground_of base))) (Ok scene)) where
+      scene_passed : ReadsLumps itself v x dir a c (IsReadLater v dir a lines name skill) scene_value (λ bytes. scene_in bytes dir.lumps lines name skill) (Ok scene)
       scene_passed =
           tells_more (λ bytes. scene_in bytes dir.lumps lines name skill) scene scene ground_passed (Ok scene) two refl of_scene
           (λ bytes found read. scene_in-more bytes dir.lumps lines name skill (ground_of base) base.palette.items found ∙ read)
 
       -- memory ran out for what is made of it
-      pub sound_stopped : (result : Result SoundValue AuditFault) → IsErrAnd result (λ e. e ≡ OutOfMemory) → ReadsLumps audit_told v x dir a c (IsReadLater v dir a lines name skill) (λ (sound : SoundValue). sound.scene) (λ bytes. scene_in bytes dir.lumps lines name skill) result
+      pub sound_stopped : (result : Result SoundValue AuditFault) → IsErrAnd result (λ e. e ≡ OutOfMemory) → ReadsLumps itself v x dir a c (IsReadLater v dir a lines name skill) (λ (sound : SoundValue). sound.scene) (λ bytes. scene_in bytes dir.lumps lines name skill) result
       sound_stopped result is = tells_same result OutOfMemory (λ bytes. scene_in bytes dir.lumps lines name skill) is (tells_short OutOfMemory refl (λ lump asked. asked) scene_passed)
 
-      pub sound_passed : (sound : SoundValue) → sound.scene ≡ scene_value scene → ReadsLumps audit_told v x dir a c (IsReadLater v dir a lines name skill) (λ (sound : SoundValue). sound.scene) (λ bytes. scene_in bytes dir.lumps lines name skill) (Ok sound)
+      pub sound_passed : (sound : SoundValue) → sound.scene ≡ scene_value scene → ReadsLumps itself v x dir a c (IsReadLater v dir a lines name skill) (λ (sound : SoundValue). sound.scene) (λ bytes. scene_in bytes dir.lumps lines name skill) (Ok sound)
       sound_passed sound is = tells_as scene sound scene_passed (λ lump asked. asked) (λ bytes read. read ∙ ap Ok (sym is))

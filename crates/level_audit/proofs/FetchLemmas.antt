@@ -4,7 +4,7 @@ use Rattle.std.specs.Prelude.{IfErr, IfOk}
 use Rattle.std.proofs.lemmas.Result.{err_from_is_err_and}
 use Rattle.outside.specs.Shelf.{NameFiles, IsLaterShelf, ShelfView}
 use Rattle.outside.specs.declared.fault.Fault.{Fault}
-use Rattle.outside.specs.Faults.{ResultIs}
+use Rattle.outside.specs.Faults.{ResultIs, itself}
 use Rattle.outside.proofs.ShelfLemmas.{all_stand_later}
 use Rattle.lump_rules.specs.Contents.{lump_bytes}
 use Rattle.lump_rules.specs.Lookups.{lump_at}
@@ -22,7 +22,7 @@ use Rattle.cached_lumps.specs.Sizes.{HasSizes, StandsBeside}
 use Rattle.cached_lumps.proofs.CallLemmas.{full_at, order_at}
 use Rattle.audit_fault.specs.declared.fault.AuditFault.{AuditFault}
 use Rattle.audit_fault.specs.declared.fault.AuditFault.TheVariants.{Refused}
-use Rattle.audit_fault.specs.Faults.{above_cache, audit_told}
+use Rattle.audit_fault.specs.Faults.{above_cache}
 use Rattle.scene_rules.specs.declared.refusal.AuditRefusal.{AuditRefusal}
 use Rattle.scene_rules.specs.Scenes.{SceneValue, colormap_of}
 use Rattle.ground_read.specs.Asked.{IsOfGround}
@@ -38,17 +38,17 @@ told_after {v} {w} {dir} follows faithful contents told = record {
 }
 
 -- no colormap
-pub answers_none : {B : Type 0} {value : B → SceneValue} (steady : Bool) (expected : Result SceneValue AuditRefusal) (refusal : AuditRefusal) (result : Result B AuditFault) → expected ≡ Err refusal → IsErrAnd result (λ e. e ≡ Refused refusal) → ResultIs audit_told steady value expected result
+pub answers_none : {B : Type 0} {value : B → SceneValue} (steady : Bool) (expected : Result SceneValue AuditRefusal) (refusal : AuditRefusal) (result : Result B AuditFault) → expected ≡ Err refusal → IsErrAnd result (λ e. e ≡ Refused refusal) → ResultIs itself steady value expected result
 answers_none steady expected refusal result e is =
     let s = err_from_is_err_and result is in
     rw (s.1, s.2) (record { ok = tt; err = e })
 
 -- what is said of a zone without room for the fetched lump, said of the audit
-pub full_above : (P Q : ℕ → ℕ → Type 0) (fetched : Result (Unit {0}) CacheFault) (fault : CacheFault) (result : Result SoundValue AuditFault) → fetched ≡ Err fault → IsErrAnd result (λ e. e ≡ above_cache fault) → ((wanted widest' : ℕ) → P wanted widest' → Q wanted widest') → WhereFull fetched P → IfErr result (λ f. IfFull (audit_told f) Q)
+pub full_above : (P Q : ℕ → ℕ → Type 0) (fetched : Result (Unit {0}) CacheFault) (fault : CacheFault) (result : Result SoundValue AuditFault) → fetched ≡ Err fault → IsErrAnd result (λ e. e ≡ above_cache fault) → ((wanted widest' : ℕ) → P wanted widest' → Q wanted widest') → WhereFull fetched P → IfErr result (λ f. IfFull (itself f) Q)
 full_above P Q fetched fault result was is then_ full =
     let s = err_from_is_err_and result is in
-    subst (λ (r : Result SoundValue AuditFault). IfErr r (λ f. IfFull (audit_told f) Q)) (sym (s.1 ∙ ap Err s.2)) (go fault (subst (λ (r : Result (Unit {0}) CacheFault). WhereFull r P) was full)) where
-      go : (f : CacheFault) → WhereFull {A = Unit {0}} (Err f) P → IfFull (audit_told (above_cache f)) Q
+    subst (λ (r : Result SoundValue AuditFault). IfErr r (λ f. IfFull (itself f) Q)) (sym (s.1 ∙ ap Err s.2)) (go fault (subst (λ (r : Result (Unit {0}) CacheFault). WhereFull r P) was full)) where
+      go : (f : CacheFault) → WhereFull {A = Unit {0}} (Err f) P → IfFull (itself (above_cache f)) Q
       go ReadFault k = tt
       go (ZoneFull wanted widest') k = then_ wanted widest' k
 
@@ -73,10 +73,10 @@ module _ {v w : ShelfView} {dir : DirectoryView} {a b : Heap} (later : (contents
   answers_after {told} {value} expected result steady answers contents t = subst (λ s. ResultIs told s value (expected (lump_bytes contents dir.lumps)) result) steady (answers contents (later contents t))
 
   -- no room for a later lump
-  pub full_after : (lines : List ThingLine) (name : List ℕ) (skill : ℕ) (result : Result SoundValue AuditFault) → IfErr result (λ f. IfFull (audit_told f) (IsFullFor (IsReadLater w dir b lines name skill) dir b)) → IfErr result (λ f. IfFull (audit_told f) (IsFullAudit v dir a lines name skill))
+  pub full_after : (lines : List ThingLine) (name : List ℕ) (skill : ℕ) (result : Result SoundValue AuditFault) → IfErr result (λ f. IfFull (itself f) (IsFullFor (IsReadLater w dir b lines name skill) dir b)) → IfErr result (λ f. IfFull (itself f) (IsFullAudit v dir a lines name skill))
   full_after lines name skill (Ok sound) full = tt
   full_after lines name skill (Err fault) full =
-      full_at (audit_told fault) (λ wanted widest' k. record { lump = k.lump; asked = λ contents t. inr (k.asked contents (later contents t)); wanted_is = k.full.wanted_is; narrow = k.full.narrow }) full
+      full_at (itself fault) (λ wanted widest' k. record { lump = k.lump; asked = λ contents t. inr (k.asked contents (later contents t)); wanted_is = k.full.wanted_is; narrow = k.full.narrow }) full
 
 -- a cache that was in order stays so through both
 pub order_after : {R E A : Type 0} {items : List Item} {a b : Heap} {i j : ℕ} (told : E → Fault R) (c : Heap) (k : ℕ) (result : Result A E) → KeepsOrder items a b i j → MatchResult result (λ _. KeepsOrder items b c j k) (λ f. InOrderAt (told f) (KeepsOrder items b c j k)) →

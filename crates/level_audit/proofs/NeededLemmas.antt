@@ -1,5 +1,6 @@
 -- Each lump that an audit reads is needed by its scene, and a zone that was full for one is smaller
 -- than `enough`.
+use Rattle.outside.specs.Faults.{itself}
 use Rattle.std.proofs.Common.{◌≡◌, ℕ, ◌+◌, ◌<◌, ◌≤◌, true, false, List, [], ◌∷◌, length, Option, Result, Ok, Err, refl, ap, subst, ◌∙◌, arith, inl, inr, eq-eqb}
 use Rattle.std.specs.Prelude.{◌==◌, IfErr}
 use Rattle.std.specs.List.{list_any}
@@ -25,7 +26,6 @@ use Rattle.art_rules.specs.Wanted.{is_patch_of_any}
 use Rattle.texture_lists.specs.Asked.{IsListLump}
 use Rattle.scene_art.proofs.MarkLemmas.{any_passed}
 use Rattle.audit_fault.specs.declared.fault.AuditFault.{AuditFault}
-use Rattle.audit_fault.specs.Faults.{audit_told}
 use Rattle.scene_rules.specs.Scenes.{Faces, Ground, SceneValue, art_of, book_in, colormap_of, scene_in, sizes_of}
 use Rattle.scene_rules.specs.Sides.{is_wanted_texture}
 use Rattle.scene_rules.specs.Sizes.{SceneArt, enough, greatest_by, is_last, is_list, is_map_lump, is_needed, lump_block, needed_lumps, zone_sizes}
@@ -174,9 +174,9 @@ module _ (bytes : ℕ → List ℕ) (lumps : List Lump) (lines : List ThingLine)
 
 -- no room for a later lump, from a zone at rest
 pub enough_after : {w : ShelfView} (dir : DirectoryView) (a b : Heap) (contents : List (List ℕ)) (lines : List ThingLine) (name : List ℕ) (skill : ℕ) (scene : SceneValue) (colormap : ℕ) (result : Result SoundValue AuditFault) → colormap_of dir.lumps ≡ Ok colormap → scene_in (lump_bytes contents dir.lumps) dir.lumps lines name skill ≡ Ok scene → HoldContents w dir b contents →
-    IsAtRest colormap (lump_at dir.lumps colormap).size b → b.size ≡ a.size → IfErr result (λ f. IfFull (audit_told f) (IsFullFor (IsReadLater w dir b lines name skill) dir b)) → IfErr result (λ f. IfFull (audit_told f) (λ wanted widest'. a.size < (sizes_of dir.lumps scene).enough))
+    IsAtRest colormap (lump_at dir.lumps colormap).size b → b.size ≡ a.size → IfErr result (λ f. IfFull (itself f) (IsFullFor (IsReadLater w dir b lines name skill) dir b)) → IfErr result (λ f. IfFull (itself f) (λ wanted widest'. a.size < (sizes_of dir.lumps scene).enough))
 enough_after dir a b contents lines name skill scene colormap (Ok sound) is accepted told rest size full = tt
 enough_after dir a b contents lines name skill scene colormap (Err fault) is accepted told rest size full =
-    full_at (audit_told fault) (λ wanted widest' k.
+    full_at (itself fault) (λ wanted widest' k.
     small_later (lump_bytes contents dir.lumps) dir.lumps lines name skill scene accepted colormap is a.size wanted k.lump (k.asked contents told) k.full.wanted_is
     (subst (λ n. n < block_size (lump_at dir.lumps colormap).size + wanted + MIN_FRAGMENT) size (k.full.room colormap (lump_at dir.lumps colormap).size rest))) full

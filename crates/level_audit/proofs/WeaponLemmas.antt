@@ -1,6 +1,6 @@
 -- What rows of weapon layers need, one row at a time, and faults of their book in the words of an audit.
 use Rattle.std.proofs.Common.{◌≡◌, ℕ, zero, suc, ◌+◌, ◌<◌, List, [], ◌∷◌, ◌++◌, length, get_or, take, Result, Ok, Err, refl, sym, subst, ap, ◌∙◌, arith}
-use Rattle.outside.specs.Faults.{fault_above, from_below}
+use Rattle.outside.specs.Faults.{fault_above, from_below, itself}
 use Rattle.outside.specs.Shelf.{ShelfView}
 use Rattle.lump_rules.specs.declared.wad.Lump.{Lump}
 use Rattle.zone_rules.specs.Zones.{Heap}
@@ -15,10 +15,8 @@ use Rattle.sprite_book.specs.declared.shapes.Frame.{Frame}
 use Rattle.sprite_book.specs.declared.shapes.Need.{Need}
 use Rattle.sprite_book.specs.Books.{each_of, first_needs, frame_of}
 use Rattle.sprite_book.specs.Calls.{IsWanted}
-use Rattle.sprite_book.specs.Faults.{sprite_told}
 use Rattle.scene_rules.specs.declared.refusal.AuditRefusal.{AuditRefusal}
 use Rattle.scene_rules.specs.declared.refusal.AuditRefusal.TheVariants.{WeaponArt}
-use Rattle.audit_fault.specs.Faults.{audit_told}
 use Rattle.level_audit.specs.Weapons.{need_of_row, needs_from, weapon_book, weapon_fault, weapon_needs, weapon_refusal}
 
 -- the needs of one row more
@@ -47,7 +45,7 @@ abbrev pub weapon_art : SpriteRefusal → AuditRefusal
 weapon_art refusal = WeaponArt (weapon_refusal refusal)
 
 -- what a fault tells
-pub weapon_told : (fault : SpriteFault) → audit_told (weapon_fault fault) ≡ fault_above weapon_art (sprite_told fault)
+pub weapon_told : (fault : SpriteFault) → itself (weapon_fault fault) ≡ fault_above weapon_art (itself fault)
 weapon_told (Refused refusal) = refl
 weapon_told ReadFault = refl
 weapon_told (ZoneFull wanted widest) = refl
@@ -68,8 +66,8 @@ book_above bytes lumps rows needs same =
 
 -- what is told of the book, in the words of an audit
 pub weapons_above : {v w : ShelfView} {dir : DirectoryView} {a b : Heap} (rows : List WeaponRow) (needs : List Need) (result : Result (List Frame) SpriteFault) → needs ≡ weapon_needs rows →
-    ReadsLumps sprite_told v w dir a b (IsWanted dir.lumps needs) (λ book. book) (λ bytes. each_of (frame_of bytes dir.lumps) (first_needs needs)) result →
-    ReadsLumps audit_told v w dir a b (IsWanted dir.lumps (weapon_needs rows)) (λ book. book) (λ bytes. from_below WeaponArt (weapon_book bytes dir.lumps rows)) (fault_above weapon_fault result)
+    ReadsLumps itself v w dir a b (IsWanted dir.lumps needs) (λ book. book) (λ bytes. each_of (frame_of bytes dir.lumps) (first_needs needs)) result →
+    ReadsLumps itself v w dir a b (IsWanted dir.lumps (weapon_needs rows)) (λ book. book) (λ bytes. from_below WeaponArt (weapon_book bytes dir.lumps rows)) (fault_above weapon_fault result)
 weapons_above {dir} rows needs result same told =
     tells_wider (fault_above weapon_fault result) (λ lump wanted. subst (λ (xs : List Need). IsWanted dir.lumps xs lump) same wanted) (λ bytes. book_above bytes dir.lumps rows needs same)
     (tells_above weapon_art weapon_fault weapon_told result told)

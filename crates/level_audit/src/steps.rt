@@ -4,7 +4,7 @@
 // `R_InitData`, r_data.c.
 ghost use Rattle.std.specs.Prelude.{◌≡◌, ◌≢◌, ◌<◌, ◌≤◌, ◌+◌, ◌⊎◌, ℕ, List, length, true, Some, Ok, IfOk, IfErr, IfSome, IsOk, MatchResult};
 ghost use Rattle.outside.specs.Shelf.{NameFiles, IsLaterShelf};
-ghost use Rattle.outside.specs.Faults.{ResultIs, HasCauses};
+ghost use Rattle.outside.specs.Faults.{ResultIs, HasCauses, itself};
 ghost use Rattle.lump_rules.specs.Contents.{lump_bytes};
 ghost use Rattle.lump_rules.specs.Lookups.{lump_at};
 ghost use Rattle.zone_rules.specs.declared.TheConstants.{MIN_FRAGMENT};
@@ -15,7 +15,6 @@ ghost use Rattle.cached_lumps.specs.Calls.{IfFull, InOrderAt, HoldContents, Read
 ghost use Rattle.cached_lumps.specs.Sizes.{HasSizes, StandsBeside};
 ghost use Rattle.scene_rules.specs.Scenes.{SceneValue, art_of, colormap_of, scene_in, sizes_of};
 ghost use Rattle.scene_rules.specs.Sizes.{needed_lumps};
-ghost use Rattle.audit_fault.specs.Faults.{audit_told};
 ghost use Rattle.ground_read.specs.Asked.{IsOfGround};
 ghost use Rattle.level_audit.specs.Reads.{IsFullAudit, IsReadBy, IsReadLater};
 
@@ -64,18 +63,18 @@ pub fn audit<S: Shelf>(
     requires slots { length dir.now.lumps ≤ cache.old.lumps }
     requires skill { (1 ≤ skill) × (skill ≤ 5) }
     ensures answers { (contents : List (List ℕ)) → HoldContents (S.view shelf.old) dir.now cache.old contents →
-        ResultIs audit_told (S.view shelf.old).steady (λ sound. sound.scene) (scene_in (lump_bytes contents dir.now.lumps) dir.now.lumps things.now map.now skill) result }
+        ResultIs itself (S.view shelf.old).steady (λ sound. sound.scene) (scene_in (lump_bytes contents dir.now.lumps) dir.now.lumps things.now map.now skill) result }
     ensures named { IfOk result (λ sound. sound.named ≡ needed_lumps dir.now.lumps (art_of sound.scene)) }
     ensures sizes { IfOk result (λ sound. sound.sizes ≡ sizes_of dir.now.lumps sound.scene) }
     ensures colormap { IfOk result (λ sound. colormap_of dir.now.lumps ≡ Ok sound.scene.ground.colormap) }
-    ensures causes { HasCauses audit_told (S.view shelf.old).faults (S.view shelf.new).faults result }
-    ensures found { IfErr result (λ fault. IfFull (audit_told fault) (λ wanted widest'. IsOk (colormap_of dir.now.lumps))) }
-    ensures full { IfErr result (λ fault. IfFull (audit_told fault) (IsFullAudit (S.view shelf.old) dir.now cache.old things.now map.now skill)) }
+    ensures causes { HasCauses itself (S.view shelf.old).faults (S.view shelf.new).faults result }
+    ensures found { IfErr result (λ fault. IfFull (itself fault) (λ wanted widest'. IsOk (colormap_of dir.now.lumps))) }
+    ensures full { IfErr result (λ fault. IfFull (itself fault) (IsFullAudit (S.view shelf.old) dir.now cache.old things.now map.now skill)) }
     ensures room { (colormap : ℕ) → colormap_of dir.now.lumps ≡ Ok colormap → IsEmpty cache.old →
-        IfErr result (λ fault. IfFull (audit_told fault) (λ wanted widest'. cache.old.size < block_size (lump_at dir.now.lumps colormap).size + wanted + MIN_FRAGMENT)) }
+        IfErr result (λ fault. IfFull (itself fault) (λ wanted widest'. cache.old.size < block_size (lump_at dir.now.lumps colormap).size + wanted + MIN_FRAGMENT)) }
     ensures enough { (contents : List (List ℕ)) (scene : SceneValue) → HoldContents (S.view shelf.old) dir.now cache.old contents →
         scene_in (lump_bytes contents dir.now.lumps) dir.now.lumps things.now map.now skill ≡ Ok scene → IsEmpty cache.old →
-        IfErr result (λ fault. IfFull (audit_told fault) (λ wanted widest'. cache.old.size < (sizes_of dir.now.lumps scene).enough)) }
+        IfErr result (λ fault. IfFull (itself fault) (λ wanted widest'. cache.old.size < (sizes_of dir.now.lumps scene).enough)) }
     ensures rest { IsEmpty cache.old → IfOk result (λ sound. IsAtRest sound.scene.ground.colormap (lump_at dir.now.lumps sound.scene.ground.colormap).size cache.new) }
     ensures fits { IsEmpty cache.old → IfOk result (λ sound. (lump : ℕ) → IsOfGround dir.now.lumps map.now lump → lump ≢ sound.scene.ground.colormap →
         block_size (lump_at dir.now.lumps sound.scene.ground.colormap).size + block_size (lump_at dir.now.lumps lump).size ≤ cache.old.size) }
@@ -86,7 +85,7 @@ pub fn audit<S: Shelf>(
     ensures order { (contents : List (List ℕ)) (items : List Item) → HoldContents (S.view shelf.old) dir.now cache.old contents →
         ((lump : ℕ) → IsReadBy (lump_bytes contents dir.now.lumps) dir.now.lumps things.now map.now skill lump → has_item items (lump_owner lump) (lump_at dir.now.lumps lump).size ≡ true) →
         IsInOrder items cache.old →
-        MatchResult result (λ _. KeepsOrder items cache.old cache.new (S.view shelf.old).taken (S.view shelf.new).taken) (λ fault. InOrderAt (audit_told fault) (KeepsOrder items cache.old cache.new (S.view shelf.old).taken (S.view shelf.new).taken)) }
+        MatchResult result (λ _. KeepsOrder items cache.old cache.new (S.view shelf.old).taken (S.view shelf.new).taken) (λ fault. InOrderAt (itself fault) (KeepsOrder items cache.old cache.new (S.view shelf.old).taken (S.view shelf.new).taken)) }
 {
     let colormap = find_colormap(dir)?;
     cache.fetch(shelf, dir, colormap, Tag::Static)?;
@@ -107,7 +106,7 @@ fn audit_rest<S: Shelf>(
     requires slots { length dir.now.lumps ≤ cache.old.lumps }
     requires skill { (1 ≤ skill) × (skill ≤ 5) }
     requires colormap { colormap_of dir.now.lumps ≡ Ok colormap.0 }
-    ensures tells { ReadsLumps audit_told (S.view shelf.old) (S.view shelf.new) dir.now cache.old cache.new (IsReadLater (S.view shelf.old) dir.now cache.old things.now map.now skill) (λ sound. sound.scene) (λ bytes. scene_in bytes dir.now.lumps things.now map.now skill) result }
+    ensures tells { ReadsLumps itself (S.view shelf.old) (S.view shelf.new) dir.now cache.old cache.new (IsReadLater (S.view shelf.old) dir.now cache.old things.now map.now skill) (λ sound. sound.scene) (λ bytes. scene_in bytes dir.now.lumps things.now map.now skill) result }
     ensures named { IfOk result (λ sound. sound.named ≡ needed_lumps dir.now.lumps (art_of sound.scene)) }
     ensures sizes { IfOk result (λ sound. sound.sizes ≡ sizes_of dir.now.lumps sound.scene) }
     ensures colormap { IfOk result (λ sound. sound.scene.ground.colormap ≡ colormap.0) }

@@ -2,11 +2,10 @@
 //
 // Rules: `specs/Weapons`. The original: `R_InitSpriteDefs`, r_things.c.
 ghost use Rattle.std.specs.Prelude.{◌≡◌, ◌<◌, ◌≤◌, ◌+◌, ◌++◌, ◌^◌, length, IfOk, OnErr};
-ghost use Rattle.outside.specs.Faults.{from_below};
+ghost use Rattle.outside.specs.Faults.{from_below, itself};
 ghost use Rattle.cached_lumps.specs.Calls.{ReadsLumps};
 ghost use Rattle.sprite_book.specs.Calls.{IsWanted};
 ghost use Rattle.scene_rules.specs.declared.refusal.AuditRefusal.TheVariants.{WeaponArt};
-ghost use Rattle.audit_fault.specs.Faults.{audit_told};
 ghost use Rattle.level_audit.specs.Sound.{with_book};
 ghost use Rattle.level_audit.specs.Weapons.{need_of_row, weapon_book, weapon_fault, weapon_needs, weapon_refusal};
 
@@ -42,7 +41,7 @@ pub fn audit_weapons<S: Shelf>(
 ) -> Result<SpriteBook, AuditFault>
     requires slots { length dir.now.lumps ≤ cache.old.lumps }
     requires colormap { scene.old.scene.ground.colormap < length dir.now.lumps }
-    ensures tells { ReadsLumps audit_told (S.view shelf.old) (S.view shelf.new) dir.now cache.old cache.new (IsWanted dir.now.lumps (weapon_needs weapons.now)) (λ book. book) (λ bytes. from_below WeaponArt (weapon_book bytes dir.now.lumps weapons.now)) result }
+    ensures tells { ReadsLumps itself (S.view shelf.old) (S.view shelf.new) dir.now cache.old cache.new (IsWanted dir.now.lumps (weapon_needs weapons.now)) (λ book. book) (λ bytes. from_below WeaponArt (weapon_book bytes dir.now.lumps weapons.now)) result }
     ensures scene { IfOk result (λ book. scene.new ≡ with_book dir.now.lumps book scene.old) }
     ensures unchanged { OnErr result (scene.new ≡ scene.old) }
 {
@@ -62,7 +61,7 @@ fn load_weapons<S: Shelf>(
     shelf: &mut S,
 ) -> Result<SpriteBook, AuditFault>
     requires { length dir.now.lumps ≤ cache.old.lumps }
-    ensures tells { ReadsLumps audit_told (S.view shelf.old) (S.view shelf.new) dir.now cache.old cache.new (IsWanted dir.now.lumps (weapon_needs weapons.now)) (λ book. book) (λ bytes. from_below WeaponArt (weapon_book bytes dir.now.lumps weapons.now)) result }
+    ensures tells { ReadsLumps itself (S.view shelf.old) (S.view shelf.new) dir.now cache.old cache.new (IsWanted dir.now.lumps (weapon_needs weapons.now)) (λ book. book) (λ bytes. from_below WeaponArt (weapon_book bytes dir.now.lumps weapons.now)) result }
 {
     let needs = weapon_needs(alloc, weapons.rows())?;
     match SpriteBook::load(alloc, &needs, dir, cache, shelf) {

@@ -3,7 +3,7 @@ use Rattle.std.proofs.Common.{◌≡◌, ◌+◌, ℕ, true, List, [], ◌∷◌
 use Rattle.std.specs.Option.{ok_or}
 use Rattle.word_rules.specs.Least.{or_else}
 use Rattle.outside.specs.Shelf.{ShelfView}
-use Rattle.outside.specs.Faults.{and_then}
+use Rattle.outside.specs.Faults.{and_then, itself}
 use Rattle.lump_rules.specs.declared.wad.Lump.{Lump}
 use Rattle.lump_rules.specs.Lookups.{map_of}
 use Rattle.zone_rules.specs.Zones.{Heap}
@@ -25,7 +25,7 @@ use Rattle.scene_rules.specs.Sizes.{is_map_lump}
 use Rattle.level_read.specs.declared.fault.LevelFault.{LevelFault}
 use Rattle.level_read.specs.declared.fault.LevelFault.TheVariants.{Refused as LevelRefused, OutOfMemory as LevelShort}
 use Rattle.level_read.specs.Asked.{IsLumpOfMap}
-use Rattle.level_read.specs.Faults.{level_told, above_map}
+use Rattle.level_read.specs.Faults.{above_map}
 use Rattle.level_read.specs.Lumps.{lump_added, lumps_from}
 
 -- one lump of those that are left, and the last one
@@ -72,18 +72,18 @@ pub level_of-more : (bytes : ℕ → List ℕ) (label : ℕ) (b : BuilderValue) 
 level_of-more bytes label b e = sym (level_of-lumps bytes label) ∙ ap (λ r. and_then r level_built) e
 
 module _ {v w : ShelfView} {dir : DirectoryView} {a z : Heap} {wants : ℕ → Type 0} (label : ℕ) (builder : BuilderValue)
-    (read : ReadsLumps level_told v w dir a z wants (λ (b : BuilderValue). b) (λ bytes. lumps_from bytes label 1 map_order empty_builder) (Ok builder)) where
+    (read : ReadsLumps itself v w dir a z wants (λ (b : BuilderValue). b) (λ bytes. lumps_from bytes label 1 map_order empty_builder) (Ok builder)) where
   -- the builder gives a level
-  pub finish_passed : (level : LevelValue) → level_built builder ≡ Ok level → ReadsLumps level_told v w dir a z wants (λ (l : LevelValue). l) (λ bytes. level_of (map_bytes bytes label)) (Ok level)
+  pub finish_passed : (level : LevelValue) → level_built builder ≡ Ok level → ReadsLumps itself v w dir a z wants (λ (l : LevelValue). l) (λ bytes. level_of (map_bytes bytes label)) (Ok level)
   finish_passed level is = tells_as builder level read (λ lump wanted. wanted) (λ bytes got. level_of-more bytes label builder got ∙ is)
 
   -- it gives none
   module _ (r : Result LevelValue MapFault) (Refused : (refusal : MapRefusal) → r ≡ Err (Refused refusal) → level_built builder ≡ Err refusal) where
-    given_up : (fault : MapFault) → r ≡ Err fault → ReadsLumps level_told v w dir a z wants (λ (l : LevelValue). l) (λ bytes. level_of (map_bytes bytes label)) (Err (above_map fault))
+    given_up : (fault : MapFault) → r ≡ Err fault → ReadsLumps itself v w dir a z wants (λ (l : LevelValue). l) (λ bytes. level_of (map_bytes bytes label)) (Err (above_map fault))
     given_up (Refused refusal) was = tells_then_refused (LevelRefused refusal) refusal refl (λ lump wanted. wanted) read (λ contents told got. level_of-more _ label builder got ∙ refused refusal was)
     given_up OutOfMemory was = tells_short LevelShort refl (λ lump wanted. wanted) read
 
-    pub finish_stopped : (fault : MapFault) (result : Result LevelValue LevelFault) → r ≡ Err fault → IsErrAnd result (λ e. e ≡ above_map fault) → ReadsLumps level_told v w dir a z wants (λ (l : LevelValue). l) (λ bytes. level_of (map_bytes bytes label)) result
+    pub finish_stopped : (fault : MapFault) (result : Result LevelValue LevelFault) → r ≡ Err fault → IsErrAnd result (λ e. e ≡ above_map fault) → ReadsLumps itself v w dir a z wants (λ (l : LevelValue). l) (λ bytes. level_of (map_bytes bytes label)) result
     finish_stopped fault result was is = tells_same result (above_map fault) (λ bytes. level_of (map_bytes bytes label)) is (given_up fault was)
 
 -- what is told of a look-up by name

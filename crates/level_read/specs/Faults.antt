@@ -1,4 +1,5 @@
 -- What the faults of reading a level tell.
+use Rattle.outside.specs.Faults.{itself}
 use Rattle.outside.specs.declared.fault.Fault.{Fault}
 use Rattle.outside.specs.declared.fault.Fault.TheVariants.{Refused, ReadFault, ZoneFull, OutOfMemory}
 use Rattle.map_rules.specs.declared.refusal.MapRefusal.{MapRefusal}
@@ -9,11 +10,11 @@ use Rattle.map_lumps.specs.declared.fault.MapFault.TheVariants as map
 use Rattle.level_read.specs.declared.fault.LevelFault.{LevelFault}
 use Rattle.level_read.specs.declared.fault.LevelFault.TheVariants.{Refused, ReadFault, ZoneFull, OutOfMemory}
 
-abbrev pub level_told : LevelFault → Fault MapRefusal
-level_told (Refused refusal) = Refused refusal
-level_told ReadFault = ReadFault
-level_told (ZoneFull wanted widest) = ZoneFull wanted widest
-level_told OutOfMemory = OutOfMemory
+abbrev pub itself : LevelFault → Fault MapRefusal
+itself (Refused refusal) = Refused refusal
+itself ReadFault = ReadFault
+itself (ZoneFull wanted widest) = ZoneFull wanted widest
+itself OutOfMemory = OutOfMemory
 
 -- a fault of the cache, and one of the builder
 abbrev pub above_cache : CacheFault → LevelFault

@@ -1,6 +1,7 @@
 // A level from the lumps of its map.
 //
 // Rules: `map_rules`, Levels; `scene_rules`, Scenes. The original: `P_SetupLevel`, p_setup.c.
+ghost use Rattle.outside.specs.Faults.{itself};
 ghost use Rattle.std.specs.Prelude.{◌≡◌, ◌<◌, ◌≤◌, ◌+◌, ◌^◌, ℕ, length, true, Ok, Err, IfOk, MatchResult};
 ghost use Rattle.cached_lumps.specs.Calls.{ReadsLumps};
 ghost use Rattle.cached_lumps.specs.Sizes.{StandsBeside};
@@ -8,7 +9,6 @@ ghost use Rattle.map_rules.specs.Levels.{level_of};
 ghost use Rattle.scene_rules.specs.Scenes.{label_of, level_in, map_bytes};
 ghost use Rattle.scene_rules.specs.Sizes.{is_map_lump};
 ghost use Rattle.level_read.specs.Asked.{IsLumpOfMap};
-ghost use Rattle.level_read.specs.Faults.{level_told};
 
 use crate::LevelFault;
 use crate::lumps::{LUMPS, add_lumps};
@@ -43,7 +43,7 @@ pub fn read_level<S: Shelf>(
     shelf: &mut S,
 ) -> Result<(LumpNo, Level), LevelFault>
     requires { length dir.now.lumps ≤ cache.old.lumps }
-    ensures tells { ReadsLumps level_told (S.view shelf.old) (S.view shelf.new) dir.now cache.old cache.new (IsLumpOfMap dir.now.lumps name.now) (λ found. (found.0.0, found.1)) (λ bytes. level_in bytes dir.now.lumps name.now) result }
+    ensures tells { ReadsLumps itself (S.view shelf.old) (S.view shelf.new) dir.now cache.old cache.new (IsLumpOfMap dir.now.lumps name.now) (λ found. (found.0.0, found.1)) (λ bytes. level_in bytes dir.now.lumps name.now) result }
     ensures label { IfOk result (λ found. label_of dir.now.lumps name.now ≡ Ok found.0.0) }
     ensures there { IfOk result (λ found. found.0.0 + length MAP_LUMPS < length dir.now.lumps) }
     ensures fits { IfOk result (λ found. (lump : ℕ) → is_map_lump found.0.0 lump ≡ true → StandsBeside dir.now.lumps cache.old lump) }
@@ -73,7 +73,7 @@ fn level_behind<S: Shelf>(
     requires slots { length dir.now.lumps ≤ cache.old.lumps }
     requires there { label.0 + length MAP_LUMPS < length dir.now.lumps }
     requires number { label.0 + length MAP_LUMPS < 2 ^ 16 }
-    ensures tells { ReadsLumps level_told (S.view shelf.old) (S.view shelf.new) dir.now cache.old cache.new (λ lump. is_map_lump label.0 lump ≡ true) (λ level. level) (λ bytes. level_of (map_bytes bytes label.0)) result }
+    ensures tells { ReadsLumps itself (S.view shelf.old) (S.view shelf.new) dir.now cache.old cache.new (λ lump. is_map_lump label.0 lump ≡ true) (λ level. level) (λ bytes. level_of (map_bytes bytes label.0)) result }
     ensures fits { IfOk result (λ level. (lump : ℕ) → is_map_lump label.0 lump ≡ true → StandsBeside dir.now.lumps cache.old lump) }
 {
     let builder = add_lumps(alloc, &LUMPS, label, dir, cache, shelf)?;

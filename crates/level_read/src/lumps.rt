@@ -2,6 +2,7 @@
 //
 // Rules: `specs/Lumps`; what is told of a call over a cache stands in `cached_lumps`. The original:
 // `P_SetupLevel`, p_setup.c.
+ghost use Rattle.outside.specs.Faults.{itself};
 ghost use Rattle.std.specs.Prelude.{◌≡◌, ◌<◌, ◌≤◌, ◌+◌, ◌^◌, ℕ, length, map, true, false, IfOk, OnOk, slice_set};
 ghost use Rattle.std.specs.List.{range_with_len};
 ghost use Rattle.map_rules.specs.Lumps.{lump_no};
@@ -9,7 +10,6 @@ ghost use Rattle.map_lumps.specs.Builders.{all_added, empty_builder, is_added};
 ghost use Rattle.cached_lumps.specs.Calls.{ReadsLumps};
 ghost use Rattle.cached_lumps.specs.Sizes.{StandsBeside};
 ghost use Rattle.scene_rules.specs.Sizes.{is_map_lump};
-ghost use Rattle.level_read.specs.Faults.{level_told};
 ghost use Rattle.level_read.specs.Lumps.{lump_added, lumps_from};
 
 use crate::LevelFault;
@@ -46,7 +46,7 @@ pub(crate) fn add_lumps<S: Shelf>(
     requires there { label.0 + length MAP_LUMPS < length dir.now.lumps }
     requires number { label.0 + length MAP_LUMPS < 2 ^ 16 }
     requires lumps { map lump_no lumps.now ≡ range_with_len 0 (length MAP_LUMPS) }
-    ensures tells { ReadsLumps level_told (S.view shelf.old) (S.view shelf.new) dir.now cache.old cache.new (λ lump. is_map_lump label.0 lump ≡ true) (λ builder. builder) (λ bytes. lumps_from bytes label.0 1 lumps.now empty_builder) result }
+    ensures tells { ReadsLumps itself (S.view shelf.old) (S.view shelf.new) dir.now cache.old cache.new (λ lump. is_map_lump label.0 lump ≡ true) (λ builder. builder) (λ bytes. lumps_from bytes label.0 1 lumps.now empty_builder) result }
     ensures added { IfOk result (λ builder. builder.added ≡ all_added) }
     ensures fits { IfOk result (λ builder. (lump : ℕ) → is_map_lump label.0 lump ≡ true → StandsBeside dir.now.lumps cache.old lump) }
 {
@@ -71,7 +71,7 @@ fn add_lump<S: Shelf>(
     requires slots { length dir.now.lumps ≤ cache.old.lumps }
     requires there { number.0 < length dir.now.lumps }
     requires absent { is_added builder.old lump ≡ false }
-    ensures tells { ReadsLumps level_told (S.view shelf.old) (S.view shelf.new) dir.now cache.old cache.new (λ n. n ≡ number.0) (λ done. builder.new) (λ bytes. lump_added builder.old lump (bytes number.0)) result }
+    ensures tells { ReadsLumps itself (S.view shelf.old) (S.view shelf.new) dir.now cache.old cache.new (λ n. n ≡ number.0) (λ done. builder.new) (λ bytes. lump_added builder.old lump (bytes number.0)) result }
     ensures added { OnOk result (builder.new.added ≡ slice_set builder.old.added (lump_no lump) true) }
     ensures fits { OnOk result (StandsBeside dir.now.lumps cache.old number.0) }
 {

@@ -5,6 +5,6 @@ use Rattle.scene_rules.specs.declared.refusal.SceneRefusal.{SceneRefusal}
 use Rattle.level_scene.specs.declared.fault.SceneFault.{SceneFault}
 use Rattle.level_scene.specs.declared.fault.SceneFault.TheVariants.{Refused, OutOfMemory}
 
-abbrev pub scene_told : SceneFault → Fault SceneRefusal
-scene_told (Refused refusal) = Refused refusal
-scene_told OutOfMemory = OutOfMemory
+abbrev pub scene_fault : SceneFault → Fault SceneRefusal
+scene_fault (Refused refusal) = Refused refusal
+scene_fault OutOfMemory = OutOfMemory

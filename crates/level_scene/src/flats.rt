@@ -5,7 +5,7 @@ ghost use Rattle.std.specs.Prelude.{◌≡◌, true, length, All, IfOk, IfSome};
 ghost use Rattle.outside.specs.Faults.{ResultIs};
 ghost use Rattle.scene_rules.specs.SectorFlats.{flat_named, flat_number, flats_of, sector_flats, surface_of, surfaces_of};
 ghost use Rattle.level_scene.specs.Bounds.{AreThere, IsThere};
-ghost use Rattle.level_scene.specs.Faults.{scene_told};
+ghost use Rattle.level_scene.specs.Faults.{scene_fault};
 
 use crate::SceneFault;
 use crate::sides::is_sky_name;
@@ -32,7 +32,7 @@ pub fn find_flats(
     dir: &Directory,
     sectors: &[Sector],
 ) -> Result<Vec<SectorFlats>, SceneFault>
-    ensures answers { ResultIs scene_told true (λ flats. flats.items)
+    ensures answers { ResultIs scene_fault true (λ flats. flats.items)
         (sector_flats dir.now.lumps sectors.now) result }
     ensures count { IfOk result (λ flats. length flats.items ≡ length sectors.now) }
     ensures there { IfOk result (λ flats. All (AreThere (length dir.now.lumps)) flats.items) }

@@ -9,7 +9,7 @@ ghost use Rattle.outside.specs.Faults.{ResultIs};
 ghost use Rattle.scene_rules.specs.Skies.{episode_sky, has_sky, is_digit, is_episode_map, is_numbered_map, is_sky_name, map_number, numbered_sky, shows_sky, sky_name};
 ghost use Rattle.scene_rules.specs.Sides.{is_sky_texture, is_wanted_texture, shows_texture, side_textures, sky_texture, textures_of};
 ghost use Rattle.level_scene.specs.Bounds.{AreBelow, IsNoneOrBelow};
-ghost use Rattle.level_scene.specs.Faults.{scene_told};
+ghost use Rattle.level_scene.specs.Faults.{scene_fault};
 
 use crate::SceneFault;
 use level_rules::{Sector, Side, SideTextures};
@@ -35,7 +35,7 @@ pub fn number_sides(
     lists: &ListedTextures,
     sides: &[Side],
 ) -> Result<Vec<SideTextures>, SceneFault>
-    ensures answers { ResultIs scene_told true (λ numbers. numbers.items)
+    ensures answers { ResultIs scene_fault true (λ numbers. numbers.items)
         (side_textures lists.now.textures sides.now) result }
     ensures count { IfOk result (λ numbers. length numbers.items ≡ length sides.now) }
     ensures below { IfOk result (λ numbers.

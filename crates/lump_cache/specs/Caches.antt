@@ -147,6 +147,6 @@ abbrev pub HasAsked : ℕ → Option Block → Type 0
 HasAsked size None = ⊥
 HasAsked size (Some b) = IsAsked size b.holding
 
-abbrev pub cache_told : CacheFault → Fault ⊥
-cache_told (ZoneFull wanted widest) = ZoneFull wanted widest
-cache_told ReadFault = ReadFault
+abbrev pub cache_fault : CacheFault → Fault ⊥
+cache_fault (ZoneFull wanted widest) = ZoneFull wanted widest
+cache_fault ReadFault = ReadFault

@@ -17,7 +17,7 @@ ghost use Rattle.zone_rules.specs.Requests.{gaps, total, widest, without_room, T
 ghost use Rattle.zone_rules.specs.Frees.{without_block, with_bytes};
 ghost use Rattle.zone_rules.specs.Loans.{after_loan};
 ghost use Rattle.zone_rules.specs.Orders.{Item, has_item, AreRoomy, IsInOrder, KeepsOrder};
-ghost use Rattle.lump_cache.specs.Caches.{lump_owner, composite_owner, with_tag_unless_static, release_heap, is_static_tag, is_full, WhereFull, LeftBy, GivesBack, NoRoom, HasBlock, HasAsked, KeptOrPurged, IsFaithful, IsAtRest, IsAtRestExcept, IsEmpty, IsPinned, KeepsCounts, cache_told};
+ghost use Rattle.lump_cache.specs.Caches.{lump_owner, composite_owner, with_tag_unless_static, release_heap, is_static_tag, is_full, WhereFull, LeftBy, GivesBack, NoRoom, HasBlock, HasAsked, KeptOrPurged, IsFaithful, IsAtRest, IsAtRestExcept, IsEmpty, IsPinned, KeepsCounts, cache_fault};
 
 use crate::fault::CacheFault;
 use crate::read::{lump_slot, read_into};
@@ -61,11 +61,11 @@ fn take_and_read<S: Shelf>(
     ensures sound { IsSound zone.new }
     ensures counts { KeepsCounts zone.old zone.new }
     ensures follows { IsLaterShelf (S.view shelf.old) (S.view shelf.new) }
-    ensures causes { HasCauses cache_told (S.view shelf.old).faults (S.view shelf.new).faults result }
+    ensures causes { HasCauses cache_fault (S.view shelf.old).faults (S.view shelf.new).faults result }
     ensures bytes { (contents : List (List ℕ)) → NameFiles (S.view shelf.old) dir.now.files contents → IfSome (bytes_of (lump_owner lump.0) zone.new.blocks) (λ xs. xs ≡ lump_bytes contents dir.now.lumps lump.0) }
     ensures taken { OnOk result (0 < (lump_at dir.now.lumps lump.0).size → (S.view shelf.new).taken ≡ counted (S.view shelf.old).taken (lump_at dir.now.lumps lump.0).size) }
     ensures untouched { (lump_at dir.now.lumps lump.0).size ≡ 0 → shelf.new ≡ shelf.old }
-    ensures answers { (contents : List (List ℕ)) → NameFiles (S.view shelf.old) dir.now.files contents → AllWithin contents dir.now.lumps → ResultIs cache_told (S.view shelf.old).steady (λ done. done) (Ok tt) result }
+    ensures answers { (contents : List (List ℕ)) → NameFiles (S.view shelf.old) dir.now.files contents → AllWithin contents dir.now.lumps → ResultIs cache_fault (S.view shelf.old).steady (λ done. done) (Ok tt) result }
     ensures order { (items : List Item) → has_item items (lump_owner lump.0) (lump_at dir.now.lumps lump.0).size ≡ true → IsInOrder items zone.old → (is_full result ≡ false) × OnOk result (KeepsOrder items zone.old zone.new (S.view shelf.old).taken (S.view shelf.new).taken) }
     ensures first { tag ≡ Static → IsEmpty zone.old → OnOk result (IsAtRest lump.0 (lump_at dir.now.lumps lump.0).size zone.new) }
 {
@@ -119,12 +119,12 @@ fn fetch_lump<S: Shelf>(
     ensures sound { IsSound zone.new }
     ensures counts { KeepsCounts zone.old zone.new }
     ensures follows { IsLaterShelf (S.view shelf.old) (S.view shelf.new) }
-    ensures causes { HasCauses cache_told (S.view shelf.old).faults (S.view shelf.new).faults result }
+    ensures causes { HasCauses cache_fault (S.view shelf.old).faults (S.view shelf.new).faults result }
     ensures faithful { (contents : List (List ℕ)) → NameFiles (S.view shelf.old) dir.now.files contents → IsFaithful contents dir.now.lumps zone.old → IsFaithful contents dir.now.lumps zone.new }
     ensures rest { (colormap size : ℕ) → tag ≡ Cache → IsAtRest colormap size zone.old → IsAtRest colormap size zone.new }
     ensures taken { OnOk result (IsNone (holding_of (lump_owner lump.0) zone.old.blocks) → 0 < (lump_at dir.now.lumps lump.0).size → (S.view shelf.new).taken ≡ counted (S.view shelf.old).taken (lump_at dir.now.lumps lump.0).size) }
     ensures untouched { (lump_at dir.now.lumps lump.0).size ≡ 0 → shelf.new ≡ shelf.old }
-    ensures answers { (contents : List (List ℕ)) → NameFiles (S.view shelf.old) dir.now.files contents → AllWithin contents dir.now.lumps → ResultIs cache_told (S.view shelf.old).steady (λ done. done) (Ok tt) result }
+    ensures answers { (contents : List (List ℕ)) → NameFiles (S.view shelf.old) dir.now.files contents → AllWithin contents dir.now.lumps → ResultIs cache_fault (S.view shelf.old).steady (λ done. done) (Ok tt) result }
     ensures order { (items : List Item) → has_item items (lump_owner lump.0) (lump_at dir.now.lumps lump.0).size ≡ true → IsInOrder items zone.old → (is_full result ≡ false) × OnOk result (KeepsOrder items zone.old zone.new (S.view shelf.old).taken (S.view shelf.new).taken) }
     ensures live { OnOk result (IsLive zone.new (lump_owner lump.0)) }
     ensures pinned { (o : Owner) → same_owner (lump_owner lump.0) o ≡ false → IsPinned (owned_block o zone.old.blocks) → owned_block o zone.new.blocks ≡ owned_block o zone.old.blocks }
@@ -257,12 +257,12 @@ impl LumpCache {
         ensures others { (o : Owner) → same_owner (lump_owner lump.0) o ≡ false → KeptOrPurged (owned_block o self.old.blocks) (owned_block o self.new.blocks) }
         ensures counts { KeepsCounts self.old self.new }
         ensures follows { IsLaterShelf (S.view shelf.old) (S.view shelf.new) }
-        ensures causes { HasCauses cache_told (S.view shelf.old).faults (S.view shelf.new).faults result }
+        ensures causes { HasCauses cache_fault (S.view shelf.old).faults (S.view shelf.new).faults result }
         ensures faithful { (contents : List (List ℕ)) → NameFiles (S.view shelf.old) dir.now.files contents → IsFaithful contents dir.now.lumps self.old → IsFaithful contents dir.now.lumps self.new }
         ensures rest { (colormap size : ℕ) → tag ≡ Cache → IsAtRest colormap size self.old → IsAtRest colormap size self.new }
         ensures taken { OnOk result (IsNone (holding_of (lump_owner lump.0) self.old.blocks) → 0 < (lump_at dir.now.lumps lump.0).size → (S.view shelf.new).taken ≡ counted (S.view shelf.old).taken (lump_at dir.now.lumps lump.0).size) }
         ensures untouched { (lump_at dir.now.lumps lump.0).size ≡ 0 → shelf.new ≡ shelf.old }
-        ensures answers { (contents : List (List ℕ)) → NameFiles (S.view shelf.old) dir.now.files contents → AllWithin contents dir.now.lumps → ResultIs cache_told (S.view shelf.old).steady (λ done. done) (Ok tt) result }
+        ensures answers { (contents : List (List ℕ)) → NameFiles (S.view shelf.old) dir.now.files contents → AllWithin contents dir.now.lumps → ResultIs cache_fault (S.view shelf.old).steady (λ done. done) (Ok tt) result }
         ensures order { (items : List Item) → has_item items (lump_owner lump.0) (lump_at dir.now.lumps lump.0).size ≡ true → IsInOrder items self.old → (is_full result ≡ false) × OnOk result (KeepsOrder items self.old self.new (S.view shelf.old).taken (S.view shelf.new).taken) }
         ensures live { OnOk result (IsLive self.new (lump_owner lump.0)) }
         ensures pinned { (o : Owner) → same_owner (lump_owner lump.0) o ≡ false → IsPinned (owned_block o self.old.blocks) → owned_block o self.new.blocks ≡ owned_block o self.old.blocks }

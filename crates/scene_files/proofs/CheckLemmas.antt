@@ -2,7 +2,7 @@
 use Rattle.std.proofs.Common.{◌≡◌, ℕ, Bool, true, false, cond, List, length, Option, Some, None, Result, Ok, Err, IsErrAnd, refl}
 use Rattle.std.specs.Prelude.{◌==◌, nat_lt, option_map}
 use Rattle.outside.specs.Shelf.{File, file_named}
-use Rattle.outside.specs.Faults.{and_then, from_below, ResultIs}
+use Rattle.outside.specs.Faults.{and_then, from_below, ResultIs, itself}
 use Rattle.view_rules.specs.declared.TheConstants.{TABLES_BYTES}
 use Rattle.view_rules.specs.declared.TablesRefusal.{TablesRefusal}
 use Rattle.view_rules.specs.declared.TablesRefusal.TheVariants.{Length}
@@ -21,7 +21,6 @@ use Rattle.scene_files.specs.declared.named.FileKind.TheVariants as kind
 use Rattle.scene_files.specs.declared.fault.FilesRefusal.{FilesRefusal}
 use Rattle.scene_files.specs.declared.fault.FilesRefusal.TheVariants.{Tables, Things, Path, Weapons}
 use Rattle.scene_files.specs.declared.fault.FilesFault.{FilesFault}
-use Rattle.scene_files.specs.Faults.{files_told}
 use Rattle.scene_files.specs.Files.{unless_refused, in_file, tables_in, tables_file, things_file, path_file, weapons_file}
 use Rattle.scene_files.specs.Lengths.{tables_length_refusal, text_length_refusal, length_refusal, bytes_in}
 use Rattle.scene_files.specs.Stops.{else_absent, no_file, ResultIsOrAbsent}
@@ -84,13 +83,13 @@ in_two_steps first read name files law = two_steps first read (file_named name f
 -- the file's bytes were not read
 pub unread : {A B D : Type 0} {steady : Bool} {v : D → List ℕ} {value : B → A} {r : Result D FilesFault} (first : List ℕ → Result (List ℕ) FilesRefusal) (read : List ℕ → Result A FilesRefusal) (name : List ℕ) (files : List File) (fault : FilesFault) (result : Result B FilesFault) →
     ((bytes : List ℕ) → read bytes ≡ and_then (first bytes) read) →
-    ResultIsOrAbsent files_told steady v (in_file first name files) r → r ≡ Err fault → IsErrAnd result (λ e. e ≡ fault) → ResultIsOrAbsent files_told steady value (in_file read name files) result
+    ResultIsOrAbsent itself steady v (in_file first name files) r → r ≡ Err fault → IsErrAnd result (λ e. e ≡ fault) → ResultIsOrAbsent itself steady value (in_file read name files) result
 unread first read name files fault result law agrees was is =
     rw (in_two_steps first read name files law) (step_stops (λ given. no_file (read given)) fault result agrees was refl is)
 
 -- the file's bytes were read and checked
 pub checked : {A B : Type 0} {steady : Bool} {value : B → A} (first : List ℕ → Result (List ℕ) FilesRefusal) (read : List ℕ → Result A FilesRefusal) (name : List ℕ) (files : List File) (found given : List ℕ) (result : Result B FilesFault) →
     ((bytes : List ℕ) → read bytes ≡ and_then (first bytes) read) →
-    in_file first name files ≡ Ok found → given ≡ found → ResultIs files_told true value (read given) result → ResultIsOrAbsent files_told steady value (in_file read name files) result
+    in_file first name files ≡ Ok found → given ≡ found → ResultIs itself true value (read given) result → ResultIsOrAbsent itself steady value (in_file read name files) result
 checked first read name files found given result law e same answers =
     rw (in_two_steps first read name files law, e) (unread_agrees (read found) result (rw same at answers))

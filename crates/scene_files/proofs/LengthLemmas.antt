@@ -1,12 +1,11 @@
 -- A file's length and its bytes.
 use Rattle.std.proofs.Common.{◌≡◌, ℕ, Bool, List, length, Option, Some, None, Result, Ok, Err, IsErrAnd, refl, sym, ap}
 use Rattle.std.proofs.lemmas.Result.{err_from_is_err_and}
-use Rattle.outside.specs.Faults.{ResultIs}
+use Rattle.outside.specs.Faults.{ResultIs, itself}
 use Rattle.scene_files.specs.declared.named.FileKind.{FileKind}
 use Rattle.scene_files.specs.declared.fault.FilesRefusal.{FilesRefusal}
 use Rattle.scene_files.specs.declared.fault.FilesFault.{FilesFault}
 use Rattle.scene_files.specs.declared.fault.FilesFault.TheVariants.{Refused}
-use Rattle.scene_files.specs.Faults.{files_told}
 use Rattle.scene_files.specs.Files.{unless_refused}
 use Rattle.scene_files.specs.Lengths.{length_refusal, bytes_in}
 
@@ -37,7 +36,7 @@ bytes_whole kind size count bytes e h =
 
 -- a call ends with the refusal of the steps
 pub refusal_answers : {A B : Type 0} (steady : Bool) (value : B → A) (expected : Result A FilesRefusal) (reason : FilesRefusal) (result : Result B FilesFault) →
-    expected ≡ Err reason → IsErrAnd result (λ e. e ≡ Refused reason) → ResultIs files_told steady value expected result
+    expected ≡ Err reason → IsErrAnd result (λ e. e ≡ Refused reason) → ResultIs itself steady value expected result
 refusal_answers {A} {B} steady value expected reason result e is =
     let p : (y : FilesFault) × (result ≡ Err y) × (y ≡ Refused reason) = err_from_is_err_and result is in
     rw (p.1, p.2) (record { ok = tt; err = e })

@@ -3,34 +3,34 @@ use Rattle.std.proofs.Common.{◌≡◌, ℕ, Bool, List, Option, Some, Result, 
 use Rattle.std.proofs.lemmas.Result.{err_from_is_err_and}
 use Rattle.outside.specs.declared.shelf.FileNo.{FileNo}
 use Rattle.outside.specs.Shelf.{File, ShelfView, NameFiles}
-use Rattle.outside.specs.Faults.{fault_above}
+use Rattle.outside.specs.Faults.{fault_above, itself}
 use Rattle.lump_rules.specs.declared.wad.Lump.{Lump}
 use Rattle.wad_dir.specs.declared.fault.DirFault.{DirFault}
 use Rattle.wad_dir.specs.declared.fault.DirFault.TheVariants as dir
-use Rattle.wad_dir.specs.Faults.{dir_told}
+use Rattle.wad_dir.specs.Faults.{dir_fault}
 use Rattle.scene_files.specs.declared.fault.FilesRefusal.{FilesRefusal}
 use Rattle.scene_files.specs.declared.fault.FilesRefusal.TheVariants.{Wad}
 use Rattle.scene_files.specs.declared.fault.FilesFault.{FilesFault}
-use Rattle.scene_files.specs.Faults.{files_told, fault_of_dir}
+use Rattle.scene_files.specs.Faults.{fault_of_dir}
 use Rattle.scene_files.specs.Files.{files_named, lumps_in, wad_files}
 use Rattle.scene_files.specs.Found.{AllStandForNamed}
 use Rattle.scene_files.specs.Stops.{else_absent, no_file, StopsAt, ResultIsOrAbsent}
 use Rattle.scene_files.proofs.StopLemmas.{stops_all}
 
 -- what a fault of the directory tells where files are read
-pub dir_told_above : (fault : DirFault) → files_told (fault_of_dir fault) ≡ fault_above Wad (dir_told fault)
+pub dir_told_above : (fault : DirFault) → itself (fault_of_dir fault) ≡ fault_above Wad (dir_fault fault)
 dir_told_above (dir.Refused refusal) = refl
 dir_told_above dir.ReadFault = refl
 dir_told_above dir.OutOfMemory = refl
 
 -- a file was not found
 pub wads_unfound : {B : Type 0} {steady : Bool} {value : B → List Lump} (names : List (List ℕ)) (files : List File) (fault : FilesFault) (result : Result B FilesFault) →
-    StopsAt {R = FilesRefusal} steady (else_absent (files_named names files)) (files_told fault) → IsErrAnd result (λ e. e ≡ fault) →
-    ResultIsOrAbsent files_told steady value (lumps_in names files) result
+    StopsAt {R = FilesRefusal} steady (else_absent (files_named names files)) (itself fault) → IsErrAnd result (λ e. e ≡ fault) →
+    ResultIsOrAbsent itself steady value (lumps_in names files) result
 unfolding lumps_in
 wads_unfound {B} {steady} names files fault result stops is =
     let p : (y : FilesFault) × (result ≡ Err y) × (y ≡ fault) = err_from_is_err_and result is in
-    let k : StopsAt steady (lumps_in names files) (files_told p.0) = rw p.2 (stops_all steady (else_absent (files_named names files)) (λ contents. no_file (wad_files contents)) (files_told fault) stops) in
+    let k : StopsAt steady (lumps_in names files) (itself p.0) = rw p.2 (stops_all steady (else_absent (files_named names files)) (λ contents. no_file (wad_files contents)) (itself fault) stops) in
     rw p.1 (record { ok = tt; err = k })
 
 -- all files were found

@@ -1,4 +1,5 @@
 -- What the faults of reading files tell.
+use Rattle.outside.specs.Faults.{itself}
 use Rattle.outside.specs.declared.fault.Fault.{Fault}
 use Rattle.outside.specs.declared.fault.Fault.TheVariants.{Refused, ReadFault, OutOfMemory}
 use Rattle.wad_dir.specs.declared.fault.DirFault.{DirFault}
@@ -8,10 +9,10 @@ use Rattle.scene_files.specs.declared.fault.FilesRefusal.TheVariants.{Wad}
 use Rattle.scene_files.specs.declared.fault.FilesFault.{FilesFault}
 use Rattle.scene_files.specs.declared.fault.FilesFault.TheVariants.{Refused, ReadFault, OutOfMemory}
 
-abbrev pub files_told : FilesFault → Fault FilesRefusal
-files_told (Refused refusal) = Refused refusal
-files_told ReadFault = ReadFault
-files_told OutOfMemory = OutOfMemory
+abbrev pub itself : FilesFault → Fault FilesRefusal
+itself (Refused refusal) = Refused refusal
+itself ReadFault = ReadFault
+itself OutOfMemory = OutOfMemory
 
 -- what a fault of the directory is where files are read
 abbrev pub fault_of_dir : DirFault → FilesFault

@@ -1,8 +1,7 @@
 // The bytes of a named file, which is read whole where its length is not refused.
 ghost use Rattle.std.specs.Prelude.{◌≡◌, ◌≤◌, ◌+◌, ℕ, List, length, Ok, IfOk};
 ghost use Rattle.outside.specs.Shelf.{File, IsLaterShelf, Holds, Stands};
-ghost use Rattle.outside.specs.Faults.{ResultIs, HasCauses};
-ghost use Rattle.scene_files.specs.Faults.{files_told};
+ghost use Rattle.outside.specs.Faults.{ResultIs, HasCauses, itself};
 ghost use Rattle.scene_files.specs.Files.{in_file, unless_refused};
 ghost use Rattle.scene_files.specs.Lengths.{bytes_in, length_refusal, most_bytes, tables_length_refusal, text_length_refusal};
 ghost use Rattle.scene_files.specs.Stops.{ResultIsOrAbsent};
@@ -30,10 +29,10 @@ pub fn read_named<S: Shelf>(
     kind: FileKind,
 ) -> Result<Vec<u8>, FilesFault>
     ensures answers { (files : List File) → Holds (S.view shelf.old) files →
-        ResultIsOrAbsent files_told (S.view shelf.old).steady (λ bytes. bytes.items)
+        ResultIsOrAbsent itself (S.view shelf.old).steady (λ bytes. bytes.items)
         (in_file (bytes_in kind) name.now files) result }
     ensures follows { IsLaterShelf (S.view shelf.old) (S.view shelf.new) }
-    ensures causes { HasCauses files_told
+    ensures causes { HasCauses itself
         (S.view shelf.old).faults (S.view shelf.new).faults result }
     ensures taken { (S.view shelf.new).taken ≤ (S.view shelf.old).taken + most_bytes kind }
 {
@@ -49,10 +48,10 @@ fn read_file<S: Shelf>(
     kind: FileKind,
 ) -> Result<Vec<u8>, FilesFault>
     ensures answers { (bytes : List ℕ) → Stands (S.view shelf.old) file.0 bytes →
-        ResultIs files_told (S.view shelf.old).steady (λ found. found.items)
+        ResultIs itself (S.view shelf.old).steady (λ found. found.items)
         (bytes_in kind bytes) result }
     ensures follows { IsLaterShelf (S.view shelf.old) (S.view shelf.new) }
-    ensures causes { HasCauses files_told
+    ensures causes { HasCauses itself
         (S.view shelf.old).faults (S.view shelf.new).faults result }
     ensures taken { (S.view shelf.new).taken ≤ (S.view shelf.old).taken + most_bytes kind }
 {
@@ -70,9 +69,9 @@ fn read_whole<S: Shelf>(
 ) -> Result<Vec<u8>, FilesFault>
     ensures answers { (bytes : List ℕ) →
         Stands (S.view shelf.old) file.0 bytes → length bytes ≡ size →
-        ResultIs files_told (S.view shelf.old).steady (λ found. found.items) (Ok bytes) result }
+        ResultIs itself (S.view shelf.old).steady (λ found. found.items) (Ok bytes) result }
     ensures follows { IsLaterShelf (S.view shelf.old) (S.view shelf.new) }
-    ensures causes { HasCauses files_told
+    ensures causes { HasCauses itself
         (S.view shelf.old).faults (S.view shelf.new).faults result }
     ensures taken { (S.view shelf.new).taken ≤ (S.view shelf.old).taken + size }
 {

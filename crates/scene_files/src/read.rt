@@ -1,12 +1,11 @@
 // All files of a job over a level, in their order.
 ghost use Rattle.std.specs.Prelude.{◌≡◌, ◌<◌, ◌≤◌, ◌+◌, ◌*◌, ◌^◌, ℕ, List, length, map, Some, IfOk};
 ghost use Rattle.outside.specs.Shelf.{NameFiles, File, IsLaterShelf, Holds};
-ghost use Rattle.outside.specs.Faults.{HasCauses};
+ghost use Rattle.outside.specs.Faults.{HasCauses, itself};
 ghost use Rattle.lump_rules.specs.Contents.{AllWithin};
 ghost use Rattle.lump_rules.specs.Wads.{listing_sizes};
 ghost use Rattle.view_rules.specs.declared.TheConstants.{MIN_SIZE, MAX_SIZE};
 ghost use Rattle.command_line.specs.Scenes.{told_files};
-ghost use Rattle.scene_files.specs.Faults.{files_told};
 ghost use Rattle.scene_files.specs.Files.{files_in, files_named, value_of};
 ghost use Rattle.scene_files.specs.Stops.{ResultIsOrAbsent};
 
@@ -58,7 +57,7 @@ pub fn read_files<S: Shelf>(
     requires least { MIN_SIZE ≤ size }
     requires greatest { size ≤ MAX_SIZE }
     ensures answers { (files : List File) → Holds (S.view shelf.old) files →
-        ResultIsOrAbsent files_told (S.view shelf.old).steady value_of
+        ResultIsOrAbsent itself (S.view shelf.old).steady value_of
         (files_in (told_files names.now) (map (λ wad. wad.now) wads.now) size files) result }
     ensures contents { (files : List File) (contents : List (List ℕ)) →
         Holds (S.view shelf.old) files →
@@ -69,7 +68,7 @@ pub fn read_files<S: Shelf>(
     ensures count { IfOk result (λ found. length found.dir.lumps < 2 ^ 16) }
     ensures size { IfOk result (λ found. found.tables.size ≡ size) }
     ensures follows { IsLaterShelf (S.view shelf.old) (S.view shelf.new) }
-    ensures causes { HasCauses files_told
+    ensures causes { HasCauses itself
         (S.view shelf.old).faults (S.view shelf.new).faults result }
     ensures taken { (files : List File) (contents : List (List ℕ)) →
         Holds (S.view shelf.old) files →

@@ -1,9 +1,8 @@
 // The tables of angles: their file is asked for by name, read whole and then checked.
 ghost use Rattle.std.specs.Prelude.{◌≡◌, ◌≤◌, ◌+◌, ℕ, List, true, IfOk};
 ghost use Rattle.outside.specs.Shelf.{File, IsLaterShelf, Holds};
-ghost use Rattle.outside.specs.Faults.{ResultIs, HasCauses};
+ghost use Rattle.outside.specs.Faults.{ResultIs, HasCauses, itself};
 ghost use Rattle.view_rules.specs.declared.TheConstants.{MIN_SIZE, MAX_SIZE};
-ghost use Rattle.scene_files.specs.Faults.{files_told};
 ghost use Rattle.scene_files.specs.Files.{in_file, tables_file, tables_in};
 ghost use Rattle.scene_files.specs.Stops.{ResultIsOrAbsent};
 
@@ -24,10 +23,10 @@ pub fn load_tables<S: Shelf>(
     requires least { MIN_SIZE ≤ size }
     requires greatest { size ≤ MAX_SIZE }
     ensures answers { (files : List File) → Holds (S.view shelf.old) files →
-        ResultIsOrAbsent files_told (S.view shelf.old).steady (λ tables. tables)
+        ResultIsOrAbsent itself (S.view shelf.old).steady (λ tables. tables)
         (in_file (tables_file size) name.now files) result }
     ensures follows { IsLaterShelf (S.view shelf.old) (S.view shelf.new) }
-    ensures causes { HasCauses files_told
+    ensures causes { HasCauses itself
         (S.view shelf.old).faults (S.view shelf.new).faults result }
     ensures size { IfOk result (λ tables. tables.size ≡ size) }
     ensures taken { (S.view shelf.new).taken ≤ (S.view shelf.old).taken + TABLES_BYTES }
@@ -40,9 +39,9 @@ pub fn load_tables<S: Shelf>(
 fn check_tables(alloc: Global, bytes: &[u8], size: u8) -> Result<Tables, FilesFault>
     requires least { MIN_SIZE ≤ size }
     requires greatest { size ≤ MAX_SIZE }
-    ensures answers { ResultIs files_told true (λ tables. tables)
+    ensures answers { ResultIs itself true (λ tables. tables)
         (tables_file size bytes.now) result }
-    ensures causes { (before now : ℕ) → HasCauses files_told before now result }
+    ensures causes { (before now : ℕ) → HasCauses itself before now result }
     ensures size { IfOk result (λ tables. tables.size ≡ size) }
 {
     match Tables::from_bytes(alloc, bytes, size) {

@@ -2,9 +2,8 @@
 // for by name, read whole and then checked.
 ghost use Rattle.std.specs.Prelude.{◌≤◌, ◌+◌, ◌*◌, ℕ, List, true, option_map};
 ghost use Rattle.outside.specs.Shelf.{File, IsLaterShelf, Holds};
-ghost use Rattle.outside.specs.Faults.{ResultIs, HasCauses};
+ghost use Rattle.outside.specs.Faults.{ResultIs, HasCauses, itself};
 ghost use Rattle.command_line.specs.Scenes.{told_files};
-ghost use Rattle.scene_files.specs.Faults.{files_told};
 ghost use Rattle.scene_files.specs.Files.{in_file, in_optional_file, things_file, path_file, weapons_file, texts_in};
 ghost use Rattle.scene_files.specs.Stops.{ResultIsOrAbsent};
 
@@ -30,10 +29,10 @@ pub fn load_texts<S: Shelf>(
     names: &Files<'_>,
 ) -> Result<TextTables, FilesFault>
     ensures answers { (files : List File) → Holds (S.view shelf.old) files →
-        ResultIsOrAbsent files_told (S.view shelf.old).steady (λ texts. texts)
+        ResultIsOrAbsent itself (S.view shelf.old).steady (λ texts. texts)
         (texts_in (told_files names.now) files) result }
     ensures follows { IsLaterShelf (S.view shelf.old) (S.view shelf.new) }
-    ensures causes { HasCauses files_told
+    ensures causes { HasCauses itself
         (S.view shelf.old).faults (S.view shelf.new).faults result }
     ensures taken { (S.view shelf.new).taken ≤ (S.view shelf.old).taken + 3 * MAX_TABLE_BYTES }
 {
@@ -54,10 +53,10 @@ pub fn load_things<S: Shelf>(
     name: &str,
 ) -> Result<ThingTable, FilesFault>
     ensures answers { (files : List File) → Holds (S.view shelf.old) files →
-        ResultIsOrAbsent files_told (S.view shelf.old).steady (λ things. things)
+        ResultIsOrAbsent itself (S.view shelf.old).steady (λ things. things)
         (in_file things_file name.now files) result }
     ensures follows { IsLaterShelf (S.view shelf.old) (S.view shelf.new) }
-    ensures causes { HasCauses files_told
+    ensures causes { HasCauses itself
         (S.view shelf.old).faults (S.view shelf.new).faults result }
     ensures taken { (S.view shelf.new).taken ≤ (S.view shelf.old).taken + MAX_TABLE_BYTES }
 {
@@ -66,8 +65,8 @@ pub fn load_things<S: Shelf>(
 }
 
 fn check_things(alloc: Global, bytes: &[u8]) -> Result<ThingTable, FilesFault>
-    ensures answers { ResultIs files_told true (λ things. things) (things_file bytes.now) result }
-    ensures causes { (before now : ℕ) → HasCauses files_told before now result }
+    ensures answers { ResultIs itself true (λ things. things) (things_file bytes.now) result }
+    ensures causes { (before now : ℕ) → HasCauses itself before now result }
 {
     match ThingTable::read(alloc, bytes) {
         Ok(things) => Ok(things),
@@ -85,10 +84,10 @@ pub fn load_path<S: Shelf>(
     name: &str,
 ) -> Result<PathTable, FilesFault>
     ensures answers { (files : List File) → Holds (S.view shelf.old) files →
-        ResultIsOrAbsent files_told (S.view shelf.old).steady (λ path. path)
+        ResultIsOrAbsent itself (S.view shelf.old).steady (λ path. path)
         (in_file path_file name.now files) result }
     ensures follows { IsLaterShelf (S.view shelf.old) (S.view shelf.new) }
-    ensures causes { HasCauses files_told
+    ensures causes { HasCauses itself
         (S.view shelf.old).faults (S.view shelf.new).faults result }
     ensures taken { (S.view shelf.new).taken ≤ (S.view shelf.old).taken + MAX_TABLE_BYTES }
 {
@@ -97,8 +96,8 @@ pub fn load_path<S: Shelf>(
 }
 
 fn check_path(alloc: Global, bytes: &[u8]) -> Result<PathTable, FilesFault>
-    ensures answers { ResultIs files_told true (λ path. path) (path_file bytes.now) result }
-    ensures causes { (before now : ℕ) → HasCauses files_told before now result }
+    ensures answers { ResultIs itself true (λ path. path) (path_file bytes.now) result }
+    ensures causes { (before now : ℕ) → HasCauses itself before now result }
 {
     match PathTable::read(alloc, bytes) {
         Ok(path) => Ok(path),
@@ -114,10 +113,10 @@ pub fn load_weapons<S: Shelf>(
     name: Option<&str>,
 ) -> Result<Option<WeaponTable>, FilesFault>
     ensures answers { (files : List File) → Holds (S.view shelf.old) files →
-        ResultIsOrAbsent files_told (S.view shelf.old).steady (λ weapons. weapons)
+        ResultIsOrAbsent itself (S.view shelf.old).steady (λ weapons. weapons)
         (in_optional_file weapons_file (option_map (λ text. text.now) name.entry) files) result }
     ensures follows { IsLaterShelf (S.view shelf.old) (S.view shelf.new) }
-    ensures causes { HasCauses files_told
+    ensures causes { HasCauses itself
         (S.view shelf.old).faults (S.view shelf.new).faults result }
     ensures taken { (S.view shelf.new).taken ≤ (S.view shelf.old).taken + MAX_TABLE_BYTES }
 {
@@ -134,10 +133,10 @@ fn load_layers<S: Shelf>(
     name: &str,
 ) -> Result<WeaponTable, FilesFault>
     ensures answers { (files : List File) → Holds (S.view shelf.old) files →
-        ResultIsOrAbsent files_told (S.view shelf.old).steady (λ weapons. weapons)
+        ResultIsOrAbsent itself (S.view shelf.old).steady (λ weapons. weapons)
         (in_file weapons_file name.now files) result }
     ensures follows { IsLaterShelf (S.view shelf.old) (S.view shelf.new) }
-    ensures causes { HasCauses files_told
+    ensures causes { HasCauses itself
         (S.view shelf.old).faults (S.view shelf.new).faults result }
     ensures taken { (S.view shelf.new).taken ≤ (S.view shelf.old).taken + MAX_TABLE_BYTES }
 {
@@ -146,8 +145,8 @@ fn load_layers<S: Shelf>(
 }
 
 fn check_layers(alloc: Global, bytes: &[u8]) -> Result<WeaponTable, FilesFault>
-    ensures answers { ResultIs files_told true (λ weapons. weapons) (weapons_file bytes.now) result }
-    ensures causes { (before now : ℕ) → HasCauses files_told before now result }
+    ensures answers { ResultIs itself true (λ weapons. weapons) (weapons_file bytes.now) result }
+    ensures causes { (before now : ℕ) → HasCauses itself before now result }
 {
     match WeaponTable::read(alloc, bytes) {
         Ok(weapons) => Ok(weapons),

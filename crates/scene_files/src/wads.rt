@@ -1,11 +1,10 @@
 // The WADs: all are asked for, and then their directories are read.
 ghost use Rattle.std.specs.Prelude.{◌≡◌, ◌<◌, ◌≤◌, ◌+◌, ◌*◌, ◌^◌, ℕ, List, length, map, Some, IfOk, IfErr};
 ghost use Rattle.outside.specs.Shelf.{NameFiles, File, IsLaterShelf, Holds};
-ghost use Rattle.outside.specs.Faults.{HasCauses};
+ghost use Rattle.outside.specs.Faults.{HasCauses, itself};
 ghost use Rattle.lump_rules.specs.Contents.{AllWithin};
 ghost use Rattle.lump_rules.specs.Wads.{listing_sizes};
 ghost use Rattle.scene_files.specs.declared.fault.FilesRefusal.{FilesRefusal};
-ghost use Rattle.scene_files.specs.Faults.{files_told};
 ghost use Rattle.scene_files.specs.Files.{files_named, lumps_in};
 ghost use Rattle.scene_files.specs.Found.{AllStandForNamed};
 ghost use Rattle.scene_files.specs.Stops.{ResultIsOrAbsent, StopsAt, else_absent};
@@ -23,7 +22,7 @@ pub fn load_wads<S: Shelf>(
     names: &[&str],
 ) -> Result<Directory, FilesFault>
     ensures answers { (files : List File) → Holds (S.view shelf.old) files →
-        ResultIsOrAbsent files_told (S.view shelf.old).steady (λ dir. dir.lumps)
+        ResultIsOrAbsent itself (S.view shelf.old).steady (λ dir. dir.lumps)
         (lumps_in (map (λ name. name.now) names.now) files) result }
     ensures contents { (files : List File) (contents : List (List ℕ)) →
         Holds (S.view shelf.old) files →
@@ -33,7 +32,7 @@ pub fn load_wads<S: Shelf>(
     ensures files { IfOk result (λ dir. length dir.files ≡ length names.now) }
     ensures count { IfOk result (λ dir. length dir.lumps < 2 ^ 16) }
     ensures follows { IsLaterShelf (S.view shelf.old) (S.view shelf.new) }
-    ensures causes { HasCauses files_told
+    ensures causes { HasCauses itself
         (S.view shelf.old).faults (S.view shelf.new).faults result }
     ensures taken { (files : List File) (contents : List (List ℕ)) →
         Holds (S.view shelf.old) files →
@@ -58,10 +57,10 @@ fn find_all<S: Shelf>(
         (map (λ name. name.now) names.now) files) }
     ensures stops { (files : List File) → Holds (S.view shelf.old) files →
         IfErr result (λ fault. StopsAt {R = FilesRefusal} (S.view shelf.old).steady
-        (else_absent (files_named (map (λ name. name.now) names.now) files)) (files_told fault)) }
+        (else_absent (files_named (map (λ name. name.now) names.now) files)) (itself fault)) }
     ensures count { IfOk result (λ numbers. length numbers.items ≡ length names.now) }
     ensures follows { IsLaterShelf (S.view shelf.old) (S.view shelf.new) }
-    ensures causes { HasCauses files_told
+    ensures causes { HasCauses itself
         (S.view shelf.old).faults (S.view shelf.new).faults result }
     ensures untaken { (S.view shelf.new).taken ≡ (S.view shelf.old).taken }
 {

@@ -4,7 +4,7 @@ use Rattle.std.specs.Prelude.{IfErr}
 use Rattle.std.proofs.lemmas.Result.{err_from_is_err_and}
 use Rattle.outside.specs.declared.fault.Fault.{Fault}
 use Rattle.outside.specs.declared.fault.Fault.TheVariants.{Refused, ReadFault, ZoneFull, OutOfMemory}
-use Rattle.outside.specs.Faults.{ResultIs, HasCauseAt, HasCauses, FaultFits, and_then}
+use Rattle.outside.specs.Faults.{ResultIs, HasCauseAt, HasCauses, FaultFits, and_then, itself}
 use Rattle.outside.proofs.StepLemmas.{step}
 use Rattle.lump_rules.specs.declared.wad.Lump.{Lump}
 use Rattle.cached_lumps.proofs.CallLemmas.{cause_later}
@@ -13,7 +13,6 @@ use Rattle.command_line.specs.Scenes.{ToldScene}
 use Rattle.scene_files.specs.Files.{FilesValue}
 use Rattle.scene_rules.specs.Scenes.{SceneValue, scene_in}
 use Rattle.audit_fault.specs.declared.fault.AuditFault.{AuditFault}
-use Rattle.audit_fault.specs.Faults.{audit_told}
 use Rattle.level_audit.specs.Sound.{SoundValue, with_book}
 use Rattle.level_audit.proofs.SceneLemmas.{and_then-ok}
 use Rattle.scene_load.specs.Loads.{LoadedValue, audited_in, audited_value, weapons_of, with_layers}
@@ -36,14 +35,14 @@ step_stopped {A} {B} {C} {D} {R} {E} {told} {steady} {later} {v} {value} {first}
 
 module _ (bytes : ℕ → List ℕ) (level : ToldScene) (found : FilesValue) where
   -- the scene was not accepted
-  pub scene_stopped : {steady : Bool} {r : Result SoundValue AuditFault} (fault : AuditFault) (result : Result (SoundValue × Option (List Frame)) AuditFault) → ResultIs audit_told steady (λ (sound : SoundValue). sound.scene) (scene_in bytes found.lumps found.things level.map_name level.settings.skill) r → r ≡ Err fault → IsErrAnd result (λ e. e ≡ fault) →
-      ResultIs audit_told steady (audited_value found) (audited_in bytes level found) result
+  pub scene_stopped : {steady : Bool} {r : Result SoundValue AuditFault} (fault : AuditFault) (result : Result (SoundValue × Option (List Frame)) AuditFault) → ResultIs itself steady (λ (sound : SoundValue). sound.scene) (scene_in bytes found.lumps found.things level.map_name level.settings.skill) r → r ≡ Err fault → IsErrAnd result (λ e. e ≡ fault) →
+      ResultIs itself steady (audited_value found) (audited_in bytes level found) result
   unfolding audited_in
   scene_stopped fault result answers was is = step_stopped _ fault result answers was refl is
 
   -- it was, and the layers were not
   pub layers_stopped : {steady later : Bool} {r : Result (Option (List Frame)) AuditFault} (scene : SceneValue) (fault : AuditFault) (result : Result (SoundValue × Option (List Frame)) AuditFault) → scene_in bytes found.lumps found.things level.map_name level.settings.skill ≡ Ok scene →
-      later ≡ steady → ResultIs audit_told later (λ (weapons : Option (List Frame)). weapons) (weapons_of bytes found.lumps found.weapons) r → r ≡ Err fault → IsErrAnd result (λ e. e ≡ fault) → ResultIs audit_told steady (audited_value found) (audited_in bytes level found) result
+      later ≡ steady → ResultIs itself later (λ (weapons : Option (List Frame)). weapons) (weapons_of bytes found.lumps found.weapons) r → r ≡ Err fault → IsErrAnd result (λ e. e ≡ fault) → ResultIs itself steady (audited_value found) (audited_in bytes level found) result
   unfolding audited_in
   layers_stopped scene fault result accepted same answers was is = step _ _ scene accepted refl (step_stopped _ fault result answers was same is)
 
@@ -64,11 +63,11 @@ audited_by P bytes level found loaded e each =
     subst P made (each a.0 b.0 a.1 b.1)
 
 -- a read that failed later has made the count rise
-pub causes_after : {B D : Type 0} {before between now : ℕ} (r : Result D AuditFault) (fault : AuditFault) (result : Result B AuditFault) → before ≤ between → HasCauses audit_told between now r → r ≡ Err fault → IsErrAnd result (λ e. e ≡ fault) → HasCauses audit_told before now result
+pub causes_after : {B D : Type 0} {before between now : ℕ} (r : Result D AuditFault) (fault : AuditFault) (result : Result B AuditFault) → before ≤ between → HasCauses itself between now r → r ≡ Err fault → IsErrAnd result (λ e. e ≡ fault) → HasCauses itself before now result
 causes_after {B} {D} {before} {between} {now} r fault result later causes was is =
     let s = err_from_is_err_and result is in
-    let k : HasCauseAt between now (audit_told fault) = subst (λ (y : Result D AuditFault). IfErr y (λ f. HasCauseAt between now (audit_told f))) was causes.err in
-    record { err = subst (λ (y : Result B AuditFault). IfErr y (λ f. HasCauseAt before now (audit_told f))) (sym (s.1 ∙ ap Err s.2)) (cause_later before between now (audit_told fault) later k) }
+    let k : HasCauseAt between now (itself fault) = subst (λ (y : Result D AuditFault). IfErr y (λ f. HasCauseAt between now (itself f))) was causes.err in
+    record { err = subst (λ (y : Result B AuditFault). IfErr y (λ f. HasCauseAt before now (itself f))) (sym (s.1 ∙ ap Err s.2)) (cause_later before between now (itself fault) later k) }
 
 -- the layers leave the scene as it is
 pub scene_kept : (lumps : List Lump) (weapons : Option (List Frame)) (sound : SoundValue) → (with_layers lumps weapons sound).scene ≡ sound.scene

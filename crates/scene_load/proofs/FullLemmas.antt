@@ -1,4 +1,5 @@
 -- When the zone is full while files are audited, and while all is loaded.
+use Rattle.outside.specs.Faults.{itself}
 use Rattle.std.proofs.Common.{◌≡◌, ℕ, ◌+◌, ◌<◌, List, Option, Result, Ok, Err, refl, sym, ap, subst, ◌∙◌, arith, inl, inr, IsErrAnd}
 use Rattle.std.specs.Prelude.{IfErr, IsOk}
 use Rattle.std.proofs.lemmas.Result.{err_from_is_err_and}
@@ -16,12 +17,11 @@ use Rattle.scene_files.specs.Files.{FilesValue, files_in, value_of}
 use Rattle.scene_rules.specs.Scenes.{SceneValue, colormap_of, scene_in, sizes_of}
 use Rattle.audit_fault.specs.declared.fault.AuditFault.{AuditFault}
 use Rattle.audit_fault.specs.declared.fault.AuditFault.TheVariants.{Refused, ReadFault, ZoneFull, OutOfMemory}
-use Rattle.audit_fault.specs.Faults.{audit_told}
 use Rattle.level_audit.specs.Reads.{IsFullAudit}
 use Rattle.level_audit.specs.Sound.{SoundValue}
 use Rattle.level_audit.proofs.SceneLemmas.{colormap_there, same_value}
 use Rattle.scene_load.specs.declared.fault.LoadFault.{LoadFault}
-use Rattle.scene_load.specs.Faults.{above_audit, load_told}
+use Rattle.scene_load.specs.Faults.{above_audit}
 use Rattle.scene_load.specs.Fulls.{IsFullLoad, IsFullOver, IsOfLayers}
 use Rattle.scene_load.specs.Loads.{loaded_sizes, wad_bytes}
 use Rattle.scene_load.proofs.AuditedLemmas.{audited_by}
@@ -29,11 +29,11 @@ use Rattle.scene_load.proofs.MoreLemmas.{enough_layers, enough_loaded}
 use Rattle.scene_load.proofs.LoadLemmas.{audited_of}
 
 -- the same is said of the fault that is returned
-pub same_full : {B D : Type 0} (P : ℕ → ℕ → Type 0) (r : Result D AuditFault) (fault : AuditFault) (result : Result B AuditFault) → IfErr r (λ f. IfFull (audit_told f) P) → r ≡ Err fault → IsErrAnd result (λ e. e ≡ fault) → IfErr result (λ f. IfFull (audit_told f) P)
+pub same_full : {B D : Type 0} (P : ℕ → ℕ → Type 0) (r : Result D AuditFault) (fault : AuditFault) (result : Result B AuditFault) → IfErr r (λ f. IfFull (itself f) P) → r ≡ Err fault → IsErrAnd result (λ e. e ≡ fault) → IfErr result (λ f. IfFull (itself f) P)
 same_full {B} {D} P r fault result full was is =
     let s = err_from_is_err_and result is in
-    let k : IfFull (audit_told fault) P = subst (λ (y : Result D AuditFault). IfErr y (λ f. IfFull (audit_told f) P)) was full in
-    subst (λ (y : Result B AuditFault). IfErr y (λ f. IfFull (audit_told f) P)) (sym (s.1 ∙ ap Err s.2)) k
+    let k : IfFull (itself fault) P = subst (λ (y : Result D AuditFault). IfErr y (λ f. IfFull (itself f) P)) was full in
+    subst (λ (y : Result B AuditFault). IfErr y (λ f. IfFull (itself f) P)) (sym (s.1 ∙ ap Err s.2)) k
 
 -- the value of a result that is one
 ok_value : {A E : Type 0} (r : Result A E) → IsOk r → (x : A) × (r ≡ Ok x)
@@ -43,11 +43,11 @@ ok_value (Err e) there = cc
 module _ (contents : List (List ℕ)) (level : ToldScene) (files : SceneFiles) where
   -- no room for a lump of the scene
   pub audit_full : {v : ShelfView} {z : Heap} (r : Result SoundValue AuditFault) → HoldContents v files.dir z contents → IsEmpty z → z.size ≡ level.settings.zone →
-      IfErr r (λ f. IfFull (audit_told f) (IsFullAudit v files.dir z files.things level.map_name level.settings.skill)) →
-      IfErr r (λ f. IfFull (audit_told f) (λ wanted widest'. IsOk (colormap_of files.dir.lumps))) →
-      ((colormap : ℕ) → colormap_of files.dir.lumps ≡ Ok colormap → IsEmpty z → IfErr r (λ f. IfFull (audit_told f) (λ wanted widest'. z.size < block_size (lump_at files.dir.lumps colormap).size + wanted + MIN_FRAGMENT))) →
-      ((contents : List (List ℕ)) (scene : SceneValue) → HoldContents v files.dir z contents → scene_in (lump_bytes contents files.dir.lumps) files.dir.lumps files.things level.map_name level.settings.skill ≡ Ok scene → IsEmpty z → IfErr r (λ f. IfFull (audit_told f) (λ wanted widest'. z.size < (sizes_of files.dir.lumps scene).enough))) →
-      IfErr r (λ f. IfFull (audit_told f) (IsFullOver (lump_bytes contents files.dir.lumps) level (value_of files)))
+      IfErr r (λ f. IfFull (itself f) (IsFullAudit v files.dir z files.things level.map_name level.settings.skill)) →
+      IfErr r (λ f. IfFull (itself f) (λ wanted widest'. IsOk (colormap_of files.dir.lumps))) →
+      ((colormap : ℕ) → colormap_of files.dir.lumps ≡ Ok colormap → IsEmpty z → IfErr r (λ f. IfFull (itself f) (λ wanted widest'. z.size < block_size (lump_at files.dir.lumps colormap).size + wanted + MIN_FRAGMENT))) →
+      ((contents : List (List ℕ)) (scene : SceneValue) → HoldContents v files.dir z contents → scene_in (lump_bytes contents files.dir.lumps) files.dir.lumps files.things level.map_name level.settings.skill ≡ Ok scene → IsEmpty z → IfErr r (λ f. IfFull (itself f) (λ wanted widest'. z.size < (sizes_of files.dir.lumps scene).enough))) →
+      IfErr r (λ f. IfFull (itself f) (IsFullOver (lump_bytes contents files.dir.lumps) level (value_of files)))
   audit_full (Ok sound) told empty size full found room enough = tt
   audit_full (Err (Refused refusal)) told empty size full found room enough = tt
   audit_full (Err ReadFault) told empty size full found room enough = tt
@@ -69,7 +69,7 @@ module _ (contents : List (List ℕ)) (level : ToldScene) (files : SceneFiles) w
   -- no room for a picture of a weapon layer, beside COLORMAP
   pub layers_full : {z : Heap} (scene : SceneValue) (r : Result (Option (List Frame)) AuditFault) → scene_in (lump_bytes contents files.dir.lumps) files.dir.lumps files.things level.map_name level.settings.skill ≡ Ok scene → colormap_of files.dir.lumps ≡ Ok scene.ground.colormap →
       IsAtRest scene.ground.colormap (lump_at files.dir.lumps scene.ground.colormap).size z → z.size ≡ level.settings.zone →
-      IfErr r (λ f. IfFull (audit_told f) (IsFullFor (IsOfLayers files.dir.lumps files.weapons) files.dir z)) → IfErr r (λ f. IfFull (audit_told f) (IsFullOver (lump_bytes contents files.dir.lumps) level (value_of files)))
+      IfErr r (λ f. IfFull (itself f) (IsFullFor (IsOfLayers files.dir.lumps files.weapons) files.dir z)) → IfErr r (λ f. IfFull (itself f) (IsFullOver (lump_bytes contents files.dir.lumps) level (value_of files)))
   layers_full scene (Ok layers) accepted is rest size full = tt
   layers_full scene (Err (Refused refusal)) accepted is rest size full = tt
   layers_full scene (Err ReadFault) accepted is rest size full = tt
@@ -98,12 +98,12 @@ module _ (contents : List (List ℕ)) (level : ToldScene) (files : SceneFiles) w
 
 -- the zone is full while all is loaded
 pub load_full : {B D : Type 0} (level : ToldScene) (wads : List (List ℕ)) (held : List File) (found : FilesValue) (r : Result D AuditFault) (fault : AuditFault) (result : Result B LoadFault) → files_in level.files wads level.settings.size held ≡ Ok found →
-    IfErr r (λ f. IfFull (audit_told f) (IsFullOver (wad_bytes wads held found.lumps) level found)) → r ≡ Err fault → IsErrAnd result (λ e. e ≡ above_audit fault) → IfErr result (λ f. IfFull (load_told f) (IsFullLoad level wads held))
+    IfErr r (λ f. IfFull (itself f) (IsFullOver (wad_bytes wads held found.lumps) level found)) → r ≡ Err fault → IsErrAnd result (λ e. e ≡ above_audit fault) → IfErr result (λ f. IfFull (itself f) (IsFullLoad level wads held))
 load_full {B} {D} level wads held found r fault result are full was is =
     let s = err_from_is_err_and result is in
-    let k : IfFull (audit_told fault) (IsFullOver (wad_bytes wads held found.lumps) level found) = subst (λ (y : Result D AuditFault). IfErr y (λ f. IfFull (audit_told f) (IsFullOver (wad_bytes wads held found.lumps) level found))) was full in
-    subst (λ (y : Result B LoadFault). IfErr y (λ f. IfFull (load_told f) (IsFullLoad level wads held))) (sym (s.1 ∙ ap Err s.2)) (go fault k) where
-      go : (f : AuditFault) → IfFull (audit_told f) (IsFullOver (wad_bytes wads held found.lumps) level found) → IfFull (load_told (above_audit f)) (IsFullLoad level wads held)
+    let k : IfFull (itself fault) (IsFullOver (wad_bytes wads held found.lumps) level found) = subst (λ (y : Result D AuditFault). IfErr y (λ f. IfFull (itself f) (IsFullOver (wad_bytes wads held found.lumps) level found))) was full in
+    subst (λ (y : Result B LoadFault). IfErr y (λ f. IfFull (itself f) (IsFullLoad level wads held))) (sym (s.1 ∙ ap Err s.2)) (go fault k) where
+      go : (f : AuditFault) → IfFull (itself f) (IsFullOver (wad_bytes wads held found.lumps) level found) → IfFull (itself (above_audit f)) (IsFullLoad level wads held)
       go (Refused refusal) k = tt
       go ReadFault k = tt
       go OutOfMemory k = tt

@@ -1,7 +1,7 @@
 -- What is told of the pictures of weapon layers.
 use Rattle.std.proofs.Common.{◌≡◌, ℕ, List, Option, Some, None, Result, Ok, Err, refl, IsErrAnd}
 use Rattle.outside.specs.Shelf.{ShelfView}
-use Rattle.outside.specs.Faults.{from_below}
+use Rattle.outside.specs.Faults.{from_below, itself}
 use Rattle.lump_rules.specs.declared.wad.Lump.{Lump}
 use Rattle.zone_rules.specs.Zones.{Heap}
 use Rattle.wad_dir.specs.DirectoryView.{DirectoryView}
@@ -13,7 +13,6 @@ use Rattle.sprite_book.specs.Calls.{IsWanted}
 use Rattle.scene_rules.specs.declared.refusal.AuditRefusal.{AuditRefusal}
 use Rattle.scene_rules.specs.declared.refusal.AuditRefusal.TheVariants.{WeaponArt}
 use Rattle.audit_fault.specs.declared.fault.AuditFault.{AuditFault}
-use Rattle.audit_fault.specs.Faults.{audit_told}
 use Rattle.level_audit.specs.Weapons.{weapon_book, weapon_needs}
 use Rattle.scene_load.specs.Fulls.{IsOfLayers}
 use Rattle.scene_load.specs.Loads.{weapons_of}
@@ -36,20 +35,20 @@ module _ (bytes : ℕ → List ℕ) (lumps : List Lump) (weapons : Option (List 
 
 module _ {v : ShelfView} {dir : DirectoryView} {a : Heap} (weapons : Option (List WeaponRow)) where
   -- no file of layers is named
-  pub layers_none : weapons ≡ None → ReadsLumps audit_told v v dir a a (IsOfLayers dir.lumps weapons) (λ (book : Option (List Frame)). book) (λ bytes. weapons_of bytes dir.lumps weapons) (Ok None)
+  pub layers_none : weapons ≡ None → ReadsLumps itself v v dir a a (IsOfLayers dir.lumps weapons) (λ (book : Option (List Frame)). book) (λ bytes. weapons_of bytes dir.lumps weapons) (Ok None)
   layers_none is = tells_known v dir a None (λ contents told. none_named _ dir.lumps weapons is)
 
   module _ {w : ShelfView} {b : Heap} (rows : List WeaponRow) (is : weapons ≡ Some rows) where
     -- their book was not made
     pub book_stopped : (one : Result (List Frame) AuditFault) (fault : AuditFault) (result : Result (Option (List Frame)) AuditFault) →
-        ReadsLumps audit_told v w dir a b (IsWanted dir.lumps (weapon_needs rows)) (λ (book : List Frame). book) (λ bytes. from_below WeaponArt (weapon_book bytes dir.lumps rows)) one → one ≡ Err fault → IsErrAnd result (λ e. e ≡ fault) →
-        ReadsLumps audit_told v w dir a b (IsOfLayers dir.lumps weapons) (λ (book : Option (List Frame)). book) (λ bytes. weapons_of bytes dir.lumps weapons) result
+        ReadsLumps itself v w dir a b (IsWanted dir.lumps (weapon_needs rows)) (λ (book : List Frame). book) (λ bytes. from_below WeaponArt (weapon_book bytes dir.lumps rows)) one → one ≡ Err fault → IsErrAnd result (λ e. e ≡ fault) →
+        ReadsLumps itself v w dir a b (IsOfLayers dir.lumps weapons) (λ (book : Option (List Frame)). book) (λ bytes. weapons_of bytes dir.lumps weapons) result
     book_stopped one fault result tells was ends =
         tells_stop_first (λ bytes. weapons_of bytes dir.lumps weapons) one fault result tells was ends (λ lump asked. (rows, is, asked))
         (λ bytes refusal stopped. book_refused bytes dir.lumps weapons rows refusal is stopped)
 
     -- it was
     pub book_made : (book : List Frame) →
-        ReadsLumps audit_told v w dir a b (IsWanted dir.lumps (weapon_needs rows)) (λ (book : List Frame). book) (λ bytes. from_below WeaponArt (weapon_book bytes dir.lumps rows)) (Ok book) →
-        ReadsLumps audit_told v w dir a b (IsOfLayers dir.lumps weapons) (λ (book : Option (List Frame)). book) (λ bytes. weapons_of bytes dir.lumps weapons) (Ok (Some book))
+        ReadsLumps itself v w dir a b (IsWanted dir.lumps (weapon_needs rows)) (λ (book : List Frame). book) (λ bytes. from_below WeaponArt (weapon_book bytes dir.lumps rows)) (Ok book) →
+        ReadsLumps itself v w dir a b (IsOfLayers dir.lumps weapons) (λ (book : Option (List Frame)). book) (λ bytes. weapons_of bytes dir.lumps weapons) (Ok (Some book))
     book_made book tells = tells_as book (Some book) tells (λ lump asked. (rows, is, asked)) (λ bytes made. book_accepted bytes dir.lumps weapons rows book is made)

@@ -4,7 +4,7 @@ use Rattle.std.specs.Prelude.{IfErr}
 use Rattle.std.proofs.lemmas.Result.{err_from_is_err_and}
 use Rattle.outside.specs.Shelf.{NameFiles, File, ShelfView}
 use Rattle.outside.specs.declared.fault.Fault.TheVariants.{OutOfMemory}
-use Rattle.outside.specs.Faults.{ResultIs, fault_above, from_below}
+use Rattle.outside.specs.Faults.{ResultIs, fault_above, from_below, itself}
 use Rattle.outside.proofs.StepLemmas.{last_stop}
 use Rattle.lump_rules.specs.Contents.{AllWithin}
 use Rattle.zone_rules.specs.Zones.{Heap}
@@ -14,7 +14,6 @@ use Rattle.cached_lumps.specs.Calls.{IfFull, HoldContents}
 use Rattle.command_line.specs.Scenes.{ToldScene}
 use Rattle.scene_files.specs.declared.fault.FilesFault.{FilesFault}
 use Rattle.scene_files.specs.declared.fault.FilesFault.TheVariants as files
-use Rattle.scene_files.specs.Faults.{files_told}
 use Rattle.scene_files.specs.Files.{FilesValue, files_in, files_named}
 use Rattle.scene_files.specs.Stops.{Stop, ResultIsOrAbsent, StopsAt}
 use Rattle.scene_files.proofs.AcceptedLemmas.{wads_accepted}
@@ -22,38 +21,37 @@ use Rattle.scene_files.proofs.StopLemmas.{all_passed, no_file_agrees, step_stops
 use Rattle.scene_rules.specs.declared.refusal.AuditRefusal.{AuditRefusal}
 use Rattle.audit_fault.specs.declared.fault.AuditFault.{AuditFault}
 use Rattle.audit_fault.specs.declared.fault.AuditFault.TheVariants as audit
-use Rattle.audit_fault.specs.Faults.{audit_told}
 use Rattle.refusals.specs.declared.refusal.Refusal.{Refusal}
 use Rattle.refusals.specs.Groups.{of_audit, of_files}
 use Rattle.scene_load.specs.declared.fault.LoadFault.{LoadFault}
-use Rattle.scene_load.specs.Faults.{above_audit, above_files, load_told}
+use Rattle.scene_load.specs.Faults.{above_audit, above_files}
 use Rattle.scene_load.specs.Loads.{LoadedValue, audited_in, load_in, stops_of_audit, wad_bytes, wad_contents}
 
 -- what a fault of the files tells here
-files_told_above : (fault : FilesFault) → load_told (above_files fault) ≡ fault_above of_files (files_told fault)
+files_told_above : (fault : FilesFault) → itself (above_files fault) ≡ fault_above of_files (itself fault)
 files_told_above (files.Refused refusal) = refl
 files_told_above files.ReadFault = refl
 files_told_above files.OutOfMemory = refl
 
 -- what a fault of the audit tells here
-audit_told_above : (fault : AuditFault) → load_told (above_audit fault) ≡ fault_above of_audit (audit_told fault)
+audit_told_above : (fault : AuditFault) → itself (above_audit fault) ≡ fault_above of_audit (itself fault)
 audit_told_above (audit.Refused refusal) = refl
 audit_told_above audit.ReadFault = refl
 audit_told_above (audit.ZoneFull wanted widest) = refl
 audit_told_above audit.OutOfMemory = refl
 
 -- memory ran out, which no step decides
-pub memory_agrees : {A B : Type 0} {steady : Bool} {value : B → A} (expected : Result A (Stop Refusal)) (fault : LoadFault) (result : Result B LoadFault) → load_told fault ≡ OutOfMemory → IsErrAnd result (λ e. e ≡ fault) → ResultIsOrAbsent load_told steady value expected result
+pub memory_agrees : {A B : Type 0} {steady : Bool} {value : B → A} (expected : Result A (Stop Refusal)) (fault : LoadFault) (result : Result B LoadFault) → itself fault ≡ OutOfMemory → IsErrAnd result (λ e. e ≡ fault) → ResultIsOrAbsent itself steady value expected result
 memory_agrees {steady} expected fault result tells is =
     let s = err_from_is_err_and result is in
-    let k : StopsAt steady expected (load_told s.0) = rw (s.2, tells) tt in
+    let k : StopsAt steady expected (itself s.0) = rw (s.2, tells) tt in
     rw s.1 (record { ok = tt; err = k })
 
 -- memory ran out, which says nothing of the zone
-pub memory_full : {B : Type 0} (P : ℕ → ℕ → Type 0) (fault : LoadFault) (result : Result B LoadFault) → load_told fault ≡ OutOfMemory → IsErrAnd result (λ e. e ≡ fault) → IfErr result (λ f. IfFull (load_told f) P)
+pub memory_full : {B : Type 0} (P : ℕ → ℕ → Type 0) (fault : LoadFault) (result : Result B LoadFault) → itself fault ≡ OutOfMemory → IsErrAnd result (λ e. e ≡ fault) → IfErr result (λ f. IfFull (itself f) P)
 memory_full P fault result tells is =
     let s = err_from_is_err_and result is in
-    let k : IfFull (load_told s.0) P = rw (s.2, tells) tt in
+    let k : IfFull (itself s.0) P = rw (s.2, tells) tt in
     rw s.1 k
 
 -- what no refusal of the lumps has stopped is audited
@@ -64,7 +62,7 @@ unstopped (Err refusal) value e = absurd (cc)
 module _ (level : ToldScene) (wads : List (List ℕ)) (held : List File) where
   -- the files stopped the loading
   pub files_stopped : {B D : Type 0} {steady : Bool} {value : B → LoadedValue} {v : D → FilesValue} {r : Result D FilesFault} (fault : FilesFault) (result : Result B LoadFault) →
-      ResultIsOrAbsent files_told steady v (files_in level.files wads level.settings.size held) r → r ≡ Err fault → IsErrAnd result (λ e. e ≡ above_files fault) → ResultIsOrAbsent load_told steady value (load_in level wads held) result
+      ResultIsOrAbsent itself steady v (files_in level.files wads level.settings.size held) r → r ≡ Err fault → IsErrAnd result (λ e. e ≡ above_files fault) → ResultIsOrAbsent itself steady value (load_in level wads held) result
   unfolding load_in
   files_stopped fault result agrees was is = step_stops_above of_files above_files files_told_above _ fault result agrees was refl is
 
@@ -80,14 +78,14 @@ module _ (level : ToldScene) (wads : List (List ℕ)) (held : List File) where
 
     -- the audit stopped the loading
     pub audit_stopped : {B D : Type 0} {steady later : Bool} {value : B → LoadedValue} {v : D → LoadedValue} {r : Result D AuditFault} (fault : AuditFault) (result : Result B LoadFault) → files_in level.files wads level.settings.size held ≡ Ok found → later ≡ steady →
-        ResultIs audit_told later v (audited_in (wad_bytes wads held found.lumps) level found) r → r ≡ Err fault → IsErrAnd result (λ e. e ≡ above_audit fault) → ResultIsOrAbsent load_told steady value (load_in level wads held) result
+        ResultIs itself later v (audited_in (wad_bytes wads held found.lumps) level found) r → r ≡ Err fault → IsErrAnd result (λ e. e ≡ above_audit fault) → ResultIsOrAbsent itself steady value (load_in level wads held) result
     audit_stopped fault result are same answers was is =
         rw (files_passed are, ← same)
         (no_file_agrees (from_below of_audit (audited_in (wad_bytes wads held found.lumps) level found)) result (last_stop of_audit above_audit audit_told_above fault result answers was is))
 
     -- all is loaded
     pub all_loaded : {B : Type 0} {steady : Bool} {value : B → LoadedValue} (loaded : B) → files_in level.files wads level.settings.size held ≡ Ok found → audited_in (wad_bytes wads held found.lumps) level found ≡ Ok (value loaded) →
-        ResultIsOrAbsent {E = LoadFault} load_told steady value (load_in level wads held) (Ok loaded)
+        ResultIsOrAbsent {E = LoadFault} itself steady value (load_in level wads held) (Ok loaded)
     all_loaded {value} loaded are accepted = all_passed _ loaded (files_passed are ∙ ap (λ (r : Result LoadedValue AuditRefusal). stops_of_audit r) accepted)
 
     -- the shelf and the cache tell the WADs' bytes

@@ -1,4 +1,5 @@
 -- What the faults of loading a scene tell.
+use Rattle.outside.specs.Faults.{itself}
 use Rattle.outside.specs.declared.fault.Fault.{Fault}
 use Rattle.outside.specs.declared.fault.Fault.TheVariants.{Refused, ReadFault, ZoneFull, OutOfMemory}
 use Rattle.scene_files.specs.declared.fault.FilesFault.{FilesFault}
@@ -10,11 +11,11 @@ use Rattle.refusals.specs.Groups.{of_audit, of_files}
 use Rattle.scene_load.specs.declared.fault.LoadFault.{LoadFault}
 use Rattle.scene_load.specs.declared.fault.LoadFault.TheVariants.{Refused, ReadFault, ZoneFull, OutOfMemory}
 
-abbrev pub load_told : LoadFault → Fault Refusal
-load_told (Refused refusal) = Refused refusal
-load_told ReadFault = ReadFault
-load_told (ZoneFull wanted widest) = ZoneFull wanted widest
-load_told OutOfMemory = OutOfMemory
+abbrev pub itself : LoadFault → Fault Refusal
+itself (Refused refusal) = Refused refusal
+itself ReadFault = ReadFault
+itself (ZoneFull wanted widest) = ZoneFull wanted widest
+itself OutOfMemory = OutOfMemory
 
 -- what a fault of the files, and one of the audit, is here
 abbrev pub above_files : FilesFault → LoadFault

@@ -3,7 +3,7 @@
 // Rules: specs, Loads and Fulls. The original: `D_DoomMain`, d_main.c, `P_SetupLevel`, p_setup.c.
 ghost use Rattle.std.specs.Prelude.{◌≡◌, ◌<◌, ◌≤◌, ◌^◌, ℕ, List, length, map, IfOk, IfErr};
 ghost use Rattle.outside.specs.Shelf.{NameFiles, File, IsLaterShelf, Holds};
-ghost use Rattle.outside.specs.Faults.{ResultIs, HasCauses};
+ghost use Rattle.outside.specs.Faults.{ResultIs, HasCauses, itself};
 ghost use Rattle.lump_rules.specs.Contents.{AllWithin, lump_bytes};
 ghost use Rattle.lump_rules.specs.Lookups.{lump_at};
 ghost use Rattle.zone_rules.specs.Zones.{IsZoneSize};
@@ -13,8 +13,6 @@ ghost use Rattle.cached_lumps.specs.Calls.{IfFull, HoldContents, ReadsLumps};
 ghost use Rattle.command_line.specs.Scenes.{told_scene};
 ghost use Rattle.scene_files.specs.Files.{files_named, value_of};
 ghost use Rattle.scene_files.specs.Stops.{ResultIsOrAbsent};
-ghost use Rattle.audit_fault.specs.Faults.{audit_told};
-ghost use Rattle.scene_load.specs.Faults.{load_told};
 ghost use Rattle.scene_load.specs.Fulls.{IsFullLoad, IsFullOver, IsOfLayers};
 ghost use Rattle.scene_load.specs.Loads.{audited_in, audited_value, load_in, loaded_lumps, loaded_sizes, loaded_value, weapons_of, with_layers};
 
@@ -70,11 +68,11 @@ pub fn load_scene<S: Shelf>(
     requires least { MIN_SIZE ≤ level.now.settings.size }
     requires greatest { level.now.settings.size ≤ MAX_SIZE }
     ensures answers { (files : List File) → Holds (S.view shelf.old) files →
-        ResultIsOrAbsent load_told (S.view shelf.old).steady loaded_value (load_in (told_scene level.now) (map (λ wad. wad.now) wads.now) files) result }
+        ResultIsOrAbsent itself (S.view shelf.old).steady loaded_value (load_in (told_scene level.now) (map (λ wad. wad.now) wads.now) files) result }
     ensures named { IfOk result (λ loaded. loaded.scene.named ≡ loaded_lumps (loaded_value loaded)) }
     ensures sizes { IfOk result (λ loaded. loaded.scene.sizes ≡ loaded_sizes (loaded_value loaded)) }
     ensures full { (files : List File) → Holds (S.view shelf.old) files →
-        IfErr result (λ fault. IfFull (load_told fault) (IsFullLoad (told_scene level.now) (map (λ wad. wad.now) wads.now) files)) }
+        IfErr result (λ fault. IfFull (itself fault) (IsFullLoad (told_scene level.now) (map (λ wad. wad.now) wads.now) files)) }
     ensures rest { IfOk result (λ loaded. IsAtRest loaded.scene.scene.ground.colormap (lump_at loaded.files.dir.lumps loaded.scene.scene.ground.colormap).size loaded.cache) }
     ensures contents { (files : List File) (contents : List (List ℕ)) → Holds (S.view shelf.old) files →
         files_named (map (λ wad. wad.now) wads.now) files ≡ Some contents →
@@ -82,7 +80,7 @@ pub fn load_scene<S: Shelf>(
     ensures slots { IfOk result (λ loaded. length loaded.files.dir.lumps ≤ loaded.cache.lumps) }
     ensures zone { IfOk result (λ loaded. loaded.cache.size ≡ level.now.settings.zone) }
     ensures follows { IsLaterShelf (S.view shelf.old) (S.view shelf.new) }
-    ensures causes { HasCauses load_told (S.view shelf.old).faults (S.view shelf.new).faults result }
+    ensures causes { HasCauses itself (S.view shelf.old).faults (S.view shelf.new).faults result }
 {
     let files = read_files(alloc, &level.files, wads, level.settings.size, shelf)?;
     let mut cache = make_cache(alloc, &files.dir, level.settings.zone)?;
@@ -127,7 +125,7 @@ fn audit_files<S: Shelf>(
     requires size { cache.old.size ≡ level.now.settings.zone }
     ensures answers { (contents : List (List ℕ)) →
         HoldContents (S.view shelf.old) files.now.dir cache.old contents →
-        ResultIs audit_told (S.view shelf.old).steady (audited_value (value_of files.now))
+        ResultIs itself (S.view shelf.old).steady (audited_value (value_of files.now))
         (audited_in (lump_bytes contents files.now.dir.lumps) (told_scene level.now)
         (value_of files.now)) result }
     ensures named { IfOk result (λ audited.
@@ -136,7 +134,7 @@ fn audit_files<S: Shelf>(
         audited.0.sizes ≡ loaded_sizes (audited_value (value_of files.now) audited)) }
     ensures full { (contents : List (List ℕ)) →
         HoldContents (S.view shelf.old) files.now.dir cache.old contents →
-        IfErr result (λ fault. IfFull (audit_told fault)
+        IfErr result (λ fault. IfFull (itself fault)
         (IsFullOver (lump_bytes contents files.now.dir.lumps) (told_scene level.now)
         (value_of files.now))) }
     ensures rest { IfOk result (λ audited. IsAtRest audited.0.scene.ground.colormap
@@ -147,7 +145,7 @@ fn audit_files<S: Shelf>(
         IsFaithful contents files.now.dir.lumps cache.old →
         IsFaithful contents files.now.dir.lumps cache.new }
     ensures follows { IsLaterShelf (S.view shelf.old) (S.view shelf.new) }
-    ensures causes { HasCauses audit_told
+    ensures causes { HasCauses itself
         (S.view shelf.old).faults (S.view shelf.new).faults result }
 {
     let mut scene = audit(
@@ -174,7 +172,7 @@ fn audit_layers<S: Shelf>(
 ) -> Result<Option<SpriteBook>, AuditFault>
     requires slots { length dir.now.lumps ≤ cache.old.lumps }
     requires colormap { scene.old.scene.ground.colormap < length dir.now.lumps }
-    ensures tells { ReadsLumps audit_told (S.view shelf.old) (S.view shelf.new) dir.now
+    ensures tells { ReadsLumps itself (S.view shelf.old) (S.view shelf.new) dir.now
         cache.old cache.new (IsOfLayers dir.now.lumps weapons.now) (λ book. book)
         (λ bytes. weapons_of bytes dir.now.lumps weapons.now) result }
     ensures scene { IfOk result (λ book.

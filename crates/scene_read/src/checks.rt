@@ -6,7 +6,7 @@
 ghost use Rattle.std.specs.Prelude.{◌≡◌, ◌<◌, ◌^◌, ◌⊎◌, true, All, length};
 ghost use Rattle.outside.specs.Faults.{ResultIs};
 ghost use Rattle.texture_build.specs.Views.{IsPrepared};
-ghost use Rattle.level_scene.specs.Faults.{scene_told};
+ghost use Rattle.level_scene.specs.Faults.{scene_fault};
 ghost use Rattle.scene_rules.specs.Middles.{bad_middle};
 ghost use Rattle.scene_rules.specs.Scenes.{checked, texture_by};
 
@@ -28,7 +28,7 @@ pub(crate) fn check_scene(
 ) -> Result<(), SceneFault>
     requires few { length sides.now < 2 ^ 16 }
     requires middles { All (λ side. (side.middle ≡ 0) ⊎ IsPrepared textures.now side.middle) sides.now }
-    ensures { ResultIs scene_told true (λ done. done) (checked placed.now (bad_middle (texture_by textures.now.prepared) segs.now sides.now)) result }
+    ensures { ResultIs scene_fault true (λ done. done) (checked placed.now (bad_middle (texture_by textures.now.prepared) segs.now sides.now)) result }
 {
     if let Some(thing) = placed.first_shadow() {
         return Err(SceneFault::Refused(SceneRefusal::Shadow {

@@ -5,7 +5,7 @@
 ghost use Rattle.std.specs.Prelude.{◌≡◌, ◌<◌, true, All, length, IfOk, IfSome};
 ghost use Rattle.outside.specs.Faults.{ResultIs};
 ghost use Rattle.level_scene.specs.Bounds.{AreBelow, AreThere};
-ghost use Rattle.level_scene.specs.Faults.{scene_told};
+ghost use Rattle.level_scene.specs.Faults.{scene_fault};
 ghost use Rattle.scene_rules.specs.Scenes.{faces_in};
 ghost use Rattle.scene_read.specs.Scenes.{faces_of};
 
@@ -38,7 +38,7 @@ pub(crate) fn find_faces(
     level: &Level,
     lists: &ListedTextures,
 ) -> Result<ReadFaces, SceneFault>
-    ensures answers { ResultIs scene_told true faces_of (faces_in dir.now.lumps name.now level.now lists.now) result }
+    ensures answers { ResultIs scene_fault true faces_of (faces_in dir.now.lumps name.now level.now lists.now) result }
     ensures sides { IfOk result (λ faces. length faces.sides.items ≡ length level.now.sides) }
     ensures flats { IfOk result (λ faces. length faces.flats.items ≡ length level.now.sectors) }
     ensures below { IfOk result (λ faces. All (AreBelow (length lists.now.textures)) faces.sides.items) }

@@ -3,7 +3,7 @@
 // Rules: `art_rules`, Wanted; `sprite_book`, Books; `scene_rules`, Scenes. The original:
 // `R_PrecacheLevel`, r_data.c.
 ghost use Rattle.std.specs.Prelude.{◌≡◌, ◌<◌, ◌≤◌, ◌⊎◌, All, length, map, option_map, IfOk, IfSome, OnOk};
-ghost use Rattle.outside.specs.Faults.{from_below};
+ghost use Rattle.outside.specs.Faults.{from_below, itself};
 ghost use Rattle.lump_rules.specs.Lookups.{last_of};
 ghost use Rattle.cached_lumps.specs.Calls.{ReadsLumps};
 ghost use Rattle.art_rules.specs.Wanted.{prepared_textures};
@@ -15,7 +15,6 @@ ghost use Rattle.scene_rules.specs.declared.refusal.AuditRefusal.TheVariants.{Sp
 ghost use Rattle.scene_rules.specs.Places.{need_of};
 ghost use Rattle.scene_rules.specs.Scenes.{book_in};
 ghost use Rattle.scene_rules.specs.Sides.{is_wanted_texture};
-ghost use Rattle.audit_fault.specs.Faults.{audit_told};
 
 use crate::AuditFault;
 use level_rules::SideTextures;
@@ -40,7 +39,7 @@ pub(crate) fn prepare_faces<S: Shelf>(
     requires slots { length dir.now.lumps ≤ cache.old.lumps }
     requires below { All (AreBelow (length textures.old.lists.textures)) sides.now }
     requires sky { IfSome sky (λ tex. tex.0 < length textures.old.lists.textures) }
-    ensures tells { ReadsLumps audit_told (S.view shelf.old) (S.view shelf.new) dir.now cache.old cache.new (IsWantedPatch dir.now.lumps textures.old.lists (is_wanted_texture sides.now (option_map (λ tex. tex.0) sky))) (λ _. textures.new.prepared) (λ bytes. from_below Texture (prepared_textures (last_of dir.now.lumps) bytes textures.old.lists (is_wanted_texture sides.now (option_map (λ tex. tex.0) sky)))) result }
+    ensures tells { ReadsLumps itself (S.view shelf.old) (S.view shelf.new) dir.now cache.old cache.new (IsWantedPatch dir.now.lumps textures.old.lists (is_wanted_texture sides.now (option_map (λ tex. tex.0) sky))) (λ _. textures.new.prepared) (λ bytes. from_below Texture (prepared_textures (last_of dir.now.lumps) bytes textures.old.lists (is_wanted_texture sides.now (option_map (λ tex. tex.0) sky)))) result }
     ensures lists { textures.new.lists ≡ textures.old.lists }
     ensures middles { OnOk result (All (λ side. (side.middle ≡ 0) ⊎ IsPrepared textures.new side.middle) sides.now) }
 {
@@ -58,7 +57,7 @@ pub(crate) fn read_book<S: Shelf>(
     shelf: &mut S,
 ) -> Result<SpriteBook, AuditFault>
     requires { length dir.now.lumps ≤ cache.old.lumps }
-    ensures tells { ReadsLumps audit_told (S.view shelf.old) (S.view shelf.new) dir.now cache.old cache.new (IsWanted dir.now.lumps (map need_of placed.now)) (λ book. book) (λ bytes. from_below Sprite (book_in bytes dir.now.lumps placed.now)) result }
+    ensures tells { ReadsLumps itself (S.view shelf.old) (S.view shelf.new) dir.now cache.old cache.new (IsWanted dir.now.lumps (map need_of placed.now)) (λ book. book) (λ bytes. from_below Sprite (book_in bytes dir.now.lumps placed.now)) result }
 {
     let needs = placed.needs(alloc)?;
     Ok(SpriteBook::load(alloc, &needs, dir, cache, shelf)?)

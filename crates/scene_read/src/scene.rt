@@ -2,6 +2,7 @@
 //
 // Rules: `scene_rules`, Scenes (`scene_on`); `specs/Scenes`. The original: `P_SetupLevel`,
 // p_setup.c, `R_PrecacheLevel`, r_data.c.
+ghost use Rattle.outside.specs.Faults.{itself};
 ghost use Rattle.std.specs.Prelude.{◌≡◌, ◌<◌, ◌≤◌, ◌⊎◌, All, length, map, IfOk, IfSome};
 ghost use Rattle.cached_lumps.specs.Calls.{ReadsLumps};
 ghost use Rattle.texture_build.specs.Views.{IsPrepared};
@@ -9,7 +10,6 @@ ghost use Rattle.sprite_book.specs.Calls.{IsWanted};
 ghost use Rattle.level_scene.specs.Bounds.{AreBelow};
 ghost use Rattle.scene_rules.specs.Places.{need_of};
 ghost use Rattle.scene_rules.specs.Scenes.{scene_on, scene_over};
-ghost use Rattle.audit_fault.specs.Faults.{audit_told};
 ghost use Rattle.ground_read.specs.Grounds.{ground_of};
 ghost use Rattle.scene_read.specs.Asked.{IsOfArt, IsOfScene};
 ghost use Rattle.scene_read.specs.Scenes.{faces_of, given_palette, scene_from, scene_value};
@@ -64,7 +64,7 @@ pub fn read_scene<S: Shelf>(
 ) -> Result<ReadScene, AuditFault>
     requires slots { length dir.now.lumps ≤ cache.old.lumps }
     requires skill { (1 ≤ skill) × (skill ≤ 5) }
-    ensures tells { ReadsLumps audit_told (S.view shelf.old) (S.view shelf.new) dir.now cache.old cache.new (IsOfScene dir.now.lumps things.now skill name.now (ground_of ground)) scene_value (λ bytes. given_palette ground.palette.items (scene_on bytes dir.now.lumps things.now skill name.now (ground_of ground))) result }
+    ensures tells { ReadsLumps itself (S.view shelf.old) (S.view shelf.new) dir.now cache.old cache.new (IsOfScene dir.now.lumps things.now skill name.now (ground_of ground)) scene_value (λ bytes. given_palette ground.palette.items (scene_on bytes dir.now.lumps things.now skill name.now (ground_of ground))) result }
     ensures ground { IfOk result (λ scene. ground_of scene.ground ≡ ground_of ground) }
     ensures flats { IfOk result (λ scene. length scene.faces.flats.items ≡ length ground.level.sectors) }
 {
@@ -88,7 +88,7 @@ fn read_art<S: Shelf>(
     requires sides { length faces.sides.items ≡ length ground.level.sides }
     requires below { All (AreBelow (length ground.textures.lists.textures)) faces.sides.items }
     requires sky { IfSome faces.sky (λ tex. tex.0 < length ground.textures.lists.textures) }
-    ensures tells { ReadsLumps audit_told (S.view shelf.old) (S.view shelf.new) dir.now cache.old cache.new (IsOfArt dir.now.lumps things.now skill (ground_of ground) (faces_of faces)) scene_value (λ bytes. given_palette ground.palette.items (scene_from bytes dir.now.lumps things.now skill (ground_of ground) (faces_of faces))) result }
+    ensures tells { ReadsLumps itself (S.view shelf.old) (S.view shelf.new) dir.now cache.old cache.new (IsOfArt dir.now.lumps things.now skill (ground_of ground) (faces_of faces)) scene_value (λ bytes. given_palette ground.palette.items (scene_from bytes dir.now.lumps things.now skill (ground_of ground) (faces_of faces))) result }
     ensures ground { IfOk result (λ scene. ground_of scene.ground ≡ ground_of ground) }
     ensures faces { IfOk result (λ scene. scene.faces ≡ faces) }
 {
@@ -119,7 +119,7 @@ fn read_things<S: Shelf>(
     requires slots { length dir.now.lumps ≤ cache.old.lumps }
     requires sides { length faces.sides.items ≡ length ground.level.sides }
     requires middles { All (λ side. (side.middle ≡ 0) ⊎ IsPrepared ground.textures side.middle) faces.sides.items }
-    ensures tells { ReadsLumps audit_told (S.view shelf.old) (S.view shelf.new) dir.now cache.old cache.new (IsWanted dir.now.lumps (map need_of placed)) scene_value (λ bytes. given_palette ground.palette.items (scene_over bytes dir.now.lumps (ground_of ground) (faces_of faces) placed ground.textures.prepared)) result }
+    ensures tells { ReadsLumps itself (S.view shelf.old) (S.view shelf.new) dir.now cache.old cache.new (IsWanted dir.now.lumps (map need_of placed)) scene_value (λ bytes. given_palette ground.palette.items (scene_over bytes dir.now.lumps (ground_of ground) (faces_of faces) placed ground.textures.prepared)) result }
     ensures ground { IfOk result (λ scene. scene.ground ≡ ground) }
     ensures faces { IfOk result (λ scene. scene.faces ≡ faces) }
 {

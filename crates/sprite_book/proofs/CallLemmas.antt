@@ -3,7 +3,7 @@ use Rattle.std.proofs.Common.{◌≡◌, ℕ, List, Option, Some, None, Result, 
 use Rattle.std.specs.Prelude.{IfErr, IfOk, IfSome, slice_index_or}
 use Rattle.std.proofs.lemmas.Result.{err_from_is_err_and}
 use Rattle.outside.specs.Shelf.{ShelfView}
-use Rattle.outside.specs.Faults.{FaultFits, HasCauseAt}
+use Rattle.outside.specs.Faults.{FaultFits, HasCauseAt, itself}
 use Rattle.zone_rules.specs.Zones.{Heap}
 use Rattle.zone_rules.specs.Orders.{KeepsOrder}
 use Rattle.zone_rules.proofs.OrderLemmas.{order_none, order_then}
@@ -16,7 +16,6 @@ use Rattle.cached_lumps.specs.Calls.{ReadsLumps, PreservesCache, IsFullFor, IfFu
 use Rattle.cached_lumps.proofs.CallLemmas.{keeps_none, keeps_then, told_later, full_for_earlier, cause_later, full_at, order_at, tells_at}
 use Rattle.sprite_book.specs.declared.fault.SpriteFault.{SpriteFault}
 use Rattle.sprite_book.specs.declared.fault.SpriteFault.TheVariants.{Refused, OutOfMemory}
-use Rattle.sprite_book.specs.Faults.{sprite_told}
 use Rattle.sprite_book.specs.Calls.{Reads, IsToldWith, ArePatchesOf}
 
 -- the contents are told later too
@@ -74,7 +73,7 @@ module _ {A B C D E F : Type 0} {v w x : ShelfView} {dir : DirectoryView} {a b c
     full = tt;
     order = λ items all k.
         let k1 = one.order items all k in
-        order_then k1 (subst (λ (y : Result F SpriteFault). MatchResult y (λ _. KeepsOrder items b c w.taken x.taken) (λ fault. InOrderAt (sprite_told fault) (KeepsOrder items b c w.taken x.taken))) is (two.order items (λ lump s. all lump (among lump s)) k1.order));
+        order_then k1 (subst (λ (y : Result F SpriteFault). MatchResult y (λ _. KeepsOrder items b c w.taken x.taken) (λ fault. InOrderAt (itself fault) (KeepsOrder items b c w.taken x.taken))) is (two.order items (λ lump s. all lump (among lump s)) k1.order));
   }
 
   -- a part stops the call, after others
@@ -86,13 +85,13 @@ module _ {A B C D E F : Type 0} {v w x : ShelfView} {dir : DirectoryView} {a b c
     count = two.count ∙ one.count;
     answers = λ contents told.
         let later = told_with one.keeps told (one.read contents told) in
-        let err = subst (λ (y : Result F SpriteFault). IfErr y (λ f. FaultFits w.steady (part (lump_bytes contents dir.lumps)) (sprite_told f))) is (two.answers contents later).err in
-        record { ok = tt; err = tells_at v.steady w.steady (part (lump_bytes contents dir.lumps)) (expected (lump_bytes contents dir.lumps)) (sprite_told fault) one.keeps.follows.steady (λ e h. stops (lump_bytes contents dir.lumps) e (one.answers contents told).ok h) err };
-    causes = record { err = cause_later v.faults w.faults x.faults (sprite_told fault) one.keeps.follows.faults (subst (λ (y : Result F SpriteFault). IfErr y (λ f. HasCauseAt w.faults x.faults (sprite_told f))) is two.causes.err) };
-    full = full_at (sprite_told fault) (λ wanted widest' k. full_for_earlier among one.keeps wanted widest' k) (subst (λ (y : Result F SpriteFault). IfErr y (λ f. IfFull (sprite_told f) (IsFullFor some dir b))) is two.full);
+        let err = subst (λ (y : Result F SpriteFault). IfErr y (λ f. FaultFits w.steady (part (lump_bytes contents dir.lumps)) (itself f))) is (two.answers contents later).err in
+        record { ok = tt; err = tells_at v.steady w.steady (part (lump_bytes contents dir.lumps)) (expected (lump_bytes contents dir.lumps)) (itself fault) one.keeps.follows.steady (λ e h. stops (lump_bytes contents dir.lumps) e (one.answers contents told).ok h) err };
+    causes = record { err = cause_later v.faults w.faults x.faults (itself fault) one.keeps.follows.faults (subst (λ (y : Result F SpriteFault). IfErr y (λ f. HasCauseAt w.faults x.faults (itself f))) is two.causes.err) };
+    full = full_at (itself fault) (λ wanted widest' k. full_for_earlier among one.keeps wanted widest' k) (subst (λ (y : Result F SpriteFault). IfErr y (λ f. IfFull (itself f) (IsFullFor some dir b))) is two.full);
     order = λ items all k.
         let k1 = one.order items all k in
-        order_at (sprite_told fault) (λ k2. order_then k1 k2) (subst (λ (y : Result F SpriteFault). MatchResult y (λ _. KeepsOrder items b c w.taken x.taken) (λ f. InOrderAt (sprite_told f) (KeepsOrder items b c w.taken x.taken))) is (two.order items (λ lump s. all lump (among lump s)) k1.order));
+        order_at (itself fault) (λ k2. order_then k1 k2) (subst (λ (y : Result F SpriteFault). MatchResult y (λ _. KeepsOrder items b c w.taken x.taken) (λ f. InOrderAt (itself f) (KeepsOrder items b c w.taken x.taken))) is (two.order items (λ lump s. all lump (among lump s)) k1.order));
   }
 
 -- the same error goes on
@@ -116,7 +115,7 @@ module _ {v w : ShelfView} {dir : DirectoryView} {a b : Heap} {p q : List (Optio
   }
 
   -- what was read is given up
-  pub reads_alone : {A B : Type 0} {value : B → A} {expected : (ℕ → List ℕ) → Result A SpriteRefusal} {result : Result B SpriteFault} → ((bytes : ℕ → List ℕ) → ArePatchesOf bytes p) → Reads v w dir a b p q wants value expected result → ReadsLumps sprite_told v w dir a b wants value expected result
+  pub reads_alone : {A B : Type 0} {value : B → A} {expected : (ℕ → List ℕ) → Result A SpriteRefusal} {result : Result B SpriteFault} → ((bytes : ℕ → List ℕ) → ArePatchesOf bytes p) → Reads v w dir a b p q wants value expected result → ReadsLumps itself v w dir a b wants value expected result
   reads_alone none one = record {
     keeps = one.keeps;
     answers = λ contents told. one.answers contents (record { told = told; read = none (lump_bytes contents dir.lumps) });
@@ -126,7 +125,7 @@ module _ {v w : ShelfView} {dir : DirectoryView} {a b : Heap} {p q : List (Optio
   }
 
 -- a call that keeps no patch
-pub reads_of : {A B : Type 0} {v w : ShelfView} {dir : DirectoryView} {a b : Heap} {wants : ℕ → Type 0} {value : B → A} {expected : (ℕ → List ℕ) → Result A SpriteRefusal} {result : Result B SpriteFault} (patches : List (Option Patch)) → ReadsLumps sprite_told v w dir a b wants value expected result → Reads v w dir a b patches patches wants value expected result
+pub reads_of : {A B : Type 0} {v w : ShelfView} {dir : DirectoryView} {a b : Heap} {wants : ℕ → Type 0} {value : B → A} {expected : (ℕ → List ℕ) → Result A SpriteRefusal} {result : Result B SpriteFault} (patches : List (Option Patch)) → ReadsLumps itself v w dir a b wants value expected result → Reads v w dir a b patches patches wants value expected result
 reads_of patches one = record {
   keeps = one.keeps;
   read = λ contents told. told.read;
@@ -150,6 +149,6 @@ pub nothing_read : (bytes : ℕ → List ℕ) (patches : List (Option Patch)) (n
 nothing_read bytes patches n e = record { at = λ lump. subst (λ x. IfSome x (λ patch. patch_of (bytes lump) ≡ Some patch)) (sym (ap (λ v. slice_index_or v lump None) e ∙ none_at n lump)) tt }
 
 -- what is told of a fault of a full zone
-pub full_weaker : {B : Type 0} {P Q : ℕ → ℕ → Type 0} (result : Result B SpriteFault) → ((wanted widest' : ℕ) → P wanted widest' → Q wanted widest') → IfErr result (λ fault. IfFull (sprite_told fault) P) → IfErr result (λ fault. IfFull (sprite_told fault) Q)
+pub full_weaker : {B : Type 0} {P Q : ℕ → ℕ → Type 0} (result : Result B SpriteFault) → ((wanted widest' : ℕ) → P wanted widest' → Q wanted widest') → IfErr result (λ fault. IfFull (itself fault) P) → IfErr result (λ fault. IfFull (itself fault) Q)
 full_weaker (Ok found) f k = tt
-full_weaker (Err fault) f k = full_at (sprite_told fault) f k
+full_weaker (Err fault) f k = full_at (itself fault) f k

@@ -6,7 +6,7 @@ use Rattle.std.proofs.Math.ListN.{set}
 use Rattle.std.proofs.lemmas.List.{length-set}
 use Rattle.std.proofs.lemmas.Bool.{cases_eq}
 use Rattle.outside.specs.Shelf.{ShelfView}
-use Rattle.outside.specs.Faults.{fault_above}
+use Rattle.outside.specs.Faults.{fault_above, itself}
 use Rattle.zone_rules.specs.Zones.{Heap}
 use Rattle.lump_rules.specs.Contents.{lump_bytes}
 use Rattle.wad_dir.specs.DirectoryView.{DirectoryView}
@@ -16,12 +16,12 @@ use Rattle.art_rules.specs.declared.refusal.SpriteRefusal.TheVariants.{BadPatch}
 use Rattle.art_rules.specs.Patches.{patch_of}
 use Rattle.lump_cache.specs.declared.fault.CacheFault.{CacheFault}
 use Rattle.lump_cache.specs.declared.fault.CacheFault.TheVariants.{ZoneFull, ReadFault}
-use Rattle.lump_cache.specs.Caches.{cache_told}
+use Rattle.lump_cache.specs.Caches.{cache_fault}
 use Rattle.cached_lumps.specs.Calls.{ReadsLumps, HoldContents}
 use Rattle.cached_lumps.proofs.CallLemmas.{tells_stop_first, tells_then_found, tells_then_refused, tells_above, fault_above}
 use Rattle.sprite_book.specs.declared.fault.SpriteFault.{SpriteFault}
 use Rattle.sprite_book.specs.declared.fault.SpriteFault.TheVariants.{Refused}
-use Rattle.sprite_book.specs.Faults.{sprite_told, sprite_fault}
+use Rattle.sprite_book.specs.Faults.{sprite_fault}
 use Rattle.sprite_book.specs.Books.{patch_or_bad}
 use Rattle.sprite_book.specs.Calls.{Reads, ArePatchesOf}
 
@@ -29,7 +29,7 @@ use Rattle.sprite_book.specs.Calls.{Reads, ArePatchesOf}
 no_refusal : ⊥ → SpriteRefusal
 no_refusal none = absurd none
 
-told_same : (below : CacheFault) → sprite_told (sprite_fault below) ≡ fault_above no_refusal (cache_told below)
+told_same : (below : CacheFault) → itself (sprite_fault below) ≡ fault_above no_refusal (cache_fault below)
 told_same (ZoneFull wanted widest') = refl
 told_same ReadFault = refl
 
@@ -51,20 +51,20 @@ patch_was bytes lump patch e = found_patch (patch_of (bytes lump)) (BadPatch lum
 
 module _ {view after : ShelfView} {dir : DirectoryView} {old new : Heap} (lump : ℕ) where
   -- the lump was not fetched
-  pub fetch_stopped : (fetched : Result (Unit {0}) CacheFault) (below : CacheFault) (result : Result Patch SpriteFault) → ReadsLumps cache_told view after dir old new (λ n. n ≡ lump) (λ (done : Unit {0}). done) (λ bytes. Ok tt) fetched →
-      fetched ≡ Err below → IsErrAnd result (λ e. e ≡ sprite_fault below) → ReadsLumps sprite_told view after dir old new (λ n. n ≡ lump) (λ (patch : Patch). patch) (λ bytes. patch_or_bad bytes lump) result
+  pub fetch_stopped : (fetched : Result (Unit {0}) CacheFault) (below : CacheFault) (result : Result Patch SpriteFault) → ReadsLumps cache_fault view after dir old new (λ n. n ≡ lump) (λ (done : Unit {0}). done) (λ bytes. Ok tt) fetched →
+      fetched ≡ Err below → IsErrAnd result (λ e. e ≡ sprite_fault below) → ReadsLumps itself view after dir old new (λ n. n ≡ lump) (λ (patch : Patch). patch) (λ bytes. patch_or_bad bytes lump) result
   fetch_stopped fetched below result one was is =
       tells_stop_first (λ bytes. patch_or_bad bytes lump) (fault_above sprite_fault fetched) (sprite_fault below) result
       (tells_above no_refusal sprite_fault told_same fetched one) (ap (fault_above sprite_fault) was) is (λ n same. same) (λ bytes e stopped. absurd (cc))
 
   -- the lump was fetched, and is judged by its bytes
-  module _ (one : ReadsLumps cache_told view after dir old new (λ n. n ≡ lump) (λ (done : Unit {0}). done) (λ bytes. Ok tt) (Ok tt)) (live : Option Patch) (judged : (contents : List (List ℕ)) → HoldContents view dir old contents → live ≡ patch_of (lump_bytes contents dir.lumps lump)) where
-    pub fetch_found : (patch : Patch) → live ≡ Some patch → ReadsLumps sprite_told view after dir old new (λ n. n ≡ lump) (λ (patch : Patch). patch) (λ bytes. patch_or_bad bytes lump) (Ok patch)
+  module _ (one : ReadsLumps cache_fault view after dir old new (λ n. n ≡ lump) (λ (done : Unit {0}). done) (λ bytes. Ok tt) (Ok tt)) (live : Option Patch) (judged : (contents : List (List ℕ)) → HoldContents view dir old contents → live ≡ patch_of (lump_bytes contents dir.lumps lump)) where
+    pub fetch_found : (patch : Patch) → live ≡ Some patch → ReadsLumps itself view after dir old new (λ n. n ≡ lump) (λ (patch : Patch). patch) (λ bytes. patch_or_bad bytes lump) (Ok patch)
     fetch_found patch is =
         tells_then_found patch (λ n same. same) (tells_above no_refusal sprite_fault told_same (Ok tt) one)
         (λ contents told done. patch_is (lump_bytes contents dir.lumps) lump patch (sym (judged contents told) ∙ is))
 
-    pub fetch_bad : (number : ℕ) → number ≡ lump → live ≡ None → ReadsLumps sprite_told view after dir old new (λ n. n ≡ lump) (λ (patch : Patch). patch) (λ bytes. patch_or_bad bytes lump) (Err (Refused (BadPatch number)))
+    pub fetch_bad : (number : ℕ) → number ≡ lump → live ≡ None → ReadsLumps itself view after dir old new (λ n. n ≡ lump) (λ (patch : Patch). patch) (λ bytes. patch_or_bad bytes lump) (Err (Refused (BadPatch number)))
     fetch_bad number e is =
         tells_then_refused (Refused (BadPatch number)) (BadPatch number) refl (λ n same. same) (tells_above no_refusal sprite_fault told_same (Ok tt) one)
         (λ contents told done. patch_bad (lump_bytes contents dir.lumps) lump (sym (judged contents told) ∙ is) ∙ ap (λ n. Err (BadPatch n)) (sym e))
@@ -85,7 +85,7 @@ set_read bytes patches lump patch lt are is = record { at = λ n. go n (cases_eq
 
 -- what was read is kept
 pub read_kept : {view after : ShelfView} {dir : DirectoryView} {old new : Heap} {wants : ℕ → Type 0} (patches : List (Option Patch)) (lump : ℕ) (patch : Patch) → lump < length patches →
-    ReadsLumps sprite_told view after dir old new wants (λ (patch : Patch). patch) (λ bytes. patch_or_bad bytes lump) (Ok patch) →
+    ReadsLumps itself view after dir old new wants (λ (patch : Patch). patch) (λ bytes. patch_or_bad bytes lump) (Ok patch) →
     Reads view after dir old new patches (set patches lump (Some patch)) wants (λ (patch : Patch). patch) (λ bytes. patch_or_bad bytes lump) (Ok patch)
 read_kept {dir} patches lump patch lt one = record {
   keeps = one.keeps;

@@ -1,7 +1,7 @@
 -- What is told of a call that reads sprite lumps: which it may ask for, and what was read so far.
 use Rattle.std.specs.Prelude.{◌≡◌, ℕ, List, length, Option, Some, None, IfSome, IfErr, MatchResult, Result, Ok, Contains, slice_index_or}
 use Rattle.outside.specs.Shelf.{ShelfView}
-use Rattle.outside.specs.Faults.{ResultIs, HasCauses}
+use Rattle.outside.specs.Faults.{ResultIs, HasCauses, itself}
 use Rattle.zone_rules.specs.Zones.{Heap}
 use Rattle.zone_rules.specs.Orders.{Item, IsInOrder, KeepsOrder}
 use Rattle.lump_rules.specs.declared.wad.Lump.{Lump}
@@ -15,7 +15,6 @@ use Rattle.art_rules.specs.Frames.{mentions}
 use Rattle.cached_lumps.specs.Calls.{PreservesCache, HoldContents, IsFullFor, IfFull, InOrderAt, HasAll}
 use Rattle.sprite_book.specs.declared.fault.SpriteFault.{SpriteFault}
 use Rattle.sprite_book.specs.declared.shapes.Need.{Need}
-use Rattle.sprite_book.specs.Faults.{sprite_told}
 use Rattle.sprite_book.specs.Books.{pictures_of}
 
 -- the lumps that a call may ask for: those of pictures, of a needed frame, of all of them
@@ -47,8 +46,8 @@ pub record Reads {A B : Type 0} (view after : ShelfView) (dir : DirectoryView) (
   pub keeps : PreservesCache view after dir old new
   pub read : (contents : List (List ℕ)) → IsToldWith view dir old before contents → ArePatchesOf (lump_bytes contents dir.lumps) now
   pub count : length now ≡ length before
-  pub answers : (contents : List (List ℕ)) → IsToldWith view dir old before contents → ResultIs sprite_told view.steady value (expected (lump_bytes contents dir.lumps)) result
-  pub causes : HasCauses sprite_told view.faults after.faults result
-  pub full : IfErr result (λ fault. IfFull (sprite_told fault) (IsFullFor wants dir old))
+  pub answers : (contents : List (List ℕ)) → IsToldWith view dir old before contents → ResultIs itself view.steady value (expected (lump_bytes contents dir.lumps)) result
+  pub causes : HasCauses itself view.faults after.faults result
+  pub full : IfErr result (λ fault. IfFull (itself fault) (IsFullFor wants dir old))
   pub order : (items : List Item) → HasAll items dir wants → IsInOrder items old →
-      MatchResult result (λ _. KeepsOrder items old new view.taken after.taken) (λ fault. InOrderAt (sprite_told fault) (KeepsOrder items old new view.taken after.taken))
+      MatchResult result (λ _. KeepsOrder items old new view.taken after.taken) (λ fault. InOrderAt (itself fault) (KeepsOrder items old new view.taken after.taken))

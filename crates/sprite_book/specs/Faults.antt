@@ -1,4 +1,5 @@
 -- What the faults of a book tell.
+use Rattle.outside.specs.Faults.{itself}
 use Rattle.outside.specs.declared.fault.Fault.{Fault}
 use Rattle.outside.specs.declared.fault.Fault.TheVariants.{Refused, ReadFault, ZoneFull, OutOfMemory}
 use Rattle.art_rules.specs.declared.refusal.SpriteRefusal.{SpriteRefusal}
@@ -7,11 +8,11 @@ use Rattle.lump_cache.specs.declared.fault.CacheFault.TheVariants as cache
 use Rattle.sprite_book.specs.declared.fault.SpriteFault.{SpriteFault}
 use Rattle.sprite_book.specs.declared.fault.SpriteFault.TheVariants.{Refused, ReadFault, ZoneFull, OutOfMemory}
 
-abbrev pub sprite_told : SpriteFault → Fault SpriteRefusal
-sprite_told (Refused refusal) = Refused refusal
-sprite_told ReadFault = ReadFault
-sprite_told (ZoneFull wanted widest) = ZoneFull wanted widest
-sprite_told OutOfMemory = OutOfMemory
+abbrev pub itself : SpriteFault → Fault SpriteRefusal
+itself (Refused refusal) = Refused refusal
+itself ReadFault = ReadFault
+itself (ZoneFull wanted widest) = ZoneFull wanted widest
+itself OutOfMemory = OutOfMemory
 
 -- a fault of the cache
 abbrev pub sprite_fault : CacheFault → SpriteFault

@@ -2,7 +2,7 @@
 ghost use Rattle.std.specs.Prelude.{◌≡◌, ◌<◌, ◌≤◌, ◌+◌, ◌↔◌, true, ℕ, List, length, map, All, Contains, Option, Some, Ok, IfOk, IfErr, IfSome, MatchResult};
 ghost use Rattle.std.specs.List.Sorted.{IsStrictlyIncreasing};
 ghost use Rattle.outside.specs.Shelf.{IsLaterShelf, NameFiles};
-ghost use Rattle.outside.specs.Faults.{ResultIs, HasCauses};
+ghost use Rattle.outside.specs.Faults.{ResultIs, HasCauses, itself};
 ghost use Rattle.lump_rules.specs.Lookups.{lump_at};
 ghost use Rattle.lump_rules.specs.Contents.{AllWithin};
 ghost use Rattle.zone_rules.specs.declared.TheConstants.{MIN_FRAGMENT};
@@ -13,7 +13,6 @@ ghost use Rattle.lump_cache.specs.Caches.{IsFaithful, IsAtRest, KeepsCounts, lum
 ghost use Rattle.cached_lumps.specs.Calls.{ReadsLumps, IfFull, InOrderAt};
 ghost use Rattle.sprite_book.specs.declared.shapes.Frame.{Frame};
 ghost use Rattle.sprite_book.specs.Books.{book_of, outlines_of, outline, frame_of, outline_of, each_of, first_needs, picked, book_lumps};
-ghost use Rattle.sprite_book.specs.Faults.{sprite_told};
 ghost use Rattle.sprite_book.specs.Calls.{IsWanted};
 ghost use Rattle.sprite_book.specs.Indexes.{IsPlaceOf};
 
@@ -80,22 +79,22 @@ impl SpriteBook {
         shelf: &mut S,
     ) -> Result<SpriteBook, SpriteFault>
         requires slots { length dir.now.lumps ≤ cache.old.lumps }
-        ensures tells { ReadsLumps sprite_told (S.view shelf.old) (S.view shelf.new) dir.now cache.old cache.new (IsWanted dir.now.lumps needed.now) (λ book. book) (λ bytes. each_of (frame_of bytes dir.now.lumps) (first_needs needed.now)) result }
+        ensures tells { ReadsLumps itself (S.view shelf.old) (S.view shelf.new) dir.now cache.old cache.new (IsWanted dir.now.lumps needed.now) (λ book. book) (λ bytes. each_of (frame_of bytes dir.now.lumps) (first_needs needed.now)) result }
         ensures answers { (contents : List (List ℕ)) → NameFiles (S.view shelf.old) dir.now.files contents → AllWithin contents dir.now.lumps → IsFaithful contents dir.now.lumps cache.old →
-            ResultIs sprite_told (S.view shelf.old).steady (λ book. book) (book_of contents dir.now.lumps needed.now) result }
+            ResultIs itself (S.view shelf.old).steady (λ book. book) (book_of contents dir.now.lumps needed.now) result }
         ensures outlines { IfOk result (λ book. outlines_of dir.now.lumps needed.now ≡ Ok (map outline book)) }
         ensures there { IfOk result (λ book. All (λ frame. All (λ shape. shape.lump.0 < length dir.now.lumps) frame.shapes) book) }
         ensures follows { IsLaterShelf (S.view shelf.old) (S.view shelf.new) }
-        ensures causes { HasCauses sprite_told (S.view shelf.old).faults (S.view shelf.new).faults result }
-        ensures full { IfErr result (λ fault. IfFull (sprite_told fault) (λ wanted widest'. (lump : ℕ) × IsWanted dir.now.lumps needed.now lump × (wanted ≡ block_size (lump_at dir.now.lumps lump).size) × (widest' < wanted))) }
+        ensures causes { HasCauses itself (S.view shelf.old).faults (S.view shelf.new).faults result }
+        ensures full { IfErr result (λ fault. IfFull (itself fault) (λ wanted widest'. (lump : ℕ) × IsWanted dir.now.lumps needed.now lump × (wanted ≡ block_size (lump_at dir.now.lumps lump).size) × (widest' < wanted))) }
         ensures room { (colormap size : ℕ) → IsAtRest colormap size cache.old →
-            IfErr result (λ fault. IfFull (sprite_told fault) (λ wanted widest'. cache.old.size < block_size size + wanted + MIN_FRAGMENT)) }
+            IfErr result (λ fault. IfFull (itself fault) (λ wanted widest'. cache.old.size < block_size size + wanted + MIN_FRAGMENT)) }
         ensures faithful { (contents : List (List ℕ)) → NameFiles (S.view shelf.old) dir.now.files contents → IsFaithful contents dir.now.lumps cache.old → IsFaithful contents dir.now.lumps cache.new }
         ensures rest { (colormap size : ℕ) → IsAtRest colormap size cache.old → IsAtRest colormap size cache.new }
         ensures counts { KeepsCounts cache.old cache.new }
         ensures composites { (number : ℕ) → IfSome (bytes_of (composite_owner number) cache.new.blocks) (λ bytes. bytes_of (composite_owner number) cache.old.blocks ≡ Some bytes) }
         ensures order { (items : List Item) → ((lump : ℕ) → IsWanted dir.now.lumps needed.now lump → has_item items (lump_owner lump) (lump_at dir.now.lumps lump).size ≡ true) → IsInOrder items cache.old →
-            MatchResult result (λ _. KeepsOrder items cache.old cache.new (S.view shelf.old).taken (S.view shelf.new).taken) (λ fault. InOrderAt (sprite_told fault) (KeepsOrder items cache.old cache.new (S.view shelf.old).taken (S.view shelf.new).taken)) }
+            MatchResult result (λ _. KeepsOrder items cache.old cache.new (S.view shelf.old).taken (S.view shelf.new).taken) (λ fault. InOrderAt (itself fault) (KeepsOrder items cache.old cache.new (S.view shelf.old).taken (S.view shelf.new).taken)) }
     {
         make_book(alloc, needed, dir, cache, shelf)
     }
@@ -132,7 +131,7 @@ fn make_book<S: Shelf>(
     shelf: &mut S,
 ) -> Result<SpriteBook, SpriteFault>
     requires { length dir.now.lumps ≤ cache.old.lumps }
-    ensures tells { ReadsLumps sprite_told (S.view shelf.old) (S.view shelf.new) dir.now cache.old cache.new (IsWanted dir.now.lumps needed.now) (λ book. book) (λ bytes. each_of (frame_of bytes dir.now.lumps) (first_needs needed.now)) result }
+    ensures tells { ReadsLumps itself (S.view shelf.old) (S.view shelf.new) dir.now cache.old cache.new (IsWanted dir.now.lumps needed.now) (λ book. book) (λ bytes. each_of (frame_of bytes dir.now.lumps) (first_needs needed.now)) result }
     ensures outlines { IfOk result (λ book. each_of (outline_of dir.now.lumps) (first_needs needed.now) ≡ Ok (map outline book)) }
 {
     let index = index_mentions(alloc, dir)?;

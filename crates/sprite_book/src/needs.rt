@@ -1,11 +1,11 @@
 // The frames that are needed, one after another.
+ghost use Rattle.outside.specs.Faults.{itself};
 ghost use Rattle.std.specs.Prelude.{◌≡◌, ◌≤◌, [], length, map, replicate, Option, None, Ok, IfOk, OnOk};
 ghost use Rattle.art_rules.specs.declared.patch.Patch.{Patch};
 ghost use Rattle.art_rules.specs.Frames.{mentions};
 ghost use Rattle.cached_lumps.specs.Calls.{ReadsLumps};
 ghost use Rattle.sprite_book.specs.Books.{frame_of, outline, outline_of, each_of, first_needs};
 ghost use Rattle.sprite_book.specs.Calls.{Reads, IsWanted};
-ghost use Rattle.sprite_book.specs.Faults.{sprite_told};
 ghost use Rattle.sprite_book.specs.Indexes.{IsIndexOf, IsPlaceOf};
 
 use crate::fault::SpriteFault;
@@ -30,7 +30,7 @@ pub fn read_list<S: Shelf>(
 ) -> Result<FrameList, SpriteFault>
     requires slots { length dir.now.lumps ≤ cache.old.lumps }
     requires indexed { IsIndexOf index.now (mentions dir.now.lumps) }
-    ensures tells { ReadsLumps sprite_told (S.view shelf.old) (S.view shelf.new) dir.now cache.old cache.new (IsWanted dir.now.lumps needed.now) (λ list. list.frames.items) (λ bytes. each_of (frame_of bytes dir.now.lumps) (first_needs needed.now)) result }
+    ensures tells { ReadsLumps itself (S.view shelf.old) (S.view shelf.new) dir.now cache.old cache.new (IsWanted dir.now.lumps needed.now) (λ list. list.frames.items) (λ bytes. each_of (frame_of bytes dir.now.lumps) (first_needs needed.now)) result }
     ensures outlines { IfOk result (λ list. each_of (outline_of dir.now.lumps) (first_needs needed.now) ≡ Ok (map outline list.frames.items)) }
     ensures placed { IfOk result (λ list. IsPlaceOf list.index list.frames.items) }
 {

@@ -1,4 +1,5 @@
 // The shapes of a frame, read from its lumps.
+ghost use Rattle.outside.specs.Faults.{itself};
 ghost use Rattle.std.specs.Prelude.{◌≡◌, ◌<◌, ◌≤◌, length, map, All, Option, Ok, IfOk, OnOk};
 ghost use Rattle.std.specs.Option.{option_and_then};
 ghost use Rattle.zone_rules.specs.Zones.{bytes_of};
@@ -9,7 +10,6 @@ ghost use Rattle.lump_cache.specs.Caches.{lump_owner};
 ghost use Rattle.cached_lumps.specs.Calls.{ReadsLumps};
 ghost use Rattle.sprite_book.specs.Books.{patch_or_bad, shape_in, shape_of, each_of, frame_of, shape_outline, mention_outline, outline, outline_of};
 ghost use Rattle.sprite_book.specs.Calls.{Reads, IsLumpOf, IsWantedBy};
-ghost use Rattle.sprite_book.specs.Faults.{sprite_told};
 ghost use Rattle.sprite_book.specs.Indexes.{IsIndexOf};
 
 use crate::fault::SpriteFault;
@@ -123,7 +123,7 @@ fn fetch_patch<S: Shelf>(
 ) -> Result<Patch, SpriteFault>
     requires there { lump < length dir.now.lumps }
     requires slots { length dir.now.lumps ≤ cache.old.lumps }
-    ensures { ReadsLumps sprite_told (S.view shelf.old) (S.view shelf.new) dir.now cache.old cache.new (λ n. n ≡ lump) (λ patch. patch) (λ bytes. patch_or_bad bytes lump) result }
+    ensures { ReadsLumps itself (S.view shelf.old) (S.view shelf.new) dir.now cache.old cache.new (λ n. n ≡ lump) (λ patch. patch) (λ bytes. patch_or_bad bytes lump) result }
 {
     fetch_live(cache, dir, shelf, LumpNo(lump))?;
     match live_patch(cache, LumpNo(lump)) {

@@ -16,7 +16,7 @@ use Rattle.zone_rules.proofs.OrderLemmas.{order_none, order_then}
 use Rattle.wad_dir.specs.DirectoryView.{DirectoryView}
 use Rattle.lump_cache.specs.declared.fault.CacheFault.{CacheFault}
 use Rattle.lump_cache.specs.declared.fault.CacheFault.TheVariants.{ZoneFull, ReadFault}
-use Rattle.lump_cache.specs.Caches.{HasAsked, IsAtRestExcept, KeepsCounts, NoRoom, WhereFull, cache_told, composite_owner, lump_owner}
+use Rattle.lump_cache.specs.Caches.{HasAsked, IsAtRestExcept, KeepsCounts, NoRoom, WhereFull, cache_fault, composite_owner, lump_owner}
 use Rattle.cached_lumps.specs.Calls.{IfFull, InOrderAt, HoldContents}
 use Rattle.art_rules.specs.declared.PlacedPatch.{PlacedPatch}
 use Rattle.art_rules.specs.Wanted.{PreparedTexture}
@@ -32,15 +32,15 @@ pub counts_then : (x y z : Heap) → KeepsCounts x y → KeepsCounts y z → Kee
 counts_then x y z first next = (next.0 ∙ first.0, next.1 ∙ first.1, next.2 ∙ first.2)
 
 -- a call's causes, and its answer, counted from before it
-pub causes_earlier : (a b c : ℕ) (result : Result (Unit {0}) CacheFault) → a ≤ b → HasCauses cache_told b c result → HasCauses cache_told a c result
+pub causes_earlier : (a b c : ℕ) (result : Result (Unit {0}) CacheFault) → a ≤ b → HasCauses cache_fault b c result → HasCauses cache_fault a c result
 causes_earlier a b c (Ok done) h k = record { err = tt }
 causes_earlier a b c (Err (ZoneFull wanted widest')) h k = record { err = tt }
 causes_earlier a b c (Err ReadFault) h k = record { err = rose a b c h k.err } where
   rose : (a b c : ℕ) → a ≤ b → FaultsRose b c → FaultsRose a c
   rose a b c h r = omega (arith, h, r)
 
-pub order_after : (items : List Item) (x y z : Heap) (a b c : ℕ) (result : Result (Unit {0}) CacheFault) → KeepsOrder items x y a b → MatchResult result (λ _. KeepsOrder items y z b c) (λ fault. InOrderAt (cache_told fault) (KeepsOrder items y z b c)) →
-    MatchResult result (λ _. KeepsOrder items x z a c) (λ fault. InOrderAt (cache_told fault) (KeepsOrder items x z a c))
+pub order_after : (items : List Item) (x y z : Heap) (a b c : ℕ) (result : Result (Unit {0}) CacheFault) → KeepsOrder items x y a b → MatchResult result (λ _. KeepsOrder items y z b c) (λ fault. InOrderAt (cache_fault fault) (KeepsOrder items y z b c)) →
+    MatchResult result (λ _. KeepsOrder items x z a c) (λ fault. InOrderAt (cache_fault fault) (KeepsOrder items x z a c))
 order_after items x y z a b c (Ok done) k next = order_then k next
 order_after items x y z a b c (Err (ZoneFull wanted widest')) k next = next
 order_after items x y z a b c (Err ReadFault) k next = tt
@@ -86,7 +86,7 @@ module _ {number : ℕ} (t : PreparedTexture) {u v : ShelfView} {dir : Directory
     room = λ colormap count rest building. subst (λ (n : ℕ). IsSmallBeside n count (size_of t) wanted) keeps.counts.0 (full.room colormap count (keeps.rest colormap count rest) (keeps.building (size_of t) building));
   }
 
-  full_earlier : (result : Result (Unit {0}) CacheFault) → IfErr result (λ fault. IfFull (cache_told fault) (IsFullForPatch dir.lumps number t y)) → IfErr result (λ fault. IfFull (cache_told fault) (IsFullForPatch dir.lumps number t x))
+  full_earlier : (result : Result (Unit {0}) CacheFault) → IfErr result (λ fault. IfFull (cache_fault fault) (IsFullForPatch dir.lumps number t y)) → IfErr result (λ fault. IfFull (cache_fault fault) (IsFullForPatch dir.lumps number t x))
   full_earlier (Ok done) k = tt
   full_earlier (Err (ZoneFull wanted widest')) k = patch_earlier wanted widest' k
   full_earlier (Err ReadFault) k = tt
@@ -98,7 +98,7 @@ narrow_where size z wanted widest' full = omega (arith, full.wanted_is, full.wid
 -- the zone was full for a patch of the texture
 pub patch_full : (lumps : List Lump) (number : ℕ) (t : PreparedTexture) (patch : PlacedPatch) (z : Heap) (r : Result (Unit {0}) CacheFault) → Contains t.patches patch → WhereFull r (NoRoom (lump_at lumps patch.lump).size z) →
     ((colormap count : ℕ) (o : Owner) (asked : ℕ) → IsAtRestExcept colormap count (o ∷ []) z → same_owner (lump_owner colormap) o ≡ false → HasAsked asked (owned_block o z.blocks) → WhereFull r (λ wanted widest'. z.size < block_size count + block_size asked + 2 * wanted + 2 * MIN_FRAGMENT)) →
-    IfErr r (λ fault. IfFull (cache_told fault) (IsFullForPatch lumps number t z))
+    IfErr r (λ fault. IfFull (cache_fault fault) (IsFullForPatch lumps number t z))
 patch_full lumps number t patch z (Ok done) among full room = tt
 patch_full lumps number t patch z (Err ReadFault) among full room = tt
 patch_full lumps number t patch z (Err (ZoneFull wanted widest')) among full room = record {
@@ -125,7 +125,7 @@ module _ {number : ℕ} {t : PreparedTexture} {i j k : ℕ} {u v w : ShelfView} 
   pub puts_then : {result : Result (Unit {0}) CacheFault} → PutsPatches number t i j u v dir x y (Ok tt) → PutsPatches number t j k v w dir y z result → PutsPatches number t i k u w dir x z result
   puts_then {result} first next = record {
     keeps = keeps_build_then first.keeps next.keeps;
-    answers = λ contents stand within. subst (λ s. ResultIs cache_told s (λ (done : Unit {0}). done) (Ok tt) result) first.keeps.follows.steady (next.answers contents (all_stand_later u v dir.files contents first.keeps.follows stand) within);
+    answers = λ contents stand within. subst (λ s. ResultIs cache_fault s (λ (done : Unit {0}). done) (Ok tt) result) first.keeps.follows.steady (next.answers contents (all_stand_later u v dir.files contents first.keeps.follows stand) within);
     causes = causes_earlier u.faults v.faults w.faults result first.keeps.follows.faults next.causes;
     full = full_earlier t first.keeps result next.full;
     order = λ items all ord. let before = first.order items all ord in order_after items x y z u.taken v.taken w.taken result before (next.order items all before.order);

@@ -7,7 +7,7 @@ use Rattle.zone_rules.specs.Orders.{Item, IsInOrder, KeepsOrder, is_live}
 use Rattle.zone_rules.proofs.OrderLemmas.{order_then}
 use Rattle.lump_cache.specs.declared.fault.CacheFault.{CacheFault}
 use Rattle.lump_cache.specs.declared.fault.CacheFault.TheVariants.{ZoneFull, ReadFault}
-use Rattle.lump_cache.specs.Caches.{cache_told, composite_owner, release_heap, released_heap}
+use Rattle.lump_cache.specs.Caches.{cache_fault, composite_owner, release_heap, released_heap}
 use Rattle.zone_rules.specs.declared.Tag.TheVariants.{Cache}
 use Rattle.lump_cache.proofs.FaithLemmas.{unless_static_bytes}
 use Rattle.lump_cache.proofs.OrderLemmas.{live_unless_static}
@@ -51,8 +51,8 @@ module _ (number : ℕ) (put new : Heap) where
 
 -- its order is kept, and a fault in a zone that was in order is no want of room
 pub ends_order : (items : List Item) (old begun put new : Heap) (before after : ℕ) (built : Result (Unit {0}) CacheFault) → KeepsOrder items old begun before before →
-    MatchResult built (λ _. KeepsOrder items begun put before after) (λ fault. InOrderAt (cache_told fault) (KeepsOrder items begun put before after)) → OnOk built ((all : List Item) (taken : ℕ) → IsInOrder all put → KeepsOrder all put new taken taken) →
-    MatchResult built (λ _. KeepsOrder items old new before after) (λ fault. InOrderAt (cache_told fault) (KeepsOrder items old new before after))
+    MatchResult built (λ _. KeepsOrder items begun put before after) (λ fault. InOrderAt (cache_fault fault) (KeepsOrder items begun put before after)) → OnOk built ((all : List Item) (taken : ℕ) → IsInOrder all put → KeepsOrder all put new taken taken) →
+    MatchResult built (λ _. KeepsOrder items old new before after) (λ fault. InOrderAt (cache_fault fault) (KeepsOrder items old new before after))
 ends_order items old begun put new before after (Ok done) first next last = order_then first (order_then next (last items after next.order))
 ends_order items old begun put new before after (Err (ZoneFull wanted widest')) first next last = next
 ends_order items old begun put new before after (Err ReadFault) first next last = tt
@@ -80,7 +80,7 @@ module _ (lumps : List Lump) (number : ℕ) (t : PreparedTexture) (place : ℕ) 
     room = λ colormap count rest. inr (full.asked, subst (λ (n : ℕ). IsSmallBeside n count (size_of t) wanted) begins.counts.0 (full.room colormap count (begins.rest colormap count rest) begins.building));
   }
 
-  pub ends_full : (begun : Heap) (built : Result (Unit {0}) CacheFault) → StartsComposite number (size_of t) old begun → IfErr built (λ fault. IfFull (cache_told fault) (IsFullForPatch lumps number t begun)) → IfErr built (λ fault. IfFull (cache_told fault) (IsFullFor lumps number t (Composed place) old))
+  pub ends_full : (begun : Heap) (built : Result (Unit {0}) CacheFault) → StartsComposite number (size_of t) old begun → IfErr built (λ fault. IfFull (cache_fault fault) (IsFullForPatch lumps number t begun)) → IfErr built (λ fault. IfFull (cache_fault fault) (IsFullFor lumps number t (Composed place) old))
   ends_full begun (Ok done) begins full = tt
   ends_full begun (Err (ZoneFull wanted widest')) begins full = begun_full begun wanted widest' begins full
   ends_full begun (Err ReadFault) begins full = tt

@@ -8,7 +8,7 @@ use Rattle.std.proofs.lemmas.Bool.{cases_lt, false≢true}
 use Rattle.std.proofs.lemmas.List.{get_or-map, get_or-replicate, length-append, length-map, length-replicate, length-take-le, take_all, take_more}
 use Rattle.std.proofs.lemmas.List.Folds.{list_any_at, list_any_none}
 use Rattle.outside.specs.Shelf.{ShelfView}
-use Rattle.outside.specs.Faults.{and_then}
+use Rattle.outside.specs.Faults.{and_then, itself}
 use Rattle.word_rules.proofs.ListedLemmas.{listed-all}
 use Rattle.lump_rules.specs.Lookups.{last_of}
 use Rattle.zone_rules.specs.Zones.{Heap}
@@ -29,7 +29,6 @@ use Rattle.texture_columns.specs.Seen.{seen_lookup, seen_lookups}
 use Rattle.texture_lists.specs.declared.fault.TexFault.{TexFault}
 use Rattle.texture_lists.specs.declared.fault.TexFault.TheVariants.{Refused}
 use Rattle.texture_lists.specs.declared.number.TexNo.{TexNo}
-use Rattle.texture_lists.specs.Faults.{tex_told}
 use Rattle.texture_build.specs.Asked.{IsWantedPatch}
 use Rattle.texture_build.specs.Parts.{PatchesPart, or_missing, part_of}
 use Rattle.texture_build.specs.Views.{IsListedAs, is_marked, is_wanted, prepared_at}
@@ -100,14 +99,14 @@ texture_missing last bytes names number t width reason placed =
 
 -- after a part that was passed, a step that is told by the bytes alone
 pub tells_bound : {A B C D : Type 0} {v w : ShelfView} {dir : DirectoryView} {a b : Heap} {wants some : ℕ → Type 0} {value : B → A} {first : D → C} {expected : (ℕ → List ℕ) → Result A TexRefusal} {before : (ℕ → List ℕ) → Result C TexRefusal} (part : Result D TexFault) (found : D) (reason : TexRefusal) (result : Result B TexFault) →
-    ReadsLumps tex_told v w dir a b some first before part → part ≡ Ok found → ((lump : ℕ) → some lump → wants lump) →
+    ReadsLumps itself v w dir a b some first before part → part ≡ Ok found → ((lump : ℕ) → some lump → wants lump) →
     ((bytes : ℕ → List ℕ) → before bytes ≡ Ok (first found) → IfOk result (λ got. expected bytes ≡ Ok (value got))) →
     IfErr result (λ fault. (fault ≡ Refused reason) × ((bytes : ℕ → List ℕ) → before bytes ≡ Ok (first found) → expected bytes ≡ Err reason)) →
-    ReadsLumps tex_told v w dir a b wants value expected result
+    ReadsLumps itself v w dir a b wants value expected result
 tells_bound {v} {w} {dir} {a} {b} {some} {first} {before} part found reason (Ok got) one is among ok err =
-    tells_as found got (subst (ReadsLumps tex_told v w dir a b some first before) is one) among ok
+    tells_as found got (subst (ReadsLumps itself v w dir a b some first before) is one) among ok
 tells_bound {v} {w} {dir} {a} {b} {some} {first} {before} part found reason (Err fault) one is among ok err =
-    tells_then_refused fault reason (ap tex_told err.0) among (subst (ReadsLumps tex_told v w dir a b some first before) is one) (λ contents told begun. err.1 _ begun)
+    tells_then_refused fault reason (ap itself err.0) among (subst (ReadsLumps itself v w dir a b some first before) is one) (λ contents told begun. err.1 _ begun)
 
 -- a texture that is wanted, and one that is not
 pub if_made : (wanted : Bool) (r : Result PreparedTexture TexRefusal) (texture : PreparedTexture) → wanted ≡ true → r ≡ Ok texture → prepared_if wanted r ≡ Ok (Some texture)
@@ -190,18 +189,18 @@ from_all last bytes lists wanted k l = ap (prepared_from (prepared last bytes li
 
 -- the same numbers are wanted
 pub tells_wanted : {B : Type 0} {v w : ShelfView} {dir : DirectoryView} {a b : Heap} {value : B → List (Option PreparedTexture)} (lists : TextureLists) (f g : ℕ → Bool) (result : Result B TexFault) → ((number : ℕ) → f number ≡ g number) →
-    ReadsLumps tex_told v w dir a b (IsWantedPatch dir.lumps lists f) value (λ bytes. prepared_textures (last_of dir.lumps) bytes lists f) result →
-    ReadsLumps tex_told v w dir a b (IsWantedPatch dir.lumps lists g) value (λ bytes. prepared_textures (last_of dir.lumps) bytes lists g) result
+    ReadsLumps itself v w dir a b (IsWantedPatch dir.lumps lists f) value (λ bytes. prepared_textures (last_of dir.lumps) bytes lists f) result →
+    ReadsLumps itself v w dir a b (IsWantedPatch dir.lumps lists g) value (λ bytes. prepared_textures (last_of dir.lumps) bytes lists g) result
 tells_wanted {v} {w} {dir} {a} {b} {value} lists f g result same one =
     let all : f ≡ g = λ i number. same number i in
-    subst (λ (h : ℕ → Bool). ReadsLumps tex_told v w dir a b (IsWantedPatch dir.lumps lists h) value (λ bytes. prepared_textures (last_of dir.lumps) bytes lists h) result) all one
+    subst (λ (h : ℕ → Bool). ReadsLumps itself v w dir a b (IsWantedPatch dir.lumps lists h) value (λ bytes. prepared_textures (last_of dir.lumps) bytes lists h) result) all one
 
 -- the same lists
 pub tells_lists : {B : Type 0} {v w : ShelfView} {dir : DirectoryView} {a b : Heap} {value : B → List (Option PreparedTexture)} (before now : TextureLists) (wanted : ℕ → Bool) (result : Result B TexFault) → before ≡ now →
-    ReadsLumps tex_told v w dir a b (IsWantedPatch dir.lumps before wanted) value (λ bytes. prepared_textures (last_of dir.lumps) bytes before wanted) result →
-    ReadsLumps tex_told v w dir a b (IsWantedPatch dir.lumps now wanted) value (λ bytes. prepared_textures (last_of dir.lumps) bytes now wanted) result
+    ReadsLumps itself v w dir a b (IsWantedPatch dir.lumps before wanted) value (λ bytes. prepared_textures (last_of dir.lumps) bytes before wanted) result →
+    ReadsLumps itself v w dir a b (IsWantedPatch dir.lumps now wanted) value (λ bytes. prepared_textures (last_of dir.lumps) bytes now wanted) result
 tells_lists {v} {w} {dir} {a} {b} {value} before now wanted result same one =
-    subst (λ (lists : TextureLists). ReadsLumps tex_told v w dir a b (IsWantedPatch dir.lumps lists wanted) value (λ bytes. prepared_textures (last_of dir.lumps) bytes lists wanted) result) same one
+    subst (λ (lists : TextureLists). ReadsLumps itself v w dir a b (IsWantedPatch dir.lumps lists wanted) value (λ bytes. prepared_textures (last_of dir.lumps) bytes lists wanted) result) same one
 
 -- one texture more, with the columns and rows of its record
 pub listed_push : (listed : List Texture) (textures : List (Option PreparedTexture)) (texture : Option PreparedTexture) (k : ℕ) → length textures ≡ k → ((number : ℕ) → IfSome (prepared_at textures number) (IsListedAs (texture_at listed number))) → IfSome texture (IsListedAs (texture_at listed k)) →

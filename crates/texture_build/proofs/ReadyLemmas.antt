@@ -12,7 +12,7 @@ use Rattle.zone_rules.proofs.OrderLemmas.{order_none}
 use Rattle.wad_dir.specs.DirectoryView.{DirectoryView}
 use Rattle.lump_cache.specs.declared.fault.CacheFault.{CacheFault}
 use Rattle.lump_cache.specs.declared.fault.CacheFault.TheVariants.{ZoneFull, ReadFault}
-use Rattle.lump_cache.specs.Caches.{IsAtRest, KeptOrPurged, NoRoom, WhereFull, cache_told, composite_owner, lump_owner}
+use Rattle.lump_cache.specs.Caches.{IsAtRest, KeptOrPurged, NoRoom, WhereFull, cache_fault, composite_owner, lump_owner}
 use Rattle.lump_cache.proofs.FaithLemmas.{bytes_in, kept_bytes}
 use Rattle.cached_lumps.specs.Calls.{IfFull}
 use Rattle.art_rules.specs.declared.ColumnLookup.{ColumnLookup}
@@ -44,7 +44,7 @@ readies_nothing number t lookup view dir z live = record {
 
 -- the zone was full for the lump of a column
 pub single_full : (lumps : List Lump) (number : ℕ) (t : PreparedTexture) (lump place : ℕ) (z : Heap) (r : Result (Unit {0}) CacheFault) → WhereFull r (NoRoom (lump_at lumps lump).size z) →
-    ((colormap size : ℕ) → IsAtRest colormap size z → WhereFull r (λ wanted widest'. z.size < block_size size + wanted + MIN_FRAGMENT)) → IfErr r (λ fault. IfFull (cache_told fault) (IsFullFor lumps number t (Single lump place) z))
+    ((colormap size : ℕ) → IsAtRest colormap size z → WhereFull r (λ wanted widest'. z.size < block_size size + wanted + MIN_FRAGMENT)) → IfErr r (λ fault. IfFull (cache_fault fault) (IsFullFor lumps number t (Single lump place) z))
 single_full lumps number t lump place z (Ok done) full room = tt
 single_full lumps number t lump place z (Err ReadFault) full room = tt
 single_full lumps number t lump place z (Err (ZoneFull wanted widest')) full room = record {

@@ -8,7 +8,7 @@ use Rattle.zone_rules.specs.Zones.{Owner, Heap, owned_block, bytes_of, block_siz
 use Rattle.zone_rules.specs.Orders.{Item, IsInOrder, KeepsOrder, has_item}
 use Rattle.wad_dir.specs.DirectoryView.{DirectoryView}
 use Rattle.lump_cache.specs.declared.fault.CacheFault.{CacheFault}
-use Rattle.lump_cache.specs.Caches.{HasAsked, IsAtRest, IsAtRestExcept, IsFaithful, IsPinned, KeepsCounts, cache_told, composite_owner, lump_owner, release_heap}
+use Rattle.lump_cache.specs.Caches.{HasAsked, IsAtRest, IsAtRestExcept, IsFaithful, IsPinned, KeepsCounts, cache_fault, composite_owner, lump_owner, release_heap}
 use Rattle.cached_lumps.specs.Calls.{IfFull, InOrderAt, HoldContents}
 use Rattle.art_rules.specs.declared.PlacedPatch.{PlacedPatch}
 use Rattle.art_rules.specs.Lookups.{composite_of_first}
@@ -59,11 +59,11 @@ HasBuilt bytes number t n z = bytes_of (composite_owner number) z.blocks ≡ Som
 -- the patches of a texture from one to another were fetched and put, each released before the next
 pub record PutsPatches (number : ℕ) (t : PreparedTexture) (from to : ℕ) (view after : ShelfView) (dir : DirectoryView) (old new : Heap) (result : Result (Unit {0}) CacheFault) : Type 0 where
   pub keeps : KeepsBuild number view after dir old new
-  pub answers : (contents : List (List ℕ)) → NameFiles view dir.files contents → AllWithin contents dir.lumps → ResultIs cache_told view.steady (λ (done : Unit {0}). done) (Ok tt) result
-  pub causes : HasCauses cache_told view.faults after.faults result
-  pub full : IfErr result (λ fault. IfFull (cache_told fault) (IsFullForPatch dir.lumps number t old))
+  pub answers : (contents : List (List ℕ)) → NameFiles view dir.files contents → AllWithin contents dir.lumps → ResultIs cache_fault view.steady (λ (done : Unit {0}). done) (Ok tt) result
+  pub causes : HasCauses cache_fault view.faults after.faults result
+  pub full : IfErr result (λ fault. IfFull (cache_fault fault) (IsFullForPatch dir.lumps number t old))
   pub order : (items : List Item) → HasPatches items dir.lumps t → IsInOrder items old →
-      MatchResult result (λ _. KeepsOrder items old new view.taken after.taken) (λ fault. InOrderAt (cache_told fault) (KeepsOrder items old new view.taken after.taken))
+      MatchResult result (λ _. KeepsOrder items old new view.taken after.taken) (λ fault. InOrderAt (cache_fault fault) (KeepsOrder items old new view.taken after.taken))
   pub put : (contents : List (List ℕ)) → HoldContents view dir old contents → HasBuilt (lump_bytes contents dir.lumps) number t from old → OnOk result (HasBuilt (lump_bytes contents dir.lumps) number t to new)
 
 -- a patch whose lump's bytes are live is put into the composite's, over those before it

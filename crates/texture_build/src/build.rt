@@ -7,7 +7,7 @@ ghost use Rattle.outside.specs.Faults.{ResultIs, HasCauses};
 ghost use Rattle.lump_rules.specs.Contents.{AllWithin, lump_bytes};
 ghost use Rattle.zone_rules.specs.Zones.{IsLive, bytes_of, holding_of, owned_block};
 ghost use Rattle.zone_rules.specs.Orders.{Item, IsInOrder, KeepsOrder};
-ghost use Rattle.lump_cache.specs.Caches.{IsAtRest, IsFaithful, IsFilled, KeepsCounts, cache_told, composite_owner, lump_owner};
+ghost use Rattle.lump_cache.specs.Caches.{IsAtRest, IsFaithful, IsFilled, KeepsCounts, cache_fault, composite_owner, lump_owner};
 ghost use Rattle.cached_lumps.specs.Calls.{IfFull, InOrderAt, HoldContents};
 ghost use Rattle.art_rules.specs.declared.ColumnLookup.TheVariants.{Composed};
 ghost use Rattle.texture_build.specs.Asked.{HasAsked, IsFullFor, size_of};
@@ -41,19 +41,19 @@ pub(crate) fn build_composite<S: Shelf>(
     requires composite { number < cache.old.composites }
     requires there { AreThere dir.now.lumps texture.now }
     requires empty { IsNone (holding_of (composite_owner number) cache.old.blocks) }
-    ensures answers { (contents : List (List ℕ)) → NameFiles (S.view shelf.old) dir.now.files contents → AllWithin contents dir.now.lumps → ResultIs cache_told (S.view shelf.old).steady (λ done. done) (Ok tt) result }
+    ensures answers { (contents : List (List ℕ)) → NameFiles (S.view shelf.old) dir.now.files contents → AllWithin contents dir.now.lumps → ResultIs cache_fault (S.view shelf.old).steady (λ done. done) (Ok tt) result }
     ensures live { OnOk result (IsLive cache.new (composite_owner number)) }
     ensures follows { IsLaterShelf (S.view shelf.old) (S.view shelf.new) }
-    ensures causes { HasCauses cache_told (S.view shelf.old).faults (S.view shelf.new).faults result }
+    ensures causes { HasCauses cache_fault (S.view shelf.old).faults (S.view shelf.new).faults result }
     ensures counts { KeepsCounts cache.old cache.new }
     ensures rest { (colormap count : ℕ) → IsAtRest colormap count cache.old → IsAtRest colormap count cache.new }
     ensures faithful { (contents : List (List ℕ)) → NameFiles (S.view shelf.old) dir.now.files contents → IsFaithful contents dir.now.lumps cache.old → IsFaithful contents dir.now.lumps cache.new }
     ensures composite { (contents : List (List ℕ)) → HoldContents (S.view shelf.old) dir.now cache.old contents → OnOk result (bytes_of (composite_owner number) cache.new.blocks ≡ Some (composite_of (lump_bytes contents dir.now.lumps) texture.now)) }
     ensures others { OthersKeep number cache.old cache.new }
     ensures empty { OnErr result (owned_block (composite_owner number) cache.new.blocks ≡ None) }
-    ensures full { (place : ℕ) → IfErr result (λ fault. IfFull (cache_told fault) (IsFullFor dir.now.lumps number texture.now (Composed place) cache.old)) }
+    ensures full { (place : ℕ) → IfErr result (λ fault. IfFull (cache_fault fault) (IsFullFor dir.now.lumps number texture.now (Composed place) cache.old)) }
     ensures order { (place : ℕ) (items : List Item) → HasAsked items dir.now.lumps number texture.now (Composed place) → IsInOrder items cache.old →
-        MatchResult result (λ _. KeepsOrder items cache.old cache.new (S.view shelf.old).taken (S.view shelf.new).taken) (λ fault. InOrderAt (cache_told fault) (KeepsOrder items cache.old cache.new (S.view shelf.old).taken (S.view shelf.new).taken)) }
+        MatchResult result (λ _. KeepsOrder items cache.old cache.new (S.view shelf.old).taken (S.view shelf.new).taken) (λ fault. InOrderAt (cache_fault fault) (KeepsOrder items cache.old cache.new (S.view shelf.old).taken (S.view shelf.new).taken)) }
 {
     begin_composite(cache, number, texture.size())?;
     let built = put_patches(texture, number, dir, cache, shelf);

@@ -2,6 +2,7 @@
 //
 // Rules: `art_rules`, Wanted, and `specs/Parts`. The original: `R_InitTextures`, `R_GenerateLookup`,
 // r_data.c.
+ghost use Rattle.outside.specs.Faults.{itself};
 ghost use Rattle.std.specs.Prelude.{◌≡◌, ◌<◌, ◌≤◌, ◌^◌, ◌++◌, ◌∷◌, ℕ, [], List, All, length, option_map, option_and_then, Some, Ok, IfOk, IfSome, OnOk};
 ghost use Rattle.lump_rules.specs.Lookups.{last_of};
 ghost use Rattle.zone_rules.specs.Zones.{bytes_of};
@@ -12,7 +13,6 @@ ghost use Rattle.art_rules.specs.Wanted.{place_lump, place_patch, placed_patch, 
 ghost use Rattle.art_rules.specs.declared.PlacedPatch.{PlacedPatch};
 ghost use Rattle.art_rules.specs.declared.refusal.TexRefusal.TheVariants.{MissingPatch};
 ghost use Rattle.texture_columns.specs.Seen.{AreSeen, columns_with, seen_lookups};
-ghost use Rattle.texture_lists.specs.Faults.{tex_told};
 ghost use Rattle.texture_lists.specs.declared.fault.TexFault.TheVariants.{Refused};
 ghost use Rattle.texture_build.specs.Asked.{patch_lump};
 ghost use Rattle.texture_build.specs.Parts.{IsEntryPatch, or_missing, part_of, step_of};
@@ -40,7 +40,7 @@ pub(crate) fn place_patches<S: Shelf>(
     requires width { length columns.old < 2 ^ 16 }
     requires none { patches.old.items ≡ [] }
     requires empty { (bytes : ℕ → List ℕ) → columns.old ≡ seen_lookups bytes [] (length columns.old) }
-    ensures tells { ReadsLumps tex_told (S.view shelf.old) (S.view shelf.new) dir.now cache.old cache.new (IsEntryPatch dir.now.lumps lists.now.names entries.now) (λ _. record { patches = patches.new.items; columns = columns.new }) (λ bytes. or_missing tex.0 (option_map (part_of bytes (length columns.old)) (placed_patches (last_of dir.now.lumps) bytes lists.now.names entries.now))) result }
+    ensures tells { ReadsLumps itself (S.view shelf.old) (S.view shelf.new) dir.now cache.old cache.new (IsEntryPatch dir.now.lumps lists.now.names entries.now) (λ _. record { patches = patches.new.items; columns = columns.new }) (λ bytes. or_missing tex.0 (option_map (part_of bytes (length columns.old)) (placed_patches (last_of dir.now.lumps) bytes lists.now.names entries.now))) result }
     ensures seen { OnOk result (AreSeen patches.new.items columns.new) }
     ensures there { OnOk result (All (λ patch. patch.lump < length dir.now.lumps) patches.new.items) }
     ensures count { length columns.new ≡ length columns.old }
@@ -64,7 +64,7 @@ fn place_entry<S: Shelf>(
 ) -> Result<PlacedPatch, TexFault>
     requires slots { length dir.now.lumps ≤ cache.old.lumps }
     requires width { length columns.old < 2 ^ 16 }
-    ensures tells { ReadsLumps tex_told (S.view shelf.old) (S.view shelf.new) dir.now cache.old cache.new (λ lump. patch_lump dir.now.lumps lists.now.names entry.now ≡ Some lump) (λ patch. record { patch = patch; columns = columns.new }) (λ bytes. or_missing tex.0 (option_map (step_of bytes columns.old) (placed_patch (last_of dir.now.lumps) bytes lists.now.names entry.now))) result }
+    ensures tells { ReadsLumps itself (S.view shelf.old) (S.view shelf.new) dir.now cache.old cache.new (λ lump. patch_lump dir.now.lumps lists.now.names entry.now ≡ Some lump) (λ patch. record { patch = patch; columns = columns.new }) (λ bytes. or_missing tex.0 (option_map (step_of bytes columns.old) (placed_patch (last_of dir.now.lumps) bytes lists.now.names entry.now))) result }
     ensures seen { (patches : List PlacedPatch) → AreSeen patches columns.old → IfOk result (λ patch. AreSeen (patches ++ patch ∷ []) columns.new) }
     ensures there { IfOk result (λ patch. patch.lump < length dir.now.lumps) }
     ensures count { length columns.new ≡ length columns.old }
@@ -100,7 +100,7 @@ fn place_lump<S: Shelf>(
     requires slots { length dir.now.lumps ≤ cache.old.lumps }
     requires listed { lump.0 < length dir.now.lumps }
     requires width { length columns.old < 2 ^ 16 }
-    ensures tells { ReadsLumps tex_told (S.view shelf.old) (S.view shelf.new) dir.now cache.old cache.new (λ number. number ≡ lump.0) (λ patch. record { patch = patch; columns = columns.new }) (λ bytes. or_missing tex.0 (option_map (step_of bytes columns.old) (place_lump bytes entry.now lump.0))) result }
+    ensures tells { ReadsLumps itself (S.view shelf.old) (S.view shelf.new) dir.now cache.old cache.new (λ number. number ≡ lump.0) (λ patch. record { patch = patch; columns = columns.new }) (λ bytes. or_missing tex.0 (option_map (step_of bytes columns.old) (place_lump bytes entry.now lump.0))) result }
     ensures seen { (patches : List PlacedPatch) → AreSeen patches columns.old → IfOk result (λ patch. AreSeen (patches ++ patch ∷ []) columns.new) }
     ensures lump { IfOk result (λ patch. patch.lump ≡ lump.0) }
     ensures count { length columns.new ≡ length columns.old }

@@ -1,6 +1,7 @@
 // What stands behind `Textures::prepare`: the wanted textures, one after the other.
 //
 // Rules: `art_rules`, Wanted. The original: `R_PrecacheLevel`, `R_GenerateLookup`, r_data.c.
+ghost use Rattle.outside.specs.Faults.{itself};
 ghost use Rattle.std.specs.Prelude.{◌≡◌, ◌<◌, ◌≤◌, ◌^◌, ◌||◌, false, true, ℕ, List, All, length, is_some, map, replicate, slice_index_or, Ok, Err, IfErr, IfOk, IfSome, IsSome};
 ghost use Rattle.lump_rules.specs.Lookups.{last_of};
 ghost use Rattle.cached_lumps.specs.Calls.{ReadsLumps};
@@ -9,7 +10,6 @@ ghost use Rattle.art_rules.specs.declared.refusal.TexRefusal.TheVariants.{TooBig
 ghost use Rattle.art_rules.specs.Textures.{texture_at};
 ghost use Rattle.art_rules.specs.Wanted.{prepared, prepared_if, prepared_textures, unless_too_big};
 ghost use Rattle.texture_columns.specs.Seen.{AreSeen, seen_lookups};
-ghost use Rattle.texture_lists.specs.Faults.{tex_told};
 ghost use Rattle.texture_lists.specs.declared.fault.TexFault.TheVariants.{Refused};
 ghost use Rattle.texture_build.specs.Asked.{IsWantedPatch};
 ghost use Rattle.texture_build.specs.Parts.{IsEntryPatch};
@@ -37,7 +37,7 @@ pub(crate) fn prepare_wanted<S: Shelf>(
 ) -> Result<PreparedList, TexFault>
     requires slots { length dir.now.lumps ≤ cache.old.lumps }
     requires below { All (λ tex. tex.0 < length lists.now.textures) wanted.now }
-    ensures tells { ReadsLumps tex_told (S.view shelf.old) (S.view shelf.new) dir.now cache.old cache.new (IsWantedPatch dir.now.lumps lists.now (is_wanted wanted.now)) (λ textures. textures) (λ bytes. prepared_textures (last_of dir.now.lumps) bytes lists.now (is_wanted wanted.now)) result }
+    ensures tells { ReadsLumps itself (S.view shelf.old) (S.view shelf.new) dir.now cache.old cache.new (IsWantedPatch dir.now.lumps lists.now (is_wanted wanted.now)) (λ textures. textures) (λ bytes. prepared_textures (last_of dir.now.lumps) bytes lists.now (is_wanted wanted.now)) result }
     ensures there { IfOk result (λ textures. All (λ t. IfSome t (AreThere dir.now.lumps)) textures) }
     ensures listed { IfOk result (λ textures. (number : ℕ) → IfSome (prepared_at textures number) (IsListedAs (texture_at lists.now.textures number))) }
     ensures wanted { IfOk result (λ textures. All (λ tex. IsSome (prepared_at textures tex.0)) wanted.now) }
@@ -80,7 +80,7 @@ fn prepare_marked<S: Shelf>(
     requires slots { length dir.now.lumps ≤ cache.old.lumps }
     requires count { length marks.now ≡ length lists.now.textures }
     requires few { length marks.now < 2 ^ 16 }
-    ensures tells { ReadsLumps tex_told (S.view shelf.old) (S.view shelf.new) dir.now cache.old cache.new (IsWantedPatch dir.now.lumps lists.now (is_marked marks.now)) (λ textures. textures.items) (λ bytes. prepared_textures (last_of dir.now.lumps) bytes lists.now (is_marked marks.now)) result }
+    ensures tells { ReadsLumps itself (S.view shelf.old) (S.view shelf.new) dir.now cache.old cache.new (IsWantedPatch dir.now.lumps lists.now (is_marked marks.now)) (λ textures. textures.items) (λ bytes. prepared_textures (last_of dir.now.lumps) bytes lists.now (is_marked marks.now)) result }
     ensures there { IfOk result (λ textures. All (λ t. IfSome t (AreThere dir.now.lumps)) textures.items) }
     ensures listed { IfOk result (λ textures. (number : ℕ) → IfSome (prepared_at textures.items number) (IsListedAs (texture_at lists.now.textures number))) }
     ensures marks { IfOk result (λ textures. map is_some textures.items ≡ marks.now) }
@@ -106,7 +106,7 @@ fn prepare_if<S: Shelf>(
 ) -> Result<Option<PreparedTexture>, TexFault>
     requires slots { length dir.now.lumps ≤ cache.old.lumps }
     requires below { tex.0 < length lists.now.textures }
-    ensures tells { ReadsLumps tex_told (S.view shelf.old) (S.view shelf.new) dir.now cache.old cache.new (λ lump. (wanted ≡ true) × IsEntryPatch dir.now.lumps lists.now.names (texture_at lists.now.textures tex.0).patches lump) (λ texture. texture) (λ bytes. prepared_if wanted (prepared (last_of dir.now.lumps) bytes lists.now.names tex.0 (texture_at lists.now.textures tex.0))) result }
+    ensures tells { ReadsLumps itself (S.view shelf.old) (S.view shelf.new) dir.now cache.old cache.new (λ lump. (wanted ≡ true) × IsEntryPatch dir.now.lumps lists.now.names (texture_at lists.now.textures tex.0).patches lump) (λ texture. texture) (λ bytes. prepared_if wanted (prepared (last_of dir.now.lumps) bytes lists.now.names tex.0 (texture_at lists.now.textures tex.0))) result }
     ensures there { IfOk result (λ texture. IfSome texture (AreThere dir.now.lumps)) }
     ensures listed { IfOk result (λ texture. IfSome texture (IsListedAs (texture_at lists.now.textures tex.0))) }
     ensures wanted { IfOk result (λ texture. is_some texture ≡ wanted) }
@@ -129,7 +129,7 @@ fn prepare_texture<S: Shelf>(
 ) -> Result<PreparedTexture, TexFault>
     requires slots { length dir.now.lumps ≤ cache.old.lumps }
     requires below { tex.0 < length lists.now.textures }
-    ensures tells { ReadsLumps tex_told (S.view shelf.old) (S.view shelf.new) dir.now cache.old cache.new (IsEntryPatch dir.now.lumps lists.now.names (texture_at lists.now.textures tex.0).patches) (λ texture. texture) (λ bytes. prepared (last_of dir.now.lumps) bytes lists.now.names tex.0 (texture_at lists.now.textures tex.0)) result }
+    ensures tells { ReadsLumps itself (S.view shelf.old) (S.view shelf.new) dir.now cache.old cache.new (IsEntryPatch dir.now.lumps lists.now.names (texture_at lists.now.textures tex.0).patches) (λ texture. texture) (λ bytes. prepared (last_of dir.now.lumps) bytes lists.now.names tex.0 (texture_at lists.now.textures tex.0)) result }
     ensures there { IfOk result (AreThere dir.now.lumps) }
     ensures listed { IfOk result (IsListedAs (texture_at lists.now.textures tex.0)) }
 {

@@ -7,7 +7,7 @@ ghost use Rattle.outside.specs.Faults.{ResultIs, HasCauses};
 ghost use Rattle.lump_rules.specs.Contents.{AllWithin, lump_bytes};
 ghost use Rattle.zone_rules.specs.Zones.{IsLive, owned_block};
 ghost use Rattle.zone_rules.specs.Orders.{Item, IsInOrder, KeepsOrder, is_live};
-ghost use Rattle.lump_cache.specs.Caches.{IsAtRest, IsFaithful, KeepsCounts, cache_told, composite_owner};
+ghost use Rattle.lump_cache.specs.Caches.{IsAtRest, IsFaithful, KeepsCounts, cache_fault, composite_owner};
 ghost use Rattle.cached_lumps.specs.Calls.{IfFull, InOrderAt, HoldContents};
 ghost use Rattle.art_rules.specs.declared.ColumnLookup.TheVariants.{Composed};
 ghost use Rattle.texture_build.specs.Asked.{HasAsked, IsFullFor};
@@ -41,21 +41,21 @@ pub(crate) fn make_ready<S: Shelf>(
     requires slots { length dir.now.lumps ≤ cache.old.lumps }
     requires composite { number < cache.old.composites }
     requires there { AreThere dir.now.lumps texture.now }
-    ensures answers { (contents : List (List ℕ)) → NameFiles (S.view shelf.old) dir.now.files contents → AllWithin contents dir.now.lumps → ResultIs cache_told (S.view shelf.old).steady (λ done. done) (Ok tt) result }
+    ensures answers { (contents : List (List ℕ)) → NameFiles (S.view shelf.old) dir.now.files contents → AllWithin contents dir.now.lumps → ResultIs cache_fault (S.view shelf.old).steady (λ done. done) (Ok tt) result }
     ensures live { OnOk result (IsColumnLive number cache.new (column_in texture.now col)) }
     ensures there { IsThere dir.now.lumps (column_in texture.now col) }
     ensures hit { IsColumnLive number cache.old (column_in texture.now col) → (result ≡ Ok tt) × (shelf.new ≡ shelf.old) }
     ensures follows { IsLaterShelf (S.view shelf.old) (S.view shelf.new) }
-    ensures causes { HasCauses cache_told (S.view shelf.old).faults (S.view shelf.new).faults result }
+    ensures causes { HasCauses cache_fault (S.view shelf.old).faults (S.view shelf.new).faults result }
     ensures counts { KeepsCounts cache.old cache.new }
     ensures rest { (colormap count : ℕ) → IsAtRest colormap count cache.old → IsAtRest colormap count cache.new }
     ensures faithful { (contents : List (List ℕ)) → NameFiles (S.view shelf.old) dir.now.files contents → IsFaithful contents dir.now.lumps cache.old → IsFaithful contents dir.now.lumps cache.new }
     ensures composites { (contents : List (List ℕ)) (textures : TexturesView) → prepared_at textures.prepared number ≡ Some texture.now → HoldContents (S.view shelf.old) dir.now cache.old contents →
         AreComposites (lump_bytes contents dir.now.lumps) textures cache.old → AreComposites (lump_bytes contents dir.now.lumps) textures cache.new }
     ensures empty { OnErr result (IsComposedColumn (column_in texture.now col) → owned_block (composite_owner number) cache.new.blocks ≡ None) }
-    ensures full { IfErr result (λ fault. IfFull (cache_told fault) (IsFullFor dir.now.lumps number texture.now (column_in texture.now col) cache.old)) }
+    ensures full { IfErr result (λ fault. IfFull (cache_fault fault) (IsFullFor dir.now.lumps number texture.now (column_in texture.now col) cache.old)) }
     ensures order { (items : List Item) → HasAsked items dir.now.lumps number texture.now (column_in texture.now col) → IsInOrder items cache.old →
-        MatchResult result (λ _. KeepsOrder items cache.old cache.new (S.view shelf.old).taken (S.view shelf.new).taken) (λ fault. InOrderAt (cache_told fault) (KeepsOrder items cache.old cache.new (S.view shelf.old).taken (S.view shelf.new).taken)) }
+        MatchResult result (λ _. KeepsOrder items cache.old cache.new (S.view shelf.old).taken (S.view shelf.new).taken) (λ fault. InOrderAt (cache_fault fault) (KeepsOrder items cache.old cache.new (S.view shelf.old).taken (S.view shelf.new).taken)) }
 {
     match texture.lookup(col) {
         ColumnLookup::Empty => Ok(()),

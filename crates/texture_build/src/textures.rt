@@ -4,13 +4,13 @@
 // `specs/Asked` and `specs/Composites`. The original: r_data.c.
 ghost use Rattle.std.specs.Prelude.{◌≡◌, ◌<◌, ◌≤◌, ◌+◌, ℕ, [], List, All, length, is_some, map, option_map, IfErr, IfOk, IfSome, IsSome, MatchResult, Ok, OnErr, OnOk, Some, None, ◌^◌};
 ghost use Rattle.outside.specs.Shelf.{NameFiles, IsLaterShelf};
-ghost use Rattle.outside.specs.Faults.{ResultIs, HasCauses};
+ghost use Rattle.outside.specs.Faults.{ResultIs, HasCauses, itself};
 ghost use Rattle.lump_rules.specs.Contents.{AllWithin, lump_bytes};
 ghost use Rattle.lump_rules.specs.declared.wad.Lump.{Lump};
 ghost use Rattle.lump_rules.specs.Lookups.{last_of};
 ghost use Rattle.zone_rules.specs.Zones.{owned_block};
 ghost use Rattle.zone_rules.specs.Orders.{Item, IsInOrder, KeepsOrder};
-ghost use Rattle.lump_cache.specs.Caches.{IsAtRest, IsFaithful, KeepsCounts, cache_told, composite_owner};
+ghost use Rattle.lump_cache.specs.Caches.{IsAtRest, IsFaithful, KeepsCounts, cache_fault, composite_owner};
 ghost use Rattle.cached_lumps.specs.Calls.{IfFull, InOrderAt, HoldContents, ReadsLumps};
 ghost use Rattle.cached_lumps.specs.Named.{named_bytes};
 ghost use Rattle.cached_lumps.specs.Sizes.{StandsBeside};
@@ -20,7 +20,6 @@ ghost use Rattle.art_rules.specs.Lookups.{single_place};
 ghost use Rattle.art_rules.specs.Textures.{mask_of, texture_at, texture_lists, texture_number};
 ghost use Rattle.art_rules.specs.Wanted.{patch_lumps, prepared_textures};
 ghost use Rattle.texture_lists.specs.Asked.{IsListLump};
-ghost use Rattle.texture_lists.specs.Faults.{tex_told};
 ghost use Rattle.texture_build.specs.Asked.{HasAsked, IsFullFor, IsWantedPatch, size_of};
 ghost use Rattle.texture_build.specs.Composites.{AreComposites};
 ghost use Rattle.texture_build.specs.Sources.{IsColumnLive, IsComposedColumn, column_in, column_of, own_column, source_of, IsThere};
@@ -80,7 +79,7 @@ impl Textures {
         shelf: &mut S,
     ) -> Result<Textures, TexFault>
         requires { length dir.now.lumps ≤ cache.old.lumps }
-        ensures tells { ReadsLumps tex_told (S.view shelf.old) (S.view shelf.new) dir.now cache.old cache.new (IsListLump dir.now.lumps) (λ textures. textures.lists) (λ bytes. texture_lists (named_bytes bytes dir.now.lumps PNAMES) (named_bytes bytes dir.now.lumps TEXTURE1) (named_bytes bytes dir.now.lumps TEXTURE2)) result }
+        ensures tells { ReadsLumps itself (S.view shelf.old) (S.view shelf.new) dir.now cache.old cache.new (IsListLump dir.now.lumps) (λ textures. textures.lists) (λ bytes. texture_lists (named_bytes bytes dir.now.lumps PNAMES) (named_bytes bytes dir.now.lumps TEXTURE1) (named_bytes bytes dir.now.lumps TEXTURE2)) result }
         ensures few { IfOk result (λ textures. length textures.lists.textures ≤ MAX_TEXTURES) }
         ensures unprepared { IfOk result (λ textures. textures.prepared ≡ []) }
         ensures fits { OnOk result ((lump : ℕ) → IsListLump dir.now.lumps lump → StandsBeside dir.now.lumps cache.old lump) }
@@ -117,7 +116,7 @@ impl Textures {
     ) -> Result<(), TexFault>
         requires slots { length dir.now.lumps ≤ cache.old.lumps }
         requires below { All (λ tex. tex.0 < length self.old.lists.textures) wanted.now }
-        ensures tells { ReadsLumps tex_told (S.view shelf.old) (S.view shelf.new) dir.now cache.old cache.new (IsWantedPatch dir.now.lumps self.old.lists (is_wanted wanted.now)) (λ _. self.new.prepared) (λ bytes. prepared_textures (last_of dir.now.lumps) bytes self.old.lists (is_wanted wanted.now)) result }
+        ensures tells { ReadsLumps itself (S.view shelf.old) (S.view shelf.new) dir.now cache.old cache.new (IsWantedPatch dir.now.lumps self.old.lists (is_wanted wanted.now)) (λ _. self.new.prepared) (λ bytes. prepared_textures (last_of dir.now.lumps) bytes self.old.lists (is_wanted wanted.now)) result }
         ensures lists { self.new.lists ≡ self.old.lists }
         ensures err { OnErr result (self.new.prepared ≡ []) }
         ensures there { AllThere dir.now.lumps self.new }
@@ -292,20 +291,20 @@ impl Textures {
         requires composite { tex.0 < cache.old.composites }
         requires prepared { IsPrepared self.now tex.0 }
         requires there { AreThere dir.now.lumps (prepared_texture self.now tex.0) }
-        ensures answers { (contents : List (List ℕ)) → NameFiles (S.view shelf.old) dir.now.files contents → AllWithin contents dir.now.lumps → ResultIs cache_told (S.view shelf.old).steady (λ done. done) (Ok tt) result }
+        ensures answers { (contents : List (List ℕ)) → NameFiles (S.view shelf.old) dir.now.files contents → AllWithin contents dir.now.lumps → ResultIs cache_fault (S.view shelf.old).steady (λ done. done) (Ok tt) result }
         ensures live { OnOk result (IsColumnLive tex.0 cache.new (column_in (prepared_texture self.now tex.0) col)) }
         ensures there { IsThere dir.now.lumps (column_in (prepared_texture self.now tex.0) col) }
         ensures hit { IsColumnLive tex.0 cache.old (column_in (prepared_texture self.now tex.0) col) → (result ≡ Ok tt) × (shelf.new ≡ shelf.old) }
         ensures follows { IsLaterShelf (S.view shelf.old) (S.view shelf.new) }
-        ensures causes { HasCauses cache_told (S.view shelf.old).faults (S.view shelf.new).faults result }
+        ensures causes { HasCauses cache_fault (S.view shelf.old).faults (S.view shelf.new).faults result }
         ensures counts { KeepsCounts cache.old cache.new }
         ensures rest { (colormap count : ℕ) → IsAtRest colormap count cache.old → IsAtRest colormap count cache.new }
         ensures faithful { (contents : List (List ℕ)) → NameFiles (S.view shelf.old) dir.now.files contents → IsFaithful contents dir.now.lumps cache.old → IsFaithful contents dir.now.lumps cache.new }
         ensures composites { (contents : List (List ℕ)) → HoldContents (S.view shelf.old) dir.now cache.old contents → AreComposites (lump_bytes contents dir.now.lumps) self.now cache.old → AreComposites (lump_bytes contents dir.now.lumps) self.now cache.new }
         ensures empty { OnErr result (IsComposedColumn (column_in (prepared_texture self.now tex.0) col) → owned_block (composite_owner tex.0) cache.new.blocks ≡ None) }
-        ensures full { IfErr result (λ fault. IfFull (cache_told fault) (IsFullFor dir.now.lumps tex.0 (prepared_texture self.now tex.0) (column_in (prepared_texture self.now tex.0) col) cache.old)) }
+        ensures full { IfErr result (λ fault. IfFull (cache_fault fault) (IsFullFor dir.now.lumps tex.0 (prepared_texture self.now tex.0) (column_in (prepared_texture self.now tex.0) col) cache.old)) }
         ensures order { (items : List Item) → HasAsked items dir.now.lumps tex.0 (prepared_texture self.now tex.0) (column_in (prepared_texture self.now tex.0) col) → IsInOrder items cache.old →
-            MatchResult result (λ _. KeepsOrder items cache.old cache.new (S.view shelf.old).taken (S.view shelf.new).taken) (λ fault. InOrderAt (cache_told fault) (KeepsOrder items cache.old cache.new (S.view shelf.old).taken (S.view shelf.new).taken)) }
+            MatchResult result (λ _. KeepsOrder items cache.old cache.new (S.view shelf.old).taken (S.view shelf.new).taken) (λ fault. InOrderAt (cache_fault fault) (KeepsOrder items cache.old cache.new (S.view shelf.old).taken (S.view shelf.new).taken)) }
     {
         let texture = self.prepared.texture(tex.0);
         make_ready(texture, u32::from(tex.0), col, dir, cache, shelf)

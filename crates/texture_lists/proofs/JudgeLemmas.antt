@@ -2,7 +2,7 @@
 use Rattle.std.proofs.Common.{◌≡◌, ℕ, true, List, Option, Result, Ok, Err, refl, sym, ap, ◌∙◌, IsErrAnd}
 use Rattle.std.specs.Prelude.{option_map}
 use Rattle.outside.specs.Shelf.{ShelfView}
-use Rattle.outside.specs.Faults.{fault_above, ResultIs}
+use Rattle.outside.specs.Faults.{fault_above, ResultIs, itself}
 use Rattle.lump_rules.specs.Lookups.{last_of}
 use Rattle.lump_rules.specs.Contents.{lump_bytes}
 use Rattle.lump_rules.specs.Names.{name_of, filled}
@@ -11,7 +11,7 @@ use Rattle.wad_dir.specs.DirectoryView.{DirectoryView}
 use Rattle.wad_dir.specs.declared.directory.LumpNo.{LumpNo}
 use Rattle.lump_cache.specs.declared.fault.CacheFault.{CacheFault}
 use Rattle.lump_cache.specs.declared.fault.CacheFault.TheVariants.{ZoneFull as CacheFull, ReadFault as CacheRead}
-use Rattle.lump_cache.specs.Caches.{cache_told}
+use Rattle.lump_cache.specs.Caches.{cache_fault}
 use Rattle.cached_lumps.specs.Calls.{ReadsLumps, HoldContents}
 use Rattle.cached_lumps.specs.Named.{IsLast, named_bytes}
 use Rattle.cached_lumps.proofs.CallLemmas.{tells_stop_first, tells_short, tells_then_refused, tells_then_found, tells_above, fault_above}
@@ -19,7 +19,7 @@ use Rattle.art_rules.specs.declared.TheConstants.{PNAMES, TEXTURE1, TEXTURE2}
 use Rattle.art_rules.specs.declared.refusal.TexRefusal.{TexRefusal}
 use Rattle.texture_lists.specs.declared.fault.TexFault.{TexFault}
 use Rattle.texture_lists.specs.declared.fault.TexFault.TheVariants.{Refused, ReadFault, ZoneFull, OutOfMemory}
-use Rattle.texture_lists.specs.Faults.{tex_told, above_cache, IsOfBytes}
+use Rattle.texture_lists.specs.Faults.{above_cache, IsOfBytes}
 
 -- the names of the lists are in capitals
 pub pnames_name : name_of PNAMES ≡ PNAMES
@@ -38,15 +38,15 @@ texture2_name = refl
 no_refusal : ⊥ → TexRefusal
 no_refusal none = absurd none
 
-told_same : (below : CacheFault) → tex_told (above_cache below) ≡ fault_above no_refusal (cache_told below)
+told_same : (below : CacheFault) → itself (above_cache below) ≡ fault_above no_refusal (cache_fault below)
 told_same (CacheFull wanted widest') = refl
 told_same CacheRead = refl
 
 -- a call that ends with what reads nothing
 pub tells_end : {A B C D : Type 0} {v w : ShelfView} {dir : DirectoryView} {a b : Heap} {wants some : ℕ → Type 0} {value : B → A} {first : D → C} {before : (ℕ → List ℕ) → Result C TexRefusal} {found : D} (expected : (ℕ → List ℕ) → Result A TexRefusal) (result : Result B TexFault) →
-    ReadsLumps tex_told v w dir a b some first before (Ok found) → ((lump : ℕ) → some lump → wants lump) → IsOfBytes result →
-    ((contents : List (List ℕ)) → HoldContents v dir a contents → before (lump_bytes contents dir.lumps) ≡ Ok (first found) → ResultIs tex_told true value (expected (lump_bytes contents dir.lumps)) result) →
-    ReadsLumps tex_told v w dir a b wants value expected result
+    ReadsLumps itself v w dir a b some first before (Ok found) → ((lump : ℕ) → some lump → wants lump) → IsOfBytes result →
+    ((contents : List (List ℕ)) → HoldContents v dir a contents → before (lump_bytes contents dir.lumps) ≡ Ok (first found) → ResultIs itself true value (expected (lump_bytes contents dir.lumps)) result) →
+    ReadsLumps itself v w dir a b wants value expected result
 tells_end expected (Ok got) one among of_bytes judged = tells_then_found got among one (λ contents t is. (judged contents t is).ok)
 tells_end expected (Err (Refused refusal)) one among of_bytes judged = tells_then_refused (Refused refusal) refusal refl among one (λ contents t is. (judged contents t is).err)
 tells_end expected (Err ReadFault) one among of_bytes judged = absurd of_bytes
@@ -58,16 +58,16 @@ lump_number lump = option_map (λ (l : LumpNo). l.0) lump
 
 module _ {A B : Type 0} {v w : ShelfView} {dir : DirectoryView} {a b : Heap} {name key : List ℕ} {value : B → A} (judge : Option (List ℕ) → Result A TexRefusal) (same : name ≡ key) where
   -- the lump was not fetched
-  pub fetch_stopped : (fetched : Result (Option LumpNo) CacheFault) (below : CacheFault) (result : Result B TexFault) → ReadsLumps cache_told v w dir a b (IsLast dir.lumps name) lump_number (λ bytes. Ok (last_of dir.lumps name)) fetched →
-      fetched ≡ Err below → IsErrAnd result (λ e. e ≡ above_cache below) → ReadsLumps tex_told v w dir a b (IsLast dir.lumps key) value (λ bytes. judge (named_bytes bytes dir.lumps key)) result
+  pub fetch_stopped : (fetched : Result (Option LumpNo) CacheFault) (below : CacheFault) (result : Result B TexFault) → ReadsLumps cache_fault v w dir a b (IsLast dir.lumps name) lump_number (λ bytes. Ok (last_of dir.lumps name)) fetched →
+      fetched ≡ Err below → IsErrAnd result (λ e. e ≡ above_cache below) → ReadsLumps itself v w dir a b (IsLast dir.lumps key) value (λ bytes. judge (named_bytes bytes dir.lumps key)) result
   fetch_stopped fetched below result one was is =
       tells_stop_first (λ bytes. judge (named_bytes bytes dir.lumps key)) (fault_above above_cache fetched) (above_cache below) result
       (tells_above no_refusal above_cache told_same fetched one) (ap (fault_above above_cache) was) is (λ lump s. ap (last_of dir.lumps) (sym same) ∙ s) (λ bytes e stopped. absurd (cc))
 
   -- the lump was fetched, if there is one
-  pub fetch_judged : (lump : Option LumpNo) (live : Option (List ℕ)) (result : Result B TexFault) → ReadsLumps cache_told v w dir a b (IsLast dir.lumps name) lump_number (λ bytes. Ok (last_of dir.lumps name)) (Ok lump) →
-      ((contents : List (List ℕ)) → HoldContents v dir a contents → live ≡ named_bytes (lump_bytes contents dir.lumps) dir.lumps name) → ResultIs tex_told true value (judge live) result → IsOfBytes result →
-      ReadsLumps tex_told v w dir a b (IsLast dir.lumps key) value (λ bytes. judge (named_bytes bytes dir.lumps key)) result
+  pub fetch_judged : (lump : Option LumpNo) (live : Option (List ℕ)) (result : Result B TexFault) → ReadsLumps cache_fault v w dir a b (IsLast dir.lumps name) lump_number (λ bytes. Ok (last_of dir.lumps name)) (Ok lump) →
+      ((contents : List (List ℕ)) → HoldContents v dir a contents → live ≡ named_bytes (lump_bytes contents dir.lumps) dir.lumps name) → ResultIs itself true value (judge live) result → IsOfBytes result →
+      ReadsLumps itself v w dir a b (IsLast dir.lumps key) value (λ bytes. judge (named_bytes bytes dir.lumps key)) result
   fetch_judged lump live result one bytes judged of_bytes =
       tells_end (λ bytes. judge (named_bytes bytes dir.lumps key)) result (tells_above no_refusal above_cache told_same (Ok lump) one) (λ lump s. ap (last_of dir.lumps) (sym same) ∙ s) of_bytes
       (λ contents t last. rw (← ap (named_bytes (lump_bytes contents dir.lumps) dir.lumps) same, ← bytes contents t) judged)

@@ -1,4 +1,5 @@
 -- What the faults of textures tell.
+use Rattle.outside.specs.Faults.{itself}
 use Rattle.std.specs.Prelude.{Result, Ok, Err, ⊤}
 use Rattle.outside.specs.declared.fault.Fault.{Fault}
 use Rattle.outside.specs.declared.fault.Fault.TheVariants.{Refused, ReadFault, ZoneFull, OutOfMemory}
@@ -8,11 +9,11 @@ use Rattle.lump_cache.specs.declared.fault.CacheFault.TheVariants.{ZoneFull as C
 use Rattle.texture_lists.specs.declared.fault.TexFault.{TexFault}
 use Rattle.texture_lists.specs.declared.fault.TexFault.TheVariants.{Refused, ReadFault, ZoneFull, OutOfMemory}
 
-abbrev pub tex_told : TexFault → Fault TexRefusal
-tex_told (Refused refusal) = Refused refusal
-tex_told ReadFault = ReadFault
-tex_told (ZoneFull wanted widest) = ZoneFull wanted widest
-tex_told OutOfMemory = OutOfMemory
+abbrev pub itself : TexFault → Fault TexRefusal
+itself (Refused refusal) = Refused refusal
+itself ReadFault = ReadFault
+itself (ZoneFull wanted widest) = ZoneFull wanted widest
+itself OutOfMemory = OutOfMemory
 
 -- a fault of the cache as one of textures
 abbrev pub above_cache : CacheFault → TexFault

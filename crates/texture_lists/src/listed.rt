@@ -1,11 +1,11 @@
 // The textures of a directory.
+ghost use Rattle.outside.specs.Faults.{itself};
 ghost use Rattle.std.specs.Prelude.{◌≡◌, ◌<◌, ◌≤◌, ℕ, length, option_map, slice_get, IfOk, IfSome, OnOk};
 ghost use Rattle.art_rules.specs.Textures.{is_no_texture, mask_of, texture_at, texture_lists, texture_number};
 ghost use Rattle.cached_lumps.specs.Calls.{ReadsLumps};
 ghost use Rattle.cached_lumps.specs.Named.{named_bytes};
 ghost use Rattle.cached_lumps.specs.Sizes.{StandsBeside};
 ghost use Rattle.texture_lists.specs.Asked.{IsListLump};
-ghost use Rattle.texture_lists.specs.Faults.{tex_told};
 
 use crate::index::{index_textures, look_up};
 use crate::load::{load_both, load_names};
@@ -73,7 +73,7 @@ impl ListedTextures {
         shelf: &mut S,
     ) -> Result<ListedTextures, TexFault>
         requires { length dir.now.lumps ≤ cache.old.lumps }
-        ensures tells { ReadsLumps tex_told (S.view shelf.old) (S.view shelf.new) dir.now cache.old cache.new (IsListLump dir.now.lumps) (λ lists. lists) (λ bytes. texture_lists (named_bytes bytes dir.now.lumps PNAMES) (named_bytes bytes dir.now.lumps TEXTURE1) (named_bytes bytes dir.now.lumps TEXTURE2)) result }
+        ensures tells { ReadsLumps itself (S.view shelf.old) (S.view shelf.new) dir.now cache.old cache.new (IsListLump dir.now.lumps) (λ lists. lists) (λ bytes. texture_lists (named_bytes bytes dir.now.lumps PNAMES) (named_bytes bytes dir.now.lumps TEXTURE1) (named_bytes bytes dir.now.lumps TEXTURE2)) result }
         ensures few { IfOk result (λ lists. length lists.textures ≤ MAX_TEXTURES) }
         ensures fits { OnOk result ((lump : ℕ) → IsListLump dir.now.lumps lump → StandsBeside dir.now.lumps cache.old lump) }
     {

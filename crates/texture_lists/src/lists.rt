@@ -2,10 +2,10 @@
 ghost use Rattle.std.specs.Prelude.{◌≡◌, ◌<◌, ◌≤◌, ◌+◌, ◌*◌, ◌^◌, None, true, false, length, IfOk, option_map};
 ghost use Rattle.word_rules.specs.Least.{or_else};
 ghost use Rattle.std.specs.Option.{option_copied};
-ghost use Rattle.outside.specs.Faults.{ResultIs};
+ghost use Rattle.outside.specs.Faults.{ResultIs, itself};
 ghost use Rattle.word_rules.specs.Listed.{listed};
 ghost use Rattle.art_rules.specs.Textures.{is_bad_list, list_count, texture_place, textures_in, wrong_record};
-ghost use Rattle.texture_lists.specs.Faults.{tex_told, IsOfBytes};
+ghost use Rattle.texture_lists.specs.Faults.{IsOfBytes};
 ghost use Rattle.texture_lists.specs.Parts.{first_part, if_sound, joined_parts, part_of, second_part};
 
 use crate::TexFault;
@@ -46,7 +46,7 @@ impl ReadList {
     #[tactic(auto, unfolding(crate::specs::Parts::joined_parts, art_rules::specs::Textures::unless_wrong))]
     pub(crate) fn joined(self, second: ReadList) -> Result<Vec<ListedTexture>, TexFault>
         requires { self.count ≤ MAX_TEXTURES }
-        ensures answers { ResultIs tex_told true (λ textures. textures.items) (joined_parts self second) result }
+        ensures answers { ResultIs itself true (λ textures. textures.items) (joined_parts self second) result }
         ensures count { IfOk result (λ textures. length textures.items ≤ length self.textures + length second.textures) }
         ensures of_bytes { IsOfBytes result }
     {
@@ -86,7 +86,7 @@ fn later_wrong(before: u32, wrong: Option<u32>) -> Option<u64>
 // What is kept of the first list, refused where it is not there or is bad as a whole.
 #[tactic(auto, unfolding(crate::specs::Parts::first_part, art_rules::specs::Textures::first_list))]
 pub(crate) fn first_part(alloc: Global, bytes: Option<&[u8]>) -> Result<ReadList, TexFault>
-    ensures answers { ResultIs tex_told true (λ part. part) (first_part (option_copied bytes.entry)) result }
+    ensures answers { ResultIs itself true (λ part. part) (first_part (option_copied bytes.entry)) result }
     ensures few { IfOk result (λ part. part.count ≤ MAX_TEXTURES) }
     ensures count { IfOk result (λ part. length part.textures ≤ part.count) }
     ensures of_bytes { IsOfBytes result }
@@ -108,7 +108,7 @@ pub(crate) fn second_part(
     bytes: Option<&[u8]>,
 ) -> Result<ReadList, TexFault>
     requires { before ≤ MAX_TEXTURES }
-    ensures answers { ResultIs tex_told true (λ part. part) (second_part before (option_copied bytes.entry)) result }
+    ensures answers { ResultIs itself true (λ part. part) (second_part before (option_copied bytes.entry)) result }
     ensures few { IfOk result (λ part. before + part.count ≤ MAX_TEXTURES) }
     ensures count { IfOk result (λ part. length part.textures ≤ part.count) }
     ensures of_bytes { IsOfBytes result }

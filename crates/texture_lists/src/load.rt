@@ -1,12 +1,12 @@
 // The lists of textures, read through the cache: PNAMES, TEXTURE1 and TEXTURE2, each fetched and then
 // judged, and of no list more than its textures kept.
+ghost use Rattle.outside.specs.Faults.{itself};
 ghost use Rattle.std.specs.Prelude.{◌≤◌, ◌+◌, ℕ, length, IfOk, OnOk};
 ghost use Rattle.art_rules.specs.Textures.{both_lists, patch_names};
 ghost use Rattle.cached_lumps.specs.Calls.{ReadsLumps};
 ghost use Rattle.cached_lumps.specs.Named.{IsLast, named_bytes};
 ghost use Rattle.cached_lumps.specs.Sizes.{StandsBeside};
 ghost use Rattle.texture_lists.specs.Asked.{IsTextureLump};
-ghost use Rattle.texture_lists.specs.Faults.{tex_told};
 ghost use Rattle.texture_lists.specs.Parts.{first_part, second_part};
 
 use crate::TexFault;
@@ -29,7 +29,7 @@ pub(crate) fn load_names<S: Shelf>(
     shelf: &mut S,
 ) -> Result<Vec<Name8>, TexFault>
     requires { length dir.now.lumps ≤ cache.old.lumps }
-    ensures tells { ReadsLumps tex_told (S.view shelf.old) (S.view shelf.new) dir.now cache.old cache.new (IsLast dir.now.lumps PNAMES) (λ names. names.items) (λ bytes. patch_names (named_bytes bytes dir.now.lumps PNAMES)) result }
+    ensures tells { ReadsLumps itself (S.view shelf.old) (S.view shelf.new) dir.now cache.old cache.new (IsLast dir.now.lumps PNAMES) (λ names. names.items) (λ bytes. patch_names (named_bytes bytes dir.now.lumps PNAMES)) result }
     ensures fits { OnOk result ((lump : ℕ) → IsLast dir.now.lumps PNAMES lump → StandsBeside dir.now.lumps cache.old lump) }
 {
     let lump = fetch_named(cache, dir, shelf, &Name8::from_bytes(PNAMES))?;
@@ -44,7 +44,7 @@ fn load_first<S: Shelf>(
     shelf: &mut S,
 ) -> Result<ReadList, TexFault>
     requires { length dir.now.lumps ≤ cache.old.lumps }
-    ensures tells { ReadsLumps tex_told (S.view shelf.old) (S.view shelf.new) dir.now cache.old cache.new (IsLast dir.now.lumps TEXTURE1) (λ part. part) (λ bytes. first_part (named_bytes bytes dir.now.lumps TEXTURE1)) result }
+    ensures tells { ReadsLumps itself (S.view shelf.old) (S.view shelf.new) dir.now cache.old cache.new (IsLast dir.now.lumps TEXTURE1) (λ part. part) (λ bytes. first_part (named_bytes bytes dir.now.lumps TEXTURE1)) result }
     ensures fits { OnOk result ((lump : ℕ) → IsLast dir.now.lumps TEXTURE1 lump → StandsBeside dir.now.lumps cache.old lump) }
     ensures few { IfOk result (λ part. part.count ≤ MAX_TEXTURES) }
     ensures count { IfOk result (λ part. length part.textures ≤ part.count) }
@@ -63,7 +63,7 @@ fn load_second<S: Shelf>(
 ) -> Result<ReadList, TexFault>
     requires slots { length dir.now.lumps ≤ cache.old.lumps }
     requires before { before ≤ MAX_TEXTURES }
-    ensures tells { ReadsLumps tex_told (S.view shelf.old) (S.view shelf.new) dir.now cache.old cache.new (IsLast dir.now.lumps TEXTURE2) (λ part. part) (λ bytes. second_part before (named_bytes bytes dir.now.lumps TEXTURE2)) result }
+    ensures tells { ReadsLumps itself (S.view shelf.old) (S.view shelf.new) dir.now cache.old cache.new (IsLast dir.now.lumps TEXTURE2) (λ part. part) (λ bytes. second_part before (named_bytes bytes dir.now.lumps TEXTURE2)) result }
     ensures fits { OnOk result ((lump : ℕ) → IsLast dir.now.lumps TEXTURE2 lump → StandsBeside dir.now.lumps cache.old lump) }
     ensures few { IfOk result (λ part. before + part.count ≤ MAX_TEXTURES) }
     ensures count { IfOk result (λ part. length part.textures ≤ part.count) }
@@ -80,7 +80,7 @@ pub(crate) fn load_both<S: Shelf>(
     shelf: &mut S,
 ) -> Result<Vec<ListedTexture>, TexFault>
     requires { length dir.now.lumps ≤ cache.old.lumps }
-    ensures tells { ReadsLumps tex_told (S.view shelf.old) (S.view shelf.new) dir.now cache.old cache.new (IsTextureLump dir.now.lumps) (λ textures. textures.items) (λ bytes. both_lists (named_bytes bytes dir.now.lumps TEXTURE1) (named_bytes bytes dir.now.lumps TEXTURE2)) result }
+    ensures tells { ReadsLumps itself (S.view shelf.old) (S.view shelf.new) dir.now cache.old cache.new (IsTextureLump dir.now.lumps) (λ textures. textures.items) (λ bytes. both_lists (named_bytes bytes dir.now.lumps TEXTURE1) (named_bytes bytes dir.now.lumps TEXTURE2)) result }
     ensures fits { OnOk result ((lump : ℕ) → IsTextureLump dir.now.lumps lump → StandsBeside dir.now.lumps cache.old lump) }
     ensures few { IfOk result (λ textures. length textures.items ≤ MAX_TEXTURES) }
 {

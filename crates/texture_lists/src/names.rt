@@ -1,9 +1,9 @@
 // The names of patches, from PNAMES. Rules: `art_rules`, Textures.
 ghost use Rattle.std.specs.Prelude.{◌≡◌, ◌<◌, ◌+◌, ◌*◌, ◌^◌, false, true, IfOk};
 ghost use Rattle.std.specs.Option.{option_copied};
-ghost use Rattle.outside.specs.Faults.{ResultIs};
+ghost use Rattle.outside.specs.Faults.{ResultIs, itself};
 ghost use Rattle.art_rules.specs.Textures.{is_short, list_count, names_in, patch_names};
-ghost use Rattle.texture_lists.specs.Faults.{tex_told, IsOfBytes};
+ghost use Rattle.texture_lists.specs.Faults.{IsOfBytes};
 
 use crate::TexFault;
 use crate::records::name_at;
@@ -32,7 +32,7 @@ pub(crate) fn is_short(size: usize, bytes: &[u8]) -> bool
 // The names of patches, refused where the lump is not there or is short.
 #[tactic(auto, unfolding(art_rules::specs::Textures::patch_names))]
 pub(crate) fn patch_names(alloc: Global, bytes: Option<&[u8]>) -> Result<Vec<Name8>, TexFault>
-    ensures answers { ResultIs tex_told true (λ names. names.items) (patch_names (option_copied bytes.entry)) result }
+    ensures answers { ResultIs itself true (λ names. names.items) (patch_names (option_copied bytes.entry)) result }
     ensures of_bytes { IsOfBytes result }
 {
     let Some(bytes) = bytes else {

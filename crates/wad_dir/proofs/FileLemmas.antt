@@ -13,15 +13,15 @@ use Rattle.lump_rules.specs.declared.wad.DirRefusal.{DirRefusal}
 use Rattle.lump_rules.specs.Wads.{header, header_in, header_refusal, entry_count, lumps_in, file_lumps, entry_refusal, file_refusal, refusal_from, lumps_from, unless_refused, directory, listing_size, listing_sizes}
 use Rattle.lump_rules.proofs.WadLemmas.{unless_refused_ok, file_lumps-length}
 use Rattle.wad_dir.specs.declared.fault.DirFault.{DirFault}
-use Rattle.wad_dir.specs.Faults.{dir_told}
+use Rattle.wad_dir.specs.Faults.{dir_fault}
 use Rattle.wad_dir.proofs.AnswerLemmas.{answers_whatever, first_stands}
 
 -- the lumps of a file whose header was passed
 pub file_answers : {B : Type 0} {value : B → List Lump} {result : Result B DirFault} (steady : Bool) (file before : ℕ) (bytes : List ℕ) (head : Header) (piece given : List ℕ) →
     unless_refused (header_refusal file before bytes) (header_in (length bytes) (header bytes)) ≡ Ok head →
     ◌≡◌ {A = Result (List ℕ) DirRefusal} (Ok (take (16 * head.count) (drop head.place bytes))) (Ok piece) → given ≡ piece →
-    ResultIs dir_told true value (unless_refused (entry_refusal file head.size (lumps_in file head.count given)) (lumps_in file head.count given)) result →
-    ResultIs dir_told steady value (unless_refused (file_refusal file before bytes) (file_lumps file bytes)) result
+    ResultIs dir_fault true value (unless_refused (entry_refusal file head.size (lumps_in file head.count given)) (lumps_in file head.count given)) result →
+    ResultIs dir_fault steady value (unless_refused (file_refusal file before bytes) (file_lumps file bytes)) result
 unfolding file_lumps
 file_answers {value} {result} steady file before bytes head piece given e p q answers =
     let fine = unless_refused_ok (header_refusal file before bytes) (header_in (length bytes) (header bytes)) head e in
@@ -60,17 +60,17 @@ first_stop contents i lumps steady told lt so_far h =
 -- a file has stopped the walk
 pub file_stops : {B D : Type 0} {later : Bool} {v : D → List Lump} {part : Result D DirFault} {value : B → List Lump} (steady : Bool) (contents : List (List ℕ)) (i : ℕ) (lumps : List Lump) (fault : DirFault) (result : Result B DirFault) →
     i < length contents → IsReadTo contents i lumps → later ≡ steady →
-    ResultIs dir_told later v (unless_refused (file_refusal i (length lumps) (get_or contents i [])) (file_lumps i (get_or contents i []))) part → part ≡ Err fault →
-    IsErrAnd result (λ e. e ≡ fault) → ResultIs dir_told steady value (directory contents) result
+    ResultIs dir_fault later v (unless_refused (file_refusal i (length lumps) (get_or contents i [])) (file_lumps i (get_or contents i []))) part → part ≡ Err fault →
+    IsErrAnd result (λ e. e ≡ fault) → ResultIs dir_fault steady value (directory contents) result
 file_stops {B} {D} {later} {v} {part} {value} steady contents i lumps fault result lt so_far s answers was is =
     let p : (y : DirFault) × (result ≡ Err y) × (y ≡ fault) = err_from_is_err_and result is in
-    let h : FaultFits later (unless_refused (file_refusal i (length lumps) (get_or contents i [])) (file_lumps i (get_or contents i []))) (dir_told fault) = rw was at answers.err in
-    let k : FaultFits later (directory contents) (dir_told p.0) = rw p.2 (first_stop contents i lumps later (dir_told fault) lt so_far h) in
+    let h : FaultFits later (unless_refused (file_refusal i (length lumps) (get_or contents i [])) (file_lumps i (get_or contents i []))) (dir_fault fault) = rw was at answers.err in
+    let k : FaultFits later (directory contents) (dir_fault p.0) = rw p.2 (first_stop contents i lumps later (dir_fault fault) lt so_far h) in
     rw (p.1, ← s) (record { ok = tt; err = k })
 
 -- all files were read
 pub all_read : {B : Type 0} {value : B → List Lump} (steady : Bool) (contents : List (List ℕ)) (i : ℕ) (found : B) → length contents ≤ i →
-    IsReadTo contents i (value found) → ResultIs dir_told steady value (directory contents) (Ok found)
+    IsReadTo contents i (value found) → ResultIs dir_fault steady value (directory contents) (Ok found)
 unfolding refusal_from lumps_from
 all_read {B} {value} steady contents i found le so_far = record {
   ok = rw (so_far.refusals, so_far.listed, drop_all i contents le, append-nil) refl;

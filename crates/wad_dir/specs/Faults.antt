@@ -5,7 +5,7 @@ use Rattle.lump_rules.specs.declared.wad.DirRefusal.{DirRefusal}
 use Rattle.wad_dir.specs.declared.fault.DirFault.{DirFault}
 use Rattle.wad_dir.specs.declared.fault.DirFault.TheVariants.{Refused, ReadFault, OutOfMemory}
 
-abbrev pub dir_told : DirFault → Fault DirRefusal
-dir_told (Refused refusal) = Refused refusal
-dir_told ReadFault = ReadFault
-dir_told OutOfMemory = OutOfMemory
+abbrev pub dir_fault : DirFault → Fault DirRefusal
+dir_fault (Refused refusal) = Refused refusal
+dir_fault ReadFault = ReadFault
+dir_fault OutOfMemory = OutOfMemory

@@ -7,7 +7,7 @@ ghost use Rattle.lump_rules.specs.Wads.{directory, listing_sizes};
 ghost use Rattle.lump_rules.specs.Lookups.{lump_at, last_of, flat_of, map_of, members};
 ghost use Rattle.lump_rules.specs.Contents.{AllWithin};
 ghost use Rattle.lump_rules.specs.declared.names.Group.TheVariants.{Sprites};
-ghost use Rattle.wad_dir.specs.Faults.{dir_told};
+ghost use Rattle.wad_dir.specs.Faults.{dir_fault};
 
 use crate::DirFault;
 use crate::index::{index_flats, index_names, list_sprites, look_up};
@@ -74,13 +74,13 @@ impl Directory {
         files: &[FileNo],
     ) -> Result<Directory, DirFault>
         ensures answers { (contents : List (List ℕ)) → NameFiles (S.view shelf.old) files.now contents →
-            ResultIs dir_told (S.view shelf.old).steady (λ dir. dir.lumps) (directory contents) result }
+            ResultIs dir_fault (S.view shelf.old).steady (λ dir. dir.lumps) (directory contents) result }
         ensures files { IfOk result (λ dir. dir.files ≡ files.now) }
         ensures within { (contents : List (List ℕ)) → NameFiles (S.view shelf.old) files.now contents →
             IfOk result (λ dir. AllWithin contents dir.lumps) }
         ensures count { IfOk result (λ dir. length dir.lumps < 2 ^ 16) }
         ensures follows { IsLaterShelf (S.view shelf.old) (S.view shelf.new) }
-        ensures causes { HasCauses dir_told (S.view shelf.old).faults (S.view shelf.new).faults result }
+        ensures causes { HasCauses dir_fault (S.view shelf.old).faults (S.view shelf.new).faults result }
         ensures taken { (contents : List (List ℕ)) → NameFiles (S.view shelf.old) files.now contents →
             (S.view shelf.new).taken ≤ (S.view shelf.old).taken + listing_sizes contents }
         ensures taken_by_count { IfOk result (λ dir.

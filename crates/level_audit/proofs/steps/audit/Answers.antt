@@ -1,3 +1,4 @@
+use Rattle.outside.specs.Faults.{itself}
 use Rattle.std.proofs.Common.{◌<◌, refl, inl, inr}
 use Rattle.outside.proofs.ShelfLemmas.{follows_then, all_stand_later}
 use Rattle.lump_rules.specs.Contents.{lump_bytes}
@@ -5,7 +6,6 @@ use Rattle.lump_rules.specs.Lookups.{lump_at}
 use Rattle.zone_rules.specs.declared.Tag.TheVariants.{Static}
 use Rattle.lump_cache.specs.Caches.{NoRoom}
 use Rattle.cached_lumps.proofs.SizeLemmas.{sizes_empty, sizes_fetched}
-use Rattle.audit_fault.specs.Faults.{audit_told}
 use Rattle.scene_rules.specs.declared.refusal.AuditRefusal.TheVariants.{Art}
 use Rattle.scene_rules.specs.Scenes.{scene_in, sizes_of}
 use Rattle.level_audit.specs.Reads.{IsFullAudit}
@@ -78,5 +78,5 @@ returns-clause-order g c = λ contents items told all k.
     let e = c.in_ok-fetch.ensures in
     let later = told_after e.follows e.faithful contents told in
     let one = (e.order items (all c.in_ok-colormap.colormap.0 (inl c.in_ok-colormap.ensures.lump)) k).1 in
-    order_after audit_told c.audit_rest.new.cache _ c.audit_rest.result one
+    order_after itself c.audit_rest.new.cache _ c.audit_rest.result one
     (c.audit_rest.ensures.tells.order items (λ lump asked. all lump (inr (asked contents later))) one.order)

@@ -1,9 +1,10 @@
+use Rattle.outside.specs.Faults.{itself}
 use Rattle.std.proofs.Common.{Bor, ℕ, List, ap, map}
 use Rattle.outside.proofs.ShelfLemmas.{all_stand_later, follows_then}
 use Rattle.command_line.specs.Scenes.{told_scene}
 use Rattle.scene_files.specs.Files.{value_of}
 use Rattle.audit_fault.specs.declared.fault.AuditFault.{AuditFault}
-use Rattle.scene_load.specs.Faults.{above_audit, load_told}
+use Rattle.scene_load.specs.Faults.{above_audit}
 use Rattle.scene_load.specs.Fulls.{IsFullLoad}
 use Rattle.scene_load.specs.Loads.{wad_contents}
 use Rattle.scene_load.proofs.FullLemmas.{load_full}
@@ -16,12 +17,12 @@ returns-in_err-files-clause-answers g c = λ files holds.
 
 pub returns-in_err-cache-clause-answers : goal.returns-in_err-cache-clause-answers
 returns-in_err-cache-clause-answers g c = λ files holds.
-    memory_agrees _ (above_audit c.in_err-cache.field-0.0) c.from_residual-in_err-cache.result (ap (λ (f : AuditFault). load_told (above_audit f)) c.in_err-cache.ensures.memory) c.from_residual-in_err-cache.ensures.1
+    memory_agrees _ (above_audit c.in_err-cache.field-0.0) c.from_residual-in_err-cache.result (ap (λ (f : AuditFault). itself (above_audit f)) c.in_err-cache.ensures.memory) c.from_residual-in_err-cache.ensures.1
 
 pub returns-in_err-cache-clause-full : goal.returns-in_err-cache-clause-full
 returns-in_err-cache-clause-full g c = λ files holds.
     memory_full (IsFullLoad (told_scene c.args.level.now) (map (λ (wad : Bor (List ℕ)). wad.now) c.args.wads.now) files) (above_audit c.in_err-cache.field-0.0) c.from_residual-in_err-cache.result
-    (ap (λ (f : AuditFault). load_told (above_audit f)) c.in_err-cache.ensures.memory) c.from_residual-in_err-cache.ensures.1
+    (ap (λ (f : AuditFault). itself (above_audit f)) c.in_err-cache.ensures.memory) c.from_residual-in_err-cache.ensures.1
 
 pub returns-in_err-scene-clause-answers : goal.returns-in_err-scene-clause-answers
 returns-in_err-scene-clause-answers g c = λ files holds.

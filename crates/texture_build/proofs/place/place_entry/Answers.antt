@@ -1,8 +1,8 @@
+use Rattle.outside.specs.Faults.{itself}
 use Rattle.std.proofs.Common.{◌≡◌, Some, ap, sym, ◌∙◌}
 use Rattle.std.specs.Prelude.{option_map}
 use Rattle.cached_lumps.proofs.CallLemmas.{tells_refused, tells_wider}
 use Rattle.art_rules.specs.declared.refusal.TexRefusal.TheVariants.{MissingPatch}
-use Rattle.texture_lists.specs.Faults.{tex_told}
 use Rattle.texture_build.specs.Asked.{patch_lump}
 use Rattle.texture_build.specs.Parts.{or_missing, step_of}
 use Rattle.texture_build.proofs.PlaceLemmas.{entry_lump, entry_missing, entry_none, entry_placed}
@@ -21,5 +21,5 @@ pub returns-in-None-clause-tells : goal.returns-in-None-clause-tells
 returns-in-None-clause-tells g c =
     let lumps = c.args.dir.now.lumps in
     let names = c.args.lists.now.names in
-    tells_refused (g.S.Shelf.view c.args.shelf.now) c.args.dir.now c.args.cache.now c.missing_patch.result (MissingPatch c.args.tex.0) (ap tex_told c.missing_patch.ensures)
+    tells_refused (g.S.Shelf.view c.args.shelf.now) c.args.dir.now c.args.cache.now c.missing_patch.result (MissingPatch c.args.tex.0) (ap itself c.missing_patch.ensures)
     (λ contents told. entry_missing _ c.args.tex.0 c.args.columns.now lumps names c.args.entry.now (entry_none lumps names c.args.entry.now c.patch_lump.result c.patch_lump.ensures.found c.in-None.is))

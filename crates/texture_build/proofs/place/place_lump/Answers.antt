@@ -1,8 +1,8 @@
+use Rattle.outside.specs.Faults.{itself}
 use Rattle.std.proofs.Common.{ap}
 use Rattle.lump_rules.specs.Contents.{lump_bytes}
 use Rattle.cached_lumps.proofs.CallLemmas.{tells_told, tells_then_refused}
 use Rattle.art_rules.specs.declared.refusal.TexRefusal.TheVariants.{MissingPatch}
-use Rattle.texture_lists.specs.Faults.{tex_told}
 use Rattle.texture_build.proofs.PlaceLemmas.{fetched_ok, lump_placed, step_made, step_missing}
 use Rattle.texture_build.proofs.place.place_lump.Goals as goal
 
@@ -17,7 +17,7 @@ returns-in-Some-clause-tells g c =
 
 pub returns-in-None-clause-tells : goal.returns-in-None-clause-tells
 returns-in-None-clause-tells g c =
-    tells_then_refused c.missing_patch.result (MissingPatch c.args.tex.0) (ap tex_told c.missing_patch.ensures) (λ lump s. s)
+    tells_then_refused c.missing_patch.result (MissingPatch c.args.tex.0) (ap itself c.missing_patch.ensures) (λ lump s. s)
     (fetched_ok c.fetch_live.result c.in_ok-fetch_live.field-0 c.fetch_live.ensures.tells c.in_ok-fetch_live.was)
     (λ contents told done. step_missing (lump_bytes contents c.args.dir.now.lumps) c.args.tex.0 c.args.entry.now c.args.lump.0 _ c.args.columns.now c.place_live.result
     (c.in_ok-fetch_live.ensures.bytes contents told) c.place_live.ensures.value c.in-None.is)

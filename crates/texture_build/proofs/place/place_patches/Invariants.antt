@@ -1,3 +1,4 @@
+use Rattle.outside.specs.Faults.{itself}
 use Rattle.std.proofs.Common.{◌<◌, length, take, Ok}
 use Rattle.std.specs.Prelude.{All, option_map}
 use Rattle.lump_rules.specs.Lookups.{last_of}
@@ -5,7 +6,6 @@ use Rattle.cached_lumps.specs.Calls.{ReadsLumps}
 use Rattle.art_rules.specs.declared.PlacedPatch.{PlacedPatch}
 use Rattle.art_rules.specs.Wanted.{placed_patches}
 use Rattle.texture_columns.specs.Seen.{AreSeen}
-use Rattle.texture_lists.specs.Faults.{tex_told}
 use Rattle.texture_build.specs.Parts.{IsEntryPatch, PatchesPart, or_missing, part_of}
 use Rattle.texture_build.proofs.place.place_patches.Given as goal
 
@@ -13,7 +13,7 @@ abbrev pub invariant-loop-entry : goal.invariant-loop-entry
 invariant-loop-entry g l =
     let so_far : PatchesPart = record { patches = l.patches.items; columns = l.columns } in
     record {
-      tells : ReadsLumps tex_told (g.S.Shelf.view l.initial.shelf) (g.S.Shelf.view l.shelf) l.dir l.initial.cache l.cache (IsEntryPatch l.dir.lumps l.lists.names l.entries) (λ (_ : Unit {0}). so_far)
+      tells : ReadsLumps itself (g.S.Shelf.view l.initial.shelf) (g.S.Shelf.view l.shelf) l.dir l.initial.cache l.cache (IsEntryPatch l.dir.lumps l.lists.names l.entries) (λ (_ : Unit {0}). so_far)
           (λ bytes. or_missing l.tex.0 (option_map (part_of bytes (length l.initial.columns)) (placed_patches (last_of l.dir.lumps) bytes l.lists.names (take l.entry-index l.entries)))) (Ok tt);
       seen : AreSeen l.patches.items l.columns;
       there : All (λ (patch : PlacedPatch). patch.lump < length l.dir.lumps) l.patches.items;

@@ -1,7 +1,7 @@
 use Rattle.std.proofs.Common.{◌≡◌, ◌∙◌, ap, sym, subst, rules, w32}
 use Rattle.std.proofs.lemmas.Int.{to_z-of_z}
 use Rattle.std.specs.Prelude.{IfErr}
-use Rattle.lump_cache.specs.Caches.{cache_told}
+use Rattle.lump_cache.specs.Caches.{cache_fault}
 use Rattle.cached_lumps.specs.Calls.{IfFull}
 use Rattle.art_rules.specs.declared.ColumnLookup.{ColumnLookup}
 use Rattle.art_rules.specs.declared.ColumnLookup.TheVariants.{Composed}
@@ -13,7 +13,7 @@ use Rattle.texture_build.proofs.ready.make_ready.Goals as goal
 
 pub returns-in-Single-clause-full : goal.returns-in-Single-clause-full
 returns-in-Single-clause-full g c =
-    subst (λ (lookup : ColumnLookup). IfErr c.fetch.result (λ fault. IfFull (cache_told fault) (IsFullFor c.args.dir.now.lumps c.args.number c.args.texture.now lookup c.args.cache.now))) (sym c.in-Single.is ∙ c.lookup.ensures.column ∙ ap (column_in c.args.texture.now) (to_z-of_z w32 c.args.col (search rules)))
+    subst (λ (lookup : ColumnLookup). IfErr c.fetch.result (λ fault. IfFull (cache_fault fault) (IsFullFor c.args.dir.now.lumps c.args.number c.args.texture.now lookup c.args.cache.now))) (sym c.in-Single.is ∙ c.lookup.ensures.column ∙ ap (column_in c.args.texture.now) (to_z-of_z w32 c.args.col (search rules)))
     (single_full c.args.dir.now.lumps c.args.number c.args.texture.now c.in-Single.lump c.in-Single.place c.args.cache.now c.fetch.result c.fetch.ensures.full c.fetch.ensures.room)
 
 pub returns-in-Composed : goal.returns-in-Composed
