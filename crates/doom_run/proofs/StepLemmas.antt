@@ -7,7 +7,7 @@ use Rattle.outside.specs.Faults.{fault_above, and_then, from_below, FaultFits, R
 use Rattle.wad_dir.specs.declared.fault.DirFault.{DirFault}
 use Rattle.wad_dir.specs.declared.fault.DirFault.TheVariants as dir
 use Rattle.wad_dir.specs.Faults.{dir_fault}
-use Rattle.cached_lumps.specs.Calls.{IfFull}
+use Rattle.lump_cache.specs.Calls.{IfFull}
 use Rattle.refusals.specs.declared.refusal.Refusal.{Refusal}
 use Rattle.refusals.specs.declared.refusal.Refusal.TheVariants.{Wad}
 use Rattle.scene_load.specs.declared.fault.LoadFault.{LoadFault}

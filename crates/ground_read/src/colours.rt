@@ -4,13 +4,13 @@
 ghost use Rattle.outside.specs.Faults.{itself};
 ghost use Rattle.std.specs.Prelude.{◌≡◌, ◌<◌, ◌≤◌, length, take, Ok, Err, IfOk, IfSome, OnOk, MatchResult, option_map};
 ghost use Rattle.lump_rules.specs.Lookups.{lump_at};
-ghost use Rattle.cached_lumps.specs.Calls.{ReadsLumps};
-ghost use Rattle.cached_lumps.specs.Sizes.{StandsBeside};
+ghost use Rattle.lump_cache.specs.Calls.{ReadsLumps};
+ghost use Rattle.lump_cache.specs.Sizes.{StandsBeside};
 ghost use Rattle.scene_rules.specs.declared.TheConstants.{PALETTE_SIZE};
 ghost use Rattle.scene_rules.specs.Scenes.{colormap_of, long_lump, playpal_of};
 
 use crate::{ArtRefusal, AuditFault};
-use cached_lumps::{fetch_live, live_lump};
+use lump_cache::{fetch_live, live_lump};
 use lump_cache::LumpCache;
 use lump_rules::Name8;
 use outside::{OutOfMemory, Shelf};

@@ -5,8 +5,8 @@
 ghost use Rattle.outside.specs.Faults.{itself};
 ghost use Rattle.std.specs.Prelude.{◌≡◌, ◌<◌, ◌≤◌, ◌+◌, ℕ, [], length, Ok, IfOk};
 ghost use Rattle.lump_rules.specs.declared.names.TheConstants.{MAP_LUMPS};
-ghost use Rattle.cached_lumps.specs.Calls.{ReadsLumps};
-ghost use Rattle.cached_lumps.specs.Sizes.{StandsBeside};
+ghost use Rattle.lump_cache.specs.Calls.{ReadsLumps};
+ghost use Rattle.lump_cache.specs.Sizes.{StandsBeside};
 ghost use Rattle.art_rules.specs.declared.TheConstants.{MAX_TEXTURES};
 ghost use Rattle.scene_rules.specs.Scenes.{colormap_of};
 ghost use Rattle.ground_read.specs.Asked.{IsOfGround, IsOfMap};

@@ -5,8 +5,8 @@ use Rattle.outside.specs.Shelf.{ShelfView}
 use Rattle.zone_rules.specs.Zones.{Heap}
 use Rattle.wad_dir.specs.DirectoryView.{DirectoryView}
 use Rattle.csv_tables.specs.declared.things.ThingLine.{ThingLine}
-use Rattle.cached_lumps.specs.Calls.{ReadsLumps}
-use Rattle.cached_lumps.proofs.CallLemmas.{tells_as, tells_more, tells_same, tells_short, tells_stop, tells_stop_first}
+use Rattle.lump_cache.specs.Calls.{ReadsLumps}
+use Rattle.lump_cache.proofs.CallLemmas.{tells_as, tells_more, tells_same, tells_short, tells_stop, tells_stop_first}
 use Rattle.audit_fault.specs.declared.fault.AuditFault.{AuditFault}
 use Rattle.audit_fault.specs.declared.fault.AuditFault.TheVariants.{OutOfMemory}
 use Rattle.scene_rules.specs.Scenes.{scene_in, scene_on}

@@ -17,9 +17,9 @@ use Rattle.lump_cache.specs.declared.fault.CacheFault.{CacheFault}
 use Rattle.lump_cache.specs.declared.fault.CacheFault.TheVariants.{ZoneFull, ReadFault}
 use Rattle.lump_cache.specs.Caches.{IsAtRest, IsFaithful, NoRoom, WhereFull}
 use Rattle.csv_tables.specs.declared.things.ThingLine.{ThingLine}
-use Rattle.cached_lumps.specs.Calls.{IfFull, InOrderAt, IsFullFor, HoldContents}
-use Rattle.cached_lumps.specs.Sizes.{HasSizes, StandsBeside}
-use Rattle.cached_lumps.proofs.CallLemmas.{full_at, order_at}
+use Rattle.lump_cache.specs.Calls.{IfFull, InOrderAt, IsFullFor, HoldContents}
+use Rattle.lump_cache.specs.Sizes.{HasSizes, StandsBeside}
+use Rattle.lump_cache.proofs.CallLemmas.{full_at, order_at}
 use Rattle.audit_fault.specs.declared.fault.AuditFault.{AuditFault}
 use Rattle.audit_fault.specs.declared.fault.AuditFault.TheVariants.{Refused}
 use Rattle.audit_fault.specs.Faults.{above_cache}

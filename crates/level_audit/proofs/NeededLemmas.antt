@@ -18,9 +18,9 @@ use Rattle.zone_rules.proofs.OrderSumLemmas.{block_least}
 use Rattle.wad_dir.specs.DirectoryView.{DirectoryView}
 use Rattle.csv_tables.specs.declared.things.ThingLine.{ThingLine}
 use Rattle.lump_cache.specs.Caches.{IsAtRest}
-use Rattle.cached_lumps.specs.Calls.{IfFull, IsFullFor, HoldContents}
-use Rattle.cached_lumps.specs.Named.{IsLast}
-use Rattle.cached_lumps.proofs.CallLemmas.{full_at}
+use Rattle.lump_cache.specs.Calls.{IfFull, IsFullFor, HoldContents}
+use Rattle.lump_cache.specs.Named.{IsLast}
+use Rattle.lump_cache.proofs.CallLemmas.{full_at}
 use Rattle.art_rules.specs.declared.TheConstants.{PNAMES, TEXTURE1, TEXTURE2}
 use Rattle.art_rules.specs.Wanted.{is_patch_of_any}
 use Rattle.texture_lists.specs.Asked.{IsListLump}

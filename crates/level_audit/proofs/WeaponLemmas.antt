@@ -5,8 +5,8 @@ use Rattle.outside.specs.Shelf.{ShelfView}
 use Rattle.lump_rules.specs.declared.wad.Lump.{Lump}
 use Rattle.zone_rules.specs.Zones.{Heap}
 use Rattle.wad_dir.specs.DirectoryView.{DirectoryView}
-use Rattle.cached_lumps.specs.Calls.{ReadsLumps}
-use Rattle.cached_lumps.proofs.CallLemmas.{fault_above, tells_above, tells_wider}
+use Rattle.lump_cache.specs.Calls.{ReadsLumps}
+use Rattle.lump_cache.proofs.CallLemmas.{fault_above, tells_above, tells_wider}
 use Rattle.csv_tables.specs.declared.weapons.WeaponRow.{WeaponRow}
 use Rattle.art_rules.specs.declared.refusal.SpriteRefusal.{SpriteRefusal}
 use Rattle.sprite_book.specs.declared.fault.SpriteFault.{SpriteFault}

@@ -7,7 +7,7 @@ use Rattle.lump_rules.specs.Lookups.{lump_at}
 use Rattle.zone_rules.specs.Zones.{Heap, block_size}
 use Rattle.wad_dir.specs.DirectoryView.{DirectoryView}
 use Rattle.csv_tables.specs.declared.things.ThingLine.{ThingLine}
-use Rattle.cached_lumps.specs.Calls.{HoldContents}
+use Rattle.lump_cache.specs.Calls.{HoldContents}
 use Rattle.scene_rules.specs.Scenes.{Ground, colormap_of, ground_in}
 use Rattle.ground_read.specs.Asked.{IsOfGround}
 use Rattle.scene_read.specs.Asked.{IsOfScene}

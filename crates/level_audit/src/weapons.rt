@@ -3,7 +3,7 @@
 // Rules: `specs/Weapons`. The original: `R_InitSpriteDefs`, r_things.c.
 ghost use Rattle.std.specs.Prelude.{◌≡◌, ◌<◌, ◌≤◌, ◌+◌, ◌++◌, ◌^◌, length, IfOk, OnErr};
 ghost use Rattle.outside.specs.Faults.{from_below, itself};
-ghost use Rattle.cached_lumps.specs.Calls.{ReadsLumps};
+ghost use Rattle.lump_cache.specs.Calls.{ReadsLumps};
 ghost use Rattle.sprite_book.specs.Calls.{IsWanted};
 ghost use Rattle.scene_rules.specs.declared.refusal.AuditRefusal.TheVariants.{WeaponArt};
 ghost use Rattle.level_audit.specs.Sound.{with_book};

@@ -13,8 +13,8 @@ use Rattle.map_lumps.specs.declared.fault.MapFault.{MapFault}
 use Rattle.map_lumps.specs.declared.fault.MapFault.TheVariants.{Refused, OutOfMemory}
 use Rattle.map_lumps.specs.Builders.{BuilderValue, with_lump}
 use Rattle.lump_cache.specs.Caches.{cache_fault}
-use Rattle.cached_lumps.specs.Calls.{ReadsLumps, HoldContents}
-use Rattle.cached_lumps.proofs.CallLemmas.{tells_same}
+use Rattle.lump_cache.specs.Calls.{ReadsLumps, HoldContents}
+use Rattle.lump_cache.proofs.CallLemmas.{tells_same}
 use Rattle.level_read.specs.declared.fault.LevelFault.{LevelFault}
 use Rattle.level_read.specs.Faults.{above_map}
 use Rattle.level_read.specs.Lumps.{lump_added}

@@ -18,8 +18,8 @@ use Rattle.map_rules.specs.Lumps.{size_refusal}
 use Rattle.map_lumps.specs.declared.fault.MapFault.{MapFault}
 use Rattle.map_lumps.specs.declared.fault.MapFault.TheVariants.{Refused, OutOfMemory}
 use Rattle.map_lumps.specs.Builders.{BuilderValue, empty_builder, with_lump, with_records}
-use Rattle.cached_lumps.specs.Calls.{ReadsLumps}
-use Rattle.cached_lumps.proofs.CallLemmas.{tells_same, tells_short, tells_then_refused, tells_as}
+use Rattle.lump_cache.specs.Calls.{ReadsLumps}
+use Rattle.lump_cache.proofs.CallLemmas.{tells_same, tells_short, tells_then_refused, tells_as}
 use Rattle.scene_rules.specs.Scenes.{label_of, level_in, map_bytes}
 use Rattle.scene_rules.specs.Sizes.{is_map_lump}
 use Rattle.level_read.specs.declared.fault.LevelFault.{LevelFault}

@@ -7,13 +7,13 @@ ghost use Rattle.std.specs.Prelude.{◌≡◌, ◌<◌, ◌≤◌, ◌+◌, ◌^
 ghost use Rattle.std.specs.List.{range_with_len};
 ghost use Rattle.map_rules.specs.Lumps.{lump_no};
 ghost use Rattle.map_lumps.specs.Builders.{all_added, empty_builder, is_added};
-ghost use Rattle.cached_lumps.specs.Calls.{ReadsLumps};
-ghost use Rattle.cached_lumps.specs.Sizes.{StandsBeside};
+ghost use Rattle.lump_cache.specs.Calls.{ReadsLumps};
+ghost use Rattle.lump_cache.specs.Sizes.{StandsBeside};
 ghost use Rattle.scene_rules.specs.Sizes.{is_map_lump};
 ghost use Rattle.level_read.specs.Lumps.{lump_added, lumps_from};
 
 use crate::LevelFault;
-use cached_lumps::{fetch_live, live_lump};
+use lump_cache::{fetch_live, live_lump};
 use lump_cache::LumpCache;
 use lump_rules::{MAP_LUMP_COUNT, MAP_LUMPS};
 use map_lumps::{LevelBuilder, MapLump};

@@ -8,7 +8,7 @@ use Rattle.zone_rules.specs.declared.Tag.TheVariants.{Static, Level, Cache}
 use Rattle.zone_rules.specs.Zones.{Owner, Holding, Block, Heap, owner_at, owned_block, bytes_of, same_owner, is_pinned, is_purgeable, holding_of, block_size}
 use Rattle.zone_rules.specs.Requests.{gaps, widest, total, TakesBlock}
 use Rattle.outside.specs.declared.fault.Fault.{Fault}
-use Rattle.outside.specs.declared.fault.Fault.TheVariants.{ZoneFull, ReadFault}
+use Rattle.outside.specs.declared.fault.Fault.TheVariants as fault
 use Rattle.lump_cache.specs.declared.fault.CacheFault.{CacheFault}
 use Rattle.lump_cache.specs.declared.fault.CacheFault.TheVariants.{ZoneFull, ReadFault}
 use Rattle.zone_rules.specs.Frees.{with_bytes, with_tag, without_block}
@@ -147,6 +147,10 @@ abbrev pub HasAsked : ℕ → Option Block → Type 0
 HasAsked size None = ⊥
 HasAsked size (Some b) = IsAsked size b.holding
 
+-- a fault of the cache as that of any layer, which refuses nothing
+abbrev pub from_cache : {R : Type 0} → CacheFault → Fault R
+from_cache (ZoneFull wanted widest) = fault.ZoneFull wanted widest
+from_cache ReadFault = fault.ReadFault
+
 abbrev pub cache_fault : CacheFault → Fault ⊥
-cache_fault (ZoneFull wanted widest) = ZoneFull wanted widest
-cache_fault ReadFault = ReadFault
+cache_fault = from_cache

@@ -1,2 +1,5 @@
 pub mod Caches
+pub mod Calls
 pub mod Lending
+pub mod Named
+pub mod Sizes

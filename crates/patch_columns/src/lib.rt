@@ -1,16 +1,25 @@
-//! The bytes of art lumps: patches and their posts, flats, colormaps and palettes.
+//! The bytes of art lumps: patches and their posts, flats, colormaps and palettes; the columns of a
+//! texture, what each is read from, and the composite of those in which several patches stand.
 //!
-//! Rules: `art_rules`, Bytes, Patches and Flats, and `shade` of `pixel_rules`. Proved: each call is
-//! its definition. Where numbers are places in bytes, they are below 2^63. No call takes memory. A
-//! patch is the field's picture lump. The original: r_data.c, r_draw.c, r_defs.h.
+//! Rules: `art_rules`, Bytes, Patches, Flats, Columns and Lookups, `shade` of `pixel_rules`, and
+//! `specs/Seen` and `specs/Composites`. Proved: each call is its definition. Where numbers are places
+//! in bytes, they are below 2^63. No call takes memory. A patch is the field's picture lump. The
+//! original: `R_GenerateLookup`, `R_GenerateComposite`, `R_DrawColumnInCache`, r_data.c; r_draw.c,
+//! r_defs.h.
 #![tactic(auto)]
 
 mod colours;
+mod compose;
+#[cfg(test)]
+mod composite_tests;
+mod lookups;
 mod posts;
 #[cfg(test)]
 mod tests;
 
 pub use art_rules::{Patch, byte_at};
 pub use colours::{flat_byte, palette_colour, shade};
+pub use compose::put_patch;
+pub use lookups::{add_patch, place_columns};
 pub use pixel_rules::Post;
 pub use posts::{column_place, next_place, post_at};

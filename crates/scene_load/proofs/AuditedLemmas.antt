@@ -7,7 +7,7 @@ use Rattle.outside.specs.declared.fault.Fault.TheVariants.{Refused, ReadFault, Z
 use Rattle.outside.specs.Faults.{ResultIs, HasCauseAt, HasCauses, FaultFits, and_then, itself}
 use Rattle.outside.proofs.StepLemmas.{step}
 use Rattle.lump_rules.specs.declared.wad.Lump.{Lump}
-use Rattle.cached_lumps.proofs.CallLemmas.{cause_later}
+use Rattle.lump_cache.proofs.CallLemmas.{cause_later}
 use Rattle.sprite_book.specs.declared.shapes.Frame.{Frame}
 use Rattle.command_line.specs.Scenes.{ToldScene}
 use Rattle.scene_files.specs.Files.{FilesValue}

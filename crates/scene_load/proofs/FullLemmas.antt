@@ -9,7 +9,7 @@ use Rattle.lump_rules.specs.Lookups.{lump_at}
 use Rattle.zone_rules.specs.declared.TheConstants.{MIN_FRAGMENT}
 use Rattle.zone_rules.specs.Zones.{Heap, block_size}
 use Rattle.lump_cache.specs.Caches.{IsAtRest, IsEmpty}
-use Rattle.cached_lumps.specs.Calls.{IfFull, IsFullFor, HoldContents}
+use Rattle.lump_cache.specs.Calls.{IfFull, IsFullFor, HoldContents}
 use Rattle.sprite_book.specs.declared.shapes.Frame.{Frame}
 use Rattle.command_line.specs.Scenes.{ToldScene}
 use Rattle.scene_files.specs.declared.read.SceneFiles.{SceneFiles}

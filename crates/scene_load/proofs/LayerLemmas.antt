@@ -6,8 +6,8 @@ use Rattle.lump_rules.specs.declared.wad.Lump.{Lump}
 use Rattle.zone_rules.specs.Zones.{Heap}
 use Rattle.wad_dir.specs.DirectoryView.{DirectoryView}
 use Rattle.csv_tables.specs.declared.weapons.WeaponRow.{WeaponRow}
-use Rattle.cached_lumps.specs.Calls.{ReadsLumps}
-use Rattle.cached_lumps.proofs.CallLemmas.{tells_as, tells_known, tells_stop_first}
+use Rattle.lump_cache.specs.Calls.{ReadsLumps}
+use Rattle.lump_cache.proofs.CallLemmas.{tells_as, tells_known, tells_stop_first}
 use Rattle.sprite_book.specs.declared.shapes.Frame.{Frame}
 use Rattle.sprite_book.specs.Calls.{IsWanted}
 use Rattle.scene_rules.specs.declared.refusal.AuditRefusal.{AuditRefusal}

@@ -10,7 +10,7 @@ use Rattle.lump_rules.specs.Contents.{AllWithin}
 use Rattle.zone_rules.specs.Zones.{Heap}
 use Rattle.wad_dir.specs.DirectoryView.{DirectoryView}
 use Rattle.lump_cache.specs.Caches.{IsFaithful}
-use Rattle.cached_lumps.specs.Calls.{IfFull, HoldContents}
+use Rattle.lump_cache.specs.Calls.{IfFull, HoldContents}
 use Rattle.command_line.specs.Scenes.{ToldScene}
 use Rattle.scene_files.specs.declared.fault.FilesFault.{FilesFault}
 use Rattle.scene_files.specs.declared.fault.FilesFault.TheVariants as files

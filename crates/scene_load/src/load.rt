@@ -9,7 +9,7 @@ ghost use Rattle.lump_rules.specs.Lookups.{lump_at};
 ghost use Rattle.zone_rules.specs.Zones.{IsZoneSize};
 ghost use Rattle.view_rules.specs.declared.TheConstants.{MIN_SIZE, MAX_SIZE};
 ghost use Rattle.lump_cache.specs.Caches.{IsAtRest, IsEmpty, IsFaithful, KeepsCounts};
-ghost use Rattle.cached_lumps.specs.Calls.{IfFull, HoldContents, ReadsLumps};
+ghost use Rattle.lump_cache.specs.Calls.{IfFull, HoldContents, ReadsLumps};
 ghost use Rattle.command_line.specs.Scenes.{told_scene};
 ghost use Rattle.scene_files.specs.Files.{files_named, value_of};
 ghost use Rattle.scene_files.specs.Stops.{ResultIsOrAbsent};

@@ -4,8 +4,8 @@ use Rattle.outside.specs.Shelf.{ShelfView}
 use Rattle.outside.specs.Faults.{ResultIs, from_below, itself}
 use Rattle.zone_rules.specs.Zones.{Heap}
 use Rattle.wad_dir.specs.DirectoryView.{DirectoryView}
-use Rattle.cached_lumps.specs.Calls.{ReadsLumps}
-use Rattle.cached_lumps.proofs.CallLemmas.{fault_above, tells_above, tells_known, tells_memory, tells_refused}
+use Rattle.lump_cache.specs.Calls.{ReadsLumps}
+use Rattle.lump_cache.proofs.CallLemmas.{result_above, tells_above, tells_known, tells_memory, tells_refused}
 use Rattle.level_rules.specs.declared.Seg.{Seg}
 use Rattle.level_rules.specs.declared.SideTextures.{SideTextures}
 use Rattle.map_rules.specs.Levels.{LevelValue}
@@ -32,13 +32,13 @@ module _ {A B : Type 0} {value : B → A} {expected : Result A SceneRefusal} (vi
   tells_answered (Err OutOfMemory) answers = tells_memory view dir z OutOfMemory refl
 
   -- in the words of an audit
-  pub tells_part : (result : Result B SceneFault) → ResultIs scene_fault true value expected result → ReadsLumps itself view view dir z z wants value (λ bytes. from_below Scene expected) (fault_above above_scene result)
+  pub tells_part : (result : Result B SceneFault) → ResultIs scene_fault true value expected result → ReadsLumps itself view view dir z z wants value (λ bytes. from_below Scene expected) (result_above above_scene result)
   tells_part result answers = tells_above Scene above_scene scene_above result (tells_answered result answers)
 
 -- the last checks, over segs and sides that are lent
 pub checks_told : (view : ShelfView) (dir : DirectoryView) (z : Heap) (wants : ℕ → Type 0) (placed : List Placed) (prepared : List (Option PreparedTexture)) (segs lent : List Seg) (sides seen : List SideTextures) (result : Result (Unit {0}) SceneFault) → lent ≡ segs → seen ≡ sides →
     ResultIs scene_fault true (λ (done : Unit {0}). done) (checked placed (bad_middle (texture_by prepared) lent seen)) result →
-    ReadsLumps itself view view dir z z wants (λ (done : Unit {0}). done) (λ bytes. from_below Scene (checked placed (bad_middle (texture_by prepared) segs sides))) (fault_above above_scene result)
+    ReadsLumps itself view view dir z z wants (λ (done : Unit {0}). done) (λ bytes. from_below Scene (checked placed (bad_middle (texture_by prepared) segs sides))) (result_above above_scene result)
 checks_told view dir z wants placed prepared segs lent sides seen result e f answers =
     tells_part view dir z wants result
     (subst (λ (s : List SideTextures). ResultIs scene_fault true (λ (done : Unit {0}). done) (checked placed (bad_middle (texture_by prepared) segs s)) result) f
@@ -46,6 +46,6 @@ checks_told view dir z wants placed prepared segs lent sides seen result e f ans
 
 -- the faces, over lists that are lent
 pub faces_told : (view : ShelfView) (dir : DirectoryView) (z : Heap) (wants : ℕ → Type 0) (name : List ℕ) (level : LevelValue) (lists lent : TextureLists) (result : Result ReadFaces SceneFault) → lent ≡ lists →
-    ResultIs scene_fault true faces_of (faces_in dir.lumps name level lent) result → ReadsLumps itself view view dir z z wants faces_of (λ bytes. from_below Scene (faces_in dir.lumps name level lists)) (fault_above above_scene result)
+    ResultIs scene_fault true faces_of (faces_in dir.lumps name level lent) result → ReadsLumps itself view view dir z z wants faces_of (λ bytes. from_below Scene (faces_in dir.lumps name level lists)) (result_above above_scene result)
 faces_told view dir z wants name level lists lent result e answers =
     tells_part view dir z wants result (subst (λ (l : TextureLists). ResultIs scene_fault true faces_of (faces_in dir.lumps name level l) result) e answers)

@@ -9,8 +9,8 @@ use Rattle.outside.specs.Faults.{from_below, itself}
 use Rattle.zone_rules.specs.Zones.{Heap}
 use Rattle.lump_rules.specs.Lookups.{last_of}
 use Rattle.wad_dir.specs.DirectoryView.{DirectoryView}
-use Rattle.cached_lumps.specs.Calls.{ReadsLumps}
-use Rattle.cached_lumps.proofs.CallLemmas.{fault_above, tells_above}
+use Rattle.lump_cache.specs.Calls.{ReadsLumps}
+use Rattle.lump_cache.proofs.CallLemmas.{result_above, tells_above}
 use Rattle.level_rules.specs.declared.SideTextures.{SideTextures}
 use Rattle.art_rules.specs.Textures.{TextureLists}
 use Rattle.art_rules.specs.Wanted.{PreparedTexture, prepared_textures}
@@ -37,7 +37,7 @@ use Rattle.audit_fault.proofs.FaultLemmas.{sprites_above, textures_above}
 pub textures_told : {B : Type 0} {v w : ShelfView} {dir : DirectoryView} {a b : Heap} {value : B → List (Option PreparedTexture)} (lists : TextureLists) (sides : List SideTextures) (sky : Option ℕ) (wanted : List TexNo) (result : Result B TexFault) →
     ((number : ℕ) → is_wanted wanted number ≡ is_wanted_texture sides sky number) →
     ReadsLumps itself v w dir a b (IsWantedPatch dir.lumps lists (is_wanted wanted)) value (λ bytes. prepared_textures (last_of dir.lumps) bytes lists (is_wanted wanted)) result →
-    ReadsLumps itself v w dir a b (IsWantedPatch dir.lumps lists (is_wanted_texture sides sky)) value (λ bytes. from_below Texture (prepared_textures (last_of dir.lumps) bytes lists (is_wanted_texture sides sky))) (fault_above above_textures result)
+    ReadsLumps itself v w dir a b (IsWantedPatch dir.lumps lists (is_wanted_texture sides sky)) value (λ bytes. from_below Texture (prepared_textures (last_of dir.lumps) bytes lists (is_wanted_texture sides sky))) (result_above above_textures result)
 textures_told lists sides sky wanted result same one =
     tells_above Texture above_textures textures_above result (tells_wanted lists (is_wanted wanted) (is_wanted_texture sides sky) result same one)
 
@@ -51,7 +51,7 @@ sides_told {v} {w} {dir} {a} {b} {value} lists sides seen sky result same one =
 -- the needed frames are those of the placed things
 pub book_told : {v w : ShelfView} {dir : DirectoryView} {a b : Heap} (placed : List Placed) (needs : List Need) (result : Result (List Frame) SpriteFault) → needs ≡ map need_of placed →
     ReadsLumps itself v w dir a b (IsWanted dir.lumps needs) (λ (book : List Frame). book) (λ bytes. each_of (frame_of bytes dir.lumps) (first_needs needs)) result →
-    ReadsLumps itself v w dir a b (IsWanted dir.lumps (map need_of placed)) (λ (book : List Frame). book) (λ bytes. from_below Sprite (book_in bytes dir.lumps placed)) (fault_above above_sprites result)
+    ReadsLumps itself v w dir a b (IsWanted dir.lumps (map need_of placed)) (λ (book : List Frame). book) (λ bytes. from_below Sprite (book_in bytes dir.lumps placed)) (result_above above_sprites result)
 unfolding book_in
 book_told {v} {w} {dir} {a} {b} placed needs result are one =
     tells_above Sprite above_sprites sprites_above result

@@ -5,7 +5,7 @@
 ghost use Rattle.std.specs.Prelude.{◌≡◌, ◌<◌, ◌≤◌, ◌⊎◌, All, length, map, option_map, IfOk, IfSome, OnOk};
 ghost use Rattle.outside.specs.Faults.{from_below, itself};
 ghost use Rattle.lump_rules.specs.Lookups.{last_of};
-ghost use Rattle.cached_lumps.specs.Calls.{ReadsLumps};
+ghost use Rattle.lump_cache.specs.Calls.{ReadsLumps};
 ghost use Rattle.art_rules.specs.Wanted.{prepared_textures};
 ghost use Rattle.texture_build.specs.Asked.{IsWantedPatch};
 ghost use Rattle.texture_build.specs.Views.{IsPrepared};

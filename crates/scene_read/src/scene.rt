@@ -4,7 +4,7 @@
 // p_setup.c, `R_PrecacheLevel`, r_data.c.
 ghost use Rattle.outside.specs.Faults.{itself};
 ghost use Rattle.std.specs.Prelude.{◌≡◌, ◌<◌, ◌≤◌, ◌⊎◌, All, length, map, IfOk, IfSome};
-ghost use Rattle.cached_lumps.specs.Calls.{ReadsLumps};
+ghost use Rattle.lump_cache.specs.Calls.{ReadsLumps};
 ghost use Rattle.texture_build.specs.Views.{IsPrepared};
 ghost use Rattle.sprite_book.specs.Calls.{IsWanted};
 ghost use Rattle.level_scene.specs.Bounds.{AreBelow};

@@ -4,7 +4,7 @@ use Rattle.std.specs.Option.{option_and_then, ok_or}
 use Rattle.outside.specs.Faults.{and_then, from_below}
 use Rattle.lump_rules.specs.declared.wad.Lump.{Lump}
 use Rattle.lump_rules.specs.Lookups.{last_of, map_of, lump_at}
-use Rattle.cached_lumps.specs.Named.{named_bytes}
+use Rattle.lump_cache.specs.Named.{named_bytes}
 use Rattle.level_rules.specs.declared.SideTextures.{SideTextures}
 use Rattle.map_rules.specs.declared.refusal.MapRefusal.{MapRefusal}
 use Rattle.map_rules.specs.declared.refusal.MapRefusal.TheVariants.{NoMap}

@@ -12,8 +12,8 @@ use Rattle.wad_dir.specs.DirectoryView.{DirectoryView}
 use Rattle.art_rules.specs.declared.patch.Patch.{Patch}
 use Rattle.art_rules.specs.declared.refusal.SpriteRefusal.{SpriteRefusal}
 use Rattle.art_rules.specs.Patches.{patch_of}
-use Rattle.cached_lumps.specs.Calls.{ReadsLumps, PreservesCache, IsFullFor, IfFull, InOrderAt}
-use Rattle.cached_lumps.proofs.CallLemmas.{keeps_none, keeps_then, told_later, full_for_earlier, cause_later, full_at, order_at, tells_at}
+use Rattle.lump_cache.specs.Calls.{ReadsLumps, PreservesCache, IsFullFor, IfFull, InOrderAt}
+use Rattle.lump_cache.proofs.CallLemmas.{keeps_none, keeps_then, told_later, full_for_earlier, cause_later, full_at, order_at, tells_at}
 use Rattle.sprite_book.specs.declared.fault.SpriteFault.{SpriteFault}
 use Rattle.sprite_book.specs.declared.fault.SpriteFault.TheVariants.{Refused, OutOfMemory}
 use Rattle.sprite_book.specs.Calls.{Reads, IsToldWith, ArePatchesOf}

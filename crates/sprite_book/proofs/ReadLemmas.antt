@@ -17,8 +17,8 @@ use Rattle.art_rules.specs.Patches.{patch_of}
 use Rattle.lump_cache.specs.declared.fault.CacheFault.{CacheFault}
 use Rattle.lump_cache.specs.declared.fault.CacheFault.TheVariants.{ZoneFull, ReadFault}
 use Rattle.lump_cache.specs.Caches.{cache_fault}
-use Rattle.cached_lumps.specs.Calls.{ReadsLumps, HoldContents}
-use Rattle.cached_lumps.proofs.CallLemmas.{tells_stop_first, tells_then_found, tells_then_refused, tells_above, fault_above}
+use Rattle.lump_cache.specs.Calls.{ReadsLumps, HoldContents}
+use Rattle.lump_cache.proofs.CallLemmas.{tells_stop_first, tells_then_found, tells_then_refused, tells_above, fault_above}
 use Rattle.sprite_book.specs.declared.fault.SpriteFault.{SpriteFault}
 use Rattle.sprite_book.specs.declared.fault.SpriteFault.TheVariants.{Refused}
 use Rattle.sprite_book.specs.Faults.{sprite_fault}

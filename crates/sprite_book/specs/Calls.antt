@@ -12,7 +12,7 @@ use Rattle.art_rules.specs.declared.patch.Patch.{Patch}
 use Rattle.art_rules.specs.declared.refusal.SpriteRefusal.{SpriteRefusal}
 use Rattle.art_rules.specs.Patches.{patch_of}
 use Rattle.art_rules.specs.Frames.{mentions}
-use Rattle.cached_lumps.specs.Calls.{PreservesCache, HoldContents, IsFullFor, IfFull, InOrderAt, HasAll}
+use Rattle.lump_cache.specs.Calls.{PreservesCache, HoldContents, IsFullFor, IfFull, InOrderAt, HasAll}
 use Rattle.sprite_book.specs.declared.fault.SpriteFault.{SpriteFault}
 use Rattle.sprite_book.specs.declared.shapes.Need.{Need}
 use Rattle.sprite_book.specs.Books.{pictures_of}

@@ -10,7 +10,7 @@ ghost use Rattle.zone_rules.specs.Zones.{block_size, bytes_of};
 ghost use Rattle.zone_rules.specs.Orders.{Item, has_item, IsInOrder, KeepsOrder};
 ghost use Rattle.art_rules.specs.Frames.{mentions};
 ghost use Rattle.lump_cache.specs.Caches.{IsFaithful, IsAtRest, KeepsCounts, lump_owner, composite_owner};
-ghost use Rattle.cached_lumps.specs.Calls.{ReadsLumps, IfFull, InOrderAt};
+ghost use Rattle.lump_cache.specs.Calls.{ReadsLumps, IfFull, InOrderAt};
 ghost use Rattle.sprite_book.specs.declared.shapes.Frame.{Frame};
 ghost use Rattle.sprite_book.specs.Books.{book_of, outlines_of, outline, frame_of, outline_of, each_of, first_needs, picked, book_lumps};
 ghost use Rattle.sprite_book.specs.Calls.{IsWanted};

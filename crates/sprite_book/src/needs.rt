@@ -3,7 +3,7 @@ ghost use Rattle.outside.specs.Faults.{itself};
 ghost use Rattle.std.specs.Prelude.{◌≡◌, ◌≤◌, [], length, map, replicate, Option, None, Ok, IfOk, OnOk};
 ghost use Rattle.art_rules.specs.declared.patch.Patch.{Patch};
 ghost use Rattle.art_rules.specs.Frames.{mentions};
-ghost use Rattle.cached_lumps.specs.Calls.{ReadsLumps};
+ghost use Rattle.lump_cache.specs.Calls.{ReadsLumps};
 ghost use Rattle.sprite_book.specs.Books.{frame_of, outline, outline_of, each_of, first_needs};
 ghost use Rattle.sprite_book.specs.Calls.{Reads, IsWanted};
 ghost use Rattle.sprite_book.specs.Indexes.{IsIndexOf, IsPlaceOf};

@@ -17,7 +17,7 @@ use Rattle.wad_dir.specs.DirectoryView.{DirectoryView}
 use Rattle.lump_cache.specs.declared.fault.CacheFault.{CacheFault}
 use Rattle.lump_cache.specs.declared.fault.CacheFault.TheVariants.{ZoneFull, ReadFault}
 use Rattle.lump_cache.specs.Caches.{HasAsked, IsAtRestExcept, KeepsCounts, NoRoom, WhereFull, cache_fault, composite_owner, lump_owner}
-use Rattle.cached_lumps.specs.Calls.{IfFull, InOrderAt, HoldContents}
+use Rattle.lump_cache.specs.Calls.{IfFull, InOrderAt, HoldContents}
 use Rattle.art_rules.specs.declared.PlacedPatch.{PlacedPatch}
 use Rattle.art_rules.specs.Wanted.{PreparedTexture}
 use Rattle.texture_build.specs.Asked.{IsSmallBeside, size_of}

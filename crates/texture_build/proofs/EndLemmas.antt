@@ -11,7 +11,7 @@ use Rattle.lump_cache.specs.Caches.{cache_fault, composite_owner, release_heap, 
 use Rattle.zone_rules.specs.declared.Tag.TheVariants.{Cache}
 use Rattle.lump_cache.proofs.FaithLemmas.{unless_static_bytes}
 use Rattle.lump_cache.proofs.OrderLemmas.{live_unless_static}
-use Rattle.cached_lumps.specs.Calls.{IfFull, InOrderAt}
+use Rattle.lump_cache.specs.Calls.{IfFull, InOrderAt}
 use Rattle.art_rules.specs.declared.ColumnLookup.TheVariants.{Composed}
 use Rattle.art_rules.specs.Wanted.{PreparedTexture}
 use Rattle.art_rules.proofs.LookupLemmas.{composite_of_first-none, composite_of_first-all}

@@ -14,7 +14,7 @@ use Rattle.lump_cache.proofs.FaithLemmas.{bytes_in}
 use Rattle.lump_cache.proofs.FillLemmas.{filled_others}
 use Rattle.lump_cache.proofs.RestButLemmas.{rest_but_written, write_pinned}
 use Rattle.lump_cache.proofs.WriteLemmas.{faithful_written}
-use Rattle.cached_lumps.proofs.FetchLemmas.{others_keep}
+use Rattle.lump_cache.proofs.FetchLemmas.{others_keep}
 use Rattle.texture_build.specs.Builds.{IsBuilding, OthersKeep}
 
 -- a block that has what was asked for is live

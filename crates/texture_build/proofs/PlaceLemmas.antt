@@ -13,8 +13,8 @@ use Rattle.wad_dir.specs.declared.directory.LumpNo.{LumpNo}
 use Rattle.lump_cache.specs.declared.fault.CacheFault.{CacheFault}
 use Rattle.lump_cache.specs.declared.fault.CacheFault.TheVariants.{ZoneFull, ReadFault}
 use Rattle.lump_cache.specs.Caches.{cache_fault}
-use Rattle.cached_lumps.specs.Calls.{ReadsLumps}
-use Rattle.cached_lumps.proofs.CallLemmas.{tells_above}
+use Rattle.lump_cache.specs.Calls.{ReadsLumps}
+use Rattle.lump_cache.proofs.CallLemmas.{tells_above}
 use Rattle.art_rules.specs.declared.patch.Patch.{Patch}
 use Rattle.art_rules.specs.declared.PlacedPatch.{PlacedPatch}
 use Rattle.art_rules.specs.declared.ColumnLookup.{ColumnLookup}
@@ -23,8 +23,8 @@ use Rattle.art_rules.specs.declared.refusal.TexRefusal.{TexRefusal}
 use Rattle.art_rules.specs.declared.refusal.TexRefusal.TheVariants.{MissingPatch}
 use Rattle.art_rules.specs.Patches.{patch_of}
 use Rattle.art_rules.specs.Wanted.{place_lump, place_patch, placed_patch, placed_patches}
-use Rattle.texture_columns.specs.Seen.{columns_with, seen_lookups}
-use Rattle.texture_columns.proofs.SeenLemmas.{columns_with-seen}
+use Rattle.patch_columns.specs.Seen.{columns_with, seen_lookups}
+use Rattle.patch_columns.proofs.SeenLemmas.{columns_with-seen}
 use Rattle.texture_lists.specs.Faults.{above_cache}
 use Rattle.texture_build.specs.Asked.{patch_lump}
 use Rattle.texture_build.specs.Parts.{PatchStep, PatchesPart, or_missing, part_of, step_of}

@@ -13,8 +13,8 @@ use Rattle.word_rules.proofs.ListedLemmas.{listed-all}
 use Rattle.lump_rules.specs.Lookups.{last_of}
 use Rattle.zone_rules.specs.Zones.{Heap}
 use Rattle.wad_dir.specs.DirectoryView.{DirectoryView}
-use Rattle.cached_lumps.specs.Calls.{ReadsLumps}
-use Rattle.cached_lumps.proofs.CallLemmas.{tells_as, tells_then_refused}
+use Rattle.lump_cache.specs.Calls.{ReadsLumps}
+use Rattle.lump_cache.proofs.CallLemmas.{tells_as, tells_then_refused}
 use Rattle.art_rules.specs.declared.TheConstants.{MAX_COMPOSITE}
 use Rattle.art_rules.specs.declared.PlacedPatch.{PlacedPatch}
 use Rattle.art_rules.specs.declared.ColumnLookup.{ColumnLookup}
@@ -25,7 +25,7 @@ use Rattle.art_rules.specs.Columns.{composite_size, patches_in}
 use Rattle.art_rules.specs.Lookups.{column_lookups, lookup_of}
 use Rattle.art_rules.specs.Textures.{Texture, TextureLists, texture_at, unlisted}
 use Rattle.art_rules.specs.Wanted.{PreparedTexture, placed_patches, prepared, prepared_from, prepared_if, prepared_textures, texture_of, unless_missing, unless_too_big}
-use Rattle.texture_columns.specs.Seen.{seen_lookup, seen_lookups}
+use Rattle.patch_columns.specs.Seen.{seen_lookup, seen_lookups}
 use Rattle.texture_lists.specs.declared.fault.TexFault.{TexFault}
 use Rattle.texture_lists.specs.declared.fault.TexFault.TheVariants.{Refused}
 use Rattle.texture_lists.specs.declared.number.TexNo.{TexNo}

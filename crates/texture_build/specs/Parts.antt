@@ -6,7 +6,7 @@ use Rattle.art_rules.specs.declared.ColumnLookup.{ColumnLookup}
 use Rattle.art_rules.specs.declared.TextureEntry.{TextureEntry}
 use Rattle.art_rules.specs.declared.refusal.TexRefusal.{TexRefusal}
 use Rattle.art_rules.specs.declared.refusal.TexRefusal.TheVariants.{MissingPatch}
-use Rattle.texture_columns.specs.Seen.{columns_with, seen_lookups}
+use Rattle.patch_columns.specs.Seen.{columns_with, seen_lookups}
 use Rattle.texture_build.specs.Asked.{patch_lump}
 
 -- refused where a patch is missing

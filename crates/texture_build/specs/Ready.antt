@@ -8,7 +8,7 @@ use Rattle.zone_rules.specs.Orders.{Item, IsInOrder, KeepsOrder}
 use Rattle.wad_dir.specs.DirectoryView.{DirectoryView}
 use Rattle.lump_cache.specs.declared.fault.CacheFault.{CacheFault}
 use Rattle.lump_cache.specs.Caches.{IsAtRest, IsFaithful, KeepsCounts, cache_fault, composite_owner}
-use Rattle.cached_lumps.specs.Calls.{IfFull, InOrderAt, HoldContents}
+use Rattle.lump_cache.specs.Calls.{IfFull, InOrderAt, HoldContents}
 use Rattle.art_rules.specs.declared.ColumnLookup.{ColumnLookup}
 use Rattle.art_rules.specs.Wanted.{PreparedTexture}
 use Rattle.texture_build.specs.Asked.{HasAsked, IsFullFor}

@@ -8,7 +8,7 @@ ghost use Rattle.lump_rules.specs.Contents.{AllWithin, lump_bytes};
 ghost use Rattle.zone_rules.specs.Zones.{IsLive, bytes_of, holding_of, owned_block};
 ghost use Rattle.zone_rules.specs.Orders.{Item, IsInOrder, KeepsOrder};
 ghost use Rattle.lump_cache.specs.Caches.{IsAtRest, IsFaithful, IsFilled, KeepsCounts, cache_fault, composite_owner, lump_owner};
-ghost use Rattle.cached_lumps.specs.Calls.{IfFull, InOrderAt, HoldContents};
+ghost use Rattle.lump_cache.specs.Calls.{IfFull, InOrderAt, HoldContents};
 ghost use Rattle.art_rules.specs.declared.ColumnLookup.TheVariants.{Composed};
 ghost use Rattle.texture_build.specs.Asked.{HasAsked, IsFullFor, size_of};
 ghost use Rattle.texture_build.specs.Builds.{StartsComposite, EndsComposite, FailsToBegin, IsBuilding, OthersKeep, PutsPatch, PutsPatches};
@@ -19,7 +19,7 @@ use crate::prepared::PreparedTexture;
 use art_rules::PlacedPatch;
 use lump_cache::{CacheFault, LumpCache};
 use outside::Shelf;
-use texture_columns::put_patch;
+use patch_columns::put_patch;
 use wad_dir::{Directory, LumpNo};
 use zone_heap::{Tag, ZoneFull};
 

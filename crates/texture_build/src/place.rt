@@ -7,21 +7,21 @@ ghost use Rattle.std.specs.Prelude.{◌≡◌, ◌<◌, ◌≤◌, ◌^◌, ◌+
 ghost use Rattle.lump_rules.specs.Lookups.{last_of};
 ghost use Rattle.zone_rules.specs.Zones.{bytes_of};
 ghost use Rattle.lump_cache.specs.Caches.{lump_owner};
-ghost use Rattle.cached_lumps.specs.Calls.{ReadsLumps};
+ghost use Rattle.lump_cache.specs.Calls.{ReadsLumps};
 ghost use Rattle.art_rules.specs.Patches.{patch_of};
 ghost use Rattle.art_rules.specs.Wanted.{place_lump, place_patch, placed_patch, placed_patches};
 ghost use Rattle.art_rules.specs.declared.PlacedPatch.{PlacedPatch};
 ghost use Rattle.art_rules.specs.declared.refusal.TexRefusal.TheVariants.{MissingPatch};
-ghost use Rattle.texture_columns.specs.Seen.{AreSeen, columns_with, seen_lookups};
+ghost use Rattle.patch_columns.specs.Seen.{AreSeen, columns_with, seen_lookups};
 ghost use Rattle.texture_lists.specs.declared.fault.TexFault.TheVariants.{Refused};
 ghost use Rattle.texture_build.specs.Asked.{patch_lump};
 ghost use Rattle.texture_build.specs.Parts.{IsEntryPatch, or_missing, part_of, step_of};
 
 use art_rules::{ColumnLookup, Patch, PlacedPatch, TexRefusal, TextureEntry};
-use cached_lumps::fetch_live;
+use lump_cache::fetch_live;
 use lump_cache::LumpCache;
 use outside::Shelf;
-use texture_columns::add_patch;
+use patch_columns::add_patch;
 use texture_lists::{ListedTextures, TexFault, TexNo};
 use wad_dir::{Directory, LumpNo};
 

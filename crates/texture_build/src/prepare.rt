@@ -4,12 +4,12 @@
 ghost use Rattle.outside.specs.Faults.{itself};
 ghost use Rattle.std.specs.Prelude.{◌≡◌, ◌<◌, ◌≤◌, ◌^◌, ◌||◌, false, true, ℕ, List, All, length, is_some, map, replicate, slice_index_or, Ok, Err, IfErr, IfOk, IfSome, IsSome};
 ghost use Rattle.lump_rules.specs.Lookups.{last_of};
-ghost use Rattle.cached_lumps.specs.Calls.{ReadsLumps};
+ghost use Rattle.lump_cache.specs.Calls.{ReadsLumps};
 ghost use Rattle.art_rules.specs.declared.ColumnLookup.TheVariants.{Empty};
 ghost use Rattle.art_rules.specs.declared.refusal.TexRefusal.TheVariants.{TooBig};
 ghost use Rattle.art_rules.specs.Textures.{texture_at};
 ghost use Rattle.art_rules.specs.Wanted.{prepared, prepared_if, prepared_textures, unless_too_big};
-ghost use Rattle.texture_columns.specs.Seen.{AreSeen, seen_lookups};
+ghost use Rattle.patch_columns.specs.Seen.{AreSeen, seen_lookups};
 ghost use Rattle.texture_lists.specs.declared.fault.TexFault.TheVariants.{Refused};
 ghost use Rattle.texture_build.specs.Asked.{IsWantedPatch};
 ghost use Rattle.texture_build.specs.Parts.{IsEntryPatch};

@@ -7,14 +7,14 @@ ghost use Rattle.art_rules.specs.declared.ColumnLookup.TheVariants.{Empty};
 ghost use Rattle.art_rules.specs.Columns.{composite_size, is_single};
 ghost use Rattle.art_rules.specs.Lookups.{AreColumnsOf, column_lookups, is_single_lookup, masked_column};
 ghost use Rattle.art_rules.specs.Textures.{mask_of};
-ghost use Rattle.texture_columns.specs.Seen.{AreSeen, seen_lookups};
+ghost use Rattle.patch_columns.specs.Seen.{AreSeen, seen_lookups};
 ghost use Rattle.texture_build.specs.Asked.{size_of};
 ghost use Rattle.texture_build.specs.Sources.{IsThere, column_in};
 ghost use Rattle.texture_build.specs.Views.{AreThere};
 
 use art_rules::{ColumnLookup, MAX_COMPOSITE, PlacedPatch};
 use std::marker::Model;
-use texture_columns::place_columns;
+use patch_columns::place_columns;
 
 // A texture with its patches as lumps, and what each of its columns is read from.
 #[derive(Drop)]

@@ -8,7 +8,7 @@ ghost use Rattle.lump_rules.specs.Contents.{AllWithin, lump_bytes};
 ghost use Rattle.zone_rules.specs.Zones.{IsLive, owned_block};
 ghost use Rattle.zone_rules.specs.Orders.{Item, IsInOrder, KeepsOrder, is_live};
 ghost use Rattle.lump_cache.specs.Caches.{IsAtRest, IsFaithful, KeepsCounts, cache_fault, composite_owner};
-ghost use Rattle.cached_lumps.specs.Calls.{IfFull, InOrderAt, HoldContents};
+ghost use Rattle.lump_cache.specs.Calls.{IfFull, InOrderAt, HoldContents};
 ghost use Rattle.art_rules.specs.declared.ColumnLookup.TheVariants.{Composed};
 ghost use Rattle.texture_build.specs.Asked.{HasAsked, IsFullFor};
 ghost use Rattle.texture_build.specs.Composites.{AreComposites};

@@ -7,10 +7,10 @@ use Rattle.zone_rules.specs.Zones.{Heap, IsLive, block_size, same_owner}
 use Rattle.wad_dir.specs.DirectoryView.{DirectoryView}
 use Rattle.wad_dir.specs.declared.directory.LumpNo.{LumpNo}
 use Rattle.lump_cache.specs.Caches.{IsAtRest, lump_owner}
-use Rattle.cached_lumps.specs.Calls.{PreservesCache}
-use Rattle.cached_lumps.specs.Named.{IsLast, live_bytes}
-use Rattle.cached_lumps.specs.Sizes.{StandsBeside}
-use Rattle.cached_lumps.proofs.SizeLemmas.{beside_earlier, beside_named}
+use Rattle.lump_cache.specs.Calls.{PreservesCache}
+use Rattle.lump_cache.specs.Named.{IsLast, live_bytes}
+use Rattle.lump_cache.specs.Sizes.{StandsBeside}
+use Rattle.lump_cache.proofs.SizeLemmas.{beside_earlier, beside_named}
 
 -- whatever a call of that outcome gives
 pub on_ok : {A E P : Type 0} (r : Result A E) → P → OnOk r P

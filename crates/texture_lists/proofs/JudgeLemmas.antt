@@ -12,9 +12,9 @@ use Rattle.wad_dir.specs.declared.directory.LumpNo.{LumpNo}
 use Rattle.lump_cache.specs.declared.fault.CacheFault.{CacheFault}
 use Rattle.lump_cache.specs.declared.fault.CacheFault.TheVariants.{ZoneFull as CacheFull, ReadFault as CacheRead}
 use Rattle.lump_cache.specs.Caches.{cache_fault}
-use Rattle.cached_lumps.specs.Calls.{ReadsLumps, HoldContents}
-use Rattle.cached_lumps.specs.Named.{IsLast, named_bytes}
-use Rattle.cached_lumps.proofs.CallLemmas.{tells_stop_first, tells_short, tells_then_refused, tells_then_found, tells_above, fault_above}
+use Rattle.lump_cache.specs.Calls.{ReadsLumps, HoldContents}
+use Rattle.lump_cache.specs.Named.{IsLast, named_bytes}
+use Rattle.lump_cache.proofs.CallLemmas.{tells_stop_first, tells_short, tells_then_refused, tells_then_found, tells_above, fault_above}
 use Rattle.art_rules.specs.declared.TheConstants.{PNAMES, TEXTURE1, TEXTURE2}
 use Rattle.art_rules.specs.declared.refusal.TexRefusal.{TexRefusal}
 use Rattle.texture_lists.specs.declared.fault.TexFault.{TexFault}

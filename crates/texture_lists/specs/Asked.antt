@@ -1,7 +1,7 @@
 -- The lumps that are asked for by name.
 use Rattle.std.specs.Prelude.{ℕ, List, ◌⊎◌}
 use Rattle.lump_rules.specs.declared.wad.Lump.{Lump}
-use Rattle.cached_lumps.specs.Named.{IsLast}
+use Rattle.lump_cache.specs.Named.{IsLast}
 use Rattle.art_rules.specs.declared.TheConstants.{PNAMES, TEXTURE1, TEXTURE2}
 
 -- a list of textures

@@ -2,9 +2,9 @@
 ghost use Rattle.outside.specs.Faults.{itself};
 ghost use Rattle.std.specs.Prelude.{◌≡◌, ◌<◌, ◌≤◌, ℕ, length, option_map, slice_get, IfOk, IfSome, OnOk};
 ghost use Rattle.art_rules.specs.Textures.{is_no_texture, mask_of, texture_at, texture_lists, texture_number};
-ghost use Rattle.cached_lumps.specs.Calls.{ReadsLumps};
-ghost use Rattle.cached_lumps.specs.Named.{named_bytes};
-ghost use Rattle.cached_lumps.specs.Sizes.{StandsBeside};
+ghost use Rattle.lump_cache.specs.Calls.{ReadsLumps};
+ghost use Rattle.lump_cache.specs.Named.{named_bytes};
+ghost use Rattle.lump_cache.specs.Sizes.{StandsBeside};
 ghost use Rattle.texture_lists.specs.Asked.{IsListLump};
 
 use crate::index::{index_textures, look_up};

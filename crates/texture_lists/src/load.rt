@@ -3,9 +3,9 @@
 ghost use Rattle.outside.specs.Faults.{itself};
 ghost use Rattle.std.specs.Prelude.{◌≤◌, ◌+◌, ℕ, length, IfOk, OnOk};
 ghost use Rattle.art_rules.specs.Textures.{both_lists, patch_names};
-ghost use Rattle.cached_lumps.specs.Calls.{ReadsLumps};
-ghost use Rattle.cached_lumps.specs.Named.{IsLast, named_bytes};
-ghost use Rattle.cached_lumps.specs.Sizes.{StandsBeside};
+ghost use Rattle.lump_cache.specs.Calls.{ReadsLumps};
+ghost use Rattle.lump_cache.specs.Named.{IsLast, named_bytes};
+ghost use Rattle.lump_cache.specs.Sizes.{StandsBeside};
 ghost use Rattle.texture_lists.specs.Asked.{IsTextureLump};
 ghost use Rattle.texture_lists.specs.Parts.{first_part, second_part};
 
@@ -14,7 +14,7 @@ use crate::lists::{ReadList, first_part, second_part};
 use crate::names::patch_names;
 use crate::records::ListedTexture;
 use art_rules::{MAX_TEXTURES, PNAMES, TEXTURE1, TEXTURE2};
-use cached_lumps::{fetch_named, live_bytes};
+use lump_cache::{fetch_named, live_bytes};
 use lump_cache::LumpCache;
 use lump_rules::Name8;
 use outside::Shelf;

@@ -1,4 +1,4 @@
-use Rattle.cached_lumps.proofs.SizeLemmas.{beside_earlier, beside_lent}
+use Rattle.lump_cache.proofs.SizeLemmas.{beside_earlier, beside_lent}
 use Rattle.ground_read.proofs.colours.read_palette.Goals as goal
 
 pub returns-clause-fits : goal.returns-clause-fits

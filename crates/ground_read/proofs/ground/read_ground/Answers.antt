@@ -1,8 +1,8 @@
 use Rattle.std.proofs.Common.{Ok, ap, inl, inr, refl, sym, ◌∙◌}
 use Rattle.outside.specs.Faults.{and_then}
 use Rattle.scene_rules.specs.declared.refusal.AuditRefusal.TheVariants.{Art}
-use Rattle.cached_lumps.proofs.CallLemmas.{tells_as, tells_refused, tells_same, tells_stop_first, tells_then}
-use Rattle.cached_lumps.proofs.SizeLemmas.{either_beside}
+use Rattle.lump_cache.proofs.CallLemmas.{tells_as, tells_refused, tells_same, tells_stop_first, tells_then}
+use Rattle.lump_cache.proofs.SizeLemmas.{either_beside}
 use Rattle.audit_fault.specs.declared.fault.AuditFault.TheVariants.{Refused}
 use Rattle.ground_read.specs.Grounds.{ground_and_palette}
 use Rattle.ground_read.proofs.GroundLemmas.{ground-stop, ground-more, playpal_beside, then_map, with_colours}

@@ -5,7 +5,7 @@ use Rattle.lump_rules.specs.Contents.{lump_bytes}
 use Rattle.lump_rules.specs.Lookups.{lump_at}
 use Rattle.zone_rules.specs.declared.Tag.TheVariants.{Static}
 use Rattle.lump_cache.specs.Caches.{NoRoom}
-use Rattle.cached_lumps.proofs.SizeLemmas.{sizes_empty, sizes_fetched}
+use Rattle.lump_cache.proofs.SizeLemmas.{sizes_empty, sizes_fetched}
 use Rattle.scene_rules.specs.declared.refusal.AuditRefusal.TheVariants.{Art}
 use Rattle.scene_rules.specs.Scenes.{scene_in, sizes_of}
 use Rattle.level_audit.specs.Reads.{IsFullAudit}

@@ -2,7 +2,7 @@ use Rattle.std.proofs.Common.{refl}
 use Rattle.map_rules.specs.Levels.{level_of}
 use Rattle.map_rules.specs.Lumps.{lump_no}
 use Rattle.scene_rules.specs.Scenes.{map_bytes}
-use Rattle.cached_lumps.proofs.CallLemmas.{tells_stop_first}
+use Rattle.lump_cache.proofs.CallLemmas.{tells_stop_first}
 use Rattle.level_read.proofs.LevelLemmas.{level_of-stop, finish_passed, finish_stopped}
 use Rattle.level_read.proofs.level.level_behind.Goals as goal
 

@@ -1,6 +1,6 @@
 use Rattle.std.proofs.Common.{ap}
 use Rattle.map_lumps.specs.Builders.{BuilderValue, with_lump}
-use Rattle.cached_lumps.proofs.SizeLemmas.{beside_earlier, beside_lent}
+use Rattle.lump_cache.proofs.SizeLemmas.{beside_earlier, beside_lent}
 use Rattle.level_read.proofs.AddLemmas.{same_bytes, add_passed, add_stopped}
 use Rattle.level_read.proofs.lumps.add_lump.Goals as goal
 

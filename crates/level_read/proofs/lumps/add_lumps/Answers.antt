@@ -1,9 +1,9 @@
 use Rattle.std.proofs.Common.{◌≡◌, ◌<◌, ◌+◌, Ok, take, sym, ap, ◌∙◌, refl, arith}
 use Rattle.map_rules.specs.declared.lumps.MapLump.TheVariants.{Things}
 use Rattle.map_lumps.specs.Builders.{BuilderValue, empty_builder}
-use Rattle.cached_lumps.specs.Sizes.{StandsBeside}
-use Rattle.cached_lumps.proofs.SizeLemmas.{beside_earlier}
-use Rattle.cached_lumps.proofs.CallLemmas.{tells_known, tells_more, tells_stop, tells_same}
+use Rattle.lump_cache.specs.Sizes.{StandsBeside}
+use Rattle.lump_cache.proofs.SizeLemmas.{beside_earlier}
+use Rattle.lump_cache.proofs.CallLemmas.{tells_known, tells_more, tells_stop, tells_same}
 use Rattle.level_read.specs.Lumps.{lumps_from}
 use Rattle.level_read.proofs.LumpLemmas.{lumps_from-none, lumps_from-next, lumps_from-stop, lumps_count, lump_numbered, next_absent, next_added, behind_label, is_behind_label, up_to_more}
 use Rattle.level_read.proofs.lumps.add_lumps.Goals as goal

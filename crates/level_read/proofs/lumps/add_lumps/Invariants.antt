@@ -1,8 +1,8 @@
 use Rattle.outside.specs.Faults.{itself}
 use Rattle.std.proofs.Common.{◌≡◌, ◌<◌, ◌≤◌, ◌+◌, ℕ, take, true, Ok}
 use Rattle.map_lumps.specs.Builders.{empty_builder}
-use Rattle.cached_lumps.specs.Calls.{ReadsLumps}
-use Rattle.cached_lumps.specs.Sizes.{StandsBeside}
+use Rattle.lump_cache.specs.Calls.{ReadsLumps}
+use Rattle.lump_cache.specs.Sizes.{StandsBeside}
 use Rattle.scene_rules.specs.Sizes.{is_map_lump}
 use Rattle.level_read.specs.Lumps.{lumps_from}
 use Rattle.level_read.proofs.LumpLemmas.{added_first}

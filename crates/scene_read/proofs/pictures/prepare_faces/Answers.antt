@@ -2,7 +2,7 @@ use Rattle.std.proofs.Common.{Ok, Err, ap, ◌∙◌}
 use Rattle.std.specs.Prelude.{option_map}
 use Rattle.outside.specs.Faults.{from_below}
 use Rattle.lump_rules.specs.Lookups.{last_of}
-use Rattle.cached_lumps.proofs.CallLemmas.{tells_same}
+use Rattle.lump_cache.proofs.CallLemmas.{tells_same}
 use Rattle.art_rules.specs.Wanted.{prepared_textures}
 use Rattle.texture_lists.specs.declared.number.TexNo.{TexNo}
 use Rattle.texture_build.specs.Views.{IsPrepared, is_wanted}

@@ -1,6 +1,6 @@
 use Rattle.std.proofs.Common.{Ok, Err, ◌∙◌}
 use Rattle.outside.specs.Faults.{from_below}
-use Rattle.cached_lumps.proofs.CallLemmas.{tells_same}
+use Rattle.lump_cache.proofs.CallLemmas.{tells_same}
 use Rattle.scene_rules.specs.declared.refusal.AuditRefusal.TheVariants.{Sprite}
 use Rattle.scene_rules.specs.Scenes.{book_in}
 use Rattle.audit_fault.specs.Faults.{above_sprites}

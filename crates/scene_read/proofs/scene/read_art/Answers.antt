@@ -1,5 +1,5 @@
 use Rattle.std.proofs.Common.{List, Ok, refl, subst, inl, inr, map}
-use Rattle.cached_lumps.proofs.CallLemmas.{tells_same, tells_short, tells_stop_first, tells_then}
+use Rattle.lump_cache.proofs.CallLemmas.{tells_same, tells_short, tells_stop_first, tells_then}
 use Rattle.sprite_book.specs.Calls.{IsWanted}
 use Rattle.scene_rules.specs.declared.Placed.{Placed}
 use Rattle.scene_rules.specs.Places.{need_of}

@@ -1,6 +1,6 @@
 use Rattle.std.proofs.Common.{◌≡◌, length, Ok, Err, refl, subst, ap, ◌∙◌}
 use Rattle.std.proofs.lemmas.Result.{IfOk-weaker}
-use Rattle.cached_lumps.proofs.CallLemmas.{tells_stop_first, tells_then}
+use Rattle.lump_cache.proofs.CallLemmas.{tells_stop_first, tells_then}
 use Rattle.art_rules.specs.Textures.{TextureLists}
 use Rattle.scene_rules.specs.Scenes.{faces_in, scene_on}
 use Rattle.audit_fault.specs.Faults.{above_scene}

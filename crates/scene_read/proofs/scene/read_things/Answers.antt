@@ -1,5 +1,5 @@
 use Rattle.std.proofs.Common.{ℕ, List, length, map, Ok, Err, refl, ap, arith}
-use Rattle.cached_lumps.proofs.CallLemmas.{tells_more, tells_same, tells_stop, tells_stop_first}
+use Rattle.lump_cache.proofs.CallLemmas.{tells_more, tells_same, tells_stop, tells_stop_first}
 use Rattle.sprite_book.specs.Calls.{IsWanted}
 use Rattle.audit_fault.specs.Faults.{above_scene}
 use Rattle.ground_read.specs.Grounds.{ground_of}

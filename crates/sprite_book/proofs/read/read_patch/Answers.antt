@@ -1,5 +1,5 @@
 use Rattle.std.proofs.Common.{arith}
-use Rattle.cached_lumps.proofs.CallLemmas.{tells_same}
+use Rattle.lump_cache.proofs.CallLemmas.{tells_same}
 use Rattle.sprite_book.specs.Books.{patch_or_bad}
 use Rattle.sprite_book.proofs.CallLemmas.{reads_known, reads_of}
 use Rattle.sprite_book.proofs.ReadLemmas.{read_before, read_kept}

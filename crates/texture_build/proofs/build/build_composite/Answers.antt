@@ -5,7 +5,7 @@ use Rattle.lump_rules.specs.Contents.{lump_bytes}
 use Rattle.lump_cache.specs.declared.fault.CacheFault.TheVariants.{ZoneFull}
 use Rattle.lump_cache.specs.Caches.{composite_owner}
 use Rattle.lump_cache.proofs.RestButLemmas.{rest_of_none}
-use Rattle.cached_lumps.specs.Calls.{HoldContents}
+use Rattle.lump_cache.specs.Calls.{HoldContents}
 use Rattle.texture_build.specs.Asked.{size_of}
 use Rattle.texture_build.specs.Builds.{StartsComposite, FailsToBegin}
 use Rattle.texture_build.proofs.FillLemmas.{building_live, others_kept, others_then}

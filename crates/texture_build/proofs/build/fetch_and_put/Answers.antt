@@ -5,7 +5,7 @@ use Rattle.zone_rules.proofs.OrderLemmas.{order_then}
 use Rattle.lump_cache.specs.Caches.{IsUnpinned, composite_owner, lump_owner}
 use Rattle.lump_cache.proofs.FaithLemmas.{bytes_in}
 use Rattle.lump_cache.proofs.RestButLemmas.{rest_but_fewer}
-use Rattle.cached_lumps.proofs.FetchLemmas.{fetch_order, live_faithful}
+use Rattle.lump_cache.proofs.FetchLemmas.{fetch_order, live_faithful}
 use Rattle.texture_build.specs.Builds.{PutsPatches}
 use Rattle.texture_build.proofs.FillLemmas.{building_same, others_kept, others_then, filled_counts, filled_rest, filled_faithful, filled_same, filled_building, filled_order, filled_bytes}
 use Rattle.texture_build.proofs.BuildLemmas.{same_error, counts_then, patch_full}

@@ -1,6 +1,6 @@
 use Rattle.std.proofs.Common.{subst, sym}
-use Rattle.texture_columns.specs.Seen.{AreSeen}
-use Rattle.texture_columns.proofs.AnyBytesLemmas.{columns_with-any}
+use Rattle.patch_columns.specs.Seen.{AreSeen}
+use Rattle.patch_columns.proofs.AnyBytesLemmas.{columns_with-any}
 use Rattle.texture_build.proofs.place.place_bytes.Goals as goal
 
 pub returns-clause-seen : goal.returns-clause-seen

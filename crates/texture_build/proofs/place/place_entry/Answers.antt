@@ -1,7 +1,7 @@
 use Rattle.outside.specs.Faults.{itself}
 use Rattle.std.proofs.Common.{◌≡◌, Some, ap, sym, ◌∙◌}
 use Rattle.std.specs.Prelude.{option_map}
-use Rattle.cached_lumps.proofs.CallLemmas.{tells_refused, tells_wider}
+use Rattle.lump_cache.proofs.CallLemmas.{tells_refused, tells_wider}
 use Rattle.art_rules.specs.declared.refusal.TexRefusal.TheVariants.{MissingPatch}
 use Rattle.texture_build.specs.Asked.{patch_lump}
 use Rattle.texture_build.specs.Parts.{or_missing, step_of}

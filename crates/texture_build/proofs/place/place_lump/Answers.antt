@@ -1,7 +1,7 @@
 use Rattle.outside.specs.Faults.{itself}
 use Rattle.std.proofs.Common.{ap}
 use Rattle.lump_rules.specs.Contents.{lump_bytes}
-use Rattle.cached_lumps.proofs.CallLemmas.{tells_told, tells_then_refused}
+use Rattle.lump_cache.proofs.CallLemmas.{tells_told, tells_then_refused}
 use Rattle.art_rules.specs.declared.refusal.TexRefusal.TheVariants.{MissingPatch}
 use Rattle.texture_build.proofs.PlaceLemmas.{fetched_ok, lump_placed, step_made, step_missing}
 use Rattle.texture_build.proofs.place.place_lump.Goals as goal

@@ -2,13 +2,13 @@ use Rattle.std.proofs.Common.{◌+◌, ◌<◌, ◌++◌, ◌∷◌, [], ℕ, Li
 use Rattle.std.specs.Prelude.{All, option_map}
 use Rattle.std.proofs.lemmas.List.Elements.{Contains-get_or, All-nil, All-push}
 use Rattle.lump_rules.specs.Lookups.{last_of}
-use Rattle.cached_lumps.proofs.CallLemmas.{tells_known, tells_more, tells_stop, tells_same, tells_short}
+use Rattle.lump_cache.proofs.CallLemmas.{tells_known, tells_more, tells_stop, tells_same, tells_short}
 use Rattle.art_rules.specs.declared.ColumnLookup.{ColumnLookup}
 use Rattle.art_rules.specs.declared.PlacedPatch.{PlacedPatch}
 use Rattle.art_rules.specs.declared.TextureEntry.{TextureEntry}
 use Rattle.art_rules.specs.Wanted.{placed_patches}
-use Rattle.texture_columns.specs.Seen.{AreSeen}
-use Rattle.texture_columns.proofs.AnyBytesLemmas.{seen_all}
+use Rattle.patch_columns.specs.Seen.{AreSeen}
+use Rattle.patch_columns.proofs.AnyBytesLemmas.{seen_all}
 use Rattle.texture_lists.specs.declared.fault.TexFault.TheVariants.{OutOfMemory}
 use Rattle.texture_build.specs.Parts.{IsEntryPatch, PatchesPart, or_missing, part_of}
 use Rattle.texture_build.proofs.PlaceLemmas.{part_none, part_push, part_stop}

@@ -2,10 +2,10 @@ use Rattle.outside.specs.Faults.{itself}
 use Rattle.std.proofs.Common.{◌<◌, length, take, Ok}
 use Rattle.std.specs.Prelude.{All, option_map}
 use Rattle.lump_rules.specs.Lookups.{last_of}
-use Rattle.cached_lumps.specs.Calls.{ReadsLumps}
+use Rattle.lump_cache.specs.Calls.{ReadsLumps}
 use Rattle.art_rules.specs.declared.PlacedPatch.{PlacedPatch}
 use Rattle.art_rules.specs.Wanted.{placed_patches}
-use Rattle.texture_columns.specs.Seen.{AreSeen}
+use Rattle.patch_columns.specs.Seen.{AreSeen}
 use Rattle.texture_build.specs.Parts.{IsEntryPatch, PatchesPart, or_missing, part_of}
 use Rattle.texture_build.proofs.place.place_patches.Given as goal
 

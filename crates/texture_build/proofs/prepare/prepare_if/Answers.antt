@@ -1,6 +1,6 @@
 use Rattle.std.proofs.Common.{Some, None}
 use Rattle.lump_rules.specs.Lookups.{last_of}
-use Rattle.cached_lumps.proofs.CallLemmas.{tells_known, tells_more, tells_nothing, tells_stop_first}
+use Rattle.lump_cache.proofs.CallLemmas.{tells_known, tells_more, tells_nothing, tells_stop_first}
 use Rattle.art_rules.specs.Textures.{texture_at}
 use Rattle.art_rules.specs.Wanted.{prepared, prepared_if}
 use Rattle.texture_build.proofs.PrepareLemmas.{if_made, if_refused, if_unwanted}

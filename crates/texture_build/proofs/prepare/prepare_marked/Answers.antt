@@ -4,7 +4,7 @@ use Rattle.std.proofs.lemmas.List.{map-append, take_more}
 use Rattle.std.proofs.lemmas.List.Elements.{All-nil, All-push}
 use Rattle.std.proofs.lemmas.Option.{slice_get-get_or}
 use Rattle.lump_rules.specs.Lookups.{last_of}
-use Rattle.cached_lumps.proofs.CallLemmas.{tells_as, tells_known, tells_more, tells_same, tells_short, tells_stop}
+use Rattle.lump_cache.proofs.CallLemmas.{tells_as, tells_known, tells_more, tells_same, tells_short, tells_stop}
 use Rattle.art_rules.specs.Textures.{texture_at, unlisted}
 use Rattle.art_rules.specs.Wanted.{PreparedTexture, prepared, prepared_from, prepared_textures}
 use Rattle.texture_lists.specs.declared.fault.TexFault.TheVariants.{OutOfMemory}

@@ -2,7 +2,7 @@ use Rattle.outside.specs.Faults.{itself}
 use Rattle.std.proofs.Common.{◌≡◌, ℕ, Option, map, take, Ok}
 use Rattle.std.specs.Prelude.{All, IfSome, is_some}
 use Rattle.lump_rules.specs.Lookups.{last_of}
-use Rattle.cached_lumps.specs.Calls.{ReadsLumps}
+use Rattle.lump_cache.specs.Calls.{ReadsLumps}
 use Rattle.art_rules.specs.Textures.{texture_at}
 use Rattle.art_rules.specs.Wanted.{PreparedTexture, prepared, prepared_from}
 use Rattle.texture_build.specs.Asked.{IsWantedPatch}

@@ -3,12 +3,12 @@ use Rattle.std.specs.Prelude.{option_map}
 use Rattle.std.proofs.lemmas.List.{length-replicate}
 use Rattle.std.proofs.lemmas.Result.{IfErr-weaker, IfOk-weaker}
 use Rattle.lump_rules.specs.Lookups.{last_of}
-use Rattle.cached_lumps.proofs.CallLemmas.{tells_stop_first}
+use Rattle.lump_cache.proofs.CallLemmas.{tells_stop_first}
 use Rattle.art_rules.specs.declared.ColumnLookup.TheVariants.{Empty}
 use Rattle.art_rules.specs.declared.refusal.TexRefusal.TheVariants.{TooBig}
 use Rattle.art_rules.specs.Textures.{texture_at}
 use Rattle.art_rules.specs.Wanted.{placed_patches, prepared}
-use Rattle.texture_columns.specs.Seen.{seen_lookups}
+use Rattle.patch_columns.specs.Seen.{seen_lookups}
 use Rattle.texture_build.specs.Parts.{IsEntryPatch, PatchesPart, or_missing, part_of}
 use Rattle.texture_build.proofs.MarkLemmas.{same_front}
 use Rattle.texture_build.proofs.PrepareLemmas.{empty_seen, tells_bound, texture_is, texture_missing, texture_seen}

@@ -1,7 +1,7 @@
 use Rattle.std.proofs.Common.{◌≡◌, ◌<◌, ℕ, Ok, length, refl, sym, subst, ap, ◌∙◌}
 use Rattle.std.specs.Prelude.{All, IsSome, is_some}
 use Rattle.std.proofs.lemmas.List.{length-map}
-use Rattle.cached_lumps.proofs.CallLemmas.{tells_more, tells_nothing, tells_same, tells_short, tells_stop_first}
+use Rattle.lump_cache.proofs.CallLemmas.{tells_more, tells_nothing, tells_same, tells_short, tells_stop_first}
 use Rattle.lump_rules.specs.Lookups.{last_of}
 use Rattle.art_rules.specs.Wanted.{prepared_textures}
 use Rattle.texture_lists.specs.declared.fault.TexFault.TheVariants.{OutOfMemory}

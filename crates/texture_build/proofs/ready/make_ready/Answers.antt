@@ -2,7 +2,7 @@ use Rattle.std.proofs.Common.{◌≡◌, ◌∙◌, ap, sym, subst, rules, w32}
 use Rattle.std.proofs.lemmas.Int.{to_z-of_z}
 use Rattle.std.specs.Prelude.{IfErr}
 use Rattle.lump_cache.specs.Caches.{cache_fault}
-use Rattle.cached_lumps.specs.Calls.{IfFull}
+use Rattle.lump_cache.specs.Calls.{IfFull}
 use Rattle.art_rules.specs.declared.ColumnLookup.{ColumnLookup}
 use Rattle.art_rules.specs.declared.ColumnLookup.TheVariants.{Composed}
 use Rattle.texture_build.specs.Asked.{IsFullFor}

@@ -1,6 +1,6 @@
 use Rattle.std.proofs.Common.{ap}
 use Rattle.lump_rules.specs.Lookups.{last_of}
-use Rattle.cached_lumps.proofs.CallLemmas.{tells_more, tells_nothing, tells_stop_first}
+use Rattle.lump_cache.proofs.CallLemmas.{tells_more, tells_nothing, tells_stop_first}
 use Rattle.art_rules.specs.Wanted.{prepared_textures}
 use Rattle.texture_build.specs.Views.{TexturesView, is_wanted}
 use Rattle.texture_build.proofs.PrepareLemmas.{tells_lists}

@@ -1,0 +1,58 @@
+-- Laws of the rows of a column while one post is put there byte by byte.
+use Rattle.std.proofs.Common.{◌≡◌, ℕ, ◌+◌, ◌-◌, ◌<◌, ◌≢◌, ℤ, Bool, true, false, cond, ◌&&◌, List, [], ◌∷◌, length, get_or, set, Some, None, unwrap_or, refl, ◌∙◌, arith, get_or-set_same, get_or-set_other, inl, inr}
+use Rattle.std.specs.Prelude.{nat_le, nat_lt}
+use Rattle.std.proofs.lemmas.Bool.{cases_eq}
+use Rattle.std.proofs.lemmas.Bool.Decides.{nat_tests}
+use Rattle.word_rules.specs.Least.{or_else}
+use Rattle.word_rules.proofs.ListedLemmas.{listed-all}
+use Rattle.pixel_rules.specs.declared.Post.{Post}
+use Rattle.art_rules.specs.Bytes.{byte_at}
+use Rattle.art_rules.specs.Columns.{put_count, first_row, is_put_at, put_byte, last_put}
+use Rattle.patch_columns.specs.Composites.{placed_post, row_with, with_posts}
+
+-- each byte of a post that is put has a row
+pub put_count-room : (height len first count k : ℕ) (row : ℤ) → first ≡ first_row row → count ≡ put_count height row len → k < count → first + k < height
+unfolding put_count
+put_count-room height len first count k row f e h = omega arith
+
+pub put_count-bytes : (height len count k : ℕ) (row : ℤ) → count ≡ put_count height row len → k < count → k < len
+unfolding put_count
+put_count-bytes height len count k row e h = omega arith
+
+-- row v once the first k bytes of a post are put from row first on
+unfoldable pub row_so_far : List ℕ → ℕ → ℕ → ℕ → List ℕ → ℕ → ℕ
+row_so_far bytes from first k old v =
+    cond (nat_le first v && nat_lt v (first + k)) (byte_at bytes (from + (v - first))) (get_or old v 0)
+
+pub row_so_far-none : (bytes : List ℕ) (from first v : ℕ) (old : List ℕ) → get_or old v 0 ≡ row_so_far bytes from first 0 old v
+unfolding row_so_far
+row_so_far-none bytes from first v old =
+    let off : (nat_le first v && nat_lt v (first + 0)) ≡ false = grind (arith, nat_tests) in rw off
+
+other_row : (first k v : ℕ) → v ≢ first + k → (nat_le first v && nat_lt v (first + k)) ≡ (nat_le first v && nat_lt v (first + (k + 1)))
+other_row first k v ne = grind (arith, nat_tests)
+
+this_row : (first k v : ℕ) → v ≡ first + k → (nat_le first v && nat_lt v (first + (k + 1))) ≡ true
+this_row first k v e = grind (arith, nat_tests)
+
+-- one byte more
+pub row_so_far-more : (bytes : List ℕ) (from first k byte v : ℕ) (old column : List ℕ) → byte ≡ byte_at bytes (from + k) → first + k < length column → get_or column v 0 ≡ row_so_far bytes from first k old v → get_or (set column (first + k) byte) v 0 ≡ row_so_far bytes from first (k + 1) old v
+unfolding row_so_far
+row_so_far-more bytes from first k byte v old column b l h =
+    elim (cases_eq v (first + k)) [
+      | inl e ↦
+          let d : v - first ≡ k = omega arith in
+          rw (this_row first k v e, d, e, get_or-set_same) b
+      | inr ne ↦ rw (get_or-set_other, ← other_row first k v ne) h
+    ]
+
+choice : (b : Bool) (x y : ℕ) → cond b x y ≡ unwrap_or (or_else None (cond b (Some x) None)) y
+choice true x y = refl
+choice false x y = refl
+
+-- all bytes of a post that are put
+pub row_so_far-all : (bytes : List ℕ) (row : ℤ) (post : Post) (first count : ℕ) (old column : List ℕ) → first ≡ first_row row → count ≡ put_count (length old) row post.length → length column ≡ length old → ((v : ℕ) → get_or column v 0 ≡ row_so_far bytes post.first first count old v) → column ≡ with_posts old (placed_post row post bytes ∷ [])
+unfolding row_so_far with_posts row_with last_put is_put_at put_byte placed_post
+row_so_far-all bytes row post first count old column f n l h =
+    listed-all (row_with old (placed_post row post bytes ∷ [])) column (length old) 0 l
+    (λ v s. rw (← f, ← n) (h v ∙ choice (nat_le first v && nat_lt v (first + count)) (byte_at bytes (post.first + (v - first))) (get_or old v 0)))

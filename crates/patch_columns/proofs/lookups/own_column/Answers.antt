@@ -1,0 +1,10 @@
+use Rattle.std.proofs.Common.{arith}
+use Rattle.std.proofs.lemmas.Int.{ints, to_z-of_z}
+use Rattle.patch_columns.proofs.SeenLemmas.{own_column-first, own_column-last}
+use Rattle.patch_columns.proofs.lookups.own_column.Goals as goal
+
+pub overflow_cast-result : goal.overflow_cast-result
+overflow_cast-result c =
+    let first = own_column-first c.args.x c.args.patch c.requires in
+    let last = own_column-last c.args.x c.args.patch c.requires in
+    grind (arith, ints, to_z-of_z)

@@ -1,8 +1,0 @@
-use Rattle.std.proofs.Common.{rules}
-use Rattle.texture_columns.proofs.SeenLemmas.{column_place-fits}
-use Rattle.texture_columns.proofs.lookups.lookup_behind.Goals as goal
-
-pub overflow_cast-result : goal.overflow_cast-result
-overflow_cast-result c =
-    let fits = column_place-fits c.args.lump.now c.own_column.result c.type_inv.lump in
-    search rules
