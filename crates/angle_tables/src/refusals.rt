@@ -10,15 +10,18 @@ ghost use Rattle.view_rules.specs.declared.TheConstants.{SINES, TANGENTS, SLOPE_
 use crate::columns::first_seen_by;
 use crate::lists::AngleLists;
 use std::alloc::AllocError;
+use thiserror::Error;
 use view_rules::{
     EDGE_TANGENT, FINE_AHEAD, MAX_EDGE_TANGENT, MAX_SINE, MAX_SLOPE_ANGLE, MIN_EDGE_TANGENT,
     TablesRefusal, ViewShape,
 };
 
 /// Why there are no tables: the file is refused, or out of memory.
-#[derive(Debug, Drop)]
+#[derive(Debug, Drop, Error)]
 pub enum TablesFault {
+    #[error("{0}")]
     Refused(TablesRefusal),
+    #[error("out of memory")]
     OutOfMemory,
 }
 

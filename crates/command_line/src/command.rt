@@ -2,6 +2,7 @@
 
 use lump_rules::Name8;
 use std::alloc::AllocError;
+use thiserror::Error;
 
 /// What frames are written as.
 #[derive(Clone, Copy, Debug, PartialEq, Eq)]
@@ -83,10 +84,12 @@ pub enum Command<'a> {
 }
 
 /// Why there is no command.
-#[derive(Clone, Copy, Debug, PartialEq, Eq)]
+#[derive(Clone, Copy, Debug, PartialEq, Eq, Error)]
 pub enum CommandFault {
     /// The words are no command.
+    #[error("the words are no command")]
     Usage,
+    #[error("out of memory")]
     OutOfMemory,
 }
 

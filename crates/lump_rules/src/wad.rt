@@ -1,5 +1,6 @@
 // What the directory of WAD files holds, and why it is refused.
 use crate::Name8;
+use thiserror::Error;
 
 /// The bytes of a file's header: four letters, the count of entries and the directory's offset.
 pub const HEADER_SIZE: usize = 12;
@@ -49,14 +50,18 @@ pub struct Header {
 /// and `index` that of an entry in the file's directory.
 ///
 /// The original: `W_AddFile`, w_wad.c, which ends the program at `NotWad` and looks for no other.
-#[derive(Clone, Copy, Debug, PartialEq, Eq)]
+#[derive(Clone, Copy, Debug, PartialEq, Eq, Error)]
 pub enum DirRefusal {
     /// The file does not begin with `IWAD` or `PWAD`.
+    #[error("WAD {file} does not begin with IWAD or PWAD")]
     NotWad { file: u64 },
     /// The file has no whole header, or its directory passes the file's end.
+    #[error("WAD {file} ends before its header or its directory does")]
     Short { file: u64 },
     /// A lump of at least one byte passes the file's end.
+    #[error("WAD {file} ends before the lump of directory entry {index} does")]
     Entry { file: u64, index: u64 },
     /// The files have more than `MAX_LUMPS` entries.
+    #[error("the WADs list more than {most} lumps", most = MAX_LUMPS)]
     TooMany,
 }

@@ -1,14 +1,17 @@
 // Why there is no level.
 use map_rules::MapRefusal;
 use std::alloc::{AllocError, AllocFailed};
+use thiserror::Error;
 
 /// Why `LevelBuilder` does not take a lump, or gives no level.
 ///
 /// - `Refused`: the map's bytes are refused, for the reason given.
 /// - `OutOfMemory`: there is not enough memory. It says nothing of the bytes.
-#[derive(Clone, Copy, Debug, PartialEq, Eq, Drop)]
+#[derive(Clone, Copy, Debug, PartialEq, Eq, Drop, Error)]
 pub enum MapFault {
+    #[error("{0}")]
     Refused(MapRefusal),
+    #[error("out of memory")]
     OutOfMemory,
 }
 

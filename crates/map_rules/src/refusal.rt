@@ -1,4 +1,7 @@
 // What is refused of a map.
+use crate::MAX_RECORDS;
+use level_rules::MAX_DEPTH;
+use thiserror::Error;
 
 /// What is wrong with a map, the first of these in their order.
 ///
@@ -13,25 +16,47 @@
 /// - `TooDeep`: the node is reached, and more than `MAX_DEPTH` deep.
 ///
 /// This project's own: the original checks none of this.
-#[derive(Clone, Copy, Debug, PartialEq, Eq)]
+#[derive(Clone, Copy, Debug, PartialEq, Eq, Error)]
 pub enum MapRefusal {
+    #[error("no WAD has the map's label with the eight lumps THINGS to SECTORS behind it")]
     NoMap,
+    #[error("{name} has more than {most} records", name = lump_name(*.lump), most = MAX_RECORDS)]
     Size {
         lump: u64,
     },
+    #[error("SSECTORS has no record")]
     NoLeaf,
+    #[error("{name} record {record_no}: field {field} names nothing that is there", name = lump_name(*.lump))]
     Index {
         lump: u64,
         record_no: u64,
         field: u64,
     },
+    #[error("SSECTORS record {leaf} has no seg")]
     EmptyLeaf {
         leaf: u64,
     },
+    #[error("NODES record {node} is reached a second time from the root")]
     NodeTwice {
         node: u64,
     },
+    #[error("NODES record {node} is more than {most} deep", most = MAX_DEPTH)]
     TooDeep {
         node: u64,
     },
+}
+
+// The name of the map lump of a number.
+fn lump_name(lump: u64) -> &'static str
+{
+    match lump {
+        0 => "THINGS",
+        1 => "LINEDEFS",
+        2 => "SIDEDEFS",
+        3 => "VERTEXES",
+        4 => "SEGS",
+        5 => "SSECTORS",
+        6 => "NODES",
+        _ => "SECTORS",
+    }
 }

@@ -10,9 +10,11 @@ ghost use Rattle.outside.specs.MemorySink.{SinkInMemory, fault_at, passed, faile
 use crate::{Failed, OutOfMemory, Sink};
 use std::alloc::Global;
 use std::marker::Model;
+use thiserror::Error;
 
 /// The put of the number `call` appends at most `passed` bytes of its piece, and fails.
-#[derive(Clone, Copy, Debug, PartialEq, Eq)]
+#[derive(Clone, Copy, Debug, PartialEq, Eq, Error)]
+#[error("put {call} fails after {passed} bytes")]
 pub struct PutFault {
     pub call: u64,
     pub passed: usize,

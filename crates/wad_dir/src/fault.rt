@@ -5,13 +5,17 @@ ghost use Rattle.wad_dir.specs.declared.fault.DirFault.TheVariants.{Refused, Rea
 use lump_rules::DirRefusal;
 use outside::Failed;
 use std::alloc::{AllocError, AllocFailed};
+use thiserror::Error;
 
 /// What stops the loading of a directory: the bytes of the files, a read that failed, or want of
 /// memory.
-#[derive(Clone, Copy, Debug, PartialEq, Eq)]
+#[derive(Clone, Copy, Debug, PartialEq, Eq, Error)]
 pub enum DirFault {
+    #[error("{0}")]
     Refused(DirRefusal),
+    #[error("a WAD is absent or could not be read")]
     ReadFault,
+    #[error("out of memory")]
     OutOfMemory,
 }
 
