@@ -6,8 +6,8 @@ use Rattle.command_line.specs.Commands.{Told, command_of}
 use Rattle.command_line.specs.Scenes.{ToldScene}
 use Rattle.command_line.specs.declared.command.SceneJob.{SceneJob}
 use Rattle.command_line.specs.declared.command.SceneJob.TheVariants.{Render, Audit, Limits, Trim, Trace}
-use Rattle.scene_files.specs.Stops as files
-use Rattle.scene_files.specs.Stops.{no_file}
+use Rattle.scene_load.specs.Stops as files
+use Rattle.scene_load.specs.Stops.{no_file}
 use Rattle.refusals.specs.declared.refusal.Refusal.{Refusal}
 use Rattle.scene_load.specs.Fulls.{IsFullLoad}
 use Rattle.scene_load.specs.Loads.{LoadedValue, load_in, loaded_sizes}

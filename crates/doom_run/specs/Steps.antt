@@ -1,7 +1,7 @@
 -- The first step that stops a run, and what a fault says of it.
 use Rattle.std.specs.Prelude.{◌≡◌, Bool, IsTrue, Option, Some, None, Result, Ok, Err, IfOk, IfErr}
 use Rattle.refusals.specs.declared.refusal.Refusal.{Refusal}
-use Rattle.scene_files.specs.Stops as files
+use Rattle.scene_load.specs.Stops as files
 use Rattle.doom_run.specs.declared.fault.Fault.{Fault}
 use Rattle.doom_run.specs.declared.fault.Fault.TheVariants.{Refused, ReadFault, OutOfMemory}
 

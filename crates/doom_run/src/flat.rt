@@ -19,7 +19,7 @@ use crate::status::Status;
 use crate::tiling::tile;
 use crate::{Refusal, SceneRefusal};
 use frame_writer::{FRAME_BYTES, PALETTE_BYTES, put_ppm};
-use ground_read::find_playpal;
+use level_audit::find_playpal;
 use outside::{FileNo, Shelf, Sink};
 use std::alloc::Global;
 use wad_dir::{Directory, LumpNo, Name8};

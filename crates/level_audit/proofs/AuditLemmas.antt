@@ -7,15 +7,15 @@ use Rattle.wad_dir.specs.DirectoryView.{DirectoryView}
 use Rattle.csv_tables.specs.declared.things.ThingLine.{ThingLine}
 use Rattle.lump_cache.specs.Calls.{ReadsLumps}
 use Rattle.lump_cache.proofs.CallLemmas.{tells_as, tells_more, tells_same, tells_short, tells_stop, tells_stop_first}
-use Rattle.audit_fault.specs.declared.fault.AuditFault.{AuditFault}
-use Rattle.audit_fault.specs.declared.fault.AuditFault.TheVariants.{OutOfMemory}
+use Rattle.level_audit.specs.declared.fault.AuditFault.{AuditFault}
+use Rattle.level_audit.specs.declared.fault.AuditFault.TheVariants.{OutOfMemory}
 use Rattle.scene_rules.specs.Scenes.{scene_in, scene_on}
-use Rattle.ground_read.specs.declared.ground.ReadGround.{ReadGround}
-use Rattle.ground_read.specs.Asked.{IsOfGround}
-use Rattle.ground_read.specs.Grounds.{ground_and_palette, ground_of, value_of}
-use Rattle.scene_read.specs.declared.scene.ReadScene.{ReadScene}
-use Rattle.scene_read.specs.Asked.{IsOfScene}
-use Rattle.scene_read.specs.Scenes.{given_palette, scene_value}
+use Rattle.level_audit.specs.declared.ground.ReadGround.{ReadGround}
+use Rattle.level_audit.specs.Asked.{IsOfGround}
+use Rattle.level_audit.specs.Grounds.{ground_and_palette, ground_of, value_of}
+use Rattle.level_audit.specs.declared.scene.ReadScene.{ReadScene}
+use Rattle.level_audit.specs.Asked.{IsOfScene}
+use Rattle.level_audit.specs.Scenes.{given_palette, scene_value}
 use Rattle.level_audit.specs.Reads.{IsReadLater}
 use Rattle.level_audit.specs.Sound.{SoundValue}
 use Rattle.level_audit.proofs.SceneLemmas.{ground_told, scene_in-more, scene_in-stop}

@@ -20,12 +20,12 @@ use Rattle.csv_tables.specs.declared.things.ThingLine.{ThingLine}
 use Rattle.lump_cache.specs.Calls.{IfFull, InOrderAt, IsFullFor, HoldContents}
 use Rattle.lump_cache.specs.Sizes.{HasSizes, StandsBeside}
 use Rattle.lump_cache.proofs.CallLemmas.{full_at, order_at}
-use Rattle.audit_fault.specs.declared.fault.AuditFault.{AuditFault}
-use Rattle.audit_fault.specs.declared.fault.AuditFault.TheVariants.{Refused}
-use Rattle.audit_fault.specs.Faults.{above_cache}
+use Rattle.level_audit.specs.declared.fault.AuditFault.{AuditFault}
+use Rattle.level_audit.specs.declared.fault.AuditFault.TheVariants.{Refused}
+use Rattle.level_audit.specs.Faults.{above_cache}
 use Rattle.scene_rules.specs.declared.refusal.AuditRefusal.{AuditRefusal}
 use Rattle.scene_rules.specs.Scenes.{SceneValue, colormap_of}
-use Rattle.ground_read.specs.Asked.{IsOfGround}
+use Rattle.level_audit.specs.Asked.{IsOfGround}
 use Rattle.level_audit.specs.Reads.{IsFullAudit, IsReadLater}
 use Rattle.level_audit.specs.Sound.{SoundValue}
 

@@ -24,14 +24,14 @@ use Rattle.lump_cache.proofs.CallLemmas.{full_at}
 use Rattle.art_rules.specs.declared.TheConstants.{PNAMES, TEXTURE1, TEXTURE2}
 use Rattle.art_rules.specs.Wanted.{is_patch_of_any}
 use Rattle.texture_lists.specs.Asked.{IsListLump}
-use Rattle.scene_art.proofs.MarkLemmas.{any_passed}
-use Rattle.audit_fault.specs.declared.fault.AuditFault.{AuditFault}
+use Rattle.level_audit.proofs.MarkLemmas.{any_passed}
+use Rattle.level_audit.specs.declared.fault.AuditFault.{AuditFault}
 use Rattle.scene_rules.specs.Scenes.{Faces, Ground, SceneValue, art_of, book_in, colormap_of, scene_in, sizes_of}
 use Rattle.scene_rules.specs.Sides.{is_wanted_texture}
 use Rattle.scene_rules.specs.Sizes.{SceneArt, enough, greatest_by, is_last, is_list, is_map_lump, is_needed, lump_block, needed_lumps, zone_sizes}
-use Rattle.level_read.specs.Asked.{IsLumpOfMap}
-use Rattle.ground_read.specs.Asked.{IsOfGround}
-use Rattle.scene_read.specs.Asked.{IsOfArt, IsOfScene}
+use Rattle.level_scene.specs.Asked.{IsLumpOfMap}
+use Rattle.level_audit.specs.Asked.{IsOfGround}
+use Rattle.level_audit.specs.Asked.{IsOfArt, IsOfScene}
 use Rattle.level_audit.specs.Reads.{IsAfterColormap, IsOverGround, IsReadLater}
 use Rattle.level_audit.specs.Sound.{SoundValue}
 use Rattle.level_audit.proofs.NeededPatchLemmas.{wanted_patch}

@@ -15,7 +15,7 @@ use Rattle.sprite_book.specs.Books.{book_lumps}
 use Rattle.scene_rules.specs.declared.ZoneSizes.{ZoneSizes}
 use Rattle.scene_rules.specs.Scenes.{SceneValue, art_of, sizes_of}
 use Rattle.scene_rules.specs.Sizes.{enough, has_flat, is_list, is_map_lump, is_needed, needed_lumps, roomy, zone_sizes}
-use Rattle.scene_art.specs.Views.{numbers_of}
+use Rattle.level_audit.specs.Views.{numbers_of}
 use Rattle.level_audit.specs.Sound.{SoundValue, art_with, with_book}
 
 -- the test of two numbers

@@ -21,8 +21,8 @@ use Rattle.scene_rules.specs.Places.{placed_things}
 use Rattle.scene_rules.specs.Scenes.{Faces, Ground, SceneValue, book_in, checked, colormap_of, faces_in, ground_in, ground_over, if_long, label_of, level_in, lists_in, long_lump, playpal_of, scene_in, scene_on, scene_over, texture_by}
 use Rattle.scene_rules.specs.Sides.{is_wanted_texture}
 use Rattle.map_rules.specs.Levels.{level_of}
-use Rattle.ground_read.specs.Grounds.{ground_and_palette}
-use Rattle.scene_read.specs.Scenes.{given_palette}
+use Rattle.level_audit.specs.Grounds.{ground_and_palette}
+use Rattle.level_audit.specs.Scenes.{given_palette}
 
 -- a step that was passed
 pub and_then-ok : {A B R : Type 0} (r : Result A R) (next : A → Result B R) (y : B) → and_then r next ≡ Ok y → (x : A) × (r ≡ Ok x) × (next x ≡ Ok y)

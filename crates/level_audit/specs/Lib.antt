@@ -1,3 +1,8 @@
-pub mod Sound
+pub mod Asked
+pub mod Faults
+pub mod Grounds
 pub mod Reads
+pub mod Scenes
+pub mod Sound
+pub mod Views
 pub mod Weapons

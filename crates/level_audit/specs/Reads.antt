@@ -9,8 +9,8 @@ use Rattle.wad_dir.specs.DirectoryView.{DirectoryView}
 use Rattle.csv_tables.specs.declared.things.ThingLine.{ThingLine}
 use Rattle.lump_cache.specs.Calls.{HoldContents}
 use Rattle.scene_rules.specs.Scenes.{Ground, colormap_of, ground_in}
-use Rattle.ground_read.specs.Asked.{IsOfGround}
-use Rattle.scene_read.specs.Asked.{IsOfScene}
+use Rattle.level_audit.specs.Asked.{IsOfGround}
+use Rattle.level_audit.specs.Asked.{IsOfScene}
 
 -- a patch or a picture of the scene over the ground that these bytes give
 pub record IsOverGround (bytes : ℕ → List ℕ) (lumps : List Lump) (lines : List ThingLine) (name : List ℕ) (skill lump : ℕ) : Type 0 where

@@ -13,8 +13,8 @@ use Rattle.sprite_book.specs.Books.{each_of, first_needs, frame_of}
 use Rattle.scene_rules.specs.declared.refusal.AuditRefusal.TheVariants.{WeaponArt}
 use Rattle.scene_rules.specs.declared.refusal.WeaponRefusal.{WeaponRefusal}
 use Rattle.scene_rules.specs.declared.refusal.WeaponRefusal.TheVariants.{NoFrame, MissingRotation, BadPatch}
-use Rattle.audit_fault.specs.declared.fault.AuditFault.{AuditFault}
-use Rattle.audit_fault.specs.declared.fault.AuditFault.TheVariants.{Refused, ReadFault, ZoneFull, OutOfMemory}
+use Rattle.level_audit.specs.declared.fault.AuditFault.{AuditFault}
+use Rattle.level_audit.specs.declared.fault.AuditFault.TheVariants.{Refused, ReadFault, ZoneFull, OutOfMemory}
 
 -- the frame of a row, which is told by its number
 unfoldable pub need_of_row : ℕ → WeaponRow → Need

@@ -16,7 +16,7 @@ mod steps;
 mod tests;
 mod weapons;
 
-pub use audit_fault::{ArtRefusal, AuditFault, AuditRefusal, SceneRefusal, WeaponRefusal};
+pub use crate::{ArtRefusal, AuditFault, AuditRefusal, SceneRefusal, WeaponRefusal};
 pub use level_rules::{PlacedThing, SideTextures, Surface};
 pub use scene_rules::{Flat, SectorFlats, ZoneSizes};
 pub use sound::SoundScene;

@@ -3,13 +3,13 @@
 // Rules: `scene_rules`, Sizes. The original: `R_PrecacheLevel`, r_data.c, which reads them.
 ghost use Rattle.std.specs.Prelude.{◌≡◌, ◌<◌, length, IfOk};
 ghost use Rattle.scene_rules.specs.Sizes.{needed_lumps, zone_sizes};
-ghost use Rattle.scene_art.specs.Views.{numbers_of};
-ghost use Rattle.scene_read.specs.Scenes.{scene_value};
+ghost use Rattle.level_audit.specs.Views.{numbers_of};
+ghost use Rattle.level_audit.specs.Scenes.{scene_value};
 ghost use Rattle.level_audit.specs.Sound.{art_with};
 
 use outside::OutOfMemory;
-use scene_art::{NeededArt, needed_lumps, zone_sizes};
-use scene_read::ReadScene;
+use crate::{NeededArt, needed_lumps, zone_sizes};
+use crate::ReadScene;
 use scene_rules::ZoneSizes;
 use std::alloc::Global;
 use wad_dir::{Directory, LumpNo};

@@ -7,16 +7,16 @@ ghost use Rattle.scene_rules.specs.Places.{sector_at, things_of};
 ghost use Rattle.scene_rules.specs.Scenes.{art_of, sizes_of};
 ghost use Rattle.scene_rules.specs.SectorFlats.{surfaces_of};
 ghost use Rattle.scene_rules.specs.Sizes.{needed_lumps};
-ghost use Rattle.scene_art.specs.Views.{numbers_of};
-ghost use Rattle.scene_read.specs.Scenes.{scene_value};
+ghost use Rattle.level_audit.specs.Views.{numbers_of};
+ghost use Rattle.level_audit.specs.Scenes.{scene_value};
 ghost use Rattle.level_audit.specs.Sound.{middles_of, textures_view};
 
 use crate::pictures::{Needed, find_needed};
-use level_read::Level;
+use level_scene::Level;
 use level_rules::{PlacedThing, SideTextures, Surface};
 use level_scene::{make_surfaces, sector_at};
 use outside::OutOfMemory;
-use scene_read::ReadScene;
+use crate::ReadScene;
 use scene_rules::{SectorFlats, ZoneSizes};
 use sprite_book::SpriteBook;
 use std::alloc::Global;
@@ -39,8 +39,8 @@ pub struct SoundScene {
 impl Model for SoundScene {
     ghost use Rattle.std.specs.Prelude.{◌≡◌, length};
     ghost use Rattle.scene_rules.specs.SectorFlats.{surfaces_of};
-    ghost use Rattle.scene_read.specs.Scenes.{scene_value};
-    ghost use Rattle.scene_art.specs.Views.{numbers_of};
+    ghost use Rattle.level_audit.specs.Scenes.{scene_value};
+    ghost use Rattle.level_audit.specs.Views.{numbers_of};
     ghost use Rattle.level_audit.specs.Sound.{SoundValue, middles_of};
 
     ghost Value = { SoundValue };

@@ -15,16 +15,16 @@ ghost use Rattle.lump_cache.specs.Calls.{IfFull, InOrderAt, HoldContents, ReadsL
 ghost use Rattle.lump_cache.specs.Sizes.{HasSizes, StandsBeside};
 ghost use Rattle.scene_rules.specs.Scenes.{SceneValue, art_of, colormap_of, scene_in, sizes_of};
 ghost use Rattle.scene_rules.specs.Sizes.{needed_lumps};
-ghost use Rattle.ground_read.specs.Asked.{IsOfGround};
+ghost use Rattle.level_audit.specs.Asked.{IsOfGround};
 ghost use Rattle.level_audit.specs.Reads.{IsFullAudit, IsReadBy, IsReadLater};
 
 use crate::{AuditFault, SoundScene};
 use csv_tables::ThingTable;
-use ground_read::{find_colormap, read_ground};
+use crate::{find_colormap, read_ground};
 use lump_cache::LumpCache;
 use lump_rules::Name8;
 use outside::Shelf;
-use scene_read::read_scene;
+use crate::read_scene;
 use std::alloc::Global;
 use wad_dir::{Directory, LumpNo};
 use zone_heap::Tag;

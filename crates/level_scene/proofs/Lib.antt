@@ -1,4 +1,7 @@
+pub mod AddLemmas
 pub mod GroupLemmas
 pub mod LeafLemmas
+pub mod LevelLemmas
+pub mod LumpLemmas
 pub mod PlacedLemmas
 pub mod ShadowLemmas

@@ -1,3 +1,5 @@
+pub mod Asked
 pub mod Bounds
 pub mod Faults
 pub mod Groups
+pub mod Lumps

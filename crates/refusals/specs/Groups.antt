@@ -1,6 +1,6 @@
 -- What a refusal of the files, or of an audit, is for a run.
-use Rattle.scene_files.specs.declared.fault.FilesRefusal.{FilesRefusal}
-use Rattle.scene_files.specs.declared.fault.FilesRefusal.TheVariants as files
+use Rattle.scene_load.specs.declared.fault.FilesRefusal.{FilesRefusal}
+use Rattle.scene_load.specs.declared.fault.FilesRefusal.TheVariants as files
 use Rattle.scene_rules.specs.declared.refusal.AuditRefusal.{AuditRefusal}
 use Rattle.scene_rules.specs.declared.refusal.AuditRefusal.TheVariants as audit
 use Rattle.refusals.specs.declared.refusal.Refusal.{Refusal}

@@ -6,7 +6,7 @@ use art_rules::{SpriteRefusal, TexRefusal};
 use csv_tables::CsvRefusal;
 use lump_rules::DirRefusal;
 use map_rules::MapRefusal;
-use scene_files::FilesRefusal;
+use scene_load::FilesRefusal;
 use scene_rules::{ArtRefusal, AuditRefusal, SceneRefusal, WeaponRefusal};
 use view_rules::TablesRefusal;
 

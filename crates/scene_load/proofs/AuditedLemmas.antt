@@ -10,9 +10,9 @@ use Rattle.lump_rules.specs.declared.wad.Lump.{Lump}
 use Rattle.lump_cache.proofs.CallLemmas.{cause_later}
 use Rattle.sprite_book.specs.declared.shapes.Frame.{Frame}
 use Rattle.command_line.specs.Scenes.{ToldScene}
-use Rattle.scene_files.specs.Files.{FilesValue}
+use Rattle.scene_load.specs.Files.{FilesValue}
 use Rattle.scene_rules.specs.Scenes.{SceneValue, scene_in}
-use Rattle.audit_fault.specs.declared.fault.AuditFault.{AuditFault}
+use Rattle.level_audit.specs.declared.fault.AuditFault.{AuditFault}
 use Rattle.level_audit.specs.Sound.{SoundValue, with_book}
 use Rattle.level_audit.proofs.SceneLemmas.{and_then-ok}
 use Rattle.scene_load.specs.Loads.{LoadedValue, audited_in, audited_value, weapons_of, with_layers}

@@ -12,11 +12,11 @@ use Rattle.lump_cache.specs.Caches.{IsAtRest, IsEmpty}
 use Rattle.lump_cache.specs.Calls.{IfFull, IsFullFor, HoldContents}
 use Rattle.sprite_book.specs.declared.shapes.Frame.{Frame}
 use Rattle.command_line.specs.Scenes.{ToldScene}
-use Rattle.scene_files.specs.declared.read.SceneFiles.{SceneFiles}
-use Rattle.scene_files.specs.Files.{FilesValue, files_in, value_of}
+use Rattle.scene_load.specs.declared.read.SceneFiles.{SceneFiles}
+use Rattle.scene_load.specs.Files.{FilesValue, files_in, value_of}
 use Rattle.scene_rules.specs.Scenes.{SceneValue, colormap_of, scene_in, sizes_of}
-use Rattle.audit_fault.specs.declared.fault.AuditFault.{AuditFault}
-use Rattle.audit_fault.specs.declared.fault.AuditFault.TheVariants.{Refused, ReadFault, ZoneFull, OutOfMemory}
+use Rattle.level_audit.specs.declared.fault.AuditFault.{AuditFault}
+use Rattle.level_audit.specs.declared.fault.AuditFault.TheVariants.{Refused, ReadFault, ZoneFull, OutOfMemory}
 use Rattle.level_audit.specs.Reads.{IsFullAudit}
 use Rattle.level_audit.specs.Sound.{SoundValue}
 use Rattle.level_audit.proofs.SceneLemmas.{colormap_there, same_value}

@@ -12,7 +12,7 @@ use Rattle.sprite_book.specs.declared.shapes.Frame.{Frame}
 use Rattle.sprite_book.specs.Calls.{IsWanted}
 use Rattle.scene_rules.specs.declared.refusal.AuditRefusal.{AuditRefusal}
 use Rattle.scene_rules.specs.declared.refusal.AuditRefusal.TheVariants.{WeaponArt}
-use Rattle.audit_fault.specs.declared.fault.AuditFault.{AuditFault}
+use Rattle.level_audit.specs.declared.fault.AuditFault.{AuditFault}
 use Rattle.level_audit.specs.Weapons.{weapon_book, weapon_needs}
 use Rattle.scene_load.specs.Fulls.{IsOfLayers}
 use Rattle.scene_load.specs.Loads.{weapons_of}

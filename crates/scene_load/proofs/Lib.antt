@@ -1,5 +1,11 @@
+pub mod AcceptedLemmas
 pub mod AuditedLemmas
-pub mod LayerLemmas
-pub mod MoreLemmas
+pub mod CheckLemmas
+pub mod FoundLemmas
 pub mod FullLemmas
+pub mod LayerLemmas
+pub mod LengthLemmas
 pub mod LoadLemmas
+pub mod MoreLemmas
+pub mod StopLemmas
+pub mod WadLemmas

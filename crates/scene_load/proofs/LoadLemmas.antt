@@ -12,15 +12,15 @@ use Rattle.wad_dir.specs.DirectoryView.{DirectoryView}
 use Rattle.lump_cache.specs.Caches.{IsFaithful}
 use Rattle.lump_cache.specs.Calls.{IfFull, HoldContents}
 use Rattle.command_line.specs.Scenes.{ToldScene}
-use Rattle.scene_files.specs.declared.fault.FilesFault.{FilesFault}
-use Rattle.scene_files.specs.declared.fault.FilesFault.TheVariants as files
-use Rattle.scene_files.specs.Files.{FilesValue, files_in, files_named}
-use Rattle.scene_files.specs.Stops.{Stop, ResultIsOrAbsent, StopsAt}
-use Rattle.scene_files.proofs.AcceptedLemmas.{wads_accepted}
-use Rattle.scene_files.proofs.StopLemmas.{all_passed, no_file_agrees, step_stops_above}
+use Rattle.scene_load.specs.declared.fault.FilesFault.{FilesFault}
+use Rattle.scene_load.specs.declared.fault.FilesFault.TheVariants as files
+use Rattle.scene_load.specs.Files.{FilesValue, files_in, files_named}
+use Rattle.scene_load.specs.Stops.{Stop, ResultIsOrAbsent, StopsAt}
+use Rattle.scene_load.proofs.AcceptedLemmas.{wads_accepted}
+use Rattle.scene_load.proofs.StopLemmas.{all_passed, no_file_agrees, step_stops_above}
 use Rattle.scene_rules.specs.declared.refusal.AuditRefusal.{AuditRefusal}
-use Rattle.audit_fault.specs.declared.fault.AuditFault.{AuditFault}
-use Rattle.audit_fault.specs.declared.fault.AuditFault.TheVariants as audit
+use Rattle.level_audit.specs.declared.fault.AuditFault.{AuditFault}
+use Rattle.level_audit.specs.declared.fault.AuditFault.TheVariants as audit
 use Rattle.refusals.specs.declared.refusal.Refusal.{Refusal}
 use Rattle.refusals.specs.Groups.{of_audit, of_files}
 use Rattle.scene_load.specs.declared.fault.LoadFault.{LoadFault}

@@ -2,10 +2,10 @@
 use Rattle.outside.specs.Faults.{itself}
 use Rattle.outside.specs.declared.fault.Fault.{Fault}
 use Rattle.outside.specs.declared.fault.Fault.TheVariants.{Refused, ReadFault, ZoneFull, OutOfMemory}
-use Rattle.scene_files.specs.declared.fault.FilesFault.{FilesFault}
-use Rattle.scene_files.specs.declared.fault.FilesFault.TheVariants as files
-use Rattle.audit_fault.specs.declared.fault.AuditFault.{AuditFault}
-use Rattle.audit_fault.specs.declared.fault.AuditFault.TheVariants as audit
+use Rattle.scene_load.specs.declared.fault.FilesFault.{FilesFault}
+use Rattle.scene_load.specs.declared.fault.FilesFault.TheVariants as files
+use Rattle.level_audit.specs.declared.fault.AuditFault.{AuditFault}
+use Rattle.level_audit.specs.declared.fault.AuditFault.TheVariants as audit
 use Rattle.refusals.specs.declared.refusal.Refusal.{Refusal}
 use Rattle.refusals.specs.Groups.{of_audit, of_files}
 use Rattle.scene_load.specs.declared.fault.LoadFault.{LoadFault}

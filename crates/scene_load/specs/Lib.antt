@@ -1,3 +1,7 @@
 pub mod Faults
-pub mod Loads
+pub mod Files
+pub mod Found
 pub mod Fulls
+pub mod Lengths
+pub mod Loads
+pub mod Stops

@@ -9,9 +9,9 @@ use Rattle.csv_tables.specs.declared.weapons.WeaponRow.{WeaponRow}
 use Rattle.sprite_book.specs.declared.shapes.Frame.{Frame}
 use Rattle.sprite_book.specs.Books.{book_lumps}
 use Rattle.command_line.specs.Scenes.{ToldScene}
-use Rattle.scene_files.specs.declared.fault.FilesRefusal.{FilesRefusal}
-use Rattle.scene_files.specs.Files.{FilesValue, files_in, files_named, value_of}
-use Rattle.scene_files.specs.Stops.{Stop, no_file, stop_above}
+use Rattle.scene_load.specs.declared.fault.FilesRefusal.{FilesRefusal}
+use Rattle.scene_load.specs.Files.{FilesValue, files_in, files_named, value_of}
+use Rattle.scene_load.specs.Stops.{Stop, no_file, stop_above}
 use Rattle.scene_rules.specs.declared.ZoneSizes.{ZoneSizes}
 use Rattle.scene_rules.specs.declared.refusal.AuditRefusal.{AuditRefusal}
 use Rattle.scene_rules.specs.declared.refusal.AuditRefusal.TheVariants.{WeaponArt}

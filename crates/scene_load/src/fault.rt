@@ -4,7 +4,7 @@ ghost use Rattle.scene_load.specs.Faults.{above_audit, above_files};
 
 use level_audit::AuditFault;
 use refusals::Refusal;
-use scene_files::FilesFault;
+use crate::FilesFault;
 
 /// What stops the loading of a scene: the bytes of the files, a call of the shelf that failed, a zone
 /// without room (the size of a lump's block with its header, and the widest gap, in bytes), or want

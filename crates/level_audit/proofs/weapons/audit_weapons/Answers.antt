@@ -3,7 +3,7 @@ use Rattle.sprite_book.specs.declared.shapes.Frame.{Frame}
 use Rattle.sprite_book.specs.Books.{book_lumps}
 use Rattle.scene_rules.specs.Scenes.{SceneValue}
 use Rattle.scene_rules.specs.Sizes.{needed_lumps, zone_sizes}
-use Rattle.scene_art.specs.Views.{numbers_of}
+use Rattle.level_audit.specs.Views.{numbers_of}
 use Rattle.level_audit.specs.Sound.{art_with}
 use Rattle.level_audit.proofs.PictureLemmas.{HaveSame, books_same, with_book_is}
 use Rattle.level_audit.proofs.weapons.audit_weapons.Goals as goal

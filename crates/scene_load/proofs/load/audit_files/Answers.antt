@@ -4,7 +4,7 @@ use Rattle.lump_rules.specs.Contents.{lump_bytes}
 use Rattle.lump_rules.specs.Lookups.{lump_at}
 use Rattle.lump_cache.specs.Caches.{IsAtRest}
 use Rattle.command_line.specs.Scenes.{told_scene}
-use Rattle.scene_files.specs.Files.{value_of}
+use Rattle.scene_load.specs.Files.{value_of}
 use Rattle.scene_rules.specs.Scenes.{SceneValue}
 use Rattle.level_audit.specs.Sound.{SoundValue}
 use Rattle.level_audit.proofs.FetchLemmas.{told_after}

@@ -2,8 +2,8 @@ use Rattle.outside.specs.Faults.{itself}
 use Rattle.std.proofs.Common.{Bor, ℕ, List, ap, map}
 use Rattle.outside.proofs.ShelfLemmas.{all_stand_later, follows_then}
 use Rattle.command_line.specs.Scenes.{told_scene}
-use Rattle.scene_files.specs.Files.{value_of}
-use Rattle.audit_fault.specs.declared.fault.AuditFault.{AuditFault}
+use Rattle.scene_load.specs.Files.{value_of}
+use Rattle.level_audit.specs.declared.fault.AuditFault.{AuditFault}
 use Rattle.scene_load.specs.Faults.{above_audit}
 use Rattle.scene_load.specs.Fulls.{IsFullLoad}
 use Rattle.scene_load.specs.Loads.{wad_contents}

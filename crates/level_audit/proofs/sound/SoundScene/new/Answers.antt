@@ -1,6 +1,6 @@
 use Rattle.std.proofs.Common.{◌∙◌}
-use Rattle.scene_read.specs.Scenes.{scene_value}
-use Rattle.scene_art.specs.Views.{numbers_of}
+use Rattle.level_audit.specs.Scenes.{scene_value}
+use Rattle.level_audit.specs.Views.{numbers_of}
 use Rattle.level_audit.proofs.PictureLemmas.{needed_alone, sizes_alone}
 use Rattle.level_audit.proofs.sound.SoundScene.new.Goals as goal
 

@@ -1,2 +1,0 @@
-pub mod ColourLemmas
-pub mod GroundLemmas

@@ -1,0 +1,51 @@
+-- What is told of a part that reads no lump.
+use Rattle.std.proofs.Common.{◌≡◌, ℕ, true, List, Option, Result, Ok, Err, refl, subst}
+use Rattle.outside.specs.Shelf.{ShelfView}
+use Rattle.outside.specs.Faults.{ResultIs, from_below, itself}
+use Rattle.zone_rules.specs.Zones.{Heap}
+use Rattle.wad_dir.specs.DirectoryView.{DirectoryView}
+use Rattle.lump_cache.specs.Calls.{ReadsLumps}
+use Rattle.lump_cache.proofs.CallLemmas.{result_above, tells_above, tells_known, tells_memory, tells_refused}
+use Rattle.level_rules.specs.declared.Seg.{Seg}
+use Rattle.level_rules.specs.declared.SideTextures.{SideTextures}
+use Rattle.map_rules.specs.Levels.{LevelValue}
+use Rattle.art_rules.specs.Textures.{TextureLists}
+use Rattle.art_rules.specs.Wanted.{PreparedTexture}
+use Rattle.level_scene.specs.declared.fault.SceneFault.{SceneFault}
+use Rattle.level_scene.specs.declared.fault.SceneFault.TheVariants.{Refused, OutOfMemory}
+use Rattle.level_scene.specs.Faults.{scene_fault}
+use Rattle.scene_rules.specs.declared.Placed.{Placed}
+use Rattle.scene_rules.specs.declared.refusal.AuditRefusal.TheVariants.{Scene}
+use Rattle.scene_rules.specs.declared.refusal.SceneRefusal.{SceneRefusal}
+use Rattle.scene_rules.specs.Middles.{bad_middle}
+use Rattle.scene_rules.specs.Scenes.{checked, faces_in, texture_by}
+use Rattle.level_audit.specs.Faults.{above_scene}
+use Rattle.level_audit.proofs.FaultLemmas.{scene_above}
+use Rattle.level_audit.specs.declared.faces.ReadFaces.{ReadFaces}
+use Rattle.level_audit.specs.Scenes.{faces_of}
+
+module _ {A B : Type 0} {value : B → A} {expected : Result A SceneRefusal} (view : ShelfView) (dir : DirectoryView) (z : Heap) (wants : ℕ → Type 0) where
+  -- the shelf and the cache are as before
+  tells_answered : (result : Result B SceneFault) → ResultIs scene_fault true value expected result → ReadsLumps scene_fault view view dir z z wants value (λ bytes. expected) result
+  tells_answered (Ok found) answers = tells_known view dir z found (λ contents told. answers.ok)
+  tells_answered (Err (Refused refusal)) answers = tells_refused view dir z (Refused refusal) refusal refl (λ contents told. answers.err)
+  tells_answered (Err OutOfMemory) answers = tells_memory view dir z OutOfMemory refl
+
+  -- in the words of an audit
+  pub tells_part : (result : Result B SceneFault) → ResultIs scene_fault true value expected result → ReadsLumps itself view view dir z z wants value (λ bytes. from_below Scene expected) (result_above above_scene result)
+  tells_part result answers = tells_above Scene above_scene scene_above result (tells_answered result answers)
+
+-- the last checks, over segs and sides that are lent
+pub checks_told : (view : ShelfView) (dir : DirectoryView) (z : Heap) (wants : ℕ → Type 0) (placed : List Placed) (prepared : List (Option PreparedTexture)) (segs lent : List Seg) (sides seen : List SideTextures) (result : Result (Unit {0}) SceneFault) → lent ≡ segs → seen ≡ sides →
+    ResultIs scene_fault true (λ (done : Unit {0}). done) (checked placed (bad_middle (texture_by prepared) lent seen)) result →
+    ReadsLumps itself view view dir z z wants (λ (done : Unit {0}). done) (λ bytes. from_below Scene (checked placed (bad_middle (texture_by prepared) segs sides))) (result_above above_scene result)
+checks_told view dir z wants placed prepared segs lent sides seen result e f answers =
+    tells_part view dir z wants result
+    (subst (λ (s : List SideTextures). ResultIs scene_fault true (λ (done : Unit {0}). done) (checked placed (bad_middle (texture_by prepared) segs s)) result) f
+    (subst (λ (s : List Seg). ResultIs scene_fault true (λ (done : Unit {0}). done) (checked placed (bad_middle (texture_by prepared) s seen)) result) e answers))
+
+-- the faces, over lists that are lent
+pub faces_told : (view : ShelfView) (dir : DirectoryView) (z : Heap) (wants : ℕ → Type 0) (name : List ℕ) (level : LevelValue) (lists lent : TextureLists) (result : Result ReadFaces SceneFault) → lent ≡ lists →
+    ResultIs scene_fault true faces_of (faces_in dir.lumps name level lent) result → ReadsLumps itself view view dir z z wants faces_of (λ bytes. from_below Scene (faces_in dir.lumps name level lists)) (result_above above_scene result)
+faces_told view dir z wants name level lists lent result e answers =
+    tells_part view dir z wants result (subst (λ (l : TextureLists). ResultIs scene_fault true faces_of (faces_in dir.lumps name level l) result) e answers)

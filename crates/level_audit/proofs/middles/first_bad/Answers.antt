@@ -1,0 +1,19 @@
+use Rattle.std.proofs.Common.{ℕ, Bool, length, arith, sym, ◌∙◌}
+use Rattle.std.specs.Prelude.{◌&&◌}
+use Rattle.word_rules.proofs.LeastLemmas.{least-none, least-some}
+use Rattle.texture_build.specs.Views.{is_marked}
+use Rattle.scene_rules.specs.Middles.{is_bad_middle, middle_of}
+use Rattle.scene_rules.specs.Scenes.{texture_by}
+use Rattle.level_audit.proofs.MiddleLemmas.{marked_read}
+use Rattle.level_audit.proofs.middles.first_bad.Goals as goal
+
+pub returns-then-is_bad_side : goal.returns-then-is_bad_side
+returns-then-is_bad_side c =
+    let passes : ℕ → Bool = λ side. is_marked c.args.marks.now side && is_bad_middle (texture_by c.args.textures.now.prepared) (middle_of c.args.sides.now side) in
+    sym (least-some passes (length c.args.sides.now) c.loop-number.number c.loop-number-test.true
+    (marked_read (texture_by c.args.textures.now.prepared) c.args.sides.now c.args.marks.now c.loop-number.number _ c.has.result c.loop-number-test.true c.has.ensures ∙ sym c.is_bad_side.ensures ∙ c.if-is_bad_side.true) c.loop-number.invariant)
+
+pub returns : goal.returns
+returns c =
+    let passes : ℕ → Bool = λ side. is_marked c.args.marks.now side && is_bad_middle (texture_by c.args.textures.now.prepared) (middle_of c.args.sides.now side) in
+    sym (least-none passes (length c.args.sides.now) (λ side l. c.loop-number.invariant side (omega (arith, l, c.loop-number-test.false))))

@@ -1,0 +1,11 @@
+use Rattle.std.proofs.Common.{◌≡◌, ℕ, ◌<◌, false}
+use Rattle.std.specs.Prelude.{◌&&◌}
+use Rattle.texture_build.specs.Views.{is_marked}
+use Rattle.scene_rules.specs.Middles.{is_bad_middle, middle_of}
+use Rattle.scene_rules.specs.Scenes.{texture_by}
+use Rattle.level_audit.proofs.middles.first_bad.Given as goal
+
+-- no side so far
+abbrev pub invariant-loop-number : goal.invariant-loop-number
+invariant-loop-number l =
+    (side : ℕ) → side < l.number → (is_marked l.marks side && is_bad_middle (texture_by l.textures.prepared) (middle_of l.sides side)) ≡ false

@@ -1,0 +1,12 @@
+use Rattle.std.proofs.Common.{◌≡◌, length, take}
+use Rattle.std.specs.List.{list_any}
+use Rattle.scene_rules.specs.Middles.{is_seen_through}
+use Rattle.level_audit.specs.Views.{AddsMarks}
+use Rattle.level_audit.proofs.middles.mark_sides.Given as goal
+
+-- the sides of the segs so far
+abbrev pub invariant-loop-seg : goal.invariant-loop-seg
+invariant-loop-seg l = record {
+  count : length l.marks ≡ length l.initial.marks;
+  marked : AddsMarks l.initial.marks l.marks (λ side. list_any (is_seen_through side) (take l.seg-index l.segs));
+}

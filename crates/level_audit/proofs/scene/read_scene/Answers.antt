@@ -1,0 +1,45 @@
+use Rattle.std.proofs.Common.{◌≡◌, length, Ok, Err, refl, subst, ap, ◌∙◌}
+use Rattle.std.proofs.lemmas.Result.{IfOk-weaker}
+use Rattle.lump_cache.proofs.CallLemmas.{tells_stop_first, tells_then}
+use Rattle.art_rules.specs.Textures.{TextureLists}
+use Rattle.scene_rules.specs.Scenes.{faces_in, scene_on}
+use Rattle.level_audit.specs.Faults.{above_scene}
+use Rattle.level_audit.specs.Grounds.{ground_of}
+use Rattle.level_audit.specs.declared.faces.ReadFaces.{ReadFaces}
+use Rattle.level_audit.specs.Asked.{IsOfScene}
+use Rattle.level_audit.specs.Scenes.{faces_of, given_palette}
+use Rattle.level_audit.proofs.PartLemmas.{faces_told}
+use Rattle.level_audit.proofs.SceneLemmas.{scene_on-more, scene_on-stop}
+use Rattle.level_audit.proofs.scene.read_scene.Goals as goal
+
+pub returns-in_err-faces-clause-tells : goal.returns-in_err-faces-clause-tells
+returns-in_err-faces-clause-tells g c =
+    let dir = c.args.dir.now in
+    let name = c.args.name.now in
+    let stands = ground_of c.args.ground in
+    let palette = c.args.ground.palette.items in
+    let fault = above_scene c.in_err-faces.field-0.0 in
+    tells_stop_first (λ bytes. given_palette palette (scene_on bytes dir.lumps c.args.things.now c.args.skill name stands)) (Err fault) fault c.from_residual.result
+    (faces_told (g.S.Shelf.view c.args.shelf.now) dir c.args.cache.now (IsOfScene dir.lumps c.args.things.now c.args.skill name stands) name stands.level stands.lists c.lists.result.now (Err c.in_err-faces.field-0.0) c.lists.ensures c.in_err-faces.ensures.answers)
+    refl c.from_residual.ensures.1 (λ lump wanted. wanted) (λ bytes refusal e. scene_on-stop palette bytes dir.lumps c.args.things.now c.args.skill name stands refusal e)
+
+pub returns-clause-tells : goal.returns-clause-tells
+returns-clause-tells g c =
+    let dir = c.args.dir.now in
+    let name = c.args.name.now in
+    let stands = ground_of c.args.ground in
+    let faces = faces_of c.in_ok-faces.faces in
+    let palette = c.args.ground.palette.items in
+    tells_then (λ bytes. given_palette palette (scene_on bytes dir.lumps c.args.things.now c.args.skill name stands)) c.read_art.result
+    (faces_told (g.S.Shelf.view c.args.shelf.now) dir c.args.cache.now (IsOfScene dir.lumps c.args.things.now c.args.skill name stands) name stands.level stands.lists c.lists.result.now (Ok c.in_ok-faces.faces) c.lists.ensures c.in_ok-faces.ensures.answers)
+    c.read_art.ensures.tells (λ lump wanted. wanted)
+    (λ lump wanted. record {
+      faces = faces;
+      are = subst (λ (lists : TextureLists). faces_in dir.lumps name stands.level lists ≡ Ok faces) c.lists.ensures c.in_ok-faces.ensures.answers.ok;
+      asked = wanted;
+    })
+    (λ bytes found. scene_on-more palette bytes dir.lumps c.args.things.now c.args.skill name stands faces found)
+
+pub returns-clause-flats : goal.returns-clause-flats
+returns-clause-flats g c =
+    IfOk-weaker c.read_art.result _ _ (λ scene same. ap (λ (f : ReadFaces). length f.flats.items) same ∙ c.in_ok-faces.ensures.flats) c.read_art.ensures.faces

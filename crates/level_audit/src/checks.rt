@@ -1,0 +1,42 @@
+// The last checks of a scene: no thing that would be a shadow, and masked mid textures of single
+// columns.
+//
+// Rules: `scene_rules`, Scenes (`checked`), Middles. The original: `MF_SHADOW`, p_mobj.h;
+// `R_RenderMaskedSegRange`, r_segs.c. This project's own: such a level is refused.
+ghost use Rattle.std.specs.Prelude.{◌≡◌, ◌<◌, ◌^◌, ◌⊎◌, true, All, length};
+ghost use Rattle.outside.specs.Faults.{ResultIs};
+ghost use Rattle.texture_build.specs.Views.{IsPrepared};
+ghost use Rattle.level_scene.specs.Faults.{scene_fault};
+ghost use Rattle.scene_rules.specs.Middles.{bad_middle};
+ghost use Rattle.scene_rules.specs.Scenes.{checked, texture_by};
+
+use crate::SceneRefusal;
+use level_rules::{Seg, SideTextures};
+use level_scene::{PlacedThings, SceneFault};
+use crate::find_bad_middle;
+use std::alloc::Global;
+use texture_build::Textures;
+
+// The first of the last checks that refuses, if one does.
+#[tactic(auto, unfolding(scene_rules::specs::Scenes::checked, scene_rules::specs::Numbered::refuse_if))]
+pub(crate) fn check_scene(
+    alloc: Global,
+    placed: &PlacedThings,
+    textures: &Textures,
+    segs: &[Seg],
+    sides: &[SideTextures],
+) -> Result<(), SceneFault>
+    requires few { length sides.now < 2 ^ 16 }
+    requires middles { All (λ side. (side.middle ≡ 0) ⊎ IsPrepared textures.now side.middle) sides.now }
+    ensures { ResultIs scene_fault true (λ done. done) (checked placed.now (bad_middle (texture_by textures.now.prepared) segs.now sides.now)) result }
+{
+    if let Some(thing) = placed.first_shadow() {
+        return Err(SceneFault::Refused(SceneRefusal::Shadow {
+            thing: thing as u64,
+        }));
+    }
+    if let Some(side) = find_bad_middle(alloc, textures, segs, sides)? {
+        return Err(SceneFault::Refused(SceneRefusal::Middle { side: side as u64 }));
+    }
+    Ok(())
+}

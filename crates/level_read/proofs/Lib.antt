@@ -1,3 +1,0 @@
-pub mod AddLemmas
-pub mod LevelLemmas
-pub mod LumpLemmas

@@ -1,5 +1,0 @@
-use Rattle.level_read.proofs.LevelLemmas.{label_told}
-use Rattle.level_read.proofs.level.label_of.Goals as goal
-
-pub returns-clause-label : goal.returns-clause-label
-returns-clause-label c = label_told c.map.result c.args.dir.now.lumps c.args.name.now c.ok_or.result c.map.ensures.found c.ok_or.ensures.value

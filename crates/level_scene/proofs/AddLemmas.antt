@@ -1,0 +1,72 @@
+-- A lump of a map that was fetched, and what adding it to a builder comes to.
+use Rattle.outside.specs.Faults.{itself}
+use Rattle.std.proofs.Common.{◌≡◌, ℕ, List, Option, Some, None, Result, Ok, Err, refl, sym, ap, ◌∙◌, ◌↔◌, IsErrAnd}
+use Rattle.outside.specs.Shelf.{ShelfView}
+use Rattle.lump_rules.specs.Contents.{lump_bytes}
+use Rattle.zone_rules.specs.Zones.{Heap}
+use Rattle.wad_dir.specs.DirectoryView.{DirectoryView}
+use Rattle.map_rules.specs.declared.lumps.MapLump.{MapLump}
+use Rattle.map_rules.specs.declared.refusal.MapRefusal.{MapRefusal}
+use Rattle.map_rules.specs.Levels.{unless}
+use Rattle.map_rules.specs.Lumps.{size_refusal}
+use Rattle.map_lumps.specs.declared.fault.MapFault.{MapFault}
+use Rattle.map_lumps.specs.declared.fault.MapFault.TheVariants.{Refused, OutOfMemory}
+use Rattle.map_lumps.specs.Builders.{BuilderValue, with_lump}
+use Rattle.lump_cache.specs.Caches.{cache_fault}
+use Rattle.lump_cache.specs.Calls.{ReadsLumps, HoldContents}
+use Rattle.lump_cache.proofs.CallLemmas.{tells_same}
+use Rattle.level_scene.specs.declared.fault.LevelFault.{LevelFault}
+use Rattle.level_scene.specs.Faults.{above_map}
+use Rattle.level_scene.specs.Lumps.{lump_added}
+
+-- two ways to tell an owner's bytes
+pub same_bytes : (found : Option (List ℕ)) (live bytes : List ℕ) → found ≡ Some live → found ≡ Some bytes → live ≡ bytes
+same_bytes found live bytes e k = cc
+
+none_refused : {R : Type 0} (refusal : Option R) → ((r : R) → refusal ≡ Some r → ⊥) → refusal ≡ None
+none_refused None h = refl
+none_refused (Some r) h = absurd (h r refl)
+
+-- the lump is not too large, or is
+added_of_small : (b : BuilderValue) (lump : MapLump) (bytes : List ℕ) → size_refusal lump bytes ≡ None → lump_added b lump bytes ≡ Ok (with_lump b lump bytes)
+unfolding lump_added unless
+added_of_small b lump bytes e = rw e refl
+
+added_of_large : (b : BuilderValue) (lump : MapLump) (bytes : List ℕ) (refusal : MapRefusal) → size_refusal lump bytes ≡ Some refusal → lump_added b lump bytes ≡ Err refusal
+unfolding lump_added unless
+added_of_large b lump bytes refusal e = rw e refl
+
+module _ {v w : ShelfView} {dir : DirectoryView} {a b : Heap} (lump : MapLump) (old new : BuilderValue) (number : ℕ) (live : List ℕ)
+    (fetched : ReadsLumps cache_fault v w dir a b (λ n. n ≡ number) (λ (done : Unit {0}). done) (λ bytes. Ok tt) (Ok tt)) (known : (contents : List (List ℕ)) → HoldContents v dir a contents → live ≡ lump_bytes contents dir.lumps number)
+    (r : Result (Unit {0}) MapFault) (sizes : (refusal : MapRefusal) → (r ≡ Err (Refused refusal)) ↔ (size_refusal lump live ≡ Some refusal)) where
+  -- the lump was added
+  pub add_passed : r ≡ Ok tt → new ≡ with_lump old lump live → ReadsLumps itself v w dir a b (λ n. n ≡ number) (λ (done : Unit {0}). new) (λ bytes. lump_added old lump (bytes number)) (Ok tt)
+  add_passed was is =
+      let small = none_refused (size_refusal lump live) (λ refusal e. let k = (sizes refusal).1 e in cc) in
+      record {
+        keeps = fetched.keeps;
+        answers = λ contents t. record { ok = ap (lump_added old lump) (sym (known contents t)) ∙ added_of_small old lump live small ∙ ap Ok (sym is); err = tt };
+        causes = record { err = tt };
+        full = tt;
+        order = fetched.order;
+      }
+
+  -- it was not
+  stopped : (fault : MapFault) → r ≡ Err fault → ReadsLumps itself v w dir a b (λ n. n ≡ number) (λ (done : Unit {0}). new) (λ bytes. lump_added old lump (bytes number)) (Err (above_map fault))
+  stopped (Refused refusal) was = record {
+    keeps = fetched.keeps;
+    answers = λ contents t. record { ok = tt; err = ap (lump_added old lump) (sym (known contents t)) ∙ added_of_large old lump live refusal ((sizes refusal).0 was) };
+    causes = record { err = tt };
+    full = tt;
+    order = fetched.order;
+  }
+  stopped OutOfMemory was = record {
+    keeps = fetched.keeps;
+    answers = λ contents t. record { ok = tt; err = tt };
+    causes = record { err = tt };
+    full = tt;
+    order = fetched.order;
+  }
+
+  pub add_stopped : (fault : MapFault) (result : Result (Unit {0}) LevelFault) → r ≡ Err fault → IsErrAnd result (λ e. e ≡ above_map fault) → ReadsLumps itself v w dir a b (λ n. n ≡ number) (λ (done : Unit {0}). new) (λ bytes. lump_added old lump (bytes number)) result
+  add_stopped fault result was is = tells_same result (above_map fault) (λ bytes. lump_added old lump (bytes number)) is (stopped fault was)

@@ -1,3 +1,0 @@
-pub mod MiddleLemmas
-pub mod MarkLemmas
-pub mod SizeLemmas

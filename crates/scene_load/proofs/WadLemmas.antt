@@ -1,0 +1,49 @@
+-- The lumps of WADs that were asked for.
+use Rattle.std.proofs.Common.{◌≡◌, ℕ, Bool, List, Option, Some, Result, Err, IsErrAnd, refl}
+use Rattle.std.proofs.lemmas.Result.{err_from_is_err_and}
+use Rattle.outside.specs.declared.shelf.FileNo.{FileNo}
+use Rattle.outside.specs.Shelf.{File, ShelfView, NameFiles}
+use Rattle.outside.specs.Faults.{fault_above, itself}
+use Rattle.lump_rules.specs.declared.wad.Lump.{Lump}
+use Rattle.wad_dir.specs.declared.fault.DirFault.{DirFault}
+use Rattle.wad_dir.specs.declared.fault.DirFault.TheVariants as dir
+use Rattle.wad_dir.specs.Faults.{dir_fault}
+use Rattle.scene_load.specs.declared.fault.FilesRefusal.{FilesRefusal}
+use Rattle.scene_load.specs.declared.fault.FilesRefusal.TheVariants.{Wad}
+use Rattle.scene_load.specs.declared.fault.FilesFault.{FilesFault}
+use Rattle.scene_load.specs.Faults.{fault_of_dir}
+use Rattle.scene_load.specs.Files.{files_named, lumps_in, wad_files}
+use Rattle.scene_load.specs.Found.{AllStandForNamed}
+use Rattle.scene_load.specs.Stops.{else_absent, no_file, StopsAt, ResultIsOrAbsent}
+use Rattle.scene_load.proofs.StopLemmas.{stops_all}
+
+-- what a fault of the directory tells where files are read
+pub dir_told_above : (fault : DirFault) → itself (fault_of_dir fault) ≡ fault_above Wad (dir_fault fault)
+dir_told_above (dir.Refused refusal) = refl
+dir_told_above dir.ReadFault = refl
+dir_told_above dir.OutOfMemory = refl
+
+-- a file was not found
+pub wads_unfound : {B : Type 0} {steady : Bool} {value : B → List Lump} (names : List (List ℕ)) (files : List File) (fault : FilesFault) (result : Result B FilesFault) →
+    StopsAt {R = FilesRefusal} steady (else_absent (files_named names files)) (itself fault) → IsErrAnd result (λ e. e ≡ fault) →
+    ResultIsOrAbsent itself steady value (lumps_in names files) result
+unfolding lumps_in
+wads_unfound {B} {steady} names files fault result stops is =
+    let p : (y : FilesFault) × (result ≡ Err y) × (y ≡ fault) = err_from_is_err_and result is in
+    let k : StopsAt steady (lumps_in names files) (itself p.0) = rw p.2 (stops_all steady (else_absent (files_named names files)) (λ contents. no_file (wad_files contents)) (itself fault) stops) in
+    rw p.1 (record { ok = tt; err = k })
+
+-- all files were found
+pub lumps_found : (names : List (List ℕ)) (files : List File) (contents : List (List ℕ)) → files_named names files ≡ Some contents → lumps_in names files ≡ no_file (wad_files contents)
+unfolding lumps_in
+lumps_found names files contents e = rw e refl
+
+same_found : {A : Type 0} (found : Option A) (one other : A) → found ≡ Some one → found ≡ Some other → one ≡ other
+same_found found one other e f = cc
+
+-- the numbers stand for the bytes of the files that have these names
+pub stand_named : (view : ShelfView) (numbers given : List FileNo) (names : List (List ℕ)) (files : List File) (contents : List (List ℕ)) →
+    AllStandForNamed view numbers names files → given ≡ numbers → files_named names files ≡ Some contents → NameFiles view given contents
+stand_named view numbers given names files contents found same named =
+    let these : found.contents ≡ contents = same_found (files_named names files) found.contents contents found.named named in
+    rw (same, ← these) found.stand

@@ -1,0 +1,20 @@
+use Rattle.std.proofs.Common.{Some, Ok, refl}
+use Rattle.scene_load.specs.Files.{in_optional_file}
+use Rattle.scene_load.proofs.StopLemmas.{step_stops, all_passed}
+use Rattle.scene_load.proofs.texts.load_weapons.Goals as goal
+
+pub returns-in_err-load_layers-in-Some-clause-answers : goal.returns-in_err-load_layers-in-Some-clause-answers
+unfolding in_optional_file
+returns-in_err-load_layers-in-Some-clause-answers g c files holds =
+    rw c.in-Some.is
+    (step_stops (λ value. Ok (Some value)) _ c.from_residual.result
+    (c.load_layers.ensures.answers files holds) c.in_err-load_layers-in-Some.was refl c.from_residual.ensures.1)
+
+pub returns-in-None-clause-answers : goal.returns-in-None-clause-answers
+unfolding in_optional_file
+returns-in-None-clause-answers g c files holds = all_passed _ _ (rw c.in-None.is refl)
+
+pub returns-in_ok-load_layers-in-Some-clause-answers : goal.returns-in_ok-load_layers-in-Some-clause-answers
+unfolding in_optional_file
+returns-in_ok-load_layers-in-Some-clause-answers g c files holds =
+    all_passed _ _ (rw (c.in-Some.is, (c.in_ok-load_layers-in-Some.ensures.answers files holds).ok) refl)
