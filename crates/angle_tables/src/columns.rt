@@ -85,7 +85,8 @@ pub(crate) fn columns_of_angles(
     shape: ViewShape,
 ) -> Result<Vec<u16>, AllocError>
     ensures len { IfOk result (λ v. length v.items ≡ TANGENTS) }
-    ensures items { IfOk result (λ v. (i : ℕ) → i < TANGENTS → slice_index v.items i ≡ column_of_angle t.now shape i) }
+    ensures items { IfOk result (λ v. (i : ℕ) → i < TANGENTS →
+        slice_index v.items i ≡ column_of_angle t.now shape i) }
 {
     let focal = focal_length(t, shape);
     let mut columns = Vec::with_capacity(alloc, TANGENTS)?;
@@ -107,7 +108,8 @@ fn is_seen_by(t: &AngleLists, shape: ViewShape, focal: i32, x: u16, i: usize) ->
 /// The least fine angle that is seen at column `x` or left of it, where none below `start` is.
 pub(crate) fn first_seen_by(t: &AngleLists, shape: ViewShape, x: u16, start: usize) -> Option<usize>
     requires start { start ≤ TANGENTS }
-    requires before { (k : ℕ) → k < start → is_seen_by t.now shape (focal_length t.now shape) x k ≡ false }
+    requires before { (k : ℕ) → k < start →
+        is_seen_by t.now shape (focal_length t.now shape) x k ≡ false }
     ensures value { result ≡ first_seen_by t.now shape x }
     ensures bound { (i : ℕ) → result ≡ Some i → i < TANGENTS }
 {
@@ -132,10 +134,12 @@ fn angle_of_fine(fine: usize) -> u32
 #[tactic(auto, unfolding(view_rules::specs::Tables::fine_of_column))]
 fn fine_of_column(t: &AngleLists, shape: ViewShape, x: u16, start: usize) -> usize
     requires start { start ≤ TANGENTS }
-    requires before { (k : ℕ) → k < start → is_seen_by t.now shape (focal_length t.now shape) x k ≡ false }
+    requires before { (k : ℕ) → k < start →
+        is_seen_by t.now shape (focal_length t.now shape) x k ≡ false }
     ensures value { result ≡ fine_of_column t.now shape x }
     ensures bound { result < TANGENTS }
-    ensures before { (k left : ℕ) → k < result → left ≤ x → is_seen_by t.now shape (focal_length t.now shape) left k ≡ false }
+    ensures before { (k left : ℕ) → k < result → left ≤ x →
+        is_seen_by t.now shape (focal_length t.now shape) left k ≡ false }
 {
     first_seen_by(t, shape, x, start).unwrap_or(0)
 }
@@ -149,7 +153,8 @@ pub(crate) fn angles_of_columns(
     shape: ViewShape,
 ) -> Result<Vec<u32>, AllocError>
     ensures len { IfOk result (λ v. length v.items ≡ shape.width + 1) }
-    ensures items { IfOk result (λ v. (k : ℕ) → k ≤ shape.width → slice_index v.items k ≡ angle_of_column t.now shape (shape.width - k)) }
+    ensures items { IfOk result (λ v. (k : ℕ) → k ≤ shape.width →
+        slice_index v.items k ≡ angle_of_column t.now shape (shape.width - k)) }
 {
     let count = shape.width as usize + 1;
     let mut angles = Vec::with_capacity(alloc, count)?;
@@ -173,7 +178,8 @@ fn y_slope(shape: ViewShape, y: u16) -> i32
 /// The distance factor of each row.
 pub(crate) fn slopes_of_rows(alloc: Global, shape: ViewShape) -> Result<Vec<i32>, AllocError>
     ensures len { IfOk result (λ v. length v.items ≡ shape.height) }
-    ensures items { IfOk result (λ v. (y : ℕ) → y < shape.height → slice_index_or v.items y (pos 0) ≡ y_slope shape y) }
+    ensures items { IfOk result (λ v. (y : ℕ) → y < shape.height →
+        slice_index_or v.items y (pos 0) ≡ y_slope shape y) }
 {
     let mut rows = Vec::with_capacity(alloc, shape.height as usize)?;
     for y in 0..shape.height {
@@ -199,9 +205,11 @@ pub(crate) fn scales_of_columns(
     angles: &[u32],
 ) -> Result<Vec<i32>, AllocError>
     requires len { length angles.now ≡ shape.width + 1 }
-    requires items { (k : ℕ) → k ≤ shape.width → slice_index angles.now k ≡ angle_of_column t.now shape (shape.width - k) }
+    requires items { (k : ℕ) → k ≤ shape.width →
+        slice_index angles.now k ≡ angle_of_column t.now shape (shape.width - k) }
     ensures len { IfOk result (λ v. length v.items ≡ shape.width) }
-    ensures items { IfOk result (λ v. (x : ℕ) → x < shape.width → slice_index_or v.items x (pos 0) ≡ dist_scale t.now shape x) }
+    ensures items { IfOk result (λ v. (x : ℕ) → x < shape.width →
+        slice_index_or v.items x (pos 0) ≡ dist_scale t.now shape x) }
 {
     let width = shape.width as usize;
     let mut scales = Vec::with_capacity(alloc, width)?;

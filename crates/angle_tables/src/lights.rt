@@ -66,7 +66,8 @@ fn distance_light(i: usize, j: usize) -> u8
 pub(crate) fn scale_lights(alloc: Global, shape: ViewShape) -> Result<Vec<u8>, AllocError>
     requires { 0 < shape.width }
     ensures len { IfOk result (λ v. length v.items ≡ LIGHT_LEVELS * SCALE_STEPS) }
-    ensures items { IfOk result (λ v. (n : ℕ) → n < LIGHT_LEVELS * SCALE_STEPS → slice_index v.items n ≡ scale_light shape (n / SCALE_STEPS) (n % SCALE_STEPS)) }
+    ensures items { IfOk result (λ v. (n : ℕ) → n < LIGHT_LEVELS * SCALE_STEPS →
+        slice_index v.items n ≡ scale_light shape (n / SCALE_STEPS) (n % SCALE_STEPS)) }
 {
     let mut maps = Vec::with_capacity(alloc, LIGHT_LEVELS * SCALE_STEPS)?;
     for n in 0..LIGHT_LEVELS * SCALE_STEPS {
@@ -78,7 +79,8 @@ pub(crate) fn scale_lights(alloc: Global, shape: ViewShape) -> Result<Vec<u8>, A
 /// The colormap of each light at each distance step, light by light.
 pub(crate) fn distance_lights(alloc: Global) -> Result<Vec<u8>, AllocError>
     ensures len { IfOk result (λ v. length v.items ≡ LIGHT_LEVELS * DISTANCE_STEPS) }
-    ensures items { IfOk result (λ v. (n : ℕ) → n < LIGHT_LEVELS * DISTANCE_STEPS → slice_index v.items n ≡ distance_light (n / DISTANCE_STEPS) (n % DISTANCE_STEPS)) }
+    ensures items { IfOk result (λ v. (n : ℕ) → n < LIGHT_LEVELS * DISTANCE_STEPS →
+        slice_index v.items n ≡ distance_light (n / DISTANCE_STEPS) (n % DISTANCE_STEPS)) }
 {
     let mut maps = Vec::with_capacity(alloc, LIGHT_LEVELS * DISTANCE_STEPS)?;
     for n in 0..LIGHT_LEVELS * DISTANCE_STEPS {

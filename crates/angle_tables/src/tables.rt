@@ -58,8 +58,10 @@ impl Tables {
     pub fn from_bytes(alloc: Global, bytes: &[u8], size: u8) -> Result<Tables, TablesFault>
         requires least { MIN_SIZE ≤ size }
         requires greatest { size ≤ MAX_SIZE }
-        ensures ok { IfOk result (λ t. (tables_refusal bytes.now size ≡ None) × (t ≡ record { angles = angles_in bytes.now; size = size })) }
-        ensures refused { (r : TablesRefusal) → result ≡ Err (TablesFault.Refused r) → tables_refusal bytes.now size ≡ Some r }
+        ensures ok { IfOk result (λ t. (tables_refusal bytes.now size ≡ None) ×
+            (t ≡ record { angles = angles_in bytes.now; size = size })) }
+        ensures refused { (r : TablesRefusal) → result ≡ Err (TablesFault.Refused r) →
+            tables_refusal bytes.now size ≡ Some r }
     {
         if bytes.len() != TABLES_BYTES {
             let found = bytes.len() as u64;

@@ -27,9 +27,11 @@ pub const MAX_COUNT: u32 = 32;
 /// The original: `M_CheckParm`, m_argv.c, and `D_DoomMain`, d_main.c.
 #[tactic(auto, unfolding(crate::specs::Commands::command_of))]
 pub fn command_of<'a>(alloc: Global, words: &'a [String]) -> Result<Command<'a>, CommandFault>
-    ensures ok { IfOk result (λ command. command_of (map string_bytes words.now) ≡ Some (told command)) }
+    ensures ok { IfOk result (λ command.
+        command_of (map string_bytes words.now) ≡ Some (told command)) }
     ensures counted { IfOk result (λ command. IsCounted (told command)) }
-    ensures usage { result ≡ Err CommandFault.Usage → command_of (map string_bytes words.now) ≡ None }
+    ensures usage { result ≡ Err CommandFault.Usage →
+        command_of (map string_bytes words.now) ≡ None }
 {
     match matches(alloc, words) {
         Ok(found) => command_in(alloc, &found),
@@ -40,9 +42,11 @@ pub fn command_of<'a>(alloc: Global, words: &'a [String]) -> Result<Command<'a>,
 // The command of what clap found.
 #[tactic(auto, unfolding(crate::specs::Commands::command_in))]
 fn command_in<'a>(alloc: Global, found: &ArgMatches<'a>) -> Result<Command<'a>, CommandFault>
-    ensures ok { IfOk result (λ command. command_in (rows_of (found_of found.now)) ≡ Some (told command)) }
+    ensures ok { IfOk result (λ command.
+        command_in (rows_of (found_of found.now)) ≡ Some (told command)) }
     ensures counted { IfOk result (λ command. IsCounted (told command)) }
-    ensures usage { result ≡ Err CommandFault.Usage → command_in (rows_of (found_of found.now)) ≡ None }
+    ensures usage { result ≡ Err CommandFault.Usage →
+        command_in (rows_of (found_of found.now)) ≡ None }
 {
     match value(found, "job") {
         None => Err(CommandFault::Usage),
@@ -75,9 +79,12 @@ fn job_named<'m, 'a>(
     job: &str,
     rest: &'m [&'a str],
 ) -> Result<Command<'a>, CommandFault>
-    ensures ok { IfOk result (λ command. job_named (rows_of (found_of found.now)) job.now (map (λ w. w.now) rest.now) ≡ Some (told command)) }
+    ensures ok { IfOk result (λ command.
+        job_named (rows_of (found_of found.now)) job.now (map (λ w. w.now) rest.now) ≡ Some
+        (told command)) }
     ensures counted { IfOk result (λ command. IsCounted (told command)) }
-    ensures usage { result ≡ Err CommandFault.Usage → job_named (rows_of (found_of found.now)) job.now (map (λ w. w.now) rest.now) ≡ None }
+    ensures usage { result ≡ Err CommandFault.Usage →
+        job_named (rows_of (found_of found.now)) job.now (map (λ w. w.now) rest.now) ≡ None }
 {
     if job == "flat" {
         flat_of(found, rest)
@@ -93,9 +100,11 @@ fn job_named<'m, 'a>(
 // The command flat NAME FILE.
 #[tactic(auto, unfolding(crate::specs::Commands::flat_of))]
 fn flat_of<'m, 'a>(found: &ArgMatches<'a>, rest: &'m [&'a str]) -> Result<Command<'a>, CommandFault>
-    ensures ok { IfOk result (λ command. flat_of (rows_of (found_of found.now)) (map (λ w. w.now) rest.now) ≡ Some (told command)) }
+    ensures ok { IfOk result (λ command.
+        flat_of (rows_of (found_of found.now)) (map (λ w. w.now) rest.now) ≡ Some (told command)) }
     ensures counted { IfOk result (λ command. IsCounted (told command)) }
-    ensures usage { IfErr result (λ _. flat_of (rows_of (found_of found.now)) (map (λ w. w.now) rest.now) ≡ None) }
+    ensures usage { IfErr result (λ _.
+        flat_of (rows_of (found_of found.now)) (map (λ w. w.now) rest.now) ≡ None) }
 {
     match rest {
         [name, file] => {
@@ -114,9 +123,11 @@ fn flat_of<'m, 'a>(found: &ArgMatches<'a>, rest: &'m [&'a str]) -> Result<Comman
 // The command make wad N, make path N, make tables or make things.
 #[tactic(auto, unfolding(crate::specs::Commands::make_of))]
 fn make_of<'m, 'a>(found: &ArgMatches<'a>, rest: &'m [&'a str]) -> Result<Command<'a>, CommandFault>
-    ensures ok { IfOk result (λ command. make_of (rows_of (found_of found.now)) (map (λ w. w.now) rest.now) ≡ Some (told command)) }
+    ensures ok { IfOk result (λ command.
+        make_of (rows_of (found_of found.now)) (map (λ w. w.now) rest.now) ≡ Some (told command)) }
     ensures counted { IfOk result (λ command. IsCounted (told command)) }
-    ensures usage { IfErr result (λ _. make_of (rows_of (found_of found.now)) (map (λ w. w.now) rest.now) ≡ None) }
+    ensures usage { IfErr result (λ _.
+        make_of (rows_of (found_of found.now)) (map (λ w. w.now) rest.now) ≡ None) }
 {
     if !has_no_options(found) {
         return Err(CommandFault::Usage);
@@ -187,9 +198,12 @@ fn exercise_of<'m, 'a>(
     found: &ArgMatches<'a>,
     rest: &'m [&'a str],
 ) -> Result<Command<'a>, CommandFault>
-    ensures ok { IfOk result (λ command. exercise_of (rows_of (found_of found.now)) (map (λ w. w.now) rest.now) ≡ Some (told command)) }
+    ensures ok { IfOk result (λ command.
+        exercise_of (rows_of (found_of found.now)) (map (λ w. w.now) rest.now) ≡ Some
+        (told command)) }
     ensures counted { IfOk result (λ command. IsCounted (told command)) }
-    ensures usage { IfErr result (λ _. exercise_of (rows_of (found_of found.now)) (map (λ w. w.now) rest.now) ≡ None) }
+    ensures usage { IfErr result (λ _.
+        exercise_of (rows_of (found_of found.now)) (map (λ w. w.now) rest.now) ≡ None) }
 {
     match rest {
         [count] => {
@@ -229,9 +243,12 @@ fn scene_command<'m, 'a>(
     job: &str,
     rest: &'m [&'a str],
 ) -> Result<Command<'a>, CommandFault>
-    ensures ok { IfOk result (λ command. scene_command (rows_of (found_of found.now)) job.now (map (λ w. w.now) rest.now) ≡ Some (told command)) }
+    ensures ok { IfOk result (λ command.
+        scene_command (rows_of (found_of found.now)) job.now (map (λ w. w.now) rest.now) ≡ Some
+        (told command)) }
     ensures counted { IfOk result (λ command. IsCounted (told command)) }
-    ensures usage { result ≡ Err CommandFault.Usage → scene_command (rows_of (found_of found.now)) job.now (map (λ w. w.now) rest.now) ≡ None }
+    ensures usage { result ≡ Err CommandFault.Usage →
+        scene_command (rows_of (found_of found.now)) job.now (map (λ w. w.now) rest.now) ≡ None }
 {
     match rest.split_first() {
         None => Err(CommandFault::Usage),
@@ -251,9 +268,12 @@ fn scene_with<'a>(
     level: &str,
     wads: &[&'a str],
 ) -> Result<Command<'a>, CommandFault>
-    ensures ok { IfOk result (λ command. scene_with (rows_of (found_of found.now)) job level.now (map (λ w. w.now) wads.now) ≡ Some (told command)) }
+    ensures ok { IfOk result (λ command.
+        scene_with (rows_of (found_of found.now)) job level.now (map (λ w. w.now) wads.now) ≡ Some
+        (told command)) }
     ensures counted { IfOk result (λ command. IsCounted (told command)) }
-    ensures usage { result ≡ Err CommandFault.Usage → scene_with (rows_of (found_of found.now)) job level.now (map (λ w. w.now) wads.now) ≡ None }
+    ensures usage { result ≡ Err CommandFault.Usage →
+        scene_with (rows_of (found_of found.now)) job level.now (map (λ w. w.now) wads.now) ≡ None }
 {
     if !are_wads(wads) {
         return Err(CommandFault::Usage);

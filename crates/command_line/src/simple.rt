@@ -16,8 +16,10 @@ pub(crate) fn matches<'a>(
     words: &'a [String],
 ) -> Result<ArgMatches<'a>, CommandFault>
     ensures taken { IfOk result (λ m. fault_of simple_command (map string_bytes words.now) ≡ []) }
-    ensures rows { IfOk result (λ m. rows_of (found_of m) ≡ matches_of simple_command (map string_bytes words.now)) }
-    ensures usage { result ≡ Err CommandFault.Usage → fault_of simple_command (map string_bytes words.now) ≢ [] }
+    ensures rows { IfOk result (λ m.
+        rows_of (found_of m) ≡ matches_of simple_command (map string_bytes words.now)) }
+    ensures usage { result ≡ Err CommandFault.Usage →
+        fault_of simple_command (map string_bytes words.now) ≢ [] }
 {
     match simple_command(alloc) {
         Err(_) => Err(CommandFault::OutOfMemory),
@@ -49,7 +51,8 @@ pub(crate) fn value<'a>(found: &ArgMatches<'a>, id: &str) -> Option<&'a str>
 // The words after the job.
 #[tactic(auto, using(crate::proofs::SimpleLemmas::found_rows))]
 pub(crate) fn rest<'m, 'a>(found: &'m ArgMatches<'a>) -> Option<&'m [&'a str]>
-    ensures { option_map (λ s. map (λ w. w.now) s.now) result ≡ all_of (codes "rest") (rows_of (found_of found.now)) }
+    ensures { option_map (λ s. map (λ w. w.now) s.now) result ≡ all_of (codes "rest")
+        (rows_of (found_of found.now)) }
 {
     found.get_strs("rest")
 }

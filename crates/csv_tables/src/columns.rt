@@ -36,7 +36,8 @@ fn integer_column(
     high: i64,
     fields: &ByteRecord,
 ) -> Result<i64, CsvRefusal>
-    ensures value { result ≡ integer_column row column low high (field_at (fields_of fields.now) column) }
+    ensures value { result ≡ integer_column row column low high
+        (field_at (fields_of fields.now) column) }
     ensures limits { IfOk result (λ z. (low ≤ℤ z) × (z ≤ℤ high)) }
 {
     match fields.get(column) {
@@ -186,7 +187,8 @@ pub(crate) fn frame_column(row: u64, column: usize, fields: &ByteRecord) -> Resu
 #[tactic(auto, unfolding(crate::specs::Columns::is_frame))]
 fn is_frame(text: &[u8]) -> bool
     ensures value { result ≡ is_frame text.now }
-    ensures limits { result ≡ true → (FIRST_FRAME ≤ capital text.now) × (capital text.now ≤ LAST_FRAME) }
+    ensures limits { result ≡ true →
+        (FIRST_FRAME ≤ capital text.now) × (capital text.now ≤ LAST_FRAME) }
 {
     text.len() == 1 && FIRST_FRAME <= capital(text) && capital(text) <= LAST_FRAME
 }

@@ -75,7 +75,8 @@ impl PathTable {
     #[tactic(auto, unfolding(crate::specs::Paths::path_in))]
     pub fn read(alloc: Global, bytes: &[u8]) -> Result<PathTable, CsvFault>
         ensures ok { IfOk result (λ t. path_in bytes.now ≡ Ok t) }
-        ensures refused { (r : CsvRefusal) → result ≡ Err (CsvFault.Refused r) → path_in bytes.now ≡ Err r }
+        ensures refused { (r : CsvRefusal) → result ≡ Err (CsvFault.Refused r) →
+            path_in bytes.now ≡ Err r }
     {
         let records = table_records(alloc, bytes, MAX_PATH_RECORDS)?;
         let rows = path_of_records(alloc, &records)?;
@@ -96,7 +97,8 @@ impl PathTable {
 fn path_of_records(alloc: Global, records: &[ByteRecord]) -> Result<Vec<PathRow>, CsvFault>
     ensures ok { IfOk result (λ v. path_of_records (map fields_of records.now) ≡ Ok v.items) }
     ensures light { IfOk result (λ v. All HasLightInRange v.items) }
-    ensures refused { (r : CsvRefusal) → result ≡ Err (CsvFault.Refused r) → path_of_records (map fields_of records.now) ≡ Err r }
+    ensures refused { (r : CsvRefusal) → result ≡ Err (CsvFault.Refused r) →
+        path_of_records (map fields_of records.now) ≡ Err r }
 {
     match records.split_first() {
         None => Err(CsvFault::Refused(CsvRefusal::Header)),
@@ -128,7 +130,8 @@ fn path_width(head: &ByteRecord) -> Result<usize, CsvRefusal>
 fn path_rows(alloc: Global, width: usize, rows: &[ByteRecord]) -> Result<Vec<PathRow>, CsvFault>
     ensures ok { IfOk result (λ v. path_rows width (map fields_of rows.now) ≡ Ok v.items) }
     ensures light { IfOk result (λ v. All HasLightInRange v.items) }
-    ensures refused { (r : CsvRefusal) → result ≡ Err (CsvFault.Refused r) → path_rows width (map fields_of rows.now) ≡ Err r }
+    ensures refused { (r : CsvRefusal) → result ≡ Err (CsvFault.Refused r) →
+        path_rows width (map fields_of rows.now) ≡ Err r }
 {
     let mut views = Vec::new(alloc);
     for (i, fields) in rows.iter().enumerate() {

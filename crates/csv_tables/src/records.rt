@@ -23,7 +23,8 @@ pub(crate) fn table_records(
 ) -> Result<Vec<ByteRecord>, CsvFault>
     ensures whole { IfOk result (λ v. table_records bytes.now ≡ Ok (records_of bytes.now)) }
     ensures records { IfOk result (λ v. map fields_of v.items ≡ take limit (records_of bytes.now)) }
-    ensures refused { (r : CsvRefusal) → result ≡ Err (CsvFault.Refused r) → table_records bytes.now ≡ Err r }
+    ensures refused { (r : CsvRefusal) → result ≡ Err (CsvFault.Refused r) →
+        table_records bytes.now ≡ Err r }
 {
     if bytes.len() > MAX_TABLE_BYTES {
         return Err(CsvFault::Refused(CsvRefusal::TooLong {
@@ -94,7 +95,8 @@ pub(crate) fn is_header(fields: &ByteRecord, names: &[&[u8]]) -> bool
 
 // Whether field `i` is there and is `name`.
 fn has_field(fields: &ByteRecord, i: usize, name: &[u8]) -> bool
-    ensures { result ≡ option_map_or (λ f. bytes_eq f name.now) (field_at (fields_of fields.now) i) false }
+    ensures { result ≡ option_map_or (λ f.
+        bytes_eq f name.now) (field_at (fields_of fields.now) i) false }
 {
     match fields.get(i) {
         Some(field) => field == name,

@@ -85,7 +85,8 @@ impl ThingTable {
     #[tactic(auto, unfolding(crate::specs::Things::things_in))]
     pub fn read(alloc: Global, bytes: &[u8]) -> Result<ThingTable, CsvFault>
         ensures ok { IfOk result (λ t. things_in bytes.now ≡ Ok t) }
-        ensures refused { (r : CsvRefusal) → result ≡ Err (CsvFault.Refused r) → things_in bytes.now ≡ Err r }
+        ensures refused { (r : CsvRefusal) → result ≡ Err (CsvFault.Refused r) →
+            things_in bytes.now ≡ Err r }
     {
         let records = table_records(alloc, bytes, MAX_THING_RECORDS)?;
         table_of_records(alloc, &records)
@@ -130,7 +131,8 @@ fn numbered_row(lines: &[ThingLine], number: usize) -> Option<ThingRow>
 #[tactic(auto, unfolding(crate::specs::Things::lines_of_records))]
 fn table_of_records(alloc: Global, records: &[ByteRecord]) -> Result<ThingTable, CsvFault>
     ensures ok { IfOk result (λ t. lines_of_records (map fields_of records.now) ≡ Ok t) }
-    ensures refused { (r : CsvRefusal) → result ≡ Err (CsvFault.Refused r) → lines_of_records (map fields_of records.now) ≡ Err r }
+    ensures refused { (r : CsvRefusal) → result ≡ Err (CsvFault.Refused r) →
+        lines_of_records (map fields_of records.now) ≡ Err r }
 {
     match records.split_first() {
         None => Err(CsvFault::Refused(CsvRefusal::Header)),
@@ -164,7 +166,8 @@ fn no_numbers(alloc: Global, count: usize) -> Result<Vec<u16>, AllocError>
 // The table of the rows.
 fn table_of_rows(alloc: Global, rows: &[ByteRecord]) -> Result<ThingTable, CsvFault>
     ensures ok { IfOk result (λ t. thing_lines (map fields_of rows.now) ≡ Ok t) }
-    ensures refused { (r : CsvRefusal) → result ≡ Err (CsvFault.Refused r) → thing_lines (map fields_of rows.now) ≡ Err r }
+    ensures refused { (r : CsvRefusal) → result ≡ Err (CsvFault.Refused r) →
+        thing_lines (map fields_of rows.now) ≡ Err r }
 {
     let mut lines: Vec<ThingLine> = Vec::new(alloc);
     let mut numbers = no_numbers(alloc, TYPES)?;

@@ -70,7 +70,8 @@ impl WeaponTable {
     #[tactic(auto, unfolding(crate::specs::Weapons::weapons_in))]
     pub fn read(alloc: Global, bytes: &[u8]) -> Result<WeaponTable, CsvFault>
         ensures ok { IfOk result (λ t. weapons_in bytes.now ≡ Ok t) }
-        ensures refused { (r : CsvRefusal) → result ≡ Err (CsvFault.Refused r) → weapons_in bytes.now ≡ Err r }
+        ensures refused { (r : CsvRefusal) → result ≡ Err (CsvFault.Refused r) →
+            weapons_in bytes.now ≡ Err r }
     {
         let records = table_records(alloc, bytes, MAX_WEAPON_RECORDS)?;
         let rows = weapons_of_records(alloc, &records)?;
@@ -92,7 +93,8 @@ impl WeaponTable {
 fn weapons_of_records(alloc: Global, records: &[ByteRecord]) -> Result<Vec<WeaponRow>, CsvFault>
     ensures ok { IfOk result (λ v. weapons_of_records (map fields_of records.now) ≡ Ok v.items) }
     ensures range { IfOk result (λ v. All IsWeaponInRange v.items) }
-    ensures refused { (r : CsvRefusal) → result ≡ Err (CsvFault.Refused r) → weapons_of_records (map fields_of records.now) ≡ Err r }
+    ensures refused { (r : CsvRefusal) → result ≡ Err (CsvFault.Refused r) →
+        weapons_of_records (map fields_of records.now) ≡ Err r }
 {
     match records.split_first() {
         None => Err(CsvFault::Refused(CsvRefusal::Header)),
@@ -120,7 +122,8 @@ fn is_weapon_header(head: &ByteRecord) -> bool
 fn weapon_rows(alloc: Global, rows: &[ByteRecord]) -> Result<Vec<WeaponRow>, CsvFault>
     ensures ok { IfOk result (λ v. weapon_rows (map fields_of rows.now) ≡ Ok v.items) }
     ensures range { IfOk result (λ v. All IsWeaponInRange v.items) }
-    ensures refused { (r : CsvRefusal) → result ≡ Err (CsvFault.Refused r) → weapon_rows (map fields_of rows.now) ≡ Err r }
+    ensures refused { (r : CsvRefusal) → result ≡ Err (CsvFault.Refused r) →
+        weapon_rows (map fields_of rows.now) ≡ Err r }
 {
     let mut weapons = Vec::new(alloc);
     for (i, fields) in rows.iter().enumerate() {

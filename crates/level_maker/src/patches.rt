@@ -35,7 +35,8 @@ pub fn patch(
 }
 
 fn put_head(lump: &mut Vec<u8>, picture: Picture) -> Result<(), AllocError>
-    ensures { OnOk result (lump.new.items ≡ lump.old.items ++ halves (picture.width ∷ picture.height ∷ picture.left ∷ picture.top ∷ [])) }
+    ensures { OnOk result (lump.new.items ≡ lump.old.items ++ halves
+        (picture.width ∷ picture.height ∷ picture.left ∷ picture.top ∷ [])) }
 {
     let width = picture.width as u32;
     let height = picture.height as u32;
@@ -49,7 +50,8 @@ fn put_head(lump: &mut Vec<u8>, picture: Picture) -> Result<(), AllocError>
 fn put_places(lump: &mut Vec<u8>, width: u32, size: u32) -> Result<(), AllocError>
     requires width { width < 2 ^ 16 }
     requires size { size < 2 ^ 10 }
-    ensures { OnOk result (lump.new.items ≡ lump.old.items ++ records (column_place width size) width) }
+    ensures { OnOk result (lump.new.items ≡ lump.old.items ++ records (column_place width size)
+        width) }
 {
     for x in 0..width {
         put_place(lump, width, size, x)?;
@@ -70,7 +72,8 @@ fn put_place(lump: &mut Vec<u8>, width: u32, size: u32, x: u32) -> Result<(), Al
 
 #[tactic(auto, using(made_rules::proofs::BytesLemmas::filling))]
 fn put_columns(lump: &mut Vec<u8>, picture: Picture, posts: &[Post]) -> Result<(), AllocError>
-    ensures { OnOk result (lump.new.items ≡ lump.old.items ++ records (column_bytes picture.seed posts.now) picture.width) }
+    ensures { OnOk result (lump.new.items ≡ lump.old.items ++ records
+        (column_bytes picture.seed posts.now) picture.width) }
 {
     for x in 0..picture.width as u32 {
         put_column(lump, picture.seed, posts, x)?;
@@ -90,7 +93,8 @@ fn put_column(lump: &mut Vec<u8>, seed: u8, posts: &[Post], x: u32) -> Result<()
 
 fn put_posts(lump: &mut Vec<u8>, seed: u8, posts: &[Post], x: u32) -> Result<(), AllocError>
     requires { x < 2 ^ 16 }
-    ensures { OnOk result (lump.new.items ≡ lump.old.items ++ flat_map (post_bytes seed x) posts.now) }
+    ensures { OnOk result (lump.new.items ≡ lump.old.items ++ flat_map (post_bytes seed x)
+        posts.now) }
 {
     for post in posts {
         put_post(lump, seed, x, *post)?;

@@ -31,7 +31,8 @@ pub fn make_path(alloc: Global, n: u32) -> Result<Vec<u8>, AllocError>
 fn put_rows(file: &mut Vec<u8>, n: u32) -> Result<(), AllocError>
     requires least { 1 ≤ n }
     requires most { n ≤ MAX_NUMBER }
-    ensures { OnOk result (file.new.items ≡ file.old.items ++ records (path_row n) (VIEWS_PER_NUMBER * n)) }
+    ensures { OnOk result (file.new.items ≡ file.old.items ++ records (path_row n)
+        (VIEWS_PER_NUMBER * n)) }
 {
     for k in 0..VIEWS_PER_NUMBER * n {
         put_row(file, n, k)?;

@@ -3,10 +3,12 @@ ghost use Rattle.std.specs.Prelude.{◌≡◌, ◌<◌, ◌≤◌, ◌++◌, ◌
 ghost use Rattle.word_rules.specs.Listed.{listed};
 ghost use Rattle.word_rules.specs.Words.{bits_of};
 ghost use Rattle.made_rules.specs.Bytes.{records, word_bytes};
-ghost use Rattle.made_rules.specs.Tables.{sine_product, half_sine, made_sine, upper_tangent, made_tangent, made_angle, sine_bytes, tangent_bytes, angle_bytes, made_tables};
+ghost use Rattle.view_rules.specs.Formulas.{sine_product, half_sine, made_sine, upper_tangent, made_tangent};
+ghost use Rattle.made_rules.specs.Tables.{made_angle, sine_bytes, tangent_bytes, angle_bytes, made_tables};
 
 use crate::bytes::put_word;
-use made_rules::{HALF_STEPS, HALF_TURN, ONE, QUARTER, SINES, SLOPE_STEP, SLOPES, TANGENTS};
+use made_rules::{SINES, SLOPE_STEP, SLOPES, TANGENTS};
+use view_rules::{HALF_STEPS, HALF_TURN, ONE, QUARTER};
 use std::alloc::{AllocError, Global};
 use word_rules::FINE_SHIFT;
 
@@ -121,7 +123,7 @@ fn upper_tangents(alloc: Global) -> Result<Vec<u32>, AllocError>
 }
 
 // The sine of a fine angle, 16.16 fixed point.
-#[tactic(auto, unfolding(made_rules::specs::Tables::made_sine))]
+#[tactic(auto, unfolding(view_rules::specs::Formulas::made_sine))]
 fn sine(i: u32) -> i32
     requires { i < SINES }
     ensures { result ≡ made_sine i }
@@ -135,7 +137,7 @@ fn sine(i: u32) -> i32
 }
 
 // Entry i of the tangents, 16.16 fixed point.
-#[tactic(auto, unfolding(made_rules::specs::Tables::made_tangent))]
+#[tactic(auto, unfolding(view_rules::specs::Formulas::made_tangent))]
 fn tangent(i: u32) -> i32
     requires { i < TANGENTS }
     ensures { result ≡ made_tangent i }
@@ -148,7 +150,7 @@ fn tangent(i: u32) -> i32
 }
 
 // The tangent of fine angle j, below a quarter of a turn: sine by cosine.
-#[tactic(auto, using(made_rules::proofs::TableLemmas::table_bounds), unfolding(made_rules::specs::Tables::upper_tangent))]
+#[tactic(auto, using(made_rules::proofs::TableLemmas::table_bounds), unfolding(view_rules::specs::Formulas::upper_tangent))]
 fn upper_tangent(j: u32) -> u32
     requires { j < QUARTER }
     ensures value { result ≡ upper_tangent j }
@@ -158,7 +160,7 @@ fn upper_tangent(j: u32) -> u32
 }
 
 // The sine of fine angle i of the first half turn.
-#[tactic(auto, using(made_rules::proofs::TableLemmas::table_bounds), unfolding(made_rules::specs::Tables::half_sine))]
+#[tactic(auto, using(made_rules::proofs::TableLemmas::table_bounds), unfolding(view_rules::specs::Formulas::half_sine))]
 fn half_sine(i: u32) -> u32
     requires { i < HALF_TURN }
     ensures value { result ≡ half_sine i }
@@ -170,7 +172,7 @@ fn half_sine(i: u32) -> u32
 }
 
 // The product of the distances to both ends of the half turn, in half steps of a fine angle.
-#[tactic(auto, using(made_rules::proofs::TableLemmas::table_bounds), unfolding(made_rules::specs::Tables::sine_product))]
+#[tactic(auto, using(made_rules::proofs::TableLemmas::table_bounds), unfolding(view_rules::specs::Formulas::sine_product))]
 fn sine_product(i: u32) -> u32
     requires { i < HALF_TURN }
     ensures value { result ≡ sine_product i }

@@ -36,7 +36,8 @@ pub fn textures(alloc: Global) -> Result<Vec<u8>, AllocError>
 
 #[tactic(auto, unfolding(made_rules::specs::Textures::wall_textures))]
 fn put_walls(lump: &mut Vec<u8>) -> Result<(), AllocError>
-    ensures { OnOk result (lump.new.items ≡ lump.old.items ++ flat_map texture_bytes wall_textures) }
+    ensures { OnOk result (lump.new.items ≡ lump.old.items ++ flat_map texture_bytes
+        wall_textures) }
 {
     let wall = PatchPlace {
         x: 0,
@@ -55,7 +56,8 @@ fn put_walls(lump: &mut Vec<u8>) -> Result<(), AllocError>
 
 #[tactic(auto, unfolding(made_rules::specs::Textures::other_textures))]
 fn put_others(lump: &mut Vec<u8>) -> Result<(), AllocError>
-    ensures { OnOk result (lump.new.items ≡ lump.old.items ++ flat_map texture_bytes other_textures) }
+    ensures { OnOk result (lump.new.items ≡ lump.old.items ++ flat_map texture_bytes
+        other_textures) }
 {
     put_texture(
         lump,
@@ -87,7 +89,8 @@ fn put_texture(
     patches: &[PatchPlace],
 ) -> Result<(), AllocError>
     requires { length patches.now < 2 ^ 16 }
-    ensures { OnOk result (lump.new.items ≡ lump.old.items ++ texture_bytes (texture name.now width patches.now)) }
+    ensures { OnOk result (lump.new.items ≡ lump.old.items ++ texture_bytes
+        (texture name.now width patches.now)) }
 {
     lump.extend_from_slice(name)?;
     put_halves(
@@ -98,7 +101,8 @@ fn put_texture(
 }
 
 fn put_patches(lump: &mut Vec<u8>, patches: &[PatchPlace]) -> Result<(), AllocError>
-    ensures { OnOk result (lump.new.items ≡ lump.old.items ++ flat_map patch_place_bytes patches.now) }
+    ensures { OnOk result (lump.new.items ≡ lump.old.items ++ flat_map patch_place_bytes
+        patches.now) }
 {
     for place in patches {
         put_patch(lump, *place)?;

@@ -3,8 +3,8 @@ use Rattle.std.proofs.Common.{◌≡◌, ℕ, ◌+◌, ◌-◌, ◌*◌, ◌/◌
 use Rattle.std.proofs.Math.Nat.{mul-add, add-mul, mul_comm, mul-le-mul_right, div-le_of_le-mul}
 use Rattle.std.proofs.lemmas.Nat.{le-div}
 use Rattle.std.proofs.lemmas.Bool.{cases_lt}
-use Rattle.made_rules.specs.declared.tables.TheConstants.{HALF_TURN, HALF_STEPS, QUARTER}
-use Rattle.made_rules.specs.Tables.{sine_product, half_sine, upper_tangent}
+use Rattle.view_rules.specs.declared.formula.TheConstants.{HALF_TURN, HALF_STEPS, QUARTER}
+use Rattle.view_rules.specs.Formulas.{sine_product, half_sine, upper_tangent}
 
 -- the square of the middle is the product of two numbers as far from it, and the square of how far
 product_and_square : (a d : ℕ) → a * (a + (d + d)) + d * d ≡ (a + d) * (a + d)

@@ -1,7 +1,7 @@
 -- The thing table, and the paths: tables as text, a row a line.
 use Rattle.std.specs.Prelude.{ℕ, ◌+◌, ◌*◌, ◌%◌, ◌^◌, List, ◌++◌, codes, decimal}
 use Rattle.made_rules.specs.declared.path.TheConstants.{VIEWS_PER_NUMBER, ROOM_SIZE, WALL_DISTANCE, FREE_STEPS, EAST_ROOMS, EAST_STEPS, NORTH_ROOMS, NORTH_STEPS, ANGLE_STEP}
-use Rattle.made_rules.specs.declared.tables.TheConstants.{ONE}
+use Rattle.view_rules.specs.declared.formula.TheConstants.{ONE}
 use Rattle.made_rules.specs.Bytes.{records}
 
 -- the tree, which stands in every cell of a made level

@@ -26,7 +26,7 @@ pub use pictures::{
     COLORMAPS, COLOURS, FLAT_SIZE, FLATS, GRATE, PatchPlace, Picture, Post, SKY, TREE, WALL,
     WALL_NARROW,
 };
-pub use tables::{HALF_STEPS, HALF_TURN, ONE, QUARTER, SINES, SLOPE_STEP, SLOPES, TANGENTS};
+pub use tables::{SINES, SLOPE_STEP, SLOPES, TANGENTS};
 pub use wad::{HEAD_SIZE, LUMPS};
 
 /// The greatest number that names made files.

@@ -49,7 +49,8 @@ impl MapLists {
     #[tactic(auto, unfolding(map_rules::specs::Levels::level_from, map_rules::specs::Levels::unless))]
     pub(crate) fn level(self, alloc: Global) -> Result<Level, MapFault>
         ensures ok { IfOk result (λ level. level_from self ≡ Ok level) }
-        ensures refused { (r : MapRefusal) → result ≡ Err (MapFault.Refused r) → level_from self ≡ Err r }
+        ensures refused { (r : MapRefusal) → result ≡ Err (MapFault.Refused r) →
+            level_from self ≡ Err r }
         ensures sound { IfOk result IsSound }
     {
         self.check(alloc)?;

@@ -15,7 +15,8 @@ use std::alloc::Global;
 pub(crate) fn check_tree(alloc: Global, nodes: &[Node]) -> Result<(), MapFault>
     requires { length nodes.now ≤ MAX_RECORDS }
     ensures ok { OnOk result (tree_refusal nodes.now ≡ None) }
-    ensures refused { (r : MapRefusal) → result ≡ Err (MapFault.Refused r) → tree_refusal nodes.now ≡ Some r }
+    ensures refused { (r : MapRefusal) → result ≡ Err (MapFault.Refused r) →
+        tree_refusal nodes.now ≡ Some r }
 {
     let mut reached = vec![in alloc; false; nodes.len()]?;
     match visit(nodes, root_of(nodes), 1, &mut reached) {

@@ -33,10 +33,12 @@ pub fn walk<V: Visitor>(
     requires uncovered { cover.old ≡ replicate view.now.shape.width false }
     requires takes { TakesAll (V.takes visitor.old) (length scene.now.level.now.leaves)
         (length scene.now.level.now.segs) view.now.shape.width }
-    ensures visits { let lists = walk_lists scene.now.level.now scene.now.surfaces.now scene.now.middles.now in
+    ensures visits { let lists = walk_lists scene.now.level.now scene.now.surfaces.now
+        scene.now.middles.now in
         Visits (V.takes visitor.old) (V.takes visitor.new) (V.stands visitor.old)
         (V.stands visitor.new) (V.stopped visitor.new) (view_events view.now lists) result }
-    ensures covered { let lists = walk_lists scene.now.level.now scene.now.surfaces.now scene.now.middles.now in
+    ensures covered { let lists = walk_lists scene.now.level.now scene.now.surfaces.now
+        scene.now.middles.now in
         let start = walk_start view.now.shape.width in
         OnOk result (cover.new ≡ (walk_child view.now lists MAX_DEPTH lists.root start).covered) }
     ensures width { length cover.new ≡ length cover.old }

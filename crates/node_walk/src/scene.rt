@@ -45,7 +45,8 @@ impl<'a> Lists<'a> {
     pub fn new(scene: &WalkScene<'a>) -> Lists<'a>
         requires surfaces { length scene.now.surfaces.now ≡ length scene.now.level.now.sectors }
         requires middles { length scene.now.middles.now ≡ length scene.now.level.now.sides }
-        ensures { result ≡ walk_lists scene.now.level.now scene.now.surfaces.now scene.now.middles.now }
+        ensures { result ≡ walk_lists scene.now.level.now scene.now.surfaces.now
+            scene.now.middles.now }
     {
         Lists {
             segs: scene.level.segs(),

@@ -58,7 +58,8 @@ impl MemoryShelf {
     /// A shelf of these files, with the numbers of the calls that fail. Takes no memory.
     pub fn new(files: Vec<MemoryFile>, failing: Vec<u64>) -> MemoryShelf
         requires { length files.items < 2 ^ 32 }
-        ensures { result ≡ record { files = files.items; failing = failing.items; calls = 0; faults = 0; taken = 0 } }
+        ensures { result ≡ record
+            { files = files.items; failing = failing.items; calls = 0; faults = 0; taken = 0 } }
     {
         MemoryShelf {
             files,
@@ -76,7 +77,8 @@ fn place_of(files: &[MemoryFile], name: &str) -> Option<usize>
     ensures within { IfSome result (λ place. place < length files.now) }
     ensures first { result ≡ first_named name.now files.now }
     ensures named { MatchOption result (file_named name.now files.now ≡ None)
-        (λ place. IsSome (file_named name.now files.now) × (file_at files.now place ≡ file_named name.now files.now)) }
+        (λ place. IsSome (file_named name.now files.now) ×
+            (file_at files.now place ≡ file_named name.now files.now)) }
 {
     position_of(files, name)
 }
@@ -90,7 +92,9 @@ fn position_of(files: &[MemoryFile], name: &str) -> Option<usize>
 
 // The length of the file at an index.
 fn length_at(files: &[MemoryFile], place: usize) -> Option<u64>
-    ensures { MatchOption result (file_at files.now place ≡ None) (λ size. IsSome (file_at files.now place) × IfSome (file_at files.now place) (λ file. size ≡ length file)) }
+    ensures { MatchOption result (file_at files.now place ≡ None) (λ size.
+        IsSome (file_at files.now place) ×
+        IfSome (file_at files.now place) (λ file. size ≡ length file)) }
 {
     let file = files.get(place)?;
     Some(file.bytes.len() as u64)
@@ -99,8 +103,10 @@ fn length_at(files: &[MemoryFile], place: usize) -> Option<u64>
 // Fills the piece from the file at an index, where all the bytes are there.
 fn fill(files: &[MemoryFile], number: usize, place: u64, piece: &mut [u8]) -> bool
     ensures exact { result ≡ has_piece files.now number place (length piece.old) }
-    ensures filled { IsTrue result → IfSome (file_at files.now number) (λ file. IsPieceAt file place piece.new) }
-    ensures short { (result ≡ false) → IfSome (file_at files.now number) (λ file. length file < place + length piece.old) }
+    ensures filled { IsTrue result →
+        IfSome (file_at files.now number) (λ file. IsPieceAt file place piece.new) }
+    ensures short { (result ≡ false) →
+        IfSome (file_at files.now number) (λ file. length file < place + length piece.old) }
 {
     let Some(file) = files.get(number) else {
         return false;
@@ -143,15 +149,22 @@ impl Shelf for MemoryShelf {
     ///
     /// Errors: `Failed` exactly where this call is one that fails, or no file has the name.
     fn find(&mut self, name: &str) -> Result<FileNo, Failed>
-        ensures found { IfOk result (λ number. IfSome (memory_view self.old).held (StandsForNamed (memory_view self.new) number.0 name.now)) }
+        ensures found { IfOk result (λ number.
+            IfSome (memory_view self.old).held
+            (StandsForNamed (memory_view self.new) number.0 name.now)) }
         ensures follows { IsLaterShelf (memory_view self.old) (memory_view self.new) }
         ensures untaken { (memory_view self.new).taken ≡ (memory_view self.old).taken }
-        ensures failed { OnErr result (FaultsRose (memory_view self.old).faults (memory_view self.new).faults) }
-        ensures steady { IsTrue (memory_view self.old).steady → IfSome (memory_view self.old).held (λ files. IsSome (file_named name.now files) → IsOk result) }
-        ensures first { IfOk result (λ number. Some number.0 ≡ first_named name.now self.old.files) }
+        ensures failed { OnErr result
+            (FaultsRose (memory_view self.old).faults (memory_view self.new).faults) }
+        ensures steady { IsTrue (memory_view self.old).steady →
+            IfSome (memory_view self.old).held (λ files. IsSome (file_named name.now files) →
+            IsOk result) }
+        ensures first { IfOk result (λ number.
+            Some number.0 ≡ first_named name.now self.old.files) }
         ensures ok { OnOk result (self.new ≡ called self.old) }
         ensures err { OnErr result (self.new ≡ failed self.old) }
-        ensures cause { IsErr result ↔ (IsFailing self.old ⊎ (first_named name.now self.old.files ≡ None)) }
+        ensures cause { IsErr result ↔
+            (IsFailing self.old ⊎ (first_named name.now self.old.files ≡ None)) }
     {
         if self.is_failing() {
             return Err(self.fail());
@@ -166,14 +179,18 @@ impl Shelf for MemoryShelf {
     ///
     /// Errors: `Failed` exactly where this call is one that fails, or no file has the index.
     fn size_of(&mut self, file: FileNo) -> Result<u64, Failed>
-        ensures size { IfOk result (λ size. IfSome ((memory_view self.old).file file.0) (λ bytes. size ≡ length bytes)) }
+        ensures size { IfOk result (λ size.
+            IfSome ((memory_view self.old).file file.0) (λ bytes. size ≡ length bytes)) }
         ensures follows { IsLaterShelf (memory_view self.old) (memory_view self.new) }
         ensures untaken { (memory_view self.new).taken ≡ (memory_view self.old).taken }
-        ensures failed { OnErr result (FaultsRose (memory_view self.old).faults (memory_view self.new).faults) }
-        ensures steady { IsTrue (memory_view self.old).steady → IsSome ((memory_view self.old).file file.0) → IsOk result }
+        ensures failed { OnErr result
+            (FaultsRose (memory_view self.old).faults (memory_view self.new).faults) }
+        ensures steady { IsTrue (memory_view self.old).steady →
+            IsSome ((memory_view self.old).file file.0) → IsOk result }
         ensures ok { OnOk result (self.new ≡ called self.old) }
         ensures err { OnErr result (self.new ≡ failed self.old) }
-        ensures cause { IsErr result ↔ (IsFailing self.old ⊎ (file_at self.old.files file.0 ≡ None)) }
+        ensures cause { IsErr result ↔
+            (IsFailing self.old ⊎ (file_at self.old.files file.0 ≡ None)) }
     {
         if self.is_failing() {
             return Err(self.fail());
@@ -189,15 +206,25 @@ impl Shelf for MemoryShelf {
     /// Errors: `Failed` exactly where this call is one that fails, no file has the index, or the
     /// file ends before the piece is full.
     fn read_at(&mut self, file: FileNo, place: u64, piece: &mut [u8]) -> Result<(), Failed>
-        ensures bytes { OnOk result (IfSome ((memory_view self.old).file file.0) (λ bytes. IsPieceAt bytes place piece.new)) }
+        ensures bytes { OnOk result
+            (IfSome ((memory_view self.old).file file.0) (λ bytes.
+            IsPieceAt bytes place piece.new)) }
         ensures follows { IsLaterShelf (memory_view self.old) (memory_view self.new) }
-        ensures taken { OnOk result ((memory_view self.new).taken ≡ counted (memory_view self.old).taken (length piece.old)) }
-        ensures untaken { OnErr result ((memory_view self.new).taken ≡ (memory_view self.old).taken) }
-        ensures failed { OnErr result (FaultsRose (memory_view self.old).faults (memory_view self.new).faults) }
-        ensures steady { IsTrue (memory_view self.old).steady → IfSome ((memory_view self.old).file file.0) (λ bytes. place + length piece.old ≤ length bytes → IsOk result) }
+        ensures taken { OnOk result
+            ((memory_view self.new).taken ≡ counted (memory_view self.old).taken
+            (length piece.old)) }
+        ensures untaken { OnErr result
+            ((memory_view self.new).taken ≡ (memory_view self.old).taken) }
+        ensures failed { OnErr result
+            (FaultsRose (memory_view self.old).faults (memory_view self.new).faults) }
+        ensures steady { IsTrue (memory_view self.old).steady →
+            IfSome ((memory_view self.old).file file.0) (λ bytes.
+            place + length piece.old ≤ length bytes → IsOk result) }
         ensures ok { OnOk result (self.new ≡ read self.old (length piece.old)) }
         ensures err { OnErr result (self.new ≡ failed self.old) }
-        ensures cause { IsErr result ↔ (IsFailing self.old ⊎ (has_piece self.old.files file.0 place (length piece.old) ≡ false)) }
+        ensures cause { IsErr result ↔
+            (IsFailing self.old ⊎
+            (has_piece self.old.files file.0 place (length piece.old) ≡ false)) }
     {
         if self.is_failing() {
             return Err(self.fail());

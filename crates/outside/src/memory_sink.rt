@@ -66,7 +66,9 @@ impl MemorySink {
         room: usize,
         failing: Vec<PutFault>,
     ) -> Result<MemorySink, OutOfMemory>
-        ensures { IfOk result (λ sink. sink ≡ record { bytes = []; room = room; failing = failing.items; calls = 0; faults = 0 }) }
+        ensures { IfOk result (λ sink.
+            sink ≡ record { bytes = []; room = room; failing = failing.items; calls = 0; faults = 0
+            }) }
     {
         Ok(MemorySink {
             bytes: Vec::with_capacity(alloc, room)?,
@@ -116,8 +118,10 @@ impl Sink for MemorySink {
     /// Errors: `Failed` exactly where this put is listed, or the piece passes the room.
     #[tactic(auto, using(crate::proofs::MemorySinkLemmas::appended))]
     fn put(&mut self, piece: &[u8]) -> Result<(), Failed>
-        ensures writes { Writes (λ bytes. bytes ≡ self.old.bytes) (λ bytes. bytes ≡ self.new.bytes) self.old.faults self.new.faults piece.now result }
-        ensures ok { OnOk result (self.new ≡ record self.old { bytes = self.old.bytes ++ piece.now; calls = counted self.old.calls 1 }) }
+        ensures writes { Writes (λ bytes. bytes ≡ self.old.bytes) (λ bytes.
+            bytes ≡ self.new.bytes) self.old.faults self.new.faults piece.now result }
+        ensures ok { OnOk result (self.new ≡ record self.old
+            { bytes = self.old.bytes ++ piece.now; calls = counted self.old.calls 1 }) }
         ensures err { OnErr result (self.new ≡ failed self.old piece.now) }
         ensures cause { IsOk result ↔ IsPassed self.old piece.now }
     {

@@ -78,7 +78,8 @@ fn union(a: Range, b: Range) -> Range
 // Takes out the ranges from an index on that a range touches, and gives the range joined with them.
 fn absorb(ranges: &mut ArrayVec<Range, MAX_RANGES>, index: usize, range: Range) -> Range
     requires { index ≤ array_vec_len ranges.old }
-    ensures joined { joined range (drop index ranges.old.items) ≡ result ∷ drop index ranges.new.items }
+    ensures joined { joined range (drop index ranges.old.items) ≡ result ∷ drop index
+        ranges.new.items }
     ensures front { take index ranges.new.items ≡ take index ranges.old.items }
     ensures within { index ≤ array_vec_len ranges.new }
     ensures shorter { array_vec_len ranges.new ≤ array_vec_len ranges.old }

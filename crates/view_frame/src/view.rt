@@ -130,7 +130,8 @@ impl<'a> View<'a> {
     #[tactic(auto, unfolding(view_rules::specs::Ranges::column_range))]
     pub fn column_range(&self, angle1: u32, angle2: u32) -> ColumnRange
         ensures value { result ≡ column_range self.now angle1 angle2 }
-        ensures order { (x1 x2 : ℕ) → result ≡ ColumnRange.Columns x1 x2 → (x1 ≤ x2) × (x2 ≤ self.now.shape.width) }
+        ensures order { (x1 x2 : ℕ) → result ≡ ColumnRange.Columns x1 x2 →
+            (x1 ≤ x2) × (x2 ≤ self.now.shape.width) }
     {
         let span = turn_back(angle1, angle2);
         if span >= ANG180 {
@@ -146,7 +147,8 @@ impl<'a> View<'a> {
     fn range_in_front(&self, span: u32, angle1: u32, angle2: u32) -> ColumnRange
         requires { turn_back angle1 angle2 < 2 ^ 31 }
         ensures value { result ≡ range_in_front self.now span angle1 angle2 }
-        ensures order { (x1 x2 : ℕ) → result ≡ ColumnRange.Columns x1 x2 → (x1 ≤ x2) × (x2 ≤ self.now.shape.width) }
+        ensures order { (x1 x2 : ℕ) → result ≡ ColumnRange.Columns x1 x2 →
+            (x1 ≤ x2) × (x2 ≤ self.now.shape.width) }
     {
         let clip = self.tables.clip_angle();
         let left = clipped_left(clip, span, angle1);
@@ -157,7 +159,8 @@ impl<'a> View<'a> {
     /// The columns between two ends of a range.
     #[tactic(auto, unfolding(view_rules::specs::Ranges::range_between))]
     fn range_between(&self, left: Option<u32>, right: Option<u32>) -> ColumnRange
-        requires { (a b : ℕ) → left ≡ Some a → right ≡ Some b → (turn a ang90 < 2 ^ 31) × (turn b ang90 < 2 ^ 31) }
+        requires { (a b : ℕ) → left ≡ Some a → right ≡ Some b →
+            (turn a ang90 < 2 ^ 31) × (turn b ang90 < 2 ^ 31) }
         ensures { result ≡ range_between self.now left right }
     {
         let Some(left) = left else {

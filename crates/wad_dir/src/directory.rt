@@ -73,18 +73,24 @@ impl Directory {
         shelf: &mut S,
         files: &[FileNo],
     ) -> Result<Directory, DirFault>
-        ensures answers { (contents : List (List ℕ)) → NameFiles (S.view shelf.old) files.now contents →
-            ResultIs dir_fault (S.view shelf.old).steady (λ dir. dir.lumps) (directory contents) result }
+        ensures answers { (contents : List (List ℕ)) →
+            NameFiles (S.view shelf.old) files.now contents →
+            ResultIs dir_fault (S.view shelf.old).steady (λ dir.
+                dir.lumps) (directory contents) result }
         ensures files { IfOk result (λ dir. dir.files ≡ files.now) }
-        ensures within { (contents : List (List ℕ)) → NameFiles (S.view shelf.old) files.now contents →
+        ensures within { (contents : List (List ℕ)) →
+            NameFiles (S.view shelf.old) files.now contents →
             IfOk result (λ dir. AllWithin contents dir.lumps) }
         ensures count { IfOk result (λ dir. length dir.lumps < 2 ^ 16) }
         ensures follows { IsLaterShelf (S.view shelf.old) (S.view shelf.new) }
-        ensures causes { HasCauses dir_fault (S.view shelf.old).faults (S.view shelf.new).faults result }
-        ensures taken { (contents : List (List ℕ)) → NameFiles (S.view shelf.old) files.now contents →
+        ensures causes { HasCauses dir_fault (S.view shelf.old).faults (S.view shelf.new).faults
+            result }
+        ensures taken { (contents : List (List ℕ)) →
+            NameFiles (S.view shelf.old) files.now contents →
             (S.view shelf.new).taken ≤ (S.view shelf.old).taken + listing_sizes contents }
         ensures taken_by_count { IfOk result (λ dir.
-            (S.view shelf.new).taken ≤ (S.view shelf.old).taken + (HEADER_SIZE * length dir.files + ENTRY_SIZE * length dir.lumps)) }
+            (S.view shelf.new).taken ≤ (S.view shelf.old).taken +
+                (HEADER_SIZE * length dir.files + ENTRY_SIZE * length dir.lumps)) }
     {
         let list = read_lumps(alloc, shelf, files)?;
         Ok(Directory::new(alloc, files, list)?)

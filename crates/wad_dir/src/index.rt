@@ -61,7 +61,8 @@ fn index_of(
     requires few { length lumps.now < 2 ^ 16 }
     requires marks { length marked.now ≡ length lumps.now }
     ensures { IfOk result (λ index. (name : List ℕ) →
-        indexed index name ≡ greatest (λ number. get_or marked.now number false && has_name lumps.now name number) (length lumps.now)) }
+        indexed index name ≡ greatest (λ number.
+            get_or marked.now number false && has_name lumps.now name number) (length lumps.now)) }
 {
     let mut index = BTreeMap::new(alloc);
     for (i, lump) in lumps.iter().enumerate() {
@@ -94,7 +95,8 @@ fn every_lump(alloc: Global, count: usize) -> Result<Vec<bool>, OutOfMemory>
 // Whether each lump stands in the group.
 #[tactic(auto, unfolding(word_rules::specs::Least::greatest, word_rules::specs::Listed::listed))]
 fn mark_members(alloc: Global, lumps: &[Lump], group: Group) -> Result<Vec<bool>, OutOfMemory>
-    ensures marks { IfOk result (λ marks. marks.items ≡ listed (is_member group lumps.now) (length lumps.now)) }
+    ensures marks { IfOk result (λ marks.
+        marks.items ≡ listed (is_member group lumps.now) (length lumps.now)) }
     ensures count { IfOk result (λ marks. length marks.items ≡ length lumps.now) }
 {
     let mut marks = Vec::new(alloc);
@@ -153,7 +155,9 @@ fn is_end(group: Group, name: &Name8) -> bool
 // The numbers that are marked, in order.
 fn list_marked(alloc: Global, marked: &[bool]) -> Result<Vec<LumpNo>, OutOfMemory>
     requires { length marked.now < 2 ^ 16 }
-    ensures { IfOk result (λ found. map (λ lump. lump.0) found.items ≡ filter (λ number. get_or marked.now number false) (range_with_len 0 (length marked.now))) }
+    ensures { IfOk result (λ found.
+        map (λ lump. lump.0) found.items ≡ filter (λ number.
+        get_or marked.now number false) (range_with_len 0 (length marked.now))) }
 {
     let mut found = Vec::new(alloc);
     for (i, is_marked) in marked.iter().enumerate() {

@@ -21,15 +21,18 @@ pub fn read_lumps<S: Shelf>(
     files: &[FileNo],
 ) -> Result<Vec<Lump>, DirFault>
     ensures answers { (contents : List (List ℕ)) → NameFiles (S.view shelf.old) files.now contents →
-        ResultIs dir_fault (S.view shelf.old).steady (λ lumps. lumps.items) (directory contents) result }
+        ResultIs dir_fault (S.view shelf.old).steady (λ lumps.
+            lumps.items) (directory contents) result }
     ensures few { IfOk result (λ lumps. length lumps.items ≤ MAX_LUMPS) }
     ensures owned { IfOk result (λ lumps. All (λ lump. lump.file < length files.now) lumps.items) }
     ensures follows { IsLaterShelf (S.view shelf.old) (S.view shelf.new) }
-    ensures causes { HasCauses dir_fault (S.view shelf.old).faults (S.view shelf.new).faults result }
+    ensures causes { HasCauses dir_fault (S.view shelf.old).faults (S.view shelf.new).faults
+        result }
     ensures taken { (contents : List (List ℕ)) → NameFiles (S.view shelf.old) files.now contents →
         (S.view shelf.new).taken ≤ (S.view shelf.old).taken + listing_sizes contents }
     ensures taken_by_count { IfOk result (λ lumps.
-        (S.view shelf.new).taken ≤ (S.view shelf.old).taken + (HEADER_SIZE * length files.now + ENTRY_SIZE * length lumps.items)) }
+        (S.view shelf.new).taken ≤ (S.view shelf.old).taken +
+            (HEADER_SIZE * length files.now + ENTRY_SIZE * length lumps.items)) }
 {
     let mut lumps = Vec::new(alloc);
     for (i, file) in files.iter().enumerate() {
@@ -49,15 +52,19 @@ fn read_file<S: Shelf>(
 ) -> Result<Vec<Lump>, DirFault>
     requires { before ≤ MAX_LUMPS }
     ensures answers { (bytes : List ℕ) → Stands (S.view shelf.old) file.0 bytes →
-        ResultIs dir_fault (S.view shelf.old).steady (λ lumps. lumps.items) (unless_refused (file_refusal number before bytes) (file_lumps number bytes)) result }
+        ResultIs dir_fault (S.view shelf.old).steady (λ lumps.
+            lumps.items) (unless_refused (file_refusal number before bytes)
+            (file_lumps number bytes)) result }
     ensures few { IfOk result (λ lumps. before + length lumps.items ≤ MAX_LUMPS) }
     ensures owned { IfOk result (λ lumps. All (λ lump. lump.file ≡ number) lumps.items) }
     ensures follows { IsLaterShelf (S.view shelf.old) (S.view shelf.new) }
-    ensures causes { HasCauses dir_fault (S.view shelf.old).faults (S.view shelf.new).faults result }
+    ensures causes { HasCauses dir_fault (S.view shelf.old).faults (S.view shelf.new).faults
+        result }
     ensures taken { (bytes : List ℕ) → Stands (S.view shelf.old) file.0 bytes →
         (S.view shelf.new).taken ≤ (S.view shelf.old).taken + listing_size bytes }
     ensures taken_by_count { IfOk result (λ lumps.
-        (S.view shelf.new).taken ≤ (S.view shelf.old).taken + (HEADER_SIZE + ENTRY_SIZE * length lumps.items)) }
+        (S.view shelf.new).taken ≤ (S.view shelf.old).taken +
+            (HEADER_SIZE + ENTRY_SIZE * length lumps.items)) }
 {
     let head = read_header(shelf, number, before, file)?;
     let size = ENTRY_SIZE * head.count as usize;
@@ -74,11 +81,14 @@ fn read_header<S: Shelf>(
 ) -> Result<Header, DirFault>
     requires { before ≤ MAX_LUMPS }
     ensures answers { (bytes : List ℕ) → Stands (S.view shelf.old) file.0 bytes →
-        ResultIs dir_fault (S.view shelf.old).steady (λ head. head) (unless_refused (header_refusal number before bytes) (header_in (length bytes) (header bytes))) result }
+        ResultIs dir_fault (S.view shelf.old).steady (λ head.
+            head) (unless_refused (header_refusal number before bytes)
+            (header_in (length bytes) (header bytes))) result }
     ensures within { IfOk result (λ head. head.place + ENTRY_SIZE * head.count ≤ head.size) }
     ensures few { IfOk result (λ head. before + head.count ≤ MAX_LUMPS) }
     ensures follows { IsLaterShelf (S.view shelf.old) (S.view shelf.new) }
-    ensures causes { HasCauses dir_fault (S.view shelf.old).faults (S.view shelf.new).faults result }
+    ensures causes { HasCauses dir_fault (S.view shelf.old).faults (S.view shelf.new).faults
+        result }
     ensures taken { (S.view shelf.new).taken ≤ (S.view shelf.old).taken + HEADER_SIZE }
 {
     let size = shelf.size_of(file)?;
@@ -95,7 +105,8 @@ fn read_header<S: Shelf>(
 fn check_header(number: u64, before: u64, size: u64, head: &[u8]) -> Result<Header, DirRefusal>
     requires whole { length head.now ≡ HEADER_SIZE }
     requires before { before ≤ MAX_LUMPS }
-    ensures header { result ≡ unless_refused (whole_header_refusal number before size head.now) (header_in size head.now) }
+    ensures header { result ≡ unless_refused (whole_header_refusal number before size head.now)
+        (header_in size head.now) }
     ensures within { IfOk result (λ head. head.place + ENTRY_SIZE * head.count ≤ size) }
     ensures size { IfOk result (λ head. head.size ≡ size) }
     ensures few { IfOk result (λ head. before + head.count ≤ MAX_LUMPS) }
@@ -129,11 +140,14 @@ fn read_piece<S: Shelf>(
     place: u64,
     size: usize,
 ) -> Result<Vec<u8>, DirFault>
-    ensures answers { (bytes : List ℕ) → Stands (S.view shelf.old) file.0 bytes → place + size ≤ length bytes →
-        ResultIs dir_fault (S.view shelf.old).steady (λ piece. piece.items) (Ok (take size (drop place bytes))) result }
+    ensures answers { (bytes : List ℕ) → Stands (S.view shelf.old) file.0 bytes →
+        place + size ≤ length bytes →
+        ResultIs dir_fault (S.view shelf.old).steady (λ piece.
+            piece.items) (Ok (take size (drop place bytes))) result }
     ensures size { IfOk result (λ piece. length piece.items ≡ size) }
     ensures follows { IsLaterShelf (S.view shelf.old) (S.view shelf.new) }
-    ensures causes { HasCauses dir_fault (S.view shelf.old).faults (S.view shelf.new).faults result }
+    ensures causes { HasCauses dir_fault (S.view shelf.old).faults (S.view shelf.new).faults
+        result }
     ensures taken { (S.view shelf.new).taken ≤ (S.view shelf.old).taken + size }
 {
     let mut bytes = vec![in alloc; 0; size]?;
@@ -145,7 +159,8 @@ fn read_piece<S: Shelf>(
 fn lumps_of(alloc: Global, number: u64, head: Header, entries: &[u8]) -> Result<Vec<Lump>, DirFault>
     requires { length entries.now ≡ ENTRY_SIZE * head.count }
     ensures answers { let lumps = lumps_in number head.count entries.now in
-        ResultIs dir_fault true (λ found. found.items) (unless_refused (entry_refusal number head.size lumps) lumps) result }
+        ResultIs dir_fault true (λ found.
+            found.items) (unless_refused (entry_refusal number head.size lumps) lumps) result }
     ensures count { IfOk result (λ lumps. length lumps.items ≡ head.count) }
     ensures owned { IfOk result (λ lumps. All (λ lump. lump.file ≡ number) lumps.items) }
     ensures causes { (before now : ℕ) → HasCauses dir_fault before now result }

@@ -1,7 +1,7 @@
 -- The tangents so far are listed.
 use Rattle.std.proofs.Common.{◌≡◌}
 use Rattle.word_rules.specs.Listed.{listed}
-use Rattle.made_rules.specs.Tables.{upper_tangent}
+use Rattle.view_rules.specs.Formulas.{upper_tangent}
 use Rattle.level_maker.proofs.tables.upper_tangents.Given as goal
 
 abbrev pub invariant-loop-j : goal.invariant-loop-j
