@@ -2,9 +2,10 @@
 use Rattle.std.proofs.Common.{◌≡◌, ℕ, zero, suc, ◌+◌, ◌<◌, ◌≤◌, true, false, cond, ◌==◌, List, [], ◌∷◌, ◌++◌, length, get_or, set, replicate, option_map, slice_get, All, IfSome, Option, Some, None, refl, ap, sym, ◌∙◌, arith, inl, inr, eq-eqb}
 use Rattle.std.proofs.lemmas.List.{get_or-set_same, get_or-set_other, length-append, length-set, length-replicate}
 use Rattle.std.proofs.lemmas.Bool.{ne_eqb, cases_eq}
-use Rattle.csv_tables.specs.declared.things.ThingLine.{ThingLine}
+use Rattle.level_rules.specs.declared.ThingLine.{ThingLine}
 use Rattle.csv_tables.specs.declared.things.TheConstants.{TYPES}
-use Rattle.csv_tables.specs.Things.{IsLineInRange, IsThingInRange, row_of}
+use Rattle.csv_tables.specs.Things.{IsLineInRange, IsThingInRange}
+use Rattle.level_rules.specs.Types.{row_of}
 use Rattle.csv_tables.specs.Slots.{AreNumbersOf, numbered_row}
 
 some-none : {X : Type 0} (x : X) → ◌≡◌ {A = Option X} (Some x) None → ⊥

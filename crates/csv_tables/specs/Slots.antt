@@ -1,9 +1,9 @@
 -- The numbers of a thing table's lines, by type.
 use Rattle.std.specs.Prelude.{◌≡◌, ℕ, zero, suc, ◌<◌, ◌≤◌, List, length, Option, None, option_map, get_or, slice_get}
-use Rattle.csv_tables.specs.declared.things.ThingRow.{ThingRow}
-use Rattle.csv_tables.specs.declared.things.ThingLine.{ThingLine}
+use Rattle.level_rules.specs.declared.ThingRow.{ThingRow}
+use Rattle.level_rules.specs.declared.ThingLine.{ThingLine}
 use Rattle.csv_tables.specs.declared.things.TheConstants.{TYPES}
-use Rattle.csv_tables.specs.Things.{row_of}
+use Rattle.level_rules.specs.Types.{row_of}
 
 -- the row of the line with that number, counted from 1
 unfoldable pub numbered_row : List ThingLine → ℕ → Option ThingRow

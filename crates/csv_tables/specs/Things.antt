@@ -3,8 +3,9 @@ use Rattle.std.specs.Prelude.{ℕ, ◌≤◌, Bool, cond, ◌==◌, List, [], �
 use Rattle.csv.specs.Records.{field_at}
 use Rattle.csv_tables.specs.declared.fault.CsvRefusal.{CsvRefusal}
 use Rattle.csv_tables.specs.declared.fault.CsvRefusal.TheVariants.{Header, Repeat}
-use Rattle.csv_tables.specs.declared.things.ThingRow.{ThingRow}
-use Rattle.csv_tables.specs.declared.things.ThingLine.{ThingLine}
+use Rattle.level_rules.specs.declared.ThingRow.{ThingRow}
+use Rattle.level_rules.specs.declared.ThingLine.{ThingLine}
+use Rattle.level_rules.specs.Types.{row_of}
 use Rattle.csv_tables.specs.declared.things.TheConstants.{MAX_HANG, MAX_THINGS, MAX_TYPE, THING_WIDTH}
 use Rattle.csv_tables.specs.declared.columns.TheConstants.{FIRST_FRAME, LAST_FRAME}
 use Rattle.csv_tables.specs.Records.{and_then, is_header, row_shape, table_records}
@@ -17,11 +18,6 @@ IsThingInRange row = (FIRST_FRAME ≤ row.frame) × (row.frame ≤ LAST_FRAME) �
 
 abbrev pub IsLineInRange : ThingLine → Type 0
 IsLineInRange line = (line.kind ≤ MAX_TYPE) × IsThingInRange line.row
-
--- the row of a type
-unfoldable pub row_of : List ThingLine → ℕ → Option ThingRow
-row_of [] kind = None
-row_of (line ∷ lines) kind = cond (line.kind == kind) (Some line.row) (row_of lines kind)
 
 abbrev pub thing_header : List (List ℕ)
 thing_header = codes "type" ∷ codes "sprite" ∷ codes "frame" ∷ codes "bright" ∷ codes "hang" ∷ codes "shadow" ∷ []

@@ -10,7 +10,8 @@ use Rattle.csv_tables.specs.Records.{is_header, records_of, row_shape, table_rec
 use Rattle.csv_tables.specs.Columns.{capital, flag_column, frame_column, in_range, integer_column, is_frame, is_sprite, natural_column, natural_of, number_in, place_column, sprite_column}
 use Rattle.csv_tables.specs.Rows.{rows_after}
 use Rattle.csv_tables.specs.Paths.{light_column, path_in, path_of_records, path_row, path_width, view_of}
-use Rattle.csv_tables.specs.Things.{is_thing_header, line_of, lines_of_records, not_repeated, read_line, row_of, thing_line, things_in}
+use Rattle.csv_tables.specs.Things.{is_thing_header, line_of, lines_of_records, not_repeated, read_line, thing_line, things_in}
+use Rattle.level_rules.specs.Types.{row_of}
 use Rattle.csv_tables.specs.Weapons.{is_weapon_header, weapon_of, weapon_row, weapons_in, weapons_of_records}
 
 -- what the rows below unfold

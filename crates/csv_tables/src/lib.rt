@@ -16,7 +16,8 @@ mod weapons;
 pub use crate::fault::{CsvFault, CsvRefusal};
 pub use crate::path::{PathRow, PathTable};
 pub use crate::records::MAX_TABLE_BYTES;
-pub use crate::things::{ThingLine, ThingRow, ThingTable};
+pub use crate::things::ThingTable;
+pub use level_rules::{ThingLine, ThingRow};
 pub use crate::weapons::{WeaponRow, WeaponTable};
 
 #[cfg(test)]

@@ -3,13 +3,15 @@
 ghost use Rattle.std.specs.Prelude.{◌≡◌, ◌<◌, ◌≤◌, ◌+◌, ℕ, List, [], true, false, length, IfOk, IfSome, map, Option, Some, None, Result, Ok, Err, All, get_or, replicate};
 ghost use Rattle.csv.specs.Records.{fields_of, field_at};
 ghost use Rattle.csv_tables.specs.declared.fault.CsvRefusal.{CsvRefusal};
-ghost use Rattle.csv_tables.specs.Things.{IsLineInRange, IsThingInRange, is_thing_header, line_of, lines_of_records, not_repeated, read_line, row_of, thing_line, thing_lines, things_in};
+ghost use Rattle.csv_tables.specs.Things.{IsLineInRange, IsThingInRange, is_thing_header, line_of, lines_of_records, not_repeated, read_line, thing_line, thing_lines, things_in};
+ghost use Rattle.level_rules.specs.Types.{row_of};
 ghost use Rattle.csv_tables.specs.Slots.{AreNumbersOf, numbered_row};
 
 use crate::columns::{flag_column, frame_column, natural_column, sprite_column};
 use crate::fault::{CsvFault, CsvRefusal};
 use crate::records::{is_header, row_shape, table_records};
 use csv::ByteRecord;
+use level_rules::{ThingLine, ThingRow};
 use std::alloc::{AllocError, Global};
 use std::marker::Model;
 
@@ -30,27 +32,6 @@ pub const TYPES: usize = 65_536;
 /// The greatest distance that a thing hangs below the ceiling, in map units.
 pub const MAX_HANG: u16 = 32_767;
 
-/// How things of a type look: their sprite, its frame letter, whether they are bright, how far
-/// below the ceiling they stand in map units, 0 for a thing on the floor, and whether they are
-/// shadows.
-///
-/// The original: `mobjinfo_t` and its spawn state's `state_t`, info.h.
-#[derive(Clone, Copy, Debug, PartialEq, Eq)]
-pub struct ThingRow {
-    pub sprite: [u8; 4],
-    pub frame: u8,
-    pub bright: bool,
-    pub hang: u16,
-    pub shadow: bool,
-}
-
-/// A line of the file: a type, and how its things look.
-#[derive(Clone, Copy, Debug, PartialEq, Eq)]
-pub struct ThingLine {
-    pub kind: u16,
-    pub row: ThingRow,
-}
-
 /// How the things of each type look; contracts see the lines of the file in order.
 #[derive(Drop)]
 pub struct ThingTable {
@@ -61,9 +42,10 @@ pub struct ThingTable {
 
 impl Model for ThingTable {
     ghost use Rattle.std.specs.Prelude.{List, All};
-    ghost use Rattle.csv_tables.specs.declared.things.ThingLine.{ThingLine};
+    ghost use Rattle.level_rules.specs.declared.ThingLine.{ThingLine};
     ghost use Rattle.csv_tables.specs.Things.{IsLineInRange};
-    ghost use Rattle.csv_tables.specs.Slots.{AreNumbersOf};
+    ghost use Rattle.level_rules.specs.Types.{row_of};
+ghost use Rattle.csv_tables.specs.Slots.{AreNumbersOf};
 
     ghost Value = { List ThingLine };
 

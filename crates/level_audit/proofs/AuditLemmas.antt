@@ -4,7 +4,7 @@ use Rattle.std.proofs.Common.{◌≡◌, ℕ, List, Result, Ok, Err, refl, sym, 
 use Rattle.outside.specs.Shelf.{ShelfView}
 use Rattle.zone_rules.specs.Zones.{Heap}
 use Rattle.wad_dir.specs.DirectoryView.{DirectoryView}
-use Rattle.csv_tables.specs.declared.things.ThingLine.{ThingLine}
+use Rattle.level_rules.specs.declared.ThingLine.{ThingLine}
 use Rattle.lump_cache.specs.Calls.{ReadsLumps}
 use Rattle.lump_cache.proofs.CallLemmas.{tells_as, tells_more, tells_same, tells_short, tells_stop, tells_stop_first}
 use Rattle.level_audit.specs.declared.fault.AuditFault.{AuditFault}

@@ -16,7 +16,7 @@ use Rattle.wad_dir.specs.DirectoryView.{DirectoryView}
 use Rattle.lump_cache.specs.declared.fault.CacheFault.{CacheFault}
 use Rattle.lump_cache.specs.declared.fault.CacheFault.TheVariants.{ZoneFull, ReadFault}
 use Rattle.lump_cache.specs.Caches.{IsAtRest, IsFaithful, NoRoom, WhereFull}
-use Rattle.csv_tables.specs.declared.things.ThingLine.{ThingLine}
+use Rattle.level_rules.specs.declared.ThingLine.{ThingLine}
 use Rattle.lump_cache.specs.Calls.{IfFull, InOrderAt, IsFullFor, HoldContents}
 use Rattle.lump_cache.specs.Sizes.{HasSizes, StandsBeside}
 use Rattle.lump_cache.proofs.CallLemmas.{full_at, order_at}

@@ -16,7 +16,7 @@ use Rattle.zone_rules.specs.declared.TheConstants.{HEADER_SIZE, MIN_FRAGMENT}
 use Rattle.zone_rules.specs.Zones.{Heap, block_size}
 use Rattle.zone_rules.proofs.OrderSumLemmas.{block_least}
 use Rattle.wad_dir.specs.DirectoryView.{DirectoryView}
-use Rattle.csv_tables.specs.declared.things.ThingLine.{ThingLine}
+use Rattle.level_rules.specs.declared.ThingLine.{ThingLine}
 use Rattle.lump_cache.specs.Caches.{IsAtRest}
 use Rattle.lump_cache.specs.Calls.{IfFull, IsFullFor, HoldContents}
 use Rattle.lump_cache.specs.Named.{IsLast}

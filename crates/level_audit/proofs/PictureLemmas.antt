@@ -8,7 +8,7 @@ use Rattle.std.proofs.lemmas.List.Elements.{Contains-append_cases, Contains-appe
 use Rattle.std.proofs.lemmas.List.Folds.{Any-from_list_any, list_any_at}
 use Rattle.texture_build.proofs.MarkLemmas.{filter_same}
 use Rattle.lump_rules.specs.declared.wad.Lump.{Lump}
-use Rattle.wad_dir.specs.declared.directory.LumpNo.{LumpNo}
+use Rattle.lump_rules.specs.declared.wad.LumpNo.{LumpNo}
 use Rattle.art_rules.specs.Wanted.{is_patch_of_any}
 use Rattle.sprite_book.specs.declared.shapes.Frame.{Frame}
 use Rattle.sprite_book.specs.Books.{book_lumps}

@@ -7,7 +7,7 @@ use Rattle.word_rules.proofs.LeastLemmas.{greatest-is}
 use Rattle.outside.specs.Faults.{and_then, from_below}
 use Rattle.lump_rules.specs.declared.wad.Lump.{Lump}
 use Rattle.lump_rules.specs.Lookups.{has_name, last_of, lump_at}
-use Rattle.csv_tables.specs.declared.things.ThingLine.{ThingLine}
+use Rattle.level_rules.specs.declared.ThingLine.{ThingLine}
 use Rattle.art_rules.specs.Wanted.{PreparedTexture, prepared_textures}
 use Rattle.sprite_book.specs.declared.shapes.Frame.{Frame}
 use Rattle.scene_rules.specs.declared.Placed.{Placed}

@@ -1,7 +1,7 @@
 -- The lumps of a scene over its ground that are asked for.
 use Rattle.std.specs.Prelude.{◌≡◌, ℕ, List, map, Ok, ◌⊎◌}
 use Rattle.lump_rules.specs.declared.wad.Lump.{Lump}
-use Rattle.csv_tables.specs.declared.things.ThingLine.{ThingLine}
+use Rattle.level_rules.specs.declared.ThingLine.{ThingLine}
 use Rattle.texture_build.specs.Asked.{IsWantedPatch}
 use Rattle.sprite_book.specs.Calls.{IsWanted}
 use Rattle.scene_rules.specs.Places.{need_of, placed_things}

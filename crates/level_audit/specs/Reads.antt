@@ -6,7 +6,7 @@ use Rattle.lump_rules.specs.Contents.{lump_bytes}
 use Rattle.lump_rules.specs.Lookups.{lump_at}
 use Rattle.zone_rules.specs.Zones.{Heap, block_size}
 use Rattle.wad_dir.specs.DirectoryView.{DirectoryView}
-use Rattle.csv_tables.specs.declared.things.ThingLine.{ThingLine}
+use Rattle.level_rules.specs.declared.ThingLine.{ThingLine}
 use Rattle.lump_cache.specs.Calls.{HoldContents}
 use Rattle.scene_rules.specs.Scenes.{Ground, colormap_of, ground_in}
 use Rattle.level_audit.specs.Asked.{IsOfGround}

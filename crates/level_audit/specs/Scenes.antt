@@ -3,7 +3,7 @@ use Rattle.std.specs.Prelude.{ℕ, List, Result, Ok, Err, option_map}
 use Rattle.outside.specs.Faults.{and_then, from_below}
 use Rattle.lump_rules.specs.declared.wad.Lump.{Lump}
 use Rattle.lump_rules.specs.Lookups.{last_of}
-use Rattle.csv_tables.specs.declared.things.ThingLine.{ThingLine}
+use Rattle.level_rules.specs.declared.ThingLine.{ThingLine}
 use Rattle.art_rules.specs.Wanted.{prepared_textures}
 use Rattle.texture_lists.specs.declared.number.TexNo.{TexNo}
 use Rattle.scene_rules.specs.declared.refusal.AuditRefusal.{AuditRefusal}

@@ -38,6 +38,27 @@ pub struct Thing {
     pub options: u16,
 }
 
+/// How things of a type look: their sprite, its frame letter, whether they are bright, how far
+/// below the ceiling they stand in map units, 0 for a thing on the floor, and whether they are
+/// shadows.
+///
+/// The original: `mobjinfo_t` and its spawn state's `state_t`, info.h.
+#[derive(Clone, Copy, Debug, PartialEq, Eq)]
+pub struct ThingRow {
+    pub sprite: [u8; 4],
+    pub frame: u8,
+    pub bright: bool,
+    pub hang: u16,
+    pub shadow: bool,
+}
+
+/// A line of a thing table: a type, and how its things look.
+#[derive(Clone, Copy, Debug, PartialEq, Eq)]
+pub struct ThingLine {
+    pub kind: u16,
+    pub row: ThingRow,
+}
+
 /// A side of a line: offsets of its textures, their three names, and the number of its sector.
 ///
 /// The offsets are texels, 16.16 fixed point. The original: side_t, r_defs.h.

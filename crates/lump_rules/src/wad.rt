@@ -46,6 +46,10 @@ pub struct Header {
     pub place: u32,
 }
 
+/// The number of a lump: its index among the lumps of all files, in the order of the files.
+#[derive(Clone, Copy, Debug, PartialEq, Eq)]
+pub struct LumpNo(pub u16);
+
 /// Why files are refused. `file` is the index of a file in the order in which the files were given,
 /// and `index` that of an entry in the file's directory.
 ///

@@ -9,7 +9,7 @@ use Rattle.view_rules.specs.declared.TablesRefusal.{TablesRefusal}
 use Rattle.view_rules.specs.Refusals.{angles_in, tables_refusal}
 use Rattle.view_rules.specs.View.{TablesValue}
 use Rattle.csv_tables.specs.declared.path.PathRow.{PathRow}
-use Rattle.csv_tables.specs.declared.things.ThingLine.{ThingLine}
+use Rattle.level_rules.specs.declared.ThingLine.{ThingLine}
 use Rattle.csv_tables.specs.declared.weapons.WeaponRow.{WeaponRow}
 use Rattle.csv_tables.specs.Things.{things_in}
 use Rattle.csv_tables.specs.Paths.{path_in}

@@ -13,9 +13,9 @@ use Rattle.level_rules.specs.declared.TheConstants.{MAX_DEPTH}
 use Rattle.level_rules.specs.Levels.{child_on, no_leaf}
 use Rattle.walk_rules.specs.Boxes.{partition_of}
 use Rattle.map_rules.specs.Levels.{LevelValue}
-use Rattle.csv_tables.specs.declared.things.ThingRow.{ThingRow}
-use Rattle.csv_tables.specs.declared.things.ThingLine.{ThingLine}
-use Rattle.csv_tables.specs.Things.{row_of}
+use Rattle.level_rules.specs.declared.ThingRow.{ThingRow}
+use Rattle.level_rules.specs.declared.ThingLine.{ThingLine}
+use Rattle.level_rules.specs.Types.{row_of}
 use Rattle.sprite_book.specs.declared.shapes.Need.{Need}
 use Rattle.scene_rules.specs.declared.Placed.{Placed}
 use Rattle.scene_rules.specs.declared.TheConstants.{EASY, NORMAL, HARD, NOT_ALONE, LAST_EASY, NORMAL_SKILL, EIGHTH_DEGREES}

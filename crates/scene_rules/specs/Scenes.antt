@@ -9,7 +9,7 @@ use Rattle.level_rules.specs.declared.SideTextures.{SideTextures}
 use Rattle.map_rules.specs.declared.refusal.MapRefusal.{MapRefusal}
 use Rattle.map_rules.specs.declared.refusal.MapRefusal.TheVariants.{NoMap}
 use Rattle.map_rules.specs.Levels.{MapBytes, LevelValue, level_of}
-use Rattle.csv_tables.specs.declared.things.ThingLine.{ThingLine}
+use Rattle.level_rules.specs.declared.ThingLine.{ThingLine}
 use Rattle.art_rules.specs.declared.TheConstants.{PNAMES, TEXTURE1, TEXTURE2}
 use Rattle.art_rules.specs.declared.refusal.TexRefusal.{TexRefusal}
 use Rattle.art_rules.specs.declared.refusal.SpriteRefusal.{SpriteRefusal}

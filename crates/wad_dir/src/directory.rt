@@ -13,15 +13,11 @@ use crate::DirFault;
 use crate::index::{index_flats, index_names, list_sprites, look_up};
 use crate::load::read_lumps;
 use crate::map::label_at;
-use lump_rules::{ENTRY_SIZE, HEADER_SIZE, Lump, MAP_LUMPS, NAME_SIZE, Name8};
+use lump_rules::{ENTRY_SIZE, HEADER_SIZE, Lump, LumpNo, MAP_LUMPS, NAME_SIZE, Name8};
 use outside::{FileNo, OutOfMemory, Shelf};
 use std::alloc::Global;
 use std::collections::BTreeMap;
 use std::marker::Model;
-
-/// The number of a lump: its index among the lumps of all files, in the order of the files.
-#[derive(Clone, Copy, Debug, PartialEq, Eq)]
-pub struct LumpNo(pub u16);
 
 /// The directory of some WAD files. Contracts see the numbers of the files and the list of lumps.
 ///
