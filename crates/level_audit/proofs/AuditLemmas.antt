@@ -10,50 +10,50 @@ use Rattle.lump_cache.proofs.CallLemmas.{tells_as, tells_more, tells_same, tells
 use Rattle.level_audit.specs.declared.fault.AuditFault.{AuditFault}
 use Rattle.level_audit.specs.declared.fault.AuditFault.TheVariants.{OutOfMemory}
 use Rattle.scene_rules.specs.Scenes.{scene_in, scene_on}
-use Rattle.level_audit.specs.declared.ground.ReadGround.{ReadGround}
-use Rattle.level_audit.specs.Asked.{IsOfGround}
-use Rattle.level_audit.specs.Grounds.{ground_and_palette, ground_of, value_of}
+use Rattle.level_audit.specs.declared.base.ReadBase.{ReadBase}
+use Rattle.level_audit.specs.Asked.{IsOfBase}
+use Rattle.level_audit.specs.Bases.{base_and_palette, base_of, value_of}
 use Rattle.level_audit.specs.declared.scene.ReadScene.{ReadScene}
 use Rattle.level_audit.specs.Asked.{IsOfScene}
 use Rattle.level_audit.specs.Scenes.{given_palette, scene_value}
 use Rattle.level_audit.specs.Reads.{IsReadLater}
 use Rattle.level_audit.specs.Sound.{SoundValue}
-use Rattle.level_audit.proofs.SceneLemmas.{ground_told, scene_in-more, scene_in-stop}
+use Rattle.level_audit.proofs.SceneLemmas.{base_known, scene_in-more, scene_in-stop}
 
 module _ {v : ShelfView} {dir : DirectoryView} {a : Heap} (lines : List ThingLine) (name : List ℕ) (skill : ℕ) where
-  -- the ground was not read
-  pub ground_stopped : {w : ShelfView} {b : Heap} (one : Result ReadGround AuditFault) (fault : AuditFault) (result : Result SoundValue AuditFault) → ReadsLumps itself v w dir a b (IsOfGround dir.lumps name) value_of (λ bytes. ground_and_palette bytes dir.lumps name) one → one ≡ Err fault → IsErrAnd result (λ e. e ≡ fault) →
+  -- the base was not read
+  pub base_stopped : {w : ShelfView} {b : Heap} (one : Result ReadBase AuditFault) (fault : AuditFault) (result : Result SoundValue AuditFault) → ReadsLumps itself v w dir a b (IsOfBase dir.lumps name) value_of (λ bytes. base_and_palette bytes dir.lumps name) one → one ≡ Err fault → IsErrAnd result (λ e. e ≡ fault) →
       ReadsLumps itself v w dir a b (IsReadLater v dir a lines name skill) (λ (sound : SoundValue). sound.scene) (λ bytes. scene_in bytes dir.lumps lines name skill) result
-  ground_stopped one fault result tells was is =
+  base_stopped one fault result tells was is =
       tells_stop_first (λ bytes. scene_in bytes dir.lumps lines name skill) one fault result tells was is
       (λ lump asked contents told. inl asked) (λ bytes refusal. scene_in-stop bytes dir.lumps lines name skill refusal)
 
   -- it was, and the scene is read over it
-  module _ {w : ShelfView} {b : Heap} (base : ReadGround) (one : ReadsLumps itself v w dir a b (IsOfGround dir.lumps name) value_of (λ bytes. ground_and_palette bytes dir.lumps name) (Ok base)) where
-    -- a lump of the scene over that ground is read whatever contents are told
-    of_scene : (lump : ℕ) → IsOfScene dir.lumps lines skill name (ground_of base) lump → IsReadLater v dir a lines name skill lump
+  module _ {w : ShelfView} {b : Heap} (base : ReadBase) (one : ReadsLumps itself v w dir a b (IsOfBase dir.lumps name) value_of (λ bytes. base_and_palette bytes dir.lumps name) (Ok base)) where
+    -- a lump of the scene over that base is read whatever contents are told
+    of_scene : (lump : ℕ) → IsOfScene dir.lumps lines skill name (base_of base) lump → IsReadLater v dir a lines name skill lump
     of_scene lump asked = λ contents told.
-        inr (record { base = ground_of base; is = (ground_told _ dir.lumps lines name skill (ground_of base) base.palette.items (one.answers contents told).ok).0; asked = asked })
+        inr (record { base = base_of base; is = (base_known _ dir.lumps lines name skill (base_of base) base.palette.items (one.answers contents told).ok).0; asked = asked })
 
-    ground_passed : ReadsLumps itself v w dir a b (IsReadLater v dir a lines name skill) value_of (λ bytes. ground_and_palette bytes dir.lumps name) (Ok base)
-    ground_passed = tells_as {value = value_of} {expected = λ bytes. ground_and_palette bytes dir.lumps name} base base one (λ lump asked contents told. inl asked) (λ bytes is. is)
+    base_passed : ReadsLumps itself v w dir a b (IsReadLater v dir a lines name skill) value_of (λ bytes. base_and_palette bytes dir.lumps name) (Ok base)
+    base_passed = tells_as {value = value_of} {expected = λ bytes. base_and_palette bytes dir.lumps name} base base one (λ lump asked contents told. inl asked) (λ bytes is. is)
 
     -- the scene was not read
     pub scene_stopped : {x : ShelfView} {c : Heap} (two : Result ReadScene AuditFault) (fault : AuditFault) (result : Result SoundValue AuditFault) →
-        ReadsLumps itself w x dir b c (IsOfScene dir.lumps lines skill name (ground_of base)) scene_value (λ bytes. given_palette base.palette.items (scene_on bytes dir.lumps lines skill name (ground_of base))) two → two ≡ Err fault → IsErrAnd result (λ e. e ≡ fault) →
+        ReadsLumps itself w x dir b c (IsOfScene dir.lumps lines skill name (base_of base)) scene_value (λ bytes. given_palette base.palette.items (scene_on bytes dir.lumps lines skill name (base_of base))) two → two ≡ Err fault → IsErrAnd result (λ e. e ≡ fault) →
         ReadsLumps itself v x dir a c (IsReadLater v dir a lines name skill) (λ (sound : SoundValue). sound.scene) (λ bytes. scene_in bytes dir.lumps lines name skill) result
     scene_stopped two fault result tells was is =
         tells_same result fault (λ bytes. scene_in bytes dir.lumps lines name skill) is
-        (tells_stop (λ bytes. scene_in bytes dir.lumps lines name skill) fault ground_passed two tells was of_scene
-        (λ bytes refusal found stopped. scene_in-more bytes dir.lumps lines name skill (ground_of base) base.palette.items found ∙ stopped))
+        (tells_stop (λ bytes. scene_in bytes dir.lumps lines name skill) fault base_passed two tells was of_scene
+        (λ bytes refusal found stopped. scene_in-more bytes dir.lumps lines name skill (base_of base) base.palette.items found ∙ stopped))
 
     -- it was read
     module _ {x : ShelfView} {c : Heap} (scene : ReadScene)
-        (two : ReadsLumps itself w x dir b c (IsOfScene dir.lumps lines skill name (ground_of base)) scene_value (λ bytes. given_palette base.palette.items (scene_on bytes dir.lumps lines skill name (ground_of base))) (Ok scene)) where
+        (two : ReadsLumps itself w x dir b c (IsOfScene dir.lumps lines skill name (base_of base)) scene_value (λ bytes. given_palette base.palette.items (scene_on bytes dir.lumps lines skill name (base_of base))) (Ok scene)) where
       scene_passed : ReadsLumps itself v x dir a c (IsReadLater v dir a lines name skill) scene_value (λ bytes. scene_in bytes dir.lumps lines name skill) (Ok scene)
       scene_passed =
-          tells_more (λ bytes. scene_in bytes dir.lumps lines name skill) scene scene ground_passed (Ok scene) two refl of_scene
-          (λ bytes found read. scene_in-more bytes dir.lumps lines name skill (ground_of base) base.palette.items found ∙ read)
+          tells_more (λ bytes. scene_in bytes dir.lumps lines name skill) scene scene base_passed (Ok scene) two refl of_scene
+          (λ bytes found read. scene_in-more bytes dir.lumps lines name skill (base_of base) base.palette.items found ∙ read)
 
       -- memory ran out for what is made of it
       pub sound_stopped : (result : Result SoundValue AuditFault) → IsErrAnd result (λ e. e ≡ OutOfMemory) → ReadsLumps itself v x dir a c (IsReadLater v dir a lines name skill) (λ (sound : SoundValue). sound.scene) (λ bytes. scene_in bytes dir.lumps lines name skill) result

@@ -25,7 +25,7 @@ use Rattle.level_audit.specs.declared.fault.AuditFault.TheVariants.{Refused}
 use Rattle.level_audit.specs.Faults.{above_cache}
 use Rattle.scene_rules.specs.declared.refusal.AuditRefusal.{AuditRefusal}
 use Rattle.scene_rules.specs.Scenes.{SceneValue, colormap_of}
-use Rattle.level_audit.specs.Asked.{IsOfGround}
+use Rattle.level_audit.specs.Asked.{IsOfBase}
 use Rattle.level_audit.specs.Reads.{IsFullAudit, IsReadLater}
 use Rattle.level_audit.specs.Sound.{SoundValue}
 
@@ -84,20 +84,20 @@ pub order_after : {R E A : Type 0} {items : List Item} {a b : Heap} {i j : ℕ} 
 order_after told c k (Ok found) one two = order_then one two
 order_after told c k (Err fault) one two = order_at (told fault) (λ two. order_then one two) two
 
-module _ (dir : DirectoryView) (a b : Heap) (colormap : ℕ) (result : Result SoundValue AuditFault) (same : IfOk result (λ sound. sound.scene.ground.colormap ≡ colormap)) where
+module _ (dir : DirectoryView) (a b : Heap) (colormap : ℕ) (result : Result SoundValue AuditFault) (same : IfOk result (λ sound. sound.scene.base.colormap ≡ colormap)) where
   -- the colormap is pinned, and nothing else
-  pub rest_after : (c : Heap) → IsAtRest colormap (lump_at dir.lumps colormap).size b → ((number count : ℕ) → IsAtRest number count b → IsAtRest number count c) → IfOk result (λ sound. IsAtRest sound.scene.ground.colormap (lump_at dir.lumps sound.scene.ground.colormap).size c)
+  pub rest_after : (c : Heap) → IsAtRest colormap (lump_at dir.lumps colormap).size b → ((number count : ℕ) → IsAtRest number count b → IsAtRest number count c) → IfOk result (λ sound. IsAtRest sound.scene.base.colormap (lump_at dir.lumps sound.scene.base.colormap).size c)
   rest_after c rest keeps = go result same where
-    go : (r : Result SoundValue AuditFault) → IfOk r (λ sound. sound.scene.ground.colormap ≡ colormap) → IfOk r (λ sound. IsAtRest sound.scene.ground.colormap (lump_at dir.lumps sound.scene.ground.colormap).size c)
+    go : (r : Result SoundValue AuditFault) → IfOk r (λ sound. sound.scene.base.colormap ≡ colormap) → IfOk r (λ sound. IsAtRest sound.scene.base.colormap (lump_at dir.lumps sound.scene.base.colormap).size c)
     go (Ok sound) is = subst (λ n. IsAtRest n (lump_at dir.lumps n).size c) (sym is) (keeps colormap (lump_at dir.lumps colormap).size rest)
     go (Err fault) is = tt
 
-  -- each lump of the ground stands beside it
-  pub fits_after : (name : List ℕ) → IsAtRest colormap (lump_at dir.lumps colormap).size b → HasSizes dir.lumps b → b.size ≡ a.size → IfOk result (λ sound. (lump : ℕ) → IsOfGround dir.lumps name lump → StandsBeside dir.lumps b lump) →
-      IfOk result (λ sound. (lump : ℕ) → IsOfGround dir.lumps name lump → lump ≢ sound.scene.ground.colormap → block_size (lump_at dir.lumps sound.scene.ground.colormap).size + block_size (lump_at dir.lumps lump).size ≤ a.size)
+  -- each lump of the base stands beside it
+  pub fits_after : (name : List ℕ) → IsAtRest colormap (lump_at dir.lumps colormap).size b → HasSizes dir.lumps b → b.size ≡ a.size → IfOk result (λ sound. (lump : ℕ) → IsOfBase dir.lumps name lump → StandsBeside dir.lumps b lump) →
+      IfOk result (λ sound. (lump : ℕ) → IsOfBase dir.lumps name lump → lump ≢ sound.scene.base.colormap → block_size (lump_at dir.lumps sound.scene.base.colormap).size + block_size (lump_at dir.lumps lump).size ≤ a.size)
   fits_after name rest has size fits = go result same fits where
-    go : (r : Result SoundValue AuditFault) → IfOk r (λ sound. sound.scene.ground.colormap ≡ colormap) → IfOk r (λ sound. (lump : ℕ) → IsOfGround dir.lumps name lump → StandsBeside dir.lumps b lump) →
-        IfOk r (λ sound. (lump : ℕ) → IsOfGround dir.lumps name lump → lump ≢ sound.scene.ground.colormap → block_size (lump_at dir.lumps sound.scene.ground.colormap).size + block_size (lump_at dir.lumps lump).size ≤ a.size)
+    go : (r : Result SoundValue AuditFault) → IfOk r (λ sound. sound.scene.base.colormap ≡ colormap) → IfOk r (λ sound. (lump : ℕ) → IsOfBase dir.lumps name lump → StandsBeside dir.lumps b lump) →
+        IfOk r (λ sound. (lump : ℕ) → IsOfBase dir.lumps name lump → lump ≢ sound.scene.base.colormap → block_size (lump_at dir.lumps sound.scene.base.colormap).size + block_size (lump_at dir.lumps lump).size ≤ a.size)
     go (Ok sound) is beside = λ lump asked.
         subst (λ n. lump ≢ n → block_size (lump_at dir.lumps n).size + block_size (lump_at dir.lumps lump).size ≤ a.size) (sym is)
         (λ other. subst (λ n. block_size (lump_at dir.lumps colormap).size + block_size (lump_at dir.lumps lump).size ≤ n) size (beside lump asked colormap (lump_at dir.lumps colormap).size rest has other))

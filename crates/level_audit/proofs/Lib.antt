@@ -4,7 +4,7 @@ pub mod AuditLemmas
 pub mod ColourLemmas
 pub mod FaultLemmas
 pub mod FetchLemmas
-pub mod GroundLemmas
+pub mod BaseLemmas
 pub mod MarkLemmas
 pub mod MemberLemmas
 pub mod MiddleLemmas

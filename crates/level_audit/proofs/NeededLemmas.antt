@@ -26,13 +26,13 @@ use Rattle.art_rules.specs.Wanted.{is_patch_of_any}
 use Rattle.texture_lists.specs.Asked.{IsListLump}
 use Rattle.level_audit.proofs.MarkLemmas.{any_passed}
 use Rattle.level_audit.specs.declared.fault.AuditFault.{AuditFault}
-use Rattle.scene_rules.specs.Scenes.{Faces, Ground, SceneValue, art_of, book_in, colormap_of, scene_in, sizes_of}
+use Rattle.scene_rules.specs.Scenes.{Faces, LevelBase, SceneValue, art_of, book_in, colormap_of, scene_in, sizes_of}
 use Rattle.scene_rules.specs.Sides.{is_wanted_texture}
 use Rattle.scene_rules.specs.Sizes.{SceneArt, enough, greatest_by, is_last, is_list, is_map_lump, is_needed, lump_block, needed_lumps, zone_sizes}
 use Rattle.level_scene.specs.Asked.{IsLumpOfMap}
-use Rattle.level_audit.specs.Asked.{IsOfGround}
+use Rattle.level_audit.specs.Asked.{IsOfBase}
 use Rattle.level_audit.specs.Asked.{IsOfArt, IsOfScene}
-use Rattle.level_audit.specs.Reads.{IsAfterColormap, IsOverGround, IsReadLater}
+use Rattle.level_audit.specs.Reads.{IsAfterColormap, IsOverBase, IsReadLater}
 use Rattle.level_audit.specs.Sound.{SoundValue}
 use Rattle.level_audit.proofs.NeededPatchLemmas.{wanted_patch}
 use Rattle.level_audit.proofs.NeededPictureLemmas.{needed_picture}
@@ -76,32 +76,32 @@ list_lump lumps lump (inr (inl first)) = rw (last_is lumps TEXTURE1 lump first, 
 list_lump lumps lump (inr (inr second)) = rw (last_is lumps TEXTURE2 lump second, or-true) refl
 
 module _ (bytes : ℕ → List ℕ) (lumps : List Lump) (lines : List ThingLine) (name : List ℕ) (skill : ℕ) (scene : SceneValue) (parts : IsSceneOf bytes lumps lines name skill scene) (lump : ℕ) where
-  base_parts : IsGroundOf lumps name scene.ground
-  base_parts = ground_parts bytes lumps name scene.ground parts.base
+  base_parts : IsGroundOf lumps name scene.base
+  base_parts = ground_parts bytes lumps name scene.base parts.base
 
-  -- a lump of the map, of the ground
+  -- a lump of the map, of the base
   needed_map : IsLumpOfMap lumps name lump → is_needed lumps (art_of scene) lump ≡ true
   unfolding art_of
-  needed_map asked = for_map lumps (art_of scene) lump (ap (λ (label : ℕ). is_map_lump label lump) (same_value scene.ground.label asked.label base_parts.label asked.is) ∙ asked.among)
+  needed_map asked = for_map lumps (art_of scene) lump (ap (λ (label : ℕ). is_map_lump label lump) (same_value scene.base.label asked.label base_parts.label asked.is) ∙ asked.among)
 
-  needed_ground : IsOfGround lumps name lump → is_needed lumps (art_of scene) lump ≡ true
+  needed_ground : IsOfBase lumps name lump → is_needed lumps (art_of scene) lump ≡ true
   unfolding art_of
-  needed_ground (inl playpal) = for_palette lumps (art_of scene) lump (eq-eqb scene.ground.playpal lump (same_value scene.ground.playpal lump base_parts.playpal playpal))
+  needed_ground (inl playpal) = for_palette lumps (art_of scene) lump (eq-eqb scene.base.playpal lump (same_value scene.base.playpal lump base_parts.playpal playpal))
   needed_ground (inr (inl map)) = needed_map map
   needed_ground (inr (inr list)) = for_list lumps (art_of scene) lump (list_lump lumps lump list)
 
   -- a patch or a picture
-  needed_art : IsOfArt lumps lines skill scene.ground scene.faces lump → is_needed lumps (art_of scene) lump ≡ true
+  needed_art : IsOfArt lumps lines skill scene.base scene.faces lump → is_needed lumps (art_of scene) lump ≡ true
   unfolding art_of book_in
-  needed_art (inl patch) = for_patch lumps (art_of scene) lump (wanted_patch bytes lumps scene.ground.lists (is_wanted_texture scene.faces.sides scene.faces.sky) scene.prepared lump parts.prepared patch)
+  needed_art (inl patch) = for_patch lumps (art_of scene) lump (wanted_patch bytes lumps scene.base.lists (is_wanted_texture scene.faces.sides scene.faces.sky) scene.prepared lump parts.prepared patch)
   needed_art (inr picture) = for_picture lumps (art_of scene) lump (needed_picture bytes lumps _ scene.book lump parts.book picture)
 
-  -- the faces of the level, and the ground, are those of the scene
-  needed_scene : IsOfScene lumps lines skill name scene.ground lump → is_needed lumps (art_of scene) lump ≡ true
-  needed_scene asked = needed_art (subst (λ (faces : Faces). IsOfArt lumps lines skill scene.ground faces lump) (same_value asked.faces scene.faces asked.are parts.faces) asked.asked)
+  -- the faces of the level, and the base, are those of the scene
+  needed_scene : IsOfScene lumps lines skill name scene.base lump → is_needed lumps (art_of scene) lump ≡ true
+  needed_scene asked = needed_art (subst (λ (faces : Faces). IsOfArt lumps lines skill scene.base faces lump) (same_value asked.faces scene.faces asked.are parts.faces) asked.asked)
 
-  needed_over : IsOverGround bytes lumps lines name skill lump → is_needed lumps (art_of scene) lump ≡ true
-  needed_over asked = needed_scene (subst (λ (base : Ground). IsOfScene lumps lines skill name base lump) (same_value asked.base scene.ground asked.is parts.base) asked.asked)
+  needed_over : IsOverBase bytes lumps lines name skill lump → is_needed lumps (art_of scene) lump ≡ true
+  needed_over asked = needed_scene (subst (λ (base : LevelBase). IsOfScene lumps lines skill name base lump) (same_value asked.base scene.base asked.is parts.base) asked.asked)
 
   -- all that is read after COLORMAP
   pub needed_later : IsAfterColormap bytes lumps lines name skill lump → is_needed lumps (art_of scene) lump ≡ true
@@ -109,9 +109,9 @@ module _ (bytes : ℕ → List ℕ) (lumps : List Lump) (lines : List ThingLine)
   needed_later (inr asked) = needed_over asked
 
 -- COLORMAP itself
-needed_colormap : (lumps : List Lump) (scene : SceneValue) → is_needed lumps (art_of scene) scene.ground.colormap ≡ true
+needed_colormap : (lumps : List Lump) (scene : SceneValue) → is_needed lumps (art_of scene) scene.base.colormap ≡ true
 unfolding art_of
-needed_colormap lumps scene = for_colormap lumps (art_of scene) scene.ground.colormap (eq-eqb scene.ground.colormap scene.ground.colormap refl)
+needed_colormap lumps scene = for_colormap lumps (art_of scene) scene.base.colormap (eq-eqb scene.base.colormap scene.base.colormap refl)
 
 -- none is greater than the greatest
 among_greatest : (f : ℕ → ℕ) (xs : List ℕ) (k : ℕ) → list_any (λ n. n == k) xs ≡ true → f k ≤ greatest_by f xs
@@ -135,18 +135,18 @@ past_block lumps lump other l =
     omega (arith, none, block_least (lump_at lumps other).size)
 
 -- nor has one of any number, since COLORMAP is there
-needed_block : (lumps : List Lump) (scene : SceneValue) (lump : ℕ) → scene.ground.colormap < length lumps → is_needed lumps (art_of scene) lump ≡ true → lump_block lumps lump ≤ greatest_by (lump_block lumps) (needed_lumps lumps (art_of scene))
+needed_block : (lumps : List Lump) (scene : SceneValue) (lump : ℕ) → scene.base.colormap < length lumps → is_needed lumps (art_of scene) lump ≡ true → lump_block lumps lump ≤ greatest_by (lump_block lumps) (needed_lumps lumps (art_of scene))
 needed_block lumps scene lump l needed = elim (cases_lt lump (length lumps)) [
   | inl there ↦ needed_there lumps (art_of scene) lump needed there
-  | inr past ↦ omega (arith, past_block lumps lump scene.ground.colormap past, needed_there lumps (art_of scene) scene.ground.colormap (needed_colormap lumps scene) l)
+  | inr past ↦ omega (arith, past_block lumps lump scene.base.colormap past, needed_there lumps (art_of scene) scene.base.colormap (needed_colormap lumps scene) l)
 ]
 
 -- what `enough` is no smaller than
-enough_colormap : (lumps : List Lump) (scene : SceneValue) → block_size (lump_at lumps scene.ground.colormap).size ≤ (sizes_of lumps scene).enough
+enough_colormap : (lumps : List Lump) (scene : SceneValue) → block_size (lump_at lumps scene.base.colormap).size ≤ (sizes_of lumps scene).enough
 unfolding sizes_of zone_sizes enough lump_block art_of
 enough_colormap lumps scene = omega arith
 
-enough_beside : (lumps : List Lump) (scene : SceneValue) (block : ℕ) → block ≤ greatest_by (lump_block lumps) (needed_lumps lumps (art_of scene)) → block_size (lump_at lumps scene.ground.colormap).size + block + MIN_FRAGMENT ≤ (sizes_of lumps scene).enough
+enough_beside : (lumps : List Lump) (scene : SceneValue) (block : ℕ) → block ≤ greatest_by (lump_block lumps) (needed_lumps lumps (art_of scene)) → block_size (lump_at lumps scene.base.colormap).size + block + MIN_FRAGMENT ≤ (sizes_of lumps scene).enough
 unfolding sizes_of zone_sizes enough lump_block art_of
 enough_beside lumps scene block l = omega (arith, l)
 
@@ -155,21 +155,21 @@ module _ (bytes : ℕ → List ℕ) (lumps : List Lump) (lines : List ThingLine)
   parts_of : IsSceneOf bytes lumps lines name skill scene
   parts_of = scene_parts bytes lumps lines name skill scene accepted
 
-  colormap_is : scene.ground.colormap ≡ colormap
-  colormap_is = same_value scene.ground.colormap colormap (ground_parts bytes lumps name scene.ground parts_of.base).colormap is
+  colormap_is : scene.base.colormap ≡ colormap
+  colormap_is = same_value scene.base.colormap colormap (ground_parts bytes lumps name scene.base parts_of.base).colormap is
 
   -- a zone that does not hold COLORMAP, or COLORMAP and a further lump
   pub small_first : (size wanted : ℕ) → wanted ≡ block_size (lump_at lumps colormap).size → size < wanted → size < (sizes_of lumps scene).enough
   small_first size wanted e l =
-      let same : block_size (lump_at lumps scene.ground.colormap).size ≡ block_size (lump_at lumps colormap).size = ap (λ (n : ℕ). block_size (lump_at lumps n).size) colormap_is in
+      let same : block_size (lump_at lumps scene.base.colormap).size ≡ block_size (lump_at lumps colormap).size = ap (λ (n : ℕ). block_size (lump_at lumps n).size) colormap_is in
       omega (arith, e, l, same, enough_colormap lumps scene)
 
   pub small_later : (size wanted lump : ℕ) → IsAfterColormap bytes lumps lines name skill lump → wanted ≡ block_size (lump_at lumps lump).size → size < block_size (lump_at lumps colormap).size + wanted + MIN_FRAGMENT → size < (sizes_of lumps scene).enough
   unfolding lump_block
   small_later size wanted lump asked e l =
-      let there : scene.ground.colormap < length lumps = colormap_there lumps scene.ground.colormap (ground_parts bytes lumps name scene.ground parts_of.base).colormap in
+      let there : scene.base.colormap < length lumps = colormap_there lumps scene.base.colormap (ground_parts bytes lumps name scene.base parts_of.base).colormap in
       let block : wanted ≤ greatest_by (λ number. block_size (lump_at lumps number).size) (needed_lumps lumps (art_of scene)) = omega (arith, e, needed_block lumps scene lump there (needed_later bytes lumps lines name skill scene parts_of lump asked)) in
-      let same : block_size (lump_at lumps scene.ground.colormap).size ≡ block_size (lump_at lumps colormap).size = ap (λ (n : ℕ). block_size (lump_at lumps n).size) colormap_is in
+      let same : block_size (lump_at lumps scene.base.colormap).size ≡ block_size (lump_at lumps colormap).size = ap (λ (n : ℕ). block_size (lump_at lumps n).size) colormap_is in
       omega (arith, l, same, enough_beside lumps scene wanted block)
 
 -- no room for a later lump, from a zone at rest

@@ -21,7 +21,7 @@ use Rattle.scene_rules.specs.Middles.{bad_middle}
 use Rattle.scene_rules.specs.Scenes.{checked, faces_in, texture_by}
 use Rattle.level_audit.specs.Faults.{above_scene}
 use Rattle.level_audit.proofs.FaultLemmas.{scene_above}
-use Rattle.level_audit.specs.declared.faces.ReadFaces.{ReadFaces}
+use Rattle.level_audit.specs.declared.names.ReadFaces.{ReadFaces}
 use Rattle.level_audit.specs.Scenes.{faces_of}
 
 module _ {A B : Type 0} {value : B → A} {expected : Result A SceneRefusal} (view : ShelfView) (dir : DirectoryView) (z : Heap) (wants : ℕ → Type 0) where

@@ -52,7 +52,7 @@ any_same xs ys k same =
 needed_number : (lumps : List Lump) (scene : SceneValue) (xs ys : List ℕ) (k : ℕ) → HaveSame xs ys → is_needed lumps (art_with scene xs) k ≡ is_needed lumps (art_with scene ys) k
 unfolding is_needed
 needed_number lumps scene xs ys k same =
-    ap (λ b. (scene.ground.colormap == k) || (scene.ground.playpal == k) || is_map_lump scene.ground.label k || is_list lumps k || is_patch_of_any scene.prepared k || list_any (has_flat k) scene.faces.flats || b) (any_same xs ys k same)
+    ap (λ b. (scene.base.colormap == k) || (scene.base.playpal == k) || is_map_lump scene.base.label k || is_list lumps k || is_patch_of_any scene.prepared k || list_any (has_flat k) scene.faces.flats || b) (any_same xs ys k same)
 
 -- the lumps that a scene needs
 pub needed_same : (lumps : List Lump) (scene : SceneValue) (xs ys : List ℕ) → HaveSame xs ys → needed_lumps lumps (art_with scene xs) ≡ needed_lumps lumps (art_with scene ys)

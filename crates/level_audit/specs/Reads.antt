@@ -8,19 +8,19 @@ use Rattle.zone_rules.specs.Zones.{Heap, block_size}
 use Rattle.wad_dir.specs.DirectoryView.{DirectoryView}
 use Rattle.level_rules.specs.declared.ThingLine.{ThingLine}
 use Rattle.lump_cache.specs.Calls.{HoldContents}
-use Rattle.scene_rules.specs.Scenes.{Ground, colormap_of, ground_in}
-use Rattle.level_audit.specs.Asked.{IsOfGround}
+use Rattle.scene_rules.specs.Scenes.{LevelBase, colormap_of, base_in}
+use Rattle.level_audit.specs.Asked.{IsOfBase}
 use Rattle.level_audit.specs.Asked.{IsOfScene}
 
--- a patch or a picture of the scene over the ground that these bytes give
-pub record IsOverGround (bytes : ℕ → List ℕ) (lumps : List Lump) (lines : List ThingLine) (name : List ℕ) (skill lump : ℕ) : Type 0 where
-  pub base : Ground
-  pub is : ground_in bytes lumps name ≡ Ok base
+-- a patch or a picture of the scene over the base that these bytes give
+pub record IsOverBase (bytes : ℕ → List ℕ) (lumps : List Lump) (lines : List ThingLine) (name : List ℕ) (skill lump : ℕ) : Type 0 where
+  pub base : LevelBase
+  pub is : base_in bytes lumps name ≡ Ok base
   pub asked : IsOfScene lumps lines skill name base lump
 
 -- a lump that is read after COLORMAP, and any that is read
 abbrev pub IsAfterColormap : (ℕ → List ℕ) → List Lump → List ThingLine → List ℕ → ℕ → ℕ → Type 0
-IsAfterColormap bytes lumps lines name skill lump = IsOfGround lumps name lump ⊎ IsOverGround bytes lumps lines name skill lump
+IsAfterColormap bytes lumps lines name skill lump = IsOfBase lumps name lump ⊎ IsOverBase bytes lumps lines name skill lump
 
 abbrev pub IsReadBy : (ℕ → List ℕ) → List Lump → List ThingLine → List ℕ → ℕ → ℕ → Type 0
 IsReadBy bytes lumps lines name skill lump = (colormap_of lumps ≡ Ok lump) ⊎ IsAfterColormap bytes lumps lines name skill lump

@@ -21,14 +21,14 @@ middles_of sides = map (λ (side : SideTextures). side.middle) sides
 
 -- the textures, with those that are prepared
 abbrev pub textures_view : SceneValue → TexturesView
-textures_view scene = record { lists = scene.ground.lists; prepared = scene.prepared }
+textures_view scene = record { lists = scene.base.lists; prepared = scene.prepared }
 
 -- what a scene takes from the directory, with the pictures of these lumps
 abbrev pub art_with : SceneValue → List ℕ → SceneArt
 art_with scene pictures = record {
-  colormap = scene.ground.colormap;
-  playpal = scene.ground.playpal;
-  label = scene.ground.label;
+  colormap = scene.base.colormap;
+  playpal = scene.base.playpal;
+  label = scene.base.label;
   prepared = scene.prepared;
   flats = scene.faces.flats;
   pictures = pictures;

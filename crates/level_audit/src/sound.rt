@@ -11,7 +11,7 @@ ghost use Rattle.level_audit.specs.Views.{numbers_of};
 ghost use Rattle.level_audit.specs.Scenes.{scene_value};
 ghost use Rattle.level_audit.specs.Sound.{middles_of, textures_view};
 
-use crate::pictures::{Needed, find_needed};
+use crate::needs::{Needed, find_needed};
 use level_scene::Level;
 use level_rules::{PlacedThing, SideTextures, Surface};
 use level_scene::{make_surfaces, sector_at};
@@ -49,7 +49,7 @@ impl Model for SoundScene {
 
     ghost invariant = { λ s.
         (s.middles.items ≡ middles_of s.scene.faces.sides.items)
-        × (s.surfaces.items ≡ surfaces_of s.scene.ground.level.sectors s.scene.faces.flats.items) };
+        × (s.surfaces.items ≡ surfaces_of s.scene.base.level.sectors s.scene.faces.flats.items) };
 }
 
 impl SoundScene {
@@ -60,15 +60,15 @@ impl SoundScene {
         dir: &Directory,
         scene: ReadScene,
     ) -> Result<SoundScene, OutOfMemory>
-        requires flats { length scene.faces.flats.items ≡ length scene.ground.level.sectors }
-        requires colormap { scene.ground.colormap.0 < length dir.now.lumps }
+        requires flats { length scene.faces.flats.items ≡ length scene.base.level.sectors }
+        requires colormap { scene.base.colormap.0 < length dir.now.lumps }
         ensures scene { IfOk result (λ sound. sound.scene ≡ scene_value scene) }
         ensures named { IfOk result (λ sound. sound.named ≡ needed_lumps dir.now.lumps (art_of (scene_value scene))) }
         ensures sizes { IfOk result (λ sound. sound.sizes ≡ sizes_of dir.now.lumps (scene_value scene)) }
     {
         let needed = find_needed(alloc, dir, &scene, scene.book.pictures())?;
         let middles = middles_of(alloc, &scene.faces.sides)?;
-        let surfaces = make_surfaces(alloc, scene.ground.level.sectors(), &scene.faces.flats)?;
+        let surfaces = make_surfaces(alloc, scene.base.level.sectors(), &scene.faces.flats)?;
         Ok(SoundScene {
             scene,
             middles,
@@ -93,16 +93,16 @@ impl SoundScene {
 
     /// The level. The original: the lists of p_setup.c.
     pub fn level(&self) -> &Level
-        ensures { result.now ≡ self.now.scene.ground.level }
+        ensures { result.now ≡ self.now.scene.base.level }
     {
-        &self.scene.ground.level
+        &self.scene.base.level
     }
 
     /// The textures, with those prepared that a side or the sky shows.
     pub fn textures(&self) -> &Textures
         ensures { result.now ≡ textures_view self.now.scene }
     {
-        &self.scene.ground.textures
+        &self.scene.base.textures
     }
 
     /// The pictures of the frames that the placed things need.
@@ -142,7 +142,7 @@ impl SoundScene {
     /// The sectors as the drawing layers compare them, in their order: heights in map units (16.16
     /// fixed point), flats by the numbers of their lumps or 65536 for the sky, light.
     pub fn surfaces(&self) -> &[Surface]
-        ensures { result.now ≡ surfaces_of self.now.scene.ground.level.sectors self.now.scene.faces.flats }
+        ensures { result.now ≡ surfaces_of self.now.scene.base.level.sectors self.now.scene.faces.flats }
     {
         &self.surfaces
     }
@@ -170,7 +170,7 @@ impl SoundScene {
     pub fn palette(&self) -> &[u8]
         ensures { result.now ≡ self.now.scene.palette }
     {
-        &self.scene.ground.palette
+        &self.scene.base.palette
     }
 
     /// How large a zone has to be, in bytes: `enough` that no drawing finds it full, `roomy` that no
@@ -192,10 +192,10 @@ impl SoundScene {
     ///
     /// The original: `R_PointInSubsector`, r_main.c.
     pub fn sector_at(&self, x: i32, y: i32) -> u16
-        ensures value { result ≡ sector_at self.now.scene.ground.level x y }
-        ensures there { result < length self.now.scene.ground.level.sectors }
+        ensures value { result ≡ sector_at self.now.scene.base.level x y }
+        ensures there { result < length self.now.scene.base.level.sectors }
     {
-        sector_at(&self.scene.ground.level, x, y)
+        sector_at(&self.scene.base.level, x, y)
     }
 }
 

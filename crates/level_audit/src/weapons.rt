@@ -9,7 +9,7 @@ ghost use Rattle.scene_rules.specs.declared.refusal.AuditRefusal.TheVariants.{We
 ghost use Rattle.level_audit.specs.Sound.{with_book};
 ghost use Rattle.level_audit.specs.Weapons.{need_of_row, weapon_book, weapon_fault, weapon_needs, weapon_refusal};
 
-use crate::pictures::find_needed;
+use crate::needs::find_needed;
 use crate::{AuditFault, AuditRefusal, SoundScene, WeaponRefusal};
 use art_rules::SpriteRefusal;
 use csv_tables::{WeaponRow, WeaponTable};
@@ -40,7 +40,7 @@ pub fn audit_weapons<S: Shelf>(
     shelf: &mut S,
 ) -> Result<SpriteBook, AuditFault>
     requires slots { length dir.now.lumps ≤ cache.old.lumps }
-    requires colormap { scene.old.scene.ground.colormap < length dir.now.lumps }
+    requires colormap { scene.old.scene.base.colormap < length dir.now.lumps }
     ensures tells { ReadsLumps itself (S.view shelf.old) (S.view shelf.new) dir.now cache.old cache.new (IsWanted dir.now.lumps (weapon_needs weapons.now)) (λ book. book) (λ bytes. from_below WeaponArt (weapon_book bytes dir.now.lumps weapons.now)) result }
     ensures scene { IfOk result (λ book. scene.new ≡ with_book dir.now.lumps book scene.old) }
     ensures unchanged { OnErr result (scene.new ≡ scene.old) }

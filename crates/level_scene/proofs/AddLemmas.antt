@@ -15,8 +15,8 @@ use Rattle.map_lumps.specs.Builders.{BuilderValue, with_lump}
 use Rattle.lump_cache.specs.Caches.{cache_fault}
 use Rattle.lump_cache.specs.Calls.{ReadsLumps, HoldContents}
 use Rattle.lump_cache.proofs.CallLemmas.{tells_same}
-use Rattle.level_scene.specs.declared.fault.LevelFault.{LevelFault}
-use Rattle.level_scene.specs.Faults.{above_map}
+use Rattle.outside.specs.declared.fault.Fault.{Fault}
+use Rattle.level_scene.specs.Faults.{map_fault}
 use Rattle.level_scene.specs.Lumps.{lump_added}
 
 -- two ways to tell an owner's bytes
@@ -52,7 +52,7 @@ module _ {v w : ShelfView} {dir : DirectoryView} {a b : Heap} (lump : MapLump) (
       }
 
   -- it was not
-  stopped : (fault : MapFault) → r ≡ Err fault → ReadsLumps itself v w dir a b (λ n. n ≡ number) (λ (done : Unit {0}). new) (λ bytes. lump_added old lump (bytes number)) (Err (above_map fault))
+  stopped : (fault : MapFault) → r ≡ Err fault → ReadsLumps itself v w dir a b (λ n. n ≡ number) (λ (done : Unit {0}). new) (λ bytes. lump_added old lump (bytes number)) (Err (map_fault fault))
   stopped (Refused refusal) was = record {
     keeps = fetched.keeps;
     answers = λ contents t. record { ok = tt; err = ap (lump_added old lump) (sym (known contents t)) ∙ added_of_large old lump live refusal ((sizes refusal).0 was) };
@@ -68,5 +68,5 @@ module _ {v w : ShelfView} {dir : DirectoryView} {a b : Heap} (lump : MapLump) (
     order = fetched.order;
   }
 
-  pub add_stopped : (fault : MapFault) (result : Result (Unit {0}) LevelFault) → r ≡ Err fault → IsErrAnd result (λ e. e ≡ above_map fault) → ReadsLumps itself v w dir a b (λ n. n ≡ number) (λ (done : Unit {0}). new) (λ bytes. lump_added old lump (bytes number)) result
-  add_stopped fault result was is = tells_same result (above_map fault) (λ bytes. lump_added old lump (bytes number)) is (stopped fault was)
+  pub add_stopped : (fault : MapFault) (result : Result (Unit {0}) (Fault MapRefusal)) → r ≡ Err fault → IsErrAnd result (λ e. e ≡ map_fault fault) → ReadsLumps itself v w dir a b (λ n. n ≡ number) (λ (done : Unit {0}). new) (λ bytes. lump_added old lump (bytes number)) result
+  add_stopped fault result was is = tells_same result (map_fault fault) (λ bytes. lump_added old lump (bytes number)) is (stopped fault was)

@@ -22,10 +22,10 @@ use Rattle.lump_cache.specs.Calls.{ReadsLumps}
 use Rattle.lump_cache.proofs.CallLemmas.{tells_same, tells_short, tells_then_refused, tells_as}
 use Rattle.scene_rules.specs.Scenes.{label_of, level_in, map_bytes}
 use Rattle.scene_rules.specs.Sizes.{is_map_lump}
-use Rattle.level_scene.specs.declared.fault.LevelFault.{LevelFault}
-use Rattle.level_scene.specs.declared.fault.LevelFault.TheVariants.{Refused as LevelRefused, OutOfMemory as LevelShort}
+use Rattle.outside.specs.declared.fault.Fault.{Fault}
+use Rattle.outside.specs.declared.fault.Fault.TheVariants.{Refused as LevelRefused, OutOfMemory as LevelShort}
 use Rattle.level_scene.specs.Asked.{IsLumpOfMap}
-use Rattle.level_scene.specs.Faults.{above_map}
+use Rattle.level_scene.specs.Faults.{map_fault}
 use Rattle.level_scene.specs.Lumps.{lump_added, lumps_from}
 
 -- one lump of those that are left, and the last one
@@ -78,13 +78,13 @@ module _ {v w : ShelfView} {dir : DirectoryView} {a z : Heap} {wants : ℕ → T
   finish_passed level is = tells_as builder level read (λ lump wanted. wanted) (λ bytes got. level_of-more bytes label builder got ∙ is)
 
   -- it gives none
-  module _ (r : Result LevelValue MapFault) (Refused : (refusal : MapRefusal) → r ≡ Err (Refused refusal) → level_built builder ≡ Err refusal) where
-    given_up : (fault : MapFault) → r ≡ Err fault → ReadsLumps itself v w dir a z wants (λ (l : LevelValue). l) (λ bytes. level_of (map_bytes bytes label)) (Err (above_map fault))
+  module _ (r : Result LevelValue MapFault) (refused : (refusal : MapRefusal) → r ≡ Err (Refused refusal) → level_built builder ≡ Err refusal) where
+    given_up : (fault : MapFault) → r ≡ Err fault → ReadsLumps itself v w dir a z wants (λ (l : LevelValue). l) (λ bytes. level_of (map_bytes bytes label)) (Err (map_fault fault))
     given_up (Refused refusal) was = tells_then_refused (LevelRefused refusal) refusal refl (λ lump wanted. wanted) read (λ contents told got. level_of-more _ label builder got ∙ refused refusal was)
     given_up OutOfMemory was = tells_short LevelShort refl (λ lump wanted. wanted) read
 
-    pub finish_stopped : (fault : MapFault) (result : Result LevelValue LevelFault) → r ≡ Err fault → IsErrAnd result (λ e. e ≡ above_map fault) → ReadsLumps itself v w dir a z wants (λ (l : LevelValue). l) (λ bytes. level_of (map_bytes bytes label)) result
-    finish_stopped fault result was is = tells_same result (above_map fault) (λ bytes. level_of (map_bytes bytes label)) is (given_up fault was)
+    pub finish_stopped : (fault : MapFault) (result : Result LevelValue (Fault MapRefusal)) → r ≡ Err fault → IsErrAnd result (λ e. e ≡ map_fault fault) → ReadsLumps itself v w dir a z wants (λ (l : LevelValue). l) (λ bytes. level_of (map_bytes bytes label)) result
+    finish_stopped fault result was is = tells_same result (map_fault fault) (λ bytes. level_of (map_bytes bytes label)) is (given_up fault was)
 
 -- what is told of a look-up by name
 pub label_told : (found : Option LumpNo) (lumps : List Lump) (name : List ℕ) (r : Result LumpNo MapRefusal) → option_map (λ (lump : LumpNo). lump.0) found ≡ map_of lumps name → r ≡ ok_or found NoMap →

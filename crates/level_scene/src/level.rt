@@ -11,11 +11,12 @@ ghost use Rattle.scene_rules.specs.Sizes.{is_map_lump};
 ghost use Rattle.level_scene.specs.Asked.{IsLumpOfMap};
 
 use crate::LevelFault;
+use crate::fault::map_fault;
 use crate::lumps::{LUMPS, add_lumps};
 use lump_cache::LumpCache;
 use lump_rules::{MAP_LUMPS, Name8};
 use map_lumps::{Level, MapRefusal};
-use outside::Shelf;
+use outside::{Fault, Shelf};
 use std::alloc::Global;
 use wad_dir::{Directory, LumpNo};
 
@@ -48,7 +49,7 @@ pub fn read_level<S: Shelf>(
     ensures there { IfOk result (λ found. found.0.0 + length MAP_LUMPS < length dir.now.lumps) }
     ensures fits { IfOk result (λ found. (lump : ℕ) → is_map_lump found.0.0 lump ≡ true → StandsBeside dir.now.lumps cache.old lump) }
 {
-    let label = label_of(dir, name)?;
+    let label = label_of(dir, name).map_err(Fault::Refused)?;
     let level = level_behind(alloc, label, dir, cache, shelf)?;
     Ok((label, level))
 }
@@ -77,5 +78,5 @@ fn level_behind<S: Shelf>(
     ensures fits { IfOk result (λ level. (lump : ℕ) → is_map_lump label.0 lump ≡ true → StandsBeside dir.now.lumps cache.old lump) }
 {
     let builder = add_lumps(alloc, &LUMPS, label, dir, cache, shelf)?;
-    Ok(builder.finish(alloc)?)
+    builder.finish(alloc).map_err(map_fault)
 }

@@ -1,6 +1,6 @@
 // The lumps of a map, each fetched and added to a builder before the next.
 //
-// Rules: `specs/Lumps`; what is told of a call over a cache stands in `cached_lumps`. The original:
+// Rules: `specs/Lumps`; what a call over a cache answers stands in `lump_cache`. The original:
 // `P_SetupLevel`, p_setup.c.
 ghost use Rattle.outside.specs.Faults.{itself};
 ghost use Rattle.std.specs.Prelude.{◌≡◌, ◌<◌, ◌≤◌, ◌+◌, ◌^◌, ℕ, length, map, true, false, IfOk, OnOk, slice_set};
@@ -13,8 +13,8 @@ ghost use Rattle.scene_rules.specs.Sizes.{is_map_lump};
 ghost use Rattle.level_scene.specs.Lumps.{lump_added, lumps_from};
 
 use crate::LevelFault;
-use lump_cache::{fetch_live, live_lump};
-use lump_cache::LumpCache;
+use crate::fault::map_fault;
+use lump_cache::{CacheFault, LumpCache, fetch_live, live_lump};
 use lump_rules::{MAP_LUMP_COUNT, MAP_LUMPS};
 use map_lumps::{LevelBuilder, MapLump};
 use outside::Shelf;
@@ -75,7 +75,8 @@ fn add_lump<S: Shelf>(
     ensures added { OnOk result (builder.new.added ≡ slice_set builder.old.added (lump_no lump) true) }
     ensures fits { OnOk result (StandsBeside dir.now.lumps cache.old number.0) }
 {
-    fetch_live(cache, dir, shelf, number)?;
-    builder.add(alloc, lump, live_lump(cache, number))?;
-    Ok(())
+    fetch_live(cache, dir, shelf, number).map_err(CacheFault::above)?;
+    builder
+        .add(alloc, lump, live_lump(cache, number))
+        .map_err(map_fault)
 }

@@ -67,22 +67,22 @@ module _ (contents : List (List ℕ)) (level : ToldScene) (files : SceneFiles) w
       }
 
   -- no room for a picture of a weapon layer, beside COLORMAP
-  pub layers_full : {z : Heap} (scene : SceneValue) (r : Result (Option (List Frame)) AuditFault) → scene_in (lump_bytes contents files.dir.lumps) files.dir.lumps files.things level.map_name level.settings.skill ≡ Ok scene → colormap_of files.dir.lumps ≡ Ok scene.ground.colormap →
-      IsAtRest scene.ground.colormap (lump_at files.dir.lumps scene.ground.colormap).size z → z.size ≡ level.settings.zone →
+  pub layers_full : {z : Heap} (scene : SceneValue) (r : Result (Option (List Frame)) AuditFault) → scene_in (lump_bytes contents files.dir.lumps) files.dir.lumps files.things level.map_name level.settings.skill ≡ Ok scene → colormap_of files.dir.lumps ≡ Ok scene.base.colormap →
+      IsAtRest scene.base.colormap (lump_at files.dir.lumps scene.base.colormap).size z → z.size ≡ level.settings.zone →
       IfErr r (λ f. IfFull (itself f) (IsFullFor (IsOfLayers files.dir.lumps files.weapons) files.dir z)) → IfErr r (λ f. IfFull (itself f) (IsFullOver (lump_bytes contents files.dir.lumps) level (value_of files)))
   layers_full scene (Ok layers) accepted is rest size full = tt
   layers_full scene (Err (Refused refusal)) accepted is rest size full = tt
   layers_full scene (Err ReadFault) accepted is rest size full = tt
   layers_full scene (Err OutOfMemory) accepted is rest size full = tt
   layers_full scene (Err (ZoneFull wanted widest')) accepted is rest size full =
-      let small : level.settings.zone < block_size (lump_at files.dir.lumps scene.ground.colormap).size + wanted + MIN_FRAGMENT =
-      subst (λ n. n < block_size (lump_at files.dir.lumps scene.ground.colormap).size + wanted + MIN_FRAGMENT) size (full.full.room scene.ground.colormap (lump_at files.dir.lumps scene.ground.colormap).size rest) in
+      let small : level.settings.zone < block_size (lump_at files.dir.lumps scene.base.colormap).size + wanted + MIN_FRAGMENT =
+      subst (λ n. n < block_size (lump_at files.dir.lumps scene.base.colormap).size + wanted + MIN_FRAGMENT) size (full.full.room scene.base.colormap (lump_at files.dir.lumps scene.base.colormap).size rest) in
       record {
         lump = full.lump;
         asked = inr full.asked;
         wanted_is = full.full.wanted_is;
         narrow = full.full.narrow;
-        colormap = scene.ground.colormap;
+        colormap = scene.base.colormap;
         colormap_is = is;
         small = small;
         enough = λ loaded e. audited_by (λ l. level.settings.zone < (loaded_sizes l).enough) (lump_bytes contents files.dir.lumps) level (value_of files) loaded e
@@ -92,7 +92,7 @@ module _ (contents : List (List ℕ)) (level : ToldScene) (files : SceneFiles) w
               arith,
               small,
               full.full.wanted_is,
-              enough_layers (lump_bytes contents files.dir.lumps) (record { files = value_of files; scene = scene; weapons = weapons }) full.lump layers (colormap_there files.dir.lumps scene.ground.colormap is) full.asked,
+              enough_layers (lump_bytes contents files.dir.lumps) (record { files = value_of files; scene = scene; weapons = weapons }) full.lump layers (colormap_there files.dir.lumps scene.base.colormap is) full.asked,
             )));
       }
 

@@ -82,20 +82,20 @@ module _ (found : FilesValue) (weapons : Option (List Frame)) (sound : SoundValu
     go (Some book) = refl
 
 -- a scene of that directory, with these pictures
-module _ (lumps : List Lump) (scene : SceneValue) (pictures : List ℕ) (there : scene.ground.colormap < length lumps) where
+module _ (lumps : List Lump) (scene : SceneValue) (pictures : List ℕ) (there : scene.base.colormap < length lumps) where
   -- COLORMAP has no greater block than the greatest that is needed
-  needed_first : lump_block lumps scene.ground.colormap ≤ greatest_by (lump_block lumps) (needed_lumps lumps (art_with scene pictures))
-  needed_first = needed_there lumps (art_with scene pictures) scene.ground.colormap (for_colormap lumps (art_with scene pictures) scene.ground.colormap (eq-eqb scene.ground.colormap scene.ground.colormap refl)) there
+  needed_first : lump_block lumps scene.base.colormap ≤ greatest_by (lump_block lumps) (needed_lumps lumps (art_with scene pictures))
+  needed_first = needed_there lumps (art_with scene pictures) scene.base.colormap (for_colormap lumps (art_with scene pictures) scene.base.colormap (eq-eqb scene.base.colormap scene.base.colormap refl)) there
 
   -- nor has a picture
   picture_block : (lump : ℕ) → list_any (λ n. n == lump) pictures ≡ true → lump_block lumps lump ≤ greatest_by (lump_block lumps) (needed_lumps lumps (art_with scene pictures))
   picture_block lump on = elim (cases_lt lump (length lumps)) [
     | inl below ↦ needed_there lumps (art_with scene pictures) lump (for_picture lumps (art_with scene pictures) lump on) below
-    | inr past ↦ omega (arith, past_block lumps lump scene.ground.colormap past, needed_first)
+    | inr past ↦ omega (arith, past_block lumps lump scene.base.colormap past, needed_first)
   ]
 
   -- a zone that is enough holds a picture beside COLORMAP
-  picture_beside : (lump : ℕ) → list_any (λ n. n == lump) pictures ≡ true → block_size (lump_at lumps scene.ground.colormap).size + block_size (lump_at lumps lump).size + MIN_FRAGMENT ≤ enough lumps (art_with scene pictures)
+  picture_beside : (lump : ℕ) → list_any (λ n. n == lump) pictures ≡ true → block_size (lump_at lumps scene.base.colormap).size + block_size (lump_at lumps lump).size + MIN_FRAGMENT ≤ enough lumps (art_with scene pictures)
   unfolding enough lump_block
   picture_beside lump on = omega (arith, picture_block lump on)
 
@@ -111,8 +111,8 @@ book_of_layers bytes lumps weapons layers lump e asked =
     subst (λ found. list_any (λ n. n == lump) (weapon_lumps found) ≡ true) some (needed_picture bytes lumps (weapon_needs rows) made.0 lump book asked.2)
 
 -- a zone that is enough holds a picture of the layers beside COLORMAP
-pub enough_layers : (bytes : ℕ → List ℕ) (loaded : LoadedValue) (lump : ℕ) → weapons_of bytes loaded.files.lumps loaded.files.weapons ≡ Ok loaded.weapons → loaded.scene.ground.colormap < length loaded.files.lumps → IsOfLayers loaded.files.lumps loaded.files.weapons lump →
-    block_size (lump_at loaded.files.lumps loaded.scene.ground.colormap).size + block_size (lump_at loaded.files.lumps lump).size + MIN_FRAGMENT ≤ (loaded_sizes loaded).enough
+pub enough_layers : (bytes : ℕ → List ℕ) (loaded : LoadedValue) (lump : ℕ) → weapons_of bytes loaded.files.lumps loaded.files.weapons ≡ Ok loaded.weapons → loaded.scene.base.colormap < length loaded.files.lumps → IsOfLayers loaded.files.lumps loaded.files.weapons lump →
+    block_size (lump_at loaded.files.lumps loaded.scene.base.colormap).size + block_size (lump_at loaded.files.lumps lump).size + MIN_FRAGMENT ≤ (loaded_sizes loaded).enough
 unfolding loaded_sizes zone_sizes
 enough_layers bytes loaded lump e there asked =
     let on = book_of_layers bytes loaded.files.lumps loaded.files.weapons loaded.weapons lump e asked in

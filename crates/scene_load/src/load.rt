@@ -73,7 +73,7 @@ pub fn load_scene<S: Shelf>(
     ensures sizes { IfOk result (λ loaded. loaded.scene.sizes ≡ loaded_sizes (loaded_value loaded)) }
     ensures full { (files : List File) → Holds (S.view shelf.old) files →
         IfErr result (λ fault. IfFull (itself fault) (IsFullLoad (told_scene level.now) (map (λ wad. wad.now) wads.now) files)) }
-    ensures rest { IfOk result (λ loaded. IsAtRest loaded.scene.scene.ground.colormap (lump_at loaded.files.dir.lumps loaded.scene.scene.ground.colormap).size loaded.cache) }
+    ensures rest { IfOk result (λ loaded. IsAtRest loaded.scene.scene.base.colormap (lump_at loaded.files.dir.lumps loaded.scene.scene.base.colormap).size loaded.cache) }
     ensures contents { (files : List File) (contents : List (List ℕ)) → Holds (S.view shelf.old) files →
         files_named (map (λ wad. wad.now) wads.now) files ≡ Some contents →
         IfOk result (λ loaded. NameFiles (S.view shelf.new) loaded.files.dir.files contents × AllWithin contents loaded.files.dir.lumps × IsFaithful contents loaded.files.dir.lumps loaded.cache) }
@@ -137,8 +137,8 @@ fn audit_files<S: Shelf>(
         IfErr result (λ fault. IfFull (itself fault)
         (IsFullOver (lump_bytes contents files.now.dir.lumps) (told_scene level.now)
         (value_of files.now))) }
-    ensures rest { IfOk result (λ audited. IsAtRest audited.0.scene.ground.colormap
-        (lump_at files.now.dir.lumps audited.0.scene.ground.colormap).size cache.new) }
+    ensures rest { IfOk result (λ audited. IsAtRest audited.0.scene.base.colormap
+        (lump_at files.now.dir.lumps audited.0.scene.base.colormap).size cache.new) }
     ensures counts { KeepsCounts cache.old cache.new }
     ensures faithful { (contents : List (List ℕ)) →
         NameFiles (S.view shelf.old) files.now.dir.files contents →
@@ -171,7 +171,7 @@ fn audit_layers<S: Shelf>(
     shelf: &mut S,
 ) -> Result<Option<SpriteBook>, AuditFault>
     requires slots { length dir.now.lumps ≤ cache.old.lumps }
-    requires colormap { scene.old.scene.ground.colormap < length dir.now.lumps }
+    requires colormap { scene.old.scene.base.colormap < length dir.now.lumps }
     ensures tells { ReadsLumps itself (S.view shelf.old) (S.view shelf.new) dir.now
         cache.old cache.new (IsOfLayers dir.now.lumps weapons.now) (λ book. book)
         (λ bytes. weapons_of bytes dir.now.lumps weapons.now) result }

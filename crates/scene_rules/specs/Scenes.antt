@@ -66,10 +66,12 @@ map_bytes bytes label = record {
   sectors = bytes (label + 8);
 }
 
--- what the checks of single lumps give: colours, map, lists of textures
-pub record Ground : Type 0 where
+-- what a level stands on, by the checks of single lumps: colours with the first palette, map, lists of
+-- textures
+pub record LevelBase : Type 0 where
   pub colormap : ℕ
   pub playpal : ℕ
+  pub palette : List ℕ
   pub label : ℕ
   pub level : LevelValue
   pub lists : TextureLists
@@ -80,16 +82,18 @@ lists_in bytes lumps = texture_lists (named_bytes bytes lumps PNAMES) (named_byt
 unfoldable pub level_in : (ℕ → List ℕ) → List Lump → List ℕ → Result (ℕ × LevelValue) MapRefusal
 level_in bytes lumps name = and_then (label_of lumps name) (λ label. and_then (level_of (map_bytes bytes label)) (λ level. Ok (label, level)))
 
-unfoldable pub ground_over : (ℕ → List ℕ) → List Lump → List ℕ → ℕ → ℕ → Result Ground AuditRefusal
-ground_over bytes lumps name colormap playpal =
+-- the map and the lists, once the colours are there
+unfoldable pub base_over : (ℕ → List ℕ) → List Lump → List ℕ → ℕ → ℕ → List ℕ → Result LevelBase AuditRefusal
+base_over bytes lumps name colormap playpal palette =
     and_then (from_below Map (level_in bytes lumps name)) (λ map.
     and_then (from_below Texture (lists_in bytes lumps)) (λ lists.
-    Ok (record { colormap = colormap; playpal = playpal; label = map.0; level = map.1; lists = lists })))
+    Ok (record { colormap = colormap; playpal = playpal; palette = palette; label = map.0; level = map.1; lists = lists })))
 
-unfoldable pub ground_in : (ℕ → List ℕ) → List Lump → List ℕ → Result Ground AuditRefusal
-ground_in bytes lumps name =
+unfoldable pub base_in : (ℕ → List ℕ) → List Lump → List ℕ → Result LevelBase AuditRefusal
+base_in bytes lumps name =
     and_then (from_below Art (colormap_of lumps)) (λ colormap.
-    and_then (from_below Art (playpal_of lumps)) (λ playpal. ground_over bytes lumps name colormap playpal))
+    and_then (from_below Art (playpal_of lumps)) (λ playpal.
+    base_over bytes lumps name colormap playpal (take PALETTE_SIZE (bytes playpal))))
 
 -- what the names in a level mean: the textures of its sides, its sky, the flats of its sectors
 pub record Faces : Type 0 where
@@ -118,35 +122,39 @@ checked placed bad = and_then (refuse_if Shadow (first_shadow placed)) (λ done.
 
 -- a scene
 pub record SceneValue : Type 0 where
-  pub ground : Ground
+  pub base : LevelBase
   pub faces : Faces
   pub prepared : List (Option PreparedTexture)
   pub placed : List Placed
   pub book : List Frame
-  pub palette : List ℕ
 
-unfoldable pub scene_over : (ℕ → List ℕ) → List Lump → Ground → Faces → List Placed → List (Option PreparedTexture) → Result SceneValue AuditRefusal
-scene_over bytes lumps ground faces placed prepared =
+-- the pictures, and the last checks, once the textures are prepared
+unfoldable pub scene_over : (ℕ → List ℕ) → List Lump → LevelBase → Faces → List Placed → List (Option PreparedTexture) → Result SceneValue AuditRefusal
+scene_over bytes lumps base faces placed prepared =
     and_then (from_below Sprite (book_in bytes lumps placed)) (λ book.
-    and_then (from_below Scene (checked placed (bad_middle (texture_by prepared) ground.level.segs faces.sides))) (λ done.
-    Ok (record { ground = ground; faces = faces; prepared = prepared; placed = placed; book = book; palette = take PALETTE_SIZE (bytes ground.playpal) })))
+    and_then (from_below Scene (checked placed (bad_middle (texture_by prepared) base.level.segs faces.sides))) (λ done.
+    Ok (record { base = base; faces = faces; prepared = prepared; placed = placed; book = book })))
 
-unfoldable pub scene_on : (ℕ → List ℕ) → List Lump → List ThingLine → ℕ → List ℕ → Ground → Result SceneValue AuditRefusal
-scene_on bytes lumps lines skill name ground =
-    and_then (from_below Scene (faces_in lumps name ground.level ground.lists)) (λ faces.
-    and_then (from_below Texture (prepared_textures (last_of lumps) bytes ground.lists (is_wanted_texture faces.sides faces.sky))) (λ prepared.
-    scene_over bytes lumps ground faces (placed_things ground.level lines skill) prepared))
+-- the art, once it is known what the names in the level mean
+unfoldable pub scene_with : (ℕ → List ℕ) → List Lump → List ThingLine → ℕ → LevelBase → Faces → Result SceneValue AuditRefusal
+scene_with bytes lumps lines skill base faces =
+    and_then (from_below Texture (prepared_textures (last_of lumps) bytes base.lists (is_wanted_texture faces.sides faces.sky))) (λ prepared.
+    scene_over bytes lumps base faces (placed_things base.level lines skill) prepared)
+
+unfoldable pub scene_on : (ℕ → List ℕ) → List Lump → List ThingLine → ℕ → List ℕ → LevelBase → Result SceneValue AuditRefusal
+scene_on bytes lumps lines skill name base =
+    and_then (from_below Scene (faces_in lumps name base.level base.lists)) (λ faces. scene_with bytes lumps lines skill base faces)
 
 -- the scene of a map in a skill of 1 to 5, with things that look as the lines of the thing table say
 unfoldable pub scene_in : (ℕ → List ℕ) → List Lump → List ThingLine → List ℕ → ℕ → Result SceneValue AuditRefusal
-scene_in bytes lumps lines name skill = and_then (ground_in bytes lumps name) (scene_on bytes lumps lines skill name)
+scene_in bytes lumps lines name skill = and_then (base_in bytes lumps name) (scene_on bytes lumps lines skill name)
 
 -- what it takes from the directory
 unfoldable pub art_of : SceneValue → SceneArt
 art_of scene = record {
-  colormap = scene.ground.colormap;
-  playpal = scene.ground.playpal;
-  label = scene.ground.label;
+  colormap = scene.base.colormap;
+  playpal = scene.base.playpal;
+  label = scene.base.label;
   prepared = scene.prepared;
   flats = scene.faces.flats;
   pictures = book_lumps scene.book;

@@ -4,7 +4,7 @@ use Rattle.sprite_book.specs.Calls.{IsWanted}
 use Rattle.scene_rules.specs.declared.Placed.{Placed}
 use Rattle.scene_rules.specs.Places.{need_of}
 use Rattle.level_audit.specs.declared.fault.AuditFault.TheVariants.{OutOfMemory}
-use Rattle.level_audit.specs.Grounds.{ground_of}
+use Rattle.level_audit.specs.Bases.{base_of}
 use Rattle.level_audit.specs.Scenes.{faces_of, given_palette, scene_from}
 use Rattle.level_audit.proofs.PictureLemmas.{sides_told}
 use Rattle.level_audit.proofs.SceneLemmas.{scene_from-more, scene_from-stop}
@@ -14,9 +14,9 @@ pub returns-in_err-prepare_faces-clause-tells : goal.returns-in_err-prepare_face
 returns-in_err-prepare_faces-clause-tells g c =
     let lumps = c.args.dir.now.lumps in
     let lines = c.args.things.now in
-    let stands = ground_of c.args.ground in
+    let stands = base_of c.args.base in
     let faces = faces_of c.args.faces in
-    let palette = c.args.ground.palette.items in
+    let palette = c.args.base.palette.items in
     tells_stop_first (λ bytes. given_palette palette (scene_from bytes lumps lines c.args.skill stands faces)) c.prepare_faces.result c.in_err-prepare_faces.field-0.0 c.from_residual.result
     (sides_told stands.lists faces.sides c.deref.result.now faces.sky c.prepare_faces.result c.deref.ensures.value c.prepare_faces.ensures.tells)
     c.in_err-prepare_faces.was c.from_residual.ensures.1 (λ lump wanted. inl wanted) (λ bytes refusal e. scene_from-stop palette bytes lumps stands faces lines c.args.skill refusal e)
@@ -24,9 +24,9 @@ returns-in_err-prepare_faces-clause-tells g c =
 pub returns-in_err-placed-clause-tells : goal.returns-in_err-placed-clause-tells
 returns-in_err-placed-clause-tells g c =
     let lumps = c.args.dir.now.lumps in
-    let stands = ground_of c.args.ground in
+    let stands = base_of c.args.base in
     let faces = faces_of c.args.faces in
-    tells_same c.from_residual-in_err-placed.result OutOfMemory (λ bytes. given_palette c.args.ground.palette.items (scene_from bytes lumps c.args.things.now c.args.skill stands faces)) c.from_residual-in_err-placed.ensures.1
+    tells_same c.from_residual-in_err-placed.result OutOfMemory (λ bytes. given_palette c.args.base.palette.items (scene_from bytes lumps c.args.things.now c.args.skill stands faces)) c.from_residual-in_err-placed.ensures.1
     (tells_short OutOfMemory refl (λ lump wanted. inl wanted)
     (sides_told stands.lists faces.sides c.deref.result.now faces.sky (Ok c.in_ok-prepare_faces.field-0) c.deref.ensures.value c.in_ok-prepare_faces.ensures.tells))
 
@@ -34,9 +34,9 @@ pub returns-clause-tells : goal.returns-clause-tells
 returns-clause-tells g c =
     let lumps = c.args.dir.now.lumps in
     let lines = c.args.things.now in
-    let stands = ground_of c.args.ground in
+    let stands = base_of c.args.base in
     let faces = faces_of c.args.faces in
-    let palette = c.args.ground.palette.items in
+    let palette = c.args.base.palette.items in
     tells_then (λ bytes. given_palette palette (scene_from bytes lumps lines c.args.skill stands faces)) c.read_things.result
     (sides_told stands.lists faces.sides c.deref.result.now faces.sky (Ok c.in_ok-prepare_faces.field-0) c.deref.ensures.value c.in_ok-prepare_faces.ensures.tells)
     c.read_things.ensures.tells (λ lump wanted. inl wanted)

@@ -4,8 +4,8 @@ use Rattle.lump_cache.proofs.CallLemmas.{tells_stop_first, tells_then}
 use Rattle.art_rules.specs.Textures.{TextureLists}
 use Rattle.scene_rules.specs.Scenes.{faces_in, scene_on}
 use Rattle.level_audit.specs.Faults.{above_scene}
-use Rattle.level_audit.specs.Grounds.{ground_of}
-use Rattle.level_audit.specs.declared.faces.ReadFaces.{ReadFaces}
+use Rattle.level_audit.specs.Bases.{base_of}
+use Rattle.level_audit.specs.declared.names.ReadFaces.{ReadFaces}
 use Rattle.level_audit.specs.Asked.{IsOfScene}
 use Rattle.level_audit.specs.Scenes.{faces_of, given_palette}
 use Rattle.level_audit.proofs.PartLemmas.{faces_told}
@@ -16,8 +16,8 @@ pub returns-in_err-faces-clause-tells : goal.returns-in_err-faces-clause-tells
 returns-in_err-faces-clause-tells g c =
     let dir = c.args.dir.now in
     let name = c.args.name.now in
-    let stands = ground_of c.args.ground in
-    let palette = c.args.ground.palette.items in
+    let stands = base_of c.args.base in
+    let palette = c.args.base.palette.items in
     let fault = above_scene c.in_err-faces.field-0.0 in
     tells_stop_first (λ bytes. given_palette palette (scene_on bytes dir.lumps c.args.things.now c.args.skill name stands)) (Err fault) fault c.from_residual.result
     (faces_told (g.S.Shelf.view c.args.shelf.now) dir c.args.cache.now (IsOfScene dir.lumps c.args.things.now c.args.skill name stands) name stands.level stands.lists c.lists.result.now (Err c.in_err-faces.field-0.0) c.lists.ensures c.in_err-faces.ensures.answers)
@@ -27,9 +27,9 @@ pub returns-clause-tells : goal.returns-clause-tells
 returns-clause-tells g c =
     let dir = c.args.dir.now in
     let name = c.args.name.now in
-    let stands = ground_of c.args.ground in
+    let stands = base_of c.args.base in
     let faces = faces_of c.in_ok-faces.faces in
-    let palette = c.args.ground.palette.items in
+    let palette = c.args.base.palette.items in
     tells_then (λ bytes. given_palette palette (scene_on bytes dir.lumps c.args.things.now c.args.skill name stands)) c.read_art.result
     (faces_told (g.S.Shelf.view c.args.shelf.now) dir c.args.cache.now (IsOfScene dir.lumps c.args.things.now c.args.skill name stands) name stands.level stands.lists c.lists.result.now (Ok c.in_ok-faces.faces) c.lists.ensures c.in_ok-faces.ensures.answers)
     c.read_art.ensures.tells (λ lump wanted. wanted)

@@ -2,7 +2,7 @@ use Rattle.std.proofs.Common.{ℕ, List, length, map, Ok, Err, refl, ap, arith}
 use Rattle.lump_cache.proofs.CallLemmas.{tells_more, tells_same, tells_stop, tells_stop_first}
 use Rattle.sprite_book.specs.Calls.{IsWanted}
 use Rattle.level_audit.specs.Faults.{above_scene}
-use Rattle.level_audit.specs.Grounds.{ground_of}
+use Rattle.level_audit.specs.Bases.{base_of}
 use Rattle.scene_rules.specs.Places.{need_of}
 use Rattle.scene_rules.specs.Scenes.{scene_over}
 use Rattle.level_audit.specs.Scenes.{faces_of, given_palette}
@@ -13,10 +13,10 @@ use Rattle.level_audit.proofs.scene.read_things.Goals as goal
 pub returns-in_err-book-clause-tells : goal.returns-in_err-book-clause-tells
 returns-in_err-book-clause-tells g c =
     let lumps = c.args.dir.now.lumps in
-    let stands = ground_of c.args.ground in
+    let stands = base_of c.args.base in
     let faces = faces_of c.args.faces in
-    let palette = c.args.ground.palette.items in
-    let prepared = c.args.ground.textures.prepared in
+    let palette = c.args.base.palette.items in
+    let prepared = c.args.base.textures.prepared in
     tells_stop_first (λ bytes. given_palette palette (scene_over bytes lumps stands faces c.args.placed prepared)) c.read_book.result c.in_err-book.field-0.0 c.from_residual.result
     c.read_book.ensures.tells c.in_err-book.was c.from_residual.ensures.1 (λ lump wanted. wanted) (λ bytes refusal e. scene_over-unread palette bytes lumps stands faces c.args.placed prepared refusal e)
 
@@ -26,10 +26,10 @@ check_scene-requires-clause-few g c = omega (arith, c.segs.ensures.sound.counts.
 pub returns-in_err-check_scene-clause-tells : goal.returns-in_err-check_scene-clause-tells
 returns-in_err-check_scene-clause-tells g c =
     let dir = c.args.dir.now in
-    let stands = ground_of c.args.ground in
+    let stands = base_of c.args.base in
     let faces = faces_of c.args.faces in
-    let palette = c.args.ground.palette.items in
-    let prepared = c.args.ground.textures.prepared in
+    let palette = c.args.base.palette.items in
+    let prepared = c.args.base.textures.prepared in
     let fault = above_scene c.in_err-check_scene.field-0.0 in
     let expected = λ (bytes : ℕ → List ℕ). given_palette palette (scene_over bytes dir.lumps stands faces c.args.placed prepared) in
     tells_same c.from_residual-in_err-check_scene.result fault expected c.from_residual-in_err-check_scene.ensures.1
@@ -41,12 +41,12 @@ returns-in_err-check_scene-clause-tells g c =
 pub returns-clause-tells : goal.returns-clause-tells
 returns-clause-tells g c =
     let dir = c.args.dir.now in
-    let stands = ground_of c.args.ground in
+    let stands = base_of c.args.base in
     let faces = faces_of c.args.faces in
-    let palette = c.args.ground.palette.items in
-    let prepared = c.args.ground.textures.prepared in
+    let palette = c.args.base.palette.items in
+    let prepared = c.args.base.textures.prepared in
     tells_more (λ bytes. given_palette palette (scene_over bytes dir.lumps stands faces c.args.placed prepared)) tt
-    (record { ground = c.args.ground; faces = c.args.faces; placed = c.args.placed; book = c.in_ok-book.book })
+    (record { base = c.args.base; faces = c.args.faces; placed = c.args.placed; book = c.in_ok-book.book })
     c.in_ok-book.ensures.tells (Ok tt)
     (checks_told (g.S.Shelf.view c.read_book.new.shelf) dir c.read_book.new.cache (IsWanted dir.lumps (map need_of c.args.placed)) c.args.placed prepared stands.level.segs c.segs.result.now faces.sides c.deref.result.now (Ok tt)
     c.segs.ensures.value c.deref.ensures.value c.in_ok-check_scene.ensures)

@@ -1,7 +1,7 @@
 use Rattle.std.proofs.Common.{refl}
 use Rattle.scene_rules.specs.Scenes.{level_in}
 use Rattle.lump_cache.proofs.CallLemmas.{tells_as, tells_refused, tells_same, tells_stop_first}
-use Rattle.level_scene.specs.declared.fault.LevelFault.TheVariants.{Refused}
+use Rattle.outside.specs.declared.fault.Fault.TheVariants.{Refused}
 use Rattle.level_scene.proofs.LevelLemmas.{level_in-none, level_in-stop, level_in-more, of_map}
 use Rattle.level_scene.proofs.level.read_level.Goals as goal
 

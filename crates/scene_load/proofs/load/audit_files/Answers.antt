@@ -27,7 +27,7 @@ returns-in_err-scene-clause-full g c = λ contents told.
     (audit_full contents (told_scene c.args.level.now) c.args.files.now c.audit.result told c.requires.empty c.requires.size e.full e.found e.room e.enough) c.in_err-scene.was c.from_residual.ensures.1
 
 pub audit_layers-requires-clause-colormap : goal.audit_layers-requires-clause-colormap
-audit_layers-requires-clause-colormap g c = colormap_there c.args.files.now.dir.lumps c.in_ok-scene.scene.scene.ground.colormap c.in_ok-scene.ensures.colormap
+audit_layers-requires-clause-colormap g c = colormap_there c.args.files.now.dir.lumps c.in_ok-scene.scene.scene.base.colormap c.in_ok-scene.ensures.colormap
 
 pub returns-in_err-weapons-clause-answers : goal.returns-in_err-weapons-clause-answers
 returns-in_err-weapons-clause-answers g c = λ contents told.
@@ -81,9 +81,9 @@ returns-clause-sizes g c =
 pub returns-clause-rest : goal.returns-clause-rest
 returns-clause-rest g c =
     let lumps = c.args.files.now.dir.lumps in
-    let colormap = c.in_ok-scene.scene.scene.ground.colormap in
+    let colormap = c.in_ok-scene.scene.scene.base.colormap in
     let same = ap (λ (s : SoundValue). s.scene) c.in_ok-weapons.ensures.scene ∙ scene_kept lumps c.in_ok-weapons.weapons c.in_ok-scene.scene in
-    subst (λ (s : SceneValue). IsAtRest s.ground.colormap (lump_at lumps s.ground.colormap).size c.audit_layers.new.cache) (sym same)
+    subst (λ (s : SceneValue). IsAtRest s.base.colormap (lump_at lumps s.base.colormap).size c.audit_layers.new.cache) (sym same)
     (c.in_ok-weapons.ensures.tells.keeps.rest colormap (lump_at lumps colormap).size (c.in_ok-scene.ensures.rest c.requires.empty))
 
 pub returns-clause-faithful : goal.returns-clause-faithful

@@ -12,7 +12,7 @@ use Rattle.level_audit.specs.Reads.{IsFullAudit}
 use Rattle.level_audit.proofs.FetchLemmas.{answers_after, answers_none, fits_after, full_above, full_after, full_both, full_first, order_after, rest_after, told_after}
 use Rattle.level_audit.proofs.NeededLemmas.{enough_after, small_first}
 use Rattle.level_audit.proofs.SceneLemmas.{scene_in-none}
-use Rattle.level_audit.proofs.steps.audit.Goals as goal
+use Rattle.level_audit.proofs.audit_steps.audit.Goals as goal
 
 pub returns-in_err-colormap-clause-answers : goal.returns-in_err-colormap-clause-answers
 returns-in_err-colormap-clause-answers g c = λ contents told.

@@ -10,7 +10,7 @@ use Rattle.scene_rules.specs.declared.refusal.AuditRefusal.TheVariants.{Texture}
 use Rattle.scene_rules.specs.Sides.{is_wanted_texture}
 use Rattle.level_audit.specs.Faults.{above_textures}
 use Rattle.level_audit.proofs.PictureLemmas.{textures_told, middles_too}
-use Rattle.level_audit.proofs.pictures.prepare_faces.Goals as goal
+use Rattle.level_audit.proofs.art.prepare_faces.Goals as goal
 
 pub returns-in_err-prepare-clause-tells : goal.returns-in_err-prepare-clause-tells
 returns-in_err-prepare-clause-tells g c =

@@ -5,7 +5,7 @@ use Rattle.scene_rules.specs.declared.refusal.AuditRefusal.TheVariants.{Sprite}
 use Rattle.scene_rules.specs.Scenes.{book_in}
 use Rattle.level_audit.specs.Faults.{above_sprites}
 use Rattle.level_audit.proofs.PictureLemmas.{book_told}
-use Rattle.level_audit.proofs.pictures.read_book.Goals as goal
+use Rattle.level_audit.proofs.art.read_book.Goals as goal
 
 pub returns-in_err-load : goal.returns-in_err-load
 returns-in_err-load g c = record {

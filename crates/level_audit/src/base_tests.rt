@@ -1,5 +1,5 @@
 // Values from outside: the made file of 1, whose lumps and colours are told in `made_rules`.
-use crate::{ArtRefusal, AuditFault, AuditRefusal, ReadGround, find_colormap, read_ground};
+use crate::{ArtRefusal, AuditFault, AuditRefusal, ReadBase, find_colormap, read_base};
 use level_maker::make_wad;
 use level_scene::MapRefusal;
 use lump_cache::LumpCache;
@@ -19,7 +19,7 @@ fn read(
     alloc: Global,
     name: &str,
     change: (usize, u8),
-) -> Result<Result<ReadGround, AuditFault>, Fail> {
+) -> Result<Result<ReadBase, AuditFault>, Fail> {
     let mut bytes = make_wad(alloc, 1)?;
     if let Some(place) = bytes.get_mut(change.0) {
         *place = change.1;
@@ -33,23 +33,23 @@ fn read(
     let mut cache = LumpCache::new(alloc, &dir, 65_536, 0)?;
     let name = Name8::from_text(name).ok_or("a name")?;
     match find_colormap(&dir) {
-        Ok(lump) => Ok(read_ground(alloc, lump, &name, &dir, &mut cache, &mut shelf)),
+        Ok(lump) => Ok(read_base(alloc, lump, &name, &dir, &mut cache, &mut shelf)),
         Err(refusal) => Ok(Err(refusal.into())),
     }
 }
 
 #[test]
 fn the_made_level_stands_on_its_lumps(rt: HostRuntime) -> Result<(), Fail> {
-    let ground = read(rt.alloc(), "map01", (0, b'I'))??;
-    assert_eq!(rt; ground.palette.len(), 768);
+    let base = read(rt.alloc(), "map01", (0, b'I'))??;
+    assert_eq!(rt; base.palette.len(), 768);
     assert_eq!(rt;
-        ground.palette.get(..6),
+        base.palette.get(..6),
         Some([0, 255, 0, 1, 254, 7].as_slice())
     );
-    assert_eq!(rt; ground.playpal, LumpNo(0));
-    assert_eq!(rt; ground.colormap, LumpNo(1));
-    assert_eq!(rt; ground.label, LumpNo(17));
-    assert_eq!(rt; ground.level.sectors().len(), 4);
+    assert_eq!(rt; base.playpal, LumpNo(0));
+    assert_eq!(rt; base.colormap, LumpNo(1));
+    assert_eq!(rt; base.label, LumpNo(17));
+    assert_eq!(rt; base.level.sectors().len(), 4);
     Ok(())
 }
 

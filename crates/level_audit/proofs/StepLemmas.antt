@@ -1,4 +1,4 @@
--- A scene over its ground, a step at a time, with a palette that was read before.
+-- A scene over its base, a step at a time, with a palette that was read before.
 use Rattle.std.proofs.Common.{◌≡◌, ℕ, List, Option, Ok, Err, refl, sym, ap, ◌∙◌}
 use Rattle.outside.specs.Faults.{and_then, from_below}
 use Rattle.lump_rules.specs.declared.wad.Lump.{Lump}
@@ -12,11 +12,11 @@ use Rattle.scene_rules.specs.declared.refusal.AuditRefusal.{AuditRefusal}
 use Rattle.scene_rules.specs.declared.refusal.AuditRefusal.TheVariants.{Scene, Sprite, Texture}
 use Rattle.scene_rules.specs.Middles.{bad_middle}
 use Rattle.scene_rules.specs.Places.{placed_things}
-use Rattle.scene_rules.specs.Scenes.{Faces, Ground, book_in, checked, faces_in, scene_on, scene_over, texture_by}
+use Rattle.scene_rules.specs.Scenes.{Faces, LevelBase, book_in, checked, faces_in, scene_on, scene_over, texture_by}
 use Rattle.scene_rules.specs.Sides.{is_wanted_texture}
 use Rattle.level_audit.specs.Scenes.{given_palette, scene_from}
 
-module _ (palette : List ℕ) (bytes : ℕ → List ℕ) (lumps : List Lump) (g : Ground) (faces : Faces) where
+module _ (palette : List ℕ) (bytes : ℕ → List ℕ) (lumps : List Lump) (g : LevelBase) (faces : Faces) where
   module _ (placed : List Placed) (prepared : List (Option PreparedTexture)) where
     -- the book is refused
     pub scene_over-unread : (refusal : AuditRefusal) → from_below Sprite (book_in bytes lumps placed) ≡ Err refusal → given_palette palette (scene_over bytes lumps g faces placed prepared) ≡ Err refusal
@@ -32,7 +32,7 @@ module _ (palette : List ℕ) (bytes : ℕ → List ℕ) (lumps : List Lump) (g 
     -- the scene
     pub scene_over-sound : (book : List Frame) → from_below Sprite (book_in bytes lumps placed) ≡ Ok book →
         from_below Scene (checked placed (bad_middle (texture_by prepared) g.level.segs faces.sides)) ≡ Ok tt →
-        given_palette palette (scene_over bytes lumps g faces placed prepared) ≡ Ok (record { ground = g; faces = faces; prepared = prepared; placed = placed; book = book; palette = palette })
+        given_palette palette (scene_over bytes lumps g faces placed prepared) ≡ Ok (record { base = g; faces = faces; prepared = prepared; placed = placed; book = book; palette = palette })
     unfolding scene_over given_palette
     scene_over-sound book e f = rw (e, f) refl
 
@@ -52,7 +52,7 @@ module _ (palette : List ℕ) (bytes : ℕ → List ℕ) (lumps : List Lump) (g 
         ∙ ap (λ (l : TextureLists). given_palette palette (scene_over bytes lumps (record g { lists = l }) faces (placed_things g.level lines skill) prepared)) (sym same)
         ∙ ap (λ (p : List Placed). given_palette palette (scene_over bytes lumps (record g { lists = lists }) faces p prepared)) (sym are)
 
-module _ (palette : List ℕ) (bytes : ℕ → List ℕ) (lumps : List Lump) (lines : List ThingLine) (skill : ℕ) (name : List ℕ) (g : Ground) where
+module _ (palette : List ℕ) (bytes : ℕ → List ℕ) (lumps : List Lump) (lines : List ThingLine) (skill : ℕ) (name : List ℕ) (g : LevelBase) where
   -- the faces are refused
   pub scene_on-stop : (refusal : AuditRefusal) → from_below Scene (faces_in lumps name g.level g.lists) ≡ Err refusal → given_palette palette (scene_on bytes lumps lines skill name g) ≡ Err refusal
   unfolding scene_on given_palette

@@ -1,4 +1,4 @@
--- The steps of a ground with its palette, and the lumps that stand beside the colormap.
+-- The steps of a base with its palette, and the lumps that stand beside the colormap.
 use Rattle.std.proofs.Common.{◌≡◌, ℕ, true, List, take, Result, Ok, Err, refl, subst}
 use Rattle.outside.specs.Faults.{and_then, from_below}
 use Rattle.lump_rules.specs.declared.wad.Lump.{Lump}
@@ -13,9 +13,9 @@ use Rattle.scene_rules.specs.declared.TheConstants.{PALETTE_SIZE}
 use Rattle.scene_rules.specs.declared.refusal.ArtRefusal.{ArtRefusal}
 use Rattle.scene_rules.specs.declared.refusal.AuditRefusal.{AuditRefusal}
 use Rattle.scene_rules.specs.declared.refusal.AuditRefusal.TheVariants.{Art, Map, Texture}
-use Rattle.scene_rules.specs.Scenes.{Ground, colormap_of, playpal_of, label_of, level_in, lists_in, ground_in, ground_over}
+use Rattle.scene_rules.specs.Scenes.{LevelBase, colormap_of, playpal_of, label_of, level_in, lists_in, base_in, base_over}
 use Rattle.scene_rules.specs.Sizes.{is_map_lump}
-use Rattle.level_audit.specs.Grounds.{ground_and_palette, map_and_lists}
+use Rattle.level_audit.specs.Bases.{base_and_palette, map_and_lists}
 
 -- the lists of textures as they are loaded
 abbrev loaded : (ℕ → List ℕ) → List Lump → Result TextureLists AuditRefusal
@@ -36,17 +36,17 @@ module _ (bytes : ℕ → List ℕ) (lumps : List Lump) (name : List ℕ) where
   unfolding map_and_lists lists_in
   map_and_lists-more map e = rw e refl
 
--- the ground of a map and the lists, with the palette
-abbrev pub with_colours : ℕ → ℕ → List ℕ → ℕ × LevelValue × TextureLists → Ground × List ℕ
+-- the base of a map and the lists, with the palette
+abbrev pub with_colours : ℕ → ℕ → List ℕ → ℕ × LevelValue × TextureLists → LevelBase × List ℕ
 with_colours colormap playpal palette found = (record { colormap = colormap; playpal = playpal; label = found.0; level = found.1; lists = found.2 }, palette)
 
 -- what follows the palette
-abbrev pub then_map : (ℕ → List ℕ) → List Lump → List ℕ → ℕ → ℕ → List ℕ → Result (Ground × List ℕ) AuditRefusal
+abbrev pub then_map : (ℕ → List ℕ) → List Lump → List ℕ → ℕ → ℕ → List ℕ → Result (LevelBase × List ℕ) AuditRefusal
 then_map bytes lumps name colormap playpal palette = and_then (map_and_lists bytes lumps name) (λ found. Ok (with_colours colormap playpal palette found))
 
--- the palette taken after the ground is the one taken before it
+-- the palette taken after the base is the one taken before it
 palette_first : (bytes : ℕ → List ℕ) (colormap playpal : ℕ) (map : Result (ℕ × LevelValue) AuditRefusal) (lists : Result TextureLists AuditRefusal) →
-    and_then {A = Ground} {B = Ground × List ℕ} (and_then map (λ m. and_then lists (λ l. Ok (record { colormap = colormap; playpal = playpal; label = m.0; level = m.1; lists = l })))) (λ g. Ok (g, take PALETTE_SIZE (bytes g.playpal)))
+    and_then {A = LevelBase} {B = LevelBase × List ℕ} (and_then map (λ m. and_then lists (λ l. Ok (record { colormap = colormap; playpal = playpal; label = m.0; level = m.1; lists = l })))) (λ g. Ok (g, take PALETTE_SIZE (bytes g.playpal)))
     ≡ and_then {A = ℕ × LevelValue × TextureLists} (and_then map (λ m. and_then lists (λ l. Ok (m.0, m.1, l)))) (λ found. Ok (with_colours colormap playpal (take PALETTE_SIZE (bytes playpal)) found))
 palette_first bytes colormap playpal (Err refusal) lists = refl
 palette_first bytes colormap playpal (Ok m) (Err refusal) = refl
@@ -54,14 +54,14 @@ palette_first bytes colormap playpal (Ok m) (Ok l) = refl
 
 module _ (bytes : ℕ → List ℕ) (lumps : List Lump) (name : List ℕ) (colormap : ℕ) (is : colormap_of lumps ≡ Ok colormap) where
   -- no PLAYPAL
-  pub ground-stop : (refusal : ArtRefusal) → playpal_of lumps ≡ Err refusal → ground_and_palette bytes lumps name ≡ Err (Art refusal)
-  unfolding ground_and_palette ground_in
-  ground-stop refusal e = rw (is, e) refl
+  pub base-stop : (refusal : ArtRefusal) → playpal_of lumps ≡ Err refusal → base_and_palette bytes lumps name ≡ Err (Art refusal)
+  unfolding base_and_palette base_in
+  base-stop refusal e = rw (is, e) refl
 
   -- both lumps of colours, and what follows the palette
-  pub ground-more : (playpal : ℕ) (palette : List ℕ) → playpal_of lumps ≡ Ok playpal → take PALETTE_SIZE (bytes playpal) ≡ palette → ground_and_palette bytes lumps name ≡ then_map bytes lumps name colormap playpal palette
-  unfolding ground_and_palette ground_in ground_over map_and_lists
-  ground-more playpal palette e same = rw (is, e, ← same) (palette_first bytes colormap playpal (from_below Map (level_in bytes lumps name)) (from_below Texture (lists_in bytes lumps)))
+  pub base-more : (playpal : ℕ) (palette : List ℕ) → playpal_of lumps ≡ Ok playpal → take PALETTE_SIZE (bytes playpal) ≡ palette → base_and_palette bytes lumps name ≡ then_map bytes lumps name colormap playpal palette
+  unfolding base_and_palette base_in base_over map_and_lists
+  base-more playpal palette e same = rw (is, e, ← same) (palette_first bytes colormap playpal (from_below Map (level_in bytes lumps name)) (from_below Texture (lists_in bytes lumps)))
 
 module _ (lumps : List Lump) (z : Heap) where
   -- the lumps behind the label that was found are those of the map

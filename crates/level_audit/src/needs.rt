@@ -28,15 +28,15 @@ pub(crate) fn find_needed(
     scene: &ReadScene,
     pictures: &[LumpNo],
 ) -> Result<Needed, OutOfMemory>
-    requires { scene.now.ground.colormap.0 < length dir.now.lumps }
+    requires { scene.now.base.colormap.0 < length dir.now.lumps }
     ensures lumps { IfOk result (λ needed. numbers_of needed.lumps.items ≡ needed_lumps dir.now.lumps (art_with (scene_value scene.now) (numbers_of pictures.now))) }
     ensures sizes { IfOk result (λ needed. needed.sizes ≡ zone_sizes dir.now.lumps (art_with (scene_value scene.now) (numbers_of pictures.now))) }
 {
     let art = NeededArt {
-        colormap: scene.ground.colormap,
-        playpal: scene.ground.playpal,
-        label: scene.ground.label,
-        textures: &scene.ground.textures,
+        colormap: scene.base.colormap,
+        playpal: scene.base.playpal,
+        label: scene.base.label,
+        textures: &scene.base.textures,
         flats: &scene.faces.flats,
         pictures,
     };

@@ -15,12 +15,12 @@ ghost use Rattle.lump_cache.specs.Calls.{IfFull, InOrderAt, HoldContents, ReadsL
 ghost use Rattle.lump_cache.specs.Sizes.{HasSizes, StandsBeside};
 ghost use Rattle.scene_rules.specs.Scenes.{SceneValue, art_of, colormap_of, scene_in, sizes_of};
 ghost use Rattle.scene_rules.specs.Sizes.{needed_lumps};
-ghost use Rattle.level_audit.specs.Asked.{IsOfGround};
+ghost use Rattle.level_audit.specs.Asked.{IsOfBase};
 ghost use Rattle.level_audit.specs.Reads.{IsFullAudit, IsReadBy, IsReadLater};
 
 use crate::{AuditFault, SoundScene};
 use csv_tables::ThingTable;
-use crate::{find_colormap, read_ground};
+use crate::{find_colormap, read_base};
 use lump_cache::LumpCache;
 use lump_rules::Name8;
 use outside::Shelf;
@@ -66,7 +66,7 @@ pub fn audit<S: Shelf>(
         ResultIs itself (S.view shelf.old).steady (λ sound. sound.scene) (scene_in (lump_bytes contents dir.now.lumps) dir.now.lumps things.now map.now skill) result }
     ensures named { IfOk result (λ sound. sound.named ≡ needed_lumps dir.now.lumps (art_of sound.scene)) }
     ensures sizes { IfOk result (λ sound. sound.sizes ≡ sizes_of dir.now.lumps sound.scene) }
-    ensures colormap { IfOk result (λ sound. colormap_of dir.now.lumps ≡ Ok sound.scene.ground.colormap) }
+    ensures colormap { IfOk result (λ sound. colormap_of dir.now.lumps ≡ Ok sound.scene.base.colormap) }
     ensures causes { HasCauses itself (S.view shelf.old).faults (S.view shelf.new).faults result }
     ensures found { IfErr result (λ fault. IfFull (itself fault) (λ wanted widest'. IsOk (colormap_of dir.now.lumps))) }
     ensures full { IfErr result (λ fault. IfFull (itself fault) (IsFullAudit (S.view shelf.old) dir.now cache.old things.now map.now skill)) }
@@ -75,9 +75,9 @@ pub fn audit<S: Shelf>(
     ensures enough { (contents : List (List ℕ)) (scene : SceneValue) → HoldContents (S.view shelf.old) dir.now cache.old contents →
         scene_in (lump_bytes contents dir.now.lumps) dir.now.lumps things.now map.now skill ≡ Ok scene → IsEmpty cache.old →
         IfErr result (λ fault. IfFull (itself fault) (λ wanted widest'. cache.old.size < (sizes_of dir.now.lumps scene).enough)) }
-    ensures rest { IsEmpty cache.old → IfOk result (λ sound. IsAtRest sound.scene.ground.colormap (lump_at dir.now.lumps sound.scene.ground.colormap).size cache.new) }
-    ensures fits { IsEmpty cache.old → IfOk result (λ sound. (lump : ℕ) → IsOfGround dir.now.lumps map.now lump → lump ≢ sound.scene.ground.colormap →
-        block_size (lump_at dir.now.lumps sound.scene.ground.colormap).size + block_size (lump_at dir.now.lumps lump).size ≤ cache.old.size) }
+    ensures rest { IsEmpty cache.old → IfOk result (λ sound. IsAtRest sound.scene.base.colormap (lump_at dir.now.lumps sound.scene.base.colormap).size cache.new) }
+    ensures fits { IsEmpty cache.old → IfOk result (λ sound. (lump : ℕ) → IsOfBase dir.now.lumps map.now lump → lump ≢ sound.scene.base.colormap →
+        block_size (lump_at dir.now.lumps sound.scene.base.colormap).size + block_size (lump_at dir.now.lumps lump).size ≤ cache.old.size) }
     ensures follows { IsLaterShelf (S.view shelf.old) (S.view shelf.new) }
     ensures counts { KeepsCounts cache.old cache.new }
     ensures faithful { (contents : List (List ℕ)) → NameFiles (S.view shelf.old) dir.now.files contents → IsFaithful contents dir.now.lumps cache.old → IsFaithful contents dir.now.lumps cache.new }
@@ -109,10 +109,10 @@ fn audit_rest<S: Shelf>(
     ensures tells { ReadsLumps itself (S.view shelf.old) (S.view shelf.new) dir.now cache.old cache.new (IsReadLater (S.view shelf.old) dir.now cache.old things.now map.now skill) (λ sound. sound.scene) (λ bytes. scene_in bytes dir.now.lumps things.now map.now skill) result }
     ensures named { IfOk result (λ sound. sound.named ≡ needed_lumps dir.now.lumps (art_of sound.scene)) }
     ensures sizes { IfOk result (λ sound. sound.sizes ≡ sizes_of dir.now.lumps sound.scene) }
-    ensures colormap { IfOk result (λ sound. sound.scene.ground.colormap ≡ colormap.0) }
-    ensures fits { IfOk result (λ sound. (lump : ℕ) → IsOfGround dir.now.lumps map.now lump → StandsBeside dir.now.lumps cache.old lump) }
+    ensures colormap { IfOk result (λ sound. sound.scene.base.colormap ≡ colormap.0) }
+    ensures fits { IfOk result (λ sound. (lump : ℕ) → IsOfBase dir.now.lumps map.now lump → StandsBeside dir.now.lumps cache.old lump) }
 {
-    let ground = read_ground(alloc, colormap, map, dir, cache, shelf)?;
-    let scene = read_scene(alloc, ground, map, things, skill, dir, cache, shelf)?;
+    let base = read_base(alloc, colormap, map, dir, cache, shelf)?;
+    let scene = read_scene(alloc, base, map, things, skill, dir, cache, shelf)?;
     Ok(SoundScene::new(alloc, dir, scene)?)
 }

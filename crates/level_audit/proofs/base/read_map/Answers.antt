@@ -5,9 +5,9 @@ use Rattle.lump_cache.proofs.CallLemmas.{result_above, tells_above, tells_as, te
 use Rattle.lump_cache.proofs.SizeLemmas.{either_beside}
 use Rattle.level_audit.specs.Faults.{above_level, above_textures}
 use Rattle.level_audit.proofs.FaultLemmas.{level_above, textures_above}
-use Rattle.level_audit.specs.Grounds.{map_and_lists}
-use Rattle.level_audit.proofs.GroundLemmas.{map_and_lists-stop, map_and_lists-more, map_beside, then_lists}
-use Rattle.level_audit.proofs.ground.read_map.Goals as goal
+use Rattle.level_audit.specs.Bases.{map_and_lists}
+use Rattle.level_audit.proofs.BaseLemmas.{map_and_lists-stop, map_and_lists-more, map_beside, then_lists}
+use Rattle.level_audit.proofs.base.read_map.Goals as goal
 
 pub returns-in_err-label-clause-tells : goal.returns-in_err-label-clause-tells
 returns-in_err-label-clause-tells g c =

@@ -1,0 +1,129 @@
+// What a level stands on.
+//
+// Rules: `scene_rules`, Scenes; `specs/Bases`. The original: `P_SetupLevel`, p_setup.c,
+// `R_InitTextures`, r_data.c.
+ghost use Rattle.outside.specs.Faults.{itself};
+ghost use Rattle.std.specs.Prelude.{◌≡◌, ◌<◌, ◌≤◌, ◌+◌, ℕ, [], length, Ok, IfOk};
+ghost use Rattle.lump_rules.specs.declared.names.TheConstants.{MAP_LUMPS};
+ghost use Rattle.lump_cache.specs.Calls.{ReadsLumps};
+ghost use Rattle.lump_cache.specs.Sizes.{StandsBeside};
+ghost use Rattle.art_rules.specs.declared.TheConstants.{MAX_TEXTURES};
+ghost use Rattle.scene_rules.specs.Scenes.{base_in, base_over, colormap_of};
+ghost use Rattle.level_audit.specs.Asked.{IsOfBase, IsOfMap};
+ghost use Rattle.level_audit.specs.Bases.{base_of};
+
+use crate::{AuditFault, AuditRefusal};
+use crate::colours::{find_playpal, read_palette};
+use level_scene::{Level, read_level};
+use lump_cache::LumpCache;
+use lump_rules::Name8;
+use outside::{Fault, Shelf};
+use std::alloc::Global;
+use texture_build::Textures;
+use wad_dir::{Directory, LumpNo};
+
+/// What a level stands on: the lumps of colours, the first palette, the label of the map, the level,
+/// and the lists of textures, none of which is prepared yet.
+///
+/// The original: the globals that `R_InitData`, r_data.c, and `P_SetupLevel`, p_setup.c, set.
+#[derive(Drop)]
+pub struct ReadBase {
+    pub colormap: LumpNo,
+    pub playpal: LumpNo,
+    pub palette: Vec<u8>,
+    pub label: LumpNo,
+    pub level: Level,
+    pub textures: Textures,
+}
+
+/// What a level stands on, where COLORMAP is found already.
+///
+/// PLAYPAL is found and read, then the eight lumps of the map, then PNAMES, TEXTURE1 and, where it
+/// is there, TEXTURE2: one lump at a time is fetched with the tag `Cache`, read, and left purgeable.
+/// Takes memory for what is kept: the palette, the level, and the lists.
+///
+/// Errors: `Refused` with the first refusal: `Playpal`, then those of the map, then those of the
+/// lists. `ReadFault` only where a call of the shelf failed. `ZoneFull` where no gap of the zone held
+/// a lump's block. `OutOfMemory`. Whatever comes, what `ReadsLumps` says is kept of the cache.
+///
+/// From a cache at rest whose live lumps have the directory's sizes, after Ok, the colormap's block
+/// and that of any other of these lumps are together no larger than the zone (`fits`).
+///
+/// The original: `R_InitTextures`, r_data.c, `P_SetupLevel`, p_setup.c.
+pub fn read_base<S: Shelf>(
+    alloc: Global,
+    colormap: LumpNo,
+    name: &Name8,
+    dir: &Directory,
+    cache: &mut LumpCache,
+    shelf: &mut S,
+) -> Result<ReadBase, AuditFault>
+    requires slots { length dir.now.lumps ≤ cache.old.lumps }
+    requires colormap { colormap_of dir.now.lumps ≡ Ok colormap.0 }
+    ensures tells { ReadsLumps itself (S.view shelf.old) (S.view shelf.new) dir.now cache.old
+        cache.new (IsOfBase dir.now.lumps name.now) base_of
+        (λ bytes. base_in bytes dir.now.lumps name.now) result }
+    ensures fits { IfOk result (λ base. (lump : ℕ) → IsOfBase dir.now.lumps name.now lump → StandsBeside dir.now.lumps cache.old lump) }
+    ensures colormap { IfOk result (λ base. base.colormap ≡ colormap) }
+    ensures label { IfOk result (λ base. base.label.0 + length MAP_LUMPS < length dir.now.lumps) }
+    ensures few { IfOk result (λ base. length base.textures.lists.textures ≤ MAX_TEXTURES) }
+    ensures unprepared { IfOk result (λ base. base.textures.prepared ≡ []) }
+{
+    let playpal =
+        find_playpal(dir).map_err(|refusal| Fault::Refused(AuditRefusal::Art(refusal)))?;
+    let palette = read_palette(alloc, playpal, dir, cache, shelf)?;
+    let colours = Colours {
+        colormap,
+        playpal,
+        palette,
+    };
+    read_map(alloc, colours, name, dir, cache, shelf)
+}
+
+// The lumps of colours, and the first palette.
+#[derive(Drop)]
+struct Colours {
+    colormap: LumpNo,
+    playpal: LumpNo,
+    palette: Vec<u8>,
+}
+
+// The label of the map, its level, and the lists of textures, beside the colours.
+fn read_map<S: Shelf>(
+    alloc: Global,
+    colours: Colours,
+    name: &Name8,
+    dir: &Directory,
+    cache: &mut LumpCache,
+    shelf: &mut S,
+) -> Result<ReadBase, AuditFault>
+    requires slots { length dir.now.lumps ≤ cache.old.lumps }
+    ensures tells { ReadsLumps itself (S.view shelf.old) (S.view shelf.new) dir.now cache.old
+        cache.new (IsOfMap dir.now.lumps name.now) base_of
+        (λ bytes. base_over bytes dir.now.lumps name.now colours.colormap.0 colours.playpal.0
+            colours.palette.items) result }
+    ensures fits { IfOk result (λ base. (lump : ℕ) → IsOfMap dir.now.lumps name.now lump →
+        StandsBeside dir.now.lumps cache.old lump) }
+    ensures colormap { IfOk result (λ base. base.colormap ≡ colours.colormap) }
+    ensures label { IfOk result (λ base. base.label.0 + length MAP_LUMPS < length dir.now.lumps) }
+    ensures few { IfOk result (λ base. length base.textures.lists.textures ≤ MAX_TEXTURES) }
+    ensures unprepared { IfOk result (λ base. base.textures.prepared ≡ []) }
+{
+    let (label, level) = read_level(alloc, name, dir, cache, shelf)
+        .map_err(|fault| fault.above(AuditRefusal::Map))?;
+    let textures = Textures::load(alloc, dir, cache, shelf)
+        .map_err(|fault| fault.above(AuditRefusal::Texture))?;
+    let Colours {
+        colormap,
+        playpal,
+        palette,
+    } = colours;
+    Ok(ReadBase {
+        colormap,
+        playpal,
+        palette,
+        label,
+        level,
+        textures,
+    })
+}
