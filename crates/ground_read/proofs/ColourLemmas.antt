@@ -2,7 +2,7 @@
 use Rattle.std.proofs.Common.{◌≡◌, ℕ, Option, Some, None, Result, Ok, Err, refl, MatchResult, option_map}
 use Rattle.std.specs.Option.{ok_or}
 use Rattle.lump_rules.specs.Names.{name_of, filled}
-use Rattle.wad_dir.specs.declared.directory.LumpNo.{LumpNo}
+use Rattle.lump_rules.specs.declared.wad.LumpNo.{LumpNo}
 use Rattle.scene_rules.specs.declared.TheConstants.{COLORMAP, PLAYPAL}
 use Rattle.scene_rules.specs.declared.refusal.ArtRefusal.{ArtRefusal}
 

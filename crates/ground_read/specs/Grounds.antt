@@ -2,7 +2,7 @@
 use Rattle.std.specs.Prelude.{ℕ, List, take, Result, Ok}
 use Rattle.outside.specs.Faults.{and_then, from_below}
 use Rattle.lump_rules.specs.declared.wad.Lump.{Lump}
-use Rattle.wad_dir.specs.declared.directory.LumpNo.{LumpNo}
+use Rattle.lump_rules.specs.declared.wad.LumpNo.{LumpNo}
 use Rattle.map_rules.specs.Levels.{LevelValue}
 use Rattle.art_rules.specs.Textures.{TextureLists}
 use Rattle.texture_build.specs.Views.{TexturesView}

@@ -8,7 +8,7 @@ use Rattle.lump_rules.specs.declared.wad.Lump.{Lump}
 use Rattle.lump_rules.specs.Lookups.{map_of}
 use Rattle.zone_rules.specs.Zones.{Heap}
 use Rattle.wad_dir.specs.DirectoryView.{DirectoryView}
-use Rattle.wad_dir.specs.declared.directory.LumpNo.{LumpNo}
+use Rattle.lump_rules.specs.declared.wad.LumpNo.{LumpNo}
 use Rattle.map_rules.specs.declared.lumps.MapLump.{MapLump}
 use Rattle.map_rules.specs.declared.lumps.MapLump.TheVariants.{Things, Linedefs, Sidedefs, Vertexes, Segs, Ssectors, Nodes, Sectors}
 use Rattle.map_rules.specs.declared.refusal.MapRefusal.{MapRefusal}

@@ -11,7 +11,7 @@ use Rattle.lump_rules.proofs.ContentLemmas.{lump_bytes-length}
 use Rattle.zone_rules.specs.declared.Tag.{Tag}
 use Rattle.zone_rules.specs.Zones.{Owner, Holding, Block, Heap, IsLive, owned_block, holding_of, bytes_of, block_size, same_owner}
 use Rattle.wad_dir.specs.DirectoryView.{DirectoryView}
-use Rattle.wad_dir.specs.declared.directory.LumpNo.{LumpNo}
+use Rattle.lump_rules.specs.declared.wad.LumpNo.{LumpNo}
 use Rattle.lump_cache.specs.declared.fault.CacheFault.{CacheFault}
 use Rattle.lump_cache.specs.Caches.{IsAtRest, IsEmpty, HasBlock, HasUse, KeptOrPurged, lump_owner, with_tag_unless_static}
 use Rattle.lump_cache.proofs.FaithLemmas.{bytes_in, kept_bytes, none_bytes, unless_static_bytes}

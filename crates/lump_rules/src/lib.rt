@@ -16,6 +16,6 @@ pub use names::{
     MAP_LUMP_COUNT, MAP_LUMPS, PWAD, S_END, S_START, SS_END, SS_START,
 };
 pub use wad::{
-    COUNT_AT, DirRefusal, ENTRY_SIZE, HEADER_SIZE, Header, Lump, MAX_LUMPS, NAME_AT, PLACE_AT,
-    SIZE_AT, WORD_SIZE,
+    COUNT_AT, DirRefusal, ENTRY_SIZE, HEADER_SIZE, Header, Lump, LumpNo, MAX_LUMPS, NAME_AT,
+    PLACE_AT, SIZE_AT, WORD_SIZE,
 };

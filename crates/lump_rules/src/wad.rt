@@ -34,6 +34,10 @@ pub struct Lump {
     pub name: Name8,
 }
 
+/// The number of a lump: its index among the lumps of all files, in the order of the files.
+#[derive(Clone, Copy, Debug, PartialEq, Eq)]
+pub struct LumpNo(pub u16);
+
 /// What the header of a file says: the count of its entries and the offset of the first, in bytes,
 /// beside the file's size in bytes.
 ///

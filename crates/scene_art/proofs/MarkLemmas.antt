@@ -11,7 +11,7 @@ use Rattle.std.proofs.lemmas.List.Folds.{list_any_none}
 use Rattle.std.proofs.lemmas.List.FromFn.{get_or-range_with_len, length-range_with_len}
 use Rattle.lump_rules.specs.declared.wad.Lump.{Lump}
 use Rattle.lump_rules.specs.declared.names.TheConstants.{MAP_LUMPS}
-use Rattle.wad_dir.specs.declared.directory.LumpNo.{LumpNo}
+use Rattle.lump_rules.specs.declared.wad.LumpNo.{LumpNo}
 use Rattle.art_rules.specs.Wanted.{PreparedTexture, is_patch_of_any, patch_lumps}
 use Rattle.texture_build.specs.Views.{is_marked}
 use Rattle.texture_build.proofs.MarkLemmas.{filter_same}

@@ -16,7 +16,7 @@ use Rattle.map_rules.specs.Levels.{LevelValue}
 use Rattle.csv_tables.specs.declared.things.ThingRow.{ThingRow}
 use Rattle.csv_tables.specs.declared.things.ThingLine.{ThingLine}
 use Rattle.csv_tables.specs.Things.{row_of}
-use Rattle.sprite_book.specs.declared.shapes.Need.{Need}
+use Rattle.art_rules.specs.declared.shapes.Need.{Need}
 use Rattle.scene_rules.specs.declared.Placed.{Placed}
 use Rattle.scene_rules.specs.declared.TheConstants.{EASY, NORMAL, HARD, NOT_ALONE, LAST_EASY, NORMAL_SKILL, EIGHTH_DEGREES}
 

@@ -21,7 +21,7 @@ use Rattle.std.proofs.lemmas.List.FromFn.{length-range_with_len, get_or-range_wi
 use Rattle.word_rules.specs.Least.{or_else}
 use Rattle.word_rules.specs.Listed.{joined_lists}
 use Rattle.word_rules.proofs.ListedLemmas.{joined_lists-append}
-use Rattle.wad_dir.specs.declared.directory.LumpNo.{LumpNo}
+use Rattle.lump_rules.specs.declared.wad.LumpNo.{LumpNo}
 use Rattle.lump_rules.specs.declared.wad.Lump.{Lump}
 use Rattle.lump_rules.specs.declared.names.Group.TheVariants.{Sprites}
 use Rattle.lump_rules.specs.Lookups.{members, is_member, lump_at}

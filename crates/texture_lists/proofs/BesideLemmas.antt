@@ -5,7 +5,7 @@ use Rattle.outside.specs.Shelf.{ShelfView}
 use Rattle.lump_rules.specs.Lookups.{last_of}
 use Rattle.zone_rules.specs.Zones.{Heap, IsLive, block_size, same_owner}
 use Rattle.wad_dir.specs.DirectoryView.{DirectoryView}
-use Rattle.wad_dir.specs.declared.directory.LumpNo.{LumpNo}
+use Rattle.lump_rules.specs.declared.wad.LumpNo.{LumpNo}
 use Rattle.lump_cache.specs.Caches.{IsAtRest, lump_owner}
 use Rattle.lump_cache.specs.Calls.{PreservesCache}
 use Rattle.lump_cache.specs.Named.{IsLast, live_bytes}

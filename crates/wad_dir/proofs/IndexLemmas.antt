@@ -12,7 +12,7 @@ use Rattle.word_rules.specs.Least.{greatest}
 use Rattle.word_rules.proofs.LeastLemmas.{greatest-is}
 use Rattle.lump_rules.specs.declared.wad.Lump.{Lump}
 use Rattle.lump_rules.specs.Lookups.{has_name, last_of}
-use Rattle.wad_dir.specs.declared.directory.LumpNo.{LumpNo}
+use Rattle.lump_rules.specs.declared.wad.LumpNo.{LumpNo}
 use Rattle.wad_dir.specs.Indexes.{indexed}
 
 -- two tests that agree on each number below n

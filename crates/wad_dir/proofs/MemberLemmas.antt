@@ -13,7 +13,7 @@ use Rattle.lump_rules.specs.declared.wad.Lump.{Lump}
 use Rattle.lump_rules.specs.Lookups.{has_name, is_start, is_end, is_member, is_lump, starts_in, mark_before, members, flat_of}
 use Rattle.lump_rules.specs.declared.names.Group.TheVariants.{Flats}
 use Rattle.std.specs.declared.vec.Vec.{Vec}
-use Rattle.wad_dir.specs.declared.directory.LumpNo.{LumpNo}
+use Rattle.lump_rules.specs.declared.wad.LumpNo.{LumpNo}
 use Rattle.wad_dir.specs.Indexes.{is_grouped}
 use Rattle.wad_dir.proofs.IndexLemmas.{greatest_agrees}
 

@@ -9,7 +9,7 @@ ghost use Rattle.lump_rules.specs.Contents.{AllWithin};
 ghost use Rattle.lump_rules.specs.declared.names.Group.TheVariants.{Sprites};
 ghost use Rattle.wad_dir.specs.Faults.{dir_fault};
 
-use crate::DirFault;
+use crate::{DirFault, LumpNo};
 use crate::index::{index_flats, index_names, list_sprites, look_up};
 use crate::load::read_lumps;
 use crate::map::label_at;
@@ -18,10 +18,6 @@ use outside::{FileNo, OutOfMemory, Shelf};
 use std::alloc::Global;
 use std::collections::BTreeMap;
 use std::marker::Model;
-
-/// The number of a lump: its index among the lumps of all files, in the order of the files.
-#[derive(Clone, Copy, Debug, PartialEq, Eq)]
-pub struct LumpNo(pub u16);
 
 /// The directory of some WAD files. Contracts see the numbers of the files and the list of lumps.
 ///

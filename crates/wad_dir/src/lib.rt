@@ -11,9 +11,9 @@ mod index;
 mod load;
 mod map;
 
-pub use directory::{Directory, LumpNo};
+pub use directory::Directory;
 pub use fault::DirFault;
-pub use lump_rules::{DirRefusal, Name8};
+pub use lump_rules::{DirRefusal, LumpNo, Name8};
 
 #[cfg(test)]
 mod tests {

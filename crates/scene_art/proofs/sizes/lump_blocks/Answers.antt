@@ -1,6 +1,6 @@
 use Rattle.std.proofs.Common.{ℕ, ◌<◌, length, refl, arith, ap, ◌∙◌}
 use Rattle.std.proofs.lemmas.List.{take_all}
-use Rattle.wad_dir.specs.declared.directory.LumpNo.{LumpNo}
+use Rattle.lump_rules.specs.declared.wad.LumpNo.{LumpNo}
 use Rattle.scene_rules.specs.Sizes.{greatest_by, lump_block}
 use Rattle.scene_art.proofs.SizeLemmas.{greatest_by-map, greatest_none, greatest_step, index_below, sum_step}
 use Rattle.scene_art.proofs.sizes.lump_blocks.Goals as goal

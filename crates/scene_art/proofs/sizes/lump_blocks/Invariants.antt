@@ -1,6 +1,6 @@
 use Rattle.std.proofs.Common.{◌≡◌, ◌*◌, ◌≤◌, ◌^◌, take}
 use Rattle.std.specs.List.{sum_by}
-use Rattle.wad_dir.specs.declared.directory.LumpNo.{LumpNo}
+use Rattle.lump_rules.specs.declared.wad.LumpNo.{LumpNo}
 use Rattle.scene_rules.specs.Sizes.{greatest_by, lump_block}
 use Rattle.scene_art.proofs.sizes.lump_blocks.Given as goal
 

@@ -1,6 +1,6 @@
 use Rattle.std.proofs.Common.{◌++◌, ◌∷◌, [], false, map, get_or, ap, sym, ◌∙◌, Vec, Global}
 use Rattle.std.proofs.lemmas.List.{map-append}
-use Rattle.wad_dir.specs.declared.directory.LumpNo.{LumpNo}
+use Rattle.lump_rules.specs.declared.wad.LumpNo.{LumpNo}
 use Rattle.texture_build.proofs.MarkLemmas.{passed_on, passed_off}
 use Rattle.texture_build.proofs.lumps.marked_lumps.Goals as goal
 use Rattle.texture_build.proofs.lumps.marked_lumps.Goals.{then-marked+in_ok-push, else-marked}

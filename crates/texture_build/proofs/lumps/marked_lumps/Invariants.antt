@@ -1,6 +1,6 @@
 use Rattle.std.proofs.Common.{◌≡◌, false, map, filter, get_or}
 use Rattle.std.specs.List.{range_with_len}
-use Rattle.wad_dir.specs.declared.directory.LumpNo.{LumpNo}
+use Rattle.lump_rules.specs.declared.wad.LumpNo.{LumpNo}
 use Rattle.texture_build.proofs.lumps.marked_lumps.Given as goal
 
 abbrev pub invariant-loop-number : goal.invariant-loop-number

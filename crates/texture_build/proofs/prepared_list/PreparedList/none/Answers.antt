@@ -1,6 +1,6 @@
 use Rattle.std.proofs.Common.{ap, map, sym, ◌∙◌}
 use Rattle.lump_rules.specs.declared.wad.TheConstants.{MAX_LUMPS}
-use Rattle.wad_dir.specs.declared.directory.LumpNo.{LumpNo}
+use Rattle.lump_rules.specs.declared.wad.LumpNo.{LumpNo}
 use Rattle.art_rules.specs.Wanted.{patch_lumps}
 use Rattle.texture_build.proofs.MarkLemmas.{lumps_none}
 use Rattle.texture_build.proofs.prepared_list.PreparedList.none.Goals as goal
