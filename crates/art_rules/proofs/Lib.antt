@@ -1,3 +1,4 @@
 pub mod PostLemmas
 pub mod MaskLemmas
 pub mod LookupLemmas
+pub mod EachLemmas

@@ -11,8 +11,8 @@ unfoldable pub half_at : List ℕ → ℕ → ℕ
 half_at bytes place = byte_at bytes place + 2 ^ 8 * byte_at bytes (place + 1)
 
 -- the number of two bytes with a sign
-unfoldable pub signed_at : List ℕ → ℕ → ℤ
-signed_at bytes place = cast_signed w16 (half_at bytes place)
+unfoldable pub signed_half_at : List ℕ → ℕ → ℤ
+signed_half_at bytes place = cast_signed w16 (half_at bytes place)
 
 -- the number of four bytes
 unfoldable pub word_at : List ℕ → ℕ → ℕ
@@ -23,6 +23,6 @@ pub word_at_row : word_at (1 ∷ 2 ∷ 3 ∷ []) 0 ≡ 197121
 unfolding word_at half_at byte_at
 word_at_row = refl
 
-pub signed_at_row : signed_at (254 ∷ 255 ∷ []) 0 ≡ negsuc 1
-unfolding signed_at half_at byte_at
-signed_at_row = refl
+pub signed_half_at_row : signed_half_at (254 ∷ 255 ∷ []) 0 ≡ negsuc 1
+unfolding signed_half_at half_at byte_at
+signed_half_at_row = refl

@@ -6,3 +6,4 @@ pub mod Columns
 pub mod Lookups
 pub mod Wanted
 pub mod Frames
+pub mod Books

@@ -3,17 +3,17 @@ use Rattle.std.specs.Prelude.{◌≡◌, ℕ, zero, suc, ◌+◌, ◌*◌, ◌==
 use Rattle.pixel_rules.specs.declared.Post.{Post}
 use Rattle.art_rules.specs.declared.patch.Patch.{Patch}
 use Rattle.art_rules.specs.declared.layout.TheConstants.{PATCH_HEADER_SIZE, LEFT_AT, TOP_AT, COLUMN_PLACES_AT, COLUMN_PLACE_SIZE, POST_LENGTH_AT, POST_BYTES_AT, POSTS_END}
-use Rattle.art_rules.specs.Bytes.{byte_at, half_at, signed_at, word_at}
+use Rattle.art_rules.specs.Bytes.{byte_at, half_at, signed_half_at, word_at}
 
 -- a lump is a patch where its header is whole, its width is at least 1, and its columns have places
 unfoldable pub is_patch : List ℕ → Bool
 is_patch bytes =
     nat_le PATCH_HEADER_SIZE (length bytes)
-    && int_le (pos 1) (signed_at bytes 0)
+    && int_le (pos 1) (signed_half_at bytes 0)
     && nat_le (COLUMN_PLACES_AT + COLUMN_PLACE_SIZE * half_at bytes 0) (length bytes)
 
 unfoldable pub patch_in : List ℕ → Patch
-patch_in bytes = record { width = half_at bytes 0; left = signed_at bytes LEFT_AT; top = signed_at bytes TOP_AT }
+patch_in bytes = record { width = half_at bytes 0; left = signed_half_at bytes LEFT_AT; top = signed_half_at bytes TOP_AT }
 
 unfoldable pub patch_of : List ℕ → Option Patch
 patch_of bytes = if is_patch bytes then Some (patch_in bytes) else None

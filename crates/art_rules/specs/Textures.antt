@@ -12,7 +12,7 @@ use Rattle.art_rules.specs.declared.refusal.TexRefusal.{TexRefusal}
 use Rattle.art_rules.specs.declared.refusal.TexRefusal.TheVariants.{Pnames, Lump, Entry}
 use Rattle.art_rules.specs.declared.TheConstants.{MAX_TEXTURES, NO_TEXTURE, FIRST_LIST, SECOND_LIST}
 use Rattle.art_rules.specs.declared.layout.TheConstants.{NAME_SIZE, COUNT_SIZE, PLACE_SIZE, TEXTURE_WIDTH_AT, TEXTURE_HEIGHT_AT, PATCH_COUNT_AT, TEXTURE_HEAD_SIZE, ENTRY_SIZE, ENTRY_Y_AT, ENTRY_NUMBER_AT}
-use Rattle.art_rules.specs.Bytes.{half_at, signed_at, word_at}
+use Rattle.art_rules.specs.Bytes.{half_at, signed_half_at, word_at}
 
 -- a texture of the lists: its name, its columns, its rows, and its patches in order
 pub record Texture : Type 0 where
@@ -44,7 +44,7 @@ names_in bytes = listed (λ i. name_at bytes (COUNT_SIZE + NAME_SIZE * i)) (list
 
 -- the patch of a texture at a place
 unfoldable pub entry_at : List ℕ → ℕ → TextureEntry
-entry_at bytes place = record { x = signed_at bytes place; y = signed_at bytes (place + ENTRY_Y_AT); number = half_at bytes (place + ENTRY_NUMBER_AT) }
+entry_at bytes place = record { x = signed_half_at bytes place; y = signed_half_at bytes (place + ENTRY_Y_AT); number = half_at bytes (place + ENTRY_NUMBER_AT) }
 
 unfoldable pub patch_count : List ℕ → ℕ → ℕ
 patch_count bytes place = half_at bytes (place + PATCH_COUNT_AT)
@@ -66,8 +66,8 @@ texture_place bytes i = word_at bytes (COUNT_SIZE + PLACE_SIZE * i)
 unfoldable pub is_wrong : List ℕ → ℕ → Bool
 is_wrong bytes place =
     nat_lt (length bytes) (place + TEXTURE_HEAD_SIZE + ENTRY_SIZE * patch_count bytes place)
-    || int_lt (signed_at bytes (place + TEXTURE_WIDTH_AT)) (pos 1)
-    || int_lt (signed_at bytes (place + TEXTURE_HEIGHT_AT)) (pos 1)
+    || int_lt (signed_half_at bytes (place + TEXTURE_WIDTH_AT)) (pos 1)
+    || int_lt (signed_half_at bytes (place + TEXTURE_HEIGHT_AT)) (pos 1)
 
 -- the textures of a list
 unfoldable pub textures_in : List ℕ → List Texture

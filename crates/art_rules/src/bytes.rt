@@ -1,6 +1,6 @@
 // Bytes and numbers of a lump; a byte past its end is 0.
 ghost use Rattle.std.specs.Prelude.{◌≡◌, ◌<◌, ◌+◌, ◌^◌};
-ghost use Rattle.art_rules.specs.Bytes.{byte_at, half_at, signed_at, word_at};
+ghost use Rattle.art_rules.specs.Bytes.{byte_at, half_at, signed_half_at, word_at};
 
 /// The byte at `place`, 0 past the lump's end.
 ///
@@ -29,10 +29,10 @@ pub fn half_at(bytes: &[u8], place: u64) -> u16
 /// The number with a sign of the two bytes from `place` on.
 ///
 /// The original: `SHORT`, m_swap.h.
-#[tactic(auto, unfolding(crate::specs::Bytes::signed_at))]
-pub fn signed_at(bytes: &[u8], place: u64) -> i16
+#[tactic(auto, unfolding(crate::specs::Bytes::signed_half_at))]
+pub fn signed_half_at(bytes: &[u8], place: u64) -> i16
     requires { place + 1 < 2 ^ 64 }
-    ensures { result ≡ signed_at bytes.now place }
+    ensures { result ≡ signed_half_at bytes.now place }
 {
     half_at(bytes, place).cast_signed()
 }

@@ -4,8 +4,8 @@
 //! Rules: records and constants, and in `specs/` numbers and bytes (Bytes), patches and their
 //! posts (Patches), flats and palettes (Flats), the two lists of textures and the names of patches
 //! (Textures), the patches of a column and what is composed of them (Columns), what each column is
-//! read from (Lookups), what is prepared of a wanted texture or what refuses it (Wanted), and the
-//! pictures of sprite frames (Frames). Code is only what reads bytes and numbers, and `Patch::read`,
+//! read from (Lookups), what is prepared of a wanted texture or what refuses it (Wanted), the
+//! pictures of sprite frames (Frames), and the book of the frames that things need (Books). Code is only what reads bytes and numbers, and `Patch::read`,
 //! which is proved. A patch is the field's picture lump. The original: r_data.c, r_things.c,
 //! r_defs.h.
 #![tactic(auto)]
@@ -14,8 +14,11 @@ mod bytes;
 mod layout;
 mod patch;
 mod refusal;
+mod shapes;
+#[cfg(test)]
+mod tests;
 
-pub use bytes::{byte_at, half_at, signed_at, word_at};
+pub use bytes::{byte_at, half_at, signed_half_at, word_at};
 pub use layout::{
     COLUMN_PLACE_SIZE, COLUMN_PLACES_AT, COUNT_SIZE, ENTRY_NUMBER_AT, ENTRY_SIZE, ENTRY_Y_AT,
     LEFT_AT, NAME_SIZE, PATCH_COUNT_AT, PATCH_HEADER_SIZE, PLACE_SIZE, POST_BYTES_AT,
@@ -23,6 +26,7 @@ pub use layout::{
 };
 pub use patch::Patch;
 pub use refusal::{SpriteRefusal, TexRefusal};
+pub use shapes::{Frame, Need, Shape};
 
 /// The most textures that both lists together may have.
 pub const MAX_TEXTURES: u32 = 32767;

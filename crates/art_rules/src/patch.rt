@@ -2,7 +2,7 @@
 ghost use Rattle.std.specs.Prelude.{◌≡◌};
 ghost use Rattle.art_rules.specs.Patches.{is_patch, patch_in, patch_of};
 
-use crate::bytes::{half_at, signed_at};
+use crate::bytes::{half_at, signed_half_at};
 use crate::layout::{COLUMN_PLACE_SIZE, COLUMN_PLACES_AT, LEFT_AT, PATCH_HEADER_SIZE, TOP_AT};
 
 /// What a patch says of itself: its width in columns, and how many texels its picture lies left of
@@ -40,8 +40,8 @@ fn patch_in(bytes: &[u8]) -> Patch
 {
     Patch {
         width: half_at(bytes, 0),
-        left: signed_at(bytes, LEFT_AT as u64),
-        top: signed_at(bytes, TOP_AT as u64),
+        left: signed_half_at(bytes, LEFT_AT as u64),
+        top: signed_half_at(bytes, TOP_AT as u64),
     }
 }
 
@@ -50,6 +50,6 @@ fn is_patch(bytes: &[u8]) -> bool
     ensures { result ≡ is_patch bytes.now }
 {
     bytes.len() >= PATCH_HEADER_SIZE
-        && signed_at(bytes, 0) >= 1
+        && signed_half_at(bytes, 0) >= 1
         && bytes.len() >= COLUMN_PLACES_AT + COLUMN_PLACE_SIZE * half_at(bytes, 0) as usize
 }

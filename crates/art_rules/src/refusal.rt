@@ -1,4 +1,6 @@
 // What is refused of textures and of sprites.
+use crate::{MAX_COMPOSITE, MAX_TEXTURES};
+use thiserror::Error;
 
 /// What is wrong with the textures, the first of these in their order.
 ///
@@ -12,12 +14,17 @@
 /// - `TooBig`: the composite of the texture has more than `MAX_COMPOSITE` bytes.
 ///
 /// The original: `R_InitTextures`, `R_GenerateLookup`, r_data.c, which end the program.
-#[derive(Clone, Copy, Debug, PartialEq, Eq)]
+#[derive(Clone, Copy, Debug, PartialEq, Eq, Error)]
 pub enum TexRefusal {
+    #[error("PNAMES is absent, or shorter than its count of names needs")]
     Pnames,
+    #[error("TEXTURE{which} is absent or too short, or the textures pass {most}", most = MAX_TEXTURES)]
     Lump { which: u64 },
+    #[error("the record of texture {number} passes the end of its lump, or has a width or height below 1")]
     Entry { number: u64 },
+    #[error("texture {texture} has a patch without a name in PNAMES, without a lump, or of wrong bytes")]
     MissingPatch { texture: u64 },
+    #[error("the composed columns of texture {texture} take more than {most} bytes", most = MAX_COMPOSITE)]
     TooBig { texture: u64 },
 }
 
@@ -28,9 +35,12 @@ pub enum TexRefusal {
 /// - `BadPatch`: the lump is no patch.
 ///
 /// The original: `R_InitSpriteDefs`, r_things.c, which ends the program.
-#[derive(Clone, Copy, Debug, PartialEq, Eq)]
+#[derive(Clone, Copy, Debug, PartialEq, Eq, Error)]
 pub enum SpriteRefusal {
+    #[error("thing {thing}: no lump shows the sprite frame that it needs")]
     NoFrame { thing: u64 },
+    #[error("thing {thing}: no lump shows its sprite frame from rotation {rotation}")]
     MissingRotation { thing: u64, rotation: u64 },
+    #[error("lump {lump} has the name of a sprite, but is not a patch")]
     BadPatch { lump: u64 },
 }

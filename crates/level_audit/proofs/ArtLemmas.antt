@@ -20,9 +20,9 @@ use Rattle.texture_build.specs.Asked.{IsWantedPatch}
 use Rattle.texture_build.specs.Views.{is_wanted}
 use Rattle.texture_build.proofs.PrepareLemmas.{tells_wanted}
 use Rattle.sprite_book.specs.declared.fault.SpriteFault.{SpriteFault}
-use Rattle.sprite_book.specs.declared.shapes.Frame.{Frame}
-use Rattle.sprite_book.specs.declared.shapes.Need.{Need}
-use Rattle.sprite_book.specs.Books.{each_of, first_needs, frame_of}
+use Rattle.art_rules.specs.declared.shapes.Frame.{Frame}
+use Rattle.art_rules.specs.declared.shapes.Need.{Need}
+use Rattle.art_rules.specs.Books.{each_of, first_needs, frame_of}
 use Rattle.sprite_book.specs.Calls.{IsWanted}
 use Rattle.scene_rules.specs.declared.Placed.{Placed}
 use Rattle.scene_rules.specs.declared.refusal.AuditRefusal.TheVariants.{Sprite, Texture}

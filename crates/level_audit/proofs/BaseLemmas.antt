@@ -6,7 +6,7 @@ use Rattle.zone_rules.specs.Zones.{Heap}
 use Rattle.map_rules.specs.Levels.{LevelValue}
 use Rattle.art_rules.specs.declared.TheConstants.{PNAMES, TEXTURE1, TEXTURE2}
 use Rattle.art_rules.specs.Textures.{TextureLists, texture_lists}
-use Rattle.lump_cache.specs.Named.{named_bytes}
+use Rattle.lump_rules.specs.Contents.{named_bytes}
 use Rattle.lump_cache.specs.Sizes.{StandsBeside}
 use Rattle.level_scene.specs.Asked.{IsLumpOfMap}
 use Rattle.scene_rules.specs.declared.TheConstants.{PALETTE_SIZE}

@@ -7,7 +7,7 @@ use Rattle.std.proofs.lemmas.List.Folds.{list_any_at, list_any-append}
 use Rattle.word_rules.specs.Listed.{joined_lists}
 use Rattle.word_rules.proofs.ListedLemmas.{joined_lists-cons}
 use Rattle.outside.specs.Faults.{and_then}
-use Rattle.sprite_book.specs.Books.{each_of}
+use Rattle.art_rules.specs.Books.{each_of}
 use Rattle.level_audit.proofs.SceneLemmas.{and_then-ok}
 
 module _ {X : Type 0} where

@@ -12,10 +12,10 @@ use Rattle.art_rules.specs.declared.Mention.{Mention}
 use Rattle.art_rules.specs.declared.TheConstants.{ROTATIONS}
 use Rattle.art_rules.specs.declared.refusal.SpriteRefusal.TheVariants.{MissingRotation, NoFrame}
 use Rattle.art_rules.specs.Frames.{frame_picture, is_of_frame, last_that, mentions}
-use Rattle.sprite_book.specs.declared.shapes.Frame.{Frame}
-use Rattle.sprite_book.specs.declared.shapes.Need.{Need}
-use Rattle.sprite_book.specs.declared.shapes.Shape.{Shape}
-use Rattle.sprite_book.specs.Books.{book_lumps, each_of, first_needs, frame_in, frame_of, last_mention, patch_or_bad, picture_or_missing, pictures_of, same_frame, shape_in, shape_lumps, shape_of}
+use Rattle.art_rules.specs.declared.shapes.Frame.{Frame}
+use Rattle.art_rules.specs.declared.shapes.Need.{Need}
+use Rattle.art_rules.specs.declared.shapes.Shape.{Shape}
+use Rattle.art_rules.specs.Books.{book_lumps, each_of, first_needs, frame_in, frame_of, last_mention, patch_or_bad, picture_or_missing, pictures_of, same_frame, shape_in, shape_lumps, shape_of}
 use Rattle.sprite_book.specs.Calls.{IsWanted}
 use Rattle.level_audit.proofs.MemberLemmas.{among_cases, among_first, among_kept, among_later, among_none, any_joined, any_mapped, each_made, each_same}
 use Rattle.level_audit.proofs.SceneLemmas.{and_then-ok, same_value}

@@ -9,7 +9,7 @@ use Rattle.lump_rules.specs.declared.wad.Lump.{Lump}
 use Rattle.lump_rules.specs.Lookups.{has_name, last_of, lump_at}
 use Rattle.level_rules.specs.declared.ThingLine.{ThingLine}
 use Rattle.art_rules.specs.Wanted.{PreparedTexture, prepared_textures}
-use Rattle.sprite_book.specs.declared.shapes.Frame.{Frame}
+use Rattle.art_rules.specs.declared.shapes.Frame.{Frame}
 use Rattle.scene_rules.specs.declared.Placed.{Placed}
 use Rattle.scene_rules.specs.declared.TheConstants.{COLORMAP, COLORMAP_SIZE, PALETTE_SIZE}
 use Rattle.scene_rules.specs.declared.refusal.ArtRefusal.{ArtRefusal}

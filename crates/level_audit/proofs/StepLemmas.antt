@@ -6,7 +6,7 @@ use Rattle.lump_rules.specs.Lookups.{last_of}
 use Rattle.level_rules.specs.declared.ThingLine.{ThingLine}
 use Rattle.art_rules.specs.Textures.{TextureLists}
 use Rattle.art_rules.specs.Wanted.{PreparedTexture, prepared_textures}
-use Rattle.sprite_book.specs.declared.shapes.Frame.{Frame}
+use Rattle.art_rules.specs.declared.shapes.Frame.{Frame}
 use Rattle.scene_rules.specs.declared.Placed.{Placed}
 use Rattle.scene_rules.specs.declared.refusal.AuditRefusal.{AuditRefusal}
 use Rattle.scene_rules.specs.declared.refusal.AuditRefusal.TheVariants.{Scene, Sprite, Texture}

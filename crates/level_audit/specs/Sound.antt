@@ -3,8 +3,8 @@ use Rattle.std.specs.Prelude.{ℕ, List, ◌++◌, map}
 use Rattle.lump_rules.specs.declared.wad.Lump.{Lump}
 use Rattle.level_rules.specs.declared.SideTextures.{SideTextures}
 use Rattle.texture_build.specs.Views.{TexturesView}
-use Rattle.sprite_book.specs.declared.shapes.Frame.{Frame}
-use Rattle.sprite_book.specs.Books.{book_lumps}
+use Rattle.art_rules.specs.declared.shapes.Frame.{Frame}
+use Rattle.art_rules.specs.Books.{book_lumps}
 use Rattle.scene_rules.specs.declared.ZoneSizes.{ZoneSizes}
 use Rattle.scene_rules.specs.Scenes.{SceneValue}
 use Rattle.scene_rules.specs.Sizes.{SceneArt, needed_lumps, zone_sizes}

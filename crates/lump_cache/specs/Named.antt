@@ -1,14 +1,10 @@
 -- Lumps that are asked for by name.
-use Rattle.std.specs.Prelude.{◌≡◌, ℕ, List, Option, Some, option_map, option_and_then}
+use Rattle.std.specs.Prelude.{◌≡◌, ℕ, List, Option, Some, option_and_then}
 use Rattle.lump_rules.specs.declared.wad.Lump.{Lump}
 use Rattle.lump_rules.specs.Lookups.{last_of}
 use Rattle.zone_rules.specs.Zones.{Heap, bytes_of}
 use Rattle.lump_rules.specs.declared.wad.LumpNo.{LumpNo}
 use Rattle.lump_cache.specs.Caches.{lump_owner}
-
--- the bytes of the last lump of a name
-abbrev pub named_bytes : (ℕ → List ℕ) → List Lump → List ℕ → Option (List ℕ)
-named_bytes bytes lumps name = option_map bytes (last_of lumps name)
 
 -- the lump is the last of a name
 abbrev pub IsLast : List Lump → List ℕ → ℕ → Type 0

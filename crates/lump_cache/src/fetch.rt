@@ -3,12 +3,12 @@
 // Rules: `specs/Calls` and `specs/Named`. The original: w_wad.c.
 ghost use Rattle.std.specs.Prelude.{◌≡◌, ◌<◌, ◌≤◌, ◌+◌, ℕ, List, length, false, Ok, Some, IfOk, IfSome, OnOk, option_map};
 ghost use Rattle.std.specs.Option.{option_copied};
-ghost use Rattle.lump_rules.specs.Contents.{lump_bytes};
+ghost use Rattle.lump_rules.specs.Contents.{lump_bytes, named_bytes};
 ghost use Rattle.lump_rules.specs.Lookups.{last_of};
 ghost use Rattle.zone_rules.specs.Zones.{IsLive, bytes_of, block_size, same_owner};
 ghost use Rattle.lump_cache.specs.Caches.{IsAtRest, cache_fault, lump_owner};
 ghost use Rattle.lump_cache.specs.Calls.{HoldContents, ReadsLumps};
-ghost use Rattle.lump_cache.specs.Named.{IsLast, live_bytes, named_bytes};
+ghost use Rattle.lump_cache.specs.Named.{IsLast, live_bytes};
 
 use crate::{CacheFault, LumpCache};
 use lump_rules::Name8;

@@ -1,7 +1,7 @@
 -- The bytes of lumps, given those of their files.
-use Rattle.std.specs.Prelude.{ℕ, ◌+◌, ◌<◌, ◌≤◌, List, [], length, take, drop, slice_index_or, All}
+use Rattle.std.specs.Prelude.{ℕ, ◌+◌, ◌<◌, ◌≤◌, List, [], length, take, drop, slice_index_or, All, Option, option_map}
 use Rattle.lump_rules.specs.declared.wad.Lump.{Lump}
-use Rattle.lump_rules.specs.Lookups.{lump_at}
+use Rattle.lump_rules.specs.Lookups.{lump_at, last_of}
 
 -- the bytes of the file of that index
 abbrev pub file_bytes : List (List ℕ) → ℕ → List ℕ
@@ -23,3 +23,7 @@ pub record LiesWithin (contents : List (List ℕ)) (lump : Lump) : Type 0 where
 -- each lump lies within its file
 abbrev pub AllWithin : List (List ℕ) → List Lump → Type 0
 AllWithin contents lumps = All (LiesWithin contents) lumps
+
+-- the bytes of the last lump of a name
+abbrev pub named_bytes : (ℕ → List ℕ) → List Lump → List ℕ → Option (List ℕ)
+named_bytes bytes lumps name = option_map bytes (last_of lumps name)

@@ -8,7 +8,7 @@ use Rattle.outside.specs.Faults.{ResultIs, HasCauseAt, HasCauses, FaultFits, and
 use Rattle.outside.proofs.StepLemmas.{step}
 use Rattle.lump_rules.specs.declared.wad.Lump.{Lump}
 use Rattle.lump_cache.proofs.CallLemmas.{cause_later}
-use Rattle.sprite_book.specs.declared.shapes.Frame.{Frame}
+use Rattle.art_rules.specs.declared.shapes.Frame.{Frame}
 use Rattle.command_line.specs.Scenes.{ToldScene}
 use Rattle.scene_load.specs.Files.{FilesValue}
 use Rattle.scene_rules.specs.Scenes.{SceneValue, scene_in}

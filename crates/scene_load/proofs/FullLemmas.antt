@@ -10,7 +10,7 @@ use Rattle.zone_rules.specs.declared.TheConstants.{MIN_FRAGMENT}
 use Rattle.zone_rules.specs.Zones.{Heap, block_size}
 use Rattle.lump_cache.specs.Caches.{IsAtRest, IsEmpty}
 use Rattle.lump_cache.specs.Calls.{IfFull, IsFullFor, HoldContents}
-use Rattle.sprite_book.specs.declared.shapes.Frame.{Frame}
+use Rattle.art_rules.specs.declared.shapes.Frame.{Frame}
 use Rattle.command_line.specs.Scenes.{ToldScene}
 use Rattle.scene_load.specs.declared.read.SceneFiles.{SceneFiles}
 use Rattle.scene_load.specs.Files.{FilesValue, files_in, value_of}

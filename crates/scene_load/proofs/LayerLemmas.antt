@@ -8,7 +8,7 @@ use Rattle.wad_dir.specs.DirectoryView.{DirectoryView}
 use Rattle.csv_tables.specs.declared.weapons.WeaponRow.{WeaponRow}
 use Rattle.lump_cache.specs.Calls.{ReadsLumps}
 use Rattle.lump_cache.proofs.CallLemmas.{tells_as, tells_known, tells_stop_first}
-use Rattle.sprite_book.specs.declared.shapes.Frame.{Frame}
+use Rattle.art_rules.specs.declared.shapes.Frame.{Frame}
 use Rattle.sprite_book.specs.Calls.{IsWanted}
 use Rattle.scene_rules.specs.declared.refusal.AuditRefusal.{AuditRefusal}
 use Rattle.scene_rules.specs.declared.refusal.AuditRefusal.TheVariants.{WeaponArt}

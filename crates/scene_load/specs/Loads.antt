@@ -6,8 +6,8 @@ use Rattle.outside.specs.Faults.{and_then, from_below}
 use Rattle.lump_rules.specs.declared.wad.Lump.{Lump}
 use Rattle.lump_rules.specs.Contents.{lump_bytes}
 use Rattle.csv_tables.specs.declared.weapons.WeaponRow.{WeaponRow}
-use Rattle.sprite_book.specs.declared.shapes.Frame.{Frame}
-use Rattle.sprite_book.specs.Books.{book_lumps}
+use Rattle.art_rules.specs.declared.shapes.Frame.{Frame}
+use Rattle.art_rules.specs.Books.{book_lumps}
 use Rattle.command_line.specs.Scenes.{ToldScene}
 use Rattle.scene_load.specs.declared.fault.FilesRefusal.{FilesRefusal}
 use Rattle.scene_load.specs.Files.{FilesValue, files_in, files_named, value_of}

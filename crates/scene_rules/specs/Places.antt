@@ -16,7 +16,7 @@ use Rattle.map_rules.specs.Levels.{LevelValue}
 use Rattle.level_rules.specs.declared.ThingRow.{ThingRow}
 use Rattle.level_rules.specs.declared.ThingLine.{ThingLine}
 use Rattle.level_rules.specs.Types.{row_of}
-use Rattle.sprite_book.specs.declared.shapes.Need.{Need}
+use Rattle.art_rules.specs.declared.shapes.Need.{Need}
 use Rattle.scene_rules.specs.declared.Placed.{Placed}
 use Rattle.scene_rules.specs.declared.TheConstants.{EASY, NORMAL, HARD, NOT_ALONE, LAST_EASY, NORMAL_SKILL, EIGHTH_DEGREES}
 

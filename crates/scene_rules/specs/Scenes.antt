@@ -4,7 +4,7 @@ use Rattle.std.specs.Option.{option_and_then, ok_or}
 use Rattle.outside.specs.Faults.{and_then, from_below}
 use Rattle.lump_rules.specs.declared.wad.Lump.{Lump}
 use Rattle.lump_rules.specs.Lookups.{last_of, map_of, lump_at}
-use Rattle.lump_cache.specs.Named.{named_bytes}
+use Rattle.lump_rules.specs.Contents.{named_bytes}
 use Rattle.level_rules.specs.declared.SideTextures.{SideTextures}
 use Rattle.map_rules.specs.declared.refusal.MapRefusal.{MapRefusal}
 use Rattle.map_rules.specs.declared.refusal.MapRefusal.TheVariants.{NoMap}
@@ -15,8 +15,8 @@ use Rattle.art_rules.specs.declared.refusal.TexRefusal.{TexRefusal}
 use Rattle.art_rules.specs.declared.refusal.SpriteRefusal.{SpriteRefusal}
 use Rattle.art_rules.specs.Textures.{TextureLists, texture_lists}
 use Rattle.art_rules.specs.Wanted.{PreparedTexture, prepared_textures}
-use Rattle.sprite_book.specs.declared.shapes.Frame.{Frame}
-use Rattle.sprite_book.specs.Books.{each_of, frame_of, first_needs, book_lumps}
+use Rattle.art_rules.specs.declared.shapes.Frame.{Frame}
+use Rattle.art_rules.specs.Books.{each_of, frame_of, first_needs, book_lumps}
 use Rattle.scene_rules.specs.declared.SectorFlats.{SectorFlats}
 use Rattle.scene_rules.specs.declared.Placed.{Placed}
 use Rattle.scene_rules.specs.declared.ZoneSizes.{ZoneSizes}

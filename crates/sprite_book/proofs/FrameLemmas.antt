@@ -19,11 +19,11 @@ use Rattle.art_rules.specs.declared.TheConstants.{SPRITE_LETTERS, SECOND_PAIR_AT
 use Rattle.art_rules.specs.declared.refusal.SpriteRefusal.{SpriteRefusal}
 use Rattle.art_rules.specs.declared.refusal.SpriteRefusal.TheVariants.{MissingRotation}
 use Rattle.art_rules.specs.Frames.{mentions, lump_mentions, name_mentions, mention_at, is_pair, is_of_sprite, last_that, is_of_frame, is_of_rotation, frame_picture, picture_if, picture_by}
-use Rattle.sprite_book.specs.declared.shapes.Need.{Need}
-use Rattle.sprite_book.specs.declared.shapes.Shape.{Shape}
-use Rattle.sprite_book.specs.declared.shapes.Frame.{Frame}
-use Rattle.sprite_book.specs.Books.{each_of, last_mention, picture_or_missing, pictures_of, patch_or_bad, shape_in, shape_of, frame_in, frame_of, shape_outline, mention_outline, outline, outline_in, outline_of, Outline}
-use Rattle.sprite_book.proofs.EachLemmas.{each_of-push, each_of-stop}
+use Rattle.art_rules.specs.declared.shapes.Need.{Need}
+use Rattle.art_rules.specs.declared.shapes.Shape.{Shape}
+use Rattle.art_rules.specs.declared.shapes.Frame.{Frame}
+use Rattle.art_rules.specs.Books.{each_of, last_mention, picture_or_missing, pictures_of, patch_or_bad, shape_in, shape_of, frame_in, frame_of, shape_outline, mention_outline, outline, outline_in, outline_of, Outline}
+use Rattle.art_rules.proofs.EachLemmas.{each_of-push, each_of-stop}
 use Rattle.sprite_book.proofs.MentionLemmas.{members_below}
 
 -- a list, cut before an item

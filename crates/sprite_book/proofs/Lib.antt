@@ -1,5 +1,4 @@
 pub mod CallLemmas
-pub mod EachLemmas
 pub mod FrameLemmas
 pub mod ListLemmas
 pub mod MentionLemmas

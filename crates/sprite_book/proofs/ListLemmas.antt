@@ -17,9 +17,9 @@ use Rattle.std.proofs.lemmas.Slice.Eq.{bytes_eq-Decides}
 use Rattle.word_rules.specs.Least.{or_else}
 use Rattle.word_rules.specs.Listed.{joined_lists}
 use Rattle.word_rules.proofs.ListedLemmas.{joined_lists-append}
-use Rattle.sprite_book.specs.declared.shapes.Frame.{Frame}
-use Rattle.sprite_book.specs.declared.shapes.Shape.{Shape}
-use Rattle.sprite_book.specs.Books.{is_frame, picked, shape_lumps, book_lumps}
+use Rattle.art_rules.specs.declared.shapes.Frame.{Frame}
+use Rattle.art_rules.specs.declared.shapes.Shape.{Shape}
+use Rattle.art_rules.specs.Books.{is_frame, picked, shape_lumps, book_lumps}
 use Rattle.sprite_book.specs.Indexes.{IsPlaceOf, ArePictures, frame_cmp}
 use Rattle.sprite_book.proofs.MentionLemmas.{same_key}
 

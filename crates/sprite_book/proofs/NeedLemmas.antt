@@ -12,10 +12,10 @@ use Rattle.std.proofs.lemmas.List.Elements.{filter-append}
 use Rattle.outside.specs.Faults.{and_then}
 use Rattle.art_rules.specs.declared.refusal.SpriteRefusal.{SpriteRefusal}
 use Rattle.lump_rules.specs.declared.wad.Lump.{Lump}
-use Rattle.sprite_book.specs.declared.shapes.Need.{Need}
-use Rattle.sprite_book.specs.declared.shapes.Frame.{Frame}
-use Rattle.sprite_book.specs.Books.{each_of, first_needs, same_frame, is_frame, outline, outline_of, outline_in, pictures_of, mention_outline, Outline}
-use Rattle.sprite_book.proofs.EachLemmas.{each_of-push, each_of-stop}
+use Rattle.art_rules.specs.declared.shapes.Need.{Need}
+use Rattle.art_rules.specs.declared.shapes.Frame.{Frame}
+use Rattle.art_rules.specs.Books.{each_of, first_needs, same_frame, is_frame, outline, outline_of, outline_in, pictures_of, mention_outline, Outline}
+use Rattle.art_rules.proofs.EachLemmas.{each_of-push, each_of-stop}
 use Rattle.sprite_book.proofs.FrameLemmas.{split_at}
 
 -- one of the needs asks for the frame

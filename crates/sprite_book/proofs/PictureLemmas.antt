@@ -8,8 +8,8 @@ use Rattle.art_rules.specs.declared.TheConstants.{ROTATIONS}
 use Rattle.art_rules.specs.declared.refusal.SpriteRefusal.{SpriteRefusal}
 use Rattle.art_rules.specs.declared.refusal.SpriteRefusal.TheVariants.{NoFrame}
 use Rattle.art_rules.specs.Frames.{last_that, is_of_frame}
-use Rattle.sprite_book.specs.declared.shapes.Need.{Need}
-use Rattle.sprite_book.specs.Books.{each_of, last_mention, picture_or_missing, pictures_of}
+use Rattle.art_rules.specs.declared.shapes.Need.{Need}
+use Rattle.art_rules.specs.Books.{each_of, last_mention, picture_or_missing, pictures_of}
 
 found_in : {X E : Type 0} (o : Option X) (e : E) (v : X) → ok_or o e ≡ Ok v → o ≡ Some v
 found_in None e v h = cc

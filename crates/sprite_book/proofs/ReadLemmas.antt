@@ -22,7 +22,7 @@ use Rattle.lump_cache.proofs.CallLemmas.{tells_stop_first, tells_then_found, tel
 use Rattle.sprite_book.specs.declared.fault.SpriteFault.{SpriteFault}
 use Rattle.sprite_book.specs.declared.fault.SpriteFault.TheVariants.{Refused}
 use Rattle.sprite_book.specs.Faults.{sprite_fault}
-use Rattle.sprite_book.specs.Books.{patch_or_bad}
+use Rattle.art_rules.specs.Books.{patch_or_bad}
 use Rattle.sprite_book.specs.Calls.{Reads, ArePatchesOf}
 
 -- the cache refuses nothing, and its other faults are told as those of a book

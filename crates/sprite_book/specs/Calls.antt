@@ -14,8 +14,8 @@ use Rattle.art_rules.specs.Patches.{patch_of}
 use Rattle.art_rules.specs.Frames.{mentions}
 use Rattle.lump_cache.specs.Calls.{PreservesCache, HoldContents, IsFullFor, IfFull, InOrderAt, HasAll}
 use Rattle.sprite_book.specs.declared.fault.SpriteFault.{SpriteFault}
-use Rattle.sprite_book.specs.declared.shapes.Need.{Need}
-use Rattle.sprite_book.specs.Books.{pictures_of}
+use Rattle.art_rules.specs.declared.shapes.Need.{Need}
+use Rattle.art_rules.specs.Books.{pictures_of}
 
 -- the lumps that a call may ask for: those of pictures, of a needed frame, of all of them
 abbrev pub IsLumpOf : List Mention → ℕ → Type 0

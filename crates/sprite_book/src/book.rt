@@ -11,8 +11,8 @@ ghost use Rattle.zone_rules.specs.Orders.{Item, has_item, IsInOrder, KeepsOrder}
 ghost use Rattle.art_rules.specs.Frames.{mentions};
 ghost use Rattle.lump_cache.specs.Caches.{IsFaithful, IsAtRest, KeepsCounts, lump_owner, composite_owner};
 ghost use Rattle.lump_cache.specs.Calls.{ReadsLumps, IfFull, InOrderAt};
-ghost use Rattle.sprite_book.specs.declared.shapes.Frame.{Frame};
-ghost use Rattle.sprite_book.specs.Books.{book_of, outlines_of, outline, frame_of, outline_of, each_of, first_needs, picked, book_lumps};
+ghost use Rattle.art_rules.specs.declared.shapes.Frame.{Frame};
+ghost use Rattle.art_rules.specs.Books.{book_of, outlines_of, outline, frame_of, outline_of, each_of, first_needs, picked, book_lumps};
 ghost use Rattle.sprite_book.specs.Calls.{IsWanted};
 ghost use Rattle.sprite_book.specs.Indexes.{IsPlaceOf};
 
@@ -20,7 +20,7 @@ use crate::fault::SpriteFault;
 use crate::list::{FrameList, list_pictures};
 use crate::mentions::index_mentions;
 use crate::needs::read_list;
-use crate::shapes::{Need, Shape};
+use crate::{Need, Shape};
 use art_rules::{ROTATIONS, SPRITE_LETTERS};
 use lump_cache::LumpCache;
 use outside::{OutOfMemory, Shelf};
@@ -42,7 +42,7 @@ pub struct SpriteBook {
 
 impl Model for SpriteBook {
     ghost use Rattle.std.specs.Prelude.{List, map};
-    ghost use Rattle.sprite_book.specs.declared.shapes.Frame.{Frame};
+    ghost use Rattle.art_rules.specs.declared.shapes.Frame.{Frame};
     ghost use Rattle.sprite_book.specs.Indexes.{IsPlaceOf, ArePictures};
 
     ghost Value = { List Frame };

@@ -17,11 +17,9 @@ mod mentions;
 mod needs;
 mod pictures;
 mod read;
-mod shapes;
 #[cfg(test)]
 mod tests;
 
-pub use art_rules::SpriteRefusal;
+pub use art_rules::{Frame, Need, Shape, SpriteRefusal};
 pub use book::SpriteBook;
 pub use fault::SpriteFault;
-pub use shapes::{Frame, Need, Shape};

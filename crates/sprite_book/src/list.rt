@@ -1,11 +1,11 @@
 // The frames of a book, and the lumps of their shapes.
 ghost use Rattle.std.specs.Prelude.{◌≡◌, ◌<◌, ◌++◌, ◌∷◌, [], map, is_some, slice_get, None, IfOk, OnOk};
 ghost use Rattle.std.specs.List.{position_from};
-ghost use Rattle.sprite_book.specs.Books.{is_frame, picked, book_lumps};
+ghost use Rattle.art_rules.specs.Books.{is_frame, picked, book_lumps};
 ghost use Rattle.sprite_book.specs.Indexes.{IsPlaceOf, ArePictures};
 
 use crate::mentions::Letters;
-use crate::shapes::{Frame, Need, Shape};
+use crate::{Frame, Need, Shape};
 use outside::OutOfMemory;
 use std::alloc::Global;
 use std::collections::BTreeMap;

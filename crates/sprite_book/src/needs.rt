@@ -4,7 +4,7 @@ ghost use Rattle.std.specs.Prelude.{◌≡◌, ◌≤◌, [], length, map, repli
 ghost use Rattle.art_rules.specs.declared.patch.Patch.{Patch};
 ghost use Rattle.art_rules.specs.Frames.{mentions};
 ghost use Rattle.lump_cache.specs.Calls.{ReadsLumps};
-ghost use Rattle.sprite_book.specs.Books.{frame_of, outline, outline_of, each_of, first_needs};
+ghost use Rattle.art_rules.specs.Books.{frame_of, outline, outline_of, each_of, first_needs};
 ghost use Rattle.sprite_book.specs.Calls.{Reads, IsWanted};
 ghost use Rattle.sprite_book.specs.Indexes.{IsIndexOf, IsPlaceOf};
 
@@ -12,7 +12,7 @@ use crate::fault::SpriteFault;
 use crate::list::FrameList;
 use crate::mentions::Mentions;
 use crate::read::read_frame;
-use crate::shapes::Need;
+use crate::Need;
 use art_rules::Patch;
 use lump_cache::LumpCache;
 use outside::{OutOfMemory, Shelf};

@@ -3,11 +3,11 @@ ghost use Rattle.std.specs.Prelude.{◌≡◌, ◌<◌, ◌+◌, ◌*◌, ◌^�
 ghost use Rattle.std.specs.List.{range_with_len};
 ghost use Rattle.art_rules.specs.declared.Mention.{Mention};
 ghost use Rattle.art_rules.specs.Frames.{frame_picture, last_that, is_of_frame};
-ghost use Rattle.sprite_book.specs.Books.{pictures_of, picture_or_missing, last_mention, each_of};
+ghost use Rattle.art_rules.specs.Books.{pictures_of, picture_or_missing, last_mention, each_of};
 ghost use Rattle.sprite_book.specs.Indexes.{IsIndexOf};
 
 use crate::mentions::Mentions;
-use crate::shapes::Need;
+use crate::Need;
 use art_rules::{Mention, ROTATIONS, SpriteRefusal};
 
 // The pictures of a frame from the eight rotations, or why it is refused.
@@ -21,7 +21,7 @@ pub fn find_pictures(index: &Mentions, need: &Need) -> Result<[Mention; ROTATION
 }
 
 // The last mention of the frame, which decides its kind.
-#[tactic(auto, unfolding(crate::specs::Books::last_mention))]
+#[tactic(auto, unfolding(art_rules::specs::Books::last_mention))]
 fn last_mention(index: &Mentions, need: &Need) -> Result<Mention, SpriteRefusal>
     ensures { (all : List ℕ → List Mention) → IsIndexOf index.now all → result ≡ last_mention (all need.now.sprite) need.now }
 {
@@ -52,7 +52,7 @@ fn fill_pictures(
 }
 
 // The picture from the k-th rotation.
-#[tactic(auto, unfolding(crate::specs::Books::picture_or_missing))]
+#[tactic(auto, unfolding(art_rules::specs::Books::picture_or_missing))]
 fn picture_at(
     index: &Mentions,
     need: &Need,

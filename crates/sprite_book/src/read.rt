@@ -8,14 +8,14 @@ ghost use Rattle.art_rules.specs.Patches.{patch_of};
 ghost use Rattle.art_rules.specs.Frames.{mentions};
 ghost use Rattle.lump_cache.specs.Caches.{lump_owner};
 ghost use Rattle.lump_cache.specs.Calls.{ReadsLumps};
-ghost use Rattle.sprite_book.specs.Books.{patch_or_bad, shape_in, shape_of, each_of, frame_of, shape_outline, mention_outline, outline, outline_of};
+ghost use Rattle.art_rules.specs.Books.{patch_or_bad, shape_in, shape_of, each_of, frame_of, shape_outline, mention_outline, outline, outline_of};
 ghost use Rattle.sprite_book.specs.Calls.{Reads, IsLumpOf, IsWantedBy};
 ghost use Rattle.sprite_book.specs.Indexes.{IsIndexOf};
 
 use crate::fault::SpriteFault;
 use crate::mentions::Mentions;
 use crate::pictures::find_pictures;
-use crate::shapes::{Frame, Need, Shape};
+use crate::{Frame, Need, Shape};
 use art_rules::{Mention, Patch, ROTATIONS, SpriteRefusal};
 use lump_cache::fetch_live;
 use lump_cache::LumpCache;
@@ -80,7 +80,7 @@ fn fill_shapes<S: Shelf>(
 }
 
 // How a picture is drawn whose lump is that patch.
-#[tactic(auto, unfolding(crate::specs::Books::shape_in))]
+#[tactic(auto, unfolding(art_rules::specs::Books::shape_in))]
 fn shape_in(mention: &Mention, patch: &Patch) -> Shape
     ensures { result ≡ shape_in mention.now patch.now }
 {

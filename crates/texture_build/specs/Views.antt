@@ -3,8 +3,7 @@ use Rattle.std.specs.Prelude.{◌≡◌, ℕ, ◌<◌, ◌==◌, Bool, false, Li
 use Rattle.std.specs.List.{list_any}
 use Rattle.lump_rules.specs.declared.wad.Lump.{Lump}
 use Rattle.lump_rules.specs.Lookups.{last_of}
-use Rattle.lump_rules.specs.Contents.{lump_bytes}
-use Rattle.lump_cache.specs.Named.{named_bytes}
+use Rattle.lump_rules.specs.Contents.{lump_bytes, named_bytes}
 use Rattle.art_rules.specs.declared.PlacedPatch.{PlacedPatch}
 use Rattle.art_rules.specs.declared.TheConstants.{PNAMES, TEXTURE1, TEXTURE2}
 use Rattle.art_rules.specs.Textures.{Texture, TextureLists, texture_at, texture_lists}

@@ -5,14 +5,13 @@
 ghost use Rattle.std.specs.Prelude.{◌≡◌, ◌<◌, ◌≤◌, ◌+◌, ℕ, [], List, All, length, is_some, map, option_map, IfErr, IfOk, IfSome, IsSome, MatchResult, Ok, OnErr, OnOk, Some, None, ◌^◌};
 ghost use Rattle.outside.specs.Shelf.{NameFiles, IsLaterShelf};
 ghost use Rattle.outside.specs.Faults.{ResultIs, HasCauses, itself};
-ghost use Rattle.lump_rules.specs.Contents.{AllWithin, lump_bytes};
+ghost use Rattle.lump_rules.specs.Contents.{AllWithin, lump_bytes, named_bytes};
 ghost use Rattle.lump_rules.specs.declared.wad.Lump.{Lump};
 ghost use Rattle.lump_rules.specs.Lookups.{last_of};
 ghost use Rattle.zone_rules.specs.Zones.{owned_block};
 ghost use Rattle.zone_rules.specs.Orders.{Item, IsInOrder, KeepsOrder};
 ghost use Rattle.lump_cache.specs.Caches.{IsAtRest, IsFaithful, KeepsCounts, cache_fault, composite_owner};
 ghost use Rattle.lump_cache.specs.Calls.{IfFull, InOrderAt, HoldContents, ReadsLumps};
-ghost use Rattle.lump_cache.specs.Named.{named_bytes};
 ghost use Rattle.lump_cache.specs.Sizes.{StandsBeside};
 ghost use Rattle.art_rules.specs.Bytes.{byte_at};
 ghost use Rattle.art_rules.specs.Columns.{is_single, texel};

@@ -1,25 +1,27 @@
 -- Lumps that are fetched by name and then judged by their bytes.
-use Rattle.std.proofs.Common.{◌≡◌, ℕ, true, List, Option, Result, Ok, Err, refl, sym, ap, ◌∙◌, IsErrAnd}
-use Rattle.std.specs.Prelude.{option_map}
+use Rattle.std.proofs.Common.{◌≡◌, ℕ, true, List, Option, Result, Ok, Err, refl, sym, ap, ◌∙◌, IsErrAnd, MatchResult, subst}
+use Rattle.std.specs.Prelude.{IfOk}
+use Rattle.std.proofs.lemmas.Result.{err_from_is_err_and}
 use Rattle.outside.specs.Shelf.{ShelfView}
+use Rattle.outside.specs.declared.fault.Fault.{Fault}
+use Rattle.outside.specs.declared.fault.Fault.TheVariants.{Refused, ReadFault, ZoneFull, OutOfMemory}
 use Rattle.outside.specs.Faults.{fault_above, ResultIs, itself}
 use Rattle.lump_rules.specs.Lookups.{last_of}
-use Rattle.lump_rules.specs.Contents.{lump_bytes}
+use Rattle.lump_rules.specs.Contents.{lump_bytes, named_bytes}
 use Rattle.lump_rules.specs.Names.{name_of, filled}
 use Rattle.zone_rules.specs.Zones.{Heap}
 use Rattle.wad_dir.specs.DirectoryView.{DirectoryView}
 use Rattle.lump_rules.specs.declared.wad.LumpNo.{LumpNo}
 use Rattle.lump_cache.specs.declared.fault.CacheFault.{CacheFault}
-use Rattle.lump_cache.specs.declared.fault.CacheFault.TheVariants.{ZoneFull as CacheFull, ReadFault as CacheRead}
-use Rattle.lump_cache.specs.Caches.{cache_fault}
+use Rattle.lump_cache.specs.declared.fault.CacheFault.TheVariants as cache
+use Rattle.lump_cache.specs.Caches.{cache_fault, from_cache}
 use Rattle.lump_cache.specs.Calls.{ReadsLumps, HoldContents}
-use Rattle.lump_cache.specs.Named.{IsLast, named_bytes}
-use Rattle.lump_cache.proofs.CallLemmas.{tells_stop_first, tells_short, tells_then_refused, tells_then_found, tells_above, fault_above}
+use Rattle.lump_cache.specs.Named.{IsLast}
+use Rattle.lump_cache.proofs.CallLemmas.{tells_stop_first, tells_short, tells_then_refused, tells_then_found, tells_above, result_above}
 use Rattle.art_rules.specs.declared.TheConstants.{PNAMES, TEXTURE1, TEXTURE2}
 use Rattle.art_rules.specs.declared.refusal.TexRefusal.{TexRefusal}
-use Rattle.texture_lists.specs.declared.fault.TexFault.{TexFault}
-use Rattle.texture_lists.specs.declared.fault.TexFault.TheVariants.{Refused, ReadFault, ZoneFull, OutOfMemory}
-use Rattle.texture_lists.specs.Faults.{above_cache, IsOfBytes}
+use Rattle.texture_lists.specs.Asked.{lump_number}
+use Rattle.texture_lists.specs.Parts.{IsOfBytes}
 
 -- the names of the lists are in capitals
 pub pnames_name : name_of PNAMES ≡ PNAMES
@@ -34,16 +36,35 @@ pub texture2_name : name_of TEXTURE2 ≡ TEXTURE2
 unfolding filled
 texture2_name = refl
 
--- the cache refuses nothing, and its other faults are told as those of textures
+-- the cache refuses nothing, and its other faults are the same here
 no_refusal : ⊥ → TexRefusal
 no_refusal none = absurd none
 
-told_same : (below : CacheFault) → itself (above_cache below) ≡ fault_above no_refusal (cache_fault below)
-told_same (CacheFull wanted widest') = refl
-told_same CacheRead = refl
+told_same : (below : CacheFault) → from_cache below ≡ fault_above no_refusal (cache_fault below)
+told_same (cache.ZoneFull wanted widest') = refl
+told_same cache.ReadFault = refl
+
+module _ {B : Type 0} where
+  -- what is told of a value that the cache gave
+  pub lifted_ok : (P : B → Type 0) (fetched : Result B CacheFault) (result : Result B (Fault TexRefusal)) →
+      MatchResult fetched (λ x. result ≡ Ok x) (λ e. IsErrAnd result (λ f. f ≡ from_cache e)) → IfOk fetched P → IfOk result P
+  lifted_ok P (Ok x) result is p = subst (λ (r : Result B (Fault TexRefusal)). IfOk r P) (sym is) p
+  lifted_ok P (Err e) result is p = subst (λ (r : Result B (Fault TexRefusal)). IfOk r P) (sym (err_from_is_err_and result is).1) tt
+
+  lifted_is : (fetched : Result B CacheFault) (result : Result B (Fault TexRefusal)) →
+      MatchResult fetched (λ x. result ≡ Ok x) (λ e. IsErrAnd result (λ f. f ≡ from_cache e)) → result ≡ result_above from_cache fetched
+  lifted_is (Ok x) result is = is
+  lifted_is (Err e) result is = let s = err_from_is_err_and result is in s.1 ∙ ap Err s.2
+
+-- what is told of the call
+pub lifted_call : {v w : ShelfView} {dir : DirectoryView} {a b : Heap} {wants : ℕ → Type 0} {last : Option ℕ} (fetched : Result (Option LumpNo) CacheFault) (result : Result (Option LumpNo) (Fault TexRefusal)) →
+    MatchResult fetched (λ x. result ≡ Ok x) (λ e. IsErrAnd result (λ f. f ≡ from_cache e)) →
+    ReadsLumps cache_fault v w dir a b wants lump_number (λ bytes. Ok last) fetched → ReadsLumps itself v w dir a b wants lump_number (λ bytes. Ok last) result
+lifted_call {v} {w} {dir} {a} {b} {wants} {last} fetched result is one =
+    subst (ReadsLumps itself v w dir a b wants lump_number (λ bytes. Ok last)) (sym (lifted_is fetched result is)) (tells_above no_refusal from_cache told_same fetched one)
 
 -- a call that ends with what reads nothing
-pub tells_end : {A B C D : Type 0} {v w : ShelfView} {dir : DirectoryView} {a b : Heap} {wants some : ℕ → Type 0} {value : B → A} {first : D → C} {before : (ℕ → List ℕ) → Result C TexRefusal} {found : D} (expected : (ℕ → List ℕ) → Result A TexRefusal) (result : Result B TexFault) →
+pub tells_end : {A B C D : Type 0} {v w : ShelfView} {dir : DirectoryView} {a b : Heap} {wants some : ℕ → Type 0} {value : B → A} {first : D → C} {before : (ℕ → List ℕ) → Result C TexRefusal} {found : D} (expected : (ℕ → List ℕ) → Result A TexRefusal) (result : Result B (Fault TexRefusal)) →
     ReadsLumps itself v w dir a b some first before (Ok found) → ((lump : ℕ) → some lump → wants lump) → IsOfBytes result →
     ((contents : List (List ℕ)) → HoldContents v dir a contents → before (lump_bytes contents dir.lumps) ≡ Ok (first found) → ResultIs itself true value (expected (lump_bytes contents dir.lumps)) result) →
     ReadsLumps itself v w dir a b wants value expected result
@@ -53,21 +74,19 @@ tells_end expected (Err ReadFault) one among of_bytes judged = absurd of_bytes
 tells_end expected (Err (ZoneFull wanted widest')) one among of_bytes judged = absurd of_bytes
 tells_end expected (Err OutOfMemory) one among of_bytes judged = tells_short OutOfMemory refl among one
 
-abbrev lump_number : Option LumpNo → Option ℕ
-lump_number lump = option_map (λ (l : LumpNo). l.0) lump
-
 module _ {A B : Type 0} {v w : ShelfView} {dir : DirectoryView} {a b : Heap} {name key : List ℕ} {value : B → A} (judge : Option (List ℕ) → Result A TexRefusal) (same : name ≡ key) where
   -- the lump was not fetched
-  pub fetch_stopped : (fetched : Result (Option LumpNo) CacheFault) (below : CacheFault) (result : Result B TexFault) → ReadsLumps cache_fault v w dir a b (IsLast dir.lumps name) lump_number (λ bytes. Ok (last_of dir.lumps name)) fetched →
-      fetched ≡ Err below → IsErrAnd result (λ e. e ≡ above_cache below) → ReadsLumps itself v w dir a b (IsLast dir.lumps key) value (λ bytes. judge (named_bytes bytes dir.lumps key)) result
-  fetch_stopped fetched below result one was is =
-      tells_stop_first (λ bytes. judge (named_bytes bytes dir.lumps key)) (fault_above above_cache fetched) (above_cache below) result
-      (tells_above no_refusal above_cache told_same fetched one) (ap (fault_above above_cache) was) is (λ lump s. ap (last_of dir.lumps) (sym same) ∙ s) (λ bytes e stopped. absurd (cc))
+  pub fetch_stopped : (fetched : Result (Option LumpNo) (Fault TexRefusal)) (fault : Fault TexRefusal) (result : Result B (Fault TexRefusal)) →
+      ReadsLumps itself v w dir a b (IsLast dir.lumps name) lump_number (λ bytes. Ok (last_of dir.lumps name)) fetched →
+      fetched ≡ Err fault → IsErrAnd result (λ e. e ≡ fault) → ReadsLumps itself v w dir a b (IsLast dir.lumps key) value (λ bytes. judge (named_bytes bytes dir.lumps key)) result
+  fetch_stopped fetched fault result one was is =
+      tells_stop_first (λ bytes. judge (named_bytes bytes dir.lumps key)) fetched fault result one was is (λ lump s. ap (last_of dir.lumps) (sym same) ∙ s) (λ bytes e stopped. absurd (cc))
 
   -- the lump was fetched, if there is one
-  pub fetch_judged : (lump : Option LumpNo) (live : Option (List ℕ)) (result : Result B TexFault) → ReadsLumps cache_fault v w dir a b (IsLast dir.lumps name) lump_number (λ bytes. Ok (last_of dir.lumps name)) (Ok lump) →
+  pub fetch_judged : (lump : Option LumpNo) (live : Option (List ℕ)) (result : Result B (Fault TexRefusal)) →
+      ReadsLumps {R = TexRefusal} itself v w dir a b (IsLast dir.lumps name) lump_number (λ bytes. Ok (last_of dir.lumps name)) (Ok lump) →
       ((contents : List (List ℕ)) → HoldContents v dir a contents → live ≡ named_bytes (lump_bytes contents dir.lumps) dir.lumps name) → ResultIs itself true value (judge live) result → IsOfBytes result →
       ReadsLumps itself v w dir a b (IsLast dir.lumps key) value (λ bytes. judge (named_bytes bytes dir.lumps key)) result
   fetch_judged lump live result one bytes judged of_bytes =
-      tells_end (λ bytes. judge (named_bytes bytes dir.lumps key)) result (tells_above no_refusal above_cache told_same (Ok lump) one) (λ lump s. ap (last_of dir.lumps) (sym same) ∙ s) of_bytes
+      tells_end (λ bytes. judge (named_bytes bytes dir.lumps key)) result one (λ lump s. ap (last_of dir.lumps) (sym same) ∙ s) of_bytes
       (λ contents t last. rw (← ap (named_bytes (lump_bytes contents dir.lumps) dir.lumps) same, ← bytes contents t) judged)

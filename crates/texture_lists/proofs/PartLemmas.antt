@@ -9,7 +9,7 @@ use Rattle.word_rules.specs.Least.{or_else}
 use Rattle.word_rules.proofs.LeastLemmas.{none-below, least-some}
 use Rattle.art_rules.specs.declared.refusal.TexRefusal.{TexRefusal}
 use Rattle.art_rules.specs.declared.layout.TheConstants.{TEXTURE_HEAD_SIZE, TEXTURE_WIDTH_AT}
-use Rattle.art_rules.specs.Bytes.{half_at, signed_at}
+use Rattle.art_rules.specs.Bytes.{half_at, signed_half_at}
 use Rattle.art_rules.specs.Textures.{Texture, TextureLists, texture_lists, patch_names, both_lists, first_list, second_list, joined_textures, unless_wrong, first_wrong, later_wrong, later_textures, wrong_record, textures_in, list_count, is_wrong, texture_place}
 use Rattle.texture_lists.specs.Parts.{ListPart, part_of, part_of_second, if_sound, first_part, second_part, joined_parts}
 
@@ -71,12 +71,12 @@ some_width : (n : ℕ) → int_lt (cast_signed w16 n) (pos 1) ≡ false → 0 < 
 some_width zero e = absurd (false≢true (sym e))
 some_width (suc n) e = omega arith
 
-wide : (bytes : List ℕ) (place : ℕ) → is_wrong bytes place ≡ false → int_lt (signed_at bytes (place + TEXTURE_WIDTH_AT)) (pos 1) ≡ false
+wide : (bytes : List ℕ) (place : ℕ) → is_wrong bytes place ≡ false → int_lt (signed_half_at bytes (place + TEXTURE_WIDTH_AT)) (pos 1) ≡ false
 unfolding is_wrong
 wide bytes place e = (or_false _ _ (or_false _ _ e).0).1
 
-at_half : (bytes : List ℕ) (place : ℕ) → int_lt (signed_at bytes place) (pos 1) ≡ false → 0 < half_at bytes place
-unfolding signed_at
+at_half : (bytes : List ℕ) (place : ℕ) → int_lt (signed_half_at bytes place) (pos 1) ≡ false → 0 < half_at bytes place
+unfolding signed_half_at
 at_half bytes place e = some_width (half_at bytes place) e
 
 -- and each texture has a column

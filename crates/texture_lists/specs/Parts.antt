@@ -1,5 +1,7 @@
 -- What is kept of each list of textures while both are read: no byte of a list.
-use Rattle.std.specs.Prelude.{ℕ, ◌+◌, List, [], ◌++◌, Option, None, Some, Result, Ok, option_map}
+use Rattle.std.specs.Prelude.{ℕ, ◌+◌, List, [], ◌++◌, Option, None, Some, Result, Ok, Err, option_map, ⊤}
+use Rattle.outside.specs.declared.fault.Fault.{Fault}
+use Rattle.outside.specs.declared.fault.Fault.TheVariants.{Refused, ReadFault, ZoneFull, OutOfMemory}
 use Rattle.outside.specs.Faults.{and_then}
 use Rattle.word_rules.specs.Least.{or_else}
 use Rattle.art_rules.specs.declared.refusal.TexRefusal.{TexRefusal}
@@ -35,3 +37,11 @@ second_part before texture2 = and_then (second_list before texture2) (λ bytes. 
 unfoldable pub joined_parts : ListPart → ListPart → Result (List Texture) TexRefusal
 joined_parts first second =
     unless_wrong (or_else first.wrong (option_map (λ i. first.count + i) second.wrong)) (first.textures ++ second.textures)
+
+-- what a call answers that asks for no lump: only bytes or memory can stop it
+abbrev pub IsOfBytes : {A R : Type 0} → Result A (Fault R) → Type 0
+IsOfBytes (Ok value) = ⊤
+IsOfBytes (Err (Refused refusal)) = ⊤
+IsOfBytes (Err ReadFault) = ⊥
+IsOfBytes (Err (ZoneFull wanted widest)) = ⊥
+IsOfBytes (Err OutOfMemory) = ⊤

@@ -3,7 +3,7 @@ ghost use Rattle.outside.specs.Faults.{itself};
 ghost use Rattle.std.specs.Prelude.{◌≡◌, ◌<◌, ◌≤◌, ℕ, length, option_map, slice_get, IfOk, IfSome, OnOk};
 ghost use Rattle.art_rules.specs.Textures.{is_no_texture, mask_of, texture_at, texture_lists, texture_number};
 ghost use Rattle.lump_cache.specs.Calls.{ReadsLumps};
-ghost use Rattle.lump_cache.specs.Named.{named_bytes};
+ghost use Rattle.lump_rules.specs.Contents.{named_bytes};
 ghost use Rattle.lump_cache.specs.Sizes.{StandsBeside};
 ghost use Rattle.texture_lists.specs.Asked.{IsListLump};
 

@@ -5,8 +5,7 @@ ghost use Rattle.std.specs.Option.{option_copied};
 ghost use Rattle.outside.specs.Faults.{ResultIs, itself};
 ghost use Rattle.word_rules.specs.Listed.{listed};
 ghost use Rattle.art_rules.specs.Textures.{is_bad_list, list_count, texture_place, textures_in, wrong_record};
-ghost use Rattle.texture_lists.specs.Faults.{IsOfBytes};
-ghost use Rattle.texture_lists.specs.Parts.{first_part, if_sound, joined_parts, part_of, second_part};
+ghost use Rattle.texture_lists.specs.Parts.{IsOfBytes, first_part, if_sound, joined_parts, part_of, second_part};
 
 use crate::TexFault;
 use crate::names::{is_short, list_count};

@@ -3,7 +3,7 @@ ghost use Rattle.std.specs.Prelude.{◌≡◌, ◌<◌, ◌+◌, ◌*◌, ◌^�
 ghost use Rattle.std.specs.Option.{option_copied};
 ghost use Rattle.outside.specs.Faults.{ResultIs, itself};
 ghost use Rattle.art_rules.specs.Textures.{is_short, list_count, names_in, patch_names};
-ghost use Rattle.texture_lists.specs.Faults.{IsOfBytes};
+ghost use Rattle.texture_lists.specs.Parts.{IsOfBytes};
 
 use crate::TexFault;
 use crate::records::name_at;

@@ -6,7 +6,7 @@ ghost use Rattle.art_rules.specs.Textures.{entry_at, is_wrong, mask_of, name_at,
 
 use art_rules::{
     ENTRY_NUMBER_AT, ENTRY_SIZE, ENTRY_Y_AT, NAME_SIZE, PATCH_COUNT_AT, TEXTURE_HEAD_SIZE,
-    TEXTURE_HEIGHT_AT, TEXTURE_WIDTH_AT, TextureEntry, half_at, signed_at,
+    TEXTURE_HEIGHT_AT, TEXTURE_WIDTH_AT, TextureEntry, half_at, signed_half_at,
 };
 use lump_rules::Name8;
 use outside::OutOfMemory;
@@ -136,8 +136,8 @@ fn entry_at(bytes: &[u8], place: u64) -> TextureEntry
     ensures { result ≡ entry_at bytes.now place }
 {
     TextureEntry {
-        x: signed_at(bytes, place),
-        y: signed_at(bytes, place + ENTRY_Y_AT as u64),
+        x: signed_half_at(bytes, place),
+        y: signed_half_at(bytes, place + ENTRY_Y_AT as u64),
         number: half_at(bytes, place + ENTRY_NUMBER_AT as u64),
     }
 }
@@ -150,8 +150,8 @@ pub(crate) fn is_wrong(bytes: &[u8], place: u64) -> bool
 {
     let entries = ENTRY_SIZE as u64 * patch_count(bytes, place) as u64;
     (bytes.len() as u64) < place + TEXTURE_HEAD_SIZE as u64 + entries
-        || signed_at(bytes, place + TEXTURE_WIDTH_AT as u64) < 1
-        || signed_at(bytes, place + TEXTURE_HEIGHT_AT as u64) < 1
+        || signed_half_at(bytes, place + TEXTURE_WIDTH_AT as u64) < 1
+        || signed_half_at(bytes, place + TEXTURE_HEIGHT_AT as u64) < 1
 }
 
 // The mask of a texture of that many columns.

@@ -1,6 +1,6 @@
 use Rattle.std.proofs.Common.{List, ap, subst, ◌∙◌}
-use Rattle.sprite_book.specs.declared.shapes.Frame.{Frame}
-use Rattle.sprite_book.specs.Books.{book_lumps}
+use Rattle.art_rules.specs.declared.shapes.Frame.{Frame}
+use Rattle.art_rules.specs.Books.{book_lumps}
 use Rattle.scene_rules.specs.Scenes.{SceneValue}
 use Rattle.scene_rules.specs.Sizes.{needed_lumps, zone_sizes}
 use Rattle.level_audit.specs.Views.{numbers_of}

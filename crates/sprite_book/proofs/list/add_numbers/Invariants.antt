@@ -1,5 +1,5 @@
 use Rattle.std.proofs.Common.{◌≡◌, ◌++◌, map, take}
-use Rattle.sprite_book.specs.declared.shapes.Shape.{Shape}
+use Rattle.art_rules.specs.declared.shapes.Shape.{Shape}
 use Rattle.sprite_book.proofs.list.add_numbers.Given as goal
 
 abbrev pub invariant-loop-shape : goal.invariant-loop-shape

@@ -1,5 +1,5 @@
 use Rattle.std.proofs.Common.{sym, ap, ◌∙◌, ◌++◌, arith, map, get_or}
-use Rattle.sprite_book.specs.declared.shapes.Shape.{Shape}
+use Rattle.art_rules.specs.declared.shapes.Shape.{Shape}
 use Rattle.sprite_book.proofs.ListLemmas.{lumps_none, lumps_more, no_frame}
 use Rattle.sprite_book.proofs.list.shape_numbers.Goals as goal
 

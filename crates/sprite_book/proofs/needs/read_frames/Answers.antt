@@ -2,9 +2,9 @@ use Rattle.std.proofs.Common.{◌≡◌, ◌<◌, ◌+◌, ◌++◌, ◌∷◌, 
 use Rattle.std.proofs.lemmas.List.{map-append}
 use Rattle.std.proofs.lemmas.List.Elements.{Contains-get_or}
 use Rattle.sprite_book.specs.declared.fault.SpriteFault.TheVariants.{OutOfMemory}
-use Rattle.sprite_book.specs.declared.shapes.Need.{Need}
-use Rattle.sprite_book.specs.declared.shapes.Frame.{Frame}
-use Rattle.sprite_book.specs.Books.{each_of, frame_of, first_needs, outline, outline_of}
+use Rattle.art_rules.specs.declared.shapes.Need.{Need}
+use Rattle.art_rules.specs.declared.shapes.Frame.{Frame}
+use Rattle.art_rules.specs.Books.{each_of, frame_of, first_needs, outline, outline_of}
 use Rattle.sprite_book.specs.Calls.{Reads, IsWanted}
 use Rattle.sprite_book.proofs.CallLemmas.{reads_known, reads_more, reads_stop, reads_same, reads_short}
 use Rattle.sprite_book.proofs.NeedLemmas.{needs_none, need_same, need_push, need_stop, placed_asked, frame_absent}

@@ -1,6 +1,6 @@
 use Rattle.std.proofs.Common.{◌∙◌, refl}
 use Rattle.sprite_book.specs.declared.fault.SpriteFault.TheVariants.{OutOfMemory}
-use Rattle.sprite_book.specs.Books.{each_of, frame_of, first_needs}
+use Rattle.art_rules.specs.Books.{each_of, frame_of, first_needs}
 use Rattle.lump_cache.proofs.CallLemmas.{tells_memory, tells_same, tells_stop_first, tells_as}
 use Rattle.sprite_book.proofs.CallLemmas.{reads_alone, nothing_read}
 use Rattle.sprite_book.proofs.needs.read_list.Goals as goal

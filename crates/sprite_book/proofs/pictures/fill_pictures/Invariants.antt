@@ -2,7 +2,7 @@ use Rattle.std.proofs.Common.{◌≡◌, List, ℕ, take, Some, Ok}
 use Rattle.std.specs.List.{range_with_len}
 use Rattle.art_rules.specs.declared.Mention.{Mention}
 use Rattle.art_rules.specs.Frames.{last_that, is_of_frame}
-use Rattle.sprite_book.specs.Books.{picture_or_missing, each_of}
+use Rattle.art_rules.specs.Books.{picture_or_missing, each_of}
 use Rattle.sprite_book.specs.Indexes.{IsIndexOf}
 use Rattle.sprite_book.proofs.pictures.fill_pictures.Given as goal
 

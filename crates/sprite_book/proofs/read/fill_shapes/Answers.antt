@@ -1,9 +1,9 @@
 use Rattle.std.proofs.Common.{◌<◌, ◌+◌, false, length, take, refl, sym, arith}
 use Rattle.std.proofs.lemmas.List.Elements.{Contains-get_or}
 use Rattle.art_rules.specs.declared.Mention.{Mention}
-use Rattle.sprite_book.specs.Books.{each_of, shape_of}
+use Rattle.art_rules.specs.Books.{each_of, shape_of}
 use Rattle.sprite_book.proofs.CallLemmas.{reads_known, reads_more, reads_stop, reads_same}
-use Rattle.sprite_book.proofs.EachLemmas.{each_of-nil}
+use Rattle.art_rules.proofs.EachLemmas.{each_of-nil}
 use Rattle.sprite_book.proofs.FrameLemmas.{shapes_push, shapes_stop, outlines_push}
 use Rattle.sprite_book.proofs.read.fill_shapes.Goals as goal
 

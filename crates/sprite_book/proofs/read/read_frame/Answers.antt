@@ -1,6 +1,6 @@
 use Rattle.std.proofs.Common.{◌≡◌, Ok, sym, ◌∙◌}
 use Rattle.art_rules.specs.Frames.{mentions}
-use Rattle.sprite_book.specs.Books.{pictures_of, frame_of}
+use Rattle.art_rules.specs.Books.{pictures_of, frame_of}
 use Rattle.sprite_book.proofs.CallLemmas.{reads_nothing, reads_refused, reads_more, reads_stop, reads_same}
 use Rattle.sprite_book.proofs.FrameLemmas.{frame_refused, frame_stop, frame_made, outline_made, pictures_there}
 use Rattle.sprite_book.proofs.read.read_frame.Goals as goal

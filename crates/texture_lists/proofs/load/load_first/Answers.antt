@@ -6,7 +6,7 @@ use Rattle.texture_lists.proofs.load.load_first.Goals as goal
 
 pub returns-in_err-lump-clause-tells : goal.returns-in_err-lump-clause-tells
 returns-in_err-lump-clause-tells g c =
-    fetch_stopped first_part (c.from_bytes.ensures ∙ texture1_name) c.fetch_named.result _ c.from_residual.result c.fetch_named.ensures.tells c.in_err-lump.was c.from_residual.ensures.1
+    fetch_stopped first_part (c.from_bytes.ensures ∙ texture1_name) c.fetch_list.result _ c.from_residual.result c.fetch_list.ensures.tells c.in_err-lump.was c.from_residual.ensures.1
 
 pub returns-clause-tells : goal.returns-clause-tells
 returns-clause-tells g c =
@@ -14,4 +14,4 @@ returns-clause-tells g c =
 
 pub returns-clause-fits : goal.returns-clause-fits
 returns-clause-fits g c =
-    list_beside (c.from_bytes.ensures ∙ texture1_name) c.in_ok-lump.lump _ c.first_part.result c.in_ok-lump.ensures.tells.keeps c.in_ok-lump.ensures.found c.in_ok-lump.ensures.there c.in_ok-lump.ensures.live c.live_bytes.ensures.value c.live_bytes.ensures.fits
+    list_beside (c.from_bytes.ensures ∙ texture1_name) c.in_ok-lump.lump _ c.first_part.result c.in_ok-lump.ensures.tells.keeps c.in_ok-lump.ensures.last c.in_ok-lump.ensures.there c.in_ok-lump.ensures.live c.live_bytes.ensures.value c.live_bytes.ensures.fits

@@ -1,8 +1,8 @@
 use Rattle.std.proofs.Common.{subst, sym, List, map, ℕ}
 use Rattle.std.specs.Prelude.{◌↔◌, Contains}
 use Rattle.lump_rules.specs.declared.wad.LumpNo.{LumpNo}
-use Rattle.sprite_book.specs.declared.shapes.Frame.{Frame}
-use Rattle.sprite_book.specs.Books.{book_lumps}
+use Rattle.art_rules.specs.declared.shapes.Frame.{Frame}
+use Rattle.art_rules.specs.Books.{book_lumps}
 use Rattle.sprite_book.proofs.book.SpriteBook.pictures.Goals as goal
 
 pub returns-clause-lumps : goal.returns-clause-lumps

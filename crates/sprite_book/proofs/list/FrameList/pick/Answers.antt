@@ -1,7 +1,7 @@
 use Rattle.std.proofs.Common.{◌≡◌, ◌<◌, length, vec_len, rules, sym, ap, ◌∙◌, arith}
 use Rattle.std.specs.Prelude.{slice_get}
-use Rattle.sprite_book.specs.declared.shapes.Frame.{Frame}
-use Rattle.sprite_book.specs.Books.{is_frame}
+use Rattle.art_rules.specs.declared.shapes.Frame.{Frame}
+use Rattle.art_rules.specs.Books.{is_frame}
 use Rattle.sprite_book.proofs.ListLemmas.{place_below, picked_found, picked_none}
 use Rattle.sprite_book.proofs.list.FrameList.pick.Goals as goal
 

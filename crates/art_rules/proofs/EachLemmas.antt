@@ -4,7 +4,7 @@ use Rattle.std.specs.List.{range_with_len}
 use Rattle.std.proofs.Math.ListN.{set}
 use Rattle.std.proofs.lemmas.List.{take_more_set}
 use Rattle.outside.specs.Faults.{and_then}
-use Rattle.sprite_book.specs.Books.{each_of}
+use Rattle.art_rules.specs.Books.{each_of}
 
 joined : {Y R : Type 0} (a : Result Y R) (b c : Result (List Y) R) →
     and_then a (λ v. and_then (and_then b (λ vs. and_then c (λ ws. Ok (vs ++ ws)))) (λ us. Ok (v ∷ us))) ≡ and_then (and_then a (λ v. and_then b (λ vs. Ok (v ∷ vs)))) (λ us. and_then c (λ ws. Ok (us ++ ws)))

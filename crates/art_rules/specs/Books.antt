@@ -14,9 +14,9 @@ use Rattle.art_rules.specs.declared.refusal.SpriteRefusal.{SpriteRefusal}
 use Rattle.art_rules.specs.declared.refusal.SpriteRefusal.TheVariants.{NoFrame, MissingRotation, BadPatch}
 use Rattle.art_rules.specs.Patches.{patch_of}
 use Rattle.art_rules.specs.Frames.{mentions, last_that, is_of_frame, frame_picture}
-use Rattle.sprite_book.specs.declared.shapes.Need.{Need}
-use Rattle.sprite_book.specs.declared.shapes.Shape.{Shape}
-use Rattle.sprite_book.specs.declared.shapes.Frame.{Frame}
+use Rattle.art_rules.specs.declared.shapes.Need.{Need}
+use Rattle.art_rules.specs.declared.shapes.Shape.{Shape}
+use Rattle.art_rules.specs.declared.shapes.Frame.{Frame}
 
 -- what f gives of the items in their order, or the first refusal
 unfoldable pub each_of : {X Y R : Type 0} → (X → Result Y R) → List X → Result (List Y) R

@@ -1,6 +1,6 @@
 // What a book is asked for, and what it has.
-use art_rules::{ROTATIONS, SPRITE_LETTERS};
-use wad_dir::LumpNo;
+use crate::{ROTATIONS, SPRITE_LETTERS};
+use lump_rules::LumpNo;
 
 /// A frame that a thing needs: the thing's number, the four letters of its sprite, and the frame
 /// letter's byte.
