@@ -9,7 +9,7 @@ ghost use Rattle.lump_rules.specs.Contents.{AllWithin};
 ghost use Rattle.lump_rules.specs.declared.names.Group.TheVariants.{Sprites};
 ghost use Rattle.wad_dir.specs.Faults.{dir_fault};
 
-use crate::{DirFault, LumpNo};
+use crate::DirFault;
 use crate::index::{index_flats, index_names, list_sprites, look_up};
 use crate::load::read_lumps;
 use crate::map::label_at;
