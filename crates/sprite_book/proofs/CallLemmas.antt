@@ -35,9 +35,8 @@ module _ {A B : Type 0} {wants : ℕ → Type 0} {value : B → A} {expected : (
     order = λ items all k. order_none items z view.taken k;
   }
 
-  -- a refusal that the names alone decide
-  pub reads_refused : (view : ShelfView) (dir : DirectoryView) (z : Heap) (p : List (Option Patch)) (refusal : SpriteRefusal) → ((bytes : ℕ → List ℕ) → expected bytes ≡ Err refusal) → Reads view view dir z z p p wants value expected (Err (Refused refusal))
-  reads_refused view dir z p refusal known = record {
+  refused_here : (view : ShelfView) (dir : DirectoryView) (z : Heap) (p : List (Option Patch)) (refusal : SpriteRefusal) → ((bytes : ℕ → List ℕ) → expected bytes ≡ Err refusal) → Reads view view dir z z p p wants value expected (Err (Refused refusal))
+  refused_here view dir z p refusal known = record {
     keeps = keeps_none view dir z;
     read = λ contents told. told.read;
     count = refl;
@@ -46,6 +45,11 @@ module _ {A B : Type 0} {wants : ℕ → Type 0} {value : B → A} {expected : (
     full = tt;
     order = λ items all k. order_none items z view.taken k;
   }
+
+  -- a refusal that the names alone decide
+  pub reads_refused : (view : ShelfView) (dir : DirectoryView) (z : Heap) (p : List (Option Patch)) (fault : Fault SpriteRefusal) (refusal : SpriteRefusal) → fault ≡ Refused refusal → ((bytes : ℕ → List ℕ) → expected bytes ≡ Err refusal) →
+      Reads view view dir z z p p wants value expected (Err fault)
+  reads_refused view dir z p fault refusal is known = subst (λ f. Reads view view dir z z p p wants value expected (Err f)) (sym is) (refused_here view dir z p refusal known)
 
 step_read : {C D E F : Type 0} {v w x : ShelfView} {dir : DirectoryView} {a b c : Heap} {p q r : List (Option Patch)} {wants some : ℕ → Type 0} {first : D → C} {next : F → E}
     {before : (ℕ → List ℕ) → Result C SpriteRefusal} {part : (ℕ → List ℕ) → Result E SpriteRefusal} {found : D} {result : Result F (Fault SpriteRefusal)} → Reads v w dir a b p q wants first before (Ok found) → Reads w x dir b c q r some next part result →

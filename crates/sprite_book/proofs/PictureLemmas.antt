@@ -3,6 +3,8 @@ use Rattle.std.proofs.Common.{◌≡◌, List, Option, Some, None, Result, Ok, E
 use Rattle.std.specs.Option.{ok_or}
 use Rattle.std.specs.List.{range_with_len}
 use Rattle.std.proofs.lemmas.Result.{err_from_is_err_and}
+use Rattle.outside.specs.declared.fault.Fault.{Fault}
+use Rattle.outside.specs.declared.fault.Fault.TheVariants.{Refused}
 use Rattle.art_rules.specs.declared.Mention.{Mention}
 use Rattle.art_rules.specs.declared.TheConstants.{ROTATIONS}
 use Rattle.art_rules.specs.declared.refusal.SpriteRefusal.{SpriteRefusal}
