@@ -11,3 +11,4 @@ pub mod RoomButLemmas
 pub mod RoomLemmas
 pub mod SizeLemmas
 pub mod WriteLemmas
+pub mod LiftLemmas

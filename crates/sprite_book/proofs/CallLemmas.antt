@@ -14,8 +14,8 @@ use Rattle.art_rules.specs.declared.refusal.SpriteRefusal.{SpriteRefusal}
 use Rattle.art_rules.specs.Patches.{patch_of}
 use Rattle.lump_cache.specs.Calls.{ReadsLumps, PreservesCache, IsFullFor, IfFull, InOrderAt}
 use Rattle.lump_cache.proofs.CallLemmas.{keeps_none, keeps_then, told_later, full_for_earlier, cause_later, full_at, order_at, tells_at}
-use Rattle.sprite_book.specs.declared.fault.SpriteFault.{SpriteFault}
-use Rattle.sprite_book.specs.declared.fault.SpriteFault.TheVariants.{Refused, OutOfMemory}
+use Rattle.outside.specs.declared.fault.Fault.{Fault}
+use Rattle.outside.specs.declared.fault.Fault.TheVariants.{Refused, OutOfMemory}
 use Rattle.sprite_book.specs.Calls.{Reads, IsToldWith, ArePatchesOf}
 
 -- the contents are told later too
@@ -35,9 +35,8 @@ module _ {A B : Type 0} {wants : ℕ → Type 0} {value : B → A} {expected : (
     order = λ items all k. order_none items z view.taken k;
   }
 
-  -- a refusal that the names alone decide
-  pub reads_refused : (view : ShelfView) (dir : DirectoryView) (z : Heap) (p : List (Option Patch)) (refusal : SpriteRefusal) → ((bytes : ℕ → List ℕ) → expected bytes ≡ Err refusal) → Reads view view dir z z p p wants value expected (Err (Refused refusal))
-  reads_refused view dir z p refusal known = record {
+  refused_here : (view : ShelfView) (dir : DirectoryView) (z : Heap) (p : List (Option Patch)) (refusal : SpriteRefusal) → ((bytes : ℕ → List ℕ) → expected bytes ≡ Err refusal) → Reads view view dir z z p p wants value expected (Err (Refused refusal))
+  refused_here view dir z p refusal known = record {
     keeps = keeps_none view dir z;
     read = λ contents told. told.read;
     count = refl;
@@ -47,8 +46,13 @@ module _ {A B : Type 0} {wants : ℕ → Type 0} {value : B → A} {expected : (
     order = λ items all k. order_none items z view.taken k;
   }
 
+  -- a refusal that the names alone decide
+  pub reads_refused : (view : ShelfView) (dir : DirectoryView) (z : Heap) (p : List (Option Patch)) (fault : Fault SpriteRefusal) (refusal : SpriteRefusal) → fault ≡ Refused refusal → ((bytes : ℕ → List ℕ) → expected bytes ≡ Err refusal) →
+      Reads view view dir z z p p wants value expected (Err fault)
+  reads_refused view dir z p fault refusal is known = subst (λ f. Reads view view dir z z p p wants value expected (Err f)) (sym is) (refused_here view dir z p refusal known)
+
 step_read : {C D E F : Type 0} {v w x : ShelfView} {dir : DirectoryView} {a b c : Heap} {p q r : List (Option Patch)} {wants some : ℕ → Type 0} {first : D → C} {next : F → E}
-    {before : (ℕ → List ℕ) → Result C SpriteRefusal} {part : (ℕ → List ℕ) → Result E SpriteRefusal} {found : D} {result : Result F SpriteFault} → Reads v w dir a b p q wants first before (Ok found) → Reads w x dir b c q r some next part result →
+    {before : (ℕ → List ℕ) → Result C SpriteRefusal} {part : (ℕ → List ℕ) → Result E SpriteRefusal} {found : D} {result : Result F (Fault SpriteRefusal)} → Reads v w dir a b p q wants first before (Ok found) → Reads w x dir b c q r some next part result →
     (contents : List (List ℕ)) → IsToldWith v dir a p contents → ArePatchesOf (lump_bytes contents dir.lumps) r
 step_read one two contents told = two.read contents (told_with one.keeps told (one.read contents told))
 
@@ -59,7 +63,7 @@ reads_nothing view dir z p wants = reads_known view dir z p tt (λ contents told
 module _ {A B C D E F : Type 0} {v w x : ShelfView} {dir : DirectoryView} {a b c : Heap} {p q r : List (Option Patch)} {wants some : ℕ → Type 0} {first : D → C} {next : F → E} {value : B → A}
     {before : (ℕ → List ℕ) → Result C SpriteRefusal} {part : (ℕ → List ℕ) → Result E SpriteRefusal} {found : D} where
   -- a part was passed, after others
-  pub reads_more : (expected : (ℕ → List ℕ) → Result A SpriteRefusal) (got : F) (whole : B) → Reads v w dir a b p q wants first before (Ok found) → (result : Result F SpriteFault) → Reads w x dir b c q r some next part result → result ≡ Ok got → ((lump : ℕ) → some lump → wants lump) →
+  pub reads_more : (expected : (ℕ → List ℕ) → Result A SpriteRefusal) (got : F) (whole : B) → Reads v w dir a b p q wants first before (Ok found) → (result : Result F (Fault SpriteRefusal)) → Reads w x dir b c q r some next part result → result ≡ Ok got → ((lump : ℕ) → some lump → wants lump) →
       ((bytes : ℕ → List ℕ) → before bytes ≡ Ok (first found) → part bytes ≡ Ok (next got) → expected bytes ≡ Ok (value whole)) → Reads v x dir a c p r wants value expected (Ok whole)
   reads_more expected got whole one result two is among joins = record {
     keeps = keeps_then one.keeps two.keeps;
@@ -67,17 +71,17 @@ module _ {A B C D E F : Type 0} {v w x : ShelfView} {dir : DirectoryView} {a b c
     count = two.count ∙ one.count;
     answers = λ contents told.
         let later = told_with one.keeps told (one.read contents told) in
-        let ok = subst (λ (y : Result F SpriteFault). IfOk y (λ g. part (lump_bytes contents dir.lumps) ≡ Ok (next g))) is (two.answers contents later).ok in
+        let ok = subst (λ (y : Result F (Fault SpriteRefusal)). IfOk y (λ g. part (lump_bytes contents dir.lumps) ≡ Ok (next g))) is (two.answers contents later).ok in
         record { ok = joins (lump_bytes contents dir.lumps) (one.answers contents told).ok ok; err = tt };
     causes = record { err = tt };
     full = tt;
     order = λ items all k.
         let k1 = one.order items all k in
-        order_then k1 (subst (λ (y : Result F SpriteFault). MatchResult y (λ _. KeepsOrder items b c w.taken x.taken) (λ fault. InOrderAt (itself fault) (KeepsOrder items b c w.taken x.taken))) is (two.order items (λ lump s. all lump (among lump s)) k1.order));
+        order_then k1 (subst (λ (y : Result F (Fault SpriteRefusal)). MatchResult y (λ _. KeepsOrder items b c w.taken x.taken) (λ fault. InOrderAt (itself fault) (KeepsOrder items b c w.taken x.taken))) is (two.order items (λ lump s. all lump (among lump s)) k1.order));
   }
 
   -- a part stops the call, after others
-  pub reads_stop : (expected : (ℕ → List ℕ) → Result A SpriteRefusal) (fault : SpriteFault) → Reads v w dir a b p q wants first before (Ok found) → (result : Result F SpriteFault) → Reads w x dir b c q r some next part result → result ≡ Err fault → ((lump : ℕ) → some lump → wants lump) →
+  pub reads_stop : (expected : (ℕ → List ℕ) → Result A SpriteRefusal) (fault : (Fault SpriteRefusal)) → Reads v w dir a b p q wants first before (Ok found) → (result : Result F (Fault SpriteRefusal)) → Reads w x dir b c q r some next part result → result ≡ Err fault → ((lump : ℕ) → some lump → wants lump) →
       ((bytes : ℕ → List ℕ) (e : SpriteRefusal) → before bytes ≡ Ok (first found) → part bytes ≡ Err e → expected bytes ≡ Err e) → Reads v x dir a c p r wants value expected (Err fault)
   reads_stop expected fault one result two is among stops = record {
     keeps = keeps_then one.keeps two.keeps;
@@ -85,17 +89,17 @@ module _ {A B C D E F : Type 0} {v w x : ShelfView} {dir : DirectoryView} {a b c
     count = two.count ∙ one.count;
     answers = λ contents told.
         let later = told_with one.keeps told (one.read contents told) in
-        let err = subst (λ (y : Result F SpriteFault). IfErr y (λ f. FaultFits w.steady (part (lump_bytes contents dir.lumps)) (itself f))) is (two.answers contents later).err in
+        let err = subst (λ (y : Result F (Fault SpriteRefusal)). IfErr y (λ f. FaultFits w.steady (part (lump_bytes contents dir.lumps)) (itself f))) is (two.answers contents later).err in
         record { ok = tt; err = tells_at v.steady w.steady (part (lump_bytes contents dir.lumps)) (expected (lump_bytes contents dir.lumps)) (itself fault) one.keeps.follows.steady (λ e h. stops (lump_bytes contents dir.lumps) e (one.answers contents told).ok h) err };
-    causes = record { err = cause_later v.faults w.faults x.faults (itself fault) one.keeps.follows.faults (subst (λ (y : Result F SpriteFault). IfErr y (λ f. HasCauseAt w.faults x.faults (itself f))) is two.causes.err) };
-    full = full_at (itself fault) (λ wanted widest' k. full_for_earlier among one.keeps wanted widest' k) (subst (λ (y : Result F SpriteFault). IfErr y (λ f. IfFull (itself f) (IsFullFor some dir b))) is two.full);
+    causes = record { err = cause_later v.faults w.faults x.faults (itself fault) one.keeps.follows.faults (subst (λ (y : Result F (Fault SpriteRefusal)). IfErr y (λ f. HasCauseAt w.faults x.faults (itself f))) is two.causes.err) };
+    full = full_at (itself fault) (λ wanted widest' k. full_for_earlier among one.keeps wanted widest' k) (subst (λ (y : Result F (Fault SpriteRefusal)). IfErr y (λ f. IfFull (itself f) (IsFullFor some dir b))) is two.full);
     order = λ items all k.
         let k1 = one.order items all k in
-        order_at (itself fault) (λ k2. order_then k1 k2) (subst (λ (y : Result F SpriteFault). MatchResult y (λ _. KeepsOrder items b c w.taken x.taken) (λ f. InOrderAt (itself f) (KeepsOrder items b c w.taken x.taken))) is (two.order items (λ lump s. all lump (among lump s)) k1.order));
+        order_at (itself fault) (λ k2. order_then k1 k2) (subst (λ (y : Result F (Fault SpriteRefusal)). MatchResult y (λ _. KeepsOrder items b c w.taken x.taken) (λ f. InOrderAt (itself f) (KeepsOrder items b c w.taken x.taken))) is (two.order items (λ lump s. all lump (among lump s)) k1.order));
   }
 
 -- the same error goes on
-pub reads_same : {A B : Type 0} {v w : ShelfView} {dir : DirectoryView} {a b : Heap} {p q : List (Option Patch)} {wants : ℕ → Type 0} {value : B → A} (result : Result B SpriteFault) (fault : SpriteFault) (expected : (ℕ → List ℕ) → Result A SpriteRefusal) → IsErrAnd result (λ e. e ≡ fault) →
+pub reads_same : {A B : Type 0} {v w : ShelfView} {dir : DirectoryView} {a b : Heap} {p q : List (Option Patch)} {wants : ℕ → Type 0} {value : B → A} (result : Result B (Fault SpriteRefusal)) (fault : (Fault SpriteRefusal)) (expected : (ℕ → List ℕ) → Result A SpriteRefusal) → IsErrAnd result (λ e. e ≡ fault) →
     Reads v w dir a b p q wants value expected (Err fault) → Reads v w dir a b p q wants value expected result
 reads_same {v} {w} {dir} {a} {b} {p} {q} {wants} {value} result fault expected is tells =
     let s = err_from_is_err_and result is in
@@ -115,7 +119,7 @@ module _ {v w : ShelfView} {dir : DirectoryView} {a b : Heap} {p q : List (Optio
   }
 
   -- what was read is given up
-  pub reads_alone : {A B : Type 0} {value : B → A} {expected : (ℕ → List ℕ) → Result A SpriteRefusal} {result : Result B SpriteFault} → ((bytes : ℕ → List ℕ) → ArePatchesOf bytes p) → Reads v w dir a b p q wants value expected result → ReadsLumps itself v w dir a b wants value expected result
+  pub reads_alone : {A B : Type 0} {value : B → A} {expected : (ℕ → List ℕ) → Result A SpriteRefusal} {result : Result B (Fault SpriteRefusal)} → ((bytes : ℕ → List ℕ) → ArePatchesOf bytes p) → Reads v w dir a b p q wants value expected result → ReadsLumps itself v w dir a b wants value expected result
   reads_alone none one = record {
     keeps = one.keeps;
     answers = λ contents told. one.answers contents (record { told = told; read = none (lump_bytes contents dir.lumps) });
@@ -125,7 +129,7 @@ module _ {v w : ShelfView} {dir : DirectoryView} {a b : Heap} {p q : List (Optio
   }
 
 -- a call that keeps no patch
-pub reads_of : {A B : Type 0} {v w : ShelfView} {dir : DirectoryView} {a b : Heap} {wants : ℕ → Type 0} {value : B → A} {expected : (ℕ → List ℕ) → Result A SpriteRefusal} {result : Result B SpriteFault} (patches : List (Option Patch)) → ReadsLumps itself v w dir a b wants value expected result → Reads v w dir a b patches patches wants value expected result
+pub reads_of : {A B : Type 0} {v w : ShelfView} {dir : DirectoryView} {a b : Heap} {wants : ℕ → Type 0} {value : B → A} {expected : (ℕ → List ℕ) → Result A SpriteRefusal} {result : Result B (Fault SpriteRefusal)} (patches : List (Option Patch)) → ReadsLumps itself v w dir a b wants value expected result → Reads v w dir a b patches patches wants value expected result
 reads_of patches one = record {
   keeps = one.keeps;
   read = λ contents told. told.read;
@@ -149,6 +153,6 @@ pub nothing_read : (bytes : ℕ → List ℕ) (patches : List (Option Patch)) (n
 nothing_read bytes patches n e = record { at = λ lump. subst (λ x. IfSome x (λ patch. patch_of (bytes lump) ≡ Some patch)) (sym (ap (λ v. slice_index_or v lump None) e ∙ none_at n lump)) tt }
 
 -- what is told of a fault of a full zone
-pub full_weaker : {B : Type 0} {P Q : ℕ → ℕ → Type 0} (result : Result B SpriteFault) → ((wanted widest' : ℕ) → P wanted widest' → Q wanted widest') → IfErr result (λ fault. IfFull (itself fault) P) → IfErr result (λ fault. IfFull (itself fault) Q)
+pub full_weaker : {B : Type 0} {P Q : ℕ → ℕ → Type 0} (result : Result B (Fault SpriteRefusal)) → ((wanted widest' : ℕ) → P wanted widest' → Q wanted widest') → IfErr result (λ fault. IfFull (itself fault) P) → IfErr result (λ fault. IfFull (itself fault) Q)
 full_weaker (Ok found) f k = tt
 full_weaker (Err fault) f k = full_at (itself fault) f k

@@ -3,6 +3,8 @@ use Rattle.std.proofs.Common.{◌≡◌, List, Option, Some, None, Result, Ok, E
 use Rattle.std.specs.Option.{ok_or}
 use Rattle.std.specs.List.{range_with_len}
 use Rattle.std.proofs.lemmas.Result.{err_from_is_err_and}
+use Rattle.outside.specs.declared.fault.Fault.{Fault}
+use Rattle.outside.specs.declared.fault.Fault.TheVariants.{Refused}
 use Rattle.art_rules.specs.declared.Mention.{Mention}
 use Rattle.art_rules.specs.declared.TheConstants.{ROTATIONS}
 use Rattle.art_rules.specs.declared.refusal.SpriteRefusal.{SpriteRefusal}
@@ -28,6 +30,22 @@ pub told_error : {A : Type 0} (P : A → Type 0) (result : Result A SpriteRefusa
     MatchResult result P (λ refusal. expected ≡ Err refusal)
 told_error {A} P (Ok v) e expected h is = absurd h
 told_error {A} P (Err f) e expected h is = is ∙ ap Err (sym h)
+
+-- what `map_err(SpriteFault::Refused)` tells of its result
+module _ {A : Type 0} where
+  abbrev IsRefusal : Result A SpriteRefusal → Result A (Fault SpriteRefusal) → Type 0
+  IsRefusal judged result = MatchResult judged (λ x. result ≡ Ok x) (λ e. IsErrAnd result (λ f. f ≡ Refused e))
+
+  pub passed : (judged : Result A SpriteRefusal) (result : Result A (Fault SpriteRefusal)) (value : A) → IsRefusal judged result → result ≡ Ok value → judged ≡ Ok value
+  passed (Ok x) result value is was = let s : x ≡ value = cc in ap Ok s
+  passed (Err e) result value is was = let p = err_from_is_err_and result is in cc
+
+  pub refused : (judged : Result A SpriteRefusal) (result : Result A (Fault SpriteRefusal)) (fault : Fault SpriteRefusal) → IsRefusal judged result → result ≡ Err fault → (e : SpriteRefusal) × (judged ≡ Err e) × (fault ≡ Refused e)
+  refused (Ok x) result fault is was = cc
+  refused (Err e) result fault is was =
+      let p = err_from_is_err_and result is in
+      let s : p.0 ≡ fault = cc in
+      (e, refl, sym s ∙ p.2)
 
 -- no lump mentions the frame
 pub pictures_none : (all : List Mention) (need : Need) (r : Result Mention SpriteRefusal) (e : SpriteRefusal) → r ≡ last_mention all need → r ≡ Err e → Err e ≡ pictures_of all need

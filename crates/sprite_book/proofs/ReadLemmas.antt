@@ -6,7 +6,7 @@ use Rattle.std.proofs.Math.ListN.{set}
 use Rattle.std.proofs.lemmas.List.{length-set}
 use Rattle.std.proofs.lemmas.Bool.{cases_eq}
 use Rattle.outside.specs.Shelf.{ShelfView}
-use Rattle.outside.specs.Faults.{fault_above, itself}
+use Rattle.outside.specs.Faults.{itself}
 use Rattle.zone_rules.specs.Zones.{Heap}
 use Rattle.lump_rules.specs.Contents.{lump_bytes}
 use Rattle.wad_dir.specs.DirectoryView.{DirectoryView}
@@ -14,24 +14,12 @@ use Rattle.art_rules.specs.declared.patch.Patch.{Patch}
 use Rattle.art_rules.specs.declared.refusal.SpriteRefusal.{SpriteRefusal}
 use Rattle.art_rules.specs.declared.refusal.SpriteRefusal.TheVariants.{BadPatch}
 use Rattle.art_rules.specs.Patches.{patch_of}
-use Rattle.lump_cache.specs.declared.fault.CacheFault.{CacheFault}
-use Rattle.lump_cache.specs.declared.fault.CacheFault.TheVariants.{ZoneFull, ReadFault}
-use Rattle.lump_cache.specs.Caches.{cache_fault}
 use Rattle.lump_cache.specs.Calls.{ReadsLumps, HoldContents}
-use Rattle.lump_cache.proofs.CallLemmas.{tells_stop_first, tells_then_found, tells_then_refused, tells_above, fault_above}
-use Rattle.sprite_book.specs.declared.fault.SpriteFault.{SpriteFault}
-use Rattle.sprite_book.specs.declared.fault.SpriteFault.TheVariants.{Refused}
-use Rattle.sprite_book.specs.Faults.{sprite_fault}
+use Rattle.lump_cache.proofs.CallLemmas.{tells_stop_first, tells_then_found, tells_then_refused}
+use Rattle.outside.specs.declared.fault.Fault.{Fault}
+use Rattle.outside.specs.declared.fault.Fault.TheVariants.{Refused}
 use Rattle.art_rules.specs.Books.{patch_or_bad}
 use Rattle.sprite_book.specs.Calls.{Reads, ArePatchesOf}
-
--- the cache refuses nothing, and its other faults are told as those of a book
-no_refusal : ⊥ → SpriteRefusal
-no_refusal none = absurd none
-
-told_same : (below : CacheFault) → itself (sprite_fault below) ≡ fault_above no_refusal (cache_fault below)
-told_same (ZoneFull wanted widest') = refl
-told_same ReadFault = refl
 
 patch_is : (bytes : ℕ → List ℕ) (lump : ℕ) (patch : Patch) → patch_of (bytes lump) ≡ Some patch → patch_or_bad bytes lump ≡ Ok patch
 unfolding patch_or_bad
@@ -51,22 +39,22 @@ patch_was bytes lump patch e = found_patch (patch_of (bytes lump)) (BadPatch lum
 
 module _ {view after : ShelfView} {dir : DirectoryView} {old new : Heap} (lump : ℕ) where
   -- the lump was not fetched
-  pub fetch_stopped : (fetched : Result (Unit {0}) CacheFault) (below : CacheFault) (result : Result Patch SpriteFault) → ReadsLumps cache_fault view after dir old new (λ n. n ≡ lump) (λ (done : Unit {0}). done) (λ bytes. Ok tt) fetched →
-      fetched ≡ Err below → IsErrAnd result (λ e. e ≡ sprite_fault below) → ReadsLumps itself view after dir old new (λ n. n ≡ lump) (λ (patch : Patch). patch) (λ bytes. patch_or_bad bytes lump) result
-  fetch_stopped fetched below result one was is =
-      tells_stop_first (λ bytes. patch_or_bad bytes lump) (fault_above sprite_fault fetched) (sprite_fault below) result
-      (tells_above no_refusal sprite_fault told_same fetched one) (ap (fault_above sprite_fault) was) is (λ n same. same) (λ bytes e stopped. absurd (cc))
+  pub fetch_stopped : (fetched : Result (Unit {0}) (Fault SpriteRefusal)) (fault : Fault SpriteRefusal) (result : Result Patch (Fault SpriteRefusal)) →
+      ReadsLumps itself view after dir old new (λ n. n ≡ lump) (λ (done : Unit {0}). done) (λ bytes. Ok tt) fetched →
+      fetched ≡ Err fault → IsErrAnd result (λ e. e ≡ fault) → ReadsLumps itself view after dir old new (λ n. n ≡ lump) (λ (patch : Patch). patch) (λ bytes. patch_or_bad bytes lump) result
+  fetch_stopped fetched fault result one was is =
+      tells_stop_first (λ bytes. patch_or_bad bytes lump) fetched fault result one was is (λ n same. same) (λ bytes e stopped. absurd (cc))
 
   -- the lump was fetched, and is judged by its bytes
-  module _ (one : ReadsLumps cache_fault view after dir old new (λ n. n ≡ lump) (λ (done : Unit {0}). done) (λ bytes. Ok tt) (Ok tt)) (live : Option Patch) (judged : (contents : List (List ℕ)) → HoldContents view dir old contents → live ≡ patch_of (lump_bytes contents dir.lumps lump)) where
+  module _ (one : ReadsLumps {R = SpriteRefusal} itself view after dir old new (λ n. n ≡ lump) (λ (done : Unit {0}). done) (λ bytes. Ok tt) (Ok tt)) (live : Option Patch) (judged : (contents : List (List ℕ)) → HoldContents view dir old contents → live ≡ patch_of (lump_bytes contents dir.lumps lump)) where
     pub fetch_found : (patch : Patch) → live ≡ Some patch → ReadsLumps itself view after dir old new (λ n. n ≡ lump) (λ (patch : Patch). patch) (λ bytes. patch_or_bad bytes lump) (Ok patch)
     fetch_found patch is =
-        tells_then_found patch (λ n same. same) (tells_above no_refusal sprite_fault told_same (Ok tt) one)
+        tells_then_found patch (λ n same. same) one
         (λ contents told done. patch_is (lump_bytes contents dir.lumps) lump patch (sym (judged contents told) ∙ is))
 
     pub fetch_bad : (number : ℕ) → number ≡ lump → live ≡ None → ReadsLumps itself view after dir old new (λ n. n ≡ lump) (λ (patch : Patch). patch) (λ bytes. patch_or_bad bytes lump) (Err (Refused (BadPatch number)))
     fetch_bad number e is =
-        tells_then_refused (Refused (BadPatch number)) (BadPatch number) refl (λ n same. same) (tells_above no_refusal sprite_fault told_same (Ok tt) one)
+        tells_then_refused (Refused (BadPatch number)) (BadPatch number) refl (λ n same. same) one
         (λ contents told done. patch_bad (lump_bytes contents dir.lumps) lump (sym (judged contents told) ∙ is) ∙ ap (λ n. Err (BadPatch n)) (sym e))
 
 -- the lump was read before

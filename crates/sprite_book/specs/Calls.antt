@@ -13,7 +13,7 @@ use Rattle.art_rules.specs.declared.refusal.SpriteRefusal.{SpriteRefusal}
 use Rattle.art_rules.specs.Patches.{patch_of}
 use Rattle.art_rules.specs.Frames.{mentions}
 use Rattle.lump_cache.specs.Calls.{PreservesCache, HoldContents, IsFullFor, IfFull, InOrderAt, HasAll}
-use Rattle.sprite_book.specs.declared.fault.SpriteFault.{SpriteFault}
+use Rattle.outside.specs.declared.fault.Fault.{Fault}
 use Rattle.art_rules.specs.declared.shapes.Need.{Need}
 use Rattle.art_rules.specs.Books.{pictures_of}
 
@@ -42,7 +42,7 @@ pub record IsToldWith (view : ShelfView) (dir : DirectoryView) (z : Heap) (patch
 
 -- A call over the cache that also keeps the patches that it reads: its answer, what it keeps, when a read
 -- fails, when the zone is full, and that a cache in order stays so.
-pub record Reads {A B : Type 0} (view after : ShelfView) (dir : DirectoryView) (old new : Heap) (before now : List (Option Patch)) (wants : ℕ → Type 0) (value : B → A) (expected : (ℕ → List ℕ) → Result A SpriteRefusal) (result : Result B SpriteFault) : Type 0 where
+pub record Reads {A B : Type 0} (view after : ShelfView) (dir : DirectoryView) (old new : Heap) (before now : List (Option Patch)) (wants : ℕ → Type 0) (value : B → A) (expected : (ℕ → List ℕ) → Result A SpriteRefusal) (result : Result B (Fault SpriteRefusal)) : Type 0 where
   pub keeps : PreservesCache view after dir old new
   pub read : (contents : List (List ℕ)) → IsToldWith view dir old before contents → ArePatchesOf (lump_bytes contents dir.lumps) now
   pub count : length now ≡ length before

@@ -3,18 +3,9 @@ use Rattle.std.proofs.Common.{◌≡◌, ℕ, suc, ◌+◌, ◌<◌, List, [], �
 use Rattle.std.specs.Prelude.{IfSome, option_and_then, option_map}
 use Rattle.std.proofs.Math.Seq.{split_at}
 use Rattle.std.proofs.lemmas.List.{take_more}
-use Rattle.outside.specs.Shelf.{ShelfView}
-use Rattle.outside.specs.Faults.{fault_above, itself}
 use Rattle.lump_rules.specs.declared.wad.Lump.{Lump}
 use Rattle.lump_rules.specs.Lookups.{last_of}
-use Rattle.zone_rules.specs.Zones.{Heap}
-use Rattle.wad_dir.specs.DirectoryView.{DirectoryView}
 use Rattle.lump_rules.specs.declared.wad.LumpNo.{LumpNo}
-use Rattle.lump_cache.specs.declared.fault.CacheFault.{CacheFault}
-use Rattle.lump_cache.specs.declared.fault.CacheFault.TheVariants.{ZoneFull, ReadFault}
-use Rattle.lump_cache.specs.Caches.{cache_fault}
-use Rattle.lump_cache.specs.Calls.{ReadsLumps}
-use Rattle.lump_cache.proofs.CallLemmas.{tells_above}
 use Rattle.art_rules.specs.declared.patch.Patch.{Patch}
 use Rattle.art_rules.specs.declared.PlacedPatch.{PlacedPatch}
 use Rattle.art_rules.specs.declared.ColumnLookup.{ColumnLookup}
@@ -25,21 +16,8 @@ use Rattle.art_rules.specs.Patches.{patch_of}
 use Rattle.art_rules.specs.Wanted.{place_lump, place_patch, placed_patch, placed_patches}
 use Rattle.patch_columns.specs.Seen.{columns_with, seen_lookups}
 use Rattle.patch_columns.proofs.SeenLemmas.{columns_with-seen}
-use Rattle.texture_lists.specs.Faults.{above_cache}
 use Rattle.texture_build.specs.Asked.{patch_lump}
 use Rattle.texture_build.specs.Parts.{PatchStep, PatchesPart, or_missing, part_of, step_of}
-
-no_refusal : ⊥ → TexRefusal
-no_refusal x = absurd x
-
-same_told : (fault : CacheFault) → itself (above_cache fault) ≡ fault_above no_refusal (cache_fault fault)
-same_told (ZoneFull wanted widest') = refl
-same_told ReadFault = refl
-
--- a fetch, in the words of textures
-module _ {v w : ShelfView} {dir : DirectoryView} {a b : Heap} {wants : ℕ → Type 0} where
-  pub fetched_ok : (result : Result (Unit {0}) CacheFault) (done : Unit {0}) → ReadsLumps cache_fault v w dir a b wants (λ (done : Unit {0}). done) (λ bytes. Ok tt) result → result ≡ Ok done → ReadsLumps itself v w dir a b wants (λ (done : Unit {0}). done) (λ bytes. Ok tt) (Ok done)
-  fetched_ok result done one is = tells_above no_refusal above_cache same_told (Ok done) (subst (ReadsLumps cache_fault v w dir a b wants (λ (done : Unit {0}). done) (λ bytes. Ok tt)) is one)
 
 placed_lump : (entry : TextureEntry) (lump : ℕ) (patch : Option Patch) (placed : PlacedPatch) → option_map (place_patch entry lump) patch ≡ Some placed → placed.lump ≡ lump
 unfolding place_patch

@@ -26,8 +26,8 @@ use Rattle.art_rules.specs.Lookups.{column_lookups, lookup_of}
 use Rattle.art_rules.specs.Textures.{Texture, TextureLists, texture_at, unlisted}
 use Rattle.art_rules.specs.Wanted.{PreparedTexture, placed_patches, prepared, prepared_from, prepared_if, prepared_textures, texture_of, unless_missing, unless_too_big}
 use Rattle.patch_columns.specs.Seen.{seen_lookup, seen_lookups}
-use Rattle.texture_lists.specs.declared.fault.TexFault.{TexFault}
-use Rattle.texture_lists.specs.declared.fault.TexFault.TheVariants.{Refused}
+use Rattle.outside.specs.declared.fault.Fault.{Fault}
+use Rattle.outside.specs.declared.fault.Fault.TheVariants.{Refused}
 use Rattle.texture_lists.specs.declared.number.TexNo.{TexNo}
 use Rattle.texture_build.specs.Asked.{IsWantedPatch}
 use Rattle.texture_build.specs.Parts.{PatchesPart, or_missing, part_of}
@@ -98,7 +98,7 @@ texture_missing last bytes names number t width reason placed =
     ap (unless_missing bytes number t) missing.0 ∙ ap Err (sym missing.1)
 
 -- after a part that was passed, a step that is told by the bytes alone
-pub tells_bound : {A B C D : Type 0} {v w : ShelfView} {dir : DirectoryView} {a b : Heap} {wants some : ℕ → Type 0} {value : B → A} {first : D → C} {expected : (ℕ → List ℕ) → Result A TexRefusal} {before : (ℕ → List ℕ) → Result C TexRefusal} (part : Result D TexFault) (found : D) (reason : TexRefusal) (result : Result B TexFault) →
+pub tells_bound : {A B C D : Type 0} {v w : ShelfView} {dir : DirectoryView} {a b : Heap} {wants some : ℕ → Type 0} {value : B → A} {first : D → C} {expected : (ℕ → List ℕ) → Result A TexRefusal} {before : (ℕ → List ℕ) → Result C TexRefusal} (part : Result D (Fault TexRefusal)) (found : D) (reason : TexRefusal) (result : Result B (Fault TexRefusal)) →
     ReadsLumps itself v w dir a b some first before part → part ≡ Ok found → ((lump : ℕ) → some lump → wants lump) →
     ((bytes : ℕ → List ℕ) → before bytes ≡ Ok (first found) → IfOk result (λ got. expected bytes ≡ Ok (value got))) →
     IfErr result (λ fault. (fault ≡ Refused reason) × ((bytes : ℕ → List ℕ) → before bytes ≡ Ok (first found) → expected bytes ≡ Err reason)) →
@@ -188,7 +188,7 @@ unfolding prepared_textures
 from_all last bytes lists wanted k l = ap (prepared_from (prepared last bytes lists.names) wanted 0) (sym (take_all k lists.textures l))
 
 -- the same numbers are wanted
-pub tells_wanted : {B : Type 0} {v w : ShelfView} {dir : DirectoryView} {a b : Heap} {value : B → List (Option PreparedTexture)} (lists : TextureLists) (f g : ℕ → Bool) (result : Result B TexFault) → ((number : ℕ) → f number ≡ g number) →
+pub tells_wanted : {B : Type 0} {v w : ShelfView} {dir : DirectoryView} {a b : Heap} {value : B → List (Option PreparedTexture)} (lists : TextureLists) (f g : ℕ → Bool) (result : Result B (Fault TexRefusal)) → ((number : ℕ) → f number ≡ g number) →
     ReadsLumps itself v w dir a b (IsWantedPatch dir.lumps lists f) value (λ bytes. prepared_textures (last_of dir.lumps) bytes lists f) result →
     ReadsLumps itself v w dir a b (IsWantedPatch dir.lumps lists g) value (λ bytes. prepared_textures (last_of dir.lumps) bytes lists g) result
 tells_wanted {v} {w} {dir} {a} {b} {value} lists f g result same one =
@@ -196,7 +196,7 @@ tells_wanted {v} {w} {dir} {a} {b} {value} lists f g result same one =
     subst (λ (h : ℕ → Bool). ReadsLumps itself v w dir a b (IsWantedPatch dir.lumps lists h) value (λ bytes. prepared_textures (last_of dir.lumps) bytes lists h) result) all one
 
 -- the same lists
-pub tells_lists : {B : Type 0} {v w : ShelfView} {dir : DirectoryView} {a b : Heap} {value : B → List (Option PreparedTexture)} (before now : TextureLists) (wanted : ℕ → Bool) (result : Result B TexFault) → before ≡ now →
+pub tells_lists : {B : Type 0} {v w : ShelfView} {dir : DirectoryView} {a b : Heap} {value : B → List (Option PreparedTexture)} (before now : TextureLists) (wanted : ℕ → Bool) (result : Result B (Fault TexRefusal)) → before ≡ now →
     ReadsLumps itself v w dir a b (IsWantedPatch dir.lumps before wanted) value (λ bytes. prepared_textures (last_of dir.lumps) bytes before wanted) result →
     ReadsLumps itself v w dir a b (IsWantedPatch dir.lumps now wanted) value (λ bytes. prepared_textures (last_of dir.lumps) bytes now wanted) result
 tells_lists {v} {w} {dir} {a} {b} {value} before now wanted result same one =

@@ -10,7 +10,7 @@ ghost use Rattle.art_rules.specs.declared.refusal.TexRefusal.TheVariants.{TooBig
 ghost use Rattle.art_rules.specs.Textures.{texture_at};
 ghost use Rattle.art_rules.specs.Wanted.{prepared, prepared_if, prepared_textures, unless_too_big};
 ghost use Rattle.patch_columns.specs.Seen.{AreSeen, seen_lookups};
-ghost use Rattle.texture_lists.specs.declared.fault.TexFault.TheVariants.{Refused};
+ghost use Rattle.outside.specs.declared.fault.Fault.TheVariants.{Refused};
 ghost use Rattle.texture_build.specs.Asked.{IsWantedPatch};
 ghost use Rattle.texture_build.specs.Parts.{IsEntryPatch};
 ghost use Rattle.texture_build.specs.Views.{AreThere, IsListedAs, is_marked, is_wanted, prepared_at};

@@ -1,23 +1,18 @@
 -- Lumps that are fetched by name and then judged by their bytes.
-use Rattle.std.proofs.Common.{◌≡◌, ℕ, true, List, Option, Result, Ok, Err, refl, sym, ap, ◌∙◌, IsErrAnd, MatchResult, subst}
-use Rattle.std.specs.Prelude.{IfOk}
-use Rattle.std.proofs.lemmas.Result.{err_from_is_err_and}
+use Rattle.std.proofs.Common.{◌≡◌, ℕ, true, List, Option, Result, Ok, Err, refl, sym, ap, ◌∙◌, IsErrAnd}
 use Rattle.outside.specs.Shelf.{ShelfView}
 use Rattle.outside.specs.declared.fault.Fault.{Fault}
 use Rattle.outside.specs.declared.fault.Fault.TheVariants.{Refused, ReadFault, ZoneFull, OutOfMemory}
-use Rattle.outside.specs.Faults.{fault_above, ResultIs, itself}
+use Rattle.outside.specs.Faults.{ResultIs, itself}
 use Rattle.lump_rules.specs.Lookups.{last_of}
 use Rattle.lump_rules.specs.Contents.{lump_bytes, named_bytes}
 use Rattle.lump_rules.specs.Names.{name_of, filled}
 use Rattle.zone_rules.specs.Zones.{Heap}
 use Rattle.wad_dir.specs.DirectoryView.{DirectoryView}
 use Rattle.lump_rules.specs.declared.wad.LumpNo.{LumpNo}
-use Rattle.lump_cache.specs.declared.fault.CacheFault.{CacheFault}
-use Rattle.lump_cache.specs.declared.fault.CacheFault.TheVariants as cache
-use Rattle.lump_cache.specs.Caches.{cache_fault, from_cache}
 use Rattle.lump_cache.specs.Calls.{ReadsLumps, HoldContents}
 use Rattle.lump_cache.specs.Named.{IsLast}
-use Rattle.lump_cache.proofs.CallLemmas.{tells_stop_first, tells_short, tells_then_refused, tells_then_found, tells_above, result_above}
+use Rattle.lump_cache.proofs.CallLemmas.{tells_stop_first, tells_short, tells_then_refused, tells_then_found}
 use Rattle.art_rules.specs.declared.TheConstants.{PNAMES, TEXTURE1, TEXTURE2}
 use Rattle.art_rules.specs.declared.refusal.TexRefusal.{TexRefusal}
 use Rattle.texture_lists.specs.Asked.{lump_number}
@@ -35,33 +30,6 @@ texture1_name = refl
 pub texture2_name : name_of TEXTURE2 ≡ TEXTURE2
 unfolding filled
 texture2_name = refl
-
--- the cache refuses nothing, and its other faults are the same here
-no_refusal : ⊥ → TexRefusal
-no_refusal none = absurd none
-
-told_same : (below : CacheFault) → from_cache below ≡ fault_above no_refusal (cache_fault below)
-told_same (cache.ZoneFull wanted widest') = refl
-told_same cache.ReadFault = refl
-
-module _ {B : Type 0} where
-  -- what is told of a value that the cache gave
-  pub lifted_ok : (P : B → Type 0) (fetched : Result B CacheFault) (result : Result B (Fault TexRefusal)) →
-      MatchResult fetched (λ x. result ≡ Ok x) (λ e. IsErrAnd result (λ f. f ≡ from_cache e)) → IfOk fetched P → IfOk result P
-  lifted_ok P (Ok x) result is p = subst (λ (r : Result B (Fault TexRefusal)). IfOk r P) (sym is) p
-  lifted_ok P (Err e) result is p = subst (λ (r : Result B (Fault TexRefusal)). IfOk r P) (sym (err_from_is_err_and result is).1) tt
-
-  lifted_is : (fetched : Result B CacheFault) (result : Result B (Fault TexRefusal)) →
-      MatchResult fetched (λ x. result ≡ Ok x) (λ e. IsErrAnd result (λ f. f ≡ from_cache e)) → result ≡ result_above from_cache fetched
-  lifted_is (Ok x) result is = is
-  lifted_is (Err e) result is = let s = err_from_is_err_and result is in s.1 ∙ ap Err s.2
-
--- what is told of the call
-pub lifted_call : {v w : ShelfView} {dir : DirectoryView} {a b : Heap} {wants : ℕ → Type 0} {last : Option ℕ} (fetched : Result (Option LumpNo) CacheFault) (result : Result (Option LumpNo) (Fault TexRefusal)) →
-    MatchResult fetched (λ x. result ≡ Ok x) (λ e. IsErrAnd result (λ f. f ≡ from_cache e)) →
-    ReadsLumps cache_fault v w dir a b wants lump_number (λ bytes. Ok last) fetched → ReadsLumps itself v w dir a b wants lump_number (λ bytes. Ok last) result
-lifted_call {v} {w} {dir} {a} {b} {wants} {last} fetched result is one =
-    subst (ReadsLumps itself v w dir a b wants lump_number (λ bytes. Ok last)) (sym (lifted_is fetched result is)) (tells_above no_refusal from_cache told_same fetched one)
 
 -- a call that ends with what reads nothing
 pub tells_end : {A B C D : Type 0} {v w : ShelfView} {dir : DirectoryView} {a b : Heap} {wants some : ℕ → Type 0} {value : B → A} {first : D → C} {before : (ℕ → List ℕ) → Result C TexRefusal} {found : D} (expected : (ℕ → List ℕ) → Result A TexRefusal) (result : Result B (Fault TexRefusal)) →

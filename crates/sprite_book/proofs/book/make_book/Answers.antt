@@ -1,5 +1,5 @@
 use Rattle.std.proofs.Common.{Ok, sym, ap, ◌∙◌, refl}
-use Rattle.sprite_book.specs.declared.fault.SpriteFault.TheVariants.{OutOfMemory}
+use Rattle.outside.specs.declared.fault.Fault.TheVariants.{OutOfMemory}
 use Rattle.art_rules.specs.Books.{each_of, frame_of, first_needs}
 use Rattle.lump_cache.proofs.CallLemmas.{tells_memory, tells_same, tells_short, tells_stop_first, tells_as}
 use Rattle.sprite_book.proofs.book.make_book.Goals as goal

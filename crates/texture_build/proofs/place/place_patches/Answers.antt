@@ -9,7 +9,7 @@ use Rattle.art_rules.specs.declared.TextureEntry.{TextureEntry}
 use Rattle.art_rules.specs.Wanted.{placed_patches}
 use Rattle.patch_columns.specs.Seen.{AreSeen}
 use Rattle.patch_columns.proofs.AnyBytesLemmas.{seen_all}
-use Rattle.texture_lists.specs.declared.fault.TexFault.TheVariants.{OutOfMemory}
+use Rattle.outside.specs.declared.fault.Fault.TheVariants.{OutOfMemory}
 use Rattle.texture_build.specs.Parts.{IsEntryPatch, PatchesPart, or_missing, part_of}
 use Rattle.texture_build.proofs.PlaceLemmas.{part_none, part_push, part_stop}
 use Rattle.texture_build.proofs.place.place_patches.Goals as goal

@@ -7,7 +7,7 @@ use Rattle.lump_rules.specs.Lookups.{last_of}
 use Rattle.lump_cache.proofs.CallLemmas.{tells_as, tells_known, tells_more, tells_same, tells_short, tells_stop}
 use Rattle.art_rules.specs.Textures.{texture_at, unlisted}
 use Rattle.art_rules.specs.Wanted.{PreparedTexture, prepared, prepared_from, prepared_textures}
-use Rattle.texture_lists.specs.declared.fault.TexFault.TheVariants.{OutOfMemory}
+use Rattle.outside.specs.declared.fault.Fault.TheVariants.{OutOfMemory}
 use Rattle.texture_build.specs.Asked.{IsWantedPatch}
 use Rattle.texture_build.specs.Views.{AreThere, IsListedAs, is_marked, prepared_at}
 use Rattle.texture_build.proofs.PrepareLemmas.{count_marked, from_all, from_none, from_push, from_stop, from_textures, listed_none, listed_push}

@@ -4,7 +4,7 @@ use Rattle.std.proofs.lemmas.List.{length-map}
 use Rattle.lump_cache.proofs.CallLemmas.{tells_more, tells_nothing, tells_same, tells_short, tells_stop_first}
 use Rattle.lump_rules.specs.Lookups.{last_of}
 use Rattle.art_rules.specs.Wanted.{prepared_textures}
-use Rattle.texture_lists.specs.declared.fault.TexFault.TheVariants.{OutOfMemory}
+use Rattle.outside.specs.declared.fault.Fault.TheVariants.{OutOfMemory}
 use Rattle.texture_lists.specs.declared.number.TexNo.{TexNo}
 use Rattle.texture_build.specs.Views.{is_marked, is_wanted, prepared_at}
 use Rattle.texture_build.proofs.PrepareLemmas.{tells_wanted, wanted_prepared}

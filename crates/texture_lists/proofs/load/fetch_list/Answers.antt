@@ -1,8 +1,8 @@
-use Rattle.texture_lists.proofs.JudgeLemmas.{lifted_call, lifted_ok}
+use Rattle.lump_cache.proofs.LiftLemmas.{lifted_ok, lifted_reads}
 use Rattle.texture_lists.proofs.load.fetch_list.Goals as goal
 
 pub returns-clause-tells : goal.returns-clause-tells
-returns-clause-tells g c = lifted_call c.fetch_named.result c.map_err.result c.map_err.ensures.cases c.fetch_named.ensures.tells
+returns-clause-tells g c = lifted_reads _ c.fetch_named.result c.map_err.result c.map_err.ensures.cases c.fetch_named.ensures.tells
 
 pub returns-clause-last : goal.returns-clause-last
 returns-clause-last g c = lifted_ok _ c.fetch_named.result c.map_err.result c.map_err.ensures.cases c.fetch_named.ensures.found
