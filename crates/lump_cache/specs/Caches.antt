@@ -100,16 +100,15 @@ released_heap o z (Some h) = with_tag_unless_static o Cache z
 abbrev pub release_heap : Owner → Heap → Heap
 release_heap o z = released_heap o z (holding_of o z.blocks)
 
--- what is said of an answer that the zone is full
-abbrev pub WhereFull : {A : Type 0} → Result A CacheFault → (ℕ → ℕ → Type 0) → Type 0
-WhereFull (Ok value) P = ⊤
-WhereFull (Err (ZoneFull wanted widest)) P = P wanted widest
-WhereFull (Err ReadFault) P = ⊤
+-- what is said of each answer of a call: Ok, no room, and a read that failed
+abbrev pub MatchAnswer : {A : Type 0} → Result A CacheFault → Type 0 → (ℕ → ℕ → Type 0) → Type 0 → Type 0
+MatchAnswer (Ok value) ok full read = ok
+MatchAnswer (Err (ZoneFull wanted widest)) ok full read = full wanted widest
+MatchAnswer (Err ReadFault) ok full read = read
 
-abbrev pub is_full : {A : Type 0} → Result A CacheFault → Bool
-is_full (Ok value) = false
-is_full (Err (ZoneFull wanted widest)) = true
-is_full (Err ReadFault) = false
+-- what is said only of the answer that the zone is full
+abbrev pub WhereFull : {A : Type 0} → Result A CacheFault → (ℕ → ℕ → Type 0) → Type 0
+WhereFull result P = MatchAnswer result ⊤ P ⊤
 
 -- a block was taken and given back
 pub record GivesBack (old new : Heap) (o : Owner) (size : ℕ) (tag : Tag) : Type 0 where
@@ -117,13 +116,7 @@ pub record GivesBack (old new : Heap) (o : Owner) (size : ℕ) (tag : Tag) : Typ
   pub takes : TakesBlock old between o size tag
   pub freed : new ≡ without_block o between
 
--- what is left by either fault
-abbrev pub LeftBy : {A : Type 0} → Result A CacheFault → Type 0 → Type 0 → Type 0
-LeftBy (Ok value) full read = ⊤
-LeftBy (Err (ZoneFull wanted widest)) full read = full
-LeftBy (Err ReadFault) full read = read
-
--- no gap holds the block of so many bytes
+-- no gap holds a block for `size` bytes; its size and the widest gap's are reported
 pub record NoRoom (size : ℕ) (z : Heap) (wanted widest' : ℕ) : Type 0 where
   pub wanted_is : wanted ≡ block_size size
   pub widest_is : widest' ≡ widest (gaps z.blocks)

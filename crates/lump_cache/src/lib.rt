@@ -13,7 +13,9 @@ mod fault;
 mod fetch;
 #[cfg(test)]
 mod fetch_tests;
+mod fetching;
 mod read;
+mod tags;
 #[cfg(test)]
 mod tests;
 
