@@ -1,5 +1,5 @@
 -- What follows of the fetch of a lump.
-use Rattle.std.proofs.Common.{◌≡◌, ℕ, ◌+◌, ◌*◌, ◌<◌, ◌≤◌, Bool, true, false, cond, List, [], ◌∷◌, length, Option, Some, None, Result, Ok, Err, refl, sym, subst, ap, ◌∙◌, arith, inl, inr, ◌⊎◌, option_map, MatchResult}
+use Rattle.std.proofs.Common.{◌≡◌, ℕ, ◌+◌, ◌*◌, ◌<◌, ◌≤◌, true, false, List, [], ◌∷◌, length, Option, Some, None, Result, Ok, Err, refl, sym, subst, ap, ◌∙◌, arith, inl, inr, ◌⊎◌, option_map, MatchResult}
 use Rattle.std.specs.Prelude.{IfErr, IfSome, IsSome, IsNone, OnOk, ⊤}
 use Rattle.std.proofs.lemmas.Bool.{cases_lt}
 use Rattle.outside.specs.Shelf.{ShelfView, NameFiles, counted}
@@ -9,17 +9,16 @@ use Rattle.zone_rules.specs.declared.TheConstants.{MIN_FRAGMENT}
 use Rattle.zone_rules.specs.Zones.{Owner, Holding, Block, Heap, IsLive, holding_of, owned_block, bytes_of, block_size, same_owner}
 use Rattle.zone_rules.specs.Requests.{TakesBlock, without_room}
 use Rattle.zone_rules.specs.Frees.{without_block}
-use Rattle.zone_rules.specs.Orders.{Item, has_item, lump_size, IsInOrder, KeepsOrder}
+use Rattle.zone_rules.specs.Orders.{Item, has_item, IsInOrder, KeepsOrder}
 use Rattle.zone_rules.proofs.GapLemmas.{small_all}
 use Rattle.zone_rules.proofs.OrderLemmas.{order_has_room, order_taken}
-use Rattle.zone_rules.proofs.OrderSumLemmas.{item}
 use Rattle.lump_rules.specs.Lookups.{lump_at}
 use Rattle.lump_rules.specs.Contents.{lump_bytes}
 use Rattle.wad_dir.specs.DirectoryView.{DirectoryView}
 use Rattle.lump_cache.specs.declared.fault.CacheFault.{CacheFault}
 use Rattle.lump_cache.specs.declared.fault.CacheFault.TheVariants.{ZoneFull, ReadFault}
 use Rattle.lump_cache.specs.Caches.{IsFaithful, IsAtRest, IsAtRestExcept, IsEmpty, IsPinned, IsUnpinned, KeepsCounts, MatchAnswer, WhereFull, NoRoom, GivesBack, HasAsked, HasBlock, KeptOrPurged, cache_fault, composite_owner, is_static_tag, lump_owner, with_tag_unless_static}
-use Rattle.lump_cache.specs.Calls.{IsFullFor, IfFull, InOrderAt, PreservesCache, ReadsLumps}
+use Rattle.lump_cache.specs.Calls.{IsFullFor, IfFull, InOrderAt, ReadsLumps}
 use Rattle.lump_cache.specs.Fetches.{FetchesLump}
 use Rattle.lump_cache.specs.Sizes.{HasSizes}
 use Rattle.lump_cache.proofs.AnswerLemmas.{answer_all, answer_at, answer_both, answer_map, answer_ok, none_is, where_full}

@@ -1,5 +1,5 @@
 -- What a fetch does for an empty slot, by what its request for a block and its read did.
-use Rattle.std.proofs.Common.{◌≡◌, ℕ, ◌<◌, false, true, List, None, Result, Ok, Err, refl, sym, ap, ◌∙◌, inl}
+use Rattle.std.proofs.Common.{◌≡◌, ℕ, ◌<◌, false, List, None, Ok, Err, refl, sym, ap, ◌∙◌, inl}
 use Rattle.std.specs.Prelude.{All, IfSome, IsNone, IsTrue}
 use Rattle.std.proofs.lemmas.Bool.{false≢true}
 use Rattle.outside.specs.Causes.{FaultsRose}

@@ -1,5 +1,5 @@
 -- What follows of a release, of a lump or of a composite.
-use Rattle.std.proofs.Common.{◌≡◌, ℕ, Bool, true, false, cond, List, ◌∷◌, Option, Some, None, refl, sym, subst, ap, ◌∙◌}
+use Rattle.std.proofs.Common.{◌≡◌, ℕ, false, List, ◌∷◌, Option, Some, None, refl, sym, subst, ap, ◌∙◌}
 use Rattle.lump_rules.specs.declared.wad.Lump.{Lump}
 use Rattle.zone_rules.specs.declared.Tag.TheVariants.{Cache}
 use Rattle.zone_rules.specs.Zones.{Owner, Holding, Heap, holding_of, owned_block, same_owner}

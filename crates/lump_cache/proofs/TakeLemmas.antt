@@ -1,6 +1,6 @@
 -- What follows of a request for a block.
-use Rattle.std.proofs.Common.{◌≡◌, ℕ, ◌+◌, ◌*◌, ◌<◌, false, true, List, [], ◌∷◌, None, Result, Ok, Err, refl, sym, subst, ◌∙◌, arith}
-use Rattle.std.specs.Prelude.{IfErr, IsErr, IsOk, OnOk, OnErr}
+use Rattle.std.proofs.Common.{◌≡◌, ℕ, ◌+◌, ◌*◌, ◌<◌, false, true, List, [], ◌∷◌, Result, Ok, Err, refl, sym, subst, arith}
+use Rattle.std.specs.Prelude.{IfErr, IsOk, OnOk, OnErr}
 use Rattle.lump_rules.specs.declared.wad.Lump.{Lump}
 use Rattle.zone_rules.specs.declared.Tag.{Tag}
 use Rattle.zone_rules.specs.declared.TheConstants.{MIN_FRAGMENT}
@@ -8,7 +8,7 @@ use Rattle.zone_rules.specs.Zones.{Owner, Heap, IsLive, owned_block, block_size,
 use Rattle.zone_rules.specs.Requests.{TakesBlock, without_room, block_left, passed_blocks, stretches}
 use Rattle.zone_rules.specs.Orders.{Item, has_item, IsInOrder, KeepsOrder}
 use Rattle.zone_heap.specs.declared.zone.ZoneFull.{ZoneFull}
-use Rattle.lump_cache.specs.Caches.{IsFaithful, IsAtRest, IsAtRestExcept, IsEmpty, IsPinned, IsUnpinned, KeepsCounts, KeptOrPurged, HasAsked, HasBlock, NoRoom, is_static_tag, lump_owner}
+use Rattle.lump_cache.specs.Caches.{IsFaithful, IsAtRest, IsAtRestExcept, IsEmpty, IsPinned, IsUnpinned, KeepsCounts, KeptOrPurged, HasAsked, HasBlock, is_static_tag, lump_owner}
 use Rattle.lump_cache.specs.Fetches.{RequestsBlock}
 use Rattle.lump_cache.proofs.FillLemmas.{kept_along, left_kept, on_err, on_ok, takes_use, use_live}
 use Rattle.lump_cache.proofs.OrderLemmas.{order_answer}

@@ -1,6 +1,6 @@
 -- What a request for a block and the fetch of a lump do to a cache, and the fetch to the shelf. What
 -- follows of either is in `proofs/TakeLemmas` and `proofs/FetchLemmas`.
-use Rattle.std.specs.Prelude.{◌≡◌, ℕ, ◌<◌, ◌↔◌, false, List, Option, None, IfSome, IfErr, IsNone, IsErr, OnOk, OnErr, Result, Ok, All, ⊤}
+use Rattle.std.specs.Prelude.{◌≡◌, ℕ, ◌<◌, ◌↔◌, false, List, None, IfSome, IfErr, IsNone, IsErr, OnOk, OnErr, Result, Ok, All, ⊤}
 use Rattle.outside.specs.Shelf.{ShelfView, IsLaterShelf, NameFiles, counted}
 use Rattle.outside.specs.Faults.{ResultIs, HasCauses}
 use Rattle.lump_rules.specs.Lookups.{lump_at}

@@ -1,19 +1,17 @@
-use Rattle.std.proofs.Common.{◌≡◌, ◌∙◌, ◌+◌, ◌<◌, ◌≤◌, ap, sym, subst, ℕ, List, length, Option, Result, Err, true, false, refl, arith, inl, inr}
-use Rattle.std.specs.Prelude.{All, IfSome, IsTrue, ◌⊎◌}
+use Rattle.std.proofs.Common.{◌≡◌, ◌∙◌, ◌+◌, ◌<◌, ◌≤◌, ap, sym, subst, ℕ, List, length, Option, Err, true, false, refl, arith, inl, inr}
+use Rattle.std.specs.Prelude.{All, IfSome, ◌⊎◌}
 use Rattle.std.proofs.lemmas.Bool.{false≢true, cases_lt}
 use Rattle.std.proofs.lemmas.Result.{err_from_is_err_and}
 use Rattle.outside.specs.Shelf.{NameFiles, counted}
 use Rattle.outside.proofs.ShelfLemmas.{follows_none}
 use Rattle.lump_rules.specs.Lookups.{lump_at, no_lump}
-use Rattle.lump_rules.specs.Contents.{AllWithin, LiesWithin, file_bytes, lump_bytes}
+use Rattle.lump_rules.specs.Contents.{AllWithin, LiesWithin, file_bytes}
 use Rattle.zone_rules.specs.Zones.{Owner, Block, Heap, owner_at, owned_block, bytes_of, same_owner, block_size}
 use Rattle.zone_rules.specs.Requests.{TakesBlock, block_left, gaps, total, without_room}
 use Rattle.zone_rules.specs.Frees.{without_block}
-use Rattle.lump_cache.specs.declared.fault.CacheFault.{CacheFault}
-use Rattle.lump_cache.specs.declared.fault.CacheFault.TheVariants.{ZoneFull}
-use Rattle.lump_cache.specs.Caches.{GivesBack, KeptOrPurged, lump_owner}
+use Rattle.lump_cache.specs.Caches.{KeptOrPurged, lump_owner}
 use Rattle.lump_cache.specs.Fetches.{FetchesLump}
-use Rattle.lump_cache.proofs.FillLemmas.{filled_takes, written_is, written_len, written_bytes, left_kept, filled_others, filled_sound, written_use, use_live}
+use Rattle.lump_cache.proofs.FillLemmas.{filled_takes, written_len, written_bytes, left_kept, filled_others, filled_sound, written_use, use_live}
 use Rattle.lump_cache.proofs.FaithLemmas.{bytes_in, some_bytes, file_stands, filled_lump, nothing_is_lump}
 use Rattle.lump_cache.proofs.MissLemmas.{miss_full, miss_ok, miss_read}
 use Rattle.lump_cache.proofs.fetching.take_and_read.Given.{Over}

@@ -14,4 +14,4 @@ pub returns-clause-live : goal.returns-clause-live
 returns-clause-live g c =
     let k = c.pair.ensures.called in
     let o = composite_owner c.args.number in
-    write_live o k.w c.args.self.now (k.zone ∙ ap₂ (λ n (z : Heap). with_bytes (owner_at 1 n) k.w z) c.composite_slot.ensures c.self.view_is) o c.requires.live
+    write_live o k.w c.args.self.now {new = c.pair.new.self} (k.zone ∙ ap₂ (λ n (z : Heap). with_bytes (owner_at 1 n) k.w z) c.composite_slot.ensures c.self.view_is) o c.requires.live

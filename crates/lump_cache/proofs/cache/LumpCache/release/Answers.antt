@@ -1,4 +1,4 @@
-use Rattle.std.proofs.Common.{◌≡◌, ◌∙◌, ap}
+use Rattle.std.proofs.Common.{◌∙◌, ap}
 use Rattle.zone_rules.specs.Zones.{owner_at}
 use Rattle.lump_cache.specs.Caches.{release_heap, lump_owner}
 use Rattle.lump_cache.proofs.ReleaseLemmas.{release_counts}
