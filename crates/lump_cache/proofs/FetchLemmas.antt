@@ -150,9 +150,9 @@ module _ {dir : DirectoryView} {lump : ℕ} {tag : Tag} {view after : ShelfView}
   pub fetch_first : tag ≡ Static → IsEmpty old → OnOk result (IsAtRest lump size new)
   fetch_first static none =
       on_ok result (λ takes.
-        let t = takes (rw (none owner) refl) in
-        first_at_rest lump size tag old new new f.sound static none t _ t.block refl (static, refl)
-        (λ o apart. kept_unpinned (owned_block o old.blocks) (owned_block o new.blocks) (f.others o apart) (subst IsUnpinned (sym (none o)) tt))) fetch_takes
+      let t = takes (rw (none owner) refl) in
+      first_at_rest lump size tag old new new f.sound static none t _ t.block refl (static, refl)
+      (λ o apart. kept_unpinned (owned_block o old.blocks) (owned_block o new.blocks) (f.others o apart) (subst IsUnpinned (sym (none o)) tt))) fetch_takes
 
   -- with the tag `Static` the lump is pinned for the whole run, whatever was live before
   pub fetch_static : tag ≡ Static → OnOk result (option_map (λ (h : Holding). h.tag) (holding_of owner new.blocks) ≡ Some Static)

@@ -1,5 +1,5 @@
--- The room of a zone where one block beside the colormap's is pinned: what no gap of it holds has no
--- place before that block, and none behind it.
+-- The room of a zone where one block beside the colormap's is pinned: what no gap of it holds has
+-- no place before that block, and none behind it.
 use Rattle.std.proofs.Common.{◌≡◌, ℕ, ◌+◌, ◌*◌, ◌<◌, Bool, true, false, not, List, [], ◌∷◌, ◌++◌, Option, Some, None, refl, sym, subst, ap, ◌∙◌, arith}
 use Rattle.std.proofs.lemmas.Bool.{cond-true, cond-false, or_from}
 use Rattle.std.proofs.lemmas.List.Sums.{sum_by-append}
@@ -77,8 +77,8 @@ module _ (colormap size : ℕ) (o : Owner) (asked : ℕ) (z : Heap) (rest : IsAt
     go true e = subst IsUnpinned (sym (none_owned q r.rest (subst (λ (p : Owner). Lacks p r.rest) (owner_eq (lump_owner colormap) q e) r.lacks))) tt
     go false e = subst IsUnpinned (r.owned q e) (rest.others q e (or_from (same_owner q o) false (owner_turned o q h) refl))
 
-  -- where no gap of it holds a block, the zone is smaller than both pinned blocks, that block twice, and the
-  -- most that both may have too much
+  -- where no gap of it holds a block, the zone is smaller than both pinned blocks, that block
+  -- twice, and the most that both may have too much
   pub rest_but_room : (w : ℕ) → 0 < w → HasAsked asked (owned_block o z.blocks) → IsSound z → AllSmall w (gaps z.blocks) → z.size < block_size size + block_size asked + 2 * w + 128
   rest_but_room w some has sound small =
       let r = behind (lump_owner colormap) size z rest.block rest.place rest.static sound rest.is in

@@ -144,8 +144,8 @@ module _ (o : Owner) (size : ℕ) (z : Heap) (block : Block) (place : block.plac
   pub behind : IsSound z → owned_block o z.blocks ≡ Some block → Behind o size z
   behind sound e = behind_of z.blocks refl sound.tiles sound.unique sound.fits e
 
--- a zone at rest of which no gap holds a block is smaller than the colormap's block, that block, and the
--- most that a block may have too much
+-- a zone at rest of which no gap holds a block is smaller than the colormap's block, that block,
+-- and the most that a block may have too much
 pub rest_room : (colormap size w : ℕ) (z : Heap) → IsAtRest colormap size z → 0 < w → IsSound z → AllSmall w (gaps z.blocks) → z.size < block_size size + w + 64
 rest_room colormap size w z rest some sound small =
     let o = lump_owner colormap in

@@ -1,7 +1,8 @@
 // The cache and its calls.
 //
-// Rules: `specs/Caches` and `specs/Fetches`, over `zone_rules`. What follows of a call's clauses is in
-// `proofs`: FetchLemmas, TakeLemmas, ReleaseLemmas, WriteLemmas and DropLemmas. The original: w_wad.c.
+// Rules: `specs/Caches` and `specs/Fetches`, over `zone_rules`. The laws that follow from the
+// clauses of a call are in `proofs`: FetchLemmas, TakeLemmas, ReleaseLemmas, WriteLemmas and
+// DropLemmas. The original: w_wad.c.
 ghost use Rattle.std.specs.Prelude.{◌≡◌, ◌<◌, ◌≤◌, ◌+◌, ◌↔◌, ℕ, List, length, true, false, Err, Some, None, All, IfOk, IfSome, IsErr, OnOk, IsNone, ⊤};
 ghost use Rattle.std.specs.Option.{option_copied};
 ghost use Rattle.std.specs.Borrow.{sem};
@@ -55,8 +56,9 @@ impl Model for LumpCache {
 impl LumpCache {
     ghost use Rattle.lump_cache.specs.Lending.{LendsBytes};
 
-    /// A cache over a zone of `size` bytes, with a slot for each lump of the directory and so many
-    /// for composites. No slot is live, and it is in order for each list that the zone has room for.
+    /// A cache over a zone of `size` bytes, with a slot for each lump of the directory and
+    /// `composites` slots for composites. No slot is live. The cache is in order for each list of
+    /// items that the zone has room for.
     ///
     /// Errors: `BadSize` exactly where the zone's size is refused; it comes first. `OutOfMemory`.
     pub fn new(
@@ -70,7 +72,8 @@ impl LumpCache {
         ensures bad { (result ≡ Err ZoneMake.BadSize) ↔ (¬ IsZoneSize size) }
         ensures fresh { IfOk result (λ cache. cache ≡ fresh_heap size (length dir.now.lumps) composites) }
         ensures empty { IfOk result IsEmpty }
-        ensures faithful { (contents : List (List ℕ)) (lumps : List Lump) → IfOk result (IsFaithful contents lumps) }
+        ensures faithful { (contents : List (List ℕ)) (lumps : List Lump) →
+            IfOk result (IsFaithful contents lumps) }
         ensures order { (items : List Item) → AreRoomy size items → IfOk result (IsInOrder items) }
     {
         match Zone::new(alloc, size, dir.count(), composites) {
@@ -88,37 +91,36 @@ impl LumpCache {
 
     /// The bytes of a lump, or None exactly where it is not live.
     ///
-    /// A zone at rest has room for a block of the colormap's size and one of as many bytes as are
-    /// lent, unless the lump is the colormap.
+    /// A zone at rest is large enough for a block of the colormap's size and one for the bytes that
+    /// are lent, unless the lump is the colormap.
     #[inline(always)]
     pub fn bytes(&self, lump: LumpNo) -> Option<&[u8]>
         requires { lump.0 < self.now.lumps }
         ensures value { option_copied result ≡ bytes_of (lump_owner lump.0) self.now.blocks }
-        ensures fits {
-            (colormap count : ℕ) → IsAtRest colormap count self.now →
+        ensures fits { (colormap count : ℕ) → IsAtRest colormap count self.now →
             same_owner (lump_owner colormap) (lump_owner lump.0) ≡ false →
             IfSome (option_copied result) (λ bytes.
-                block_size count + block_size (length bytes) ≤ self.now.size)
-        }
+            block_size count + block_size (length bytes) ≤ self.now.size) }
     {
         self.zone.bytes(lump_slot(lump))
     }
 
     /// Makes a lump live. A live slot keeps its block, of which only the tag changes, unless it is
-    /// `Static`. For an empty slot a block of the lump's size is taken and the lump is read into it.
-    /// Takes no memory.
+    /// `Static`. For an empty slot a block of the lump's size is taken and the lump is read into
+    /// it. Takes no memory.
     ///
-    /// Errors: `ZoneFull` exactly where the slot is empty and no gap holds the block. `ReadFault` only
-    /// where the shelf's count of faults rose, and never over a steady shelf with the files that the
-    /// directory was loaded from. After either error the slot is empty, and every pinned block stands.
+    /// Errors: `ZoneFull` exactly where the slot is empty and no gap holds the block. `ReadFault`
+    /// only where the shelf's count of faults rose, and never over a steady shelf with the files
+    /// that the directory was loaded from. After either error the slot is empty, and every pinned
+    /// block stands.
     ///
-    /// A zone that was full is small. If no slot was live, it has fewer bytes than the wanted block. If
-    /// it was at rest, it has fewer than a block for the colormap, the wanted block and `MIN_FRAGMENT`.
-    /// If one more block may have been pinned, as that of a composite, it has fewer than a block for
-    /// each of the two, twice the wanted block and twice `MIN_FRAGMENT`.
+    /// A zone that was full is small. If no slot was live, it has fewer bytes than the wanted
+    /// block. If it was at rest, it has fewer than a block for the colormap, the wanted block and
+    /// `MIN_FRAGMENT`. If one more block may have been pinned, as that of a composite, it has fewer
+    /// than a block for each of the two, twice the wanted block and twice `MIN_FRAGMENT`.
     ///
-    /// If the cache is in order for a list that has the lump, the zone is not full, no slot is emptied,
-    /// and the cache is in order after Ok.
+    /// If the cache is in order for a list that has the lump, the zone is not full, no slot is
+    /// emptied, and the cache is in order after Ok.
     ///
     /// `fetches` is the whole relation; the other clauses follow from it, as do the laws named
     /// `fetch_..` in `proofs/FetchLemmas`.
@@ -133,31 +135,23 @@ impl LumpCache {
     ) -> Result<(), CacheFault>
         requires in_range { lump.0 < self.old.lumps }
         requires listed { lump.0 < length dir.now.lumps }
-        ensures fetches {
-            FetchesLump dir.now lump.0 tag (S.view shelf.old) (S.view shelf.new)
-                self.old self.new result
-        }
+        ensures fetches { FetchesLump dir.now lump.0 tag (S.view shelf.old) (S.view shelf.new)
+            self.old self.new result }
         ensures hit { IsLive self.old (lump_owner lump.0) → shelf.new ≡ shelf.old }
         ensures untouched { (lump_at dir.now.lumps lump.0).size ≡ 0 → shelf.new ≡ shelf.old }
         ensures live { OnOk result (IsLive self.new (lump_owner lump.0)) }
         ensures counts { KeepsCounts self.old self.new }
-        ensures faithful {
-            (contents : List (List ℕ)) → NameFiles (S.view shelf.old) dir.now.files contents →
-            IsFaithful contents dir.now.lumps self.old → IsFaithful contents dir.now.lumps self.new
-        }
-        ensures rest {
-            (colormap count : ℕ) → tag ≡ Cache →
-            IsAtRest colormap count self.old → IsAtRest colormap count self.new
-        }
-        ensures order {
-            (items : List Item) →
+        ensures faithful { (contents : List (List ℕ)) → NameFiles (S.view shelf.old) dir.now.files contents →
+            IsFaithful contents dir.now.lumps self.old → IsFaithful contents dir.now.lumps self.new }
+        ensures rest { (colormap count : ℕ) → tag ≡ Cache →
+            IsAtRest colormap count self.old → IsAtRest colormap count self.new }
+        ensures order { (items : List Item) →
             has_item items (lump_owner lump.0) (lump_at dir.now.lumps lump.0).size ≡ true →
             IsInOrder items self.old →
             MatchAnswer result
-                (KeepsOrder items self.old self.new
-                    (S.view shelf.old).taken (S.view shelf.new).taken)
-                (λ wanted widest. ⊥) ⊤
-        }
+            (KeepsOrder items self.old self.new
+            (S.view shelf.old).taken (S.view shelf.new).taken)
+            (λ wanted widest. ⊥) ⊤ }
     {
         fetch_lump(&mut self.zone, shelf, dir, lump, tag)
     }
@@ -176,19 +170,15 @@ impl LumpCache {
     /// Takes a pinned block of `size` bytes for an empty composite.
     ///
     /// Errors: `ZoneFull` exactly where no gap holds the block. It does not come where the cache is
-    /// in order for a list that has the composite with that size. A zone that was at rest and full has
-    /// fewer bytes than a block for the colormap, the wanted block and `MIN_FRAGMENT`.
+    /// in order for a list that has the composite with that size. A zone that was at rest and full
+    /// has fewer bytes than a block for the colormap, the wanted block and `MIN_FRAGMENT`.
     ///
     /// What follows: the laws named `take_..` in `proofs/TakeLemmas`.
     pub fn take_composite(&mut self, number: u32, size: u32) -> Result<(), ZoneFull>
         requires in_range { number < self.old.composites }
         requires empty { IsNone (holding_of (composite_owner number) self.old.blocks) }
-        ensures requests {
-            RequestsBlock (composite_owner number) size Level self.old self.new result
-        }
-        ensures full {
-            IsErr result ↔ All (λ g. total g < block_size size) (gaps self.old.blocks)
-        }
+        ensures requests { RequestsBlock (composite_owner number) size Level self.old self.new result }
+        ensures full { IsErr result ↔ All (λ g. total g < block_size size) (gaps self.old.blocks) }
         ensures live { OnOk result (IsLive self.new (composite_owner number)) }
         ensures counts { KeepsCounts self.old self.new }
     {
@@ -197,48 +187,41 @@ impl LumpCache {
 
     /// The bytes of a composite, or None exactly where it is not live.
     ///
-    /// A zone at rest has room for a block of the colormap's size and one of as many bytes as are
-    /// lent.
+    /// A zone at rest is large enough for a block of the colormap's size and one for the bytes that
+    /// are lent.
     #[inline(always)]
     pub fn composite(&self, number: u32) -> Option<&[u8]>
         requires { number < self.now.composites }
-        ensures value {
-            option_copied result ≡ bytes_of (composite_owner number) self.now.blocks
-        }
-        ensures fits {
-            (colormap count : ℕ) → IsAtRest colormap count self.now →
+        ensures value { option_copied result ≡ bytes_of (composite_owner number) self.now.blocks }
+        ensures fits { (colormap count : ℕ) → IsAtRest colormap count self.now →
             IfSome (option_copied result) (λ bytes.
-                block_size count + block_size (length bytes) ≤ self.now.size)
-        }
+            block_size count + block_size (length bytes) ≤ self.now.size) }
     {
         self.zone.bytes(composite_slot(number))
     }
 
     /// The bytes of a live composite, to be written. The slice keeps its length.
     ///
-    /// `written` holds for whatever is written. What the cache keeps once the bytes are given back: the
-    /// laws named `write_..` in `proofs/WriteLemmas`.
+    /// `written` holds for whatever is written. What the cache keeps once the bytes are given back:
+    /// the laws named `write_..` in `proofs/WriteLemmas`.
     pub fn composite_mut(&mut self, number: u32) -> &mut [u8]
         requires in_range { number < self.old.composites }
         requires live { IsLive self.old (composite_owner number) }
         ensures* lends { sem 𝓛 (LendsBytes self.entry (composite_owner number) result) }
         ensures value { bytes_of (composite_owner number) self.old.blocks ≡ Some result.now }
-        ensures written {
-            (w : List ℕ) → length w ≡ length result.now →
+        ensures written { (w : List ℕ) → length w ≡ length result.now →
             after_loan (composite_owner number) w self.old
-            ≡ with_bytes (composite_owner number) w self.old
-        }
-        ensures counts {
-            (w : List ℕ) → KeepsCounts self.old (after_loan (composite_owner number) w self.old)
-        }
+            ≡ with_bytes (composite_owner number) w self.old }
+        ensures counts { (w : List ℕ) → KeepsCounts self.old (after_loan (composite_owner number) w self.old) }
     {
         self.zone.bytes_mut(composite_slot(number))
     }
 
-    /// Calls `f` with the bytes of a live lump and with those of a live composite, which it may write,
-    /// and returns what `f` returned.
+    /// Calls `f` with the bytes of a live lump and with those of a live composite, which it may
+    /// write, and returns what `f` returned.
     ///
-    /// What the cache keeps: the laws named `write_..` in `proofs/WriteLemmas`, by `called`'s `zone`.
+    /// What the cache keeps: the laws named `write_..` in `proofs/WriteLemmas`, by `called`'s
+    /// `zone`.
     pub fn lump_and_composite<R, F: FnOnce(&[u8], &mut [u8]) -> R>(
         &mut self,
         lump: LumpNo,
@@ -250,10 +233,8 @@ impl LumpCache {
         requires in_range { number < self.old.composites }
         requires lump_live { IsLive self.old (lump_owner lump.0) }
         requires live { IsLive self.old (composite_owner number) }
-        ensures called {
-            PairCalled F.FnOnce f (lump_owner lump.0) (composite_owner number)
-                self.old self.new result
-        }
+        ensures called { PairCalled F.FnOnce f (lump_owner lump.0) (composite_owner number)
+            self.old self.new result }
         ensures live { IsLive self.new (composite_owner number) }
         ensures counts { KeepsCounts self.old self.new }
     {

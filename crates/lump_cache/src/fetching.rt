@@ -26,9 +26,8 @@ fn take_and_read<S: Shelf>(
     requires listed { lump.0 < length dir.now.lumps }
     requires empty { IsNone (holding_of (lump_owner lump.0) zone.old.blocks) }
     requires sound { IsSound zone.old }
-    ensures fetches {
-        FetchesLump dir.now lump.0 tag (S.view shelf.old) (S.view shelf.new) zone.old zone.new result
-    }
+    ensures fetches { FetchesLump dir.now lump.0 tag (S.view shelf.old) (S.view shelf.new)
+        zone.old zone.new result }
     ensures untouched { (lump_at dir.now.lumps lump.0).size ≡ 0 → shelf.new ≡ shelf.old }
     ensures sound { IsSound zone.new }
 {
@@ -57,9 +56,8 @@ pub fn fetch_lump<S: Shelf>(
     requires in_range { lump.0 < zone.old.lumps }
     requires listed { lump.0 < length dir.now.lumps }
     requires sound { IsSound zone.old }
-    ensures fetches {
-        FetchesLump dir.now lump.0 tag (S.view shelf.old) (S.view shelf.new) zone.old zone.new result
-    }
+    ensures fetches { FetchesLump dir.now lump.0 tag (S.view shelf.old) (S.view shelf.new)
+        zone.old zone.new result }
     ensures hit { IsLive zone.old (lump_owner lump.0) → shelf.new ≡ shelf.old }
     ensures untouched { (lump_at dir.now.lumps lump.0).size ≡ 0 → shelf.new ≡ shelf.old }
     ensures sound { IsSound zone.new }
