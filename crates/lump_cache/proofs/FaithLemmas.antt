@@ -55,7 +55,8 @@ filled_lump contents lumps view numbers n number place w a s p len says =
 lump_apart : (l n : ℕ) → (n ≡ l → ⊥) → same_owner (lump_owner l) (lump_owner n) ≡ false
 lump_apart l n h = ne_eqb l n (λ e. h (sym e))
 
--- a faithful cache stays so where one lump has its bytes, or none, and the others are kept or purged
+-- a faithful cache stays so where one lump has its bytes, or none, and the others are kept or
+-- purged
 pub faithful_by : (contents : List (List ℕ)) (lumps : List Lump) (old new : Heap) (l : ℕ) → IfSome (bytes_of (lump_owner l) new.blocks) (λ xs. xs ≡ lump_bytes contents lumps l) → ((o : Owner) → same_owner (lump_owner l) o ≡ false → KeptOrPurged (owned_block o old.blocks) (owned_block o new.blocks))
     → IsFaithful contents lumps old → IsFaithful contents lumps new
 faithful_by contents lumps old new l here others f = record { at = λ n lt. go n lt (cases_eq n l) } where

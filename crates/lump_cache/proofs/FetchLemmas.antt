@@ -1,18 +1,37 @@
--- A fetch of one lump, as a call that asks for it.
-use Rattle.std.proofs.Common.{◌≡◌, ℕ, ◌+◌, ◌<◌, false, List, length, Option, Some, None, Result, Ok, Err, refl, sym, subst, ap, ◌∙◌, arith, inl, inr, MatchResult}
-use Rattle.std.specs.Prelude.{IfErr, IfSome, IsSome, OnOk}
-use Rattle.std.proofs.lemmas.Bool.{false≢true}
+-- What follows of the fetch of a lump.
+use Rattle.std.proofs.Common.{◌≡◌, ℕ, ◌+◌, ◌*◌, ◌<◌, ◌≤◌, true, false, List, [], ◌∷◌, length, Option, Some, None, Result, Ok, Err, refl, sym, subst, ap, ◌∙◌, arith, inl, inr, ◌⊎◌, option_map, MatchResult}
+use Rattle.std.specs.Prelude.{IfErr, IfSome, IsSome, IsNone, OnOk, ⊤}
+use Rattle.std.proofs.lemmas.Bool.{cases_lt}
+use Rattle.outside.specs.Shelf.{ShelfView, NameFiles, counted}
+use Rattle.zone_rules.specs.declared.Tag.{Tag}
+use Rattle.zone_rules.specs.declared.Tag.TheVariants.{Static, Cache}
 use Rattle.zone_rules.specs.declared.TheConstants.{MIN_FRAGMENT}
-use Rattle.zone_rules.specs.Zones.{Holding, Block, Heap, IsLive, holding_of, bytes_of, block_size}
+use Rattle.zone_rules.specs.Zones.{Owner, Holding, Block, Heap, IsLive, holding_of, owned_block, bytes_of, block_size, same_owner}
+use Rattle.zone_rules.specs.Requests.{TakesBlock, without_room}
+use Rattle.zone_rules.specs.Frees.{without_block}
+use Rattle.zone_rules.specs.Orders.{Item, has_item, IsInOrder, KeepsOrder}
 use Rattle.zone_rules.proofs.GapLemmas.{small_all}
+use Rattle.zone_rules.proofs.OrderLemmas.{order_has_room, order_taken}
 use Rattle.lump_rules.specs.Lookups.{lump_at}
 use Rattle.lump_rules.specs.Contents.{lump_bytes}
 use Rattle.wad_dir.specs.DirectoryView.{DirectoryView}
 use Rattle.lump_cache.specs.declared.fault.CacheFault.{CacheFault}
 use Rattle.lump_cache.specs.declared.fault.CacheFault.TheVariants.{ZoneFull, ReadFault}
-use Rattle.lump_cache.specs.Caches.{IsFaithful, IsAtRest, WhereFull, NoRoom, KeptOrPurged, is_full, cache_fault, lump_owner}
-use Rattle.lump_cache.proofs.FaithLemmas.{bytes_in}
-use Rattle.lump_cache.specs.Calls.{IsFullFor, IfFull, InOrderAt}
+use Rattle.lump_cache.specs.Caches.{IsFaithful, IsAtRest, IsAtRestExcept, IsEmpty, IsPinned, IsUnpinned, KeepsCounts, MatchAnswer, WhereFull, NoRoom, GivesBack, HasAsked, HasBlock, KeptOrPurged, cache_fault, composite_owner, is_static_tag, lump_owner, with_tag_unless_static}
+use Rattle.lump_cache.specs.Calls.{IsFullFor, IfFull, InOrderAt, ReadsLumps}
+use Rattle.lump_cache.specs.Fetches.{FetchesLump}
+use Rattle.lump_cache.specs.Sizes.{HasSizes}
+use Rattle.lump_cache.proofs.AnswerLemmas.{answer_all, answer_at, answer_both, answer_map, answer_ok, none_is, where_full}
+use Rattle.lump_cache.proofs.FaithLemmas.{bytes_in, faithful_by, faithful_retag}
+use Rattle.lump_cache.proofs.FillLemmas.{on_ok, takes_use, use_live}
+use Rattle.lump_cache.proofs.FirstLemmas.{first_at_rest}
+use Rattle.lump_cache.proofs.OrderLemmas.{counted_least, live_unless_static, order_unless_static}
+use Rattle.lump_cache.proofs.RestButLemmas.{not_colormap, passing_after, rest_but_more, rest_but_retag}
+use Rattle.lump_cache.proofs.RestLemmas.{kept_pinned, kept_unpinned, rest_retag, rest_taken, unpinned_after}
+use Rattle.lump_cache.proofs.RoomButLemmas.{room_except}
+use Rattle.lump_cache.proofs.RoomLemmas.{room_at_rest, room_empty}
+use Rattle.lump_cache.proofs.SizeLemmas.{sizes_fetched}
+use Rattle.lump_cache.proofs.TagLemmas.{counts_unless_static, static_unless_static}
 
 -- a slot that a call does not name has its bytes, or none
 pub others_keep : (old new : Option Block) → KeptOrPurged old new → IfSome (bytes_in new) (λ bytes. bytes_in old ≡ Some bytes)
@@ -21,26 +40,6 @@ others_keep old new (inl e) = subst (λ x. IfSome (bytes_in x) (λ bytes. bytes_
   same None = tt
   same (Some bytes) = refl
 others_keep old new (inr e) = subst (λ x. IfSome (bytes_in x) (λ bytes. bytes_in old ≡ Some bytes)) (sym e.0) tt
-
--- the zone is full for that lump
-pub fetch_full : (dir : DirectoryView) (old : Heap) (lump : ℕ) (r : Result (Unit {0}) CacheFault) → WhereFull r (NoRoom (lump_at dir.lumps lump).size old) →
-    ((colormap size : ℕ) → IsAtRest colormap size old → WhereFull r (λ wanted widest'. old.size < block_size size + wanted + MIN_FRAGMENT)) → IfErr r (λ fault. IfFull (cache_fault fault) (IsFullFor (λ number. number ≡ lump) dir old))
-fetch_full dir old lump (Ok done) full room = tt
-fetch_full dir old lump (Err ReadFault) full room = tt
-fetch_full dir old lump (Err (ZoneFull wanted widest')) full room = record {
-  lump = lump;
-  asked = refl;
-  full = record {
-    wanted_is = full.wanted_is;
-    narrow = omega (arith, full.wanted_is, full.widest_is, small_all (block_size (lump_at dir.lumps lump).size) _ (omega arith) full.none);
-    room = room;
-  };
-}
-
-pub fetch_order : (P : Type 0) (r : Result (Unit {0}) CacheFault) → (is_full r ≡ false) × OnOk r P → MatchResult r (λ _. P) (λ fault. InOrderAt (cache_fault fault) P)
-fetch_order P (Ok done) k = k.1
-fetch_order P (Err ReadFault) k = tt
-fetch_order P (Err (ZoneFull wanted widest')) k = absurd (false≢true (sym k.0))
 
 -- a live lump of a faithful cache has the bytes of its lump
 pub live_faithful : (contents : List (List ℕ)) (dir : DirectoryView) (z : Heap) (lump : ℕ) → lump < length dir.lumps → IsFaithful contents dir.lumps z → IsLive z (lump_owner lump) → bytes_of (lump_owner lump) z.blocks ≡ Some (lump_bytes contents dir.lumps lump)
@@ -51,3 +50,171 @@ live_faithful contents dir z lump there faithful live = go (holding_of (lump_own
       let is : bytes_of (lump_owner lump) z.blocks ≡ Some h.bytes = rw e refl in
       let same : h.bytes ≡ lump_bytes contents dir.lumps lump = subst (λ x. IfSome x (λ bytes. bytes ≡ lump_bytes contents dir.lumps lump)) is (faithful.at lump there) in
       is ∙ ap Some same
+
+module _ {dir : DirectoryView} {lump : ℕ} {tag : Tag} {view after : ShelfView} {old new : Heap} {result : Result (Unit {0}) CacheFault} (f : FetchesLump dir lump tag view after old new result) where
+  abbrev owner : Owner
+  owner = lump_owner lump
+
+  abbrev size : ℕ
+  size = (lump_at dir.lumps lump).size
+
+  -- a slot is live or empty
+  by_slot : {P : Type 0} → (IsLive old owner → P) → (IsNone (holding_of owner old.blocks) → P) → P
+  by_slot {P} live none = go (holding_of owner old.blocks) refl where
+    go : (h : Option Holding) → holding_of owner old.blocks ≡ h → P
+    go None e = none (rw e refl)
+    go (Some h) e = live (rw e refl)
+
+  -- on a live slot, what is true of the old zone with the new tag
+  at_hit : (P : Heap → Type 0) → IsLive old owner → P (with_tag_unless_static owner tag old) → P new
+  at_hit P live k = subst P (sym (f.hit live).2) k
+
+  -- Ok on an empty slot: a block was taken, of that tag and size
+  pub fetch_takes : OnOk result (IsNone (holding_of owner old.blocks) → TakesBlock old new owner size tag)
+  fetch_takes = answer_ok _ _ _ result f.miss
+
+  pub fetch_block : OnOk result (IsNone (holding_of owner old.blocks) → HasBlock tag size (owned_block owner new.blocks))
+  fetch_block = on_ok result (λ takes none. takes_use owner size tag old new (takes none)) fetch_takes
+
+  -- the zone was full: no gap held the block
+  pub fetch_no_room : WhereFull result (NoRoom size old)
+  fetch_no_room = by_slot (λ live. answer_at (NoRoom size old) ⊤ result (f.hit live).0 tt) (λ none. answer_map result (λ t. tt) (λ wanted widest' k. k.0) (λ t. tt) (f.miss none))
+
+  -- what either error leaves
+  pub fetch_left : MatchAnswer result ⊤ (λ wanted widest'. new ≡ without_room (block_size size) old) (GivesBack old new owner size tag)
+  fetch_left = by_slot (λ live. answer_at (λ wanted widest'. new ≡ without_room (block_size size) old) (GivesBack old new owner size tag) result (f.hit live).0 tt) (λ none. answer_map result (λ t. tt) (λ wanted widest' k. k.1) (λ t. t) (f.miss none))
+
+  -- a zone at rest that was full is small
+  pub fetch_room : (colormap count : ℕ) → IsAtRest colormap count old → WhereFull result (λ wanted widest'. old.size < block_size count + wanted + MIN_FRAGMENT)
+  fetch_room colormap count rest = where_full result (λ wanted widest' k. room_at_rest size old wanted widest' f.sound k colormap count rest) fetch_no_room
+
+  -- the same where one more block is pinned
+  pub fetch_room_except : (colormap count : ℕ) (o : Owner) (asked : ℕ) → IsAtRestExcept colormap count (o ∷ []) old → same_owner (lump_owner colormap) o ≡ false → HasAsked asked (owned_block o old.blocks) →
+      WhereFull result (λ wanted widest'. old.size < block_size count + block_size asked + 2 * wanted + 2 * MIN_FRAGMENT)
+  fetch_room_except colormap count o asked rest apart has = where_full result (λ wanted widest' k. room_except size old wanted widest' f.sound k colormap count o asked rest apart has) fetch_no_room
+
+  -- the same where no slot was live
+  pub fetch_room_first : IsEmpty old → WhereFull result (λ wanted widest'. old.size < wanted)
+  fetch_room_first none = where_full result (λ wanted widest' k. room_empty size old wanted widest' f.sound k none) fetch_no_room
+
+  -- the zone keeps its size and its slots
+  pub fetch_counts : KeepsCounts old new
+  fetch_counts = by_slot (λ live. at_hit (KeepsCounts old) live (counts_unless_static owner tag old)) (λ none. answer_all result (answer_map result took (λ wanted widest' k. full k.1) back (f.miss none))) where
+    took : TakesBlock old new owner size tag → KeepsCounts old new
+    took t = subst (KeepsCounts old) (sym t.zone) (refl, refl, refl)
+
+    full : new ≡ without_room (block_size size) old → KeepsCounts old new
+    full e = subst (KeepsCounts old) (sym e) (refl, refl, refl)
+
+    back : GivesBack old new owner size tag → KeepsCounts old new
+    back g = subst (KeepsCounts old) (sym (g.freed ∙ ap (without_block owner) g.takes.zone)) (refl, refl, refl)
+
+  -- and with them as many slots for composites as it was made with
+  pub fetch_composites : new.composites ≡ old.composites
+  fetch_composites = fetch_counts.2
+
+  -- after Ok the lump is live
+  pub fetch_live : OnOk result (IsLive new owner)
+  fetch_live =
+      by_slot (λ live. on_ok result (λ takes. at_hit (λ (z : Heap). IsLive z owner) live (live_unless_static owner owner tag old live)) fetch_takes)
+      (λ none. on_ok result (λ block. use_live tag size (owned_block owner new.blocks) (block none)) fetch_block)
+
+  -- a pinned block of another owner stands
+  pub fetch_pinned : (o : Owner) → same_owner owner o ≡ false → IsPinned (owned_block o old.blocks) → owned_block o new.blocks ≡ owned_block o old.blocks
+  fetch_pinned o apart pinned = kept_pinned (owned_block o old.blocks) (owned_block o new.blocks) (f.others o apart) pinned
+
+  -- each live lump keeps the bytes that its files have
+  pub fetch_faithful : (contents : List (List ℕ)) → NameFiles view dir.files contents → IsFaithful contents dir.lumps old → IsFaithful contents dir.lumps new
+  fetch_faithful contents stand faithful =
+      by_slot (λ live. at_hit (IsFaithful contents dir.lumps) live (faithful_retag contents dir.lumps owner tag old faithful))
+      (λ none. faithful_by contents dir.lumps old new lump (f.bytes contents stand none) f.others faithful)
+
+  -- each live lump keeps the directory's size
+  pub fetch_sizes : lump < length dir.lumps → HasSizes dir.lumps old → HasSizes dir.lumps new
+  fetch_sizes inside has = sizes_fetched dir.lumps lump tag old new result inside (λ live. (f.hit live).2) fetch_block f.empty f.others has
+
+  -- a cache at rest stays at rest, where nothing is pinned
+  pub fetch_rest : (colormap count : ℕ) → tag ≡ Cache → IsAtRest colormap count old → IsAtRest colormap count new
+  fetch_rest colormap count cached rest =
+      by_slot (λ live. at_hit (IsAtRest colormap count) live (subst (λ t. IsAtRest colormap count (with_tag_unless_static owner t old)) (sym cached) (rest_retag colormap count old rest owner)))
+      (λ none. rest_taken colormap count old rest lump new (none_is (holding_of owner old.blocks) none) (unpinned_after result tag size (owned_block owner new.blocks) cached (on_ok result (λ block. block none) fetch_block) f.empty) f.others)
+
+  -- or is so except for the lump, where it is not pinned for the whole run
+  pub fetch_rest_except : (colormap count : ℕ) (pinned : List Owner) → is_static_tag tag ≡ false → IsAtRestExcept colormap count pinned old → IsAtRestExcept colormap count (owner ∷ pinned) new
+  fetch_rest_except colormap count pinned passing rest =
+      by_slot (λ live. at_hit (IsAtRestExcept colormap count (owner ∷ pinned)) live (rest_but_retag colormap count owner old tag pinned passing rest))
+      (λ none. rest_but_more colormap count pinned old new owner (not_colormap colormap count pinned old owner rest (rw (none_is (holding_of owner old.blocks) none) refl)) f.others rest
+      (passing_after result tag size (owned_block owner new.blocks) passing (on_ok result (λ block. block none) fetch_block) f.empty))
+
+  -- the first lump, pinned for the whole run, leaves an empty cache at rest
+  pub fetch_first : tag ≡ Static → IsEmpty old → OnOk result (IsAtRest lump size new)
+  fetch_first static none =
+      on_ok result (λ takes.
+      let t = takes (rw (none owner) refl) in
+      first_at_rest lump size tag old new new f.sound static none t _ t.block refl (static, refl)
+      (λ o apart. kept_unpinned (owned_block o old.blocks) (owned_block o new.blocks) (f.others o apart) (subst IsUnpinned (sym (none o)) tt))) fetch_takes
+
+  -- with the tag `Static` the lump is pinned for the whole run, whatever was live before
+  pub fetch_static : tag ≡ Static → OnOk result (option_map (λ (h : Holding). h.tag) (holding_of owner new.blocks) ≡ Some Static)
+  fetch_static static =
+      by_slot (λ live. on_ok result (λ takes. at_hit (λ (z : Heap). option_map (λ (h : Holding). h.tag) (holding_of owner z.blocks) ≡ Some Static) live (subst (λ t. option_map (λ (h : Holding). h.tag) (holding_of owner (with_tag_unless_static owner t old).blocks) ≡ Some Static) (sym static) (static_unless_static owner old live))) fetch_takes)
+      (λ none. on_ok result (λ takes. tag_of (takes none)) fetch_takes) where
+        tag_of : TakesBlock old new owner size tag → option_map (λ (h : Holding). h.tag) (holding_of owner new.blocks) ≡ Some Static
+        tag_of t = rw t.block (ap Some static)
+
+  -- no more bytes are read than the lump has
+  taken_least : OnOk result (IsNone (holding_of owner old.blocks) → after.taken ≤ view.taken + size)
+  taken_least = on_ok result (λ taken none. go taken none (cases_lt 0 size)) f.taken where
+    go : (IsNone (holding_of owner old.blocks) → 0 < size → after.taken ≡ counted view.taken size) → IsNone (holding_of owner old.blocks) → (0 < size) ⊎ (size ≤ 0) → after.taken ≤ view.taken + size
+    go taken none (inl some) =
+        let e = taken none some in
+        let m = counted_least view.taken size in
+        omega (arith, e, m)
+    go taken none (inr zero) = let e = ap (λ (v : ShelfView). v.taken) (f.untouched (omega (arith, zero))) in omega (arith, e)
+
+  -- a cache in order for a list that has the lump has room for it, and stays in order
+  pub fetch_order : (items : List Item) → has_item items owner size ≡ true → IsInOrder items old → MatchAnswer result (KeepsOrder items old new view.taken after.taken) (λ wanted widest'. ⊥) ⊤
+  fetch_order items in_list order =
+      by_slot (λ live. answer_at (λ wanted widest'. ⊥) ⊤ result (f.hit live).0 (at_hit (λ (z : Heap). KeepsOrder items old z view.taken after.taken) live (subst (λ (v : ShelfView). KeepsOrder items old (with_tag_unless_static owner tag old) view.taken v.taken) (sym (f.hit live).1) (order_unless_static owner tag items old view.taken order))))
+      (λ none. answer_map result (λ k. order_taken items old f.sound order owner size in_list none new tag k.0 view.taken after.taken k.1) (λ wanted widest' k. order_has_room items old f.sound order owner size in_list none k.0.none) (λ t. tt) (answer_both _ _ _ (after.taken ≤ view.taken + size) result (f.miss none) (on_ok result (λ least. least none) taken_least)))
+
+  -- the zone is full for that lump, as a call that asks for it reports
+  pub fetch_full : IfErr result (λ fault. IfFull (cache_fault fault) (IsFullFor (λ number. number ≡ lump) dir old))
+  fetch_full = go result (where_full result full fetch_no_room) where
+    full : (wanted widest' : ℕ) → NoRoom size old wanted widest' → IsFullFor (λ number. number ≡ lump) dir old wanted widest'
+    full wanted widest' k = record {
+      lump = lump;
+      asked = refl;
+      wanted_is = k.wanted_is;
+      narrow = omega (arith, k.wanted_is, k.widest_is, small_all (block_size size) _ (omega arith) k.none);
+      room = λ colormap count rest. room_at_rest size old wanted widest' f.sound k colormap count rest;
+    }
+
+    go : (r : Result (Unit {0}) CacheFault) → WhereFull r (IsFullFor (λ number. number ≡ lump) dir old) → IfErr r (λ fault. IfFull (cache_fault fault) (IsFullFor (λ number. number ≡ lump) dir old))
+    go (Ok done) k = tt
+    go (Err ReadFault) k = tt
+    go (Err (ZoneFull wanted widest')) k = k
+
+-- the order, as a call that asks for lumps states it
+pub order_of_answer : (P : Type 0) (r : Result (Unit {0}) CacheFault) → MatchAnswer r P (λ wanted widest'. ⊥) ⊤ → MatchResult r (λ done. P) (λ fault. InOrderAt (cache_fault fault) P)
+order_of_answer P (Ok done) k = k
+order_of_answer P (Err ReadFault) k = tt
+order_of_answer P (Err (ZoneFull wanted widest')) k = k
+
+-- a fetch that pins nothing is a call that asks for the lump
+pub fetch_reads : {dir : DirectoryView} {lump : ℕ} {view after : ShelfView} {old new : Heap} {result : Result (Unit {0}) CacheFault} → FetchesLump dir lump Cache view after old new result → lump < length dir.lumps →
+    ReadsLumps cache_fault view after dir old new (λ number. number ≡ lump) (λ done. done) (λ bytes. Ok tt) result
+fetch_reads {dir} {lump} {view} {after} {old} {new} {result} f inside = record {
+  keeps = record {
+    follows = f.follows;
+    counts = fetch_counts f;
+    rest = λ colormap count r. fetch_rest f colormap count refl r;
+    faithful = fetch_faithful f;
+    sizes = fetch_sizes f inside;
+    composites = λ number. others_keep (owned_block (composite_owner number) old.blocks) (owned_block (composite_owner number) new.blocks) (f.others (composite_owner number) refl);
+  };
+  answers = λ contents t. f.answers contents t.stand t.within;
+  causes = f.causes;
+  full = fetch_full f;
+  order = λ items all k. order_of_answer _ result (fetch_order f items (all lump refl) k);
+}

@@ -130,8 +130,8 @@ release_sound o z s = go (holding_of o z.blocks) where
   go None = s
   go (Some h) = unless_static_sound o Cache z s
 
-pub release_others : (o p : Owner) (z : Heap) → same_owner o p ≡ false → owned_block p (release_heap o z).blocks ≡ owned_block p z.blocks
-release_others o p z apart = go (holding_of o z.blocks) where
+pub released_others : (o p : Owner) (z : Heap) → same_owner o p ≡ false → owned_block p (release_heap o z).blocks ≡ owned_block p z.blocks
+released_others o p z apart = go (holding_of o z.blocks) where
   go : (h : Option Holding) → owned_block p (released_heap o z h).blocks ≡ owned_block p z.blocks
   go None = refl
   go (Some h) = unless_static_others o p Cache z apart

@@ -1,5 +1,5 @@
--- The block that a cache lends stands beside the colormap's: two owners' blocks are no larger than the
--- zone.
+-- The block that a cache lends stands beside the colormap's: two owners' blocks are no larger than
+-- the zone.
 use Rattle.std.proofs.Common.{◌≡◌, ℕ, ◌+◌, ◌≤◌, Bool, true, false, List, [], ◌∷◌, length, Option, Some, None, refl, sym, subst, ap, ◌∙◌, arith, option_map}
 use Rattle.std.specs.Prelude.{IfSome}
 use Rattle.std.proofs.lemmas.Bool.{cond-true, cond-false}

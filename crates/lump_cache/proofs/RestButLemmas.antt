@@ -110,7 +110,7 @@ rest_but_fewer colormap size pinned z l u r = record { block = r.block; is = r.i
   go o h n true e = let k = owner_eq o l e in subst (λ (q : Owner). IsUnpinned (owned_block q z.blocks)) (sym k) (u (ap (same_owner (lump_owner colormap)) (sym k) ∙ h))
   go o h n false e = r.others o h (or_from (same_owner o l) (list_any (same_owner o) pinned) e n)
 
-owned_held : (o : Owner) (b : Block) (bs : List Block) → owned_block o bs ≡ Some b → is_held_by o b ≡ true
+pub owned_held : (o : Owner) (b : Block) (bs : List Block) → owned_block o bs ≡ Some b → is_held_by o b ≡ true
 owned_held o b [] e = cc
 owned_held o b (c ∷ bs) e = go (is_held_by o c) refl e (λ k. owned_held o b bs k) where
   go : (t : Bool) → is_held_by o c ≡ t → cond t (Some c) (owned_block o bs) ≡ Some b → (owned_block o bs ≡ Some b → is_held_by o b ≡ true) → is_held_by o b ≡ true
@@ -180,8 +180,8 @@ module _ (l : Owner) (w : List ℕ) where
     go true = set b.holding ∙ u
     go false = u
 
-  pub write_pinned : (o : Owner) (bs : List Block) → IsPinned (owned_block o bs) → IsPinned (owned_block o (map (write_block l w) bs))
-  write_pinned o bs p = subst IsPinned (sym (owned_block-map o (write_block l w) (λ b. write_held o l w b) bs)) (block (owned_block o bs) p) where
+  pub written_pinned : (o : Owner) (bs : List Block) → IsPinned (owned_block o bs) → IsPinned (owned_block o (map (write_block l w) bs))
+  written_pinned o bs p = subst IsPinned (sym (owned_block-map o (write_block l w) (λ b. write_held o l w b) bs)) (block (owned_block o bs) p) where
     set : (h : Option Holding) → pins h ≡ true → pins (write_holding w h) ≡ true
     set None p = p
     set (Some h) p = p

@@ -47,7 +47,8 @@ kept_pinned old new (inr e) p = absurd (both old e.1 p) where
   both None m p = p
   both (Some b) m p = false≢true (sym (pinned_stays b.holding p) ∙ m)
 
--- where one lump that was no live one has an unpinned block, or none, and the others are kept or purged
+-- where one lump that was no live one has an unpinned block, or none, and the others are kept or
+-- purged
 module _ (colormap size : ℕ) (old : Heap) (rest : IsAtRest colormap size old) where
   pub rest_taken : (l : ℕ) (new : Heap) → holding_of (lump_owner l) old.blocks ≡ None → IsUnpinned (owned_block (lump_owner l) new.blocks) → ((o : Owner) → same_owner (lump_owner l) o ≡ false → KeptOrPurged (owned_block o old.blocks) (owned_block o new.blocks)) → IsAtRest colormap size new
   rest_taken l new none here others = record {

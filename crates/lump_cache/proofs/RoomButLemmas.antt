@@ -1,15 +1,13 @@
--- The room of a zone where one block beside the colormap's is pinned: what no gap of it holds has no
--- place before that block, and none behind it.
-use Rattle.std.proofs.Common.{◌≡◌, ℕ, ◌+◌, ◌*◌, ◌<◌, Bool, true, false, not, List, [], ◌∷◌, ◌++◌, Option, Some, None, refl, sym, subst, ap, ◌∙◌, arith, Result, Ok, Err}
+-- The room of a zone where one block beside the colormap's is pinned: what no gap of it holds has
+-- no place before that block, and none behind it.
+use Rattle.std.proofs.Common.{◌≡◌, ℕ, ◌+◌, ◌*◌, ◌<◌, Bool, true, false, not, List, [], ◌∷◌, ◌++◌, Option, Some, None, refl, sym, subst, ap, ◌∙◌, arith}
 use Rattle.std.proofs.lemmas.Bool.{cond-true, cond-false, or_from}
 use Rattle.std.proofs.lemmas.List.Sums.{sum_by-append}
 use Rattle.zone_rules.specs.Zones.{Owner, Block, Heap, IsSound, Unique, OwnsOnce, Lacks, AllFit, FitsHolding, is_pinned, is_held_by, same_owner, owned_block, block_size}
 use Rattle.zone_rules.specs.Requests.{gaps, total}
 use Rattle.zone_rules.proofs.GapLemmas.{total-cons}
 use Rattle.zone_rules.proofs.OwnerLemmas.{owner_eq, none_owned, lacks_held}
-use Rattle.lump_cache.specs.declared.fault.CacheFault.{CacheFault}
-use Rattle.lump_cache.specs.declared.fault.CacheFault.TheVariants.{ZoneFull, ReadFault}
-use Rattle.lump_cache.specs.Caches.{IsAtRestExcept, HasAsked, IsUnpinned, WhereFull, NoRoom, lump_owner}
+use Rattle.lump_cache.specs.Caches.{IsAtRestExcept, HasAsked, IsUnpinned, NoRoom, lump_owner}
 use Rattle.lump_cache.proofs.RoomLemmas.{AllSmall, AllOpen, OthersOpen, Behind, first_small, open_small, gaps_behind, owner_turned, others_behind, front_open, all_open, asked_size, behind}
 
 open-append : (xs ys : List Block) → AllOpen xs → AllOpen ys → AllOpen (xs ++ ys)
@@ -79,8 +77,8 @@ module _ (colormap size : ℕ) (o : Owner) (asked : ℕ) (z : Heap) (rest : IsAt
     go true e = subst IsUnpinned (sym (none_owned q r.rest (subst (λ (p : Owner). Lacks p r.rest) (owner_eq (lump_owner colormap) q e) r.lacks))) tt
     go false e = subst IsUnpinned (r.owned q e) (rest.others q e (or_from (same_owner q o) false (owner_turned o q h) refl))
 
-  -- where no gap of it holds a block, the zone is smaller than both pinned blocks, that block twice, and the
-  -- most that both may have too much
+  -- where no gap of it holds a block, the zone is smaller than both pinned blocks, that block
+  -- twice, and the most that both may have too much
   pub rest_but_room : (w : ℕ) → 0 < w → HasAsked asked (owned_block o z.blocks) → IsSound z → AllSmall w (gaps z.blocks) → z.size < block_size size + block_size asked + 2 * w + 128
   rest_but_room w some has sound small =
       let r = behind (lump_owner colormap) size z rest.block rest.place rest.static sound rest.is in
@@ -92,11 +90,8 @@ module _ (colormap size : ℕ) (o : Owner) (asked : ℕ) (z : Heap) (rest : IsAt
             let large = asked_size z.lumps z.composites b.size asked b.holding h (owned_fits o b z.lumps z.composites r.rest r.fits e) in
             omega (arith, few, large, r.sum)
 
--- the same of a call that found no room
-pub room_but_where : (result : Result (Unit {0}) CacheFault) (n : ℕ) (z : Heap) → IsSound z → WhereFull result (NoRoom n z) → (colormap size : ℕ) (o : Owner) (asked : ℕ) → IsAtRestExcept colormap size (o ∷ []) z → same_owner (lump_owner colormap) o ≡ false → HasAsked asked (owned_block o z.blocks)
-    → WhereFull result (λ wanted widest'. z.size < block_size size + block_size asked + 2 * wanted + 128)
-room_but_where (Ok done) n z sound full colormap size o asked rest apart has = tt
-room_but_where (Err (ZoneFull wanted widest')) n z sound full colormap size o asked rest apart has =
+-- the same by what a call without room reports
+pub room_except : (n : ℕ) (z : Heap) (wanted widest' : ℕ) → IsSound z → NoRoom n z wanted widest' → (colormap size : ℕ) (o : Owner) (asked : ℕ) → IsAtRestExcept colormap size (o ∷ []) z → same_owner (lump_owner colormap) o ≡ false → HasAsked asked (owned_block o z.blocks) → z.size < block_size size + block_size asked + 2 * wanted + 128
+room_except n z wanted widest' sound full colormap size o asked rest apart has =
     let small = rest_but_room colormap size o asked z rest apart (block_size n) (omega arith) has sound full.none in
     subst (λ (w : ℕ). z.size < block_size size + block_size asked + 2 * w + 128) (sym full.wanted_is) small
-room_but_where (Err ReadFault) n z sound full colormap size o asked rest apart has = tt

@@ -1,18 +1,15 @@
 -- The room of a zone at rest: what no gap of it holds does not stand beside the colormap.
-use Rattle.std.proofs.Common.{◌≡◌, ℕ, ◌+◌, ◌<◌, ◌≤◌, Bool, true, false, List, [], ◌∷◌, ◌++◌, Option, Some, None, refl, sym, subst, ap, ◌∙◌, arith, append-nil, Result, Ok, Err}
-use Rattle.std.specs.Prelude.{All, IfErr, IsErr, ⊤}
+use Rattle.std.proofs.Common.{◌≡◌, ℕ, ◌+◌, ◌<◌, ◌≤◌, Bool, true, false, List, [], ◌∷◌, ◌++◌, Option, Some, None, refl, sym, subst, ap, ◌∙◌, arith, append-nil}
+use Rattle.std.specs.Prelude.{All, ⊤}
 use Rattle.std.proofs.lemmas.Bool.{cond-true, cond-false, and_from, eq-eqb, false≢true}
 use Rattle.std.proofs.lemmas.List.Elements.{All-head, All-tail}
 use Rattle.zone_rules.specs.Zones.{Owner, Holding, Block, Heap, IsSound, Tiles, Unique, OwnsOnce, Lacks, AllFit, FitsHolding, free_block, is_pinned, pins, is_held_by, holds_for, same_owner, owned_block, block_size}
-use Rattle.zone_rules.specs.Requests.{gaps, total, widest, in_front, opens}
+use Rattle.zone_rules.specs.Requests.{gaps, total, in_front, opens}
 use Rattle.zone_rules.proofs.EmptyLemmas.{empty_is, sound_size}
 use Rattle.zone_rules.proofs.GapLemmas.{total-cons}
 use Rattle.zone_rules.proofs.PurgeLemmas.{tiles_end, tiles_within, Within}
 use Rattle.zone_rules.proofs.OwnerLemmas.{owner_eq, none_owned, lacks_held}
-use Rattle.zone_heap.specs.declared.zone.ZoneFull.{ZoneFull}
-use Rattle.lump_cache.specs.declared.fault.CacheFault.{CacheFault}
-use Rattle.lump_cache.specs.declared.fault.CacheFault.TheVariants.{ZoneFull as CacheFull, ReadFault}
-use Rattle.lump_cache.specs.Caches.{IsAtRest, IsEmpty, IsStatic, IsAsked, IsUnpinned, WhereFull, NoRoom, lump_owner}
+use Rattle.lump_cache.specs.Caches.{IsAtRest, IsEmpty, IsStatic, IsAsked, IsUnpinned, NoRoom, lump_owner}
 
 -- no gap holds so many bytes
 abbrev pub AllSmall : ℕ → List (List Block) → Type 0
@@ -147,8 +144,8 @@ module _ (o : Owner) (size : ℕ) (z : Heap) (block : Block) (place : block.plac
   pub behind : IsSound z → owned_block o z.blocks ≡ Some block → Behind o size z
   behind sound e = behind_of z.blocks refl sound.tiles sound.unique sound.fits e
 
--- a zone at rest of which no gap holds a block is smaller than the colormap's block, that block, and the
--- most that a block may have too much
+-- a zone at rest of which no gap holds a block is smaller than the colormap's block, that block,
+-- and the most that a block may have too much
 pub rest_room : (colormap size w : ℕ) (z : Heap) → IsAtRest colormap size z → 0 < w → IsSound z → AllSmall w (gaps z.blocks) → z.size < block_size size + w + 64
 rest_room colormap size w z rest some sound small =
     let o = lump_owner colormap in
@@ -157,21 +154,11 @@ rest_room colormap size w z rest some sound small =
     let few = open_small w r.rest some open' (subst (AllSmall w) r.gaps_are small) in
     omega (arith, few, r.sum)
 
--- the same of a call that found no room
-pub room_where : (result : Result (Unit {0}) CacheFault) (n : ℕ) (z : Heap) → IsSound z → WhereFull result (NoRoom n z) → (colormap size : ℕ) → IsAtRest colormap size z → WhereFull result (λ wanted widest'. z.size < block_size size + wanted + 64)
-room_where (Ok done) n z sound full colormap size rest = tt
-room_where (Err (CacheFull wanted widest')) n z sound full colormap size rest =
+-- the same by what a call without room reports
+pub room_at_rest : (n : ℕ) (z : Heap) (wanted widest' : ℕ) → IsSound z → NoRoom n z wanted widest' → (colormap size : ℕ) → IsAtRest colormap size z → z.size < block_size size + wanted + 64
+room_at_rest n z wanted widest' sound full colormap size rest =
     let small = rest_room colormap size (block_size n) z rest (omega arith) sound full.none in
     subst (λ (w : ℕ). z.size < block_size size + w + 64) (sym full.wanted_is) small
-room_where (Err ReadFault) n z sound full colormap size rest = tt
-
--- and of a request of the zone
-pub room_err : (result : Result (Unit {0}) ZoneFull) (n : ℕ) (z : Heap) → IsSound z → (IsErr result → AllSmall (block_size n) (gaps z.blocks)) → IfErr result (λ e. (e.wanted ≡ block_size n) × (e.widest ≡ widest (gaps z.blocks))) → (colormap size : ℕ) → IsAtRest colormap size z
-    → IfErr result (λ e. z.size < block_size size + e.wanted + 64)
-room_err (Ok done) n z sound full report colormap size rest = tt
-room_err (Err e) n z sound full report colormap size rest =
-    let small = rest_room colormap size (block_size n) z rest (omega arith) sound (full refl) in
-    subst (λ (w : ℕ). z.size < block_size size + w + 64) (sym report.0) small
 
 -- a zone without a live block, of which no gap holds a block, is smaller than that block
 pub empty_room : (w : ℕ) (z : Heap) → IsEmpty z → IsSound z → AllSmall w (gaps z.blocks) → z.size < w
@@ -182,9 +169,7 @@ empty_room w z none sound small =
     let sum = total-cons (free_block 0 z.size) [] in
     omega (arith, first, sum)
 
-pub empty_where : (result : Result (Unit {0}) CacheFault) (n : ℕ) (z : Heap) → IsSound z → WhereFull result (NoRoom n z) → IsEmpty z → WhereFull result (λ wanted widest'. z.size < wanted)
-empty_where (Ok done) n z sound full none = tt
-empty_where (Err (CacheFull wanted widest')) n z sound full none =
+pub room_empty : (n : ℕ) (z : Heap) (wanted widest' : ℕ) → IsSound z → NoRoom n z wanted widest' → IsEmpty z → z.size < wanted
+room_empty n z wanted widest' sound full none =
     let small = empty_room (block_size n) z none sound full.none in
     subst (λ (w : ℕ). z.size < w) (sym full.wanted_is) small
-empty_where (Err ReadFault) n z sound full none = tt

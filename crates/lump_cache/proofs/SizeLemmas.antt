@@ -28,8 +28,8 @@ some_else None f p = tt
 some_else (Some v) f p = f v p
 
 pub sizes_told : (view : ShelfView) (dir : DirectoryView) (z : Heap) (contents : List (List ℕ)) → HoldContents view dir z contents → HasSizes dir.lumps z
-sizes_told view dir z contents told = record {
-  at = λ number there. some_else (bytes_of (lump_owner number) z.blocks) (λ bytes is. ap length is ∙ lump_bytes-length contents dir.lumps number (All-get_or (LiesWithin contents) dir.lumps number no_lump there told.within)) (told.faithful.at number there);
+sizes_told view dir z contents hold = record {
+  at = λ number there. some_else (bytes_of (lump_owner number) z.blocks) (λ bytes is. ap length is ∙ lump_bytes-length contents dir.lumps number (All-get_or (LiesWithin contents) dir.lumps number no_lump there hold.within)) (hold.faithful.at number there);
 }
 
 used_size : (tag : Tag) (size : ℕ) (x : Option Holding) → HasUse tag size x → IfSome (option_map (λ (h : Holding). h.bytes) x) (λ bytes. length bytes ≡ size)

@@ -1,15 +1,18 @@
--- What the bytes of a composite, lent and written, leave of a cache.
-use Rattle.std.proofs.Common.{◌≡◌, ℕ, Bool, true, false, cond, List, length, map, Option, Some, None, refl, sym, ap, ◌∙◌, option_map, inl}
+-- What follows of bytes that are written, of a loan or of a call with them.
+use Rattle.std.proofs.Common.{◌≡◌, ℕ, Bool, true, false, cond, List, length, map, Option, Some, None, refl, sym, subst, ap, ◌∙◌, option_map, inl}
 use Rattle.std.specs.Prelude.{option_and_then, ◌==◌}
 use Rattle.std.proofs.lemmas.Bool.{cond-true, eq-eqb}
 use Rattle.lump_rules.specs.declared.wad.Lump.{Lump}
 use Rattle.lump_rules.specs.Contents.{lump_bytes}
-use Rattle.zone_rules.specs.Zones.{Owner, Holding, Block, Heap, owned_block, bytes_of, same_owner}
+use Rattle.zone_rules.specs.Zones.{Owner, Holding, Block, Heap, IsLive, owned_block, bytes_of, same_owner}
 use Rattle.zone_rules.specs.Frees.{with_bytes}
 use Rattle.zone_rules.specs.Loans.{after_loan, bytes_length, held_length, bytes_place, overlay_block}
+use Rattle.zone_rules.specs.Orders.{Item, IsInOrder, KeepsOrder, is_live}
+use Rattle.zone_rules.proofs.OrderChangeLemmas.{live_written, order_written}
 use Rattle.zone_rules.proofs.OwnerLemmas.{owned_written_others}
-use Rattle.lump_cache.specs.Caches.{KeptOrPurged, IsFaithful, KeepsCounts, lump_owner, composite_owner}
+use Rattle.lump_cache.specs.Caches.{KeptOrPurged, IsFaithful, IsAtRest, IsAtRestExcept, IsPinned, KeepsCounts, lump_owner}
 use Rattle.lump_cache.proofs.FaithLemmas.{kept_bytes}
+use Rattle.lump_cache.proofs.RestButLemmas.{rest_but_written, rest_written, written_pinned}
 
 -- a loan of that length is a write
 pub loan_written : (o : Owner) (w x : List ℕ) (z : Heap) → bytes_of o z.blocks ≡ Some x → length w ≡ length x → after_loan o w z ≡ with_bytes o w z
@@ -31,9 +34,35 @@ loan_counts o w z = go (length w == bytes_length (owned_block o z.blocks)) where
 pub faithful_kept : (contents : List (List ℕ)) (lumps : List Lump) (old new : Heap) → ((n : ℕ) → KeptOrPurged (owned_block (lump_owner n) old.blocks) (owned_block (lump_owner n) new.blocks)) → IsFaithful contents lumps old → IsFaithful contents lumps new
 faithful_kept contents lumps old new k f = record { at = λ n lt. kept_bytes (owned_block (lump_owner n) old.blocks) (owned_block (lump_owner n) new.blocks) (λ xs. xs ≡ lump_bytes contents lumps n) (k n) (f.at n lt) }
 
--- a composite's bytes are no lump's
-pub composite_others : (number : ℕ) (w : List ℕ) (z : Heap) (o : Owner) → same_owner (composite_owner number) o ≡ false → owned_block o (with_bytes (composite_owner number) w z).blocks ≡ owned_block o z.blocks
-composite_others number w z o apart = owned_written_others o (composite_owner number) w apart z.blocks
+module _ (o : Owner) (w : List ℕ) (old : Heap) {new : Heap} (is : new ≡ with_bytes o w old) where
+  -- the zone keeps its size and its slots
+  pub write_counts : KeepsCounts old new
+  write_counts = subst (KeepsCounts old) (sym is) (refl, refl, refl)
 
-pub faithful_written : (number : ℕ) (w : List ℕ) (contents : List (List ℕ)) (lumps : List Lump) (z : Heap) → IsFaithful contents lumps z → IsFaithful contents lumps (with_bytes (composite_owner number) w z)
-faithful_written number w contents lumps z f = faithful_kept contents lumps z (with_bytes (composite_owner number) w z) (λ n. inl (composite_others number w z (lump_owner n) refl)) f
+  -- another owner's block stands
+  pub write_others : (p : Owner) → same_owner o p ≡ false → owned_block p new.blocks ≡ owned_block p old.blocks
+  write_others p apart = ap (λ (z : Heap). owned_block p z.blocks) is ∙ owned_written_others p o w apart old.blocks
+
+  -- a live owner is live, and a pinned block is pinned
+  pub write_live : (p : Owner) → IsLive old p → IsLive new p
+  write_live p live = ap (λ (z : Heap). is_live z.blocks p) is ∙ live_written o w p old ∙ live
+
+  pub write_pinned : (p : Owner) → IsPinned (owned_block p old.blocks) → IsPinned (owned_block p new.blocks)
+  write_pinned p pinned = subst (λ (z : Heap). IsPinned (owned_block p z.blocks)) (sym is) (written_pinned o w p old.blocks pinned)
+
+  -- a cache in order stays so
+  pub write_order : (items : List Item) (taken : ℕ) → IsInOrder items old → KeepsOrder items old new taken taken
+  write_order items taken order = subst (λ (z : Heap). KeepsOrder items old z taken taken) (sym is) (order_written o w items old taken order)
+
+  -- an owner that is no lump
+  module _ (apart : (number : ℕ) → same_owner o (lump_owner number) ≡ false) where
+    -- each live lump keeps the bytes that its files have
+    pub write_faithful : (contents : List (List ℕ)) (lumps : List Lump) → IsFaithful contents lumps old → IsFaithful contents lumps new
+    write_faithful contents lumps faithful = faithful_kept contents lumps old new (λ number. inl (write_others (lump_owner number) (apart number))) faithful
+
+    -- a cache at rest stays so, and one at rest except for some owners
+    pub write_rest : (colormap count : ℕ) → IsAtRest colormap count old → IsAtRest colormap count new
+    write_rest colormap count rest = subst (IsAtRest colormap count) (sym is) (rest_written o w colormap count old (apart colormap) rest)
+
+    pub write_rest_except : (colormap count : ℕ) (pinned : List Owner) → IsAtRestExcept colormap count pinned old → IsAtRestExcept colormap count pinned new
+    write_rest_except colormap count pinned rest = subst (IsAtRestExcept colormap count pinned) (sym is) (rest_but_written o w colormap count pinned old (apart colormap) rest)

@@ -31,7 +31,8 @@ pub record IsFilled (o : Owner) (old new : Heap) (P : List ℕ → Type 0) : Typ
 
 -- each live lump has the bytes that its files have
 pub record IsFaithful (contents : List (List ℕ)) (lumps : List Lump) (z : Heap) : Type 0 where
-  pub at : (number : ℕ) → number < length lumps → IfSome (bytes_of (lump_owner number) z.blocks) (λ bytes. bytes ≡ lump_bytes contents lumps number)
+  pub at : (number : ℕ) → number < length lumps →
+      IfSome (bytes_of (lump_owner number) z.blocks) (λ bytes. bytes ≡ lump_bytes contents lumps number)
 
 -- a block that is pinned for the whole run, of so many bytes
 abbrev pub IsStatic : ℕ → Option Holding → Type 0
@@ -46,13 +47,15 @@ abbrev pub IsPinned : Option Block → Type 0
 IsPinned None = ⊥
 IsPinned (Some b) = is_pinned b ≡ true
 
--- the colormap of that size stands at place 0, pinned for the whole run, and no other block is pinned
+-- the colormap of that size stands at place 0, pinned for the whole run, and no other block is
+-- pinned
 pub record IsAtRest (colormap size : ℕ) (z : Heap) : Type 0 where
   pub block : Block
   pub is : owned_block (lump_owner colormap) z.blocks ≡ Some block
   pub place : block.place ≡ 0
   pub pinned : IsStatic size block.holding
-  pub others : (o : Owner) → same_owner (lump_owner colormap) o ≡ false → IsUnpinned (owned_block o z.blocks)
+  pub others : (o : Owner) → same_owner (lump_owner colormap) o ≡ false →
+      IsUnpinned (owned_block o z.blocks)
 
 -- no slot is live
 abbrev pub IsEmpty : Heap → Type 0
@@ -60,7 +63,8 @@ IsEmpty z = (o : Owner) → owned_block o z.blocks ≡ None
 
 -- the zone keeps its size, and its slots of each kind
 abbrev pub KeepsCounts : Heap → Heap → Type 0
-KeepsCounts old new = (new.size ≡ old.size) × (new.lumps ≡ old.lumps) × (new.composites ≡ old.composites)
+KeepsCounts old new =
+    (new.size ≡ old.size) × (new.lumps ≡ old.lumps) × (new.composites ≡ old.composites)
 
 -- a slot that a call does not name: as it was, or empty where its block was purgeable
 abbrev pub MayPurge : Option Block → Type 0
@@ -86,11 +90,14 @@ pub record IsAtRestExcept (colormap size : ℕ) (pinned : List Owner) (z : Heap)
   pub is : owned_block (lump_owner colormap) z.blocks ≡ Some block
   pub place : block.place ≡ 0
   pub static : IsStatic size block.holding
-  pub others : (o : Owner) → same_owner (lump_owner colormap) o ≡ false → list_any (same_owner o) pinned ≡ false → IsUnpinned (owned_block o z.blocks)
-  pub passing : (o : Owner) → same_owner (lump_owner colormap) o ≡ false → holds_static (holding_of o z.blocks) ≡ false
+  pub others : (o : Owner) → same_owner (lump_owner colormap) o ≡ false →
+      list_any (same_owner o) pinned ≡ false → IsUnpinned (owned_block o z.blocks)
+  pub passing : (o : Owner) → same_owner (lump_owner colormap) o ≡ false →
+      holds_static (holding_of o z.blocks) ≡ false
 
 abbrev pub with_tag_unless_static : Owner → Tag → Heap → Heap
-with_tag_unless_static o tag z = if holds_static (holding_of o z.blocks) then z else with_tag o tag z
+with_tag_unless_static o tag z =
+    if holds_static (holding_of o z.blocks) then z else with_tag o tag z
 
 -- a release makes a live block purgeable in the same way, and does nothing to an empty slot
 abbrev pub released_heap : Owner → Heap → Option Holding → Heap
@@ -100,16 +107,16 @@ released_heap o z (Some h) = with_tag_unless_static o Cache z
 abbrev pub release_heap : Owner → Heap → Heap
 release_heap o z = released_heap o z (holding_of o z.blocks)
 
--- what is said of an answer that the zone is full
-abbrev pub WhereFull : {A : Type 0} → Result A CacheFault → (ℕ → ℕ → Type 0) → Type 0
-WhereFull (Ok value) P = ⊤
-WhereFull (Err (ZoneFull wanted widest)) P = P wanted widest
-WhereFull (Err ReadFault) P = ⊤
+-- what is said of each answer of a call: Ok, no room, and a read that failed
+abbrev pub MatchAnswer : {A : Type 0} → Result A CacheFault →
+    Type 0 → (ℕ → ℕ → Type 0) → Type 0 → Type 0
+MatchAnswer (Ok value) ok full read = ok
+MatchAnswer (Err (ZoneFull wanted widest)) ok full read = full wanted widest
+MatchAnswer (Err ReadFault) ok full read = read
 
-abbrev pub is_full : {A : Type 0} → Result A CacheFault → Bool
-is_full (Ok value) = false
-is_full (Err (ZoneFull wanted widest)) = true
-is_full (Err ReadFault) = false
+-- what is said only of the answer that the zone is full
+abbrev pub WhereFull : {A : Type 0} → Result A CacheFault → (ℕ → ℕ → Type 0) → Type 0
+WhereFull result P = MatchAnswer result ⊤ P ⊤
 
 -- a block was taken and given back
 pub record GivesBack (old new : Heap) (o : Owner) (size : ℕ) (tag : Tag) : Type 0 where
@@ -117,13 +124,7 @@ pub record GivesBack (old new : Heap) (o : Owner) (size : ℕ) (tag : Tag) : Typ
   pub takes : TakesBlock old between o size tag
   pub freed : new ≡ without_block o between
 
--- what is left by either fault
-abbrev pub LeftBy : {A : Type 0} → Result A CacheFault → Type 0 → Type 0 → Type 0
-LeftBy (Ok value) full read = ⊤
-LeftBy (Err (ZoneFull wanted widest)) full read = full
-LeftBy (Err ReadFault) full read = read
-
--- no gap holds the block of so many bytes
+-- no gap holds a block for `size` bytes; its size and the widest gap's are reported
 pub record NoRoom (size : ℕ) (z : Heap) (wanted widest' : ℕ) : Type 0 where
   pub wanted_is : wanted ≡ block_size size
   pub widest_is : widest' ≡ widest (gaps z.blocks)

@@ -7,9 +7,12 @@ use Rattle.lump_cache.specs.Caches.{IsAtRest, lump_owner}
 
 -- each live lump has as many bytes as the directory says
 pub record HasSizes (lumps : List Lump) (z : Heap) : Type 0 where
-  pub at : (number : ℕ) → number < length lumps → IfSome (bytes_of (lump_owner number) z.blocks) (λ bytes. length bytes ≡ (lump_at lumps number).size)
+  pub at : (number : ℕ) → number < length lumps →
+      IfSome (bytes_of (lump_owner number) z.blocks) (λ bytes. length bytes ≡ (lump_at lumps number).size)
 
--- from a cache at rest with these sizes: a block for the lump, if it is another one, is together with
--- the colormap's no larger than the zone
+-- from a cache at rest with these sizes: a block for the lump, if it is another one, is together
+-- with the colormap's no larger than the zone
 abbrev pub StandsBeside : List Lump → Heap → ℕ → Type 0
-StandsBeside lumps z lump = (colormap count : ℕ) → IsAtRest colormap count z → HasSizes lumps z → lump ≢ colormap → block_size count + block_size (lump_at lumps lump).size ≤ z.size
+StandsBeside lumps z lump = (colormap count : ℕ) → IsAtRest colormap count z →
+    HasSizes lumps z → lump ≢ colormap →
+    block_size count + block_size (lump_at lumps lump).size ≤ z.size

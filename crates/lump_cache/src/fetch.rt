@@ -16,8 +16,8 @@ use outside::Shelf;
 use wad_dir::{Directory, LumpNo};
 use zone_heap::Tag;
 
-/// Makes a lump live, with the tag `Cache`: nothing is pinned. Takes no memory. Where each live
-/// lump has as many bytes as the directory says, each has so after any answer.
+/// Makes a lump live with the tag `Cache`, so that nothing is pinned. Takes no memory. Where each
+/// live lump has the size that the directory gives, this is so after any answer too.
 ///
 /// Errors: `ZoneFull` where no gap of the zone held the lump's block, `ReadFault` where a call of
 /// the shelf failed.
@@ -31,15 +31,19 @@ pub fn fetch_live<S: Shelf>(
 ) -> Result<(), CacheFault>
     requires slots { length dir.now.lumps ≤ cache.old.lumps }
     requires there { lump.0 < length dir.now.lumps }
-    ensures tells { ReadsLumps cache_fault (S.view shelf.old) (S.view shelf.new) dir.now cache.old cache.new (λ number. number ≡ lump.0) (λ done. done) (λ bytes. Ok tt) result }
+    ensures tells { ReadsLumps cache_fault (S.view shelf.old) (S.view shelf.new) dir.now cache.old cache.new
+        (λ number. number ≡ lump.0) (λ done. done) (λ bytes. Ok tt) result }
     ensures live { OnOk result (IsLive cache.new (lump_owner lump.0)) }
-    ensures bytes { (contents : List (List ℕ)) → HoldContents (S.view shelf.old) dir.now cache.old contents → OnOk result (bytes_of (lump_owner lump.0) cache.new.blocks ≡ Some (lump_bytes contents dir.now.lumps lump.0)) }
+    ensures bytes { (contents : List (List ℕ)) → HoldContents (S.view shelf.old) dir.now cache.old contents →
+        OnOk result
+        (bytes_of (lump_owner lump.0) cache.new.blocks
+        ≡ Some (lump_bytes contents dir.now.lumps lump.0)) }
 {
     cache.fetch(shelf, dir, lump, Tag::Cache)
 }
 
-/// Makes the last lump of a name live, or answers `None` exactly where no lump has the name. Takes no
-/// memory.
+/// Makes the last lump of a name live and returns its number, or `None` exactly where no lump has
+/// the name. Takes no memory.
 ///
 /// Errors: those of `fetch_live`.
 ///
@@ -51,11 +55,16 @@ pub fn fetch_named<S: Shelf>(
     name: &Name8,
 ) -> Result<Option<LumpNo>, CacheFault>
     requires slots { length dir.now.lumps ≤ cache.old.lumps }
-    ensures tells { ReadsLumps cache_fault (S.view shelf.old) (S.view shelf.new) dir.now cache.old cache.new (IsLast dir.now.lumps name.now) (λ lump. option_map (λ l. l.0) lump) (λ bytes. Ok (last_of dir.now.lumps name.now)) result }
+    ensures tells { ReadsLumps cache_fault (S.view shelf.old) (S.view shelf.new) dir.now cache.old cache.new
+        (IsLast dir.now.lumps name.now) (λ lump. option_map (λ l. l.0) lump)
+        (λ bytes. Ok (last_of dir.now.lumps name.now)) result }
     ensures found { IfOk result (λ lump. option_map (λ l. l.0) lump ≡ last_of dir.now.lumps name.now) }
     ensures there { IfOk result (λ lump. IfSome lump (λ l. l.0 < length dir.now.lumps)) }
     ensures live { IfOk result (λ lump. IfSome lump (λ l. IsLive cache.new (lump_owner l.0))) }
-    ensures bytes { (contents : List (List ℕ)) → HoldContents (S.view shelf.old) dir.now cache.old contents → IfOk result (λ lump. live_bytes lump cache.new ≡ named_bytes (lump_bytes contents dir.now.lumps) dir.now.lumps name.now) }
+    ensures bytes { (contents : List (List ℕ)) → HoldContents (S.view shelf.old) dir.now cache.old contents →
+        IfOk result (λ lump.
+        live_bytes lump cache.new
+        ≡ named_bytes (lump_bytes contents dir.now.lumps) dir.now.lumps name.now) }
 {
     match dir.last(name) {
         Some(lump) => {
@@ -68,25 +77,30 @@ pub fn fetch_named<S: Shelf>(
 
 /// The bytes of a live lump.
 ///
-/// A zone at rest has room for a block of the colormap's size and one of as many bytes as are lent,
-/// unless the lump is the colormap.
+/// A zone at rest is large enough for a block of the colormap's size and one for the bytes that are
+/// lent, unless the lump is the colormap.
 pub fn live_lump(cache: &LumpCache, lump: LumpNo) -> &[u8]
     requires in_range { lump.0 < cache.now.lumps }
     requires live { IsLive cache.now (lump_owner lump.0) }
     ensures value { bytes_of (lump_owner lump.0) cache.now.blocks ≡ Some result.now }
-    ensures fits { (colormap count : ℕ) → IsAtRest colormap count cache.now → same_owner (lump_owner colormap) (lump_owner lump.0) ≡ false → block_size count + block_size (length result.now) ≤ cache.now.size }
+    ensures fits { (colormap count : ℕ) → IsAtRest colormap count cache.now →
+        same_owner (lump_owner colormap) (lump_owner lump.0) ≡ false →
+        block_size count + block_size (length result.now) ≤ cache.now.size }
 {
     cache.bytes(lump).unwrap()
 }
 
 /// The bytes of a lump, or `None` exactly where there is no lump or it is not live.
 ///
-/// A zone at rest has room for a block of the colormap's size and one of as many bytes as are lent,
-/// unless the lump is the colormap.
+/// A zone at rest is large enough for a block of the colormap's size and one for the bytes that are
+/// lent, unless the lump is the colormap.
 pub fn live_bytes(cache: &LumpCache, lump: Option<LumpNo>) -> Option<&[u8]>
     requires { IfSome lump (λ l. l.0 < cache.now.lumps) }
     ensures value { option_copied result ≡ live_bytes lump cache.now }
-    ensures fits { (colormap count : ℕ) → IsAtRest colormap count cache.now → IfSome lump (λ l. same_owner (lump_owner colormap) (lump_owner l.0) ≡ false) → IfSome (option_copied result) (λ bytes. block_size count + block_size (length bytes) ≤ cache.now.size) }
+    ensures fits { (colormap count : ℕ) → IsAtRest colormap count cache.now →
+        IfSome lump (λ l. same_owner (lump_owner colormap) (lump_owner l.0) ≡ false) →
+        IfSome (option_copied result) (λ bytes.
+        block_size count + block_size (length bytes) ≤ cache.now.size) }
 {
     match lump {
         Some(lump) => cache.bytes(lump),

@@ -1,6 +1,5 @@
 // Lumps asked for by name, over a shelf in memory.
-use crate::{fetch_named, live_bytes};
-use crate::{CacheFault, LumpCache};
+use crate::{CacheFault, LumpCache, fetch_named, live_bytes};
 use lump_rules::Name8;
 use outside::{MemoryFile, MemoryShelf, Shelf};
 use std::alloc::{AllocError, Global};

@@ -1,11 +1,15 @@
-//! The lump cache: lumps and composites in the blocks of a zone, read when they are first asked for.
+//! The lump cache: lumps and composites in the blocks of a zone; a lump is read when it is first
+//! fetched.
 //!
-//! Rules: `specs/Caches`, over `zone_rules`; `specs/Calls`, what a call that reads lumps answers and
-//! keeps, with laws that chain such calls in `proofs/CallLemmas`. Proved: what `fetch` answers over any
-//! shelf, what it reads, how small a zone is that had no room, that what is lent has room beside the
-//! colormap, and what each call keeps of a cache that is faithful to its files, of one at rest, and of
-//! one in order. Tested only: that memory is found. The original: `W_CacheLumpNum` and
-//! `W_CacheLumpName`, w_wad.c.
+//! Rules: `specs/Caches`, over `zone_rules`; `specs/Fetches`, the relations of a fetch and of a
+//! request for a composite; `specs/Calls`, the relation of a call that reads lumps. The laws over
+//! them are in `proofs`: FetchLemmas, TakeLemmas, ReleaseLemmas, WriteLemmas and DropLemmas for the
+//! calls of the cache, CallLemmas to chain calls that read lumps.
+//!
+//! Proved: what `fetch` returns over any shelf, what it reads, how small a zone was that had no
+//! room, that what is lent has room beside the colormap, and that each call keeps a cache faithful
+//! to its files, at rest and in order. Tested only: that memory is found. The original:
+//! `W_CacheLumpNum` and `W_CacheLumpName`, w_wad.c.
 #![tactic(auto)]
 
 mod cache;
@@ -13,7 +17,9 @@ mod fault;
 mod fetch;
 #[cfg(test)]
 mod fetch_tests;
+mod fetching;
 mod read;
+mod tags;
 #[cfg(test)]
 mod tests;
 

@@ -27,11 +27,17 @@ pub fn read_into<S: Shelf>(
 ) -> Result<(), Failed>
     requires in_range { lump.0 < zone.old.lumps }
     requires live { IsLive zone.old (lump_owner lump.0) }
-    ensures filled { IsFilled (lump_owner lump.0) zone.old zone.new (λ w. OnOk result (IfSome ((S.view shelf.old).file file.0) (λ bytes. IsPieceAt bytes place w))) }
+    ensures filled { IsFilled (lump_owner lump.0) zone.old zone.new (λ w.
+        OnOk result
+        (IfSome ((S.view shelf.old).file file.0) (λ bytes. IsPieceAt bytes place w))) }
     ensures follows { IsLaterShelf (S.view shelf.old) (S.view shelf.new) }
-    ensures taken { OnOk result (IfSome (bytes_of (lump_owner lump.0) zone.old.blocks) (λ xs. (S.view shelf.new).taken ≡ counted (S.view shelf.old).taken (length xs))) }
+    ensures taken { OnOk result (IfSome (bytes_of (lump_owner lump.0) zone.old.blocks) (λ xs.
+        (S.view shelf.new).taken ≡ counted (S.view shelf.old).taken (length xs))) }
     ensures failed { OnErr result (FaultsRose (S.view shelf.old).faults (S.view shelf.new).faults) }
-    ensures steady { IsTrue (S.view shelf.old).steady → IfSome ((S.view shelf.old).file file.0) (λ bytes. IfSome (bytes_of (lump_owner lump.0) zone.old.blocks) (λ xs. place + length xs ≤ length bytes → IsOk result)) }
+    ensures steady { IsTrue (S.view shelf.old).steady →
+        IfSome ((S.view shelf.old).file file.0) (λ bytes.
+        IfSome (bytes_of (lump_owner lump.0) zone.old.blocks) (λ xs.
+        place + length xs ≤ length bytes → IsOk result)) }
 {
     let piece = zone.bytes_mut(lump_slot(lump));
     shelf.read_at(file, u64::from(place), piece)

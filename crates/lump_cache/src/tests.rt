@@ -115,6 +115,18 @@ fn a_lump_is_read_where_it_has_bytes_and_room(rt: HostRuntime) -> Result<(), Fai
     Ok(())
 }
 
+#[test]
+fn a_full_zone_says_what_was_wanted(rt: HostRuntime) -> Result<(), Fail> {
+    let fault = CacheFault::ZoneFull {
+        wanted: 72,
+        widest: 64,
+    };
+    let message = format!(in rt.alloc(); "{fault}")?;
+    let wanted = "the zone is full: a block of 72 bytes was wanted, the widest gap has 64";
+    assert!(rt; message == wanted);
+    Ok(())
+}
+
 fn copy(from: &[u8], to: &mut [u8]) {
     if from.len() == to.len() {
         to.copy_from_slice(from);
