@@ -10,7 +10,7 @@ use Rattle.zone_rules.specs.Zones.{Heap}
 use Rattle.lump_rules.specs.Lookups.{last_of}
 use Rattle.wad_dir.specs.DirectoryView.{DirectoryView}
 use Rattle.lump_cache.specs.Calls.{ReadsLumps}
-use Rattle.lump_cache.proofs.CallLemmas.{result_above, tells_above}
+use Rattle.lump_cache.proofs.CallLemmas.{result_above, reads_above}
 use Rattle.level_rules.specs.declared.SideTextures.{SideTextures}
 use Rattle.art_rules.specs.Textures.{TextureLists}
 use Rattle.art_rules.specs.Wanted.{PreparedTexture, prepared_textures}
@@ -39,7 +39,7 @@ pub textures_told : {B : Type 0} {v w : ShelfView} {dir : DirectoryView} {a b : 
     ReadsLumps itself v w dir a b (IsWantedPatch dir.lumps lists (is_wanted wanted)) value (λ bytes. prepared_textures (last_of dir.lumps) bytes lists (is_wanted wanted)) result →
     ReadsLumps itself v w dir a b (IsWantedPatch dir.lumps lists (is_wanted_texture sides sky)) value (λ bytes. from_below Texture (prepared_textures (last_of dir.lumps) bytes lists (is_wanted_texture sides sky))) (result_above above_textures result)
 textures_told lists sides sky wanted result same one =
-    tells_above Texture above_textures textures_above result (tells_wanted lists (is_wanted wanted) (is_wanted_texture sides sky) result same one)
+    reads_above Texture above_textures textures_above result (tells_wanted lists (is_wanted wanted) (is_wanted_texture sides sky) result same one)
 
 -- the same sides
 pub sides_told : {B : Type 0} {v w : ShelfView} {dir : DirectoryView} {a b : Heap} {value : B → List (Option PreparedTexture)} (lists : TextureLists) (sides seen : List SideTextures) (sky : Option ℕ) (result : Result B AuditFault) → seen ≡ sides →
@@ -54,7 +54,7 @@ pub book_told : {v w : ShelfView} {dir : DirectoryView} {a b : Heap} (placed : L
     ReadsLumps itself v w dir a b (IsWanted dir.lumps (map need_of placed)) (λ (book : List Frame). book) (λ bytes. from_below Sprite (book_in bytes dir.lumps placed)) (result_above above_sprites result)
 unfolding book_in
 book_told {v} {w} {dir} {a} {b} placed needs result are one =
-    tells_above Sprite above_sprites sprites_above result
+    reads_above Sprite above_sprites sprites_above result
     (subst (λ (n : List Need). ReadsLumps itself v w dir a b (IsWanted dir.lumps n) (λ (book : List Frame). book) (λ bytes. each_of (frame_of bytes dir.lumps) (first_needs n)) result) are one)
 
 -- the last of three settles it

@@ -6,7 +6,7 @@ use Rattle.zone_rules.specs.Zones.{Heap}
 use Rattle.wad_dir.specs.DirectoryView.{DirectoryView}
 use Rattle.level_rules.specs.declared.ThingLine.{ThingLine}
 use Rattle.lump_cache.specs.Calls.{ReadsLumps}
-use Rattle.lump_cache.proofs.CallLemmas.{tells_as, tells_more, tells_same, tells_short, tells_stop, tells_stop_first}
+use Rattle.lump_cache.proofs.CallLemmas.{reads_as, reads_more, reads_same, reads_short, reads_stop, reads_stop_first}
 use Rattle.level_audit.specs.declared.fault.AuditFault.{AuditFault}
 use Rattle.level_audit.specs.declared.fault.AuditFault.TheVariants.{OutOfMemory}
 use Rattle.scene_rules.specs.Scenes.{scene_in, scene_on}
@@ -25,7 +25,7 @@ module _ {v : ShelfView} {dir : DirectoryView} {a : Heap} (lines : List ThingLin
   pub base_stopped : {w : ShelfView} {b : Heap} (one : Result ReadBase AuditFault) (fault : AuditFault) (result : Result SoundValue AuditFault) → ReadsLumps itself v w dir a b (IsOfBase dir.lumps name) value_of (λ bytes. base_and_palette bytes dir.lumps name) one → one ≡ Err fault → IsErrAnd result (λ e. e ≡ fault) →
       ReadsLumps itself v w dir a b (IsReadLater v dir a lines name skill) (λ (sound : SoundValue). sound.scene) (λ bytes. scene_in bytes dir.lumps lines name skill) result
   base_stopped one fault result tells was is =
-      tells_stop_first (λ bytes. scene_in bytes dir.lumps lines name skill) one fault result tells was is
+      reads_stop_first (λ bytes. scene_in bytes dir.lumps lines name skill) one fault result tells was is
       (λ lump asked contents told. inl asked) (λ bytes refusal. scene_in-stop bytes dir.lumps lines name skill refusal)
 
   -- it was, and the scene is read over it
@@ -36,15 +36,15 @@ module _ {v : ShelfView} {dir : DirectoryView} {a : Heap} (lines : List ThingLin
         inr (record { base = base_of base; is = (base_known _ dir.lumps lines name skill (base_of base) base.palette.items (one.answers contents told).ok).0; asked = asked })
 
     base_passed : ReadsLumps itself v w dir a b (IsReadLater v dir a lines name skill) value_of (λ bytes. base_and_palette bytes dir.lumps name) (Ok base)
-    base_passed = tells_as {value = value_of} {expected = λ bytes. base_and_palette bytes dir.lumps name} base base one (λ lump asked contents told. inl asked) (λ bytes is. is)
+    base_passed = reads_as {value = value_of} {expected = λ bytes. base_and_palette bytes dir.lumps name} base base one (λ lump asked contents told. inl asked) (λ bytes is. is)
 
     -- the scene was not read
     pub scene_stopped : {x : ShelfView} {c : Heap} (two : Result ReadScene AuditFault) (fault : AuditFault) (result : Result SoundValue AuditFault) →
         ReadsLumps itself w x dir b c (IsOfScene dir.lumps lines skill name (base_of base)) scene_value (λ bytes. given_palette base.palette.items (scene_on bytes dir.lumps lines skill name (base_of base))) two → two ≡ Err fault → IsErrAnd result (λ e. e ≡ fault) →
         ReadsLumps itself v x dir a c (IsReadLater v dir a lines name skill) (λ (sound : SoundValue). sound.scene) (λ bytes. scene_in bytes dir.lumps lines name skill) result
     scene_stopped two fault result tells was is =
-        tells_same result fault (λ bytes. scene_in bytes dir.lumps lines name skill) is
-        (tells_stop (λ bytes. scene_in bytes dir.lumps lines name skill) fault base_passed two tells was of_scene
+        reads_same result fault (λ bytes. scene_in bytes dir.lumps lines name skill) is
+        (reads_stop (λ bytes. scene_in bytes dir.lumps lines name skill) fault base_passed two tells was of_scene
         (λ bytes refusal found stopped. scene_in-more bytes dir.lumps lines name skill (base_of base) base.palette.items found ∙ stopped))
 
     -- it was read
@@ -52,12 +52,12 @@ module _ {v : ShelfView} {dir : DirectoryView} {a : Heap} (lines : List ThingLin
         (two : ReadsLumps itself w x dir b c (IsOfScene dir.lumps lines skill name (base_of base)) scene_value (λ bytes. given_palette base.palette.items (scene_on bytes dir.lumps lines skill name (base_of base))) (Ok scene)) where
       scene_passed : ReadsLumps itself v x dir a c (IsReadLater v dir a lines name skill) scene_value (λ bytes. scene_in bytes dir.lumps lines name skill) (Ok scene)
       scene_passed =
-          tells_more (λ bytes. scene_in bytes dir.lumps lines name skill) scene scene base_passed (Ok scene) two refl of_scene
+          reads_more (λ bytes. scene_in bytes dir.lumps lines name skill) scene scene base_passed (Ok scene) two refl of_scene
           (λ bytes found read. scene_in-more bytes dir.lumps lines name skill (base_of base) base.palette.items found ∙ read)
 
       -- memory ran out for what is made of it
       pub sound_stopped : (result : Result SoundValue AuditFault) → IsErrAnd result (λ e. e ≡ OutOfMemory) → ReadsLumps itself v x dir a c (IsReadLater v dir a lines name skill) (λ (sound : SoundValue). sound.scene) (λ bytes. scene_in bytes dir.lumps lines name skill) result
-      sound_stopped result is = tells_same result OutOfMemory (λ bytes. scene_in bytes dir.lumps lines name skill) is (tells_short OutOfMemory refl (λ lump asked. asked) scene_passed)
+      sound_stopped result is = reads_same result OutOfMemory (λ bytes. scene_in bytes dir.lumps lines name skill) is (reads_short OutOfMemory refl (λ lump asked. asked) scene_passed)
 
       pub sound_passed : (sound : SoundValue) → sound.scene ≡ scene_value scene → ReadsLumps itself v x dir a c (IsReadLater v dir a lines name skill) (λ (sound : SoundValue). sound.scene) (λ bytes. scene_in bytes dir.lumps lines name skill) (Ok sound)
-      sound_passed sound is = tells_as scene sound scene_passed (λ lump asked. asked) (λ bytes read. read ∙ ap Ok (sym is))
+      sound_passed sound is = reads_as scene sound scene_passed (λ lump asked. asked) (λ bytes read. read ∙ ap Ok (sym is))

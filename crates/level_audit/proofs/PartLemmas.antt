@@ -5,7 +5,7 @@ use Rattle.outside.specs.Faults.{ResultIs, from_below, itself}
 use Rattle.zone_rules.specs.Zones.{Heap}
 use Rattle.wad_dir.specs.DirectoryView.{DirectoryView}
 use Rattle.lump_cache.specs.Calls.{ReadsLumps}
-use Rattle.lump_cache.proofs.CallLemmas.{result_above, tells_above, tells_known, tells_memory, tells_refused}
+use Rattle.lump_cache.proofs.CallLemmas.{result_above, reads_above, reads_known, reads_memory, reads_refused}
 use Rattle.level_rules.specs.declared.Seg.{Seg}
 use Rattle.level_rules.specs.declared.SideTextures.{SideTextures}
 use Rattle.map_rules.specs.Levels.{LevelValue}
@@ -27,13 +27,13 @@ use Rattle.level_audit.specs.Scenes.{faces_of}
 module _ {A B : Type 0} {value : B → A} {expected : Result A SceneRefusal} (view : ShelfView) (dir : DirectoryView) (z : Heap) (wants : ℕ → Type 0) where
   -- the shelf and the cache are as before
   tells_answered : (result : Result B SceneFault) → ResultIs scene_fault true value expected result → ReadsLumps scene_fault view view dir z z wants value (λ bytes. expected) result
-  tells_answered (Ok found) answers = tells_known view dir z found (λ contents told. answers.ok)
-  tells_answered (Err (Refused refusal)) answers = tells_refused view dir z (Refused refusal) refusal refl (λ contents told. answers.err)
-  tells_answered (Err OutOfMemory) answers = tells_memory view dir z OutOfMemory refl
+  tells_answered (Ok found) answers = reads_known view dir z found (λ contents told. answers.ok)
+  tells_answered (Err (Refused refusal)) answers = reads_refused view dir z (Refused refusal) refusal refl (λ contents told. answers.err)
+  tells_answered (Err OutOfMemory) answers = reads_memory view dir z OutOfMemory refl
 
   -- in the words of an audit
   pub tells_part : (result : Result B SceneFault) → ResultIs scene_fault true value expected result → ReadsLumps itself view view dir z z wants value (λ bytes. from_below Scene expected) (result_above above_scene result)
-  tells_part result answers = tells_above Scene above_scene scene_above result (tells_answered result answers)
+  tells_part result answers = reads_above Scene above_scene scene_above result (tells_answered result answers)
 
 -- the last checks, over segs and sides that are lent
 pub checks_told : (view : ShelfView) (dir : DirectoryView) (z : Heap) (wants : ℕ → Type 0) (placed : List Placed) (prepared : List (Option PreparedTexture)) (segs lent : List Seg) (sides seen : List SideTextures) (result : Result (Unit {0}) SceneFault) → lent ≡ segs → seen ≡ sides →

@@ -6,7 +6,7 @@ use Rattle.lump_rules.specs.declared.wad.Lump.{Lump}
 use Rattle.zone_rules.specs.Zones.{Heap}
 use Rattle.wad_dir.specs.DirectoryView.{DirectoryView}
 use Rattle.lump_cache.specs.Calls.{ReadsLumps}
-use Rattle.lump_cache.proofs.CallLemmas.{fault_above, tells_above, tells_wider}
+use Rattle.lump_cache.proofs.CallLemmas.{fault_above, reads_above, reads_wider}
 use Rattle.csv_tables.specs.declared.weapons.WeaponRow.{WeaponRow}
 use Rattle.art_rules.specs.declared.refusal.SpriteRefusal.{SpriteRefusal}
 use Rattle.sprite_book.specs.declared.fault.SpriteFault.{SpriteFault}
@@ -69,5 +69,5 @@ pub weapons_above : {v w : ShelfView} {dir : DirectoryView} {a b : Heap} (rows :
     ReadsLumps itself v w dir a b (IsWanted dir.lumps needs) (λ book. book) (λ bytes. each_of (frame_of bytes dir.lumps) (first_needs needs)) result →
     ReadsLumps itself v w dir a b (IsWanted dir.lumps (weapon_needs rows)) (λ book. book) (λ bytes. from_below WeaponArt (weapon_book bytes dir.lumps rows)) (fault_above weapon_fault result)
 weapons_above {dir} rows needs result same told =
-    tells_wider (fault_above weapon_fault result) (λ lump wanted. subst (λ (xs : List Need). IsWanted dir.lumps xs lump) same wanted) (λ bytes. book_above bytes dir.lumps rows needs same)
-    (tells_above weapon_art weapon_fault weapon_told result told)
+    reads_wider (fault_above weapon_fault result) (λ lump wanted. subst (λ (xs : List Need). IsWanted dir.lumps xs lump) same wanted) (λ bytes. book_above bytes dir.lumps rows needs same)
+    (reads_above weapon_art weapon_fault weapon_told result told)

@@ -1,6 +1,6 @@
 -- A lump of a map that was fetched, and what adding it to a builder comes to.
 use Rattle.outside.specs.Faults.{itself}
-use Rattle.std.proofs.Common.{◌≡◌, ℕ, List, Option, Some, None, Result, Ok, Err, refl, sym, ap, ◌∙◌, ◌↔◌, IsErrAnd}
+use Rattle.std.proofs.Common.{◌≡◌, ℕ, List, Option, Some, None, Result, Ok, Err, refl, sym, ap, ◌∙◌, ◌↔◌, IsErrAnd, MatchResult}
 use Rattle.outside.specs.Shelf.{ShelfView}
 use Rattle.lump_rules.specs.Contents.{lump_bytes}
 use Rattle.zone_rules.specs.Zones.{Heap}
@@ -12,9 +12,10 @@ use Rattle.map_rules.specs.Lumps.{size_refusal}
 use Rattle.map_lumps.specs.declared.fault.MapFault.{MapFault}
 use Rattle.map_lumps.specs.declared.fault.MapFault.TheVariants.{Refused, OutOfMemory}
 use Rattle.map_lumps.specs.Builders.{BuilderValue, with_lump}
-use Rattle.lump_cache.specs.Caches.{cache_fault}
+use Rattle.std.specs.Prelude.{OnOk}
+use Rattle.std.proofs.lemmas.Result.{err_from_is_err_and}
 use Rattle.lump_cache.specs.Calls.{ReadsLumps, HoldContents}
-use Rattle.lump_cache.proofs.CallLemmas.{tells_same}
+use Rattle.lump_cache.proofs.CallLemmas.{reads_same}
 use Rattle.outside.specs.declared.fault.Fault.{Fault}
 use Rattle.level_scene.specs.Faults.{map_fault}
 use Rattle.level_scene.specs.Lumps.{lump_added}
@@ -37,7 +38,7 @@ unfolding lump_added unless
 added_of_large b lump bytes refusal e = rw e refl
 
 module _ {v w : ShelfView} {dir : DirectoryView} {a b : Heap} (lump : MapLump) (old new : BuilderValue) (number : ℕ) (live : List ℕ)
-    (fetched : ReadsLumps cache_fault v w dir a b (λ n. n ≡ number) (λ (done : Unit {0}). done) (λ bytes. Ok tt) (Ok tt)) (known : (contents : List (List ℕ)) → HoldContents v dir a contents → live ≡ lump_bytes contents dir.lumps number)
+    (fetched : ReadsLumps {R = MapRefusal} itself v w dir a b (λ n. n ≡ number) (λ (done : Unit {0}). done) (λ bytes. Ok tt) (Ok tt)) (known : (contents : List (List ℕ)) → HoldContents v dir a contents → live ≡ lump_bytes contents dir.lumps number)
     (r : Result (Unit {0}) MapFault) (sizes : (refusal : MapRefusal) → (r ≡ Err (Refused refusal)) ↔ (size_refusal lump live ≡ Some refusal)) where
   -- the lump was added
   pub add_passed : r ≡ Ok tt → new ≡ with_lump old lump live → ReadsLumps itself v w dir a b (λ n. n ≡ number) (λ (done : Unit {0}). new) (λ bytes. lump_added old lump (bytes number)) (Ok tt)
@@ -69,4 +70,23 @@ module _ {v w : ShelfView} {dir : DirectoryView} {a b : Heap} (lump : MapLump) (
   }
 
   pub add_stopped : (fault : MapFault) (result : Result (Unit {0}) (Fault MapRefusal)) → r ≡ Err fault → IsErrAnd result (λ e. e ≡ map_fault fault) → ReadsLumps itself v w dir a b (λ n. n ≡ number) (λ (done : Unit {0}). new) (λ bytes. lump_added old lump (bytes number)) result
-  add_stopped fault result was is = tells_same result (map_fault fault) (λ bytes. lump_added old lump (bytes number)) is (stopped fault was)
+  add_stopped fault result was is = reads_same result (map_fault fault) (λ bytes. lump_added old lump (bytes number)) is (stopped fault was)
+
+  pub add_done : (result : Result (Unit {0}) (Fault MapRefusal)) → MatchResult r (λ x. result ≡ Ok x) (λ e. IsErrAnd result (λ f. f ≡ map_fault e)) → OnOk r (new ≡ with_lump old lump live) →
+      ReadsLumps itself v w dir a b (λ n. n ≡ number) (λ (done : Unit {0}). new) (λ bytes. lump_added old lump (bytes number)) result
+  add_done result is ok = go r refl is ok where
+    go : (s : Result (Unit {0}) MapFault) → r ≡ s → MatchResult s (λ x. result ≡ Ok x) (λ e. IsErrAnd result (λ f. f ≡ map_fault e)) → OnOk s (new ≡ with_lump old lump live) →
+        ReadsLumps itself v w dir a b (λ n. n ≡ number) (λ (done : Unit {0}). new) (λ bytes. lump_added old lump (bytes number)) result
+    go (Ok tt) was e k = rw e (add_passed was k)
+    go (Err fault) was e k = add_stopped fault result was e
+
+-- a part of a builder that was changed
+pub added_done : {X : Type 0} (part : BuilderValue → X) {old new : BuilderValue} (r : Result (Unit {0}) MapFault) (result : Result (Unit {0}) (Fault MapRefusal)) →
+    MatchResult r (λ x. result ≡ Ok x) (λ e. IsErrAnd result (λ f. f ≡ map_fault e)) → OnOk r (new ≡ old) → OnOk result (part new ≡ part old)
+added_done part (Ok done) result is e = rw is (ap part e)
+added_done part (Err fault) result is e = let s = err_from_is_err_and result is in rw s.1 tt
+
+-- what holds after any answer
+pub fits_done : {P : Type 0} (result : Result (Unit {0}) (Fault MapRefusal)) → P → OnOk result P
+fits_done (Ok done) p = p
+fits_done (Err fault) p = tt

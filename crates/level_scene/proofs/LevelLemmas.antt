@@ -1,6 +1,7 @@
 -- All eight lumps and then the level of their records, and a map that is found by its name.
 use Rattle.std.proofs.Common.{◌≡◌, ◌+◌, ℕ, true, List, [], ◌∷◌, Option, Some, None, Result, Ok, Err, refl, sym, ap, ◌∙◌, IsErrAnd, MatchResult, option_map}
 use Rattle.std.specs.Option.{ok_or}
+use Rattle.std.specs.Prelude.{IfOk}
 use Rattle.word_rules.specs.Least.{or_else}
 use Rattle.outside.specs.Shelf.{ShelfView}
 use Rattle.outside.specs.Faults.{and_then, itself}
@@ -19,7 +20,7 @@ use Rattle.map_lumps.specs.declared.fault.MapFault.{MapFault}
 use Rattle.map_lumps.specs.declared.fault.MapFault.TheVariants.{Refused, OutOfMemory}
 use Rattle.map_lumps.specs.Builders.{BuilderValue, empty_builder, with_lump, with_records}
 use Rattle.lump_cache.specs.Calls.{ReadsLumps}
-use Rattle.lump_cache.proofs.CallLemmas.{tells_same, tells_short, tells_then_refused, tells_as}
+use Rattle.lump_cache.proofs.CallLemmas.{reads_same, reads_short, reads_then_refused, reads_as}
 use Rattle.scene_rules.specs.Scenes.{label_of, level_in, map_bytes}
 use Rattle.scene_rules.specs.Sizes.{is_map_lump}
 use Rattle.outside.specs.declared.fault.Fault.{Fault}
@@ -75,16 +76,21 @@ module _ {v w : ShelfView} {dir : DirectoryView} {a z : Heap} {wants : ℕ → T
     (read : ReadsLumps itself v w dir a z wants (λ (b : BuilderValue). b) (λ bytes. lumps_from bytes label 1 map_order empty_builder) (Ok builder)) where
   -- the builder gives a level
   pub finish_passed : (level : LevelValue) → level_built builder ≡ Ok level → ReadsLumps itself v w dir a z wants (λ (l : LevelValue). l) (λ bytes. level_of (map_bytes bytes label)) (Ok level)
-  finish_passed level is = tells_as builder level read (λ lump wanted. wanted) (λ bytes got. level_of-more bytes label builder got ∙ is)
+  finish_passed level is = reads_as builder level read (λ lump wanted. wanted) (λ bytes got. level_of-more bytes label builder got ∙ is)
 
   -- it gives none
   module _ (r : Result LevelValue MapFault) (refused : (refusal : MapRefusal) → r ≡ Err (Refused refusal) → level_built builder ≡ Err refusal) where
     given_up : (fault : MapFault) → r ≡ Err fault → ReadsLumps itself v w dir a z wants (λ (l : LevelValue). l) (λ bytes. level_of (map_bytes bytes label)) (Err (map_fault fault))
-    given_up (Refused refusal) was = tells_then_refused (LevelRefused refusal) refusal refl (λ lump wanted. wanted) read (λ contents told got. level_of-more _ label builder got ∙ refused refusal was)
-    given_up OutOfMemory was = tells_short LevelShort refl (λ lump wanted. wanted) read
+    given_up (Refused refusal) was = reads_then_refused (LevelRefused refusal) refusal refl (λ lump wanted. wanted) read (λ contents told got. level_of-more _ label builder got ∙ refused refusal was)
+    given_up OutOfMemory was = reads_short LevelShort refl (λ lump wanted. wanted) read
 
     pub finish_stopped : (fault : MapFault) (result : Result LevelValue (Fault MapRefusal)) → r ≡ Err fault → IsErrAnd result (λ e. e ≡ map_fault fault) → ReadsLumps itself v w dir a z wants (λ (l : LevelValue). l) (λ bytes. level_of (map_bytes bytes label)) result
-    finish_stopped fault result was is = tells_same result (map_fault fault) (λ bytes. level_of (map_bytes bytes label)) is (given_up fault was)
+    finish_stopped fault result was is = reads_same result (map_fault fault) (λ bytes. level_of (map_bytes bytes label)) is (given_up fault was)
+
+  pub finish_done : (r : Result LevelValue MapFault) (result : Result LevelValue (Fault MapRefusal)) → MatchResult r (λ x. result ≡ Ok x) (λ e. IsErrAnd result (λ f. f ≡ map_fault e)) → IfOk r (λ level. level_built builder ≡ Ok level) →
+      ((refusal : MapRefusal) → r ≡ Err (Refused refusal) → level_built builder ≡ Err refusal) → ReadsLumps itself v w dir a z wants (λ (l : LevelValue). l) (λ bytes. level_of (map_bytes bytes label)) result
+  finish_done (Ok level) result is ok refused = rw is (finish_passed level ok)
+  finish_done (Err fault) result is ok refused = finish_stopped (Err fault) refused fault result refl is
 
 -- what is told of a look-up by name
 pub label_told : (found : Option LumpNo) (lumps : List Lump) (name : List ℕ) (r : Result LumpNo MapRefusal) → option_map (λ (lump : LumpNo). lump.0) found ≡ map_of lumps name → r ≡ ok_or found NoMap →

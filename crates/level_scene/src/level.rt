@@ -49,7 +49,10 @@ pub fn read_level<S: Shelf>(
     ensures there { IfOk result (λ found. found.0.0 + length MAP_LUMPS < length dir.now.lumps) }
     ensures fits { IfOk result (λ found. (lump : ℕ) → is_map_lump found.0.0 lump ≡ true → StandsBeside dir.now.lumps cache.old lump) }
 {
-    let label = label_of(dir, name).map_err(Fault::Refused)?;
+    let label = match label_of(dir, name) {
+        Ok(label) => label,
+        Err(refusal) => return Err(Fault::Refused(refusal)),
+    };
     let level = level_behind(alloc, label, dir, cache, shelf)?;
     Ok((label, level))
 }

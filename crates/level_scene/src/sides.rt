@@ -170,7 +170,7 @@ pub fn find_sky(
     map: &Name8,
     sectors: &[Sector],
 ) -> Result<Option<TexNo>, SceneRefusal>
-    ensures answers { ResultIs (λ refusal. refused refusal) true
+    ensures answers { ResultIs (λ refusal. Refused refusal) true
         (λ sky. option_map (λ tex. tex.0) sky)
         (sky_texture lists.now.textures map.now sectors.now) result }
     ensures there { IfOk result (λ sky. IfSome sky (λ tex. tex.0 < length lists.now.textures)) }

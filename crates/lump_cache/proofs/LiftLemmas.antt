@@ -11,7 +11,7 @@ use Rattle.lump_cache.specs.declared.fault.CacheFault.{CacheFault}
 use Rattle.lump_cache.specs.declared.fault.CacheFault.TheVariants.{ZoneFull, ReadFault}
 use Rattle.lump_cache.specs.Caches.{cache_fault, from_cache}
 use Rattle.lump_cache.specs.Calls.{ReadsLumps}
-use Rattle.lump_cache.proofs.CallLemmas.{result_above, tells_above}
+use Rattle.lump_cache.proofs.CallLemmas.{result_above, reads_above}
 
 -- the cache refuses nothing, and its faults are the same above
 no_refusal : {R : Type 0} → ⊥ → R
@@ -49,4 +49,4 @@ module _ {B R : Type 0} where
 pub lifted_reads : {A B R : Type 0} {v w : ShelfView} {dir : DirectoryView} {a b : Heap} {wants : ℕ → Type 0} {value : B → A} (expected : A) (fetched : Result B CacheFault) (result : Result B (Fault R)) → IsLifted fetched result →
     ReadsLumps cache_fault v w dir a b wants value (λ bytes. Ok expected) fetched → ReadsLumps itself v w dir a b wants value (λ bytes. Ok expected) result
 lifted_reads {R} {v} {w} {dir} {a} {b} {wants} {value} expected fetched result is one =
-    subst (ReadsLumps {R = R} itself v w dir a b wants value (λ bytes. Ok expected)) (sym (lifted_is fetched result is)) (tells_above no_refusal from_cache same_fault fetched one)
+    subst (ReadsLumps {R = R} itself v w dir a b wants value (λ bytes. Ok expected)) (sym (lifted_is fetched result is)) (reads_above no_refusal from_cache same_fault fetched one)

@@ -4,4 +4,5 @@ pub mod ShelfLemmas
 pub mod StepLemmas
 pub mod StopLemmas
 pub mod TallySinkLemmas
+pub mod ThroughLemmas
 pub mod WriteLemmas

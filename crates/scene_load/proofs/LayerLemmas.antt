@@ -7,7 +7,7 @@ use Rattle.zone_rules.specs.Zones.{Heap}
 use Rattle.wad_dir.specs.DirectoryView.{DirectoryView}
 use Rattle.csv_tables.specs.declared.weapons.WeaponRow.{WeaponRow}
 use Rattle.lump_cache.specs.Calls.{ReadsLumps}
-use Rattle.lump_cache.proofs.CallLemmas.{tells_as, tells_known, tells_stop_first}
+use Rattle.lump_cache.proofs.CallLemmas.{reads_as, reads_known, reads_stop_first}
 use Rattle.art_rules.specs.declared.shapes.Frame.{Frame}
 use Rattle.sprite_book.specs.Calls.{IsWanted}
 use Rattle.scene_rules.specs.declared.refusal.AuditRefusal.{AuditRefusal}
@@ -36,7 +36,7 @@ module _ (bytes : ℕ → List ℕ) (lumps : List Lump) (weapons : Option (List 
 module _ {v : ShelfView} {dir : DirectoryView} {a : Heap} (weapons : Option (List WeaponRow)) where
   -- no file of layers is named
   pub layers_none : weapons ≡ None → ReadsLumps itself v v dir a a (IsOfLayers dir.lumps weapons) (λ (book : Option (List Frame)). book) (λ bytes. weapons_of bytes dir.lumps weapons) (Ok None)
-  layers_none is = tells_known v dir a None (λ contents told. none_named _ dir.lumps weapons is)
+  layers_none is = reads_known v dir a None (λ contents told. none_named _ dir.lumps weapons is)
 
   module _ {w : ShelfView} {b : Heap} (rows : List WeaponRow) (is : weapons ≡ Some rows) where
     -- their book was not made
@@ -44,11 +44,11 @@ module _ {v : ShelfView} {dir : DirectoryView} {a : Heap} (weapons : Option (Lis
         ReadsLumps itself v w dir a b (IsWanted dir.lumps (weapon_needs rows)) (λ (book : List Frame). book) (λ bytes. from_below WeaponArt (weapon_book bytes dir.lumps rows)) one → one ≡ Err fault → IsErrAnd result (λ e. e ≡ fault) →
         ReadsLumps itself v w dir a b (IsOfLayers dir.lumps weapons) (λ (book : Option (List Frame)). book) (λ bytes. weapons_of bytes dir.lumps weapons) result
     book_stopped one fault result tells was ends =
-        tells_stop_first (λ bytes. weapons_of bytes dir.lumps weapons) one fault result tells was ends (λ lump asked. (rows, is, asked))
+        reads_stop_first (λ bytes. weapons_of bytes dir.lumps weapons) one fault result tells was ends (λ lump asked. (rows, is, asked))
         (λ bytes refusal stopped. book_refused bytes dir.lumps weapons rows refusal is stopped)
 
     -- it was
     pub book_made : (book : List Frame) →
         ReadsLumps itself v w dir a b (IsWanted dir.lumps (weapon_needs rows)) (λ (book : List Frame). book) (λ bytes. from_below WeaponArt (weapon_book bytes dir.lumps rows)) (Ok book) →
         ReadsLumps itself v w dir a b (IsOfLayers dir.lumps weapons) (λ (book : Option (List Frame)). book) (λ bytes. weapons_of bytes dir.lumps weapons) (Ok (Some book))
-    book_made book tells = tells_as book (Some book) tells (λ lump asked. (rows, is, asked)) (λ bytes made. book_accepted bytes dir.lumps weapons rows book is made)
+    book_made book tells = reads_as book (Some book) tells (λ lump asked. (rows, is, asked)) (λ bytes made. book_accepted bytes dir.lumps weapons rows book is made)

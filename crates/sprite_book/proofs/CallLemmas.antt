@@ -13,7 +13,7 @@ use Rattle.art_rules.specs.declared.patch.Patch.{Patch}
 use Rattle.art_rules.specs.declared.refusal.SpriteRefusal.{SpriteRefusal}
 use Rattle.art_rules.specs.Patches.{patch_of}
 use Rattle.lump_cache.specs.Calls.{ReadsLumps, PreservesCache, IsFullFor, IfFull, InOrderAt}
-use Rattle.lump_cache.proofs.CallLemmas.{keeps_none, keeps_then, told_later, full_for_earlier, cause_later, full_at, order_at, tells_at}
+use Rattle.lump_cache.proofs.CallLemmas.{keeps_none, keeps_then, told_later, full_for_earlier, cause_later, full_at, order_at, reads_at}
 use Rattle.outside.specs.declared.fault.Fault.{Fault}
 use Rattle.outside.specs.declared.fault.Fault.TheVariants.{Refused, OutOfMemory}
 use Rattle.sprite_book.specs.Calls.{Reads, IsToldWith, ArePatchesOf}
@@ -90,7 +90,7 @@ module _ {A B C D E F : Type 0} {v w x : ShelfView} {dir : DirectoryView} {a b c
     answers = λ contents told.
         let later = told_with one.keeps told (one.read contents told) in
         let err = subst (λ (y : Result F (Fault SpriteRefusal)). IfErr y (λ f. FaultFits w.steady (part (lump_bytes contents dir.lumps)) (itself f))) is (two.answers contents later).err in
-        record { ok = tt; err = tells_at v.steady w.steady (part (lump_bytes contents dir.lumps)) (expected (lump_bytes contents dir.lumps)) (itself fault) one.keeps.follows.steady (λ e h. stops (lump_bytes contents dir.lumps) e (one.answers contents told).ok h) err };
+        record { ok = tt; err = reads_at v.steady w.steady (part (lump_bytes contents dir.lumps)) (expected (lump_bytes contents dir.lumps)) (itself fault) one.keeps.follows.steady (λ e h. stops (lump_bytes contents dir.lumps) e (one.answers contents told).ok h) err };
     causes = record { err = cause_later v.faults w.faults x.faults (itself fault) one.keeps.follows.faults (subst (λ (y : Result F (Fault SpriteRefusal)). IfErr y (λ f. HasCauseAt w.faults x.faults (itself f))) is two.causes.err) };
     full = full_at (itself fault) (λ wanted widest' k. full_for_earlier among one.keeps wanted widest' k) (subst (λ (y : Result F (Fault SpriteRefusal)). IfErr y (λ f. IfFull (itself f) (IsFullFor some dir b))) is two.full);
     order = λ items all k.

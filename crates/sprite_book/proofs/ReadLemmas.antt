@@ -15,7 +15,7 @@ use Rattle.art_rules.specs.declared.refusal.SpriteRefusal.{SpriteRefusal}
 use Rattle.art_rules.specs.declared.refusal.SpriteRefusal.TheVariants.{BadPatch}
 use Rattle.art_rules.specs.Patches.{patch_of}
 use Rattle.lump_cache.specs.Calls.{ReadsLumps, HoldContents}
-use Rattle.lump_cache.proofs.CallLemmas.{tells_stop_first, tells_then_found, tells_then_refused}
+use Rattle.lump_cache.proofs.CallLemmas.{reads_stop_first, reads_then_found, reads_then_refused}
 use Rattle.outside.specs.declared.fault.Fault.{Fault}
 use Rattle.outside.specs.declared.fault.Fault.TheVariants.{Refused}
 use Rattle.art_rules.specs.Books.{patch_or_bad}
@@ -43,18 +43,18 @@ module _ {view after : ShelfView} {dir : DirectoryView} {old new : Heap} (lump :
       ReadsLumps itself view after dir old new (λ n. n ≡ lump) (λ (done : Unit {0}). done) (λ bytes. Ok tt) fetched →
       fetched ≡ Err fault → IsErrAnd result (λ e. e ≡ fault) → ReadsLumps itself view after dir old new (λ n. n ≡ lump) (λ (patch : Patch). patch) (λ bytes. patch_or_bad bytes lump) result
   fetch_stopped fetched fault result one was is =
-      tells_stop_first (λ bytes. patch_or_bad bytes lump) fetched fault result one was is (λ n same. same) (λ bytes e stopped. absurd (cc))
+      reads_stop_first (λ bytes. patch_or_bad bytes lump) fetched fault result one was is (λ n same. same) (λ bytes e stopped. absurd (cc))
 
   -- the lump was fetched, and is judged by its bytes
   module _ (one : ReadsLumps {R = SpriteRefusal} itself view after dir old new (λ n. n ≡ lump) (λ (done : Unit {0}). done) (λ bytes. Ok tt) (Ok tt)) (live : Option Patch) (judged : (contents : List (List ℕ)) → HoldContents view dir old contents → live ≡ patch_of (lump_bytes contents dir.lumps lump)) where
     pub fetch_found : (patch : Patch) → live ≡ Some patch → ReadsLumps itself view after dir old new (λ n. n ≡ lump) (λ (patch : Patch). patch) (λ bytes. patch_or_bad bytes lump) (Ok patch)
     fetch_found patch is =
-        tells_then_found patch (λ n same. same) one
+        reads_then_found patch (λ n same. same) one
         (λ contents told done. patch_is (lump_bytes contents dir.lumps) lump patch (sym (judged contents told) ∙ is))
 
     pub fetch_bad : (number : ℕ) → number ≡ lump → live ≡ None → ReadsLumps itself view after dir old new (λ n. n ≡ lump) (λ (patch : Patch). patch) (λ bytes. patch_or_bad bytes lump) (Err (Refused (BadPatch number)))
     fetch_bad number e is =
-        tells_then_refused (Refused (BadPatch number)) (BadPatch number) refl (λ n same. same) one
+        reads_then_refused (Refused (BadPatch number)) (BadPatch number) refl (λ n same. same) one
         (λ contents told done. patch_bad (lump_bytes contents dir.lumps) lump (sym (judged contents told) ∙ is) ∙ ap (λ n. Err (BadPatch n)) (sym e))
 
 -- the lump was read before

@@ -14,7 +14,7 @@ use Rattle.lump_rules.specs.Lookups.{last_of}
 use Rattle.zone_rules.specs.Zones.{Heap}
 use Rattle.wad_dir.specs.DirectoryView.{DirectoryView}
 use Rattle.lump_cache.specs.Calls.{ReadsLumps}
-use Rattle.lump_cache.proofs.CallLemmas.{tells_as, tells_then_refused}
+use Rattle.lump_cache.proofs.CallLemmas.{reads_as, reads_then_refused}
 use Rattle.art_rules.specs.declared.TheConstants.{MAX_COMPOSITE}
 use Rattle.art_rules.specs.declared.PlacedPatch.{PlacedPatch}
 use Rattle.art_rules.specs.declared.ColumnLookup.{ColumnLookup}
@@ -104,9 +104,9 @@ pub tells_bound : {A B C D : Type 0} {v w : ShelfView} {dir : DirectoryView} {a 
     IfErr result (λ fault. (fault ≡ Refused reason) × ((bytes : ℕ → List ℕ) → before bytes ≡ Ok (first found) → expected bytes ≡ Err reason)) →
     ReadsLumps itself v w dir a b wants value expected result
 tells_bound {v} {w} {dir} {a} {b} {some} {first} {before} part found reason (Ok got) one is among ok err =
-    tells_as found got (subst (ReadsLumps itself v w dir a b some first before) is one) among ok
+    reads_as found got (subst (ReadsLumps itself v w dir a b some first before) is one) among ok
 tells_bound {v} {w} {dir} {a} {b} {some} {first} {before} part found reason (Err fault) one is among ok err =
-    tells_then_refused fault reason (ap itself err.0) among (subst (ReadsLumps itself v w dir a b some first before) is one) (λ contents told begun. err.1 _ begun)
+    reads_then_refused fault reason (ap itself err.0) among (subst (ReadsLumps itself v w dir a b some first before) is one) (λ contents told begun. err.1 _ begun)
 
 -- a texture that is wanted, and one that is not
 pub if_made : (wanted : Bool) (r : Result PreparedTexture TexRefusal) (texture : PreparedTexture) → wanted ≡ true → r ≡ Ok texture → prepared_if wanted r ≡ Ok (Some texture)

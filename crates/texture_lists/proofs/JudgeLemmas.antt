@@ -12,7 +12,7 @@ use Rattle.wad_dir.specs.DirectoryView.{DirectoryView}
 use Rattle.lump_rules.specs.declared.wad.LumpNo.{LumpNo}
 use Rattle.lump_cache.specs.Calls.{ReadsLumps, HoldContents}
 use Rattle.lump_cache.specs.Named.{IsLast}
-use Rattle.lump_cache.proofs.CallLemmas.{tells_stop_first, tells_short, tells_then_refused, tells_then_found}
+use Rattle.lump_cache.proofs.CallLemmas.{reads_stop_first, reads_short, reads_then_refused, reads_then_found}
 use Rattle.art_rules.specs.declared.TheConstants.{PNAMES, TEXTURE1, TEXTURE2}
 use Rattle.art_rules.specs.declared.refusal.TexRefusal.{TexRefusal}
 use Rattle.texture_lists.specs.Asked.{lump_number}
@@ -36,11 +36,11 @@ pub tells_end : {A B C D : Type 0} {v w : ShelfView} {dir : DirectoryView} {a b 
     ReadsLumps itself v w dir a b some first before (Ok found) → ((lump : ℕ) → some lump → wants lump) → IsOfBytes result →
     ((contents : List (List ℕ)) → HoldContents v dir a contents → before (lump_bytes contents dir.lumps) ≡ Ok (first found) → ResultIs itself true value (expected (lump_bytes contents dir.lumps)) result) →
     ReadsLumps itself v w dir a b wants value expected result
-tells_end expected (Ok got) one among of_bytes judged = tells_then_found got among one (λ contents t is. (judged contents t is).ok)
-tells_end expected (Err (Refused refusal)) one among of_bytes judged = tells_then_refused (Refused refusal) refusal refl among one (λ contents t is. (judged contents t is).err)
+tells_end expected (Ok got) one among of_bytes judged = reads_then_found got among one (λ contents t is. (judged contents t is).ok)
+tells_end expected (Err (Refused refusal)) one among of_bytes judged = reads_then_refused (Refused refusal) refusal refl among one (λ contents t is. (judged contents t is).err)
 tells_end expected (Err ReadFault) one among of_bytes judged = absurd of_bytes
 tells_end expected (Err (ZoneFull wanted widest')) one among of_bytes judged = absurd of_bytes
-tells_end expected (Err OutOfMemory) one among of_bytes judged = tells_short OutOfMemory refl among one
+tells_end expected (Err OutOfMemory) one among of_bytes judged = reads_short OutOfMemory refl among one
 
 module _ {A B : Type 0} {v w : ShelfView} {dir : DirectoryView} {a b : Heap} {name key : List ℕ} {value : B → A} (judge : Option (List ℕ) → Result A TexRefusal) (same : name ≡ key) where
   -- the lump was not fetched
@@ -48,7 +48,7 @@ module _ {A B : Type 0} {v w : ShelfView} {dir : DirectoryView} {a b : Heap} {na
       ReadsLumps itself v w dir a b (IsLast dir.lumps name) lump_number (λ bytes. Ok (last_of dir.lumps name)) fetched →
       fetched ≡ Err fault → IsErrAnd result (λ e. e ≡ fault) → ReadsLumps itself v w dir a b (IsLast dir.lumps key) value (λ bytes. judge (named_bytes bytes dir.lumps key)) result
   fetch_stopped fetched fault result one was is =
-      tells_stop_first (λ bytes. judge (named_bytes bytes dir.lumps key)) fetched fault result one was is (λ lump s. ap (last_of dir.lumps) (sym same) ∙ s) (λ bytes e stopped. absurd (cc))
+      reads_stop_first (λ bytes. judge (named_bytes bytes dir.lumps key)) fetched fault result one was is (λ lump s. ap (last_of dir.lumps) (sym same) ∙ s) (λ bytes e stopped. absurd (cc))
 
   -- the lump was fetched, if there is one
   pub fetch_judged : (lump : Option LumpNo) (live : Option (List ℕ)) (result : Result B (Fault TexRefusal)) →

@@ -1,5 +1,5 @@
 use Rattle.std.proofs.Common.{List, Ok, refl, subst, inl, inr, map}
-use Rattle.lump_cache.proofs.CallLemmas.{tells_same, tells_short, tells_stop_first, tells_then}
+use Rattle.lump_cache.proofs.CallLemmas.{reads_same, reads_short, reads_stop_first, reads_then}
 use Rattle.sprite_book.specs.Calls.{IsWanted}
 use Rattle.scene_rules.specs.declared.Placed.{Placed}
 use Rattle.scene_rules.specs.Places.{need_of}
@@ -17,7 +17,7 @@ returns-in_err-prepare_faces-clause-tells g c =
     let stands = base_of c.args.base in
     let faces = faces_of c.args.faces in
     let palette = c.args.base.palette.items in
-    tells_stop_first (λ bytes. given_palette palette (scene_from bytes lumps lines c.args.skill stands faces)) c.prepare_faces.result c.in_err-prepare_faces.field-0.0 c.from_residual.result
+    reads_stop_first (λ bytes. given_palette palette (scene_from bytes lumps lines c.args.skill stands faces)) c.prepare_faces.result c.in_err-prepare_faces.field-0.0 c.from_residual.result
     (sides_told stands.lists faces.sides c.deref.result.now faces.sky c.prepare_faces.result c.deref.ensures.value c.prepare_faces.ensures.tells)
     c.in_err-prepare_faces.was c.from_residual.ensures.1 (λ lump wanted. inl wanted) (λ bytes refusal e. scene_from-stop palette bytes lumps stands faces lines c.args.skill refusal e)
 
@@ -26,8 +26,8 @@ returns-in_err-placed-clause-tells g c =
     let lumps = c.args.dir.now.lumps in
     let stands = base_of c.args.base in
     let faces = faces_of c.args.faces in
-    tells_same c.from_residual-in_err-placed.result OutOfMemory (λ bytes. given_palette c.args.base.palette.items (scene_from bytes lumps c.args.things.now c.args.skill stands faces)) c.from_residual-in_err-placed.ensures.1
-    (tells_short OutOfMemory refl (λ lump wanted. inl wanted)
+    reads_same c.from_residual-in_err-placed.result OutOfMemory (λ bytes. given_palette c.args.base.palette.items (scene_from bytes lumps c.args.things.now c.args.skill stands faces)) c.from_residual-in_err-placed.ensures.1
+    (reads_short OutOfMemory refl (λ lump wanted. inl wanted)
     (sides_told stands.lists faces.sides c.deref.result.now faces.sky (Ok c.in_ok-prepare_faces.field-0) c.deref.ensures.value c.in_ok-prepare_faces.ensures.tells))
 
 pub returns-clause-tells : goal.returns-clause-tells
@@ -37,7 +37,7 @@ returns-clause-tells g c =
     let stands = base_of c.args.base in
     let faces = faces_of c.args.faces in
     let palette = c.args.base.palette.items in
-    tells_then (λ bytes. given_palette palette (scene_from bytes lumps lines c.args.skill stands faces)) c.read_things.result
+    reads_then (λ bytes. given_palette palette (scene_from bytes lumps lines c.args.skill stands faces)) c.read_things.result
     (sides_told stands.lists faces.sides c.deref.result.now faces.sky (Ok c.in_ok-prepare_faces.field-0) c.deref.ensures.value c.in_ok-prepare_faces.ensures.tells)
     c.read_things.ensures.tells (λ lump wanted. inl wanted)
     (λ lump wanted. inr (subst (λ (placed : List Placed). IsWanted lumps (map need_of placed) lump) c.in_ok-placed.ensures wanted))

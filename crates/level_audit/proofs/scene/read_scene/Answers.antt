@@ -1,6 +1,6 @@
 use Rattle.std.proofs.Common.{◌≡◌, length, Ok, Err, refl, subst, ap, ◌∙◌}
 use Rattle.std.proofs.lemmas.Result.{IfOk-weaker}
-use Rattle.lump_cache.proofs.CallLemmas.{tells_stop_first, tells_then}
+use Rattle.lump_cache.proofs.CallLemmas.{reads_stop_first, reads_then}
 use Rattle.art_rules.specs.Textures.{TextureLists}
 use Rattle.scene_rules.specs.Scenes.{faces_in, scene_on}
 use Rattle.level_audit.specs.Faults.{above_scene}
@@ -19,7 +19,7 @@ returns-in_err-faces-clause-tells g c =
     let stands = base_of c.args.base in
     let palette = c.args.base.palette.items in
     let fault = above_scene c.in_err-faces.field-0.0 in
-    tells_stop_first (λ bytes. given_palette palette (scene_on bytes dir.lumps c.args.things.now c.args.skill name stands)) (Err fault) fault c.from_residual.result
+    reads_stop_first (λ bytes. given_palette palette (scene_on bytes dir.lumps c.args.things.now c.args.skill name stands)) (Err fault) fault c.from_residual.result
     (faces_told (g.S.Shelf.view c.args.shelf.now) dir c.args.cache.now (IsOfScene dir.lumps c.args.things.now c.args.skill name stands) name stands.level stands.lists c.lists.result.now (Err c.in_err-faces.field-0.0) c.lists.ensures c.in_err-faces.ensures.answers)
     refl c.from_residual.ensures.1 (λ lump wanted. wanted) (λ bytes refusal e. scene_on-stop palette bytes dir.lumps c.args.things.now c.args.skill name stands refusal e)
 
@@ -30,7 +30,7 @@ returns-clause-tells g c =
     let stands = base_of c.args.base in
     let faces = faces_of c.in_ok-faces.faces in
     let palette = c.args.base.palette.items in
-    tells_then (λ bytes. given_palette palette (scene_on bytes dir.lumps c.args.things.now c.args.skill name stands)) c.read_art.result
+    reads_then (λ bytes. given_palette palette (scene_on bytes dir.lumps c.args.things.now c.args.skill name stands)) c.read_art.result
     (faces_told (g.S.Shelf.view c.args.shelf.now) dir c.args.cache.now (IsOfScene dir.lumps c.args.things.now c.args.skill name stands) name stands.level stands.lists c.lists.result.now (Ok c.in_ok-faces.faces) c.lists.ensures c.in_ok-faces.ensures.answers)
     c.read_art.ensures.tells (λ lump wanted. wanted)
     (λ lump wanted. record {

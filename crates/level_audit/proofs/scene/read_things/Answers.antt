@@ -1,5 +1,5 @@
 use Rattle.std.proofs.Common.{ℕ, List, length, map, Ok, Err, refl, ap, arith}
-use Rattle.lump_cache.proofs.CallLemmas.{tells_more, tells_same, tells_stop, tells_stop_first}
+use Rattle.lump_cache.proofs.CallLemmas.{reads_more, reads_same, reads_stop, reads_stop_first}
 use Rattle.sprite_book.specs.Calls.{IsWanted}
 use Rattle.level_audit.specs.Faults.{above_scene}
 use Rattle.level_audit.specs.Bases.{base_of}
@@ -17,7 +17,7 @@ returns-in_err-book-clause-tells g c =
     let faces = faces_of c.args.faces in
     let palette = c.args.base.palette.items in
     let prepared = c.args.base.textures.prepared in
-    tells_stop_first (λ bytes. given_palette palette (scene_over bytes lumps stands faces c.args.placed prepared)) c.read_book.result c.in_err-book.field-0.0 c.from_residual.result
+    reads_stop_first (λ bytes. given_palette palette (scene_over bytes lumps stands faces c.args.placed prepared)) c.read_book.result c.in_err-book.field-0.0 c.from_residual.result
     c.read_book.ensures.tells c.in_err-book.was c.from_residual.ensures.1 (λ lump wanted. wanted) (λ bytes refusal e. scene_over-unread palette bytes lumps stands faces c.args.placed prepared refusal e)
 
 pub check_scene-requires-clause-few : goal.check_scene-requires-clause-few
@@ -32,8 +32,8 @@ returns-in_err-check_scene-clause-tells g c =
     let prepared = c.args.base.textures.prepared in
     let fault = above_scene c.in_err-check_scene.field-0.0 in
     let expected = λ (bytes : ℕ → List ℕ). given_palette palette (scene_over bytes dir.lumps stands faces c.args.placed prepared) in
-    tells_same c.from_residual-in_err-check_scene.result fault expected c.from_residual-in_err-check_scene.ensures.1
-    (tells_stop expected fault c.in_ok-book.ensures.tells (Err fault)
+    reads_same c.from_residual-in_err-check_scene.result fault expected c.from_residual-in_err-check_scene.ensures.1
+    (reads_stop expected fault c.in_ok-book.ensures.tells (Err fault)
     (checks_told (g.S.Shelf.view c.read_book.new.shelf) dir c.read_book.new.cache (IsWanted dir.lumps (map need_of c.args.placed)) c.args.placed prepared stands.level.segs c.segs.result.now faces.sides c.deref.result.now (Err c.in_err-check_scene.field-0.0)
     c.segs.ensures.value c.deref.ensures.value c.in_err-check_scene.ensures)
     refl (λ lump wanted. wanted) (λ bytes refusal read stopped. scene_over-unsound palette bytes dir.lumps stands faces c.args.placed prepared c.in_ok-book.book refusal read stopped))
@@ -45,7 +45,7 @@ returns-clause-tells g c =
     let faces = faces_of c.args.faces in
     let palette = c.args.base.palette.items in
     let prepared = c.args.base.textures.prepared in
-    tells_more (λ bytes. given_palette palette (scene_over bytes dir.lumps stands faces c.args.placed prepared)) tt
+    reads_more (λ bytes. given_palette palette (scene_over bytes dir.lumps stands faces c.args.placed prepared)) tt
     (record { base = c.args.base; faces = c.args.faces; placed = c.args.placed; book = c.in_ok-book.book })
     c.in_ok-book.ensures.tells (Ok tt)
     (checks_told (g.S.Shelf.view c.read_book.new.shelf) dir c.read_book.new.cache (IsWanted dir.lumps (map need_of c.args.placed)) c.args.placed prepared stands.level.segs c.segs.result.now faces.sides c.deref.result.now (Ok tt)

@@ -3,7 +3,7 @@ use Rattle.map_rules.specs.declared.lumps.MapLump.TheVariants.{Things}
 use Rattle.map_lumps.specs.Builders.{BuilderValue, empty_builder}
 use Rattle.lump_cache.specs.Sizes.{StandsBeside}
 use Rattle.lump_cache.proofs.SizeLemmas.{beside_earlier}
-use Rattle.lump_cache.proofs.CallLemmas.{tells_known, tells_more, tells_stop, tells_same}
+use Rattle.lump_cache.proofs.CallLemmas.{reads_known, reads_more, reads_stop, reads_same}
 use Rattle.level_scene.specs.Lumps.{lumps_from}
 use Rattle.level_scene.proofs.LumpLemmas.{lumps_from-none, lumps_from-next, lumps_from-stop, lumps_count, lump_numbered, next_absent, next_added, behind_label, is_behind_label, up_to_more}
 use Rattle.level_scene.proofs.lumps.add_lumps.Goals as goal
@@ -11,7 +11,7 @@ use Rattle.level_scene.proofs.lumps.add_lumps.Goals as goal
 pub loop-i-init : goal.loop-i-init
 unfolding empty_builder
 loop-i-init g c = record {
-  tells = tells_known (g.S.Shelf.view c.args.shelf.now) c.args.dir.now c.args.cache.now tt (λ contents told. lumps_from-none _ c.args.label.0 1 c.args.lumps.now empty_builder ∙ ap Ok (sym c.new-builder.ensures));
+  tells = reads_known (g.S.Shelf.view c.args.shelf.now) c.args.dir.now c.args.cache.now tt (λ contents told. lumps_from-none _ c.args.label.0 1 c.args.lumps.now empty_builder ∙ ap Ok (sym c.new-builder.ensures));
   added = ap (λ (b : BuilderValue). b.added) c.new-builder.ensures;
   fits = λ lump above below. let none : ⊥ = omega (arith, above, below) in absurd none;
 }
@@ -27,7 +27,7 @@ loop-i-preserved g c =
     let i = c.loop-i.i in
     let few : i < 8 = omega (arith, lumps_count lumps 8 c.requires.lumps) in
     record {
-      tells = tells_more (λ bytes. lumps_from bytes c.args.label.0 1 (take (i + 1) lumps) empty_builder) tt tt c.loop-i.invariant.tells c.add_lump.result c.add_lump.ensures.tells c.in_ok-add_lump.was
+      tells = reads_more (λ bytes. lumps_from bytes c.args.label.0 1 (take (i + 1) lumps) empty_builder) tt tt c.loop-i.invariant.tells c.add_lump.result c.add_lump.ensures.tells c.in_ok-add_lump.was
           (λ n e. behind_label c.args.label.0 n i (omega (arith, e)) few)
           (λ bytes one two. lumps_from-next bytes c.args.label.0 1 lumps i (i + 1) _ Things empty_builder c.loop-i.builder c.add_lump.new.builder refl (omega arith) (omega arith) one two);
       added = c.in_ok-add_lump.ensures.added ∙ next_added c.loop-i.builder.added _ i (i + 1) refl c.loop-i.invariant.added (lump_numbered lumps 8 c.requires.lumps i Things few) few;
@@ -40,8 +40,8 @@ returns-in_err-add_lump-clause-tells g c =
     let lumps = c.args.lumps.now in
     let i = c.loop-i.i in
     let few : i < 8 = omega (arith, lumps_count lumps 8 c.requires.lumps) in
-    tells_same c.from_residual.result c.in_err-add_lump.field-0.0 (λ bytes. lumps_from bytes c.args.label.0 1 lumps empty_builder) c.from_residual.ensures.1
-    (tells_stop (λ bytes. lumps_from bytes c.args.label.0 1 lumps empty_builder) c.in_err-add_lump.field-0.0 c.loop-i.invariant.tells c.add_lump.result c.add_lump.ensures.tells c.in_err-add_lump.was
+    reads_same c.from_residual.result c.in_err-add_lump.field-0.0 (λ bytes. lumps_from bytes c.args.label.0 1 lumps empty_builder) c.from_residual.ensures.1
+    (reads_stop (λ bytes. lumps_from bytes c.args.label.0 1 lumps empty_builder) c.in_err-add_lump.field-0.0 c.loop-i.invariant.tells c.add_lump.result c.add_lump.ensures.tells c.in_err-add_lump.was
     (λ n e. behind_label c.args.label.0 n i (omega (arith, e)) few)
     (λ bytes e one two. lumps_from-stop bytes c.args.label.0 1 lumps i _ Things empty_builder c.loop-i.builder e (omega arith) (omega arith) one two))
 

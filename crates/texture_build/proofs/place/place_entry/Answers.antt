@@ -1,7 +1,7 @@
 use Rattle.outside.specs.Faults.{itself}
 use Rattle.std.proofs.Common.{◌≡◌, Some, ap, sym, ◌∙◌}
 use Rattle.std.specs.Prelude.{option_map}
-use Rattle.lump_cache.proofs.CallLemmas.{tells_refused, tells_wider}
+use Rattle.lump_cache.proofs.CallLemmas.{reads_refused, reads_wider}
 use Rattle.art_rules.specs.declared.refusal.TexRefusal.TheVariants.{MissingPatch}
 use Rattle.texture_build.specs.Asked.{patch_lump}
 use Rattle.texture_build.specs.Parts.{or_missing, step_of}
@@ -13,7 +13,7 @@ returns-in-Some-clause-tells g c =
     let lumps = c.args.dir.now.lumps in
     let names = c.args.lists.now.names in
     let is : patch_lump lumps names c.args.entry.now ≡ Some c.in-Some.lump.0 = entry_lump lumps names c.args.entry.now c.patch_lump.result c.in-Some.lump c.patch_lump.ensures.found c.in-Some.is in
-    tells_wider c.place_lump.result (λ lump s. is ∙ ap Some (sym s))
+    reads_wider c.place_lump.result (λ lump s. is ∙ ap Some (sym s))
     (λ bytes. ap (λ o. or_missing c.args.tex.0 (option_map (step_of bytes c.args.columns.now) o)) (entry_placed bytes lumps names c.args.entry.now c.in-Some.lump.0 is))
     c.place_lump.ensures.tells
 
@@ -21,5 +21,5 @@ pub returns-in-None-clause-tells : goal.returns-in-None-clause-tells
 returns-in-None-clause-tells g c =
     let lumps = c.args.dir.now.lumps in
     let names = c.args.lists.now.names in
-    tells_refused (g.S.Shelf.view c.args.shelf.now) c.args.dir.now c.args.cache.now c.missing_patch.result (MissingPatch c.args.tex.0) (ap itself c.missing_patch.ensures)
+    reads_refused (g.S.Shelf.view c.args.shelf.now) c.args.dir.now c.args.cache.now c.missing_patch.result (MissingPatch c.args.tex.0) (ap itself c.missing_patch.ensures)
     (λ contents told. entry_missing _ c.args.tex.0 c.args.columns.now lumps names c.args.entry.now (entry_none lumps names c.args.entry.now c.patch_lump.result c.patch_lump.ensures.found c.in-None.is))

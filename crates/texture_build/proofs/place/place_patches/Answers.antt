@@ -2,7 +2,7 @@ use Rattle.std.proofs.Common.{◌+◌, ◌<◌, ◌++◌, ◌∷◌, [], ℕ, Li
 use Rattle.std.specs.Prelude.{All, option_map}
 use Rattle.std.proofs.lemmas.List.Elements.{Contains-get_or, All-nil, All-push}
 use Rattle.lump_rules.specs.Lookups.{last_of}
-use Rattle.lump_cache.proofs.CallLemmas.{tells_known, tells_more, tells_stop, tells_same, tells_short}
+use Rattle.lump_cache.proofs.CallLemmas.{reads_known, reads_more, reads_stop, reads_same, reads_short}
 use Rattle.art_rules.specs.declared.ColumnLookup.{ColumnLookup}
 use Rattle.art_rules.specs.declared.PlacedPatch.{PlacedPatch}
 use Rattle.art_rules.specs.declared.TextureEntry.{TextureEntry}
@@ -22,7 +22,7 @@ part patches columns = record { patches = patches; columns = columns }
 
 pub loop-entry-init : goal.loop-entry-init
 loop-entry-init g c = record {
-  tells = tells_known (g.S.Shelf.view c.args.shelf.now) c.args.dir.now c.args.cache.now tt
+  tells = reads_known (g.S.Shelf.view c.args.shelf.now) c.args.dir.now c.args.cache.now tt
       (λ contents told. part_none (last_of c.args.dir.now.lumps) _ c.args.lists.now.names c.args.tex.0 (length c.args.columns.now) c.args.columns.now (c.requires.empty _) ∙ ap (λ xs. Ok (part xs c.args.columns.now)) (sym c.requires.none));
   seen = subst (λ xs. AreSeen xs c.args.columns.now) (sym c.requires.none) (seen_all (λ _. []) [] c.args.columns.now (c.requires.empty (λ _. [])));
   there = subst (All (λ (patch : PlacedPatch). patch.lump < length c.args.dir.now.lumps)) (sym c.requires.none) (All-nil _);
@@ -37,7 +37,7 @@ loop-entry-preserved g c =
     let patches = c.loop-entry.patches.items in
     let placed = c.in_ok-patch.patch in
     record {
-      tells = tells_more (λ bytes. or_missing c.args.tex.0 (option_map (part_of bytes (length c.args.columns.now)) (placed_patches (last_of c.args.dir.now.lumps) bytes c.args.lists.now.names (take (k + 1) entries)))) placed tt
+      tells = reads_more (λ bytes. or_missing c.args.tex.0 (option_map (part_of bytes (length c.args.columns.now)) (placed_patches (last_of c.args.dir.now.lumps) bytes c.args.lists.now.names (take (k + 1) entries)))) placed tt
           inv.tells c.place_entry.result c.place_entry.ensures.tells c.in_ok-patch.was
           (λ lump is. record { entry = get_or entries k no_entry; among = Contains-get_or entries k no_entry l; is = is })
           (λ bytes one two. part_push (last_of c.args.dir.now.lumps) bytes c.args.lists.now.names c.args.tex.0 (length c.args.columns.now) entries k no_entry patches c.loop-entry.columns c.place_entry.new.columns placed l one two
@@ -52,8 +52,8 @@ returns-in_err-patch-clause-tells g c =
     let k = c.loop-entry.entry-index in
     let l : k < length entries = omega arith in
     let expected = λ (bytes : ℕ → List ℕ). or_missing c.args.tex.0 (option_map (part_of bytes (length c.args.columns.now)) (placed_patches (last_of c.args.dir.now.lumps) bytes c.args.lists.now.names entries)) in
-    tells_same c.from_residual.result c.in_err-patch.field-0.0 expected c.from_residual.ensures.1
-    (tells_stop expected c.in_err-patch.field-0.0 c.loop-entry.invariant.tells c.place_entry.result c.place_entry.ensures.tells c.in_err-patch.was
+    reads_same c.from_residual.result c.in_err-patch.field-0.0 expected c.from_residual.ensures.1
+    (reads_stop expected c.in_err-patch.field-0.0 c.loop-entry.invariant.tells c.place_entry.result c.place_entry.ensures.tells c.in_err-patch.was
     (λ lump is. record { entry = get_or entries k no_entry; among = Contains-get_or entries k no_entry l; is = is })
     (λ bytes e one two. part_stop (last_of c.args.dir.now.lumps) bytes c.args.lists.now.names c.args.tex.0 (length c.args.columns.now) entries k no_entry _ c.loop-entry.columns e l one two))
 
@@ -65,9 +65,9 @@ returns-in_err-push-clause-tells g c =
     let placed = c.in_ok-patch.patch in
     let expected = λ (bytes : ℕ → List ℕ). or_missing c.args.tex.0 (option_map (part_of bytes (length c.args.columns.now)) (placed_patches (last_of c.args.dir.now.lumps) bytes c.args.lists.now.names entries)) in
     let value : Unit {0} → PatchesPart = λ done. part (c.loop-entry.patches.items ++ placed ∷ []) c.place_entry.new.columns in
-    let one = tells_more {wants = IsEntryPatch c.args.dir.now.lumps c.args.lists.now.names entries} {value = value}
+    let one = reads_more {wants = IsEntryPatch c.args.dir.now.lumps c.args.lists.now.names entries} {value = value}
     (λ bytes. or_missing c.args.tex.0 (option_map (part_of bytes (length c.args.columns.now)) (placed_patches (last_of c.args.dir.now.lumps) bytes c.args.lists.now.names (take (k + 1) entries)))) placed tt
     c.loop-entry.invariant.tells c.place_entry.result c.place_entry.ensures.tells c.in_ok-patch.was
     (λ lump is. record { entry = get_or entries k no_entry; among = Contains-get_or entries k no_entry l; is = is })
     (λ bytes one two. part_push (last_of c.args.dir.now.lumps) bytes c.args.lists.now.names c.args.tex.0 (length c.args.columns.now) entries k no_entry c.loop-entry.patches.items c.loop-entry.columns c.place_entry.new.columns placed l one two) in
-    tells_same c.from_residual-in_err-push.result OutOfMemory expected c.from_residual-in_err-push.ensures.1 (tells_short OutOfMemory refl (λ lump w. w) one)
+    reads_same c.from_residual-in_err-push.result OutOfMemory expected c.from_residual-in_err-push.ensures.1 (reads_short OutOfMemory refl (λ lump w. w) one)

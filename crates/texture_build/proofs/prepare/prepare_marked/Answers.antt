@@ -4,7 +4,7 @@ use Rattle.std.proofs.lemmas.List.{map-append, take_more}
 use Rattle.std.proofs.lemmas.List.Elements.{All-nil, All-push}
 use Rattle.std.proofs.lemmas.Option.{slice_get-get_or}
 use Rattle.lump_rules.specs.Lookups.{last_of}
-use Rattle.lump_cache.proofs.CallLemmas.{tells_as, tells_known, tells_more, tells_same, tells_short, tells_stop}
+use Rattle.lump_cache.proofs.CallLemmas.{reads_as, reads_known, reads_more, reads_same, reads_short, reads_stop}
 use Rattle.art_rules.specs.Textures.{texture_at, unlisted}
 use Rattle.art_rules.specs.Wanted.{PreparedTexture, prepared, prepared_from, prepared_textures}
 use Rattle.outside.specs.declared.fault.Fault.TheVariants.{OutOfMemory}
@@ -15,7 +15,7 @@ use Rattle.texture_build.proofs.prepare.prepare_marked.Goals as goal
 
 pub loop-number-init : goal.loop-number-init
 loop-number-init g c = record {
-  tells = tells_known (g.S.Shelf.view c.args.shelf.now) c.args.dir.now c.args.cache.now tt
+  tells = reads_known (g.S.Shelf.view c.args.shelf.now) c.args.dir.now c.args.cache.now tt
       (λ contents told. from_none (prepared (last_of c.args.dir.now.lumps) _ c.args.lists.now.names) (is_marked c.args.marks.now) ∙ ap Ok (sym c.new-textures.ensures.items));
   there = subst (All (λ (t : Option PreparedTexture). IfSome t (AreThere c.args.dir.now.lumps))) (sym c.new-textures.ensures.items) (All-nil _);
   listed = listed_none c.args.lists.now.textures c.new-textures.result.items c.new-textures.ensures.items;
@@ -32,7 +32,7 @@ loop-number-preserved g c =
     let before = c.loop-number.textures.items in
     let texture = c.in_ok-texture.texture in
     record {
-      tells = tells_more (λ bytes. prepared_from (prepared (last_of c.args.dir.now.lumps) bytes lists.names) (is_marked marks) 0 (take (k + 1) lists.textures)) texture tt
+      tells = reads_more (λ bytes. prepared_from (prepared (last_of c.args.dir.now.lumps) bytes lists.names) (is_marked marks) 0 (take (k + 1) lists.textures)) texture tt
           inv.tells c.prepare_if.result c.prepare_if.ensures.tells c.in_ok-texture.was
           (λ lump w. record { number = k; texture = get_or lists.textures k unlisted; at = slice_get-get_or lists.textures k unlisted l; chosen = w.0; entry = w.1.entry; among = w.1.among; is = w.1.is })
           (λ bytes one two. from_push (prepared (last_of c.args.dir.now.lumps) bytes lists.names) (is_marked marks) lists.textures k before texture l one two ∙ ap Ok (sym c.in_ok-push.ensures.items));
@@ -51,8 +51,8 @@ returns-in_err-texture-clause-tells g c =
     let k = c.loop-number.number in
     let l : k < length lists.textures = omega (arith, c.requires.count, c.loop-number-test.true) in
     let expected = λ (bytes : ℕ → List ℕ). prepared_textures (last_of c.args.dir.now.lumps) bytes lists (is_marked marks) in
-    tells_same c.from_residual.result c.in_err-texture.field-0.0 expected c.from_residual.ensures.1
-    (tells_stop expected c.in_err-texture.field-0.0 c.loop-number.invariant.tells c.prepare_if.result c.prepare_if.ensures.tells c.in_err-texture.was
+    reads_same c.from_residual.result c.in_err-texture.field-0.0 expected c.from_residual.ensures.1
+    (reads_stop expected c.in_err-texture.field-0.0 c.loop-number.invariant.tells c.prepare_if.result c.prepare_if.ensures.tells c.in_err-texture.was
     (λ lump w. record { number = k; texture = get_or lists.textures k unlisted; at = slice_get-get_or lists.textures k unlisted l; chosen = w.0; entry = w.1.entry; among = w.1.among; is = w.1.is })
     (λ bytes e one two. from_textures (last_of c.args.dir.now.lumps) bytes lists (is_marked marks) ∙ from_stop (prepared (last_of c.args.dir.now.lumps) bytes lists.names) (is_marked marks) lists.textures k _ e l one two))
 
@@ -66,17 +66,17 @@ returns-in_err-push-clause-tells g c =
     let texture = c.in_ok-texture.texture in
     let expected = λ (bytes : ℕ → List ℕ). prepared_textures (last_of c.args.dir.now.lumps) bytes lists (is_marked marks) in
     let value : Unit {0} → List (Option PreparedTexture) = λ done. before ++ texture ∷ [] in
-    let one = tells_more {wants = IsWantedPatch c.args.dir.now.lumps lists (is_marked marks)} {value = value}
+    let one = reads_more {wants = IsWantedPatch c.args.dir.now.lumps lists (is_marked marks)} {value = value}
     (λ bytes. prepared_from (prepared (last_of c.args.dir.now.lumps) bytes lists.names) (is_marked marks) 0 (take (k + 1) lists.textures)) texture tt
     c.loop-number.invariant.tells c.prepare_if.result c.prepare_if.ensures.tells c.in_ok-texture.was
     (λ lump w. record { number = k; texture = get_or lists.textures k unlisted; at = slice_get-get_or lists.textures k unlisted l; chosen = w.0; entry = w.1.entry; among = w.1.among; is = w.1.is })
     (λ bytes one two. from_push (prepared (last_of c.args.dir.now.lumps) bytes lists.names) (is_marked marks) lists.textures k before texture l one two) in
-    tells_same c.from_residual-in_err-push.result OutOfMemory expected c.from_residual-in_err-push.ensures.1 (tells_short OutOfMemory refl (λ lump w. w) one)
+    reads_same c.from_residual-in_err-push.result OutOfMemory expected c.from_residual-in_err-push.ensures.1 (reads_short OutOfMemory refl (λ lump w. w) one)
 
 pub returns-clause-tells : goal.returns-clause-tells
 returns-clause-tells g c =
     let lists = c.args.lists.now in
     let marks = c.args.marks.now in
     let k = c.loop-number.number in
-    tells_as tt c.loop-number.textures c.loop-number.invariant.tells (λ lump w. w)
+    reads_as tt c.loop-number.textures c.loop-number.invariant.tells (λ lump w. w)
     (λ bytes is. from_all (last_of c.args.dir.now.lumps) bytes lists (is_marked marks) k (omega (arith, c.requires.count, c.loop-number-test.false)) ∙ is)

@@ -3,7 +3,7 @@ use Rattle.std.specs.Prelude.{option_map}
 use Rattle.std.proofs.lemmas.List.{length-replicate}
 use Rattle.std.proofs.lemmas.Result.{IfErr-weaker, IfOk-weaker}
 use Rattle.lump_rules.specs.Lookups.{last_of}
-use Rattle.lump_cache.proofs.CallLemmas.{tells_stop_first}
+use Rattle.lump_cache.proofs.CallLemmas.{reads_stop_first}
 use Rattle.art_rules.specs.declared.ColumnLookup.TheVariants.{Empty}
 use Rattle.art_rules.specs.declared.refusal.TexRefusal.TheVariants.{TooBig}
 use Rattle.art_rules.specs.Textures.{texture_at}
@@ -26,7 +26,7 @@ returns-in_err-place_patches-clause-tells g c =
     let names = c.args.lists.now.names in
     let number = c.args.tex.0 in
     let t = texture_at c.args.lists.now.textures number in
-    tells_stop_first (λ bytes. prepared last bytes names number t) c.place_patches.result c.in_err-place_patches.field-0.0 c.from_residual-in_err-place_patches.result
+    reads_stop_first (λ bytes. prepared last bytes names number t) c.place_patches.result c.in_err-place_patches.field-0.0 c.from_residual-in_err-place_patches.result
     c.place_patches.ensures.tells c.in_err-place_patches.was c.from_residual-in_err-place_patches.ensures.1
     (λ lump w. subst (λ entries. IsEntryPatch c.args.dir.now.lumps names entries lump) c.entries-entries.ensures w)
     (λ bytes e stopped. texture_missing last bytes names number t (length c.deref_mut.result.now) e

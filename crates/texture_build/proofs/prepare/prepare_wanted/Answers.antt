@@ -1,7 +1,7 @@
 use Rattle.std.proofs.Common.{◌≡◌, ◌<◌, ℕ, Ok, length, refl, sym, subst, ap, ◌∙◌}
 use Rattle.std.specs.Prelude.{All, IsSome, is_some}
 use Rattle.std.proofs.lemmas.List.{length-map}
-use Rattle.lump_cache.proofs.CallLemmas.{tells_more, tells_nothing, tells_same, tells_short, tells_stop_first}
+use Rattle.lump_cache.proofs.CallLemmas.{reads_more, reads_nothing, reads_same, reads_short, reads_stop_first}
 use Rattle.lump_rules.specs.Lookups.{last_of}
 use Rattle.art_rules.specs.Wanted.{prepared_textures}
 use Rattle.outside.specs.declared.fault.Fault.TheVariants.{OutOfMemory}
@@ -15,7 +15,7 @@ pub returns-in_err-textures-clause-tells : goal.returns-in_err-textures-clause-t
 returns-in_err-textures-clause-tells g c =
     let lists = c.args.lists.now in
     let wanted = c.args.wanted.now in
-    tells_stop_first (λ bytes. prepared_textures (last_of c.args.dir.now.lumps) bytes lists (is_wanted wanted)) c.prepare_marked.result _ c.from_residual-in_err-textures.result
+    reads_stop_first (λ bytes. prepared_textures (last_of c.args.dir.now.lumps) bytes lists (is_wanted wanted)) c.prepare_marked.result _ c.from_residual-in_err-textures.result
     (tells_wanted lists (is_marked c.deref.result.now) (is_wanted wanted) c.prepare_marked.result
     (λ number. ap (λ marks. is_marked marks number) c.deref.ensures.value ∙ c.in_ok-marks.ensures.marked number) c.prepare_marked.ensures.tells)
     c.in_err-textures.was c.from_residual-in_err-textures.ensures.1 (λ lump w. w) (λ bytes refusal is. is)
@@ -25,8 +25,8 @@ pub returns-in_err-new-clause-tells : goal.returns-in_err-new-clause-tells
 returns-in_err-new-clause-tells g c =
     let lists = c.args.lists.now in
     let wanted = c.args.wanted.now in
-    tells_same c.from_residual-in_err-new.result OutOfMemory (λ bytes. prepared_textures (last_of c.args.dir.now.lumps) bytes lists (is_wanted wanted)) c.from_residual-in_err-new.ensures.1
-    (tells_short OutOfMemory refl (λ lump w. w)
+    reads_same c.from_residual-in_err-new.result OutOfMemory (λ bytes. prepared_textures (last_of c.args.dir.now.lumps) bytes lists (is_wanted wanted)) c.from_residual-in_err-new.ensures.1
+    (reads_short OutOfMemory refl (λ lump w. w)
     (tells_wanted lists (is_marked c.deref.result.now) (is_wanted wanted) (Ok c.in_ok-textures.textures)
     (λ number. ap (λ marks. is_marked marks number) c.deref.ensures.value ∙ c.in_ok-marks.ensures.marked number) c.in_ok-textures.ensures.tells))
 
@@ -34,8 +34,8 @@ pub returns-clause-tells : goal.returns-clause-tells
 returns-clause-tells g c =
     let lists = c.args.lists.now in
     let wanted = c.args.wanted.now in
-    tells_more (λ bytes. prepared_textures (last_of c.args.dir.now.lumps) bytes lists (is_wanted wanted)) c.in_ok-textures.textures _
-    (tells_nothing (g.S.Shelf.view c.args.shelf.now) c.args.dir.now c.args.cache.now _) c.prepare_marked.result
+    reads_more (λ bytes. prepared_textures (last_of c.args.dir.now.lumps) bytes lists (is_wanted wanted)) c.in_ok-textures.textures _
+    (reads_nothing (g.S.Shelf.view c.args.shelf.now) c.args.dir.now c.args.cache.now _) c.prepare_marked.result
     (tells_wanted lists (is_marked c.deref.result.now) (is_wanted wanted) c.prepare_marked.result
     (λ number. ap (λ marks. is_marked marks number) c.deref.ensures.value ∙ c.in_ok-marks.ensures.marked number) c.prepare_marked.ensures.tells)
     c.in_ok-textures.was (λ lump w. w) (λ bytes one two. two ∙ ap Ok (sym c.in_ok-new.ensures))
