@@ -8,12 +8,12 @@ use Rattle.zone_rules.specs.Zones.{Owner, Holding, Block, Heap, IsSound, AllFit,
 use Rattle.zone_rules.specs.Requests.{TakesBlock, block_left, is_among}
 use Rattle.zone_rules.specs.Frees.{with_bytes, with_tag, write_block, write_holding}
 use Rattle.zone_rules.proofs.OwnerLemmas.{owned_written_others, owned_retagged_others, owned_block-map, write_held}
-use Rattle.zone_rules.proofs.ChangeLemmas.{with_bytes_sound, with_tag_sound}
+use Rattle.zone_rules.proofs.ChangeLemmas.{with_bytes_sound}
 use Rattle.zone_rules.proofs.SoundLemmas.{lacked, searched_lacks}
 use Rattle.zone_rules.proofs.WrittenLemmas.{block_written}
 use Rattle.zone_rules.specs.Loans.{after_loan, bytes_length, bytes_place, held_length, overlay_block}
 use Rattle.zone_rules.proofs.LoanLemmas.{overlay_sound}
-use Rattle.lump_cache.specs.Caches.{release_heap, released_heap, IsFilled, HasBlock, HasUse, KeptOrPurged, holds_static, is_static_tag, with_tag_unless_static}
+use Rattle.lump_cache.specs.Caches.{release_heap, released_heap, IsFilled, HasBlock, HasUse, KeptOrPurged, holds_static, with_tag_unless_static}
 
 pub left_kept : (ch : List Block) (b : Option Block) → KeptOrPurged b (block_left ch b)
 left_kept ch None = inl refl
@@ -92,20 +92,6 @@ unless_static_others o p tag z apart = go (holds_static (holding_of o z.blocks))
   go true = refl
   go false = owned_retagged_others p o tag apart z.blocks
 
-pub unless_static_sound : (o : Owner) (tag : Tag) (z : Heap) → IsSound z → IsSound (with_tag_unless_static o tag z)
-unless_static_sound o tag z s = go (holds_static (holding_of o z.blocks)) where
-  go : (t : Bool) → IsSound (cond t z (with_tag o tag z))
-  go true = s
-  go false = with_tag_sound o tag z s
-
-pub tag_none : (h : Option Holding) → option_map (λ (x : Holding). x.tag) h ≡ None → h ≡ None
-tag_none None e = refl
-tag_none (Some h) e = cc
-
-pub tag_static : (h : Option Holding) (tag : Tag) → option_map (λ (x : Holding). x.tag) h ≡ Some tag → holds_static h ≡ is_static_tag tag
-tag_static None tag e = cc
-tag_static (Some h) tag e = let k : h.tag ≡ tag = cc in ap is_static_tag k
-
 -- a loan leaves a zone sound
 pub loan_sound : (o : Owner) (w : List ℕ) (z : Heap) → IsSound z → IsSound (after_loan o w z)
 loan_sound o w z s = go (length w == bytes_length (owned_block o z.blocks)) refl where
@@ -120,16 +106,11 @@ loan_sound o w z s = go (length w == bytes_length (owned_block o z.blocks)) refl
   go true e = with_bytes_sound o w z s (λ h k. eqb-true (length w) (bytes_length (owned_block o z.blocks)) e ∙ length_of (owned_block o z.blocks) h k ∙ owned_fits o z.lumps z.composites z.blocks h s.fits k)
   go false e = overlay_sound (bytes_place (owned_block o z.blocks)) w z s
 
--- a pair of loans, and a release
+-- a pair of loans
 pub pair_sound : (o : Owner) (w : List ℕ) (y : List ℕ) (old new : Heap) → bytes_of o old.blocks ≡ Some y → length w ≡ length y → new ≡ with_bytes o w old → IsSound old → IsSound new
 pair_sound o w y old new e len is s = filled_sound o old new (λ _. Unit {0}) (record { before = y; bytes = w; before_is = e; len = len; zone = is; says = tt }) s
 
-pub release_sound : (o : Owner) (z : Heap) → IsSound z → IsSound (release_heap o z)
-release_sound o z s = go (holding_of o z.blocks) where
-  go : (h : Option Holding) → IsSound (released_heap o z h)
-  go None = s
-  go (Some h) = unless_static_sound o Cache z s
-
+-- a release leaves the blocks of others
 pub released_others : (o p : Owner) (z : Heap) → same_owner o p ≡ false → owned_block p (release_heap o z).blocks ≡ owned_block p z.blocks
 released_others o p z apart = go (holding_of o z.blocks) where
   go : (h : Option Holding) → owned_block p (released_heap o z h).blocks ≡ owned_block p z.blocks

@@ -32,7 +32,8 @@ pub record IsFilled (o : Owner) (old new : Heap) (P : List ℕ → Type 0) : Typ
 -- each live lump has the bytes that its files have
 pub record IsFaithful (contents : List (List ℕ)) (lumps : List Lump) (z : Heap) : Type 0 where
   pub at : (number : ℕ) → number < length lumps →
-      IfSome (bytes_of (lump_owner number) z.blocks) (λ bytes. bytes ≡ lump_bytes contents lumps number)
+      IfSome (bytes_of (lump_owner number) z.blocks)
+      (λ bytes. bytes ≡ lump_bytes contents lumps number)
 
 -- a block that is pinned for the whole run, of so many bytes
 abbrev pub IsStatic : ℕ → Option Holding → Type 0

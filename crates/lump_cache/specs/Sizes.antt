@@ -8,7 +8,8 @@ use Rattle.lump_cache.specs.Caches.{IsAtRest, lump_owner}
 -- each live lump has as many bytes as the directory says
 pub record HasSizes (lumps : List Lump) (z : Heap) : Type 0 where
   pub at : (number : ℕ) → number < length lumps →
-      IfSome (bytes_of (lump_owner number) z.blocks) (λ bytes. length bytes ≡ (lump_at lumps number).size)
+      IfSome (bytes_of (lump_owner number) z.blocks)
+      (λ bytes. length bytes ≡ (lump_at lumps number).size)
 
 -- from a cache at rest with these sizes: a block for the lump, if it is another one, is together
 -- with the colormap's no larger than the zone

@@ -16,7 +16,7 @@ ghost use Rattle.zone_rules.specs.Requests.{gaps, total};
 ghost use Rattle.zone_rules.specs.Frees.{without_block, with_bytes};
 ghost use Rattle.zone_rules.specs.Loans.{after_loan};
 ghost use Rattle.zone_rules.specs.Orders.{Item, has_item, AreRoomy, IsInOrder, KeepsOrder};
-ghost use Rattle.lump_cache.specs.Caches.{lump_owner, composite_owner, release_heap, MatchAnswer, IsFaithful, IsAtRest, IsEmpty, KeepsCounts};
+ghost use Rattle.lump_cache.specs.Caches.{lump_owner, composite_owner, release_heap, MatchAnswer, IsFaithful, IsAtRest, IsEmpty, IsPinned, KeepsCounts};
 ghost use Rattle.lump_cache.specs.Fetches.{FetchesLump, RequestsBlock};
 
 use crate::fault::CacheFault;
@@ -70,7 +70,8 @@ impl LumpCache {
         requires listed { length dir.now.lumps < SLOT_LIMIT }
         requires composites { composites < SLOT_LIMIT }
         ensures bad { (result ≡ Err ZoneMake.BadSize) ↔ (¬ IsZoneSize size) }
-        ensures fresh { IfOk result (λ cache. cache ≡ fresh_heap size (length dir.now.lumps) composites) }
+        ensures fresh { IfOk result (λ cache.
+            cache ≡ fresh_heap size (length dir.now.lumps) composites) }
         ensures empty { IfOk result IsEmpty }
         ensures faithful { (contents : List (List ℕ)) (lumps : List Lump) →
             IfOk result (IsFaithful contents lumps) }
@@ -140,17 +141,21 @@ impl LumpCache {
         ensures hit { IsLive self.old (lump_owner lump.0) → shelf.new ≡ shelf.old }
         ensures untouched { (lump_at dir.now.lumps lump.0).size ≡ 0 → shelf.new ≡ shelf.old }
         ensures live { OnOk result (IsLive self.new (lump_owner lump.0)) }
+        ensures pinned { (o : Owner) → same_owner (lump_owner lump.0) o ≡ false →
+            IsPinned (owned_block o self.old.blocks) →
+            owned_block o self.new.blocks ≡ owned_block o self.old.blocks }
         ensures counts { KeepsCounts self.old self.new }
-        ensures faithful { (contents : List (List ℕ)) → NameFiles (S.view shelf.old) dir.now.files contents →
-            IsFaithful contents dir.now.lumps self.old → IsFaithful contents dir.now.lumps self.new }
+        ensures faithful { (contents : List (List ℕ)) →
+            NameFiles (S.view shelf.old) dir.now.files contents →
+            IsFaithful contents dir.now.lumps self.old →
+            IsFaithful contents dir.now.lumps self.new }
         ensures rest { (colormap count : ℕ) → tag ≡ Cache →
             IsAtRest colormap count self.old → IsAtRest colormap count self.new }
         ensures order { (items : List Item) →
             has_item items (lump_owner lump.0) (lump_at dir.now.lumps lump.0).size ≡ true →
             IsInOrder items self.old →
             MatchAnswer result
-            (KeepsOrder items self.old self.new
-            (S.view shelf.old).taken (S.view shelf.new).taken)
+            (KeepsOrder items self.old self.new (S.view shelf.old).taken (S.view shelf.new).taken)
             (λ wanted widest. ⊥) ⊤ }
     {
         fetch_lump(&mut self.zone, shelf, dir, lump, tag)
@@ -177,7 +182,8 @@ impl LumpCache {
     pub fn take_composite(&mut self, number: u32, size: u32) -> Result<(), ZoneFull>
         requires in_range { number < self.old.composites }
         requires empty { IsNone (holding_of (composite_owner number) self.old.blocks) }
-        ensures requests { RequestsBlock (composite_owner number) size Level self.old self.new result }
+        ensures requests { RequestsBlock (composite_owner number) size Level
+            self.old self.new result }
         ensures full { IsErr result ↔ All (λ g. total g < block_size size) (gaps self.old.blocks) }
         ensures live { OnOk result (IsLive self.new (composite_owner number)) }
         ensures counts { KeepsCounts self.old self.new }
@@ -212,7 +218,8 @@ impl LumpCache {
         ensures written { (w : List ℕ) → length w ≡ length result.now →
             after_loan (composite_owner number) w self.old
             ≡ with_bytes (composite_owner number) w self.old }
-        ensures counts { (w : List ℕ) → KeepsCounts self.old (after_loan (composite_owner number) w self.old) }
+        ensures counts { (w : List ℕ) →
+            KeepsCounts self.old (after_loan (composite_owner number) w self.old) }
     {
         self.zone.bytes_mut(composite_slot(number))
     }

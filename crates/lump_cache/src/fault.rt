@@ -9,8 +9,8 @@ use zone_heap::ZoneFull;
 
 /// Why a lump was not fetched.
 ///
-/// - `ZoneFull`: no gap of the zone holds a block of `wanted` bytes, its header included; the widest
-///   has `widest` bytes.
+/// - `ZoneFull`: no gap of the zone holds a block of `wanted` bytes, its header included; the
+///   widest has `widest` bytes.
 /// - `ReadFault`: a call of the shelf failed.
 #[derive(Clone, Copy, Debug, PartialEq, Eq, Drop, Error)]
 pub enum CacheFault {

@@ -31,10 +31,12 @@ pub fn fetch_live<S: Shelf>(
 ) -> Result<(), CacheFault>
     requires slots { length dir.now.lumps ≤ cache.old.lumps }
     requires there { lump.0 < length dir.now.lumps }
-    ensures tells { ReadsLumps cache_fault (S.view shelf.old) (S.view shelf.new) dir.now cache.old cache.new
+    ensures tells { ReadsLumps cache_fault (S.view shelf.old) (S.view shelf.new) dir.now
+        cache.old cache.new
         (λ number. number ≡ lump.0) (λ done. done) (λ bytes. Ok tt) result }
     ensures live { OnOk result (IsLive cache.new (lump_owner lump.0)) }
-    ensures bytes { (contents : List (List ℕ)) → HoldContents (S.view shelf.old) dir.now cache.old contents →
+    ensures bytes { (contents : List (List ℕ)) →
+        HoldContents (S.view shelf.old) dir.now cache.old contents →
         OnOk result
         (bytes_of (lump_owner lump.0) cache.new.blocks
         ≡ Some (lump_bytes contents dir.now.lumps lump.0)) }
@@ -55,13 +57,16 @@ pub fn fetch_named<S: Shelf>(
     name: &Name8,
 ) -> Result<Option<LumpNo>, CacheFault>
     requires slots { length dir.now.lumps ≤ cache.old.lumps }
-    ensures tells { ReadsLumps cache_fault (S.view shelf.old) (S.view shelf.new) dir.now cache.old cache.new
+    ensures tells { ReadsLumps cache_fault (S.view shelf.old) (S.view shelf.new) dir.now
+        cache.old cache.new
         (IsLast dir.now.lumps name.now) (λ lump. option_map (λ l. l.0) lump)
         (λ bytes. Ok (last_of dir.now.lumps name.now)) result }
-    ensures found { IfOk result (λ lump. option_map (λ l. l.0) lump ≡ last_of dir.now.lumps name.now) }
+    ensures found { IfOk result (λ lump.
+        option_map (λ l. l.0) lump ≡ last_of dir.now.lumps name.now) }
     ensures there { IfOk result (λ lump. IfSome lump (λ l. l.0 < length dir.now.lumps)) }
     ensures live { IfOk result (λ lump. IfSome lump (λ l. IsLive cache.new (lump_owner l.0))) }
-    ensures bytes { (contents : List (List ℕ)) → HoldContents (S.view shelf.old) dir.now cache.old contents →
+    ensures bytes { (contents : List (List ℕ)) →
+        HoldContents (S.view shelf.old) dir.now cache.old contents →
         IfOk result (λ lump.
         live_bytes lump cache.new
         ≡ named_bytes (lump_bytes contents dir.now.lumps) dir.now.lumps name.now) }

@@ -23,8 +23,8 @@ fn is_static(tag: Tag) -> bool
 /// already is not written again.
 pub fn retag<K: SlotKind>(zone: &mut Zone, slot: Slot<K>, current: Tag, tag: Tag)
     requires in_range { slot.number < slot_count zone.old K.CODE }
-    requires current { option_map (λ h. h.tag) (holding_of (owner_at K.CODE slot.number) zone.old.blocks)
-        ≡ Some current }
+    requires current { option_map (λ h. h.tag)
+        (holding_of (owner_at K.CODE slot.number) zone.old.blocks) ≡ Some current }
     requires sound { IsSound zone.old }
     ensures zone { zone.new ≡ with_tag_unless_static (owner_at K.CODE slot.number) tag zone.old }
     ensures sound { IsSound zone.new }

@@ -123,7 +123,7 @@ fn a_full_zone_says_what_was_wanted(rt: HostRuntime) -> Result<(), Fail> {
     };
     let message = format!(in rt.alloc(); "{fault}")?;
     let wanted = "the zone is full: a block of 72 bytes was wanted, the widest gap has 64";
-    assert!(rt; message == wanted);
+    assert!(rt; message.as_str() == wanted);
     Ok(())
 }
 

@@ -1,7 +1,7 @@
 use Rattle.std.proofs.Common.{subst}
 use Rattle.zone_rules.specs.Zones.{Heap}
 use Rattle.lump_cache.specs.Fetches.{FetchesLump}
-use Rattle.lump_cache.proofs.FetchLemmas.{fetch_counts, fetch_faithful, fetch_live, fetch_order, fetch_rest}
+use Rattle.lump_cache.proofs.FetchLemmas.{fetch_counts, fetch_faithful, fetch_live, fetch_order, fetch_pinned, fetch_rest}
 use Rattle.lump_cache.proofs.cache.LumpCache.fetch.Given.{Over}
 use Rattle.lump_cache.proofs.cache.LumpCache.fetch.Goals as goal
 use Rattle.lump_cache.proofs.cache.LumpCache.fetch.Goals.{After-fetch_lump}
@@ -14,6 +14,9 @@ returns-clause-fetches g c = fetches g (goal.at.returns-clause-fetches g c).Afte
 
 pub returns-clause-live : goal.returns-clause-live
 returns-clause-live g c = fetch_live (fetches g (goal.at.returns-clause-live g c).After-fetch_lump)
+
+pub returns-clause-pinned : goal.returns-clause-pinned
+returns-clause-pinned g c = fetch_pinned (fetches g (goal.at.returns-clause-pinned g c).After-fetch_lump)
 
 pub returns-clause-counts : goal.returns-clause-counts
 returns-clause-counts g c = fetch_counts (fetches g (goal.at.returns-clause-counts g c).After-fetch_lump)
