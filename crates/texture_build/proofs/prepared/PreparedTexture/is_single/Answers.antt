@@ -5,8 +5,8 @@ use Rattle.art_rules.specs.Wanted.{PreparedTexture}
 use Rattle.art_rules.proofs.LookupLemmas.{columns_of-single}
 use Rattle.texture_build.proofs.prepared.PreparedTexture.is_single.Goals as goal
 
-pub returns : goal.returns
-returns c =
+pub returns-clause-value : goal.returns-clause-value
+returns-clause-value c =
     let t = c.self.inside in
     let within : c.args.col < length t.columns.items = subst (λ (v : PreparedTexture). c.args.col < length v.columns) (sym c.self.view_is) c.requires in
     c.is_single_lookup.ensures
