@@ -68,7 +68,7 @@ module _ (contents : List (List ℕ)) (lumps : List Lump) (number : ℕ) (t : Pr
 
 -- the texture of a number that is prepared
 pub prepared_is : (prepared : Option PreparedTexture) → IsSome prepared → prepared ≡ Some (unwrap_or prepared unprepared)
-prepared_is None some = absurd some
+prepared_is None some = cc
 prepared_is (Some t) some = refl
 
 -- a faithful cache whose composites are these textures' lends each column's texels

@@ -10,4 +10,4 @@ returns-then-not-single c =
 pub returns-else-not-single : goal.returns-else-not-single
 returns-else-not-single c =
     sym (all_single (prepared_texture c.args.textures.now c.args.tex.0) c.last_column-last.result (c.loop-col.col + 1) c.last_column-last.ensures.value (omega arith)
-    (below_more _ _ c.loop-col.invariant (sym c.single.ensures ∙ c.if-not-single.false)))
+    (below_more _ _ c.loop-col.invariant (sym c.single.ensures.value ∙ c.if-not-single.false)))
