@@ -12,32 +12,32 @@ use Rattle.art_rules.specs.Columns.{patches_in, stands_in, composite_place}
 use Rattle.art_rules.specs.Lookups.{AreColumnsOf, lookup_of, column_lookup, single_place}
 use Rattle.art_rules.specs.Textures.{mask_of}
 use Rattle.art_rules.proofs.MaskLemmas.{IsMask, mask_of-greatest}
-use Rattle.texture_build.specs.Sources.{IsThere}
+use Rattle.texture_build.specs.Sources.{IsColumnThere}
 
 module _ (lumps : List Lump) where
   abbrev there : PlacedPatch → Type 0
   there patch = patch.lump < length lumps
 
   -- the one patch of a column is of the directory
-  standing_there : (bytes : ℕ → List ℕ) (start x : ℕ) (standing : List PlacedPatch) → All there standing → IsThere lumps (lookup_of bytes start x standing)
+  standing_there : (bytes : ℕ → List ℕ) (start x : ℕ) (standing : List PlacedPatch) → All there standing → IsColumnThere lumps (lookup_of bytes start x standing)
   unfolding lookup_of
   standing_there bytes start x [] a = tt
   standing_there bytes start x (patch ∷ []) a = All-head there patch [] a
   standing_there bytes start x (first ∷ second ∷ rest) a = tt
 
-  pub lookup_there : (bytes : ℕ → List ℕ) (patches : List PlacedPatch) (height x : ℕ) → All there patches → IsThere lumps (column_lookup bytes patches height x)
+  pub lookup_there : (bytes : ℕ → List ℕ) (patches : List PlacedPatch) (height x : ℕ) → All there patches → IsColumnThere lumps (column_lookup bytes patches height x)
   unfolding column_lookup patches_in
   lookup_there bytes patches height x a = standing_there bytes (composite_place patches height x) x (patches_in patches x) (All-filter (stands_in x) there patches a)
 
   -- so is the lump that any column is read from
-  pub column_there : (patches : List PlacedPatch) (height : ℕ) (columns : List ColumnLookup) (x : ℕ) → AreColumnsOf patches height columns → All there patches → IsThere lumps (slice_index_or columns x Empty)
+  pub column_there : (patches : List PlacedPatch) (height : ℕ) (columns : List ColumnLookup) (x : ℕ) → AreColumnsOf patches height columns → All there patches → IsColumnThere lumps (slice_index_or columns x Empty)
   column_there patches height columns x are a = go (cases_lt x (length columns)) where
-    go : (x < length columns) ⊎ (length columns ≤ x) → IsThere lumps (slice_index_or columns x Empty)
-    go (inl l) = let c = are.at x l in subst (IsThere lumps) (sym c.is) (lookup_there c.bytes patches height x a)
-    go (inr l) = subst (IsThere lumps) (sym (get_or_past columns x Empty l)) tt
+    go : (x < length columns) ⊎ (length columns ≤ x) → IsColumnThere lumps (slice_index_or columns x Empty)
+    go (inl l) = let c = are.at x l in subst (IsColumnThere lumps) (sym c.is) (lookup_there c.bytes patches height x a)
+    go (inr l) = subst (IsColumnThere lumps) (sym (get_or_past columns x Empty l)) tt
 
   -- and it has a slot in a cache of the directory
-  pub single_slot : (slots : ℕ) (lookup : ColumnLookup) → length lumps ≤ slots → IsThere lumps lookup → IfSome (single_place lookup) (λ s. s.0 < slots)
+  pub single_slot : (slots : ℕ) (lookup : ColumnLookup) → length lumps ≤ slots → IsColumnThere lumps lookup → IfSome (single_place lookup) (λ s. s.0 < slots)
   unfolding single_place
   single_slot slots Empty l h = tt
   single_slot slots (Single lump place) l h = omega (arith, h)

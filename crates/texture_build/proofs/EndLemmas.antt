@@ -15,7 +15,7 @@ use Rattle.lump_cache.specs.Calls.{IfFull, InOrderAt}
 use Rattle.art_rules.specs.declared.ColumnLookup.TheVariants.{Composed}
 use Rattle.art_rules.specs.Wanted.{PreparedTexture}
 use Rattle.art_rules.proofs.LookupLemmas.{composite_of_first-none, composite_of_first-all}
-use Rattle.texture_build.specs.Asked.{IsSmallBeside, IsFullFor, size_of}
+use Rattle.texture_build.specs.Asked.{IsSmallBeside, IsFullForColumn, size_of}
 use Rattle.texture_build.specs.Builds.{StartsComposite, FailsToBegin, IsFullForPatch, HasBuilt}
 use Rattle.texture_build.specs.Composites.{composite_of}
 
@@ -59,7 +59,7 @@ ends_order items old begun put new before after (Err ReadFault) first next last 
 
 module _ (lumps : List Lump) (number : ℕ) (t : PreparedTexture) (place : ℕ) (old : Heap) where
   -- the composite found no room
-  pub composite_full : (new : Heap) (wanted widest' : ℕ) → FailsToBegin number (size_of t) old new wanted widest' → IsFullFor lumps number t (Composed place) old wanted widest'
+  pub composite_full : (new : Heap) (wanted widest' : ℕ) → FailsToBegin number (size_of t) old new wanted widest' → IsFullForColumn lumps number t (Composed place) old wanted widest'
   composite_full new wanted widest' full = record {
     owner = composite_owner number;
     size = size_of t;
@@ -70,7 +70,7 @@ module _ (lumps : List Lump) (number : ℕ) (t : PreparedTexture) (place : ℕ) 
   }
 
   -- a patch found none while the composite was pinned
-  begun_full : (begun : Heap) (wanted widest' : ℕ) → StartsComposite number (size_of t) old begun → IsFullForPatch lumps number t begun wanted widest' → IsFullFor lumps number t (Composed place) old wanted widest'
+  begun_full : (begun : Heap) (wanted widest' : ℕ) → StartsComposite number (size_of t) old begun → IsFullForPatch lumps number t begun wanted widest' → IsFullForColumn lumps number t (Composed place) old wanted widest'
   begun_full begun wanted widest' begins full = record {
     owner = full.owner;
     size = full.size;
@@ -80,7 +80,7 @@ module _ (lumps : List Lump) (number : ℕ) (t : PreparedTexture) (place : ℕ) 
     room = λ colormap count rest. inr (full.asked, subst (λ (n : ℕ). IsSmallBeside n count (size_of t) wanted) begins.counts.0 (full.room colormap count (begins.rest colormap count rest) begins.building));
   }
 
-  pub ends_full : (begun : Heap) (built : Result (Unit {0}) CacheFault) → StartsComposite number (size_of t) old begun → IfErr built (λ fault. IfFull (cache_fault fault) (IsFullForPatch lumps number t begun)) → IfErr built (λ fault. IfFull (cache_fault fault) (IsFullFor lumps number t (Composed place) old))
+  pub ends_full : (begun : Heap) (built : Result (Unit {0}) CacheFault) → StartsComposite number (size_of t) old begun → IfErr built (λ fault. IfFull (cache_fault fault) (IsFullForPatch lumps number t begun)) → IfErr built (λ fault. IfFull (cache_fault fault) (IsFullForColumn lumps number t (Composed place) old))
   ends_full begun (Ok done) begins full = tt
   ends_full begun (Err (ZoneFull wanted widest')) begins full = begun_full begun wanted widest' begins full
   ends_full begun (Err ReadFault) begins full = tt

@@ -17,7 +17,7 @@ use Rattle.art_rules.specs.Wanted.{place_lump, place_patch, placed_patch, placed
 use Rattle.patch_columns.specs.Seen.{columns_with, seen_lookups}
 use Rattle.patch_columns.proofs.SeenLemmas.{columns_with-seen}
 use Rattle.texture_build.specs.Asked.{patch_lump}
-use Rattle.texture_build.specs.Parts.{PatchStep, PatchesPart, or_missing, part_of, step_of}
+use Rattle.texture_build.specs.Parts.{PatchStep, PatchesPart, or_missing, patches_part, step_of}
 
 placed_lump : (entry : TextureEntry) (lump : ℕ) (patch : Option Patch) (placed : PlacedPatch) → option_map (place_patch entry lump) patch ≡ Some placed → placed.lump ≡ lump
 unfolding place_patch
@@ -113,25 +113,25 @@ module _ (last : List ℕ → Option ℕ) (bytes : ℕ → List ℕ) (names : Li
   placed_stop entries more entry ps e f = placed_patches-append entries (entry ∷ more) ∙ rw (e, f) refl
 
   -- before the first patch
-  pub part_none : (number width : ℕ) (columns : List ColumnLookup) → columns ≡ seen_lookups bytes [] width → or_missing number (option_map (part_of bytes width) (placed_patches last bytes names [])) ≡ Ok (record { patches = []; columns = columns })
-  unfolding placed_patches or_missing part_of
+  pub part_none : (number width : ℕ) (columns : List ColumnLookup) → columns ≡ seen_lookups bytes [] width → or_missing number (option_map (patches_part bytes width) (placed_patches last bytes names [])) ≡ Ok (record { patches = []; columns = columns })
+  unfolding placed_patches or_missing patches_part
   part_none number width columns e = ap (λ xs. Ok (record { patches = []; columns = xs })) (sym e)
 
   -- one patch more
   pub part_push : (number width : ℕ) (entries : List TextureEntry) (k : ℕ) (d : TextureEntry) (patches : List PlacedPatch) (columns new : List ColumnLookup) (patch : PlacedPatch) → k < length entries →
-      or_missing number (option_map (part_of bytes width) (placed_patches last bytes names (take k entries))) ≡ Ok (record { patches = patches; columns = columns }) →
+      or_missing number (option_map (patches_part bytes width) (placed_patches last bytes names (take k entries))) ≡ Ok (record { patches = patches; columns = columns }) →
       or_missing number (option_map (step_of bytes columns) (placed_patch last bytes names (get_or entries k d))) ≡ Ok (record { patch = patch; columns = new }) →
-      or_missing number (option_map (part_of bytes width) (placed_patches last bytes names (take (k + 1) entries))) ≡ Ok (record { patches = patches ++ patch ∷ []; columns = new })
-  unfolding or_missing part_of step_of
+      or_missing number (option_map (patches_part bytes width) (placed_patches last bytes names (take (k + 1) entries))) ≡ Ok (record { patches = patches ++ patch ∷ []; columns = new })
+  unfolding or_missing patches_part step_of
   part_push number width entries k d patches columns new patch l so_far step =
-      let one = found_is number (part_of bytes width) _ _ so_far in
+      let one = found_is number (patches_part bytes width) _ _ so_far in
       let two = found_is number (step_of bytes columns) _ _ step in
       let ps : one.item ≡ patches = ap (λ (p : PatchesPart). p.patches) one.gives in
       let cs : seen_lookups bytes one.item width ≡ columns = ap (λ (p : PatchesPart). p.columns) one.gives in
       let p : two.item ≡ patch = ap (λ (s : PatchStep). s.patch) two.gives in
       let ns : columns_with (bytes two.item.lump) two.item columns ≡ new = ap (λ (s : PatchStep). s.columns) two.gives in
       let more = ap (placed_patches last bytes names) (take_more entries k d l) ∙ placed_push (take k entries) (get_or entries k d) one.item two.item one.is two.is in
-      ap (λ o. or_missing number (option_map (part_of bytes width) o)) more
+      ap (λ o. or_missing number (option_map (patches_part bytes width) o)) more
       ∙ ap Ok (
       ap (λ xs. record { patches = one.item ++ two.item ∷ []; columns = xs }) (sym (columns_with-seen bytes one.item two.item width) ∙ ap (columns_with (bytes two.item.lump) two.item) cs ∙ ns)
       ∙ ap (λ xs. record { patches = xs ++ two.item ∷ []; columns = new }) ps
@@ -139,12 +139,12 @@ module _ (last : List ℕ → Option ℕ) (bytes : ℕ → List ℕ) (names : Li
 
   -- a patch is missing, and none before it
   pub part_stop : (number width : ℕ) (entries : List TextureEntry) (k : ℕ) (d : TextureEntry) (part : PatchesPart) (columns : List ColumnLookup) (reason : TexRefusal) → k < length entries →
-      or_missing number (option_map (part_of bytes width) (placed_patches last bytes names (take k entries))) ≡ Ok part →
+      or_missing number (option_map (patches_part bytes width) (placed_patches last bytes names (take k entries))) ≡ Ok part →
       or_missing number (option_map (step_of bytes columns) (placed_patch last bytes names (get_or entries k d))) ≡ Err reason →
-      or_missing number (option_map (part_of bytes width) (placed_patches last bytes names entries)) ≡ Err reason
+      or_missing number (option_map (patches_part bytes width) (placed_patches last bytes names entries)) ≡ Err reason
   unfolding or_missing
   part_stop number width entries k d part columns reason l so_far step =
-      let one = found_is number (part_of bytes width) _ _ so_far in
+      let one = found_is number (patches_part bytes width) _ _ so_far in
       let two = missing_is number (step_of bytes columns) _ _ step in
-      ap (λ o. or_missing number (option_map (part_of bytes width) o)) (ap (placed_patches last bytes names) (split_at entries k d l) ∙ placed_stop (take k entries) (drop (suc k) entries) (get_or entries k d) one.item one.is two.0)
+      ap (λ o. or_missing number (option_map (patches_part bytes width) o)) (ap (placed_patches last bytes names) (split_at entries k d l) ∙ placed_stop (take k entries) (drop (suc k) entries) (get_or entries k d) one.item one.is two.0)
       ∙ ap Err (sym two.1)

@@ -30,7 +30,7 @@ use Rattle.outside.specs.declared.fault.Fault.{Fault}
 use Rattle.outside.specs.declared.fault.Fault.TheVariants.{Refused}
 use Rattle.texture_lists.specs.declared.number.TexNo.{TexNo}
 use Rattle.texture_build.specs.Asked.{IsWantedPatch}
-use Rattle.texture_build.specs.Parts.{PatchesPart, or_missing, part_of}
+use Rattle.texture_build.specs.Parts.{PatchesPart, or_missing, patches_part}
 use Rattle.texture_build.specs.Views.{IsListedAs, is_marked, is_wanted, prepared_at}
 use Rattle.texture_build.proofs.PlaceLemmas.{found_is, missing_is}
 
@@ -70,31 +70,31 @@ bound_big bytes number t patches width height result w h big e =
 
 module _ (last : List ℕ → Option ℕ) (bytes : ℕ → List ℕ) (names : List (List ℕ)) (number : ℕ) (t : Texture) (patches : List PlacedPatch) (columns : List ColumnLookup) (width : ℕ) where
   -- what the columns of a texture are whose patches are all placed
-  pub texture_seen : (after : List ColumnLookup) → after ≡ columns → length columns ≡ width → or_missing number (option_map (part_of bytes width) (placed_patches last bytes names t.patches)) ≡ Ok (record { patches = patches; columns = columns }) →
+  pub texture_seen : (after : List ColumnLookup) → after ≡ columns → length columns ≡ width → or_missing number (option_map (patches_part bytes width) (placed_patches last bytes names t.patches)) ≡ Ok (record { patches = patches; columns = columns }) →
       after ≡ seen_lookups bytes patches (length after)
-  unfolding part_of
+  unfolding patches_part
   texture_seen after same count placed =
-      let one = found_is number (part_of bytes width) _ _ placed in
+      let one = found_is number (patches_part bytes width) _ _ placed in
       let ps : one.item ≡ patches = ap (λ (p : PatchesPart). p.patches) one.gives in
       let cs : seen_lookups bytes one.item width ≡ columns = ap (λ (p : PatchesPart). p.columns) one.gives in
       let wide : width ≡ length after = sym count ∙ ap length (sym same) in
       same ∙ sym cs ∙ ap (λ xs. seen_lookups bytes xs width) ps ∙ ap (seen_lookups bytes patches) wide
 
   -- and what it comes to
-  pub texture_is : (r : Result PreparedTexture TexRefusal) → or_missing number (option_map (part_of bytes width) (placed_patches last bytes names t.patches)) ≡ Ok (record { patches = patches; columns = columns }) →
+  pub texture_is : (r : Result PreparedTexture TexRefusal) → or_missing number (option_map (patches_part bytes width) (placed_patches last bytes names t.patches)) ≡ Ok (record { patches = patches; columns = columns }) →
       unless_too_big bytes number t patches ≡ r → prepared last bytes names number t ≡ r
-  unfolding prepared unless_missing part_of
+  unfolding prepared unless_missing patches_part
   texture_is r placed bound =
-      let one = found_is number (part_of bytes width) _ _ placed in
+      let one = found_is number (patches_part bytes width) _ _ placed in
       let ps : one.item ≡ patches = ap (λ (p : PatchesPart). p.patches) one.gives in
       ap (unless_missing bytes number t) one.is ∙ ap (unless_too_big bytes number t) ps ∙ bound
 
 -- a texture of which a patch is missing
 pub texture_missing : (last : List ℕ → Option ℕ) (bytes : ℕ → List ℕ) (names : List (List ℕ)) (number : ℕ) (t : Texture) (width : ℕ) (reason : TexRefusal) →
-    or_missing number (option_map (part_of bytes width) (placed_patches last bytes names t.patches)) ≡ Err reason → prepared last bytes names number t ≡ Err reason
+    or_missing number (option_map (patches_part bytes width) (placed_patches last bytes names t.patches)) ≡ Err reason → prepared last bytes names number t ≡ Err reason
 unfolding prepared unless_missing
 texture_missing last bytes names number t width reason placed =
-    let missing = missing_is number (part_of bytes width) _ _ placed in
+    let missing = missing_is number (patches_part bytes width) _ _ placed in
     ap (unless_missing bytes number t) missing.0 ∙ ap Err (sym missing.1)
 
 -- after a part that was passed, a step that is told by the bytes alone

@@ -18,7 +18,7 @@ use Rattle.lump_cache.specs.Calls.{IfFull}
 use Rattle.art_rules.specs.declared.ColumnLookup.{ColumnLookup}
 use Rattle.art_rules.specs.declared.ColumnLookup.TheVariants.{Single}
 use Rattle.art_rules.specs.Wanted.{PreparedTexture}
-use Rattle.texture_build.specs.Asked.{IsFullFor}
+use Rattle.texture_build.specs.Asked.{IsFullForColumn}
 use Rattle.texture_build.specs.Builds.{OthersKeep}
 use Rattle.texture_build.specs.Composites.{AreComposites, composite_of}
 use Rattle.texture_build.specs.Ready.{MakesColumnLive}
@@ -44,7 +44,7 @@ readies_nothing number t lookup view dir z live = record {
 
 -- the zone was full for the lump of a column
 pub single_full : (lumps : List Lump) (number : ℕ) (t : PreparedTexture) (lump place : ℕ) (z : Heap) (r : Result (Unit {0}) CacheFault) → WhereFull r (NoRoom (lump_at lumps lump).size z) →
-    ((colormap size : ℕ) → IsAtRest colormap size z → WhereFull r (λ wanted widest'. z.size < block_size size + wanted + MIN_FRAGMENT)) → IfErr r (λ fault. IfFull (cache_fault fault) (IsFullFor lumps number t (Single lump place) z))
+    ((colormap size : ℕ) → IsAtRest colormap size z → WhereFull r (λ wanted widest'. z.size < block_size size + wanted + MIN_FRAGMENT)) → IfErr r (λ fault. IfFull (cache_fault fault) (IsFullForColumn lumps number t (Single lump place) z))
 single_full lumps number t lump place z (Ok done) full room = tt
 single_full lumps number t lump place z (Err ReadFault) full room = tt
 single_full lumps number t lump place z (Err (ZoneFull wanted widest')) full room = record {

@@ -1,6 +1,6 @@
 -- The texels of a column, by the bytes that a cache has.
 use Rattle.std.proofs.Common.{◌≡◌, ℕ, zero, suc, ◌+◌, ◌-◌, ◌^◌, ◌<◌, Bool, true, false, cond, List, length, Option, Some, None, ℤ, refl, sym, subst, ap, ◌∙◌, arith, option_map}
-use Rattle.std.specs.Prelude.{IfSome, slice_index_or, nat_lt}
+use Rattle.std.specs.Prelude.{IfSome, IsSome, unwrap_or, slice_index_or, nat_lt}
 use Rattle.std.proofs.lemmas.Bool.Decides.{nat_tests}
 use Rattle.std.proofs.lemmas.Nat.{and_le_r}
 use Rattle.word_rules.specs.Words.{bits_of}
@@ -18,8 +18,8 @@ use Rattle.art_rules.specs.Lookups.{column_lookup, masked_column, texel_by}
 use Rattle.art_rules.specs.Wanted.{PreparedTexture}
 use Rattle.art_rules.proofs.LookupLemmas.{texel_by-texel, column_lookups-read}
 use Rattle.texture_build.specs.Composites.{AreComposites, composite_of}
-use Rattle.texture_build.specs.Sources.{ColumnView, IsThere, column_from, column_in, column_of, own_column}
-use Rattle.texture_build.specs.Views.{AreTexturesOf, AreThere, TexturesView, prepared_at}
+use Rattle.texture_build.specs.Sources.{ColumnView, IsColumnThere, column_from, column_in, column_view, texture_column}
+use Rattle.texture_build.specs.Views.{AreTexturesOf, ArePatchesThere, TexturesView, prepared_at, unprepared}
 use Rattle.texture_build.proofs.ColumnLemmas.{lookup_there}
 use Rattle.texture_build.proofs.ViewLemmas.{HasColumns, textures_columns}
 
@@ -45,30 +45,35 @@ module _ (contents : List (List ℕ)) (lumps : List Lump) (number : ℕ) (t : Pr
   lent None ys first texel_at at e = tt
   lent (Some xs) ys first texel_at at e = λ r. ap (λ (bytes : List ℕ). byte_at bytes (first + r)) e ∙ at r
 
-  lent_by : (lookup : ColumnLookup) → IsThere lumps lookup → IsFaithful contents lumps z → IfSome (bytes_of (composite_owner number) z.blocks) (λ xs. xs ≡ composite_of its t) → IfSome (column_of number z lookup) (λ column. (r : ℕ) → byte_at column.bytes (column.first + r) ≡ texel_by its (composite_of its t) lookup r)
+  lent_by : (lookup : ColumnLookup) → IsColumnThere lumps lookup → IsFaithful contents lumps z → IfSome (bytes_of (composite_owner number) z.blocks) (λ xs. xs ≡ composite_of its t) → IfSome (column_view number z lookup) (λ column. (r : ℕ) → byte_at column.bytes (column.first + r) ≡ texel_by its (composite_of its t) lookup r)
   unfolding texel_by byte_at
   lent_by Empty there faithful built = λ r. refl
   lent_by (Single lump place) there faithful built = lent (bytes_of (lump_owner lump) z.blocks) (its lump) (place + POST_BYTES_AT) (λ r. byte_at (its lump) (place + POST_BYTES_AT + r)) (λ r. refl) (faithful.at lump there)
   lent_by (Composed place) there faithful built = lent (bytes_of (composite_owner number) z.blocks) (composite_of its t) place (λ r. byte_at (composite_of its t) (place + r)) (λ r. refl) built
 
-  lent_texels : (col : ℤ) → HasColumns its t → AreThere lumps t → IsFaithful contents lumps z → IfSome (bytes_of (composite_owner number) z.blocks) (λ xs. xs ≡ composite_of its t) →
-      IfSome (column_of number z (column_in t col)) (λ column. (r : ℕ) → byte_at column.bytes (column.first + r) ≡ texel its t.patches (length t.columns) t.height (own_column t col) r)
+  lent_texels : (col : ℤ) → HasColumns its t → ArePatchesThere lumps t → IsFaithful contents lumps z → IfSome (bytes_of (composite_owner number) z.blocks) (λ xs. xs ≡ composite_of its t) →
+      IfSome (column_view number z (column_in t col)) (λ column. (r : ℕ) → byte_at column.bytes (column.first + r) ≡ texel its t.patches (length t.columns) t.height (texture_column t col) r)
   lent_texels col has there faithful built =
-      let x = own_column t col in
+      let x = texture_column t col in
       let within = own_within (length t.columns) col has.some in
       let is : column_in t col ≡ column_lookup its t.patches t.height x = ap (λ (xs : List ColumnLookup). slice_index_or xs x Empty) has.are ∙ column_lookups-read its t.patches (length t.columns) t.height x Empty within in
       let by = lent_by (column_lookup its t.patches t.height x) (lookup_there lumps its t.patches t.height x there) faithful built in
-      weaker (column_of number z (column_in t col)) (λ r. texel_by its (composite_of its t) (column_lookup its t.patches t.height x) r) (λ r. texel its t.patches (length t.columns) t.height x r)
+      weaker (column_view number z (column_in t col)) (λ r. texel_by its (composite_of its t) (column_lookup its t.patches t.height x) r) (λ r. texel its t.patches (length t.columns) t.height x r)
       (λ r. sym (texel_by-texel its t.patches (length t.columns) t.height x r))
-      (subst (λ (lookup : ColumnLookup). IfSome (column_of number z lookup) (λ column. (r : ℕ) → byte_at column.bytes (column.first + r) ≡ texel_by its (composite_of its t) (column_lookup its t.patches t.height x) r)) (sym is) by)
+      (subst (λ (lookup : ColumnLookup). IfSome (column_view number z lookup) (λ column. (r : ℕ) → byte_at column.bytes (column.first + r) ≡ texel_by its (composite_of its t) (column_lookup its t.patches t.height x) r)) (sym is) by)
     where
       weaker : (c : Option ColumnView) (f g : ℕ → ℕ) → ((r : ℕ) → f r ≡ g r) → IfSome c (λ column. (r : ℕ) → byte_at column.bytes (column.first + r) ≡ f r) → IfSome c (λ column. (r : ℕ) → byte_at column.bytes (column.first + r) ≡ g r)
       weaker None f g same k = tt
       weaker (Some column) f g same k = λ r. k r ∙ same r
 
+-- the texture of a number that is prepared
+pub prepared_is : (prepared : Option PreparedTexture) → IsSome prepared → prepared ≡ Some (unwrap_or prepared unprepared)
+prepared_is None some = cc
+prepared_is (Some t) some = refl
+
 -- a faithful cache whose composites are these textures' lends each column's texels
-pub texels_lent : (contents : List (List ℕ)) (lumps : List Lump) (textures : TexturesView) (number : ℕ) (t : PreparedTexture) (z : Heap) (col : ℤ) → prepared_at textures.prepared number ≡ Some t → AreThere lumps t → IsFaithful contents lumps z → AreComposites (lump_bytes contents lumps) textures z → AreTexturesOf contents lumps textures →
-    IfSome (column_of number z (column_in t col)) (λ column. (r : ℕ) → byte_at column.bytes (column.first + r) ≡ texel (lump_bytes contents lumps) t.patches (length t.columns) t.height (own_column t col) r)
+pub texels_lent : (contents : List (List ℕ)) (lumps : List Lump) (textures : TexturesView) (number : ℕ) (t : PreparedTexture) (z : Heap) (col : ℤ) → prepared_at textures.prepared number ≡ Some t → ArePatchesThere lumps t → IsFaithful contents lumps z → AreComposites (lump_bytes contents lumps) textures z → AreTexturesOf contents lumps textures →
+    IfSome (column_view number z (column_in t col)) (λ column. (r : ℕ) → byte_at column.bytes (column.first + r) ≡ texel (lump_bytes contents lumps) t.patches (length t.columns) t.height (texture_column t col) r)
 texels_lent contents lumps textures number t z col is there faithful composites are =
     lent_texels contents lumps number t z col (textures_columns contents lumps textures number t are is) there faithful
     (subst (λ (prepared : Option PreparedTexture). IfSome prepared (λ u. IfSome (bytes_of (composite_owner number) z.blocks) (λ xs. xs ≡ composite_of (lump_bytes contents lumps) u))) is (composites.at number))

@@ -27,8 +27,8 @@ pub record PatchesPart : Type 0 where
   pub patches : List PlacedPatch
   pub columns : List ColumnLookup
 
-unfoldable pub part_of : (ℕ → List ℕ) → ℕ → List PlacedPatch → PatchesPart
-part_of bytes width patches = record { patches = patches; columns = seen_lookups bytes patches width }
+unfoldable pub patches_part : (ℕ → List ℕ) → ℕ → List PlacedPatch → PatchesPart
+patches_part bytes width patches = record { patches = patches; columns = seen_lookups bytes patches width }
 
 -- a patch of one of these entries
 pub record IsEntryPatch (lumps : List Lump) (names : List (List ℕ)) (entries : List TextureEntry) (lump : ℕ) : Type 0 where

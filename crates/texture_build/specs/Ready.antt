@@ -11,7 +11,7 @@ use Rattle.lump_cache.specs.Caches.{IsAtRest, IsFaithful, KeepsCounts, cache_fau
 use Rattle.lump_cache.specs.Calls.{IfFull, InOrderAt, HoldContents}
 use Rattle.art_rules.specs.declared.ColumnLookup.{ColumnLookup}
 use Rattle.art_rules.specs.Wanted.{PreparedTexture}
-use Rattle.texture_build.specs.Asked.{HasAsked, IsFullFor}
+use Rattle.texture_build.specs.Asked.{HasColumnAsked, IsFullForColumn}
 use Rattle.texture_build.specs.Composites.{AreComposites}
 use Rattle.texture_build.specs.Sources.{IsColumnLive, IsComposedColumn}
 use Rattle.texture_build.specs.Views.{TexturesView, prepared_at}
@@ -28,6 +28,6 @@ pub record MakesColumnLive (number : ℕ) (t : PreparedTexture) (lookup : Column
   pub composites : (contents : List (List ℕ)) (textures : TexturesView) → prepared_at textures.prepared number ≡ Some t → HoldContents view dir old contents →
       AreComposites (lump_bytes contents dir.lumps) textures old → AreComposites (lump_bytes contents dir.lumps) textures new
   pub empty : OnErr result (IsComposedColumn lookup → owned_block (composite_owner number) new.blocks ≡ None)
-  pub full : IfErr result (λ fault. IfFull (cache_fault fault) (IsFullFor dir.lumps number t lookup old))
-  pub order : (items : List Item) → HasAsked items dir.lumps number t lookup → IsInOrder items old →
+  pub full : IfErr result (λ fault. IfFull (cache_fault fault) (IsFullForColumn dir.lumps number t lookup old))
+  pub order : (items : List Item) → HasColumnAsked items dir.lumps number t lookup → IsInOrder items old →
       MatchResult result (λ _. KeepsOrder items old new view.taken after.taken) (λ fault. InOrderAt (cache_fault fault) (KeepsOrder items old new view.taken after.taken))

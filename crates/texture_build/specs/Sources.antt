@@ -12,12 +12,16 @@ use Rattle.art_rules.specs.Wanted.{PreparedTexture}
 use Rattle.texture_build.specs.declared.source.ColumnSource.{ColumnSource}
 use Rattle.texture_build.specs.declared.source.ColumnSource.TheVariants as source
 
+-- what a column of a prepared texture, counted from its left one, is read from
+abbrev pub own_lookup : PreparedTexture → ℕ → ColumnLookup
+own_lookup t x = slice_index_or t.columns x Empty
+
 -- which column of a prepared texture a texture column stands for, and what it is read from
-abbrev pub own_column : PreparedTexture → ℤ → ℕ
-own_column t column = masked_column (mask_of (length t.columns)) column
+abbrev pub texture_column : PreparedTexture → ℤ → ℕ
+texture_column t column = masked_column (mask_of (length t.columns)) column
 
 abbrev pub column_in : PreparedTexture → ℤ → ColumnLookup
-column_in t column = slice_index_or t.columns (own_column t column) Empty
+column_in t column = own_lookup t (texture_column t column)
 
 -- whose bytes it has, in the texture of that number
 unfoldable pub source_of : ℕ → ColumnLookup → ColumnSource
@@ -26,10 +30,10 @@ source_of number (Single lump place) = source.Lump (record { 0 = lump })
 source_of number (Composed place) = source.Composite (record { 0 = number })
 
 -- the lump that a column is read from is of the directory
-abbrev pub IsThere : List Lump → ColumnLookup → Type 0
-IsThere lumps Empty = Unit {0}
-IsThere lumps (Single lump place) = lump < length lumps
-IsThere lumps (Composed place) = Unit {0}
+abbrev pub IsColumnThere : List Lump → ColumnLookup → Type 0
+IsColumnThere lumps Empty = Unit {0}
+IsColumnThere lumps (Single lump place) = lump < length lumps
+IsColumnThere lumps (Composed place) = Unit {0}
 
 -- a column is read from the composite
 abbrev pub IsComposedColumn : ColumnLookup → Type 0
@@ -51,7 +55,7 @@ pub record ColumnView : Type 0 where
 abbrev pub column_from : ℕ → List ℕ → ColumnView
 column_from first bytes = record { bytes = bytes; first = first }
 
-abbrev pub column_of : ℕ → Heap → ColumnLookup → Option ColumnView
-column_of number z Empty = Some (column_from 0 [])
-column_of number z (Single lump place) = option_map (column_from (place + POST_BYTES_AT)) (bytes_of (lump_owner lump) z.blocks)
-column_of number z (Composed place) = option_map (column_from place) (bytes_of (composite_owner number) z.blocks)
+abbrev pub column_view : ℕ → Heap → ColumnLookup → Option ColumnView
+column_view number z Empty = Some (column_from 0 [])
+column_view number z (Single lump place) = option_map (column_from (place + POST_BYTES_AT)) (bytes_of (lump_owner lump) z.blocks)
+column_view number z (Composed place) = option_map (column_from place) (bytes_of (composite_owner number) z.blocks)

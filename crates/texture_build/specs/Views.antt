@@ -44,15 +44,15 @@ pub record AreTexturesOf (contents : List (List ℕ)) (lumps : List Lump) (textu
   pub prepared : prepared_textures (last_of lumps) (lump_bytes contents lumps) textures.lists wanted ≡ Ok textures.prepared
 
 -- the lumps of a texture's patches are of the directory
-abbrev pub AreThere : List Lump → PreparedTexture → Type 0
-AreThere lumps t = All (λ (patch : PlacedPatch). patch.lump < length lumps) t.patches
+abbrev pub ArePatchesThere : List Lump → PreparedTexture → Type 0
+ArePatchesThere lumps t = All (λ (patch : PlacedPatch). patch.lump < length lumps) t.patches
 
 abbrev pub AllThere : List Lump → TexturesView → Type 0
-AllThere lumps textures = All (λ (t : Option PreparedTexture). IfSome t (AreThere lumps)) textures.prepared
+AllThere lumps textures = All (λ (t : Option PreparedTexture). IfSome t (ArePatchesThere lumps)) textures.prepared
 
 -- a prepared texture has as many columns and rows as its record says
 abbrev pub IsListedAs : Texture → PreparedTexture → Type 0
 IsListedAs listed t = (length t.columns ≡ listed.width) × (t.height ≡ listed.height)
 
-abbrev pub AllListed : TexturesView → Type 0
-AllListed textures = (number : ℕ) → IfSome (prepared_at textures.prepared number) (IsListedAs (texture_at textures.lists.textures number))
+abbrev pub AllTexturesListed : TexturesView → Type 0
+AllTexturesListed textures = (number : ℕ) → IfSome (prepared_at textures.prepared number) (IsListedAs (texture_at textures.lists.textures number))

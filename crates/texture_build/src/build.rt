@@ -10,10 +10,10 @@ ghost use Rattle.zone_rules.specs.Orders.{Item, IsInOrder, KeepsOrder};
 ghost use Rattle.lump_cache.specs.Caches.{IsAtRest, IsFaithful, IsFilled, KeepsCounts, cache_fault, composite_owner, lump_owner};
 ghost use Rattle.lump_cache.specs.Calls.{IfFull, InOrderAt, HoldContents};
 ghost use Rattle.art_rules.specs.declared.ColumnLookup.TheVariants.{Composed};
-ghost use Rattle.texture_build.specs.Asked.{HasAsked, IsFullFor, size_of};
+ghost use Rattle.texture_build.specs.Asked.{HasColumnAsked, IsFullForColumn, size_of};
 ghost use Rattle.texture_build.specs.Builds.{StartsComposite, EndsComposite, FailsToBegin, IsBuilding, OthersKeep, PutsPatch, PutsPatches};
 ghost use Rattle.texture_build.specs.Composites.{composite_of};
-ghost use Rattle.texture_build.specs.Views.{AreThere};
+ghost use Rattle.texture_build.specs.Views.{ArePatchesThere};
 
 use crate::prepared::PreparedTexture;
 use art_rules::PlacedPatch;
@@ -39,7 +39,7 @@ pub(crate) fn build_composite<S: Shelf>(
 ) -> Result<(), CacheFault>
     requires slots { length dir.now.lumps ≤ cache.old.lumps }
     requires composite { number < cache.old.composites }
-    requires there { AreThere dir.now.lumps texture.now }
+    requires there { ArePatchesThere dir.now.lumps texture.now }
     requires empty { IsNone (holding_of (composite_owner number) cache.old.blocks) }
     ensures answers { (contents : List (List ℕ)) → NameFiles (S.view shelf.old) dir.now.files contents → AllWithin contents dir.now.lumps → ResultIs cache_fault (S.view shelf.old).steady (λ done. done) (Ok tt) result }
     ensures live { OnOk result (IsLive cache.new (composite_owner number)) }
@@ -51,8 +51,8 @@ pub(crate) fn build_composite<S: Shelf>(
     ensures composite { (contents : List (List ℕ)) → HoldContents (S.view shelf.old) dir.now cache.old contents → OnOk result (bytes_of (composite_owner number) cache.new.blocks ≡ Some (composite_of (lump_bytes contents dir.now.lumps) texture.now)) }
     ensures others { OthersKeep number cache.old cache.new }
     ensures empty { OnErr result (owned_block (composite_owner number) cache.new.blocks ≡ None) }
-    ensures full { (place : ℕ) → IfErr result (λ fault. IfFull (cache_fault fault) (IsFullFor dir.now.lumps number texture.now (Composed place) cache.old)) }
-    ensures order { (place : ℕ) (items : List Item) → HasAsked items dir.now.lumps number texture.now (Composed place) → IsInOrder items cache.old →
+    ensures full { (place : ℕ) → IfErr result (λ fault. IfFull (cache_fault fault) (IsFullForColumn dir.now.lumps number texture.now (Composed place) cache.old)) }
+    ensures order { (place : ℕ) (items : List Item) → HasColumnAsked items dir.now.lumps number texture.now (Composed place) → IsInOrder items cache.old →
         MatchResult result (λ _. KeepsOrder items cache.old cache.new (S.view shelf.old).taken (S.view shelf.new).taken) (λ fault. InOrderAt (cache_fault fault) (KeepsOrder items cache.old cache.new (S.view shelf.old).taken (S.view shelf.new).taken)) }
 {
     begin_composite(cache, number, texture.size())?;
@@ -105,7 +105,7 @@ fn put_patches<S: Shelf>(
 ) -> Result<(), CacheFault>
     requires slots { length dir.now.lumps ≤ cache.old.lumps }
     requires composite { number < cache.old.composites }
-    requires there { AreThere dir.now.lumps texture.now }
+    requires there { ArePatchesThere dir.now.lumps texture.now }
     requires building { IsBuilding number (size_of texture.now) cache.old }
     ensures { PutsPatches number texture.now 0 (length texture.now.patches) (S.view shelf.old) (S.view shelf.new) dir.now cache.old cache.new result }
 {

@@ -1,19 +1,12 @@
 // The texels of a texture column.
 //
 // Rules: `specs/Sources`. The original: `R_GetColumn`, r_data.c.
-ghost use Rattle.std.specs.Prelude.{◌≡◌, ◌<◌, ◌≤◌, ◌+◌, ◌^◌, ℕ, List, length, Some, IfSome, option_map};
+ghost use Rattle.std.specs.Prelude.{◌≡◌, ◌<◌, ◌+◌, ◌^◌, Some, IfSome, option_map};
 ghost use Rattle.std.specs.Option.{option_copied};
-ghost use Rattle.lump_rules.specs.declared.wad.Lump.{Lump};
-ghost use Rattle.lump_rules.specs.Contents.{lump_bytes};
-ghost use Rattle.lump_cache.specs.Caches.{IsFaithful};
 ghost use Rattle.art_rules.specs.Bytes.{byte_at};
-ghost use Rattle.art_rules.specs.Columns.{texel};
 ghost use Rattle.art_rules.specs.Lookups.{single_place};
-ghost use Rattle.texture_build.specs.Composites.{AreComposites};
-ghost use Rattle.texture_build.specs.Sources.{column_from, column_in, column_of, own_column};
-ghost use Rattle.texture_build.specs.Views.{AreTexturesOf, AreThere, TexturesView, prepared_at};
+ghost use Rattle.texture_build.specs.Sources.{column_from, column_view};
 
-use crate::prepared::PreparedTexture;
 use art_rules::{ColumnLookup, POST_BYTES_AT, byte_at};
 use lump_cache::LumpCache;
 use std::marker::Model;
@@ -49,30 +42,18 @@ impl<'c> Column<'c> {
     }
 }
 
-// The texels of a column of the texture of that number; `None` exactly where the bytes that it is
-// read from are not live. Takes no memory.
-pub(crate) fn lend_column<'c>(
-    texture: &PreparedTexture,
+// The texels of a column of the texture of that number, by what it is read from; `None` exactly where
+// those bytes are not live. Takes no memory.
+#[inline(always)]
+#[tactic(auto, unfolding(art_rules::specs::Lookups::single_place))]
+pub(crate) fn lend_lookup<'c>(
+    lookup: ColumnLookup,
     number: u32,
     cache: &'c LumpCache,
-    col: i32,
 ) -> Option<Column<'c>>
-    requires lumps { IfSome (single_place (column_in texture.now col)) (λ s. s.0 < cache.now.lumps) }
-    requires composite { number < cache.now.composites }
-    ensures column { result ≡ column_of number cache.now (column_in texture.now col) }
-    ensures first { IfSome result (λ column. column.first < 2 ^ 33) }
-    ensures texel { (contents : List (List ℕ)) (lumps : List Lump) (textures : TexturesView) → prepared_at textures.prepared number ≡ Some texture.now → AreThere lumps texture.now → IsFaithful contents lumps cache.now → AreComposites (lump_bytes contents lumps) textures cache.now → AreTexturesOf contents lumps textures →
-        IfSome result (λ column. (r : ℕ) → byte_at column.bytes (column.first + r) ≡ texel (lump_bytes contents lumps) texture.now.patches (length texture.now.columns) texture.now.height (own_column texture.now col) r) }
-{
-    lend_lookup(texture.lookup(col), number, cache)
-}
-
-// The same by what the column is read from.
-#[tactic(auto, unfolding(art_rules::specs::Lookups::single_place))]
-fn lend_lookup<'c>(lookup: ColumnLookup, number: u32, cache: &'c LumpCache) -> Option<Column<'c>>
     requires lumps { IfSome (single_place lookup) (λ s. s.0 < cache.now.lumps) }
     requires composite { number < cache.now.composites }
-    ensures column { result ≡ column_of number cache.now lookup }
+    ensures column { result ≡ column_view number cache.now lookup }
     ensures first { IfSome result (λ column. column.first < 2 ^ 33) }
 {
     match lookup {

@@ -20,7 +20,7 @@ mod source;
 mod tests;
 mod textures;
 
-pub use art_rules::TexRefusal;
+pub use art_rules::{ColumnLookup, TexRefusal};
 pub use column::Column;
 pub use source::ColumnSource;
 pub use texture_lists::{TexFault, TexNo};

@@ -16,7 +16,7 @@ ghost use Rattle.art_rules.specs.declared.refusal.TexRefusal.TheVariants.{Missin
 ghost use Rattle.patch_columns.specs.Seen.{AreSeen, columns_with, seen_lookups};
 ghost use Rattle.outside.specs.declared.fault.Fault.TheVariants.{Refused};
 ghost use Rattle.texture_build.specs.Asked.{patch_lump};
-ghost use Rattle.texture_build.specs.Parts.{IsEntryPatch, or_missing, part_of, step_of};
+ghost use Rattle.texture_build.specs.Parts.{IsEntryPatch, or_missing, patches_part, step_of};
 
 use art_rules::{ColumnLookup, Patch, PlacedPatch, TexRefusal, TextureEntry};
 use lump_cache::{CacheFault, LumpCache, fetch_live};
@@ -40,7 +40,7 @@ pub(crate) fn place_patches<S: Shelf>(
     requires width { length columns.old < 2 ^ 16 }
     requires none { patches.old.items ≡ [] }
     requires empty { (bytes : ℕ → List ℕ) → columns.old ≡ seen_lookups bytes [] (length columns.old) }
-    ensures tells { ReadsLumps itself (S.view shelf.old) (S.view shelf.new) dir.now cache.old cache.new (IsEntryPatch dir.now.lumps lists.now.names entries.now) (λ _. record { patches = patches.new.items; columns = columns.new }) (λ bytes. or_missing tex.0 (option_map (part_of bytes (length columns.old)) (placed_patches (last_of dir.now.lumps) bytes lists.now.names entries.now))) result }
+    ensures tells { ReadsLumps itself (S.view shelf.old) (S.view shelf.new) dir.now cache.old cache.new (IsEntryPatch dir.now.lumps lists.now.names entries.now) (λ _. record { patches = patches.new.items; columns = columns.new }) (λ bytes. or_missing tex.0 (option_map (patches_part bytes (length columns.old)) (placed_patches (last_of dir.now.lumps) bytes lists.now.names entries.now))) result }
     ensures seen { OnOk result (AreSeen patches.new.items columns.new) }
     ensures there { OnOk result (All (λ patch. patch.lump < length dir.now.lumps) patches.new.items) }
     ensures count { length columns.new ≡ length columns.old }

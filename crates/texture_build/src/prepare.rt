@@ -13,7 +13,7 @@ ghost use Rattle.patch_columns.specs.Seen.{AreSeen, seen_lookups};
 ghost use Rattle.outside.specs.declared.fault.Fault.TheVariants.{Refused};
 ghost use Rattle.texture_build.specs.Asked.{IsWantedPatch};
 ghost use Rattle.texture_build.specs.Parts.{IsEntryPatch};
-ghost use Rattle.texture_build.specs.Views.{AreThere, IsListedAs, is_marked, is_wanted, prepared_at};
+ghost use Rattle.texture_build.specs.Views.{ArePatchesThere, IsListedAs, is_marked, is_wanted, prepared_at};
 
 use crate::lumps::{no_marks, set_mark};
 use crate::place::place_patches;
@@ -38,7 +38,7 @@ pub(crate) fn prepare_wanted<S: Shelf>(
     requires slots { length dir.now.lumps ≤ cache.old.lumps }
     requires below { All (λ tex. tex.0 < length lists.now.textures) wanted.now }
     ensures tells { ReadsLumps itself (S.view shelf.old) (S.view shelf.new) dir.now cache.old cache.new (IsWantedPatch dir.now.lumps lists.now (is_wanted wanted.now)) (λ textures. textures) (λ bytes. prepared_textures (last_of dir.now.lumps) bytes lists.now (is_wanted wanted.now)) result }
-    ensures there { IfOk result (λ textures. All (λ t. IfSome t (AreThere dir.now.lumps)) textures) }
+    ensures there { IfOk result (λ textures. All (λ t. IfSome t (ArePatchesThere dir.now.lumps)) textures) }
     ensures listed { IfOk result (λ textures. (number : ℕ) → IfSome (prepared_at textures number) (IsListedAs (texture_at lists.now.textures number))) }
     ensures wanted { IfOk result (λ textures. All (λ tex. IsSome (prepared_at textures tex.0)) wanted.now) }
     ensures count { IfOk result (λ textures. length textures ≡ length lists.now.textures) }
@@ -81,7 +81,7 @@ fn prepare_marked<S: Shelf>(
     requires count { length marks.now ≡ length lists.now.textures }
     requires few { length marks.now < 2 ^ 16 }
     ensures tells { ReadsLumps itself (S.view shelf.old) (S.view shelf.new) dir.now cache.old cache.new (IsWantedPatch dir.now.lumps lists.now (is_marked marks.now)) (λ textures. textures.items) (λ bytes. prepared_textures (last_of dir.now.lumps) bytes lists.now (is_marked marks.now)) result }
-    ensures there { IfOk result (λ textures. All (λ t. IfSome t (AreThere dir.now.lumps)) textures.items) }
+    ensures there { IfOk result (λ textures. All (λ t. IfSome t (ArePatchesThere dir.now.lumps)) textures.items) }
     ensures listed { IfOk result (λ textures. (number : ℕ) → IfSome (prepared_at textures.items number) (IsListedAs (texture_at lists.now.textures number))) }
     ensures marks { IfOk result (λ textures. map is_some textures.items ≡ marks.now) }
 {
@@ -107,7 +107,7 @@ fn prepare_if<S: Shelf>(
     requires slots { length dir.now.lumps ≤ cache.old.lumps }
     requires below { tex.0 < length lists.now.textures }
     ensures tells { ReadsLumps itself (S.view shelf.old) (S.view shelf.new) dir.now cache.old cache.new (λ lump. (wanted ≡ true) × IsEntryPatch dir.now.lumps lists.now.names (texture_at lists.now.textures tex.0).patches lump) (λ texture. texture) (λ bytes. prepared_if wanted (prepared (last_of dir.now.lumps) bytes lists.now.names tex.0 (texture_at lists.now.textures tex.0))) result }
-    ensures there { IfOk result (λ texture. IfSome texture (AreThere dir.now.lumps)) }
+    ensures there { IfOk result (λ texture. IfSome texture (ArePatchesThere dir.now.lumps)) }
     ensures listed { IfOk result (λ texture. IfSome texture (IsListedAs (texture_at lists.now.textures tex.0))) }
     ensures wanted { IfOk result (λ texture. is_some texture ≡ wanted) }
 {
@@ -130,7 +130,7 @@ fn prepare_texture<S: Shelf>(
     requires slots { length dir.now.lumps ≤ cache.old.lumps }
     requires below { tex.0 < length lists.now.textures }
     ensures tells { ReadsLumps itself (S.view shelf.old) (S.view shelf.new) dir.now cache.old cache.new (IsEntryPatch dir.now.lumps lists.now.names (texture_at lists.now.textures tex.0).patches) (λ texture. texture) (λ bytes. prepared (last_of dir.now.lumps) bytes lists.now.names tex.0 (texture_at lists.now.textures tex.0)) result }
-    ensures there { IfOk result (AreThere dir.now.lumps) }
+    ensures there { IfOk result (ArePatchesThere dir.now.lumps) }
     ensures listed { IfOk result (IsListedAs (texture_at lists.now.textures tex.0)) }
 {
     let mut patches = Vec::new(alloc);

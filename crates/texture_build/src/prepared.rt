@@ -1,16 +1,16 @@
 // A prepared texture.
 //
 // Rules: `art_rules`, Lookups and Wanted. The original: `R_GenerateLookup`, r_data.c.
-ghost use Rattle.std.specs.Prelude.{◌≡◌, ◌<◌, ◌≤◌, ◌^◌, ◌↔◌, ℕ, List, length, IfSome, IsNone, slice_index_or};
+ghost use Rattle.std.specs.Prelude.{◌≡◌, ◌<◌, ◌≤◌, ◌^◌, ◌↔◌, ℕ, List, length, IfSome, IsNone, is_some, slice_index_or};
 ghost use Rattle.lump_rules.specs.declared.wad.Lump.{Lump};
 ghost use Rattle.art_rules.specs.declared.ColumnLookup.TheVariants.{Empty};
 ghost use Rattle.art_rules.specs.Columns.{composite_size, is_single};
-ghost use Rattle.art_rules.specs.Lookups.{AreColumnsOf, column_lookups, is_single_lookup, masked_column};
+ghost use Rattle.art_rules.specs.Lookups.{AreColumnsOf, column_lookups, is_single_lookup, masked_column, single_place};
 ghost use Rattle.art_rules.specs.Textures.{mask_of};
 ghost use Rattle.patch_columns.specs.Seen.{AreSeen, seen_lookups};
 ghost use Rattle.texture_build.specs.Asked.{size_of};
-ghost use Rattle.texture_build.specs.Sources.{IsThere, column_in};
-ghost use Rattle.texture_build.specs.Views.{AreThere};
+ghost use Rattle.texture_build.specs.Sources.{IsColumnThere, column_in, own_lookup};
+ghost use Rattle.texture_build.specs.Views.{ArePatchesThere};
 
 use art_rules::{ColumnLookup, MAX_COMPOSITE, PlacedPatch};
 use std::marker::Model;
@@ -123,7 +123,7 @@ impl PreparedTexture {
     // What a texture column is read from.
     pub(crate) fn lookup(&self, col: i32) -> ColumnLookup
         ensures column { result ≡ column_in self.now col }
-        ensures there { (lumps : List Lump) → AreThere lumps self.now → IsThere lumps result }
+        ensures there { (lumps : List Lump) → ArePatchesThere lumps self.now → IsColumnThere lumps result }
     {
         lookup_at(&self.columns, masked_column(self.mask, col))
     }
@@ -131,7 +131,8 @@ impl PreparedTexture {
     // Whether exactly one patch stands in a column.
     pub(crate) fn is_single(&self, col: u16) -> bool
         requires { col < length self.now.columns }
-        ensures { result ≡ is_single self.now.patches col }
+        ensures value { result ≡ is_single self.now.patches col }
+        ensures place { result ≡ is_some (single_place (own_lookup self.now col)) }
     {
         is_single_lookup(self.columns[col as usize])
     }

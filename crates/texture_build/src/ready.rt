@@ -10,11 +10,11 @@ ghost use Rattle.zone_rules.specs.Orders.{Item, IsInOrder, KeepsOrder, is_live};
 ghost use Rattle.lump_cache.specs.Caches.{IsAtRest, IsFaithful, KeepsCounts, cache_fault, composite_owner};
 ghost use Rattle.lump_cache.specs.Calls.{IfFull, InOrderAt, HoldContents};
 ghost use Rattle.art_rules.specs.declared.ColumnLookup.TheVariants.{Composed};
-ghost use Rattle.texture_build.specs.Asked.{HasAsked, IsFullFor};
+ghost use Rattle.texture_build.specs.Asked.{HasColumnAsked, IsFullForColumn};
 ghost use Rattle.texture_build.specs.Composites.{AreComposites};
 ghost use Rattle.texture_build.specs.Ready.{MakesColumnLive};
-ghost use Rattle.texture_build.specs.Sources.{IsColumnLive, IsComposedColumn, IsThere, column_in};
-ghost use Rattle.texture_build.specs.Views.{AreThere, TexturesView, prepared_at};
+ghost use Rattle.texture_build.specs.Sources.{IsColumnLive, IsComposedColumn, IsColumnThere};
+ghost use Rattle.texture_build.specs.Views.{ArePatchesThere, TexturesView, prepared_at};
 
 use crate::build::build_composite;
 use crate::prepared::PreparedTexture;
@@ -24,27 +24,28 @@ use outside::Shelf;
 use wad_dir::{Directory, LumpNo};
 use zone_heap::Tag;
 
-// Makes live what a column of the texture of that number is read from: the lump of its one patch,
-// or the composite, which is built where it is not live. A cache at rest is at rest after it. Takes
+// Makes live what a column of the texture of that number is read from, by its lookup: the lump of its
+// one patch, or the composite, which is built where it is not live. A cache at rest is at rest after it. Takes
 // no memory.
 //
 // Errors: `ZoneFull` where no gap of the zone held the block of the lump, of the composite or of a
 // patch of it, `ReadFault` where a call of the shelf failed.
-pub(crate) fn make_ready<S: Shelf>(
+#[inline(always)]
+pub(crate) fn make_ready_at<S: Shelf>(
     texture: &PreparedTexture,
     number: u32,
-    col: i32,
+    lookup: ColumnLookup,
     dir: &Directory,
     cache: &mut LumpCache,
     shelf: &mut S,
 ) -> Result<(), CacheFault>
     requires slots { length dir.now.lumps ≤ cache.old.lumps }
     requires composite { number < cache.old.composites }
-    requires there { AreThere dir.now.lumps texture.now }
+    requires there { ArePatchesThere dir.now.lumps texture.now }
+    requires listed { IsColumnThere dir.now.lumps lookup }
     ensures answers { (contents : List (List ℕ)) → NameFiles (S.view shelf.old) dir.now.files contents → AllWithin contents dir.now.lumps → ResultIs cache_fault (S.view shelf.old).steady (λ done. done) (Ok tt) result }
-    ensures live { OnOk result (IsColumnLive number cache.new (column_in texture.now col)) }
-    ensures there { IsThere dir.now.lumps (column_in texture.now col) }
-    ensures hit { IsColumnLive number cache.old (column_in texture.now col) → (result ≡ Ok tt) × (shelf.new ≡ shelf.old) }
+    ensures live { OnOk result (IsColumnLive number cache.new lookup) }
+    ensures hit { IsColumnLive number cache.old lookup → (result ≡ Ok tt) × (shelf.new ≡ shelf.old) }
     ensures follows { IsLaterShelf (S.view shelf.old) (S.view shelf.new) }
     ensures causes { HasCauses cache_fault (S.view shelf.old).faults (S.view shelf.new).faults result }
     ensures counts { KeepsCounts cache.old cache.new }
@@ -52,12 +53,12 @@ pub(crate) fn make_ready<S: Shelf>(
     ensures faithful { (contents : List (List ℕ)) → NameFiles (S.view shelf.old) dir.now.files contents → IsFaithful contents dir.now.lumps cache.old → IsFaithful contents dir.now.lumps cache.new }
     ensures composites { (contents : List (List ℕ)) (textures : TexturesView) → prepared_at textures.prepared number ≡ Some texture.now → HoldContents (S.view shelf.old) dir.now cache.old contents →
         AreComposites (lump_bytes contents dir.now.lumps) textures cache.old → AreComposites (lump_bytes contents dir.now.lumps) textures cache.new }
-    ensures empty { OnErr result (IsComposedColumn (column_in texture.now col) → owned_block (composite_owner number) cache.new.blocks ≡ None) }
-    ensures full { IfErr result (λ fault. IfFull (cache_fault fault) (IsFullFor dir.now.lumps number texture.now (column_in texture.now col) cache.old)) }
-    ensures order { (items : List Item) → HasAsked items dir.now.lumps number texture.now (column_in texture.now col) → IsInOrder items cache.old →
+    ensures empty { OnErr result (IsComposedColumn lookup → owned_block (composite_owner number) cache.new.blocks ≡ None) }
+    ensures full { IfErr result (λ fault. IfFull (cache_fault fault) (IsFullForColumn dir.now.lumps number texture.now lookup cache.old)) }
+    ensures order { (items : List Item) → HasColumnAsked items dir.now.lumps number texture.now lookup → IsInOrder items cache.old →
         MatchResult result (λ _. KeepsOrder items cache.old cache.new (S.view shelf.old).taken (S.view shelf.new).taken) (λ fault. InOrderAt (cache_fault fault) (KeepsOrder items cache.old cache.new (S.view shelf.old).taken (S.view shelf.new).taken)) }
 {
-    match texture.lookup(col) {
+    match lookup {
         ColumnLookup::Empty => Ok(()),
         ColumnLookup::Single { lump, place: _ } => {
             cache.fetch(shelf, dir, LumpNo(lump), Tag::Cache)
@@ -78,7 +79,7 @@ fn ready_composite<S: Shelf>(
 ) -> Result<(), CacheFault>
     requires slots { length dir.now.lumps ≤ cache.old.lumps }
     requires composite { number < cache.old.composites }
-    requires there { AreThere dir.now.lumps texture.now }
+    requires there { ArePatchesThere dir.now.lumps texture.now }
     ensures readies { (place : ℕ) → MakesColumnLive number texture.now (Composed place) (S.view shelf.old) (S.view shelf.new) dir.now cache.old cache.new result }
     ensures hit { IsLive cache.old (composite_owner number) → (result ≡ Ok tt) × (shelf.new ≡ shelf.old) }
 {

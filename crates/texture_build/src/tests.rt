@@ -1,7 +1,7 @@
 // Values from outside: a file of small lists and patches, as their format is told.
 ghost use Rattle.std.specs.Prelude.{◌≡◌, ◌<◌, ◌≤◌, All, length, IfOk};
 ghost use Rattle.art_rules.specs.Textures.{texture_at};
-ghost use Rattle.texture_build.specs.Views.{AreThere, IsPrepared, prepared_texture};
+ghost use Rattle.texture_build.specs.Views.{ArePatchesThere, IsPrepared, prepared_texture};
 
 use crate::{ColumnSource, TexFault, TexNo, TexRefusal, Textures};
 use lump_cache::LumpCache;
@@ -79,7 +79,7 @@ fn prepared(alloc: Global, changes: [(usize, u8); 2], tex: TexNo) -> Result<Load
     ensures composites { IfOk result (λ l. l.cache.composites ≡ 3) }
     ensures count { IfOk result (λ l. length l.textures.lists.textures ≡ 3) }
     ensures prepared { IfOk result (λ l. IsPrepared l.textures tex.0) }
-    ensures there { IfOk result (λ l. AreThere l.dir.lumps (prepared_texture l.textures tex.0)) }
+    ensures there { IfOk result (λ l. ArePatchesThere l.dir.lumps (prepared_texture l.textures tex.0)) }
     ensures listed { IfOk result (λ l. length (prepared_texture l.textures tex.0).columns ≡ (texture_at l.textures.lists.textures tex.0).width) }
 {
     let mut l = load(alloc, changes)?;

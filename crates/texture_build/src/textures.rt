@@ -2,7 +2,7 @@
 //
 // Rules: `art_rules`, Textures, Columns, Lookups and Wanted; `specs/Views`, `specs/Sources`,
 // `specs/Asked` and `specs/Composites`. The original: r_data.c.
-ghost use Rattle.std.specs.Prelude.{◌≡◌, ◌<◌, ◌≤◌, ◌+◌, ℕ, [], List, All, length, is_some, map, option_map, IfErr, IfOk, IfSome, IsSome, MatchResult, Ok, OnErr, OnOk, Some, None, ◌^◌};
+ghost use Rattle.std.specs.Prelude.{◌≡◌, ◌<◌, ◌≤◌, ◌+◌, ℕ, ℤ, [], List, All, length, is_some, map, option_map, IfErr, IfOk, IfSome, IsSome, MatchResult, Ok, OnErr, OnOk, Some, None, ◌^◌};
 ghost use Rattle.outside.specs.Shelf.{NameFiles, IsLaterShelf};
 ghost use Rattle.outside.specs.Faults.{ResultIs, HasCauses, itself};
 ghost use Rattle.lump_rules.specs.Contents.{AllWithin, lump_bytes, named_bytes};
@@ -19,17 +19,17 @@ ghost use Rattle.art_rules.specs.Lookups.{single_place};
 ghost use Rattle.art_rules.specs.Textures.{mask_of, texture_at, texture_lists, texture_number};
 ghost use Rattle.art_rules.specs.Wanted.{patch_lumps, prepared_textures};
 ghost use Rattle.texture_lists.specs.Asked.{IsListLump};
-ghost use Rattle.texture_build.specs.Asked.{HasAsked, IsFullFor, IsWantedPatch, size_of};
+ghost use Rattle.texture_build.specs.Asked.{HasColumnAsked, IsFullForColumn, IsWantedPatch, size_of};
 ghost use Rattle.texture_build.specs.Composites.{AreComposites};
-ghost use Rattle.texture_build.specs.Sources.{IsColumnLive, IsComposedColumn, column_in, column_of, own_column, source_of, IsThere};
-ghost use Rattle.texture_build.specs.Views.{AllListed, AllThere, AreTexturesOf, AreThere, IsPrepared, is_wanted, prepared_at, prepared_texture};
+ghost use Rattle.texture_build.specs.Sources.{IsColumnLive, IsColumnThere, IsComposedColumn, column_in, column_view, own_lookup, source_of, texture_column};
+ghost use Rattle.texture_build.specs.Views.{AllTexturesListed, AllThere, AreTexturesOf, ArePatchesThere, IsPrepared, is_wanted, prepared_at, prepared_texture};
 
-use crate::column::{Column, lend_column};
+use crate::column::{Column, lend_lookup};
 use crate::prepare::prepare_wanted;
 use crate::prepared_list::PreparedList;
-use crate::ready::make_ready;
+use crate::ready::make_ready_at;
 use crate::source::{ColumnSource, posts_place, source_of};
-use art_rules::{MAX_COMPOSITE, MAX_TEXTURES, PNAMES, TEXTURE1, TEXTURE2};
+use art_rules::{ColumnLookup, MAX_COMPOSITE, MAX_TEXTURES, PNAMES, TEXTURE1, TEXTURE2};
 use lump_cache::{CacheFault, LumpCache};
 use lump_rules::{MAX_LUMPS, Name8};
 use outside::Shelf;
@@ -119,7 +119,7 @@ impl Textures {
         ensures lists { self.new.lists ≡ self.old.lists }
         ensures err { OnErr result (self.new.prepared ≡ []) }
         ensures there { AllThere dir.now.lumps self.new }
-        ensures listed { AllListed self.new }
+        ensures listed { AllTexturesListed self.new }
         ensures wanted { OnOk result (All (λ tex. IsPrepared self.new tex.0) wanted.now) }
     {
         self.prepared = PreparedList::none(alloc);
@@ -219,9 +219,28 @@ impl Textures {
     pub fn single(&self, tex: TexNo, col: u16) -> bool
         requires prepared { IsPrepared self.now tex.0 }
         requires within { col < length (prepared_texture self.now tex.0).columns }
-        ensures { result ≡ is_single (prepared_texture self.now tex.0).patches col }
+        ensures value { result ≡ is_single (prepared_texture self.now tex.0).patches col }
+        ensures place { result ≡ is_some (single_place (own_lookup (prepared_texture self.now tex.0) col)) }
     {
         self.prepared.texture(tex.0).is_single(col)
+    }
+
+    /// What a texture column of a prepared texture is read from. Of `col` the bits of the texture's
+    /// mask count.
+    ///
+    /// A caller that asks several calls of one column asks for its lookup once, and gives it to
+    /// `source_at`, `ready_at` and `column_at`.
+    ///
+    /// The original: `R_GetColumn`, r_data.c, where it reads `texturecolumnlump` and
+    /// `texturecolumnofs`.
+    #[inline(always)]
+    pub fn lookup(&self, tex: TexNo, col: i32) -> ColumnLookup
+        requires { IsPrepared self.now tex.0 }
+        ensures value { result ≡ column_in (prepared_texture self.now tex.0) col }
+        ensures there { (lumps : List Lump) → ArePatchesThere lumps (prepared_texture self.now tex.0) →
+            IsColumnThere lumps result }
+    {
+        self.prepared.texture(tex.0).lookup(col)
     }
 
     /// Whose bytes a texture column of a prepared texture has. Of `col` the bits of the texture's
@@ -231,9 +250,19 @@ impl Textures {
     pub fn source(&self, tex: TexNo, col: i32) -> ColumnSource
         requires { IsPrepared self.now tex.0 }
         ensures value { result ≡ source_of tex.0 (column_in (prepared_texture self.now tex.0) col) }
-        ensures there { (lumps : List Lump) → AreThere lumps (prepared_texture self.now tex.0) → IsThere lumps (column_in (prepared_texture self.now tex.0) col) }
+        ensures there { (lumps : List Lump) → ArePatchesThere lumps (prepared_texture self.now tex.0) → IsColumnThere lumps (column_in (prepared_texture self.now tex.0) col) }
     {
-        source_of(tex, self.prepared.texture(tex.0).lookup(col))
+        self.source_at(tex, self.lookup(tex, col))
+    }
+
+    /// Whose bytes a texture column has, by what it is read from.
+    ///
+    /// The original: `R_GetColumn`, r_data.c, where it reads `texturecolumnlump`.
+    #[inline(always)]
+    pub fn source_at(&self, tex: TexNo, lookup: ColumnLookup) -> ColumnSource
+        ensures { result ≡ source_of tex.0 lookup }
+    {
+        source_of(tex, lookup)
     }
 
     /// The bytes of the composite of a prepared texture, at most 65536.
@@ -289,10 +318,10 @@ impl Textures {
         requires slots { length dir.now.lumps ≤ cache.old.lumps }
         requires composite { tex.0 < cache.old.composites }
         requires prepared { IsPrepared self.now tex.0 }
-        requires there { AreThere dir.now.lumps (prepared_texture self.now tex.0) }
+        requires there { ArePatchesThere dir.now.lumps (prepared_texture self.now tex.0) }
         ensures answers { (contents : List (List ℕ)) → NameFiles (S.view shelf.old) dir.now.files contents → AllWithin contents dir.now.lumps → ResultIs cache_fault (S.view shelf.old).steady (λ done. done) (Ok tt) result }
         ensures live { OnOk result (IsColumnLive tex.0 cache.new (column_in (prepared_texture self.now tex.0) col)) }
-        ensures there { IsThere dir.now.lumps (column_in (prepared_texture self.now tex.0) col) }
+        ensures there { IsColumnThere dir.now.lumps (column_in (prepared_texture self.now tex.0) col) }
         ensures hit { IsColumnLive tex.0 cache.old (column_in (prepared_texture self.now tex.0) col) → (result ≡ Ok tt) × (shelf.new ≡ shelf.old) }
         ensures follows { IsLaterShelf (S.view shelf.old) (S.view shelf.new) }
         ensures causes { HasCauses cache_fault (S.view shelf.old).faults (S.view shelf.new).faults result }
@@ -301,12 +330,48 @@ impl Textures {
         ensures faithful { (contents : List (List ℕ)) → NameFiles (S.view shelf.old) dir.now.files contents → IsFaithful contents dir.now.lumps cache.old → IsFaithful contents dir.now.lumps cache.new }
         ensures composites { (contents : List (List ℕ)) → HoldContents (S.view shelf.old) dir.now cache.old contents → AreComposites (lump_bytes contents dir.now.lumps) self.now cache.old → AreComposites (lump_bytes contents dir.now.lumps) self.now cache.new }
         ensures empty { OnErr result (IsComposedColumn (column_in (prepared_texture self.now tex.0) col) → owned_block (composite_owner tex.0) cache.new.blocks ≡ None) }
-        ensures full { IfErr result (λ fault. IfFull (cache_fault fault) (IsFullFor dir.now.lumps tex.0 (prepared_texture self.now tex.0) (column_in (prepared_texture self.now tex.0) col) cache.old)) }
-        ensures order { (items : List Item) → HasAsked items dir.now.lumps tex.0 (prepared_texture self.now tex.0) (column_in (prepared_texture self.now tex.0) col) → IsInOrder items cache.old →
+        ensures full { IfErr result (λ fault. IfFull (cache_fault fault) (IsFullForColumn dir.now.lumps tex.0 (prepared_texture self.now tex.0) (column_in (prepared_texture self.now tex.0) col) cache.old)) }
+        ensures order { (items : List Item) → HasColumnAsked items dir.now.lumps tex.0 (prepared_texture self.now tex.0) (column_in (prepared_texture self.now tex.0) col) → IsInOrder items cache.old →
+            MatchResult result (λ _. KeepsOrder items cache.old cache.new (S.view shelf.old).taken (S.view shelf.new).taken) (λ fault. InOrderAt (cache_fault fault) (KeepsOrder items cache.old cache.new (S.view shelf.old).taken (S.view shelf.new).taken)) }
+    {
+        self.ready_at(cache, dir, shelf, tex, self.lookup(tex, col))
+    }
+
+    /// `ready` by what the column is read from.
+    ///
+    /// Errors: those of `ready`.
+    ///
+    /// The original: `R_GetColumn` and `R_GenerateComposite`, r_data.c.
+    #[inline(always)]
+    pub fn ready_at<S: Shelf>(
+        &self,
+        cache: &mut LumpCache,
+        dir: &Directory,
+        shelf: &mut S,
+        tex: TexNo,
+        lookup: ColumnLookup,
+    ) -> Result<(), CacheFault>
+        requires slots { length dir.now.lumps ≤ cache.old.lumps }
+        requires composite { tex.0 < cache.old.composites }
+        requires prepared { IsPrepared self.now tex.0 }
+        requires there { ArePatchesThere dir.now.lumps (prepared_texture self.now tex.0) }
+        requires listed { IsColumnThere dir.now.lumps lookup }
+        ensures answers { (contents : List (List ℕ)) → NameFiles (S.view shelf.old) dir.now.files contents → AllWithin contents dir.now.lumps → ResultIs cache_fault (S.view shelf.old).steady (λ done. done) (Ok tt) result }
+        ensures live { OnOk result (IsColumnLive tex.0 cache.new lookup) }
+        ensures hit { IsColumnLive tex.0 cache.old lookup → (result ≡ Ok tt) × (shelf.new ≡ shelf.old) }
+        ensures follows { IsLaterShelf (S.view shelf.old) (S.view shelf.new) }
+        ensures causes { HasCauses cache_fault (S.view shelf.old).faults (S.view shelf.new).faults result }
+        ensures counts { KeepsCounts cache.old cache.new }
+        ensures rest { (colormap count : ℕ) → IsAtRest colormap count cache.old → IsAtRest colormap count cache.new }
+        ensures faithful { (contents : List (List ℕ)) → NameFiles (S.view shelf.old) dir.now.files contents → IsFaithful contents dir.now.lumps cache.old → IsFaithful contents dir.now.lumps cache.new }
+        ensures composites { (contents : List (List ℕ)) → HoldContents (S.view shelf.old) dir.now cache.old contents → AreComposites (lump_bytes contents dir.now.lumps) self.now cache.old → AreComposites (lump_bytes contents dir.now.lumps) self.now cache.new }
+        ensures empty { OnErr result (IsComposedColumn lookup → owned_block (composite_owner tex.0) cache.new.blocks ≡ None) }
+        ensures full { IfErr result (λ fault. IfFull (cache_fault fault) (IsFullForColumn dir.now.lumps tex.0 (prepared_texture self.now tex.0) lookup cache.old)) }
+        ensures order { (items : List Item) → HasColumnAsked items dir.now.lumps tex.0 (prepared_texture self.now tex.0) lookup → IsInOrder items cache.old →
             MatchResult result (λ _. KeepsOrder items cache.old cache.new (S.view shelf.old).taken (S.view shelf.new).taken) (λ fault. InOrderAt (cache_fault fault) (KeepsOrder items cache.old cache.new (S.view shelf.old).taken (S.view shelf.new).taken)) }
     {
         let texture = self.prepared.texture(tex.0);
-        make_ready(texture, u32::from(tex.0), col, dir, cache, shelf)
+        make_ready_at(texture, u32::from(tex.0), lookup, dir, cache, shelf)
     }
 
     /// The texels of a texture column of a prepared texture; `None` exactly where the bytes that it is
@@ -317,11 +382,38 @@ impl Textures {
         requires lumps { IfSome (single_place (column_in (prepared_texture self.now tex.0) col)) (λ s. s.0 < cache.now.lumps) }
         requires composite { tex.0 < cache.now.composites }
         requires prepared { IsPrepared self.now tex.0 }
-        ensures column { result ≡ column_of tex.0 cache.now (column_in (prepared_texture self.now tex.0) col) }
+        ensures column { result ≡ column_view tex.0 cache.now (column_in (prepared_texture self.now tex.0) col) }
         ensures first { IfSome result (λ column. column.first < 2 ^ 33) }
-        ensures texel { (contents : List (List ℕ)) (lumps : List Lump) → AreThere lumps (prepared_texture self.now tex.0) → IsFaithful contents lumps cache.now → AreComposites (lump_bytes contents lumps) self.now cache.now → AreTexturesOf contents lumps self.now →
-            IfSome result (λ column. (r : ℕ) → byte_at column.bytes (column.first + r) ≡ texel (lump_bytes contents lumps) (prepared_texture self.now tex.0).patches (length (prepared_texture self.now tex.0).columns) (prepared_texture self.now tex.0).height (own_column (prepared_texture self.now tex.0) col) r) }
+        ensures texel { (contents : List (List ℕ)) (lumps : List Lump) → ArePatchesThere lumps (prepared_texture self.now tex.0) → IsFaithful contents lumps cache.now → AreComposites (lump_bytes contents lumps) self.now cache.now → AreTexturesOf contents lumps self.now →
+            IfSome result (λ column. (r : ℕ) → byte_at column.bytes (column.first + r) ≡ texel (lump_bytes contents lumps) (prepared_texture self.now tex.0).patches (length (prepared_texture self.now tex.0).columns) (prepared_texture self.now tex.0).height (texture_column (prepared_texture self.now tex.0) col) r) }
     {
-        lend_column(self.prepared.texture(tex.0), u32::from(tex.0), cache, col)
+        self.column_at(cache, tex, self.lookup(tex, col))
+    }
+
+    /// `column` by what the column is read from.
+    ///
+    /// The original: `R_GetColumn`, r_data.c.
+    #[inline(always)]
+    pub fn column_at<'c>(
+        &self,
+        cache: &'c LumpCache,
+        tex: TexNo,
+        lookup: ColumnLookup,
+    ) -> Option<Column<'c>>
+        requires lumps { IfSome (single_place lookup) (λ s. s.0 < cache.now.lumps) }
+        requires composite { tex.0 < cache.now.composites }
+        requires prepared { IsPrepared self.now tex.0 }
+        ensures column { result ≡ column_view tex.0 cache.now lookup }
+        ensures first { IfSome result (λ column. column.first < 2 ^ 33) }
+        ensures texel { (col : ℤ) (contents : List (List ℕ)) (lumps : List Lump) →
+            lookup ≡ column_in (prepared_texture self.now tex.0) col →
+            ArePatchesThere lumps (prepared_texture self.now tex.0) → IsFaithful contents lumps cache.now →
+            AreComposites (lump_bytes contents lumps) self.now cache.now → AreTexturesOf contents lumps self.now →
+            IfSome result (λ column. (r : ℕ) → byte_at column.bytes (column.first + r)
+                ≡ texel (lump_bytes contents lumps) (prepared_texture self.now tex.0).patches
+                    (length (prepared_texture self.now tex.0).columns) (prepared_texture self.now tex.0).height
+                    (texture_column (prepared_texture self.now tex.0) col) r) }
+    {
+        lend_lookup(lookup, u32::from(tex.0), cache)
     }
 }

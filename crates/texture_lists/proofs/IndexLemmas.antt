@@ -10,7 +10,7 @@ use Rattle.std.proofs.lemmas.Slice.Eq.{bytes_eq-Decides}
 use Rattle.word_rules.specs.Least.{least, or_else}
 use Rattle.word_rules.proofs.LeastLemmas.{least-more, least-is}
 use Rattle.art_rules.specs.Textures.{Texture, is_named, least_named}
-use Rattle.texture_lists.specs.Views.{indexed}
+use Rattle.wad_dir.specs.Indexes.{indexed}
 
 -- the test of texture i
 named_at : (textures : List Texture) (i : ℕ) (t : Texture) (name : List ℕ) → slice_get textures i ≡ Some t → is_named textures name i ≡ bytes_eq t.name name

@@ -11,7 +11,7 @@ use Rattle.art_rules.specs.declared.refusal.TexRefusal.{TexRefusal}
 use Rattle.art_rules.specs.declared.layout.TheConstants.{TEXTURE_HEAD_SIZE, TEXTURE_WIDTH_AT}
 use Rattle.art_rules.specs.Bytes.{half_at, signed_half_at}
 use Rattle.art_rules.specs.Textures.{Texture, TextureLists, texture_lists, patch_names, both_lists, first_list, second_list, joined_textures, unless_wrong, first_wrong, later_wrong, later_textures, wrong_record, textures_in, list_count, is_wrong, texture_place}
-use Rattle.texture_lists.specs.Parts.{ListPart, part_of, part_of_second, if_sound, first_part, second_part, joined_parts}
+use Rattle.texture_lists.specs.Parts.{ListPart, list_part, second_list_part, if_sound, first_part, second_part, joined_parts}
 
 -- the parts give the textures of the lists
 joined_of : (count : ℕ) (w v : Option ℕ) (xs ys : List Texture) → unless_wrong (or_else w (option_map (λ i. count + i) v)) (xs ++ ys) ≡ unless_wrong (or_else w (option_map (λ i. count + i) v)) (if_sound w xs ++ if_sound v ys)
@@ -25,17 +25,17 @@ unfolding unless_wrong if_sound
 sound_none None xs = refl
 sound_none (Some i) xs = refl
 
-joined_as : (first : List ℕ) (second : Option (List ℕ)) → joined_textures first second ≡ joined_parts (part_of first) (part_of_second second)
-unfolding joined_textures joined_parts part_of part_of_second first_wrong later_wrong later_textures
+joined_as : (first : List ℕ) (second : Option (List ℕ)) → joined_textures first second ≡ joined_parts (list_part first) (second_list_part second)
+unfolding joined_textures joined_parts list_part second_list_part first_wrong later_wrong later_textures
 joined_as first None = sound_none (wrong_record first) (textures_in first)
 joined_as first (Some second) = joined_of (list_count first) (wrong_record first) (wrong_record second) (textures_in first) (textures_in second)
 
-second_as : (first : List ℕ) (r : Result (Option (List ℕ)) TexRefusal) → and_then r (λ second. joined_textures first second) ≡ and_then (and_then r (λ bytes. Ok (part_of_second bytes))) (λ q. joined_parts (part_of first) q)
+second_as : (first : List ℕ) (r : Result (Option (List ℕ)) TexRefusal) → and_then r (λ second. joined_textures first second) ≡ and_then (and_then r (λ bytes. Ok (second_list_part bytes))) (λ q. joined_parts (list_part first) q)
 second_as first (Ok second) = joined_as first second
 second_as first (Err reason) = refl
 
-first_as : (t2 : Option (List ℕ)) (r : Result (List ℕ) TexRefusal) → and_then r (λ first. and_then (second_list (list_count first) t2) (λ second. joined_textures first second)) ≡ and_then (and_then r (λ bytes. Ok (part_of bytes))) (λ p. and_then (second_part p.count t2) (λ q. joined_parts p q))
-unfolding second_part part_of
+first_as : (t2 : Option (List ℕ)) (r : Result (List ℕ) TexRefusal) → and_then r (λ first. and_then (second_list (list_count first) t2) (λ second. joined_textures first second)) ≡ and_then (and_then r (λ bytes. Ok (list_part bytes))) (λ p. and_then (second_part p.count t2) (λ q. joined_parts p q))
+unfolding second_part list_part
 first_as t2 (Ok first) = second_as first (second_list (list_count first) t2)
 first_as t2 (Err reason) = refl
 

@@ -18,20 +18,20 @@ unfoldable pub if_sound : Option ℕ → List Texture → List Texture
 if_sound None textures = textures
 if_sound (Some number) textures = []
 
-unfoldable pub part_of : List ℕ → ListPart
-part_of bytes = record { count = list_count bytes; wrong = wrong_record bytes; textures = if_sound (wrong_record bytes) (textures_in bytes) }
+unfoldable pub list_part : List ℕ → ListPart
+list_part bytes = record { count = list_count bytes; wrong = wrong_record bytes; textures = if_sound (wrong_record bytes) (textures_in bytes) }
 
 -- the part of a list that need not be there
-unfoldable pub part_of_second : Option (List ℕ) → ListPart
-part_of_second None = record { count = 0; wrong = None; textures = [] }
-part_of_second (Some bytes) = part_of bytes
+unfoldable pub second_list_part : Option (List ℕ) → ListPart
+second_list_part None = record { count = 0; wrong = None; textures = [] }
+second_list_part (Some bytes) = list_part bytes
 
 -- the parts, unless their lists are refused as wholes
 unfoldable pub first_part : Option (List ℕ) → Result ListPart TexRefusal
-first_part texture1 = and_then (first_list texture1) (λ bytes. Ok (part_of bytes))
+first_part texture1 = and_then (first_list texture1) (λ bytes. Ok (list_part bytes))
 
 unfoldable pub second_part : ℕ → Option (List ℕ) → Result ListPart TexRefusal
-second_part before texture2 = and_then (second_list before texture2) (λ bytes. Ok (part_of_second bytes))
+second_part before texture2 = and_then (second_list before texture2) (λ bytes. Ok (second_list_part bytes))
 
 -- the textures of two parts, refused for the first wrong record
 unfoldable pub joined_parts : ListPart → ListPart → Result (List Texture) TexRefusal

@@ -3,7 +3,7 @@ ghost use Rattle.std.specs.Prelude.{◌≡◌, ◌≤◌, ℕ, List, length, if�
 ghost use Rattle.std.specs.Str.{bytes_eq};
 ghost use Rattle.word_rules.specs.Least.{or_else};
 ghost use Rattle.art_rules.specs.Textures.{least_named};
-ghost use Rattle.texture_lists.specs.Views.{indexed};
+ghost use Rattle.wad_dir.specs.Indexes.{indexed};
 
 use crate::records::ListedTexture;
 use art_rules::{MAX_TEXTURES, NAME_SIZE};

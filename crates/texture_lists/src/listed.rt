@@ -36,7 +36,7 @@ impl Model for ListedTextures {
     ghost use Rattle.std.specs.Prelude.{◌≡◌, ◌≤◌, ℕ, List, length};
     ghost use Rattle.art_rules.specs.declared.TheConstants.{MAX_TEXTURES};
     ghost use Rattle.art_rules.specs.Textures.{TextureLists, least_named};
-    ghost use Rattle.texture_lists.specs.Views.{indexed};
+    ghost use Rattle.wad_dir.specs.Indexes.{indexed};
 
     ghost Value = { TextureLists };
 

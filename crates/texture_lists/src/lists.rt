@@ -5,7 +5,7 @@ ghost use Rattle.std.specs.Option.{option_copied};
 ghost use Rattle.outside.specs.Faults.{ResultIs, itself};
 ghost use Rattle.word_rules.specs.Listed.{listed};
 ghost use Rattle.art_rules.specs.Textures.{is_bad_list, list_count, texture_place, textures_in, wrong_record};
-ghost use Rattle.texture_lists.specs.Parts.{IsOfBytes, first_part, if_sound, joined_parts, part_of, second_part};
+ghost use Rattle.texture_lists.specs.Parts.{IsOfBytes, first_part, if_sound, joined_parts, list_part, second_part};
 
 use crate::TexFault;
 use crate::names::{is_short, list_count};
@@ -100,7 +100,7 @@ pub(crate) fn first_part(alloc: Global, bytes: Option<&[u8]>) -> Result<ReadList
 }
 
 // What is kept of the second list, where so many textures are before it. It need not be there.
-#[tactic(auto, unfolding(crate::specs::Parts::second_part, crate::specs::Parts::part_of_second, art_rules::specs::Textures::second_list))]
+#[tactic(auto, unfolding(crate::specs::Parts::second_part, crate::specs::Parts::second_list_part, art_rules::specs::Textures::second_list))]
 pub(crate) fn second_part(
     alloc: Global,
     before: u32,
@@ -136,10 +136,10 @@ fn is_bad_list(before: u32, bytes: &[u8]) -> bool
 }
 
 // What is kept of a list that is not bad as a whole.
-#[tactic(auto, unfolding(crate::specs::Parts::part_of))]
+#[tactic(auto, unfolding(crate::specs::Parts::list_part))]
 fn read_list(alloc: Global, bytes: &[u8]) -> Result<ReadList, OutOfMemory>
     requires { list_count bytes.now ≤ MAX_TEXTURES }
-    ensures part { IfOk result (λ part. part ≡ part_of bytes.now) }
+    ensures part { IfOk result (λ part. part ≡ list_part bytes.now) }
     ensures listed { IfOk result (λ part. part.count ≡ list_count bytes.now) }
     ensures count { IfOk result (λ part. length part.textures ≤ part.count) }
 {

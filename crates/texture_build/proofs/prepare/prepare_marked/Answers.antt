@@ -9,7 +9,7 @@ use Rattle.art_rules.specs.Textures.{texture_at, unlisted}
 use Rattle.art_rules.specs.Wanted.{PreparedTexture, prepared, prepared_from, prepared_textures}
 use Rattle.outside.specs.declared.fault.Fault.TheVariants.{OutOfMemory}
 use Rattle.texture_build.specs.Asked.{IsWantedPatch}
-use Rattle.texture_build.specs.Views.{AreThere, IsListedAs, is_marked, prepared_at}
+use Rattle.texture_build.specs.Views.{ArePatchesThere, IsListedAs, is_marked, prepared_at}
 use Rattle.texture_build.proofs.PrepareLemmas.{count_marked, from_all, from_none, from_push, from_stop, from_textures, listed_none, listed_push}
 use Rattle.texture_build.proofs.prepare.prepare_marked.Goals as goal
 
@@ -17,7 +17,7 @@ pub loop-number-init : goal.loop-number-init
 loop-number-init g c = record {
   tells = reads_known (g.S.Shelf.view c.args.shelf.now) c.args.dir.now c.args.cache.now tt
       (λ contents told. from_none (prepared (last_of c.args.dir.now.lumps) _ c.args.lists.now.names) (is_marked c.args.marks.now) ∙ ap Ok (sym c.new-textures.ensures.items));
-  there = subst (All (λ (t : Option PreparedTexture). IfSome t (AreThere c.args.dir.now.lumps))) (sym c.new-textures.ensures.items) (All-nil _);
+  there = subst (All (λ (t : Option PreparedTexture). IfSome t (ArePatchesThere c.args.dir.now.lumps))) (sym c.new-textures.ensures.items) (All-nil _);
   listed = listed_none c.args.lists.now.textures c.new-textures.result.items c.new-textures.ensures.items;
   marks = ap (map is_some) c.new-textures.ensures.items;
 }
@@ -36,8 +36,8 @@ loop-number-preserved g c =
           inv.tells c.prepare_if.result c.prepare_if.ensures.tells c.in_ok-texture.was
           (λ lump w. record { number = k; texture = get_or lists.textures k unlisted; at = slice_get-get_or lists.textures k unlisted l; chosen = w.0; entry = w.1.entry; among = w.1.among; is = w.1.is })
           (λ bytes one two. from_push (prepared (last_of c.args.dir.now.lumps) bytes lists.names) (is_marked marks) lists.textures k before texture l one two ∙ ap Ok (sym c.in_ok-push.ensures.items));
-      there = subst (All (λ (t : Option PreparedTexture). IfSome t (AreThere c.args.dir.now.lumps))) (sym c.in_ok-push.ensures.items)
-          (All-push (λ (t : Option PreparedTexture). IfSome t (AreThere c.args.dir.now.lumps)) before texture inv.there c.in_ok-texture.ensures.there);
+      there = subst (All (λ (t : Option PreparedTexture). IfSome t (ArePatchesThere c.args.dir.now.lumps))) (sym c.in_ok-push.ensures.items)
+          (All-push (λ (t : Option PreparedTexture). IfSome t (ArePatchesThere c.args.dir.now.lumps)) before texture inv.there c.in_ok-texture.ensures.there);
       listed = subst (λ textures. (number : ℕ) → IfSome (prepared_at textures number) (IsListedAs (texture_at lists.textures number))) (sym c.in_ok-push.ensures.items)
           (listed_push lists.textures before texture k (count_marked before marks k (omega (arith, c.loop-number-test.true)) inv.marks) inv.listed c.in_ok-texture.ensures.listed);
       marks = ap (map is_some) c.in_ok-push.ensures.items ∙ map-append is_some before (texture ∷ []) ∙ ap (λ xs. xs ++ is_some texture ∷ []) inv.marks

@@ -9,7 +9,7 @@ use Rattle.art_rules.specs.declared.refusal.TexRefusal.TheVariants.{TooBig}
 use Rattle.art_rules.specs.Textures.{texture_at}
 use Rattle.art_rules.specs.Wanted.{placed_patches, prepared}
 use Rattle.patch_columns.specs.Seen.{seen_lookups}
-use Rattle.texture_build.specs.Parts.{IsEntryPatch, PatchesPart, or_missing, part_of}
+use Rattle.texture_build.specs.Parts.{IsEntryPatch, PatchesPart, or_missing, patches_part}
 use Rattle.texture_build.proofs.MarkLemmas.{same_front}
 use Rattle.texture_build.proofs.PrepareLemmas.{empty_seen, tells_bound, texture_is, texture_missing, texture_seen}
 use Rattle.texture_build.proofs.prepare.prepare_texture.Goals as goal
@@ -30,7 +30,7 @@ returns-in_err-place_patches-clause-tells g c =
     c.place_patches.ensures.tells c.in_err-place_patches.was c.from_residual-in_err-place_patches.ensures.1
     (λ lump w. subst (λ entries. IsEntryPatch c.args.dir.now.lumps names entries lump) c.entries-entries.ensures w)
     (λ bytes e stopped. texture_missing last bytes names number t (length c.deref_mut.result.now) e
-    (subst (λ entries. or_missing number (option_map (part_of bytes (length c.deref_mut.result.now)) (placed_patches last bytes names entries)) ≡ Err e) c.entries-entries.ensures stopped))
+    (subst (λ entries. or_missing number (option_map (patches_part bytes (length c.deref_mut.result.now)) (placed_patches last bytes names entries)) ≡ Err e) c.entries-entries.ensures stopped))
 
 pub returns-clause-tells : goal.returns-clause-tells
 returns-clause-tells g c =
@@ -42,8 +42,8 @@ returns-clause-tells g c =
     let columns = c.place_patches.new.columns in
     let width = length c.deref_mut.result.now in
     let placed : PatchesPart = record { patches = patches; columns = columns } in
-    let here = λ (bytes : ℕ → List ℕ) (begun : or_missing number (option_map (part_of bytes width) (placed_patches last bytes names c.entries-entries.result.now)) ≡ Ok placed).
-    subst (λ entries. or_missing number (option_map (part_of bytes width) (placed_patches last bytes names entries)) ≡ Ok placed) c.entries-entries.ensures begun in
+    let here = λ (bytes : ℕ → List ℕ) (begun : or_missing number (option_map (patches_part bytes width) (placed_patches last bytes names c.entries-entries.result.now)) ≡ Ok placed).
+    subst (λ entries. or_missing number (option_map (patches_part bytes width) (placed_patches last bytes names entries)) ≡ Ok placed) c.entries-entries.ensures begun in
     let same = same_front c.in_ok-columns.columns.len columns _ (omega (arith, c.place_patches.ensures.count, c.deref_mut.ensures.len)) in
     tells_bound c.place_patches.result c.in_ok-place_patches.field-0 (TooBig number) c.bind_texture.result c.place_patches.ensures.tells c.in_ok-place_patches.was
     (λ lump w. subst (λ entries. IsEntryPatch c.args.dir.now.lumps names entries lump) c.entries-entries.ensures w)

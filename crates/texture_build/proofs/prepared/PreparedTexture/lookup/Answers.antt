@@ -3,8 +3,8 @@ use Rattle.std.specs.Prelude.{slice_index_or}
 use Rattle.art_rules.specs.declared.ColumnLookup.{ColumnLookup}
 use Rattle.art_rules.specs.declared.ColumnLookup.TheVariants.{Empty}
 use Rattle.art_rules.specs.Wanted.{PreparedTexture}
-use Rattle.texture_build.specs.Sources.{IsThere}
-use Rattle.texture_build.specs.Views.{AreThere}
+use Rattle.texture_build.specs.Sources.{IsColumnThere}
+use Rattle.texture_build.specs.Views.{ArePatchesThere}
 use Rattle.texture_build.proofs.ColumnLemmas.{column_there}
 use Rattle.texture_build.proofs.prepared.PreparedTexture.lookup.Goals as goal
 
@@ -12,5 +12,5 @@ pub returns-clause-there : goal.returns-clause-there
 returns-clause-there c = λ lumps there.
     let i = c.self.inside in
     let x = c.masked_column.result in
-    subst (IsThere lumps) (sym (c.lookup_at.ensures ∙ ap (λ (xs : List ColumnLookup). slice_index_or xs x Empty) c.deref.ensures.value))
-    (column_there lumps i.patches.items i.height i.columns.items x c.self.invariant.0 (subst (λ (t : PreparedTexture). AreThere lumps t) (sym c.self.view_is) there))
+    subst (IsColumnThere lumps) (sym (c.lookup_at.ensures ∙ ap (λ (xs : List ColumnLookup). slice_index_or xs x Empty) c.deref.ensures.value))
+    (column_there lumps i.patches.items i.height i.columns.items x c.self.invariant.0 (subst (λ (t : PreparedTexture). ArePatchesThere lumps t) (sym c.self.view_is) there))
