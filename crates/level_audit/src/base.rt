@@ -2,13 +2,17 @@
 //
 // Rules: `scene_rules`, Scenes; `specs/Bases`. The original: `P_SetupLevel`, p_setup.c,
 // `R_InitTextures`, r_data.c.
-ghost use Rattle.outside.specs.Faults.{itself};
-ghost use Rattle.std.specs.Prelude.{◌≡◌, ◌<◌, ◌≤◌, ◌+◌, ℕ, [], length, Ok, IfOk};
+ghost use Rattle.outside.specs.Faults.{from_below, itself};
+ghost use Rattle.std.specs.Prelude.{◌≡◌, ◌<◌, ◌≤◌, ◌+◌, ℕ, [], length, true, Ok, IfOk, OnOk};
 ghost use Rattle.lump_rules.specs.declared.names.TheConstants.{MAP_LUMPS};
 ghost use Rattle.lump_cache.specs.Calls.{ReadsLumps};
 ghost use Rattle.lump_cache.specs.Sizes.{StandsBeside};
 ghost use Rattle.art_rules.specs.declared.TheConstants.{MAX_TEXTURES};
-ghost use Rattle.scene_rules.specs.Scenes.{base_in, base_over, colormap_of};
+ghost use Rattle.level_scene.specs.Asked.{IsLumpOfMap};
+ghost use Rattle.texture_lists.specs.Asked.{IsListLump};
+ghost use Rattle.scene_rules.specs.declared.refusal.AuditRefusal.TheVariants.{Map, Texture};
+ghost use Rattle.scene_rules.specs.Scenes.{base_in, base_over, colormap_of, label_of, level_in, lists_in};
+ghost use Rattle.scene_rules.specs.Sizes.{is_map_lump};
 ghost use Rattle.level_audit.specs.Asked.{IsOfBase, IsOfMap};
 ghost use Rattle.level_audit.specs.Bases.{base_of};
 
@@ -69,8 +73,10 @@ pub fn read_base<S: Shelf>(
     ensures few { IfOk result (λ base. length base.textures.lists.textures ≤ MAX_TEXTURES) }
     ensures unprepared { IfOk result (λ base. base.textures.prepared ≡ []) }
 {
-    let playpal =
-        find_playpal(dir).map_err(|refusal| Fault::Refused(AuditRefusal::Art(refusal)))?;
+    let playpal = match find_playpal(dir) {
+        Ok(playpal) => playpal,
+        Err(refusal) => return Err(Fault::Refused(AuditRefusal::Art(refusal))),
+    };
     let palette = read_palette(alloc, playpal, dir, cache, shelf)?;
     let colours = Colours {
         colormap,
@@ -109,10 +115,8 @@ fn read_map<S: Shelf>(
     ensures few { IfOk result (λ base. length base.textures.lists.textures ≤ MAX_TEXTURES) }
     ensures unprepared { IfOk result (λ base. base.textures.prepared ≡ []) }
 {
-    let (label, level) = read_level(alloc, name, dir, cache, shelf)
-        .map_err(|fault| fault.above(AuditRefusal::Map))?;
-    let textures = Textures::load(alloc, dir, cache, shelf)
-        .map_err(|fault| fault.above(AuditRefusal::Texture))?;
+    let (label, level) = read_labelled(alloc, name, dir, cache, shelf)?;
+    let textures = load_lists(alloc, dir, cache, shelf)?;
     let Colours {
         colormap,
         playpal,
@@ -126,4 +130,43 @@ fn read_map<S: Shelf>(
         level,
         textures,
     })
+}
+
+// The label of the map and its level, with the faults of an audit.
+fn read_labelled<S: Shelf>(
+    alloc: Global,
+    name: &Name8,
+    dir: &Directory,
+    cache: &mut LumpCache,
+    shelf: &mut S,
+) -> Result<(LumpNo, Level), AuditFault>
+    requires { length dir.now.lumps ≤ cache.old.lumps }
+    ensures tells { ReadsLumps itself (S.view shelf.old) (S.view shelf.new) dir.now cache.old
+        cache.new (IsLumpOfMap dir.now.lumps name.now) (λ map. (map.0.0, map.1))
+        (λ bytes. from_below Map (level_in bytes dir.now.lumps name.now)) result }
+    ensures label { IfOk result (λ map. label_of dir.now.lumps name.now ≡ Ok map.0.0) }
+    ensures there { IfOk result (λ map. map.0.0 + length MAP_LUMPS < length dir.now.lumps) }
+    ensures fits { IfOk result (λ map. (lump : ℕ) → is_map_lump map.0.0 lump ≡ true →
+        StandsBeside dir.now.lumps cache.old lump) }
+{
+    read_level(alloc, name, dir, cache, shelf).map_err(|fault| fault.above(AuditRefusal::Map))
+}
+
+// The lists of textures, none of which is prepared, with the faults of an audit.
+fn load_lists<S: Shelf>(
+    alloc: Global,
+    dir: &Directory,
+    cache: &mut LumpCache,
+    shelf: &mut S,
+) -> Result<Textures, AuditFault>
+    requires { length dir.now.lumps ≤ cache.old.lumps }
+    ensures tells { ReadsLumps itself (S.view shelf.old) (S.view shelf.new) dir.now cache.old
+        cache.new (IsListLump dir.now.lumps) (λ textures. textures.lists)
+        (λ bytes. from_below Texture (lists_in bytes dir.now.lumps)) result }
+    ensures fits { OnOk result ((lump : ℕ) → IsListLump dir.now.lumps lump →
+        StandsBeside dir.now.lumps cache.old lump) }
+    ensures few { IfOk result (λ textures. length textures.lists.textures ≤ MAX_TEXTURES) }
+    ensures unprepared { IfOk result (λ textures. textures.prepared ≡ []) }
+{
+    Textures::load(alloc, dir, cache, shelf).map_err(|fault| fault.above(AuditRefusal::Texture))
 }

@@ -81,10 +81,10 @@ module _ {v w : ShelfView} {dir : DirectoryView} {a b : Heap} (lump : MapLump) (
     go (Err fault) was e k = add_stopped fault result was e
 
 -- a part of a builder that was changed
-pub added_done : {X : Type 0} (part : BuilderValue → X) {old new : BuilderValue} (r : Result (Unit {0}) MapFault) (result : Result (Unit {0}) (Fault MapRefusal)) →
+pub added_done : {X : Type 0} (part : BuilderValue → X) (old new : BuilderValue) (r : Result (Unit {0}) MapFault) (result : Result (Unit {0}) (Fault MapRefusal)) →
     MatchResult r (λ x. result ≡ Ok x) (λ e. IsErrAnd result (λ f. f ≡ map_fault e)) → OnOk r (new ≡ old) → OnOk result (part new ≡ part old)
-added_done part (Ok done) result is e = rw is (ap part e)
-added_done part (Err fault) result is e = let s = err_from_is_err_and result is in rw s.1 tt
+added_done part old new (Ok done) result is e = rw is (ap part e)
+added_done part old new (Err fault) result is e = let s = err_from_is_err_and result is in rw s.1 tt
 
 -- what holds after any answer
 pub fits_done : {P : Type 0} (result : Result (Unit {0}) (Fault MapRefusal)) → P → OnOk result P

@@ -13,7 +13,7 @@ returns-clause-tells g c =
 
 pub returns-clause-added : goal.returns-clause-added
 unfolding with_lump
-returns-clause-added g c = added_done (λ (b : BuilderValue). b.added) c.add.result c.map_err.result c.map_err.ensures.cases c.add.ensures.ok
+returns-clause-added g c = added_done (λ (b : BuilderValue). b.added) _ _ c.add.result c.map_err.result c.map_err.ensures.cases c.add.ensures.ok
 
 pub returns-clause-fits : goal.returns-clause-fits
 returns-clause-fits g c =
