@@ -30,3 +30,12 @@ cut_colour texels shades fraction = slice_index shades (slice_index texels (texe
 
 unfoldable pub cut_span_colour : List ℕ → List ℕ → ℤ → ℤ → ℕ
 cut_span_colour texels shades x_fraction y_fraction = slice_index shades (slice_index texels (flat_place x_fraction y_fraction))
+
+-- a column strip of cut out texels and shades: at row y its fraction has been stepped y - first times
+unfoldable pub cut_strip_colour : List ℕ → List ℕ → ℤ → ℤ → ℕ → ℕ → ℕ
+cut_strip_colour texels shades fraction step first y = cut_colour texels shades (step_at fraction step (y - first))
+
+-- a span strip of them: at column x both fractions have been stepped x - first times
+unfoldable pub cut_row_colour : List ℕ → List ℕ → ℤ → ℤ → ℤ → ℤ → ℕ → ℕ → ℕ
+cut_row_colour texels shades x_fraction y_fraction x_step y_step first x =
+    cut_span_colour texels shades (step_at x_fraction x_step (x - first)) (step_at y_fraction y_step (x - first))

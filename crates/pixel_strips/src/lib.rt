@@ -6,6 +6,7 @@
 //! original: r_draw.c.
 #![tactic(auto)]
 
+mod by_dots;
 mod canvas;
 mod column;
 mod frame;
@@ -14,8 +15,10 @@ mod span;
 mod tests;
 mod texels;
 
-pub use canvas::Canvas;
+pub use by_dots::{column_by_dots, span_by_dots};
+pub use canvas::{Canvas, CutColumn, CutSpan};
 pub use column::{ColumnStrip, paint_column, paint_post};
 pub use frame::Frame;
 pub use pixel_rules::Painter;
 pub use span::{SpanStrip, paint_span};
+pub use texels::FLAT_BYTES;
