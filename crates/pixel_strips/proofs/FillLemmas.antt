@@ -1,5 +1,5 @@
 -- Laws of `filled`: one cell more, and that the cells of a strip of a frame are those of its dots.
-use Rattle.std.proofs.Common.{◌≡◌, ℕ, zero, suc, ◌+◌, ◌-◌, ◌*◌, ◌<◌, ◌≤◌, List, [], ◌∷◌, ◌++◌, set, refl, ap, sym, ◌∙◌, arith}
+use Rattle.std.proofs.Common.{◌≡◌, ℕ, zero, suc, ◌+◌, ◌*◌, List, [], ◌∷◌, ◌++◌, set, refl, ap, sym, ◌∙◌, arith}
 use Rattle.view_rules.specs.declared.TheConstants.{FRAME_WIDTH}
 use Rattle.pixel_rules.specs.declared.Painter.{Painter}
 use Rattle.pixel_rules.specs.Dots.{Dot, cell_of, put_dots}

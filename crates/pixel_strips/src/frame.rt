@@ -120,8 +120,8 @@ impl Canvas for Frame {
     }
 }
 
-// Sets `count` cells below one another, the first at `start`. What the loop reads of the strip is
-// kept outside it, since a cell might lie where it stands.
+// Sets `count` cells below one another, the first at `start`. The fields of `cut` are read before
+// the loop: behind each write to a cell they would be read again.
 fn fill_column(cells: &mut [u8], start: usize, count: usize, cut: &CutColumn<'_>)
     requires size { length cells.old ≡ FRAME_CELLS }
     requires within { start + FRAME_WIDTH * count < FRAME_CELLS + FRAME_WIDTH }
@@ -139,7 +139,7 @@ fn fill_column(cells: &mut [u8], start: usize, count: usize, cut: &CutColumn<'_>
     }
 }
 
-// Sets `count` cells side by side, the first at `start`.
+// Sets `count` cells side by side, the first at `start`, likewise.
 fn fill_span(cells: &mut [u8], start: usize, count: usize, cut: &CutSpan<'_>)
     requires size { length cells.old ≡ FRAME_CELLS }
     requires within { start + count ≤ FRAME_CELLS }
