@@ -77,8 +77,8 @@ pub trait Canvas {
         requires texels { length cut.now.texels.now ≡ TEXEL_ROWS }
         requires shades { length cut.now.shades.now ≡ MAP_COLOURS }
         ensures { view self.new ≡ with_dots mark (strip_dots (view self.old).painter x
-            (cut_strip_colour cut.now.texels.now cut.now.shades.now cut.now.fraction cut.now.step first)
-            first last) (view self.old) };
+            (cut_strip_colour cut.now.texels.now cut.now.shades.now cut.now.fraction cut.now.step
+            first) first last) (view self.old) };
 
     /// Paints columns `first` to `last` of row `y` of the view. No other cell changes.
     ///
