@@ -8,6 +8,8 @@ ghost use Rattle.pixel_strips.specs.declared.texels.TheConstants.{FLAT_BYTES};
 ghost use Rattle.pixel_strips.specs.Canvases.{CanvasView, with_painter, placed_at, with_dot, with_dots};
 ghost use Rattle.pixel_strips.specs.Strips.{strip_dots, cut_strip_colour, cut_row_colour};
 
+use crate::texels::{cut_colour, cut_span_colour};
+use fx_words::plus;
 use pixel_rules::Painter;
 
 /// What a column is painted with: 128 texels, the 256 shades of a colormap, the texel row at the
@@ -69,7 +71,8 @@ pub trait Canvas {
 
     /// Paints rows `first` to `last` of column `x` of the view. No other cell changes.
     ///
-    /// `column_by_dots` does this by one `dot` a row. The original: `R_DrawColumn`, r_draw.c.
+    /// By one `dot` a row, where the canvas has no faster way. The original: `R_DrawColumn`,
+    /// r_draw.c.
     fn column(&mut self, x: u16, first: u16, last: u16, cut: &CutColumn<'_>)
         requires ordered { first ≤ last }
         requires column { x + (view self.old).left < FRAME_WIDTH }
@@ -78,11 +81,19 @@ pub trait Canvas {
         requires shades { length cut.now.shades.now ≡ MAP_COLOURS }
         ensures { view self.new ≡ with_dots mark (strip_dots (view self.old).painter x
             (cut_strip_colour cut.now.texels.now cut.now.shades.now cut.now.fraction cut.now.step
-            first) first last) (view self.old) };
+            first) first last) (view self.old) }
+    {
+        let mut fraction = cut.fraction;
+        for y in first..last + 1 {
+            self.dot(x, y, cut_colour(cut.texels, cut.shades, fraction));
+            fraction = plus(fraction, cut.step);
+        }
+    }
 
     /// Paints columns `first` to `last` of row `y` of the view. No other cell changes.
     ///
-    /// `span_by_dots` does this by one `dot` a column. The original: `R_DrawSpan`, r_draw.c.
+    /// By one `dot` a column, where the canvas has no faster way. The original: `R_DrawSpan`,
+    /// r_draw.c.
     fn span(&mut self, y: u16, first: u16, last: u16, cut: &CutSpan<'_>)
         requires ordered { first ≤ last }
         requires row { y + (view self.old).top < FRAME_HEIGHT }
@@ -92,5 +103,15 @@ pub trait Canvas {
         ensures { view self.new ≡ with_dots mark (span_dots (view self.old).painter y
             (cut_row_colour cut.now.texels.now cut.now.shades.now cut.now.x_fraction
             cut.now.y_fraction cut.now.x_step cut.now.y_step first)
-            first last) (view self.old) };
+            first last) (view self.old) }
+    {
+        let mut x_fraction = cut.x_fraction;
+        let mut y_fraction = cut.y_fraction;
+        for x in first..last + 1 {
+            let colour = cut_span_colour(cut.texels, cut.shades, x_fraction, y_fraction);
+            self.dot(x, y, colour);
+            x_fraction = plus(x_fraction, cut.x_step);
+            y_fraction = plus(y_fraction, cut.y_step);
+        }
+    }
 }

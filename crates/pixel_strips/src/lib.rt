@@ -6,7 +6,6 @@
 //! original: r_draw.c.
 #![tactic(auto)]
 
-mod by_dots;
 mod canvas;
 mod column;
 mod frame;
@@ -15,7 +14,6 @@ mod span;
 mod tests;
 mod texels;
 
-pub use by_dots::{column_by_dots, span_by_dots};
 pub use canvas::{Canvas, CutColumn, CutSpan};
 pub use column::{ColumnStrip, paint_column, paint_post};
 pub use frame::Frame;

@@ -9,7 +9,7 @@ use Rattle.pixel_rules.specs.Dots.{Dot}
 use Rattle.pixel_strips.specs.Canvases.{with_dot, with_dots}
 use Rattle.pixel_strips.specs.Strips.{cut_colour, cut_strip_colour}
 use Rattle.pixel_strips.proofs.CanvasLemmas.{dots_none, dots_more, rows_dots, rows_none, rows_more, rows_all}
-use Rattle.pixel_strips.proofs.by_dots.column_by_dots.Goals as goal
+use Rattle.pixel_strips.proofs.canvas.Canvas.column.Goals as goal
 
 pub loop-y-init : goal.loop-y-init
 loop-y-init g c =
@@ -18,8 +18,8 @@ loop-y-init g c =
     record {
       from = omega arith;
       fraction = to_z-of_z w32 cut.fraction (search rules) ∙ step_at-zero cut.fraction cut.step (search rules) ∙ ap (step_at cut.fraction cut.step) none;
-      painted = dots_none g.C.Canvas.mark (g.C.Canvas.view c.args.canvas.now)
-          ∙ ap (λ (dots : List Dot). with_dots g.C.Canvas.mark dots (g.C.Canvas.view c.args.canvas.now)) (sym (rows_none _ _ _ _ _ (sym none)));
+      painted = dots_none g.Self.Canvas.mark (g.Self.Canvas.view c.args.self.now)
+          ∙ ap (λ (dots : List Dot). with_dots g.Self.Canvas.mark dots (g.Self.Canvas.view c.args.self.now)) (sym (rows_none _ _ _ _ _ (sym none)));
     }
 
 pub loop-y-preserved : goal.loop-y-preserved
@@ -38,14 +38,14 @@ loop-y-preserved g c =
     record {
       from = omega arith;
       fraction = to_z-of_z w32 c.plus-fraction.result (search rules) ∙ c.plus-fraction.ensures ∙ ap (λ (z : ℤ). plus (to_z w32 c.loop-y.fraction-bits) z) (to_z-of_z w32 cut.step (search rules)) ∙ ap (λ (f : ℤ). plus f cut.step) i.fraction ∙ step_at-more cut.fraction cut.step k n e;
-      painted = dots_more g.C.Canvas.mark (rows_dots (g.C.Canvas.view c.args.canvas.now).painter x colour_of first k)
-          (record { x = x; y = c.loop-y.y; colour = colour_of c.loop-y.y; painter = (g.C.Canvas.view c.args.canvas.now).painter })
-          (g.C.Canvas.view c.args.canvas.now) (g.C.Canvas.view c.loop-y.canvas) (g.C.Canvas.view c.dot.new.self) i.painted refl
-          (c.dot.ensures ∙ ap (λ (v : ℕ). with_dot g.C.Canvas.mark x c.loop-y.y v (g.C.Canvas.view c.loop-y.canvas)) colour)
-          ∙ ap (λ (dots : List Dot). with_dots g.C.Canvas.mark dots (g.C.Canvas.view c.args.canvas.now)) (rows_more _ x colour_of first k n c.loop-y.y e at);
+      painted = dots_more g.Self.Canvas.mark (rows_dots (g.Self.Canvas.view c.args.self.now).painter x colour_of first k)
+          (record { x = x; y = c.loop-y.y; colour = colour_of c.loop-y.y; painter = (g.Self.Canvas.view c.args.self.now).painter })
+          (g.Self.Canvas.view c.args.self.now) (g.Self.Canvas.view c.loop-y.self) (g.Self.Canvas.view c.dot.new.self) i.painted refl
+          (c.dot.ensures ∙ ap (λ (v : ℕ). with_dot g.Self.Canvas.mark x c.loop-y.y v (g.Self.Canvas.view c.loop-y.self)) colour)
+          ∙ ap (λ (dots : List Dot). with_dots g.Self.Canvas.mark dots (g.Self.Canvas.view c.args.self.now)) (rows_more _ x colour_of first k n c.loop-y.y e at);
     }
 
 pub returns : goal.returns
 returns g c =
     c.loop-y.invariant.painted
-    ∙ ap (λ (dots : List Dot). with_dots g.C.Canvas.mark dots (g.C.Canvas.view c.args.canvas.now)) (rows_all _ _ _ c.args.first c.args.last _ (omega arith))
+    ∙ ap (λ (dots : List Dot). with_dots g.Self.Canvas.mark dots (g.Self.Canvas.view c.args.self.now)) (rows_all _ _ _ c.args.first c.args.last _ (omega arith))

@@ -9,7 +9,7 @@ use Rattle.pixel_rules.specs.Dots.{Dot}
 use Rattle.pixel_strips.specs.Canvases.{with_dot, with_dots}
 use Rattle.pixel_strips.specs.Strips.{cut_span_colour, cut_row_colour}
 use Rattle.pixel_strips.proofs.CanvasLemmas.{dots_none, dots_more, span_dot, columns_dots, columns_none, columns_more, columns_all}
-use Rattle.pixel_strips.proofs.by_dots.span_by_dots.Goals as goal
+use Rattle.pixel_strips.proofs.canvas.Canvas.span.Goals as goal
 
 pub loop-x-init : goal.loop-x-init
 loop-x-init g c =
@@ -19,8 +19,8 @@ loop-x-init g c =
       from = omega arith;
       x_fraction = to_z-of_z w32 cut.x_fraction (search rules) ∙ step_at-zero cut.x_fraction cut.x_step (search rules) ∙ ap (step_at cut.x_fraction cut.x_step) none;
       y_fraction = to_z-of_z w32 cut.y_fraction (search rules) ∙ step_at-zero cut.y_fraction cut.y_step (search rules) ∙ ap (step_at cut.y_fraction cut.y_step) none;
-      painted = dots_none g.C.Canvas.mark (g.C.Canvas.view c.args.canvas.now)
-          ∙ ap (λ (dots : List Dot). with_dots g.C.Canvas.mark dots (g.C.Canvas.view c.args.canvas.now)) (sym (columns_none _ _ _ _ _ (sym none)));
+      painted = dots_none g.Self.Canvas.mark (g.Self.Canvas.view c.args.self.now)
+          ∙ ap (λ (dots : List Dot). with_dots g.Self.Canvas.mark dots (g.Self.Canvas.view c.args.self.now)) (sym (columns_none _ _ _ _ _ (sym none)));
     }
 
 pub loop-x-preserved : goal.loop-x-preserved
@@ -47,14 +47,14 @@ loop-x-preserved g c =
           ∙ ap (λ (f : ℤ). plus f cut.x_step) i.x_fraction ∙ step_at-more cut.x_fraction cut.x_step k n e;
       y_fraction = to_z-of_z w32 c.plus-y_fraction.result (search rules) ∙ c.plus-y_fraction.ensures ∙ ap (λ (z : ℤ). plus y_now z) (to_z-of_z w32 cut.y_step (search rules))
           ∙ ap (λ (f : ℤ). plus f cut.y_step) i.y_fraction ∙ step_at-more cut.y_fraction cut.y_step k n e;
-      painted = dots_more g.C.Canvas.mark (columns_dots (g.C.Canvas.view c.args.canvas.now).painter y colour_of first k)
-          (span_dot (g.C.Canvas.view c.args.canvas.now).painter y colour_of c.loop-x.x)
-          (g.C.Canvas.view c.args.canvas.now) (g.C.Canvas.view c.loop-x.canvas) (g.C.Canvas.view c.dot.new.self) i.painted refl
-          (c.dot.ensures ∙ ap (λ (v : ℕ). with_dot g.C.Canvas.mark c.loop-x.x y v (g.C.Canvas.view c.loop-x.canvas)) colour)
-          ∙ ap (λ (dots : List Dot). with_dots g.C.Canvas.mark dots (g.C.Canvas.view c.args.canvas.now)) (columns_more _ y colour_of first k n c.loop-x.x e at);
+      painted = dots_more g.Self.Canvas.mark (columns_dots (g.Self.Canvas.view c.args.self.now).painter y colour_of first k)
+          (span_dot (g.Self.Canvas.view c.args.self.now).painter y colour_of c.loop-x.x)
+          (g.Self.Canvas.view c.args.self.now) (g.Self.Canvas.view c.loop-x.self) (g.Self.Canvas.view c.dot.new.self) i.painted refl
+          (c.dot.ensures ∙ ap (λ (v : ℕ). with_dot g.Self.Canvas.mark c.loop-x.x y v (g.Self.Canvas.view c.loop-x.self)) colour)
+          ∙ ap (λ (dots : List Dot). with_dots g.Self.Canvas.mark dots (g.Self.Canvas.view c.args.self.now)) (columns_more _ y colour_of first k n c.loop-x.x e at);
     }
 
 pub returns : goal.returns
 returns g c =
     c.loop-x.invariant.painted
-    ∙ ap (λ (dots : List Dot). with_dots g.C.Canvas.mark dots (g.C.Canvas.view c.args.canvas.now)) (columns_all _ _ _ c.args.first c.args.last _ (omega arith))
+    ∙ ap (λ (dots : List Dot). with_dots g.Self.Canvas.mark dots (g.Self.Canvas.view c.args.self.now)) (columns_all _ _ _ c.args.first c.args.last _ (omega arith))
