@@ -31,14 +31,14 @@ abbrev pub marked_by_colour : Painter → ℕ → ℕ
 marked_by_colour painter colour = colour
 
 -- the cells of a list after n of them are set, the k-th of these, from 0, at `place k` to `value k`
-unfoldable pub filled : (ℕ → ℕ) → (ℕ → ℕ) → ℕ → List ℕ → List ℕ
-filled place value zero cells = cells
-filled place value (suc n) cells = set (filled place value n cells) (place n) (value n)
+unfoldable pub fill_cells : (ℕ → ℕ) → (ℕ → ℕ) → ℕ → List ℕ → List ℕ
+fill_cells place value zero cells = cells
+fill_cells place value (suc n) cells = set (fill_cells place value n cells) (place n) (value n)
 
 -- every second of five cells
-pub filled_row : filled (λ k. 2 * k) (λ k. 7 + k) 3 (0 ∷ 1 ∷ 2 ∷ 3 ∷ 4 ∷ []) ≡ 7 ∷ 1 ∷ 8 ∷ 3 ∷ 9 ∷ []
-unfolding filled
-filled_row = refl
+pub fill_cells_row : fill_cells (λ k. 2 * k) (λ k. 7 + k) 3 (0 ∷ 1 ∷ 2 ∷ 3 ∷ 4 ∷ []) ≡ 7 ∷ 1 ∷ 8 ∷ 3 ∷ 9 ∷ []
+unfolding fill_cells
+fill_cells_row = refl
 
 -- a frame of which nothing is painted
 unfoldable pub blank : CanvasView

@@ -19,7 +19,7 @@ unfoldable pub row_colour : List ℕ → List ℕ → ℕ → ℤ → ℤ → �
 row_colour flat colormap map x_fraction y_fraction x_step y_step first x =
     span_colour flat colormap map (step_at x_fraction x_step (x - first)) (step_at y_fraction y_step (x - first))
 
--- a part of some bytes: so many of them, from an offset on
+-- a part of some bytes: `count` of them, from an offset on
 pub record IsWindow (bytes : List ℕ) (offset count : ℕ) (part : List ℕ) : Type 0 where
   pub size : length part ≡ count
   pub same : (k : ℕ) → k < count → slice_index part k ≡ slice_index bytes (offset + k)

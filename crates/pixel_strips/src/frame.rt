@@ -4,7 +4,7 @@ ghost use Rattle.word_rules.specs.Steps.{step_at};
 ghost use Rattle.view_rules.specs.declared.TheConstants.{FRAME_WIDTH};
 ghost use Rattle.pixel_rules.specs.declared.TheConstants.{FRAME_CELLS, TEXEL_ROWS, MAP_COLOURS};
 ghost use Rattle.pixel_strips.specs.declared.texels.TheConstants.{FLAT_BYTES};
-ghost use Rattle.pixel_strips.specs.Canvases.{CanvasView, blank, marked_by_colour, filled};
+ghost use Rattle.pixel_strips.specs.Canvases.{CanvasView, blank, marked_by_colour, fill_cells};
 ghost use Rattle.pixel_strips.specs.Strips.{cut_colour, cut_span_colour};
 
 use crate::canvas::{Canvas, CutColumn, CutSpan};
@@ -78,7 +78,7 @@ impl Frame {
     }
 }
 
-// So many bytes, each 0.
+// `count` bytes, each 0.
 fn zeros(alloc: Global, count: usize) -> Result<Vec<u8>, AllocError>
     ensures { IfOk result (λ bytes. bytes.items ≡ replicate count 0) }
 {
@@ -127,7 +127,7 @@ fn fill_column(cells: &mut [u8], start: usize, count: usize, cut: &CutColumn<'_>
     requires within { start + FRAME_WIDTH * count < FRAME_CELLS + FRAME_WIDTH }
     requires texels { length cut.now.texels.now ≡ TEXEL_ROWS }
     requires shades { length cut.now.shades.now ≡ MAP_COLOURS }
-    ensures { cells.new ≡ filled (λ k. start + FRAME_WIDTH * k)
+    ensures { cells.new ≡ fill_cells (λ k. start + FRAME_WIDTH * k)
         (λ k. cut_colour cut.now.texels.now cut.now.shades.now
         (step_at cut.now.fraction cut.now.step k)) count cells.old }
 {
@@ -145,7 +145,7 @@ fn fill_span(cells: &mut [u8], start: usize, count: usize, cut: &CutSpan<'_>)
     requires within { start + count ≤ FRAME_CELLS }
     requires texels { length cut.now.texels.now ≡ FLAT_BYTES }
     requires shades { length cut.now.shades.now ≡ MAP_COLOURS }
-    ensures { cells.new ≡ filled (λ k. start + k)
+    ensures { cells.new ≡ fill_cells (λ k. start + k)
         (λ k. cut_span_colour cut.now.texels.now cut.now.shades.now
         (step_at cut.now.x_fraction cut.now.x_step k)
         (step_at cut.now.y_fraction cut.now.y_step k)) count cells.old }

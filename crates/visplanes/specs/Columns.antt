@@ -1,5 +1,5 @@
--- How a plane keeps its runs: a byte for the top and one for the bottom of each column of a frame, and the columns
--- outside which none is marked.
+-- How a plane keeps its runs: a byte for the top and one for the bottom of each column of a frame, and the least and the
+-- greatest marked column.
 use Rattle.std.specs.Prelude.{◌≡◌, ℕ, ◌<◌, ◌≤◌, ◌≢◌, ◌==◌, ◌⊎◌, cond, List, Option, Some, None, length, slice_index}
 use Rattle.word_rules.specs.Listed.{listed}
 use Rattle.view_rules.specs.declared.TheConstants.{FRAME_WIDTH, FRAME_HEIGHT}

@@ -6,7 +6,7 @@ use Rattle.word_rules.specs.Words.{plus}
 use Rattle.word_rules.specs.Steps.{step_at}
 use Rattle.word_rules.proofs.StepLemmas.{step_at-zero, step_at-more}
 use Rattle.pixel_strips.specs.Strips.{cut_span_colour}
-use Rattle.pixel_strips.proofs.FillLemmas.{filled_none, filled_more}
+use Rattle.pixel_strips.proofs.FillLemmas.{fill_cells-none, fill_cells-more}
 use Rattle.pixel_strips.proofs.frame.fill_span.Goals as goal
 
 pub loop-k-init : goal.loop-k-init
@@ -15,7 +15,7 @@ loop-k-init c =
     record {
       x_fraction = to_z-of_z w32 cut.x_fraction (search rules) ∙ step_at-zero cut.x_fraction cut.x_step (search rules);
       y_fraction = to_z-of_z w32 cut.y_fraction (search rules) ∙ step_at-zero cut.y_fraction cut.y_step (search rules);
-      cells = filled_none _ _ c.args.cells.now;
+      cells = fill_cells-none _ _ c.args.cells.now;
     }
 
 pub loop-k-preserved : goal.loop-k-preserved
@@ -35,5 +35,5 @@ loop-k-preserved c =
       cells = ap (slice_set c.loop-k.cells (place k)) (c.cut_span_colour.ensures
           ∙ ap (λ (z : ℤ). cut_span_colour cut.texels.now cut.shades.now z y_now) i.x_fraction
           ∙ ap (λ (z : ℤ). cut_span_colour cut.texels.now cut.shades.now (step_at cut.x_fraction cut.x_step k) z) i.y_fraction)
-          ∙ ap (λ (cells : List ℕ). slice_set cells (place k) (value k)) i.cells ∙ filled_more place value k (k + 1) c.args.cells.now refl;
+          ∙ ap (λ (cells : List ℕ). slice_set cells (place k) (value k)) i.cells ∙ fill_cells-more place value k (k + 1) c.args.cells.now refl;
     }
