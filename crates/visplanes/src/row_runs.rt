@@ -10,8 +10,8 @@ use crate::rows::holds_row;
 use std::marker::Model;
 use view_rules::FRAME_WIDTH;
 
-/// The runs of columns of a plane that hold a row and are still to come, from left to right, each by
-/// its first and its last column.
+/// The runs of columns of a plane that hold a row and are still to come, from left to right, each
+/// by its first and its last column.
 #[derive(Drop)]
 pub struct RowRuns<'a> {
     plane: &'a Visplane,
@@ -80,7 +80,8 @@ fn first_not_holding(plane: &Visplane, row: u8, first: u16) -> u16
     requires wide { length plane.now.runs ≡ FRAME_WIDTH }
     requires within { first < FRAME_WIDTH }
     requires holds { holds plane.now row first ≡ true }
-    ensures run { runs_from plane.now row first ≡ (first, result - 1) ∷ runs_from plane.now row result }
+    ensures run { runs_from plane.now row first ≡
+        (first, result - 1) ∷ runs_from plane.now row result }
     ensures after { first < result }
     ensures end { result ≤ FRAME_WIDTH }
 {

@@ -136,9 +136,12 @@ impl Fragment {
     /// given.
     ///
     /// The original: `texturecolumn`, r_segs.c.
+    #[inline(always)]
     pub fn column_at(&self, view: &View<'_>, x: u16) -> i32
         requires { x < view.now.shape.width }
-        ensures { (facts : WallFacts) (first last : ℕ) → self.now ≡ fragment_of view.now facts first last → result ≡ texture_column view.now facts x }
+        ensures { (facts : WallFacts) (first last : ℕ) →
+            self.now ≡ fragment_of view.now facts first last →
+            result ≡ texture_column view.now facts x }
     {
         texture_column(view, self.line, x)
     }

@@ -86,7 +86,8 @@ fn unsigned_quarter(off: u32) -> u32
 
 /// The distance of the line, by that of a point of it which is seen `off` the normal.
 fn distance_by(view: &View<'_>, off: u32, dist: i32) -> i32
-    ensures { result ≡ mul dist (sine_at view.now.tables (fine_angle (turn_back ang90 (min (unsigned_abs (abs_word (signed_of off))) ang90)))) }
+    ensures { result ≡ mul dist (sine_at view.now.tables (fine_angle
+        (turn_back ang90 (min (unsigned_abs (abs_word (signed_of off))) ang90)))) }
 {
     mul(
         dist,
