@@ -11,8 +11,8 @@ unfoldable pub strip_colour : List ℕ → ℕ → List ℕ → ℕ → ℤ → 
 strip_colour source base colormap map fraction step first y =
     column_colour source base colormap map (step_at fraction step (y - first))
 
-abbrev pub strip_dots : Painter → ℕ → (ℕ → ℕ) → ℕ → ℕ → List Dot
-strip_dots painter x colour first last = column_dots painter x colour (listed_from (λ y. y) first last)
+abbrev pub column_strip_dots : Painter → ℕ → (ℕ → ℕ) → ℕ → ℕ → List Dot
+column_strip_dots painter x colour first last = column_dots painter x colour (listed_from (λ y. y) first last)
 
 -- a span strip: at column x both fractions have been stepped x - first times
 unfoldable pub row_colour : List ℕ → List ℕ → ℕ → ℤ → ℤ → ℤ → ℤ → ℕ → ℕ → ℕ

@@ -6,7 +6,7 @@ ghost use Rattle.pixel_rules.specs.declared.TheConstants.{TEXEL_ROWS, MAP_COLOUR
 ghost use Rattle.pixel_rules.specs.Strips.{span_dots};
 ghost use Rattle.pixel_strips.specs.declared.texels.TheConstants.{FLAT_BYTES};
 ghost use Rattle.pixel_strips.specs.Canvases.{CanvasView, with_painter, placed_at, with_dot, with_dots};
-ghost use Rattle.pixel_strips.specs.Strips.{strip_dots, cut_strip_colour, cut_row_colour};
+ghost use Rattle.pixel_strips.specs.Strips.{column_strip_dots, cut_strip_colour, cut_row_colour};
 
 use crate::texels::{cut_colour, cut_span_colour};
 use fx_words::plus;
@@ -79,7 +79,7 @@ pub trait Canvas {
         requires rows { last + (view self.old).top < FRAME_HEIGHT }
         requires texels { length cut.now.texels.now ≡ TEXEL_ROWS }
         requires shades { length cut.now.shades.now ≡ MAP_COLOURS }
-        ensures { view self.new ≡ with_dots mark (strip_dots (view self.old).painter x
+        ensures { view self.new ≡ with_dots mark (column_strip_dots (view self.old).painter x
             (cut_strip_colour cut.now.texels.now cut.now.shades.now cut.now.fraction cut.now.step
             first) first last) (view self.old) }
     {

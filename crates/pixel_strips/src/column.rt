@@ -3,7 +3,7 @@ ghost use Rattle.std.specs.Prelude.{◌≡◌, ◌+◌, ◌*◌, ◌^◌, ◌<�
 ghost use Rattle.view_rules.specs.declared.TheConstants.{FRAME_WIDTH, FRAME_HEIGHT};
 ghost use Rattle.pixel_rules.specs.declared.TheConstants.{TEXEL_ROWS, MAP_COLOURS};
 ghost use Rattle.pixel_strips.specs.Canvases.{with_dots};
-ghost use Rattle.pixel_strips.specs.Strips.{strip_colour, strip_dots, IsWindow};
+ghost use Rattle.pixel_strips.specs.Strips.{strip_colour, column_strip_dots, IsWindow};
 
 use crate::canvas::{Canvas, CutColumn};
 use crate::texels::{column_colour, window};
@@ -40,7 +40,7 @@ pub fn paint_column<C: Canvas>(canvas: &mut C, strip: &ColumnStrip<'_>)
     requires rows { strip.now.last + (C.view canvas.old).top < FRAME_HEIGHT }
     requires base { strip.now.base < 2 ^ 63 }
     ensures { C.view canvas.new ≡ with_dots C.mark
-        (strip_dots (C.view canvas.old).painter strip.now.x
+        (column_strip_dots (C.view canvas.old).painter strip.now.x
         (strip_colour strip.now.source.now strip.now.base strip.now.colormap.now strip.now.map
         strip.now.fraction strip.now.step strip.now.first)
         strip.now.first strip.now.last) (C.view canvas.old) }
@@ -67,7 +67,7 @@ pub fn paint_post<C: Canvas>(canvas: &mut C, strip: &ColumnStrip<'_>)
     requires rows { strip.now.last + (C.view canvas.old).top < FRAME_HEIGHT }
     requires base { strip.now.base < 2 ^ 63 }
     ensures { C.view canvas.new ≡ with_dots C.mark
-        (strip_dots (C.view canvas.old).painter strip.now.x
+        (column_strip_dots (C.view canvas.old).painter strip.now.x
         (strip_colour strip.now.source.now strip.now.base strip.now.colormap.now strip.now.map
         strip.now.fraction strip.now.step strip.now.first)
         strip.now.first strip.now.last) (C.view canvas.old) }
@@ -82,7 +82,7 @@ fn paint_any_column<C: Canvas>(canvas: &mut C, strip: &ColumnStrip<'_>)
     requires rows { strip.now.last + (C.view canvas.old).top < FRAME_HEIGHT }
     requires base { strip.now.base < 2 ^ 63 }
     ensures { C.view canvas.new ≡ with_dots C.mark
-        (strip_dots (C.view canvas.old).painter strip.now.x
+        (column_strip_dots (C.view canvas.old).painter strip.now.x
         (strip_colour strip.now.source.now strip.now.base strip.now.colormap.now strip.now.map
         strip.now.fraction strip.now.step strip.now.first)
         strip.now.first strip.now.last) (C.view canvas.old) }
@@ -115,7 +115,7 @@ fn paint_cut_column<C: Canvas>(
     requires shades { IsWindow strip.now.colormap.now (MAP_COLOURS * strip.now.map) MAP_COLOURS
         shades.now }
     ensures { C.view canvas.new ≡ with_dots C.mark
-        (strip_dots (C.view canvas.old).painter strip.now.x
+        (column_strip_dots (C.view canvas.old).painter strip.now.x
         (strip_colour strip.now.source.now strip.now.base strip.now.colormap.now strip.now.map
         strip.now.fraction strip.now.step strip.now.first)
         strip.now.first strip.now.last) (C.view canvas.old) }

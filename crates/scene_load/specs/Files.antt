@@ -11,7 +11,7 @@ use Rattle.view_rules.specs.View.{TablesValue}
 use Rattle.csv_tables.specs.declared.path.PathRow.{PathRow}
 use Rattle.level_rules.specs.declared.ThingLine.{ThingLine}
 use Rattle.csv_tables.specs.declared.weapons.WeaponRow.{WeaponRow}
-use Rattle.csv_tables.specs.Things.{things_in}
+use Rattle.csv_tables.specs.Things.{things_in_table}
 use Rattle.csv_tables.specs.Paths.{path_in}
 use Rattle.csv_tables.specs.Weapons.{weapons_in}
 use Rattle.command_line.specs.Scenes.{ToldFiles}
@@ -52,7 +52,7 @@ abbrev pub tables_file : ℕ → List ℕ → Result TablesValue FilesRefusal
 tables_file size bytes = from_below Tables (tables_in size bytes)
 
 abbrev pub things_file : List ℕ → Result (List ThingLine) FilesRefusal
-things_file bytes = from_below Things (things_in bytes)
+things_file bytes = from_below Things (things_in_table bytes)
 
 abbrev pub path_file : List ℕ → Result (List PathRow) FilesRefusal
 path_file bytes = from_below Path (path_in bytes)

@@ -6,7 +6,7 @@ ghost use Rattle.std.specs.List.Sorted.{IsSortedBy, IsStableBy};
 ghost use Rattle.view_rules.specs.declared.TheConstants.{LIGHT_LEVELS};
 ghost use Rattle.sprite_rules.specs.declared.TheConstants.{MAX_VISSPRITES};
 ghost use Rattle.sprite_rules.specs.Projection.{project};
-ghost use Rattle.sprite_rules.specs.Entries.{add, with_entry};
+ghost use Rattle.sprite_rules.specs.Entries.{add_entry, with_entry};
 ghost use Rattle.sprite_rules.specs.Order.{is_smaller, insert_last, draw_order};
 ghost use Rattle.sprite_rules.specs.declared.SpriteEntry.{SpriteEntry};
 ghost use Rattle.vissprites.specs.Kept.{made_order, IsKept, count_before};
@@ -75,10 +75,10 @@ impl Sprites {
     /// Needs a light number below 16. Takes no memory.
     ///
     /// The original: the second half of `R_ProjectSprite`, r_things.c.
-    pub fn add(&mut self, view: &View<'_>, thing: &Placed, seen: Seen, shape: Shape5)
+    pub fn add_entry(&mut self, view: &View<'_>, thing: &Placed, seen: Seen, shape: Shape5)
         requires seen { project view.now thing.now ≡ Some seen }
         requires light { thing.now.light < LIGHT_LEVELS }
-        ensures value { self.new ≡ add view.now self.old thing.now seen shape }
+        ensures value { self.new ≡ add_entry view.now self.old thing.now seen shape }
 
         // What the masked pass asks of entries.
         ensures columns { AllPass (lies_within view.now.shape.width) self.old →

@@ -8,7 +8,7 @@ ghost use Rattle.view_rules.specs.declared.TheConstants.{TANGENTS};
 ghost use Rattle.view_rules.specs.Angles.{tangent_at};
 ghost use Rattle.wall_rules.specs.Scales.{seg_normal};
 ghost use Rattle.wall_rules.specs.Columns.{column_tangent, texture_column};
-ghost use Rattle.wall_edges.specs.Lines.{line_of};
+ghost use Rattle.wall_edges.specs.Lines.{seg_line_of};
 
 use crate::line::SegLine;
 use fx_words::{fine_angle, minus, mul, shr_word, turn, turn_back};
@@ -51,7 +51,7 @@ fn column_tangent(view: &View<'_>, normal: u32, x: u16) -> usize
 #[tactic(auto, unfolding(wall_rules::specs::Columns::texture_column))]
 pub fn texture_column(view: &View<'_>, line: SegLine, x: u16) -> i32
     requires { x < view.now.shape.width }
-    ensures { (facts : WallFacts) → line ≡ line_of view.now facts →
+    ensures { (facts : WallFacts) → line ≡ seg_line_of view.now facts →
         result ≡ texture_column view.now facts x }
 {
     let slope = tangent(view, column_tangent(view, line.normal, x));
