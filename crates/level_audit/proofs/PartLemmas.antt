@@ -20,7 +20,10 @@ use Rattle.scene_rules.specs.declared.refusal.SceneRefusal.{SceneRefusal}
 use Rattle.scene_rules.specs.Middles.{bad_middle}
 use Rattle.scene_rules.specs.Scenes.{checked, faces_in, texture_by}
 use Rattle.level_audit.specs.Faults.{above_scene}
-use Rattle.level_audit.proofs.FaultLemmas.{scene_above}
+use Rattle.level_audit.specs.Faults.{above_scene}
+use Rattle.std.proofs.lemmas.Result.{err_from_is_err_and}
+use Rattle.outside.specs.declared.fault.Fault.{Fault}
+use Rattle.outside.proofs.ThroughLemmas.{IsThrough, above_is}
 use Rattle.level_audit.specs.declared.names.ReadFaces.{ReadFaces}
 use Rattle.level_audit.specs.Scenes.{faces_of}
 
@@ -33,7 +36,7 @@ module _ {A B : Type 0} {value : B → A} {expected : Result A SceneRefusal} (vi
 
   -- in the words of an audit
   pub tells_part : (result : Result B SceneFault) → ResultIs scene_fault true value expected result → ReadsLumps itself view view dir z z wants value (λ bytes. from_below Scene expected) (result_above above_scene result)
-  tells_part result answers = reads_above Scene above_scene scene_above result (tells_answered result answers)
+  tells_part result answers = reads_above Scene above_scene (λ fault. refl) result (tells_answered result answers)
 
 -- the last checks, over segs and sides that are lent
 pub checks_told : (view : ShelfView) (dir : DirectoryView) (z : Heap) (wants : ℕ → Type 0) (placed : List Placed) (prepared : List (Option PreparedTexture)) (segs lent : List Seg) (sides seen : List SideTextures) (result : Result (Unit {0}) SceneFault) → lent ≡ segs → seen ≡ sides →
