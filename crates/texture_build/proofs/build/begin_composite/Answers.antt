@@ -16,7 +16,7 @@ returns-in_err-take_composite c =
     let new = c.take_composite.new.self in
     let t = c.in_err-take_composite.ensures in
     let r = t.requests in
-    same_error c.from_residual.result c.in_err-take_composite.field-0.0 (λ (r : Result _ _). MatchResult r (λ _. StartsComposite c.args.number c.args.size old new) (λ e. FailsToBegin c.args.number c.args.size old new e.wanted e.widest)) c.from_residual.ensures.1 (record {
+    same_error c.from_residual.result c.in_err-take_composite.field-0.0 (λ (answer : Result _ _). MatchResult answer (λ _. StartsComposite c.args.number c.args.size old new) (λ e. FailsToBegin c.args.number c.args.size old new e.wanted e.widest)) c.from_residual.ensures.1 (record {
       counts = t.counts;
       rest = take_rest r (λ n. refl);
       faithful = take_faithful r (λ n. refl);
