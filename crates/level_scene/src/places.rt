@@ -19,7 +19,7 @@ use level_rules::{Child, MAX_DEPTH, Node, Partition4, PlacedThing, Sector, Thing
 use map_lumps::Level;
 use outside::OutOfMemory;
 use scene_rules::{EASY, EIGHTH_DEGREES, HARD, LAST_EASY, NORMAL, NORMAL_SKILL, NOT_ALONE, Placed};
-use sprite_book::Need;
+use art_rules::Need;
 use std::alloc::Global;
 use std::marker::Model;
 use view_frame::side_of;

@@ -5,7 +5,7 @@ use crate::places::{PlacedThings, place_things, sector_at};
 use csv_tables::ThingTable;
 use level_rules::PlacedThing;
 use map_lumps::{Level, LevelBuilder, MapFault, MapLump};
-use sprite_book::Need;
+use art_rules::Need;
 use std::alloc::{AllocError, Global};
 
 const UNIT: i32 = 65536;

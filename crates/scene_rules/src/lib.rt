@@ -13,7 +13,7 @@ mod refusal;
 use csv_tables::ThingRow;
 use level_rules::PlacedThing;
 pub use refusal::{ArtRefusal, AuditRefusal, SceneRefusal, WeaponRefusal};
-use wad_dir::LumpNo;
+use lump_rules::LumpNo;
 
 /// The bytes of a name of a lump or a texture.
 pub const NAME_SIZE: usize = 8;
