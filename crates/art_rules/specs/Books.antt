@@ -36,13 +36,18 @@ picture_or_missing all need k =
 unfoldable pub pictures_of : List Mention → Need → Result (List Mention) SpriteRefusal
 pictures_of all need =
     and_then (last_mention all need)
-        (λ last. each_of (picture_or_missing all need) (range_with_len 0 ROTATIONS))
+    (λ last. each_of (picture_or_missing all need) (range_with_len 0 ROTATIONS))
 
 -- how a picture is drawn whose lump is that patch
 unfoldable pub shape_in : Mention → Patch → Shape
 shape_in mention patch =
-    record { lump = record { 0 = mention.lump }; flip = mention.flip; width = patch.width;
-            left = patch.left; top = patch.top }
+    record {
+      lump = record { 0 = mention.lump };
+      flip = mention.flip;
+      width = patch.width;
+      left = patch.left;
+      top = patch.top;
+    }
 
 -- the patch that a lump is
 unfoldable pub patch_or_bad : (ℕ → List ℕ) → ℕ → Result Patch SpriteRefusal

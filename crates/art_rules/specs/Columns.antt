@@ -88,7 +88,7 @@ composed_byte height placed v = unwrap_or (last_put height v placed) 0
 unfoldable pub placed_posts : (ℕ → List ℕ) → ℕ → PlacedPatch → List PlacedPost
 placed_posts bytes x patch =
     map (λ post. record
-            { row = patch.y +ℤ pos post.topdelta; post = post; bytes = bytes patch.lump })
+    { row = patch.y +ℤ pos post.topdelta; post = post; bytes = bytes patch.lump })
     (posts (bytes patch.lump) (column_place (bytes patch.lump) (own_column x patch)))
 
 -- the posts of a column, patch by patch
@@ -126,8 +126,11 @@ texel bytes patches width height x r =
 -- 1
 pub hanging_row : listed
     (composed_byte 4
-        (record { row = negsuc 1; post = record { topdelta = 0; length = 4; first = 0 };
-            bytes = 11 ∷ 12 ∷ 13 ∷ 14 ∷ [] } ∷ [])) 4 ≡ 11 ∷ 12 ∷ 0 ∷ 0 ∷ []
+    (record {
+      row = negsuc 1;
+      post = record { topdelta = 0; length = 4; first = 0 };
+      bytes = 11 ∷ 12 ∷ 13 ∷ 14 ∷ [];
+    } ∷ [])) 4 ≡ 11 ∷ 12 ∷ 0 ∷ 0 ∷ []
 unfolding listed composed_byte last_put is_put_at put_byte put_count first_row rows_above natural
     byte_at
 hanging_row = refl

@@ -12,4 +12,4 @@ flat_byte bytes x y = byte_at bytes (FLAT_SIDE * y + x)
 unfoldable pub palette_colour : List ℕ → ℕ → List ℕ
 palette_colour playpal index =
     byte_at playpal (COLOUR_SIZE * index) ∷ byte_at playpal (COLOUR_SIZE * index + 1)
-        ∷ byte_at playpal (COLOUR_SIZE * index + 2) ∷ []
+    ∷ byte_at playpal (COLOUR_SIZE * index + 2) ∷ []

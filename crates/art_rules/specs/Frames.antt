@@ -18,8 +18,12 @@ is_pair letter digit = nat_le FIRST_FRAME letter && nat_le letter LAST_FRAME
 unfoldable pub mention_at : ℕ → List ℕ → ℕ → Bool → List Mention
 mention_at lump name offset flip =
     cond (is_pair (slice_index name offset) (slice_index name (offset + 1)))
-    (record { lump = lump; frame = slice_index name offset;
-            rotation = slice_index name (offset + 1) - FIRST_ROTATION; flip = flip } ∷ [])
+    (record {
+      lump = lump;
+      frame = slice_index name offset;
+      rotation = slice_index name (offset + 1) - FIRST_ROTATION;
+      flip = flip;
+    } ∷ [])
     []
 
 -- a name mentions one frame and rotation, or a second one, whose picture is flipped
@@ -35,7 +39,7 @@ is_of_sprite sprite name = bytes_eq (take SPRITE_LETTERS name) sprite
 unfoldable pub lump_mentions : List Lump → List ℕ → ℕ → List Mention
 lump_mentions lumps sprite number =
     cond (is_of_sprite sprite (lump_at lumps number).name)
-        (name_mentions number (lump_at lumps number).name) []
+    (name_mentions number (lump_at lumps number).name) []
 
 -- the mentions of a sprite, by lump and first pair before second
 unfoldable pub mentions : List Lump → List ℕ → List Mention
@@ -69,7 +73,7 @@ frame_picture all frame k = picture_if all frame (last_that (is_of_frame frame) 
 -- TREEA0, and TREEA2A8, whose second mention is flipped
 pub name_mentions_row : name_mentions 7 (84 ∷ 82 ∷ 69 ∷ 69 ∷ 65 ∷ 50 ∷ 65 ∷ 56 ∷ []) ≡
     record { lump = 7; frame = 65; rotation = 2; flip = false }
-        ∷ record { lump = 7; frame = 65; rotation = 8; flip = true } ∷ []
+    ∷ record { lump = 7; frame = 65; rotation = 8; flip = true } ∷ []
 unfolding name_mentions mention_at is_pair
 name_mentions_row = refl
 

@@ -29,9 +29,9 @@ column_lookups bytes patches width height = listed (column_lookup bytes patches 
 
 -- column x is read from what its patches say, whatever the bytes of their lumps were
 pub record IsColumnOf (patches : List PlacedPatch) (height x : ℕ) (lookup : ColumnLookup) : Type 0
-    where
-  pub bytes : ℕ → List ℕ
-  pub is : lookup ≡ column_lookup bytes patches height x
+  where
+    pub bytes : ℕ → List ℕ
+    pub is : lookup ≡ column_lookup bytes patches height x
 
 -- so is each column: which are composed, and where, is known without the bytes of a lump
 pub record AreColumnsOf (patches : List PlacedPatch) (height : ℕ)

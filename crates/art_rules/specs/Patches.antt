@@ -14,8 +14,11 @@ is_patch bytes =
 
 unfoldable pub patch_in : List ℕ → Patch
 patch_in bytes =
-    record { width = half_at bytes 0; left = signed_half_at bytes LEFT_AT;
-        top = signed_half_at bytes TOP_AT }
+    record {
+      width = half_at bytes 0;
+      left = signed_half_at bytes LEFT_AT;
+      top = signed_half_at bytes TOP_AT;
+    }
 
 unfoldable pub patch_of : List ℕ → Option Patch
 patch_of bytes = if is_patch bytes then Some (patch_in bytes) else None
@@ -30,8 +33,11 @@ is_post bytes place = not (nat_le (length bytes) place || (byte_at bytes place =
 
 unfoldable pub post_in : List ℕ → ℕ → Post
 post_in bytes place =
-    record { topdelta = byte_at bytes place; length = byte_at bytes (place + POST_LENGTH_AT);
-        first = place + POST_BYTES_AT }
+    record {
+      topdelta = byte_at bytes place;
+      length = byte_at bytes (place + POST_LENGTH_AT);
+      first = place + POST_BYTES_AT;
+    }
 
 unfoldable pub post_at : List ℕ → ℕ → Option Post
 post_at bytes place = if is_post bytes place then Some (post_in bytes place) else None
@@ -45,7 +51,7 @@ unfoldable pub posts_from : ℕ → List ℕ → ℕ → List Post
 posts_from zero bytes place = []
 posts_from (suc n) bytes place =
     if is_post bytes place then post_in bytes place
-        ∷ posts_from n bytes (next_place (post_in bytes place)) else []
+    ∷ posts_from n bytes (next_place (post_in bytes place)) else []
 
 -- the posts from a place on; each begins at a later byte, so there are no more of them than bytes
 unfoldable pub posts : List ℕ → ℕ → List Post
@@ -54,6 +60,6 @@ posts bytes place = posts_from (length bytes) bytes place
 -- a post of two texels at row 5 and one of none at row 7
 pub posts_row : posts (5 ∷ 2 ∷ 0 ∷ 8 ∷ 9 ∷ 0 ∷ 7 ∷ 0 ∷ 0 ∷ 0 ∷ 255 ∷ []) 0 ≡
     record { topdelta = 5; length = 2; first = 3 } ∷ record { topdelta = 7; length = 0; first = 9 }
-        ∷ []
+    ∷ []
 unfolding posts posts_from is_post post_in next_place byte_at
 posts_row = refl

@@ -46,8 +46,11 @@ names_in bytes = listed (λ i. name_at bytes (COUNT_SIZE + NAME_SIZE * i)) (list
 -- the patch of a texture at a place
 unfoldable pub entry_at : List ℕ → ℕ → TextureEntry
 entry_at bytes place =
-    record { x = signed_half_at bytes place; y = signed_half_at bytes (place + ENTRY_Y_AT);
-        number = half_at bytes (place + ENTRY_NUMBER_AT) }
+    record {
+      x = signed_half_at bytes place;
+      y = signed_half_at bytes (place + ENTRY_Y_AT);
+      number = half_at bytes (place + ENTRY_NUMBER_AT);
+    }
 
 unfoldable pub patch_count : List ℕ → ℕ → ℕ
 patch_count bytes place = half_at bytes (place + PATCH_COUNT_AT)
@@ -135,7 +138,7 @@ unfoldable pub texture_lists : Option (List ℕ) → Option (List ℕ) → Optio
 texture_lists pnames texture1 texture2 =
     and_then (patch_names pnames) (λ names.
     and_then (both_lists texture1 texture2)
-        (λ textures. Ok (record { names = names; textures = textures })))
+    (λ textures. Ok (record { names = names; textures = textures })))
 
 -- a name that begins so stands for no texture
 unfoldable pub is_no_texture : List ℕ → Bool

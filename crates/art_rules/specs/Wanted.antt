@@ -34,8 +34,8 @@ unfoldable pub placed_patches : (List ℕ → Option ℕ) → (ℕ → List ℕ)
 placed_patches last bytes names [] = Some []
 placed_patches last bytes names (entry ∷ rest) =
     option_and_then
-        (λ patch. option_map (λ patches. patch ∷ patches) (placed_patches last bytes names rest))
-        (placed_patch last bytes names entry)
+    (λ patch. option_map (λ patches. patch ∷ patches) (placed_patches last bytes names rest))
+    (placed_patch last bytes names entry)
 
 -- what is kept of a wanted texture: its patches in order, its rows, and what each of its columns is
 -- read from
@@ -46,15 +46,18 @@ pub record PreparedTexture : Type 0 where
 
 unfoldable pub texture_of : (ℕ → List ℕ) → Texture → List PlacedPatch → PreparedTexture
 texture_of bytes t patches =
-    record { patches = patches; height = t.height;
-        columns = column_lookups bytes patches t.width t.height }
+    record {
+      patches = patches;
+      height = t.height;
+      columns = column_lookups bytes patches t.width t.height;
+    }
 
 -- texture t, refused where a patch is missing or the composite is too big
 unfoldable pub unless_too_big : (ℕ → List ℕ) → ℕ → Texture → List PlacedPatch →
     Result PreparedTexture TexRefusal
 unless_too_big bytes number t patches =
     cond (nat_lt MAX_COMPOSITE (composite_size patches t.width t.height)) (Err (TooBig number))
-        (Ok (texture_of bytes t patches))
+    (Ok (texture_of bytes t patches))
 
 unfoldable pub unless_missing : (ℕ → List ℕ) → ℕ → Texture → Option (List PlacedPatch) →
     Result PreparedTexture TexRefusal

@@ -35,7 +35,7 @@ with_posts column placed = listed (row_with column placed) (length column)
 -- at rows 0 and 1, the others keep what they had
 pub hanging_post_row : with_posts (5 ∷ 6 ∷ 7 ∷ 8 ∷ [])
     (placed_post (negsuc 1) (record { topdelta = 0; length = 4; first = 0 })
-        (11 ∷ 12 ∷ 13 ∷ 14 ∷ []) ∷ []) ≡ 11 ∷ 12 ∷ 7 ∷ 8 ∷ []
+    (11 ∷ 12 ∷ 13 ∷ 14 ∷ []) ∷ []) ≡ 11 ∷ 12 ∷ 7 ∷ 8 ∷ []
 unfolding with_posts row_with placed_post listed last_put is_put_at put_byte put_count first_row
     rows_above natural byte_at
 hanging_post_row = refl

@@ -10,8 +10,8 @@ ghost use Rattle.art_rules.specs.Patches.{post_at, next_place};
 ghost use Rattle.patch_columns.specs.Composites.{placed_post, posts_at, posts_in, with_posts};
 
 use crate::lookups::{own_column, stands_in};
-use art_rules::{ColumnLookup, PlacedPatch, byte_at};
 use crate::{Post, column_place, next_place, post_at};
+use art_rules::{ColumnLookup, PlacedPatch, byte_at};
 
 /// Puts a patch of a texture of `height` rows into the texture's composite, over the patches before
 /// it: its posts in each composed column in which it stands. `lump` is the bytes of its lump,

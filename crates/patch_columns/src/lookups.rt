@@ -7,8 +7,8 @@ ghost use Rattle.art_rules.specs.Columns.{composite_size, own_column, stands_in}
 ghost use Rattle.art_rules.specs.Lookups.{AreColumnsOf, column_lookups};
 ghost use Rattle.patch_columns.specs.Seen.{AreSeen, columns_with, composed_bytes, lookup_behind, lookup_with, placed_lookup, seen_lookups};
 
-use art_rules::{ColumnLookup, PlacedPatch};
 use crate::column_place;
+use art_rules::{ColumnLookup, PlacedPatch};
 
 /// Adds a patch to the columns of its texture, behind the patches that were added before: a column
 /// in which no other stands is read from it, one in which another stands is composed. `lump` is the

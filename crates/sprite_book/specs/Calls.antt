@@ -58,4 +58,4 @@ pub record Reads {A B : Type 0} (view after : ShelfView) (dir : DirectoryView) (
   pub full : IfErr result (λ fault. IfFull (itself fault) (IsFullFor wants dir old))
   pub order : (items : List Item) → HasAll items dir wants → IsInOrder items old →
       MatchResult result (λ _. KeepsOrder items old new view.taken after.taken)
-          (λ fault. InOrderAt (itself fault) (KeepsOrder items old new view.taken after.taken))
+      (λ fault. InOrderAt (itself fault) (KeepsOrder items old new view.taken after.taken))

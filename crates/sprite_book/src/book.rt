@@ -90,17 +90,17 @@ impl SpriteBook {
         ensures outlines { IfOk result
             (λ book. outlines_of dir.now.lumps needed.now ≡ Ok (map outline book)) }
         ensures there { IfOk result (λ book. All
-                (λ frame. All (λ shape. shape.lump.0 < length dir.now.lumps) frame.shapes) book) }
+            (λ frame. All (λ shape. shape.lump.0 < length dir.now.lumps) frame.shapes) book) }
         ensures follows { IsLaterShelf (S.view shelf.old) (S.view shelf.new) }
         ensures causes { HasCauses itself (S.view shelf.old).faults (S.view shelf.new).faults
             result }
         ensures full { IfErr result
             (λ fault. IfFull (itself fault)
-                (λ wanted widest'. (lump : ℕ) × IsWanted dir.now.lumps needed.now lump ×
-                    (wanted ≡ block_size (lump_at dir.now.lumps lump).size) × (widest' < wanted))) }
+            (λ wanted widest'. (lump : ℕ) × IsWanted dir.now.lumps needed.now lump ×
+            (wanted ≡ block_size (lump_at dir.now.lumps lump).size) × (widest' < wanted))) }
         ensures room { (colormap size : ℕ) → IsAtRest colormap size cache.old →
             IfErr result (λ fault. IfFull (itself fault)
-                (λ wanted widest'. cache.old.size < block_size size + wanted + MIN_FRAGMENT)) }
+            (λ wanted widest'. cache.old.size < block_size size + wanted + MIN_FRAGMENT)) }
         ensures faithful { (contents : List (List ℕ)) →
             NameFiles (S.view shelf.old) dir.now.files contents →
             IsFaithful contents dir.now.lumps cache.old →
@@ -113,14 +113,14 @@ impl SpriteBook {
             (λ bytes. bytes_of (composite_owner number) cache.old.blocks ≡ Some bytes) }
         ensures order { (items : List Item) →
             ((lump : ℕ) → IsWanted dir.now.lumps needed.now lump →
-                has_item items (lump_owner lump) (lump_at dir.now.lumps lump).size ≡ true) →
-                IsInOrder items cache.old →
+            has_item items (lump_owner lump) (lump_at dir.now.lumps lump).size ≡ true) →
+            IsInOrder items cache.old →
             MatchResult result
             (λ _. KeepsOrder items cache.old cache.new (S.view shelf.old).taken
-                (S.view shelf.new).taken)
-                (λ fault. InOrderAt (itself fault)
-                    (KeepsOrder items cache.old cache.new (S.view shelf.old).taken
-                        (S.view shelf.new).taken)) }
+            (S.view shelf.new).taken)
+            (λ fault. InOrderAt (itself fault)
+            (KeepsOrder items cache.old cache.new (S.view shelf.old).taken
+            (S.view shelf.new).taken)) }
     {
         make_book(alloc, needed, dir, cache, shelf)
     }
@@ -162,7 +162,7 @@ fn make_book<S: Shelf>(
         cache.new (IsWanted dir.now.lumps needed.now) (λ book. book)
         (λ bytes. each_of (frame_of bytes dir.now.lumps) (first_needs needed.now)) result }
     ensures outlines { IfOk result (λ book. each_of (outline_of dir.now.lumps)
-            (first_needs needed.now) ≡ Ok (map outline book)) }
+        (first_needs needed.now) ≡ Ok (map outline book)) }
 {
     let index = index_mentions(alloc, dir)?;
     let list = read_list(alloc, needed, &index, dir, cache, shelf)?;

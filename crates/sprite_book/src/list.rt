@@ -96,7 +96,7 @@ fn shape_numbers(alloc: Global, frames: &[Frame]) -> Result<Vec<u16>, OutOfMemor
 
 fn add_numbers(numbers: &mut Vec<u16>, shapes: &[Shape]) -> Result<(), OutOfMemory>
     ensures { OnOk result (numbers.new.items ≡ numbers.old.items
-            ++ map (λ shape. shape.lump.0) shapes.now) }
+        ++ map (λ shape. shape.lump.0) shapes.now) }
 {
     for shape in shapes {
         numbers.push(shape.lump.0)?;

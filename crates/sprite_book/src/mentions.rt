@@ -45,7 +45,7 @@ fn add_name(index: &mut Mentions, lump: u16, name: &[u8; NAME_SIZE]) -> Result<(
     ensures { OnOk result ((all : List ℕ → List Mention) → IsIndexOf index.old all →
         IsIndexOf index.new
         (λ sprite. all sprite
-            ++ cond (is_of_sprite sprite name.now) (name_mentions lump name.now) [])) }
+        ++ cond (is_of_sprite sprite name.now) (name_mentions lump name.now) [])) }
 {
     let letters = letters_of(name);
     add_mention(

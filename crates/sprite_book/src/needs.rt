@@ -8,11 +8,11 @@ ghost use Rattle.art_rules.specs.Books.{frame_of, outline, outline_of, each_of, 
 ghost use Rattle.sprite_book.specs.Calls.{Reads, IsWanted};
 ghost use Rattle.sprite_book.specs.Indexes.{IsIndexOf, IsPlaceOf};
 
+use crate::Need;
 use crate::fault::SpriteFault;
 use crate::list::FrameList;
 use crate::mentions::Mentions;
 use crate::read::read_frame;
-use crate::Need;
 use art_rules::Patch;
 use lump_cache::LumpCache;
 use outside::{OutOfMemory, Shelf};
@@ -34,7 +34,7 @@ pub fn read_list<S: Shelf>(
         cache.new (IsWanted dir.now.lumps needed.now) (λ list. list.frames.items)
         (λ bytes. each_of (frame_of bytes dir.now.lumps) (first_needs needed.now)) result }
     ensures outlines { IfOk result (λ list. each_of (outline_of dir.now.lumps)
-            (first_needs needed.now) ≡ Ok (map outline list.frames.items)) }
+        (first_needs needed.now) ≡ Ok (map outline list.frames.items)) }
     ensures placed { IfOk result (λ list. IsPlaceOf list.index list.frames.items) }
 {
     let mut patches = no_patches(alloc, dir.count() as usize)?;
@@ -69,7 +69,7 @@ fn read_frames<S: Shelf>(
         patches.old patches.new (IsWanted dir.now.lumps needed.now) (λ _. list.new.frames.items)
         (λ bytes. each_of (frame_of bytes dir.now.lumps) (first_needs needed.now)) result }
     ensures outlines { OnOk result (each_of (outline_of dir.now.lumps) (first_needs needed.now)
-            ≡ Ok (map outline list.new.frames.items)) }
+        ≡ Ok (map outline list.new.frames.items)) }
     ensures placed { OnOk result (IsPlaceOf list.new.index list.new.frames.items) }
 {
     for need in needed {

@@ -6,8 +6,8 @@ ghost use Rattle.art_rules.specs.Frames.{frame_picture, last_that, is_of_frame};
 ghost use Rattle.art_rules.specs.Books.{pictures_of, picture_or_missing, last_mention, each_of};
 ghost use Rattle.sprite_book.specs.Indexes.{IsIndexOf};
 
-use crate::mentions::Mentions;
 use crate::Need;
+use crate::mentions::Mentions;
 use art_rules::{Mention, ROTATIONS, SpriteRefusal};
 
 // The pictures of a frame from the eight rotations, or why it is refused.
@@ -47,9 +47,9 @@ fn fill_pictures(
         last_that (is_of_frame need.now.frame) (all need.now.sprite) ≡ Some last.now →
         MatchResult result
         (λ _. each_of (picture_or_missing (all need.now.sprite) need.now)
-            (range_with_len 0 (length pictures.old)) ≡ Ok pictures.new)
+        (range_with_len 0 (length pictures.old)) ≡ Ok pictures.new)
         (λ refusal. each_of (picture_or_missing (all need.now.sprite) need.now)
-            (range_with_len 0 (length pictures.old)) ≡ Err refusal) }
+        (range_with_len 0 (length pictures.old)) ≡ Err refusal) }
 {
     for (k, picture) in pictures.iter_mut().enumerate() {
         *picture = picture_at(index, need, last, k as u8)?;

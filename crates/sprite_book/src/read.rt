@@ -47,7 +47,7 @@ pub fn read_frame<S: Shelf>(
         patches.old patches.new (IsWantedBy dir.now.lumps need.now) (λ frame. frame)
         (λ bytes. frame_of bytes dir.now.lumps need.now) result }
     ensures outline { IfOk result (λ frame. outline_of dir.now.lumps need.now
-            ≡ Ok (outline frame)) }
+        ≡ Ok (outline frame)) }
 {
     let pictures = find_pictures(index, need).map_err(SpriteFault::Refused)?;
     let mut shapes = [NO_SHAPE; ROTATIONS];
@@ -76,7 +76,7 @@ fn fill_shapes<S: Shelf>(
         patches.old patches.new (IsLumpOf pictures.now) (λ _. shapes.new)
         (λ bytes. each_of (shape_of bytes) pictures.now) result }
     ensures outlines { OnOk result (map shape_outline shapes.new
-            ≡ map mention_outline pictures.now) }
+        ≡ map mention_outline pictures.now) }
 {
     for (k, mention) in pictures.iter().enumerate() {
         let patch = read_patch(patches, dir, cache, shelf, mention.lump)?;
@@ -157,7 +157,7 @@ fn fetch_sprite<S: Shelf>(
     ensures bytes { (contents : List (List ℕ)) →
         HoldContents (S.view shelf.old) dir.now cache.old contents →
         OnOk result (bytes_of (lump_owner lump.0) cache.new.blocks
-            ≡ Some (lump_bytes contents dir.now.lumps lump.0)) }
+        ≡ Some (lump_bytes contents dir.now.lumps lump.0)) }
 {
     fetch_live(cache, dir, shelf, lump).map_err(CacheFault::above)
 }

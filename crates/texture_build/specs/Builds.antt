@@ -77,7 +77,7 @@ pub record PutsPatches (number : ℕ) (t : PreparedTexture) (from to : ℕ) (vie
       (λ fault. IfFull (cache_fault fault) (IsFullForPatch dir.lumps number t old))
   pub order : (items : List Item) → HasPatches items dir.lumps t → IsInOrder items old →
       MatchResult result (λ _. KeepsOrder items old new view.taken after.taken)
-          (λ fault. InOrderAt (cache_fault fault) (KeepsOrder items old new view.taken after.taken))
+      (λ fault. InOrderAt (cache_fault fault) (KeepsOrder items old new view.taken after.taken))
   pub put : (contents : List (List ℕ)) → HoldContents view dir old contents →
       HasBuilt (lump_bytes contents dir.lumps) number t from old →
       OnOk result (HasBuilt (lump_bytes contents dir.lumps) number t to new)

@@ -33,7 +33,7 @@ pub record MakesColumnLive (number : ℕ) (t : PreparedTexture) (lookup : Column
   pub composites : (contents : List (List ℕ)) (textures : TexturesView) →
       prepared_at textures.prepared number ≡ Some t → HoldContents view dir old contents →
       AreComposites (lump_bytes contents dir.lumps) textures old →
-          AreComposites (lump_bytes contents dir.lumps) textures new
+      AreComposites (lump_bytes contents dir.lumps) textures new
   pub empty : OnErr result
       (IsComposedColumn lookup → owned_block (composite_owner number) new.blocks ≡ None)
   pub full : IfErr result
@@ -41,4 +41,4 @@ pub record MakesColumnLive (number : ℕ) (t : PreparedTexture) (lookup : Column
   pub order : (items : List Item) → HasColumnAsked items dir.lumps number t lookup →
       IsInOrder items old →
       MatchResult result (λ _. KeepsOrder items old new view.taken after.taken)
-          (λ fault. InOrderAt (cache_fault fault) (KeepsOrder items old new view.taken after.taken))
+      (λ fault. InOrderAt (cache_fault fault) (KeepsOrder items old new view.taken after.taken))

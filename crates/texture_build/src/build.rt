@@ -57,21 +57,21 @@ pub(crate) fn build_composite<S: Shelf>(
     ensures composite { (contents : List (List ℕ)) →
         HoldContents (S.view shelf.old) dir.now cache.old contents →
         OnOk result (bytes_of (composite_owner number) cache.new.blocks
-            ≡ Some (composite_of (lump_bytes contents dir.now.lumps) texture.now)) }
+        ≡ Some (composite_of (lump_bytes contents dir.now.lumps) texture.now)) }
     ensures others { OthersKeep number cache.old cache.new }
     ensures empty { OnErr result (owned_block (composite_owner number) cache.new.blocks ≡ None) }
     ensures full { (place : ℕ) →
         IfErr result (λ fault. IfFull (cache_fault fault)
-            (IsFullForColumn dir.now.lumps number texture.now (Composed place) cache.old)) }
+        (IsFullForColumn dir.now.lumps number texture.now (Composed place) cache.old)) }
     ensures order { (place : ℕ) (items : List Item) →
         HasColumnAsked items dir.now.lumps number texture.now (Composed place) →
         IsInOrder items cache.old →
         MatchResult result
         (λ _. KeepsOrder items cache.old cache.new (S.view shelf.old).taken
-            (S.view shelf.new).taken)
-            (λ fault. InOrderAt (cache_fault fault)
-                (KeepsOrder items cache.old cache.new (S.view shelf.old).taken
-                    (S.view shelf.new).taken)) }
+        (S.view shelf.new).taken)
+        (λ fault. InOrderAt (cache_fault fault)
+        (KeepsOrder items cache.old cache.new (S.view shelf.old).taken
+        (S.view shelf.new).taken)) }
 {
     begin_composite(cache, number, texture.size())?;
     let built = put_patches(texture, number, dir, cache, shelf);

@@ -19,7 +19,7 @@ pub(crate) fn list_lumps(
     textures: &[Option<PreparedTexture>],
 ) -> Result<Vec<LumpNo>, OutOfMemory>
     ensures { IfOk result (λ lumps. map (λ lump. lump.0) lumps.items
-            ≡ patch_lumps textures.now MAX_LUMPS) }
+        ≡ patch_lumps textures.now MAX_LUMPS) }
 {
     let mut marks = no_marks(alloc, MAX_LUMPS as usize)?;
     mark_textures(&mut marks, textures);
@@ -73,7 +73,7 @@ fn mark_patches(marks: &mut [bool], patches: &[PlacedPatch])
     ensures marked { (lump : ℕ) → lump < length marks.old →
         slice_index_or marks.new lump false
         ≡ (slice_index_or marks.old lump false
-            || list_any (λ patch. patch.lump == lump) patches.now) }
+        || list_any (λ patch. patch.lump == lump) patches.now) }
 {
     for patch in patches {
         set_mark(marks, patch.lump);
@@ -84,8 +84,8 @@ fn mark_patches(marks: &mut [bool], patches: &[PlacedPatch])
 fn marked_lumps(alloc: Global, marks: &[bool]) -> Result<Vec<LumpNo>, OutOfMemory>
     requires { length marks.now < 2 ^ 16 }
     ensures { IfOk result (λ lumps. map (λ lump. lump.0) lumps.items
-            ≡ filter (λ k. slice_index_or marks.now k false)
-            (range_with_len 0 (length marks.now))) }
+        ≡ filter (λ k. slice_index_or marks.now k false)
+        (range_with_len 0 (length marks.now))) }
 {
     let mut lumps = Vec::new(alloc);
     for (number, marked) in marks.iter().enumerate() {

@@ -45,12 +45,12 @@ pub(crate) fn place_patches<S: Shelf>(
         cache.new (IsEntryPatch dir.now.lumps lists.now.names entries.now)
         (λ _. record { patches = patches.new.items; columns = columns.new })
         (λ bytes. or_missing tex.0
-            (option_map (patches_part bytes (length columns.old))
-                (placed_patches (last_of dir.now.lumps) bytes lists.now.names entries.now)))
-                result }
+        (option_map (patches_part bytes (length columns.old))
+        (placed_patches (last_of dir.now.lumps) bytes lists.now.names entries.now)))
+        result }
     ensures seen { OnOk result (AreSeen patches.new.items columns.new) }
     ensures there { OnOk result (All (λ patch. patch.lump < length dir.now.lumps)
-            patches.new.items) }
+        patches.new.items) }
     ensures count { length columns.new ≡ length columns.old }
 {
     for entry in entries {
@@ -76,8 +76,8 @@ fn place_entry<S: Shelf>(
         cache.new (λ lump. patch_lump dir.now.lumps lists.now.names entry.now ≡ Some lump)
         (λ patch. record { patch = patch; columns = columns.new })
         (λ bytes. or_missing tex.0
-            (option_map (step_of bytes columns.old)
-                (placed_patch (last_of dir.now.lumps) bytes lists.now.names entry.now))) result }
+        (option_map (step_of bytes columns.old)
+        (placed_patch (last_of dir.now.lumps) bytes lists.now.names entry.now))) result }
     ensures seen { (patches : List PlacedPatch) → AreSeen patches columns.old →
         IfOk result (λ patch. AreSeen (patches ++ patch ∷ []) columns.new) }
     ensures there { IfOk result (λ patch. patch.lump < length dir.now.lumps) }
@@ -119,7 +119,7 @@ fn place_lump<S: Shelf>(
         cache.new (λ number. number ≡ lump.0)
         (λ patch. record { patch = patch; columns = columns.new })
         (λ bytes. or_missing tex.0
-            (option_map (step_of bytes columns.old) (place_lump bytes entry.now lump.0))) result }
+        (option_map (step_of bytes columns.old) (place_lump bytes entry.now lump.0))) result }
     ensures seen { (patches : List PlacedPatch) → AreSeen patches columns.old →
         IfOk result (λ patch. AreSeen (patches ++ patch ∷ []) columns.new) }
     ensures lump { IfOk result (λ patch. patch.lump ≡ lump.0) }
@@ -147,7 +147,7 @@ fn fetch_patch<S: Shelf>(
     ensures bytes { (contents : List (List ℕ)) →
         HoldContents (S.view shelf.old) dir.now cache.old contents →
         OnOk result (bytes_of (lump_owner lump.0) cache.new.blocks
-            ≡ Some (lump_bytes contents dir.now.lumps lump.0)) }
+        ≡ Some (lump_bytes contents dir.now.lumps lump.0)) }
 {
     fetch_live(cache, dir, shelf, lump).map_err(CacheFault::above)
 }
@@ -166,7 +166,7 @@ fn place_live(
         (bytes_of (lump_owner lump.0) cache.now.blocks) }
     ensures columns { IfSome result
         (λ patch. IfSome (bytes_of (lump_owner lump.0) cache.now.blocks)
-            (λ bytes. columns.new ≡ columns_with bytes patch columns.old)) }
+        (λ bytes. columns.new ≡ columns_with bytes patch columns.old)) }
     ensures seen { (patches : List PlacedPatch) → AreSeen patches columns.old →
         IfSome result (λ patch. AreSeen (patches ++ patch ∷ []) columns.new) }
     ensures count { length columns.new ≡ length columns.old }

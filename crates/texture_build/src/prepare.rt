@@ -43,12 +43,12 @@ pub(crate) fn prepare_wanted<S: Shelf>(
         (λ bytes. prepared_textures (last_of dir.now.lumps) bytes lists.now (is_wanted wanted.now))
         result }
     ensures there { IfOk result (λ textures. All (λ t. IfSome t (ArePatchesThere dir.now.lumps))
-            textures) }
+        textures) }
     ensures listed { IfOk result (λ textures. (number : ℕ) →
-            IfSome (prepared_at textures number)
-            (IsListedAs (texture_at lists.now.textures number))) }
+        IfSome (prepared_at textures number)
+        (IsListedAs (texture_at lists.now.textures number))) }
     ensures wanted { IfOk result (λ textures. All (λ tex. IsSome (prepared_at textures tex.0))
-            wanted.now) }
+        wanted.now) }
     ensures count { IfOk result (λ textures. length textures ≡ length lists.now.textures) }
 {
     let marks = mark_wanted(alloc, lists.count(), wanted)?;
@@ -61,7 +61,7 @@ fn mark_wanted(alloc: Global, count: u32, wanted: &[TexNo]) -> Result<Vec<bool>,
     requires { All (λ tex. tex.0 < count) wanted.now }
     ensures count { IfOk result (λ marks. length marks.items ≡ count) }
     ensures marked { IfOk result (λ marks. (number : ℕ) →
-            is_marked marks.items number ≡ is_wanted wanted.now number) }
+        is_marked marks.items number ≡ is_wanted wanted.now number) }
 {
     let mut marks = no_marks(alloc, count as usize)?;
     set_marks(&mut marks, wanted);
@@ -97,10 +97,10 @@ fn prepare_marked<S: Shelf>(
         (λ bytes. prepared_textures (last_of dir.now.lumps) bytes lists.now (is_marked marks.now))
         result }
     ensures there { IfOk result (λ textures. All (λ t. IfSome t (ArePatchesThere dir.now.lumps))
-            textures.items) }
+        textures.items) }
     ensures listed { IfOk result (λ textures. (number : ℕ) →
-            IfSome (prepared_at textures.items number)
-            (IsListedAs (texture_at lists.now.textures number))) }
+        IfSome (prepared_at textures.items number)
+        (IsListedAs (texture_at lists.now.textures number))) }
     ensures marks { IfOk result (λ textures. map is_some textures.items ≡ marks.now) }
 {
     let mut textures = Vec::new(alloc);
@@ -126,14 +126,14 @@ fn prepare_if<S: Shelf>(
     requires below { tex.0 < length lists.now.textures }
     ensures tells { ReadsLumps itself (S.view shelf.old) (S.view shelf.new) dir.now cache.old
         cache.new (λ lump. (wanted ≡ true) ×
-            IsEntryPatch dir.now.lumps lists.now.names (texture_at lists.now.textures tex.0).patches
-            lump) (λ texture. texture)
-            (λ bytes. prepared_if wanted
-                (prepared (last_of dir.now.lumps) bytes lists.now.names tex.0
-                    (texture_at lists.now.textures tex.0))) result }
+        IsEntryPatch dir.now.lumps lists.now.names (texture_at lists.now.textures tex.0).patches
+        lump) (λ texture. texture)
+        (λ bytes. prepared_if wanted
+        (prepared (last_of dir.now.lumps) bytes lists.now.names tex.0
+        (texture_at lists.now.textures tex.0))) result }
     ensures there { IfOk result (λ texture. IfSome texture (ArePatchesThere dir.now.lumps)) }
     ensures listed { IfOk result (λ texture. IfSome texture
-            (IsListedAs (texture_at lists.now.textures tex.0))) }
+        (IsListedAs (texture_at lists.now.textures tex.0))) }
     ensures wanted { IfOk result (λ texture. is_some texture ≡ wanted) }
 {
     if wanted {
@@ -156,9 +156,9 @@ fn prepare_texture<S: Shelf>(
     requires below { tex.0 < length lists.now.textures }
     ensures tells { ReadsLumps itself (S.view shelf.old) (S.view shelf.new) dir.now cache.old
         cache.new (IsEntryPatch dir.now.lumps lists.now.names
-            (texture_at lists.now.textures tex.0).patches) (λ texture. texture)
-            (λ bytes. prepared (last_of dir.now.lumps) bytes lists.now.names tex.0
-                (texture_at lists.now.textures tex.0)) result }
+        (texture_at lists.now.textures tex.0).patches) (λ texture. texture)
+        (λ bytes. prepared (last_of dir.now.lumps) bytes lists.now.names tex.0
+        (texture_at lists.now.textures tex.0)) result }
     ensures there { IfOk result (ArePatchesThere dir.now.lumps) }
     ensures listed { IfOk result (IsListedAs (texture_at lists.now.textures tex.0)) }
 {
@@ -200,11 +200,11 @@ fn bind_texture(
     ensures ok { (bytes : ℕ → List ℕ) →
         columns.items ≡ seen_lookups bytes patches.items (length columns.items) →
         IfOk result (λ texture. unless_too_big bytes tex.0 (texture_at lists.now.textures tex.0)
-            patches.items ≡ Ok texture) }
+        patches.items ≡ Ok texture) }
     ensures err { IfErr result (λ fault. (fault ≡ Refused (TooBig tex.0))
         × ((bytes : ℕ → List ℕ) →
-            unless_too_big bytes tex.0 (texture_at lists.now.textures tex.0) patches.items
-            ≡ Err (TooBig tex.0))) }
+        unless_too_big bytes tex.0 (texture_at lists.now.textures tex.0) patches.items
+        ≡ Err (TooBig tex.0))) }
     ensures patches { IfOk result (λ texture. texture.patches ≡ patches.items) }
     ensures listed { IfOk result (IsListedAs (texture_at lists.now.textures tex.0)) }
 {

@@ -13,8 +13,8 @@ ghost use Rattle.texture_build.specs.Sources.{IsColumnThere, column_in, own_look
 ghost use Rattle.texture_build.specs.Views.{ArePatchesThere};
 
 use art_rules::{ColumnLookup, MAX_COMPOSITE, PlacedPatch};
-use std::marker::Model;
 use patch_columns::place_columns;
+use std::marker::Model;
 
 // A texture with its patches as lumps, and what each of its columns is read from.
 #[derive(Drop)]
@@ -37,8 +37,11 @@ impl Model for PreparedTexture {
 
     ghost Value = { PreparedTexture };
 
-    ghost view = { λ t. record { patches = t.patches.items; height = t.height;
-            columns = t.columns.items } };
+    ghost view = { λ t. record {
+      patches = t.patches.items;
+      height = t.height;
+      columns = t.columns.items;
+    } };
 
     ghost invariant = { λ t.
         AreColumnsOf t.patches.items t.height t.columns.items
@@ -68,8 +71,11 @@ impl PreparedTexture {
         ensures columns { (bytes : ℕ → List ℕ) →
             columns.items ≡ seen_lookups bytes patches.items (length columns.items) →
             IfSome result (λ t. t
-                ≡ record { patches = patches.items; height = height;
-                    columns = column_lookups bytes patches.items (length columns.items) height }) }
+            ≡ record {
+              patches = patches.items;
+              height = height;
+              columns = column_lookups bytes patches.items (length columns.items) height;
+            }) }
         ensures patches { IfSome result (λ t. t.patches ≡ patches.items) }
         ensures listed { IfSome result
             (λ t. (length t.columns ≡ length columns.items) × (t.height ≡ height)) }

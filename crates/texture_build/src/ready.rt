@@ -66,15 +66,15 @@ pub(crate) fn make_ready_at<S: Shelf>(
     ensures empty { OnErr result
         (IsComposedColumn lookup → owned_block (composite_owner number) cache.new.blocks ≡ None) }
     ensures full { IfErr result (λ fault. IfFull (cache_fault fault)
-            (IsFullForColumn dir.now.lumps number texture.now lookup cache.old)) }
+        (IsFullForColumn dir.now.lumps number texture.now lookup cache.old)) }
     ensures order { (items : List Item) →
         HasColumnAsked items dir.now.lumps number texture.now lookup → IsInOrder items cache.old →
         MatchResult result
         (λ _. KeepsOrder items cache.old cache.new (S.view shelf.old).taken
-            (S.view shelf.new).taken)
-            (λ fault. InOrderAt (cache_fault fault)
-                (KeepsOrder items cache.old cache.new (S.view shelf.old).taken
-                    (S.view shelf.new).taken)) }
+        (S.view shelf.new).taken)
+        (λ fault. InOrderAt (cache_fault fault)
+        (KeepsOrder items cache.old cache.new (S.view shelf.old).taken
+        (S.view shelf.new).taken)) }
 {
     match lookup {
         ColumnLookup::Empty => Ok(()),

@@ -81,9 +81,9 @@ fn prepared(alloc: Global, changes: [(usize, u8); 2], tex: TexNo) -> Result<Load
     ensures count { IfOk result (λ l. length l.textures.lists.textures ≡ 3) }
     ensures prepared { IfOk result (λ l. IsPrepared l.textures tex.0) }
     ensures there { IfOk result (λ l. ArePatchesThere l.dir.lumps
-            (prepared_texture l.textures tex.0)) }
+        (prepared_texture l.textures tex.0)) }
     ensures listed { IfOk result (λ l. length (prepared_texture l.textures tex.0).columns
-            ≡ (texture_at l.textures.lists.textures tex.0).width) }
+        ≡ (texture_at l.textures.lists.textures tex.0).width) }
 {
     let mut l = load(alloc, changes)?;
     l.textures

@@ -81,12 +81,12 @@ impl Textures {
         ensures tells { ReadsLumps itself (S.view shelf.old) (S.view shelf.new) dir.now cache.old
             cache.new (IsListLump dir.now.lumps) (λ textures. textures.lists)
             (λ bytes. texture_lists (named_bytes bytes dir.now.lumps PNAMES)
-                (named_bytes bytes dir.now.lumps TEXTURE1)
-                (named_bytes bytes dir.now.lumps TEXTURE2)) result }
+            (named_bytes bytes dir.now.lumps TEXTURE1)
+            (named_bytes bytes dir.now.lumps TEXTURE2)) result }
         ensures few { IfOk result (λ textures. length textures.lists.textures ≤ MAX_TEXTURES) }
         ensures unprepared { IfOk result (λ textures. textures.prepared ≡ []) }
         ensures fits { OnOk result ((lump : ℕ) → IsListLump dir.now.lumps lump →
-                StandsBeside dir.now.lumps cache.old lump) }
+            StandsBeside dir.now.lumps cache.old lump) }
     {
         let lists = ListedTextures::load(alloc, dir, cache, shelf)?;
         Ok(Textures {
@@ -124,7 +124,7 @@ impl Textures {
             cache.new (IsWantedPatch dir.now.lumps self.old.lists (is_wanted wanted.now))
             (λ _. self.new.prepared)
             (λ bytes. prepared_textures (last_of dir.now.lumps) bytes self.old.lists
-                (is_wanted wanted.now)) result }
+            (is_wanted wanted.now)) result }
         ensures lists { self.new.lists ≡ self.old.lists }
         ensures err { OnErr result (self.new.prepared ≡ []) }
         ensures there { AllThere dir.now.lumps self.new }
@@ -338,7 +338,7 @@ impl Textures {
             NameFiles (S.view shelf.old) dir.now.files contents → AllWithin contents dir.now.lumps →
             ResultIs cache_fault (S.view shelf.old).steady (λ done. done) (Ok tt) result }
         ensures live { OnOk result (IsColumnLive tex.0 cache.new
-                (column_in (prepared_texture self.now tex.0) col)) }
+            (column_in (prepared_texture self.now tex.0) col)) }
         ensures there { IsColumnThere dir.now.lumps
             (column_in (prepared_texture self.now tex.0) col) }
         ensures hit { IsColumnLive tex.0 cache.old
@@ -360,20 +360,20 @@ impl Textures {
             AreComposites (lump_bytes contents dir.now.lumps) self.now cache.new }
         ensures empty { OnErr result
             (IsComposedColumn (column_in (prepared_texture self.now tex.0) col) →
-                owned_block (composite_owner tex.0) cache.new.blocks ≡ None) }
+            owned_block (composite_owner tex.0) cache.new.blocks ≡ None) }
         ensures full { IfErr result
             (λ fault. IfFull (cache_fault fault)
-                (IsFullForColumn dir.now.lumps tex.0 (prepared_texture self.now tex.0)
-                    (column_in (prepared_texture self.now tex.0) col) cache.old)) }
+            (IsFullForColumn dir.now.lumps tex.0 (prepared_texture self.now tex.0)
+            (column_in (prepared_texture self.now tex.0) col) cache.old)) }
         ensures order { (items : List Item) →
             HasColumnAsked items dir.now.lumps tex.0 (prepared_texture self.now tex.0)
             (column_in (prepared_texture self.now tex.0) col) → IsInOrder items cache.old →
             MatchResult result
             (λ _. KeepsOrder items cache.old cache.new (S.view shelf.old).taken
-                (S.view shelf.new).taken)
-                (λ fault. InOrderAt (cache_fault fault)
-                    (KeepsOrder items cache.old cache.new (S.view shelf.old).taken
-                        (S.view shelf.new).taken)) }
+            (S.view shelf.new).taken)
+            (λ fault. InOrderAt (cache_fault fault)
+            (KeepsOrder items cache.old cache.new (S.view shelf.old).taken
+            (S.view shelf.new).taken)) }
     {
         self.ready_at(cache, dir, shelf, tex, self.lookup(tex, col))
     }
@@ -419,20 +419,20 @@ impl Textures {
             AreComposites (lump_bytes contents dir.now.lumps) self.now cache.new }
         ensures empty { OnErr result
             (IsComposedColumn lookup →
-                owned_block (composite_owner tex.0) cache.new.blocks ≡ None) }
+            owned_block (composite_owner tex.0) cache.new.blocks ≡ None) }
         ensures full { IfErr result
             (λ fault. IfFull (cache_fault fault)
-                (IsFullForColumn dir.now.lumps tex.0 (prepared_texture self.now tex.0) lookup
-                    cache.old)) }
+            (IsFullForColumn dir.now.lumps tex.0 (prepared_texture self.now tex.0) lookup
+            cache.old)) }
         ensures order { (items : List Item) →
             HasColumnAsked items dir.now.lumps tex.0 (prepared_texture self.now tex.0) lookup →
             IsInOrder items cache.old →
             MatchResult result
             (λ _. KeepsOrder items cache.old cache.new (S.view shelf.old).taken
-                (S.view shelf.new).taken)
-                (λ fault. InOrderAt (cache_fault fault)
-                    (KeepsOrder items cache.old cache.new (S.view shelf.old).taken
-                        (S.view shelf.new).taken)) }
+            (S.view shelf.new).taken)
+            (λ fault. InOrderAt (cache_fault fault)
+            (KeepsOrder items cache.old cache.new (S.view shelf.old).taken
+            (S.view shelf.new).taken)) }
     {
         let texture = self.prepared.texture(tex.0);
         make_ready_at(texture, u32::from(tex.0), lookup, dir, cache, shelf)
@@ -456,11 +456,11 @@ impl Textures {
             AreComposites (lump_bytes contents lumps) self.now cache.now →
             AreTexturesOf contents lumps self.now →
             IfSome result (λ column. (r : ℕ) →
-                byte_at column.bytes (column.first + r)
-                ≡ texel (lump_bytes contents lumps) (prepared_texture self.now tex.0).patches
-                (length (prepared_texture self.now tex.0).columns)
-                (prepared_texture self.now tex.0).height
-                (texture_column (prepared_texture self.now tex.0) col) r) }
+            byte_at column.bytes (column.first + r)
+            ≡ texel (lump_bytes contents lumps) (prepared_texture self.now tex.0).patches
+            (length (prepared_texture self.now tex.0).columns)
+            (prepared_texture self.now tex.0).height
+            (texture_column (prepared_texture self.now tex.0) col) r) }
     {
         self.column_at(cache, tex, self.lookup(tex, col))
     }
@@ -487,10 +487,10 @@ impl Textures {
             AreComposites (lump_bytes contents lumps) self.now cache.now →
             AreTexturesOf contents lumps self.now →
             IfSome result (λ column. (r : ℕ) → byte_at column.bytes (column.first + r)
-                ≡ texel (lump_bytes contents lumps) (prepared_texture self.now tex.0).patches
-                    (length (prepared_texture self.now tex.0).columns)
-                    (prepared_texture self.now tex.0).height
-                    (texture_column (prepared_texture self.now tex.0) col) r) }
+            ≡ texel (lump_bytes contents lumps) (prepared_texture self.now tex.0).patches
+            (length (prepared_texture self.now tex.0).columns)
+            (prepared_texture self.now tex.0).height
+            (texture_column (prepared_texture self.now tex.0) col) r) }
     {
         lend_lookup(lookup, u32::from(tex.0), cache)
     }

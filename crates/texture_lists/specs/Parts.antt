@@ -21,8 +21,11 @@ if_sound (Some number) textures = []
 
 unfoldable pub list_part : List ℕ → ListPart
 list_part bytes =
-    record { count = list_count bytes; wrong = wrong_record bytes;
-        textures = if_sound (wrong_record bytes) (textures_in bytes) }
+    record {
+      count = list_count bytes;
+      wrong = wrong_record bytes;
+      textures = if_sound (wrong_record bytes) (textures_in bytes);
+    }
 
 -- the part of a list that need not be there
 unfoldable pub second_list_part : Option (List ℕ) → ListPart
@@ -41,7 +44,7 @@ second_part before texture2 =
 unfoldable pub joined_parts : ListPart → ListPart → Result (List Texture) TexRefusal
 joined_parts first second =
     unless_wrong (or_else first.wrong (option_map (λ i. first.count + i) second.wrong))
-        (first.textures ++ second.textures)
+    (first.textures ++ second.textures)
 
 -- what a call answers that asks for no lump: only bytes or memory can stop it
 abbrev pub IsOfBytes : {A R : Type 0} → Result A (Fault R) → Type 0

@@ -20,7 +20,7 @@ pub(crate) fn index_textures(
 ) -> Result<BTreeMap<[u8; NAME_SIZE], u16>, OutOfMemory>
     requires { length textures.now ≤ MAX_TEXTURES }
     ensures { IfOk result (λ index. (name : List ℕ) →
-            indexed index name ≡ least_named textures.now name) }
+        indexed index name ≡ least_named textures.now name) }
 {
     let mut index = BTreeMap::new(alloc);
     for (i, texture) in textures.iter().enumerate() {
@@ -36,8 +36,8 @@ fn put_new(
     number: u16,
 ) -> Result<(), OutOfMemory>
     ensures { OnOk result ((q : List ℕ) →
-            indexed index.new q
-            ≡ or_else (indexed index.old q) (if bytes_eq name.now q then Some number else None)) }
+        indexed index.new q
+        ≡ or_else (indexed index.old q) (if bytes_eq name.now q then Some number else None)) }
 {
     if look_up(index, name).is_some() {
         return Ok(());

@@ -76,11 +76,11 @@ impl ListedTextures {
         ensures tells { ReadsLumps itself (S.view shelf.old) (S.view shelf.new) dir.now cache.old
             cache.new (IsListLump dir.now.lumps) (λ lists. lists)
             (λ bytes. texture_lists (named_bytes bytes dir.now.lumps PNAMES)
-                (named_bytes bytes dir.now.lumps TEXTURE1)
-                (named_bytes bytes dir.now.lumps TEXTURE2)) result }
+            (named_bytes bytes dir.now.lumps TEXTURE1)
+            (named_bytes bytes dir.now.lumps TEXTURE2)) result }
         ensures few { IfOk result (λ lists. length lists.textures ≤ MAX_TEXTURES) }
         ensures fits { OnOk result ((lump : ℕ) → IsListLump dir.now.lumps lump →
-                StandsBeside dir.now.lumps cache.old lump) }
+            StandsBeside dir.now.lumps cache.old lump) }
     {
         let names = load_names(alloc, dir, cache, shelf)?;
         let textures = load_both(alloc, dir, cache, shelf)?;
@@ -95,7 +95,7 @@ impl ListedTextures {
     ) -> Result<ListedTextures, OutOfMemory>
         requires { length textures.items ≤ MAX_TEXTURES }
         ensures { IfOk result (λ lists. lists
-                ≡ record { names = names.items; textures = textures.items }) }
+            ≡ record { names = names.items; textures = textures.items }) }
     {
         let index = index_textures(alloc, &textures)?;
         Ok(ListedTextures {

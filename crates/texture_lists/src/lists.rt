@@ -48,7 +48,7 @@ impl ReadList {
         ensures answers { ResultIs itself true (λ textures. textures.items)
             (joined_parts self second) result }
         ensures count { IfOk result (λ textures. length textures.items ≤ length self.textures
-                + length second.textures) }
+            + length second.textures) }
         ensures of_bytes { IsOfBytes result }
     {
         if let Some(number) = self.first_wrong(&second) {
@@ -167,7 +167,7 @@ fn read_sound(
     requires few { list_count bytes.now ≤ MAX_TEXTURES }
     requires wrong { wrong ≡ wrong_record bytes.now }
     ensures textures { IfOk result (λ textures. textures.items
-            ≡ if_sound (wrong_record bytes.now) (textures_in bytes.now)) }
+        ≡ if_sound (wrong_record bytes.now) (textures_in bytes.now)) }
     ensures count { IfOk result (λ textures. length textures.items ≤ list_count bytes.now) }
 {
     match wrong {

@@ -42,7 +42,7 @@ fn fetch_list<S: Shelf>(
     ensures bytes { (contents : List (List ℕ)) →
         HoldContents (S.view shelf.old) dir.now cache.old contents →
         IfOk result (λ lump. live_bytes lump cache.new
-            ≡ named_bytes (lump_bytes contents dir.now.lumps) dir.now.lumps name.now) }
+        ≡ named_bytes (lump_bytes contents dir.now.lumps) dir.now.lumps name.now) }
 {
     fetch_named(cache, dir, shelf, name).map_err(CacheFault::above)
 }
@@ -59,7 +59,7 @@ pub(crate) fn load_names<S: Shelf>(
         cache.new (IsLast dir.now.lumps PNAMES) (λ names. names.items)
         (λ bytes. patch_names (named_bytes bytes dir.now.lumps PNAMES)) result }
     ensures fits { OnOk result ((lump : ℕ) → IsLast dir.now.lumps PNAMES lump →
-            StandsBeside dir.now.lumps cache.old lump) }
+        StandsBeside dir.now.lumps cache.old lump) }
 {
     let lump = fetch_list(cache, dir, shelf, &Name8::from_bytes(PNAMES))?;
     patch_names(alloc, live_bytes(cache, lump))
@@ -77,7 +77,7 @@ fn load_first<S: Shelf>(
         cache.new (IsLast dir.now.lumps TEXTURE1) (λ part. part)
         (λ bytes. first_part (named_bytes bytes dir.now.lumps TEXTURE1)) result }
     ensures fits { OnOk result ((lump : ℕ) → IsLast dir.now.lumps TEXTURE1 lump →
-            StandsBeside dir.now.lumps cache.old lump) }
+        StandsBeside dir.now.lumps cache.old lump) }
     ensures few { IfOk result (λ part. part.count ≤ MAX_TEXTURES) }
     ensures count { IfOk result (λ part. length part.textures ≤ part.count) }
 {
@@ -99,7 +99,7 @@ fn load_second<S: Shelf>(
         cache.new (IsLast dir.now.lumps TEXTURE2) (λ part. part)
         (λ bytes. second_part before (named_bytes bytes dir.now.lumps TEXTURE2)) result }
     ensures fits { OnOk result ((lump : ℕ) → IsLast dir.now.lumps TEXTURE2 lump →
-            StandsBeside dir.now.lumps cache.old lump) }
+        StandsBeside dir.now.lumps cache.old lump) }
     ensures few { IfOk result (λ part. before + part.count ≤ MAX_TEXTURES) }
     ensures count { IfOk result (λ part. length part.textures ≤ part.count) }
 {
@@ -118,9 +118,9 @@ pub(crate) fn load_both<S: Shelf>(
     ensures tells { ReadsLumps itself (S.view shelf.old) (S.view shelf.new) dir.now cache.old
         cache.new (IsTextureLump dir.now.lumps) (λ textures. textures.items)
         (λ bytes. both_lists (named_bytes bytes dir.now.lumps TEXTURE1)
-            (named_bytes bytes dir.now.lumps TEXTURE2)) result }
+        (named_bytes bytes dir.now.lumps TEXTURE2)) result }
     ensures fits { OnOk result ((lump : ℕ) → IsTextureLump dir.now.lumps lump →
-            StandsBeside dir.now.lumps cache.old lump) }
+        StandsBeside dir.now.lumps cache.old lump) }
     ensures few { IfOk result (λ textures. length textures.items ≤ MAX_TEXTURES) }
 {
     let first = load_first(alloc, dir, cache, shelf)?;

@@ -29,8 +29,12 @@ impl Model for ListedTexture {
 
     ghost Value = { Texture };
 
-    ghost view = { λ t. record { name = t.name; width = t.width; height = t.height;
-            patches = t.patches.items } };
+    ghost view = { λ t. record {
+      name = t.name;
+      width = t.width;
+      height = t.height;
+      patches = t.patches.items;
+    } };
 
     ghost invariant = { λ t. (0 < t.width) × (t.mask ≡ mask_of t.width) };
 }
@@ -122,7 +126,7 @@ fn read_entries(
 ) -> Result<Vec<TextureEntry>, OutOfMemory>
     requires { place < 2 ^ 33 }
     ensures { IfOk result (λ entries. entries.items
-            ≡ listed (λ i. entry_at bytes.now (place + ENTRY_SIZE * i)) count) }
+        ≡ listed (λ i. entry_at bytes.now (place + ENTRY_SIZE * i)) count) }
 {
     let mut entries = Vec::with_capacity(alloc, count as usize)?;
     for i in 0..count as u64 {
