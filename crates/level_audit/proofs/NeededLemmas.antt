@@ -178,5 +178,5 @@ pub enough_after : {w : ShelfView} (dir : DirectoryView) (a b : Heap) (contents 
 enough_after dir a b contents lines name skill scene colormap (Ok sound) is accepted told rest size full = tt
 enough_after dir a b contents lines name skill scene colormap (Err fault) is accepted told rest size full =
     full_at (itself fault) (λ wanted widest' k.
-    small_later (lump_bytes contents dir.lumps) dir.lumps lines name skill scene accepted colormap is a.size wanted k.lump (k.asked contents told) k.full.wanted_is
-    (subst (λ n. n < block_size (lump_at dir.lumps colormap).size + wanted + MIN_FRAGMENT) size (k.full.room colormap (lump_at dir.lumps colormap).size rest))) full
+    small_later (lump_bytes contents dir.lumps) dir.lumps lines name skill scene accepted colormap is a.size wanted k.lump (k.asked contents told) k.wanted_is
+    (subst (λ n. n < block_size (lump_at dir.lumps colormap).size + wanted + MIN_FRAGMENT) size (k.room colormap (lump_at dir.lumps colormap).size rest))) full

@@ -31,7 +31,7 @@ module _ (bytes : ℕ → List ℕ) (lumps : List Lump) (g : LevelBase) (faces :
     -- the scene
     pub scene_over-sound : (book : List Frame) → from_below Sprite (book_in bytes lumps placed) ≡ Ok book →
         from_below Scene (checked placed (bad_middle (texture_by prepared) g.level.segs faces.sides)) ≡ Ok tt →
-        scene_over bytes lumps g faces placed prepared ≡ Ok (record { base = g; faces = faces; prepared = prepared; placed = placed; book = book})
+        scene_over bytes lumps g faces placed prepared ≡ Ok (record { base = g; faces = faces; prepared = prepared; placed = placed; book = book })
     unfolding scene_over
     scene_over-sound book e f = rw (e, f) refl
 
@@ -47,7 +47,7 @@ module _ (bytes : ℕ → List ℕ) (lumps : List Lump) (g : LevelBase) (faces :
         lists ≡ g.lists → placed ≡ placed_things g.level lines skill → scene_with bytes lumps lines skill g faces ≡ scene_over bytes lumps (record g { lists = lists }) faces placed prepared
     unfolding scene_with
     scene_with-more prepared lists placed e same are =
-        ap (λ r. given_palette palette (and_then r (scene_over bytes lumps g faces (placed_things g.level lines skill)))) e
+        ap (λ r. and_then r (scene_over bytes lumps g faces (placed_things g.level lines skill))) e
         ∙ ap (λ (l : TextureLists). scene_over bytes lumps (record g { lists = l }) faces (placed_things g.level lines skill) prepared) (sym same)
         ∙ ap (λ (p : List Placed). scene_over bytes lumps (record g { lists = lists }) faces p prepared) (sym are)
 
