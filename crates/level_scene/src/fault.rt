@@ -2,7 +2,7 @@
 ghost use Rattle.std.specs.Prelude.{◌≡◌};
 ghost use Rattle.outside.specs.Faults.{IsAboveBy};
 ghost use Rattle.level_scene.specs.Faults.{map_fault, scene_fault};
-ghost use Rattle.level_scene.specs.declared.fault.SceneFault.TheVariants.{OutOfMemory};
+ghost use Rattle.level_scene.specs.declared.fault.SceneFault.TheVariants.{OutOfMemory, Refused};
 
 use map_lumps::{MapFault, MapRefusal};
 use outside::Fault;
@@ -43,6 +43,14 @@ impl SceneFault {
             SceneFault::Refused(refusal) => Fault::Refused(lift(refusal)),
             SceneFault::OutOfMemory => Fault::OutOfMemory,
         }
+    }
+}
+
+impl From<SceneRefusal> for SceneFault {
+    ghost from_gives = { λ refusal fault. fault ≡ Refused refusal };
+
+    fn from(refusal: SceneRefusal) -> Self {
+        SceneFault::Refused(refusal)
     }
 }
 

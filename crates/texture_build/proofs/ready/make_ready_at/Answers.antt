@@ -1,3 +1,4 @@
+use Rattle.lump_cache.proofs.FetchLemmas.{fetch_no_room, fetch_room}
 use Rattle.std.proofs.Common.{sym, subst}
 use Rattle.std.specs.Prelude.{IfErr}
 use Rattle.lump_cache.specs.Caches.{cache_fault}
@@ -12,7 +13,7 @@ use Rattle.texture_build.proofs.ready.make_ready_at.Goals as goal
 pub returns-in-Single-clause-full : goal.returns-in-Single-clause-full
 returns-in-Single-clause-full g c =
     subst (λ (lookup : ColumnLookup). IfErr c.fetch.result (λ fault. IfFull (cache_fault fault) (IsFullForColumn c.args.dir.now.lumps c.args.number c.args.texture.now lookup c.args.cache.now))) (sym c.in-Single.is)
-    (single_full c.args.dir.now.lumps c.args.number c.args.texture.now c.in-Single.lump c.in-Single.place c.args.cache.now c.fetch.result c.fetch.ensures.full c.fetch.ensures.room)
+    (single_full c.args.dir.now.lumps c.args.number c.args.texture.now c.in-Single.lump c.in-Single.place c.args.cache.now c.fetch.result (fetch_no_room c.fetch.ensures.fetches) (fetch_room c.fetch.ensures.fetches))
 
 pub returns-in-Composed : goal.returns-in-Composed
 returns-in-Composed g c =
