@@ -6,16 +6,18 @@ use std::test::Fail;
 fn a_refusal_says_where_the_file_is_wrong(rt: HostRuntime) -> Result<(), Fail> {
     let alloc = rt.alloc();
     let list = TexRefusal::Lump { which: 2 };
+    let line = format!(in alloc; "{list}")?;
     assert_eq!(rt;
-        format!(in alloc; "{list}")?,
+        line.as_str(),
         "TEXTURE2 is absent or short, or textures pass 32767"
     );
     let rotation = SpriteRefusal::MissingRotation {
         thing: 7,
         rotation: 3,
     };
+    let line = format!(in alloc; "{rotation}")?;
     assert_eq!(rt;
-        format!(in alloc; "{rotation}")?,
+        line.as_str(),
         "thing 7: no lump shows its sprite frame from rotation 3"
     );
     Ok(())

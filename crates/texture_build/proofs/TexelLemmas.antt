@@ -18,7 +18,7 @@ use Rattle.art_rules.specs.Lookups.{column_lookup, masked_column, texel_by}
 use Rattle.art_rules.specs.Wanted.{PreparedTexture}
 use Rattle.art_rules.proofs.LookupLemmas.{texel_by-texel, column_lookups-read}
 use Rattle.texture_build.specs.Composites.{AreComposites, composite_of}
-use Rattle.texture_build.specs.Sources.{ColumnView, IsColumnThere, column_from, column_in, column_view, texture_column}
+use Rattle.texture_build.specs.Sources.{ColumnView, IsColumnThere, column_from, column_in, column_view, column_index}
 use Rattle.texture_build.specs.Views.{AreTexturesOf, ArePatchesThere, TexturesView, prepared_at, unprepared}
 use Rattle.texture_build.proofs.ColumnLemmas.{lookup_there}
 use Rattle.texture_build.proofs.ViewLemmas.{HasColumns, textures_columns}
@@ -52,9 +52,9 @@ module _ (contents : List (List ℕ)) (lumps : List Lump) (number : ℕ) (t : Pr
   lent_by (Composed place) there faithful built = lent (bytes_of (composite_owner number) z.blocks) (composite_of its t) place (λ r. byte_at (composite_of its t) (place + r)) (λ r. refl) built
 
   lent_texels : (col : ℤ) → HasColumns its t → ArePatchesThere lumps t → IsFaithful contents lumps z → IfSome (bytes_of (composite_owner number) z.blocks) (λ xs. xs ≡ composite_of its t) →
-      IfSome (column_view number z (column_in t col)) (λ column. (r : ℕ) → byte_at column.bytes (column.first + r) ≡ texel its t.patches (length t.columns) t.height (texture_column t col) r)
+      IfSome (column_view number z (column_in t col)) (λ column. (r : ℕ) → byte_at column.bytes (column.first + r) ≡ texel its t.patches (length t.columns) t.height (column_index t col) r)
   lent_texels col has there faithful built =
-      let x = texture_column t col in
+      let x = column_index t col in
       let within = own_within (length t.columns) col has.some in
       let is : column_in t col ≡ column_lookup its t.patches t.height x = ap (λ (xs : List ColumnLookup). slice_index_or xs x Empty) has.are ∙ column_lookups-read its t.patches (length t.columns) t.height x Empty within in
       let by = lent_by (column_lookup its t.patches t.height x) (lookup_there lumps its t.patches t.height x there) faithful built in
@@ -73,7 +73,7 @@ prepared_is (Some t) some = refl
 
 -- a faithful cache whose composites are these textures' lends each column's texels
 pub texels_lent : (contents : List (List ℕ)) (lumps : List Lump) (textures : TexturesView) (number : ℕ) (t : PreparedTexture) (z : Heap) (col : ℤ) → prepared_at textures.prepared number ≡ Some t → ArePatchesThere lumps t → IsFaithful contents lumps z → AreComposites (lump_bytes contents lumps) textures z → AreTexturesOf contents lumps textures →
-    IfSome (column_view number z (column_in t col)) (λ column. (r : ℕ) → byte_at column.bytes (column.first + r) ≡ texel (lump_bytes contents lumps) t.patches (length t.columns) t.height (texture_column t col) r)
+    IfSome (column_view number z (column_in t col)) (λ column. (r : ℕ) → byte_at column.bytes (column.first + r) ≡ texel (lump_bytes contents lumps) t.patches (length t.columns) t.height (column_index t col) r)
 texels_lent contents lumps textures number t z col is there faithful composites are =
     lent_texels contents lumps number t z col (textures_columns contents lumps textures number t are is) there faithful
     (subst (λ (prepared : Option PreparedTexture). IfSome prepared (λ u. IfSome (bytes_of (composite_owner number) z.blocks) (λ xs. xs ≡ composite_of (lump_bytes contents lumps) u))) is (composites.at number))

@@ -17,11 +17,11 @@ abbrev pub own_lookup : PreparedTexture → ℕ → ColumnLookup
 own_lookup t x = slice_index_or t.columns x Empty
 
 -- which column of a prepared texture a texture column stands for, and what it is read from
-abbrev pub texture_column : PreparedTexture → ℤ → ℕ
-texture_column t column = masked_column (mask_of (length t.columns)) column
+abbrev pub column_index : PreparedTexture → ℤ → ℕ
+column_index t column = masked_column (mask_of (length t.columns)) column
 
 abbrev pub column_in : PreparedTexture → ℤ → ColumnLookup
-column_in t column = own_lookup t (texture_column t column)
+column_in t column = own_lookup t (column_index t column)
 
 -- whose bytes it has, in the texture of that number
 unfoldable pub source_of : ℕ → ColumnLookup → ColumnSource

@@ -1,7 +1,7 @@
 // The lumps of the patches of prepared textures.
 //
 // Rules: `art_rules`, Wanted.
-ghost use Rattle.std.specs.Prelude.{◌≡◌, ◌<◌, ◌≤◌, ◌==◌, ◌||◌, ◌^◌, false, true, ℕ, length, filter, map, IfOk, slice_index_or, slice_set};
+ghost use Rattle.std.specs.Prelude.{◌≡◌, ◌<◌, ◌==◌, ◌||◌, ◌^◌, false, true, ℕ, length, filter, map, IfOk, slice_index_or, slice_set};
 ghost use Rattle.std.specs.List.{list_any, range_with_len};
 ghost use Rattle.art_rules.specs.Wanted.{is_patch_of, is_patch_of_any, patch_lumps};
 

@@ -21,7 +21,7 @@ ghost use Rattle.art_rules.specs.Wanted.{patch_lumps, prepared_textures};
 ghost use Rattle.texture_lists.specs.Asked.{IsListLump};
 ghost use Rattle.texture_build.specs.Asked.{HasColumnAsked, IsFullForColumn, IsWantedPatch, size_of};
 ghost use Rattle.texture_build.specs.Composites.{AreComposites};
-ghost use Rattle.texture_build.specs.Sources.{IsColumnLive, IsColumnThere, IsComposedColumn, column_in, column_view, own_lookup, source_of, texture_column};
+ghost use Rattle.texture_build.specs.Sources.{IsColumnLive, IsColumnThere, IsComposedColumn, column_in, column_view, own_lookup, source_of, column_index};
 ghost use Rattle.texture_build.specs.Views.{AllTexturesListed, AllThere, AreTexturesOf, ArePatchesThere, IsPrepared, is_wanted, prepared_at, prepared_texture};
 
 use crate::column::{Column, lend_lookup};
@@ -460,7 +460,7 @@ impl Textures {
             ≡ texel (lump_bytes contents lumps) (prepared_texture self.now tex.0).patches
             (length (prepared_texture self.now tex.0).columns)
             (prepared_texture self.now tex.0).height
-            (texture_column (prepared_texture self.now tex.0) col) r) }
+            (column_index (prepared_texture self.now tex.0) col) r) }
     {
         self.column_at(cache, tex, self.lookup(tex, col))
     }
@@ -490,7 +490,7 @@ impl Textures {
             ≡ texel (lump_bytes contents lumps) (prepared_texture self.now tex.0).patches
             (length (prepared_texture self.now tex.0).columns)
             (prepared_texture self.now tex.0).height
-            (texture_column (prepared_texture self.now tex.0) col) r) }
+            (column_index (prepared_texture self.now tex.0) col) r) }
     {
         lend_lookup(lookup, u32::from(tex.0), cache)
     }
