@@ -17,8 +17,8 @@ pub use crate::fault::{CsvFault, CsvRefusal};
 pub use crate::path::{PathRow, PathTable};
 pub use crate::records::MAX_TABLE_BYTES;
 pub use crate::things::ThingTable;
-pub use level_rules::{ThingLine, ThingRow};
 pub use crate::weapons::{WeaponRow, WeaponTable};
+pub use level_rules::{ThingLine, ThingRow};
 
 #[cfg(test)]
 mod tests;

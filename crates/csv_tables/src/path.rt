@@ -8,7 +8,7 @@ ghost use Rattle.csv_tables.specs.Paths.{HasLightInRange, light_column, path_in,
 
 use crate::columns::{natural_column, place_column};
 use crate::fault::{CsvFault, CsvRefusal};
-use crate::records::{is_header, checked_shape, table_records};
+use crate::records::{checked_shape, is_header, table_records};
 use csv::ByteRecord;
 use std::alloc::Global;
 use std::marker::Model;

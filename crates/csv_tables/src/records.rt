@@ -22,7 +22,8 @@ pub(crate) fn table_records(
     limit: usize,
 ) -> Result<Vec<ByteRecord>, CsvFault>
     ensures whole { IfOk result (λ v. table_records bytes.now ≡ Ok (csv_records bytes.now)) }
-    ensures records { IfOk result (λ v. map fields_of v.items ≡ take limit (csv_records bytes.now)) }
+    ensures records { IfOk result (λ v.
+        map fields_of v.items ≡ take limit (csv_records bytes.now)) }
     ensures refused { (r : CsvRefusal) → result ≡ Err (CsvFault.Refused r) →
         table_records bytes.now ≡ Err r }
 {

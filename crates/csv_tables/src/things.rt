@@ -9,7 +9,7 @@ ghost use Rattle.csv_tables.specs.Slots.{AreNumbersOf, numbered_row};
 
 use crate::columns::{flag_column, frame_column, natural_column, sprite_field};
 use crate::fault::{CsvFault, CsvRefusal};
-use crate::records::{is_header, checked_shape, table_records};
+use crate::records::{checked_shape, is_header, table_records};
 use csv::ByteRecord;
 use level_rules::{ThingLine, ThingRow};
 use std::alloc::{AllocError, Global};
@@ -45,7 +45,7 @@ impl Model for ThingTable {
     ghost use Rattle.level_rules.specs.declared.ThingLine.{ThingLine};
     ghost use Rattle.csv_tables.specs.Things.{IsLineInRange};
     ghost use Rattle.level_rules.specs.Types.{row_of};
-ghost use Rattle.csv_tables.specs.Slots.{AreNumbersOf};
+    ghost use Rattle.csv_tables.specs.Slots.{AreNumbersOf};
 
     ghost Value = { List ThingLine };
 

@@ -8,7 +8,7 @@ ghost use Rattle.csv_tables.specs.Weapons.{IsWeaponInRange, weapon_of, weapon_ro
 
 use crate::columns::{flag_column, frame_column, natural_column, place_column, sprite_field};
 use crate::fault::{CsvFault, CsvRefusal};
-use crate::records::{is_header, checked_shape, table_records};
+use crate::records::{checked_shape, is_header, table_records};
 use csv::ByteRecord;
 use std::alloc::Global;
 use std::marker::Model;

@@ -4,7 +4,7 @@ ghost use Rattle.made_rules.specs.Bytes.{records};
 ghost use Rattle.made_rules.specs.Maps.{thing_bytes, line_flags, line_bytes, side_bytes, middle_name, inner_name, has_grate, wall_name, vertex_bytes, seg_bytes, leaf_bytes};
 
 use crate::bytes::{put_half, put_halves};
-use crate::cells::{made_column, corner, edge_angle, is_inner, next_edge, made_row, side_across};
+use crate::cells::{corner, edge_angle, is_inner, made_column, made_row, next_edge, side_across};
 use made_rules::{CELL_SIZE, EDGES, LEVEL_THING, ONE_SIDED, THING_OPTIONS, TWO_SIDED};
 use std::alloc::{AllocError, Global};
 

@@ -116,7 +116,8 @@ fn put_post(lump: &mut Vec<u8>, seed: u8, x: u32, post: Post) -> Result<(), Allo
 #[tactic(auto, using(made_rules::proofs::BytesLemmas::listing_behind))]
 fn put_texels(lump: &mut Vec<u8>, seed: u8, x: u32, top: u8, length: u8) -> Result<(), AllocError>
     requires { x < 2 ^ 16 }
-    ensures { OnOk result (lump.new.items ≡ lump.old.items ++ listed (made_texel seed x top) length) }
+    ensures { OnOk result (lump.new.items ≡ lump.old.items ++ listed (made_texel seed x top)
+        length) }
 {
     for k in 0..length {
         lump.push(made_texel(seed, x, top, k))?;

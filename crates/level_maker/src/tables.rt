@@ -8,8 +8,8 @@ ghost use Rattle.made_rules.specs.Tables.{made_angle, sine_bytes, tangent_bytes,
 
 use crate::bytes::put_word;
 use made_rules::{SINES, SLOPE_STEP, SLOPES, TANGENTS};
-use view_rules::{HALF_STEPS, HALF_TURN, ONE, QUARTER};
 use std::alloc::{AllocError, Global};
+use view_rules::{HALF_STEPS, HALF_TURN, ONE, QUARTER};
 use word_rules::FINE_SHIFT;
 
 const FIVE_SQUARES: u64 = 5 * (HALF_STEPS as u64) * (HALF_STEPS as u64);

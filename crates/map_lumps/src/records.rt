@@ -3,7 +3,7 @@ ghost use Rattle.std.specs.Prelude.{◌≡◌, ◌<◌, ◌≤◌, ◌+◌, ◌*
 ghost use Rattle.map_rules.specs.Fields.{record_at, records_in};
 ghost use Rattle.map_rules.specs.Records.{box_at, child_at, child_of, leaf_in, line_at, line_in, node_in, sector_in, seg_in, side_in, thing_in, vertex_in};
 
-use crate::fields::{angle_field, fixed_at, name_field, signed_half_at, half_at};
+use crate::fields::{angle_field, fixed_at, half_at, name_field, signed_half_at};
 use level_rules::{Box4, Child, Node, Partition4, Sector, Side, Thing};
 use map_rules::layout::*;
 use map_rules::{LEAF_BIT, MAX_RECORDS, MapLeaf, MapLine, MapSeg, MapVertex};

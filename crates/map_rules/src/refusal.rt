@@ -47,8 +47,7 @@ pub enum MapRefusal {
 }
 
 // The name of the map lump of a number.
-fn lump_name(lump: u64) -> &'static str
-{
+fn lump_name(lump: u64) -> &'static str {
     match lump {
         0 => "THINGS",
         1 => "LINEDEFS",

@@ -78,7 +78,7 @@ fn place_of(files: &[MemoryFile], name: &str) -> Option<usize>
     ensures first { result ≡ first_named name.now files.now }
     ensures named { MatchOption result (file_named name.now files.now ≡ None)
         (λ place. IsSome (file_named name.now files.now) ×
-            (file_at files.now place ≡ file_named name.now files.now)) }
+        (file_at files.now place ≡ file_named name.now files.now)) }
 {
     position_of(files, name)
 }

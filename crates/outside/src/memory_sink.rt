@@ -67,7 +67,12 @@ impl MemorySink {
         failing: Vec<PutFault>,
     ) -> Result<MemorySink, OutOfMemory>
         ensures { IfOk result (λ sink.
-            sink ≡ record { bytes = []; room = room; failing = failing.items; calls = 0; faults = 0
+            sink ≡ record {
+              bytes = [];
+              room = room;
+              failing = failing.items;
+              calls = 0;
+              faults = 0;
             }) }
     {
         Ok(MemorySink {

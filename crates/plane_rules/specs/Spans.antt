@@ -4,13 +4,13 @@ use Rattle.view_rules.specs.declared.TheConstants.{FRAME_WIDTH}
 use Rattle.walk_rules.specs.Covered.{fragments}
 use Rattle.plane_rules.specs.Planes.{Plane, column}
 
--- the run holds_row row y
+-- the run holds row y
 unfoldable pub holds_row : Option (ℕ × ℕ) → ℕ → Bool
 holds_row None y = false
 holds_row (Some r) y = nat_le r.0 y && nat_le y r.1
 
-unfoldable pub holds_row : Plane → ℕ → ℕ → Bool
-holds_row p y x = holds_row (column p x) y
+unfoldable pub holds : Plane → ℕ → ℕ → Bool
+holds p y x = holds_row (column p x) y
 
 -- the least column from which on every column to x passes, x itself taken as passing
 unfoldable pub span_start : (ℕ → Bool) → ℕ → ℕ

@@ -86,7 +86,8 @@ fn first_gap<'a>(ranges: &'a [Range], at: u16, last: u16) -> (u16, &'a [Range], 
     requires within { last < MAX_WIDTH }
     requires open { IsTrue (is_open at last ranges.now) }
     requires apart { IsTrue (are_apart 0 MAX_WIDTH ranges.now) }
-    ensures range_gaps { range_gaps at last ranges.now ≡ (at, result.0) ∷ range_gaps result.2 last result.1.now }
+    ensures range_gaps { range_gaps at last ranges.now ≡ (at, result.0) ∷ range_gaps result.2 last
+        result.1.now }
     ensures apart { IsTrue (are_apart 0 MAX_WIDTH result.1.now) }
 {
     match ranges.first() {

@@ -9,8 +9,8 @@ use Rattle.word_rules.specs.Listed.{listed}
 use Rattle.word_rules.proofs.ListedLemmas.{length-listed, get_or-listed, listed-all}
 use Rattle.view_rules.specs.declared.TheConstants.{FRAME_WIDTH, FRAME_HEIGHT}
 use Rattle.plane_rules.specs.declared.PlaneKey.{PlaneKey}
-use Rattle.plane_rules.specs.Planes.{Plane, empty_plane, is_column_free, with_run, column}
-use Rattle.plane_rules.specs.Spans.{holds_row, holds_row}
+use Rattle.plane_rules.specs.Planes.{Plane, empty_plane, is_free, with_run, column}
+use Rattle.plane_rules.specs.Spans.{holds_row, holds}
 use Rattle.visplanes.specs.declared.columns.TheConstants.{NO_RUN}
 use Rattle.visplanes.specs.Columns.{run_at, runs_of, plane_of, IsKept, HasRun}
 
@@ -42,12 +42,12 @@ pub column-past : (key : PlaneKey) (tops bottoms : List ℕ) (x : ℕ) → FRAME
 unfolding column
 column-past key tops bottoms x l = get_or_past (runs_of tops bottoms) x None (omega (arith, length-runs_of tops bottoms))
 
-pub holds-none : (p : Plane) (y x : ℕ) → column p x ≡ None → holds_row p y x ≡ false
-unfolding holds_row holds_row
+pub holds-none : (p : Plane) (y x : ℕ) → column p x ≡ None → holds p y x ≡ false
+unfolding holds holds_row
 holds-none p y x e = rw e refl
 
--- a column that holds_row a row is one of the marked ones
-marked_from : (key : PlaneKey) (tops bottoms : List ℕ) (first last x y : ℕ) → IsKept tops bottoms first last → holds_row (plane_of key tops bottoms) y x ≡ true → x < FRAME_WIDTH → (first ≤ x) × (x ≤ last)
+-- a column that holds a row is one of the marked ones
+marked_from : (key : PlaneKey) (tops bottoms : List ℕ) (first last x y : ℕ) → IsKept tops bottoms first last → holds (plane_of key tops bottoms) y x ≡ true → x < FRAME_WIDTH → (first ≤ x) × (x ≤ last)
 marked_from key tops bottoms first last x y k h l =
     elim (cases_lt x first) [
       | inl a ↦ (let n = holds-none (plane_of key tops bottoms) y x (column-kept key tops bottoms x l ∙ run_at-none tops bottoms x (k.before x l a)) in absurd (cc))
@@ -57,7 +57,7 @@ marked_from key tops bottoms first last x y k h l =
       ]
     ]
 
-pub kept-marked : (key : PlaneKey) (tops bottoms : List ℕ) (first last x y : ℕ) → IsKept tops bottoms first last → holds_row (plane_of key tops bottoms) y x ≡ true → (first ≤ x) × (x ≤ last)
+pub kept-marked : (key : PlaneKey) (tops bottoms : List ℕ) (first last x y : ℕ) → IsKept tops bottoms first last → holds (plane_of key tops bottoms) y x ≡ true → (first ≤ x) × (x ≤ last)
 kept-marked key tops bottoms first last x y k h =
     elim (cases_lt x FRAME_WIDTH) [
       | inl l ↦ marked_from key tops bottoms first last x y k h l
@@ -65,13 +65,13 @@ kept-marked key tops bottoms first last x y k h =
     ]
 
 -- and it is in a frame, as the row is
-row_of_run : (p : Plane) (x y : ℕ) (r : ℕ × ℕ) → column p x ≡ Some r → holds_row p y x ≡ true → y ≤ r.1
-unfolding holds_row holds_row
+row_of_run : (p : Plane) (x y : ℕ) (r : ℕ × ℕ) → column p x ≡ Some r → holds p y x ≡ true → y ≤ r.1
+unfolding holds holds_row
 row_of_run p x y r e h =
     let a : (nat_le r.0 y && nat_le y r.1) ≡ true = ap (λ (o : Option (ℕ × ℕ)). holds_row o y) (sym e) ∙ h in
     leb-true y r.1 (and_parts (nat_le r.0 y) (nat_le y r.1) a).1
 
-frame_row : (key : PlaneKey) (tops bottoms : List ℕ) (first last x y : ℕ) → IsKept tops bottoms first last → holds_row (plane_of key tops bottoms) y x ≡ true → x < FRAME_WIDTH → y < FRAME_HEIGHT
+frame_row : (key : PlaneKey) (tops bottoms : List ℕ) (first last x y : ℕ) → IsKept tops bottoms first last → holds (plane_of key tops bottoms) y x ≡ true → x < FRAME_WIDTH → y < FRAME_HEIGHT
 frame_row key tops bottoms first last x y k h l =
     elim (cases_eq (slice_index tops x) NO_RUN) [
       | inl e ↦ (let n = holds-none (plane_of key tops bottoms) y x (column-kept key tops bottoms x l ∙ run_at-none tops bottoms x e) in absurd (cc))
@@ -80,7 +80,7 @@ frame_row key tops bottoms first last x y k h l =
           omega (arith, a, k.rows x l))
     ]
 
-pub kept-frame : (key : PlaneKey) (tops bottoms : List ℕ) (first last x y : ℕ) → IsKept tops bottoms first last → holds_row (plane_of key tops bottoms) y x ≡ true → (x < FRAME_WIDTH) × (y < FRAME_HEIGHT)
+pub kept-frame : (key : PlaneKey) (tops bottoms : List ℕ) (first last x y : ℕ) → IsKept tops bottoms first last → holds (plane_of key tops bottoms) y x ≡ true → (x < FRAME_WIDTH) × (y < FRAME_HEIGHT)
 kept-frame key tops bottoms first last x y k h =
     elim (cases_lt x FRAME_WIDTH) [
       | inl l ↦ (l, frame_row key tops bottoms first last x y k h l)
@@ -223,14 +223,14 @@ part_at rs first last k l = get_or-take (last + 1 - first) (drop first rs) k Non
 length_part : (rs : List (Option (ℕ × ℕ))) (first last : ℕ) → last < length rs → length (slice_range rs first (last + 1)) ≡ last + 1 - first
 length_part rs first last l = length-take (last + 1 - first) (drop first rs) ∙ (let d = length-drop first rs in omega arith)
 
-pub is_free-true : (rs : List (Option (ℕ × ℕ))) (first last : ℕ) → last < length rs → ((x : ℕ) → first ≤ x → x ≤ last → get_or rs x None ≡ None) → is_column_free rs first last ≡ true
-unfolding is_column_free
+pub is_free-true : (rs : List (Option (ℕ × ℕ))) (first last : ℕ) → last < length rs → ((x : ℕ) → first ≤ x → x ≤ last → get_or rs x None ≡ None) → is_free rs first last ≡ true
+unfolding is_free
 is_free-true rs first last l h =
     all_none (slice_range rs first (last + 1))
     (λ k m. (let n : k < last + 1 - first = omega (arith, length_part rs first last l) in part_at rs first last k n ∙ h (first + k) (omega arith) (omega arith)))
 
-pub is_free-false : (rs : List (Option (ℕ × ℕ))) (first last x : ℕ) (r : ℕ × ℕ) → last < length rs → first ≤ x → x ≤ last → get_or rs x None ≡ Some r → is_column_free rs first last ≡ false
-unfolding is_column_free
+pub is_free-false : (rs : List (Option (ℕ × ℕ))) (first last x : ℕ) (r : ℕ × ℕ) → last < length rs → first ≤ x → x ≤ last → get_or rs x None ≡ Some r → is_free rs first last ≡ false
+unfolding is_free
 is_free-false rs first last x r l m n e =
     let k : x - first < last + 1 - first = omega arith in
     let i : first + (x - first) ≡ x = omega arith in
@@ -252,13 +252,13 @@ free_within tops bottoms least greatest first last x k l h a b =
     ])
 
 pub kept-free : (tops bottoms : List ℕ) (least greatest first last : ℕ) → IsKept tops bottoms least greatest → last < FRAME_WIDTH →
-    ((x : ℕ) → max first least ≤ x → x ≤ min last greatest → slice_index tops x ≡ NO_RUN) → is_column_free (runs_of tops bottoms) first last ≡ true
+    ((x : ℕ) → max first least ≤ x → x ≤ min last greatest → slice_index tops x ≡ NO_RUN) → is_free (runs_of tops bottoms) first last ≡ true
 kept-free tops bottoms least greatest first last k l h =
     is_free-true (runs_of tops bottoms) first last (omega (arith, length-runs_of tops bottoms))
     (λ x a b. free_within tops bottoms least greatest first last x k l h a b)
 
 pub kept-taken : (tops bottoms : List ℕ) (least greatest first last : ℕ) → last < FRAME_WIDTH →
-    HasRun tops (max first least) (min last greatest) → is_column_free (runs_of tops bottoms) first last ≡ false
+    HasRun tops (max first least) (min last greatest) → is_free (runs_of tops bottoms) first last ≡ false
 unfolding runs_of
 kept-taken tops bottoms least greatest first last l r =
     let a : first ≤ r.x = omega (arith, r.from) in

@@ -1,8 +1,8 @@
 // The columns of a plane.
 ghost use Rattle.std.specs.Prelude.{◌≡◌, ℕ, ◌+◌, ◌<◌, ◌≤◌, ◌↔◌, IfSome, None, true, false, length, slice_index};
 ghost use Rattle.view_rules.specs.declared.TheConstants.{FRAME_WIDTH, FRAME_HEIGHT};
-ghost use Rattle.plane_rules.specs.Planes.{empty_plane, is_column_free, with_run, column};
-ghost use Rattle.plane_rules.specs.Spans.{holds_row};
+ghost use Rattle.plane_rules.specs.Planes.{empty_plane, is_free, with_run, column};
+ghost use Rattle.plane_rules.specs.Spans.{holds};
 ghost use Rattle.visplanes.specs.Columns.{HasRun};
 
 use plane_rules::PlaneKey;
@@ -72,17 +72,17 @@ impl Visplane {
     /// The key.
     pub fn key(&self) -> PlaneKey
         ensures value { result ≡ self.now.key }
-        ensures frame { (x y : ℕ) → holds_row self.now y x ≡ true →
+        ensures frame { (x y : ℕ) → holds self.now y x ≡ true →
             (x < FRAME_WIDTH) × (y < FRAME_HEIGHT) }
     {
         self.key
     }
 
     /// Whether no column from `first` to `last` is marked.
-    pub fn is_column_free(&self, first: u16, last: u16) -> bool
+    pub fn is_free(&self, first: u16, last: u16) -> bool
         requires ordered { first ≤ last }
         requires within { last < FRAME_WIDTH }
-        ensures { result ≡ is_column_free self.now.runs first last }
+        ensures { result ≡ is_free self.now.runs first last }
     {
         are_unmarked(&self.tops, first.max(self.first), last.min(self.last))
     }
@@ -119,7 +119,7 @@ impl Visplane {
 
     /// The least and the greatest marked column; the first is the greater where none is marked.
     pub fn marked(&self) -> (u16, u16)
-        ensures pixels { (x y : ℕ) → holds_row self.now y x ≡ true → (result.0 ≤ x) × (x ≤ result.1) }
+        ensures pixels { (x y : ℕ) → holds self.now y x ≡ true → (result.0 ≤ x) × (x ≤ result.1) }
         ensures first { result.0 ≤ FRAME_WIDTH }
         ensures last { result.1 < FRAME_WIDTH }
         ensures wide { length self.now.runs ≡ FRAME_WIDTH }

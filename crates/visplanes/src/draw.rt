@@ -5,7 +5,7 @@ ghost use Rattle.pixel_rules.specs.declared.TheConstants.{PLANE};
 ghost use Rattle.pixel_rules.specs.Art.{Art, lump_source, painter_of};
 ghost use Rattle.plane_rules.specs.declared.Flat4.{Flat4};
 ghost use Rattle.plane_rules.specs.Keys.{is_sky_key};
-ghost use Rattle.plane_rules.specs.Spans.{holds_row, span_start};
+ghost use Rattle.plane_rules.specs.Spans.{holds, span_start};
 ghost use Rattle.plane_rules.specs.Skies.{plane_dots};
 ghost use Rattle.pixel_strips.specs.Canvases.{with_painter, with_dots};
 ghost use Rattle.visplanes.specs.Planes.{plane_at, flat_lump};

@@ -3,7 +3,7 @@ ghost use Rattle.std.specs.Prelude.{◌≡◌, ℕ, ◌+◌, ◌<◌, ◌≤◌,
 ghost use Rattle.view_rules.specs.declared.TheConstants.{FRAME_WIDTH, FRAME_HEIGHT};
 ghost use Rattle.plane_rules.specs.declared.TheConstants.{MOST_VISPLANES};
 ghost use Rattle.plane_rules.specs.Planes.{find, check, mark, add, column, number_of, AreWide};
-ghost use Rattle.plane_rules.specs.Spans.{holds_row, row_runs};
+ghost use Rattle.plane_rules.specs.Spans.{holds, row_runs};
 ghost use Rattle.visplanes.specs.Planes.{PlanesView, with_planes, plane_at};
 
 use crate::columns::Visplane;
@@ -183,7 +183,7 @@ impl Planes {
     pub fn key(&self, plane: PlaneNo) -> PlaneKey
         requires { plane.0 < length self.now.planes }
         ensures value { result ≡ (plane_at self.now.planes plane.0).key }
-        ensures frame { (x y : ℕ) → holds_row (plane_at self.now.planes plane.0) y x ≡ true →
+        ensures frame { (x y : ℕ) → holds (plane_at self.now.planes plane.0) y x ≡ true →
             (x < FRAME_WIDTH) × (y < FRAME_HEIGHT) }
     {
         self.visplane(plane).key()

@@ -72,7 +72,7 @@ impl Directory {
         ensures answers { (contents : List (List ℕ)) →
             NameFiles (S.view shelf.old) files.now contents →
             ResultIs dir_fault (S.view shelf.old).steady (λ dir.
-                dir.lumps) (directory contents) result }
+            dir.lumps) (directory contents) result }
         ensures files { IfOk result (λ dir. dir.files ≡ files.now) }
         ensures within { (contents : List (List ℕ)) →
             NameFiles (S.view shelf.old) files.now contents →
@@ -86,7 +86,7 @@ impl Directory {
             (S.view shelf.new).taken ≤ (S.view shelf.old).taken + listing_sizes contents }
         ensures taken_by_count { IfOk result (λ dir.
             (S.view shelf.new).taken ≤ (S.view shelf.old).taken +
-                (HEADER_SIZE * length dir.files + ENTRY_SIZE * length dir.lumps)) }
+            (HEADER_SIZE * length dir.files + ENTRY_SIZE * length dir.lumps)) }
     {
         let list = read_lumps(alloc, shelf, files)?;
         Ok(Directory::new(alloc, files, list)?)

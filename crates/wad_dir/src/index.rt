@@ -62,7 +62,7 @@ fn index_of(
     requires marks { length marked.now ≡ length lumps.now }
     ensures { IfOk result (λ index. (name : List ℕ) →
         indexed index name ≡ greatest (λ number.
-            get_or marked.now number false && has_name lumps.now name number) (length lumps.now)) }
+        get_or marked.now number false && has_name lumps.now name number) (length lumps.now)) }
 {
     let mut index = BTreeMap::new(alloc);
     for (i, lump) in lumps.iter().enumerate() {

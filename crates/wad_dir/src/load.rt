@@ -22,7 +22,7 @@ pub fn read_lumps<S: Shelf>(
 ) -> Result<Vec<Lump>, DirFault>
     ensures answers { (contents : List (List ℕ)) → NameFiles (S.view shelf.old) files.now contents →
         ResultIs dir_fault (S.view shelf.old).steady (λ lumps.
-            lumps.items) (directory contents) result }
+        lumps.items) (directory contents) result }
     ensures few { IfOk result (λ lumps. length lumps.items ≤ MAX_LUMPS) }
     ensures owned { IfOk result (λ lumps. All (λ lump. lump.file < length files.now) lumps.items) }
     ensures follows { IsLaterShelf (S.view shelf.old) (S.view shelf.new) }
@@ -32,7 +32,7 @@ pub fn read_lumps<S: Shelf>(
         (S.view shelf.new).taken ≤ (S.view shelf.old).taken + listing_sizes contents }
     ensures taken_by_count { IfOk result (λ lumps.
         (S.view shelf.new).taken ≤ (S.view shelf.old).taken +
-            (HEADER_SIZE * length files.now + ENTRY_SIZE * length lumps.items)) }
+        (HEADER_SIZE * length files.now + ENTRY_SIZE * length lumps.items)) }
 {
     let mut lumps = Vec::new(alloc);
     for (i, file) in files.iter().enumerate() {
@@ -53,8 +53,8 @@ fn read_file<S: Shelf>(
     requires { before ≤ MAX_LUMPS }
     ensures answers { (bytes : List ℕ) → Stands (S.view shelf.old) file.0 bytes →
         ResultIs dir_fault (S.view shelf.old).steady (λ lumps.
-            lumps.items) (unless_refused (file_refusal number before bytes)
-            (file_lumps number bytes)) result }
+        lumps.items) (unless_refused (file_refusal number before bytes)
+        (file_lumps number bytes)) result }
     ensures few { IfOk result (λ lumps. before + length lumps.items ≤ MAX_LUMPS) }
     ensures owned { IfOk result (λ lumps. All (λ lump. lump.file ≡ number) lumps.items) }
     ensures follows { IsLaterShelf (S.view shelf.old) (S.view shelf.new) }
@@ -64,7 +64,7 @@ fn read_file<S: Shelf>(
         (S.view shelf.new).taken ≤ (S.view shelf.old).taken + listing_size bytes }
     ensures taken_by_count { IfOk result (λ lumps.
         (S.view shelf.new).taken ≤ (S.view shelf.old).taken +
-            (HEADER_SIZE + ENTRY_SIZE * length lumps.items)) }
+        (HEADER_SIZE + ENTRY_SIZE * length lumps.items)) }
 {
     let head = read_header(shelf, number, before, file)?;
     let size = ENTRY_SIZE * head.count as usize;
@@ -82,8 +82,8 @@ fn read_header<S: Shelf>(
     requires { before ≤ MAX_LUMPS }
     ensures answers { (bytes : List ℕ) → Stands (S.view shelf.old) file.0 bytes →
         ResultIs dir_fault (S.view shelf.old).steady (λ head.
-            head) (unless_refused (header_refusal number before bytes)
-            (header_in (length bytes) (header bytes))) result }
+        head) (unless_refused (header_refusal number before bytes)
+        (header_in (length bytes) (header bytes))) result }
     ensures within { IfOk result (λ head. head.place + ENTRY_SIZE * head.count ≤ head.size) }
     ensures few { IfOk result (λ head. before + head.count ≤ MAX_LUMPS) }
     ensures follows { IsLaterShelf (S.view shelf.old) (S.view shelf.new) }
@@ -143,7 +143,7 @@ fn read_piece<S: Shelf>(
     ensures answers { (bytes : List ℕ) → Stands (S.view shelf.old) file.0 bytes →
         place + size ≤ length bytes →
         ResultIs dir_fault (S.view shelf.old).steady (λ piece.
-            piece.items) (Ok (take size (drop place bytes))) result }
+        piece.items) (Ok (take size (drop place bytes))) result }
     ensures size { IfOk result (λ piece. length piece.items ≡ size) }
     ensures follows { IsLaterShelf (S.view shelf.old) (S.view shelf.new) }
     ensures causes { HasCauses dir_fault (S.view shelf.old).faults (S.view shelf.new).faults
@@ -160,7 +160,7 @@ fn lumps_of(alloc: Global, number: u64, head: Header, entries: &[u8]) -> Result<
     requires { length entries.now ≡ ENTRY_SIZE * head.count }
     ensures answers { let lumps = lumps_in number head.count entries.now in
         ResultIs dir_fault true (λ found.
-            found.items) (unless_refused (entry_refusal number head.size lumps) lumps) result }
+        found.items) (unless_refused (entry_refusal number head.size lumps) lumps) result }
     ensures count { IfOk result (λ lumps. length lumps.items ≡ head.count) }
     ensures owned { IfOk result (λ lumps. All (λ lump. lump.file ≡ number) lumps.items) }
     ensures causes { (before now : ℕ) → HasCauses dir_fault before now result }
