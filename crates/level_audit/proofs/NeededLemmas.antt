@@ -25,7 +25,8 @@ use Rattle.art_rules.specs.declared.TheConstants.{PNAMES, TEXTURE1, TEXTURE2}
 use Rattle.art_rules.specs.Wanted.{is_patch_of_any}
 use Rattle.texture_lists.specs.Asked.{IsListLump}
 use Rattle.level_audit.proofs.MarkLemmas.{any_passed}
-use Rattle.level_audit.specs.declared.fault.AuditFault.{AuditFault}
+use Rattle.outside.specs.declared.fault.Fault.{Fault}
+use Rattle.scene_rules.specs.declared.refusal.AuditRefusal.{AuditRefusal}
 use Rattle.scene_rules.specs.Scenes.{Faces, LevelBase, SceneValue, art_of, book_in, colormap_of, scene_in, sizes_of}
 use Rattle.scene_rules.specs.Sides.{is_wanted_texture}
 use Rattle.scene_rules.specs.Sizes.{SceneArt, enough, greatest_by, is_last, is_list, is_map_lump, is_needed, lump_block, needed_lumps, zone_sizes}
@@ -173,7 +174,7 @@ module _ (bytes : ℕ → List ℕ) (lumps : List Lump) (lines : List ThingLine)
       omega (arith, l, same, enough_beside lumps scene wanted block)
 
 -- no room for a later lump, from a zone at rest
-pub enough_after : {w : ShelfView} (dir : DirectoryView) (a b : Heap) (contents : List (List ℕ)) (lines : List ThingLine) (name : List ℕ) (skill : ℕ) (scene : SceneValue) (colormap : ℕ) (result : Result SoundValue AuditFault) → colormap_of dir.lumps ≡ Ok colormap → scene_in (lump_bytes contents dir.lumps) dir.lumps lines name skill ≡ Ok scene → HoldContents w dir b contents →
+pub enough_after : {w : ShelfView} (dir : DirectoryView) (a b : Heap) (contents : List (List ℕ)) (lines : List ThingLine) (name : List ℕ) (skill : ℕ) (scene : SceneValue) (colormap : ℕ) (result : Result SoundValue (Fault AuditRefusal)) → colormap_of dir.lumps ≡ Ok colormap → scene_in (lump_bytes contents dir.lumps) dir.lumps lines name skill ≡ Ok scene → HoldContents w dir b contents →
     IsAtRest colormap (lump_at dir.lumps colormap).size b → b.size ≡ a.size → IfErr result (λ f. IfFull (itself f) (IsFullFor (IsReadLater w dir b lines name skill) dir b)) → IfErr result (λ f. IfFull (itself f) (λ wanted widest'. a.size < (sizes_of dir.lumps scene).enough))
 enough_after dir a b contents lines name skill scene colormap (Ok sound) is accepted told rest size full = tt
 enough_after dir a b contents lines name skill scene colormap (Err fault) is accepted told rest size full =

@@ -1,7 +1,7 @@
 -- What is told of a part that reads no lump.
 use Rattle.std.proofs.Common.{◌≡◌, ℕ, true, List, Option, Result, Ok, Err, refl, sym, ap, ◌∙◌, subst}
 use Rattle.outside.specs.Shelf.{ShelfView}
-use Rattle.outside.specs.Faults.{IsAboveBy, ResultIs, fault_above, from_below, itself}
+use Rattle.outside.specs.Faults.{ResultIs, fault_above, from_below, itself}
 use Rattle.zone_rules.specs.Zones.{Heap}
 use Rattle.wad_dir.specs.DirectoryView.{DirectoryView}
 use Rattle.lump_cache.specs.Calls.{ReadsLumps}
@@ -22,17 +22,17 @@ use Rattle.scene_rules.specs.Scenes.{checked, faces_in, texture_by}
 use Rattle.level_audit.specs.Faults.{above_scene}
 use Rattle.std.proofs.lemmas.Result.{err_from_is_err_and}
 use Rattle.outside.specs.declared.fault.Fault.{Fault}
-use Rattle.outside.proofs.ThroughLemmas.{IsThrough, above_is}
+use Rattle.outside.proofs.ThroughLemmas.{IsThrough}
 use Rattle.level_audit.specs.declared.names.ReadFaces.{ReadFaces}
 use Rattle.level_audit.specs.Scenes.{faces_of}
 
--- a call of a layer below whose refusal is named here (`fault.above`)
-through_above : {B R Q : Type 0} (lift : R → Q) (one : Result B (Fault R)) (result : Result B (Fault Q)) → IsThrough (λ e f. IsAboveBy (λ refusal named. named ≡ lift refusal) e f) one result → result ≡ result_above (fault_above lift) one
+-- a call of a layer below whose refusal is named here
+through_above : {B R Q : Type 0} (lift : R → Q) (one : Result B (Fault R)) (result : Result B (Fault Q)) → IsThrough (λ e f. f ≡ fault_above lift e) one result → result ≡ result_above (fault_above lift) one
 through_above lift (Ok x) result is = is
-through_above lift (Err e) result is = let s = err_from_is_err_and result is in s.1 ∙ ap Err (above_is lift e s.0 s.2)
+through_above lift (Err e) result is = let s = err_from_is_err_and result is in s.1 ∙ ap Err s.2
 
 pub above_reads : {A B R Q : Type 0} {v w : ShelfView} {dir : DirectoryView} {a b : Heap} {wants : ℕ → Type 0} {value : B → A} {expected : (ℕ → List ℕ) → Result A R} (lift : R → Q) (one : Result B (Fault R)) (result : Result B (Fault Q)) →
-    IsThrough (λ e f. IsAboveBy (λ refusal named. named ≡ lift refusal) e f) one result → ReadsLumps itself v w dir a b wants value expected one → ReadsLumps itself v w dir a b wants value (λ bytes. from_below lift (expected bytes)) result
+    IsThrough (λ e f. f ≡ fault_above lift e) one result → ReadsLumps itself v w dir a b wants value expected one → ReadsLumps itself v w dir a b wants value (λ bytes. from_below lift (expected bytes)) result
 above_reads {v} {w} {dir} {a} {b} {wants} {value} {expected} lift one result is reads =
     subst (λ r. ReadsLumps itself v w dir a b wants value (λ bytes. from_below lift (expected bytes)) r) (sym (through_above lift one result is)) (reads_above lift (fault_above lift) (λ fault. refl) one reads)
 

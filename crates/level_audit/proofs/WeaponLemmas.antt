@@ -6,18 +6,17 @@ use Rattle.lump_rules.specs.declared.wad.Lump.{Lump}
 use Rattle.zone_rules.specs.Zones.{Heap}
 use Rattle.wad_dir.specs.DirectoryView.{DirectoryView}
 use Rattle.lump_cache.specs.Calls.{ReadsLumps}
-use Rattle.lump_cache.proofs.CallLemmas.{fault_above, reads_above, reads_wider}
+use Rattle.lump_cache.proofs.CallLemmas.{result_above, reads_above, reads_wider}
 use Rattle.csv_tables.specs.declared.weapons.WeaponRow.{WeaponRow}
+use Rattle.outside.specs.declared.fault.Fault.{Fault}
 use Rattle.art_rules.specs.declared.refusal.SpriteRefusal.{SpriteRefusal}
-use Rattle.sprite_book.specs.declared.fault.SpriteFault.{SpriteFault}
-use Rattle.sprite_book.specs.declared.fault.SpriteFault.TheVariants.{Refused, ReadFault, ZoneFull, OutOfMemory}
 use Rattle.art_rules.specs.declared.shapes.Frame.{Frame}
 use Rattle.art_rules.specs.declared.shapes.Need.{Need}
 use Rattle.art_rules.specs.Books.{each_of, first_needs, frame_of}
 use Rattle.sprite_book.specs.Calls.{IsWanted}
 use Rattle.scene_rules.specs.declared.refusal.AuditRefusal.{AuditRefusal}
 use Rattle.scene_rules.specs.declared.refusal.AuditRefusal.TheVariants.{WeaponArt}
-use Rattle.level_audit.specs.Weapons.{need_of_row, needs_from, weapon_book, weapon_fault, weapon_needs, weapon_refusal}
+use Rattle.level_audit.specs.Weapons.{need_of_row, needs_from, weapon_art, weapon_book, weapon_fault, weapon_needs, weapon_refusal}
 
 -- the needs of one row more
 needs_more : (number : ℕ) (rows : List WeaponRow) (i : ℕ) (d : WeaponRow) → i < length rows → needs_from number (take (i + 1) rows) ≡ needs_from number (take i rows) ++ need_of_row (i + number) (get_or rows i d) ∷ []
@@ -40,17 +39,6 @@ unfolding weapon_needs
 needs_step rows i d before after need l is at then =
     then ∙ ap (λ (needs : List Need). needs ++ need ∷ []) is ∙ ap (λ (n : Need). needs_from 1 (take i rows) ++ n ∷ []) at ∙ sym (needs_more 1 rows i d l)
 
--- a refusal of the book is one of the weapons' art
-abbrev pub weapon_art : SpriteRefusal → AuditRefusal
-weapon_art refusal = WeaponArt (weapon_refusal refusal)
-
--- what a fault tells
-pub weapon_told : (fault : SpriteFault) → itself (weapon_fault fault) ≡ fault_above weapon_art (itself fault)
-weapon_told (Refused refusal) = refl
-weapon_told ReadFault = refl
-weapon_told (ZoneFull wanted widest) = refl
-weapon_told OutOfMemory = refl
-
 -- refusals of two layers below
 below_twice : {A P Q R : Type 0} (f : Q → R) (g : P → Q) (result : Result A P) → from_below (λ e. f (g e)) result ≡ from_below f (from_below g result)
 below_twice f g (Ok found) = refl
@@ -65,9 +53,9 @@ book_above bytes lumps rows needs same =
     ∙ below_twice WeaponArt weapon_refusal (each_of (frame_of bytes lumps) (first_needs (weapon_needs rows)))
 
 -- what is told of the book, in the words of an audit
-pub weapons_above : {v w : ShelfView} {dir : DirectoryView} {a b : Heap} (rows : List WeaponRow) (needs : List Need) (result : Result (List Frame) SpriteFault) → needs ≡ weapon_needs rows →
+pub weapons_above : {v w : ShelfView} {dir : DirectoryView} {a b : Heap} (rows : List WeaponRow) (needs : List Need) (result : Result (List Frame) (Fault SpriteRefusal)) → needs ≡ weapon_needs rows →
     ReadsLumps itself v w dir a b (IsWanted dir.lumps needs) (λ book. book) (λ bytes. each_of (frame_of bytes dir.lumps) (first_needs needs)) result →
-    ReadsLumps itself v w dir a b (IsWanted dir.lumps (weapon_needs rows)) (λ book. book) (λ bytes. from_below WeaponArt (weapon_book bytes dir.lumps rows)) (fault_above weapon_fault result)
+    ReadsLumps itself v w dir a b (IsWanted dir.lumps (weapon_needs rows)) (λ book. book) (λ bytes. from_below WeaponArt (weapon_book bytes dir.lumps rows)) (result_above weapon_fault result)
 weapons_above {dir} rows needs result same told =
-    reads_wider (fault_above weapon_fault result) (λ lump wanted. subst (λ (xs : List Need). IsWanted dir.lumps xs lump) same wanted) (λ bytes. book_above bytes dir.lumps rows needs same)
-    (reads_above weapon_art weapon_fault weapon_told result told)
+    reads_wider (result_above weapon_fault result) (λ lump wanted. subst (λ (xs : List Need). IsWanted dir.lumps xs lump) same wanted) (λ bytes. book_above bytes dir.lumps rows needs same)
+    (reads_above weapon_art weapon_fault (λ fault. refl) result told)

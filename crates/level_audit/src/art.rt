@@ -16,7 +16,8 @@ ghost use Rattle.scene_rules.specs.Places.{need_of};
 ghost use Rattle.scene_rules.specs.Scenes.{book_in};
 ghost use Rattle.scene_rules.specs.Sides.{is_wanted_texture};
 
-use crate::{AuditFault, AuditRefusal};
+use crate::AuditFault;
+use crate::fault::{above_sprites, above_textures};
 use level_rules::SideTextures;
 use level_scene::{PlacedThings, wanted_textures};
 use lump_cache::LumpCache;
@@ -46,7 +47,7 @@ pub(crate) fn prepare_faces<S: Shelf>(
     let wanted = wanted_textures(alloc, sides, sky)?;
     textures
         .prepare(alloc, &wanted, dir, cache, shelf)
-        .map_err(|fault| fault.above(AuditRefusal::Texture))
+        .map_err(above_textures)
 }
 
 // Reads the pictures of the frames that placed things need.
@@ -62,5 +63,5 @@ pub(crate) fn read_book<S: Shelf>(
 {
     let needs = placed.needs(alloc)?;
     SpriteBook::load(alloc, &needs, dir, cache, shelf)
-        .map_err(|fault| fault.above(AuditRefusal::Sprite))
+        .map_err(above_sprites)
 }

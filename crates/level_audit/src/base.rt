@@ -18,6 +18,7 @@ ghost use Rattle.level_audit.specs.Bases.{base_of};
 
 use crate::{AuditFault, AuditRefusal};
 use crate::colours::{find_playpal, read_palette};
+use crate::fault::{above_level, above_textures};
 use level_scene::{Level, read_level};
 use lump_cache::LumpCache;
 use lump_rules::Name8;
@@ -149,7 +150,7 @@ fn read_labelled<S: Shelf>(
     ensures fits { IfOk result (λ map. (lump : ℕ) → is_map_lump map.0.0 lump ≡ true →
         StandsBeside dir.now.lumps cache.old lump) }
 {
-    read_level(alloc, name, dir, cache, shelf).map_err(|fault| fault.above(AuditRefusal::Map))
+    read_level(alloc, name, dir, cache, shelf).map_err(above_level)
 }
 
 // The lists of textures, none of which is prepared, with the faults of an audit.
@@ -168,5 +169,5 @@ fn load_lists<S: Shelf>(
     ensures few { IfOk result (λ textures. length textures.lists.textures ≤ MAX_TEXTURES) }
     ensures unprepared { IfOk result (λ textures. textures.prepared ≡ []) }
 {
-    Textures::load(alloc, dir, cache, shelf).map_err(|fault| fault.above(AuditRefusal::Texture))
+    Textures::load(alloc, dir, cache, shelf).map_err(above_textures)
 }

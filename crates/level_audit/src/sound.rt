@@ -168,7 +168,7 @@ impl SoundScene {
 
     /// The first 768 bytes of PLAYPAL: red, green and blue of 256 colours.
     pub fn palette(&self) -> &[u8]
-        ensures { result.now ≡ self.now.scene.palette }
+        ensures { result.now ≡ self.now.scene.base.palette }
     {
         &self.scene.base.palette
     }

@@ -2,6 +2,7 @@ use Rattle.std.proofs.Common.{Ok, ap, inl, inr, refl, sym, ◌∙◌}
 use Rattle.scene_rules.specs.declared.refusal.AuditRefusal.TheVariants.{Art}
 use Rattle.outside.specs.declared.fault.Fault.TheVariants.{Refused}
 use Rattle.lump_cache.proofs.CallLemmas.{reads_refused, reads_then}
+use Rattle.std.proofs.lemmas.Result.{IfOk-weaker}
 use Rattle.lump_cache.proofs.SizeLemmas.{either_beside}
 use Rattle.scene_rules.specs.Scenes.{base_in}
 use Rattle.level_audit.proofs.BaseLemmas.{base-stop, base-more, playpal_beside}
@@ -26,6 +27,6 @@ returns-clause-tells g c =
 
 pub returns-clause-fits : goal.returns-clause-fits
 returns-clause-fits g c =
-    either_beside c.in_ok-palette.ensures.tells.keeps
-    (playpal_beside c.args.dir.now.lumps c.args.cache.now c.in-Ok.playpal.0 c.in-Ok.ensures.lump c.in_ok-palette.ensures.fits)
+    IfOk-weaker c.read_map.result _ _ (λ base beside. either_beside c.in_ok-palette.ensures.tells.keeps
+    (playpal_beside c.args.dir.now.lumps c.args.cache.now c.in-Ok.playpal.0 c.in-Ok.ensures.lump c.in_ok-palette.ensures.fits) beside)
     c.read_map.ensures.fits

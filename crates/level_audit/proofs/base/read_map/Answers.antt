@@ -1,8 +1,10 @@
-use Rattle.std.proofs.Common.{Ok, ap, inl, inr}
+use Rattle.std.proofs.Common.{ℕ, Ok, ap, inl, inr}
 use Rattle.outside.specs.Faults.{and_then}
 use Rattle.lump_cache.proofs.CallLemmas.{reads_as, reads_stop_first, reads_then}
 use Rattle.lump_cache.proofs.SizeLemmas.{either_beside}
+use Rattle.map_rules.specs.Levels.{LevelValue}
 use Rattle.scene_rules.specs.Scenes.{base_over}
+use Rattle.level_audit.specs.declared.base.ReadBase.{ReadBase}
 use Rattle.level_audit.proofs.BaseLemmas.{base_over-stop, base_over-more, map_beside, then_lists, with_colours}
 use Rattle.level_audit.proofs.base.read_map.Goals as goal
 
@@ -20,7 +22,7 @@ returns-in_err-textures-clause-tells g c =
     let lumps = c.args.dir.now.lumps in
     let name = c.args.name.now in
     let colours = c.args.colours in
-    let map = (c.in_ok-label.label.0, c.in_ok-label.level) in
+    let map : ℕ × LevelValue = (c.in_ok-label.label.0, c.in_ok-label.level) in
     reads_then (λ bytes. base_over bytes lumps name colours.colormap.0 colours.playpal.0 colours.palette.items) c.from_residual-in_err-textures.result
     c.in_ok-label.ensures.tells
     (reads_stop_first (λ bytes. then_lists bytes lumps colours.colormap.0 colours.playpal.0 colours.palette.items map) c.load_lists.result c.in_err-textures.field-0.0 c.from_residual-in_err-textures.result
@@ -33,9 +35,9 @@ returns-clause-tells g c =
     let lumps = c.args.dir.now.lumps in
     let name = c.args.name.now in
     let colours = c.args.colours in
-    let map = (c.in_ok-label.label.0, c.in_ok-label.level) in
+    let map : ℕ × LevelValue = (c.in_ok-label.label.0, c.in_ok-label.level) in
     let textures = c.in_ok-textures.textures in
-    let base = record { colormap = colours.colormap; playpal = colours.playpal; palette = colours.palette; label = c.in_ok-label.label; level = c.in_ok-label.level; textures = textures } in
+    let base : ReadBase = record { colormap = colours.colormap; playpal = colours.playpal; palette = colours.palette; label = c.in_ok-label.label; level = c.in_ok-label.level; textures = textures } in
     reads_then (λ bytes. base_over bytes lumps name colours.colormap.0 colours.playpal.0 colours.palette.items) (Ok base)
     c.in_ok-label.ensures.tells
     (reads_as textures base c.in_ok-textures.ensures.tells

@@ -29,7 +29,7 @@ returns-in-Err-clause-tells g c =
     let faces = faces_of c.args.faces in
     let prepared = c.args.base.textures.prepared in
     let fault = above_scene c.in-Err.fault in
-    let expected = λ (bytes : ℕ → List ℕ). given_palette palette (scene_over bytes dir.lumps stands faces c.args.placed prepared) in
+    let expected = λ (bytes : ℕ → List ℕ). scene_over bytes dir.lumps stands faces c.args.placed prepared in
     reads_same (Err c.above_scene.result) fault expected c.above_scene.ensures
     (reads_stop expected fault c.in_ok-book.ensures.tells (Err fault)
     (checks_told (g.S.Shelf.view c.read_book.new.shelf) dir c.read_book.new.cache (IsWanted dir.lumps (map need_of c.args.placed)) c.args.placed prepared stands.level.segs c.segs.result.now faces.sides c.deref.result.now (Err c.in-Err.fault)
