@@ -2,10 +2,10 @@
 use Rattle.std.proofs.Common.{◌≡◌, ◌<◌, ◌≤◌, ℕ, List, Option, Some, None, Result, Ok, Err, IfSome, refl, arith, ap, ◌∙◌}
 use Rattle.outside.specs.Shelf.{File}
 use Rattle.outside.specs.Faults.{and_then, from_below}
-use Rattle.command_line.specs.Commands.{Told, command_of}
-use Rattle.command_line.specs.Scenes.{ToldScene}
-use Rattle.command_line.specs.declared.command.SceneJob.{SceneJob}
-use Rattle.command_line.specs.declared.command.SceneJob.TheVariants.{Render, Audit, Limits, Trim, Trace}
+use Rattle.command_line.specs.Commands.{CommandValue, command_of}
+use Rattle.command_line.specs.LevelJobs.{LevelJobValue}
+use Rattle.command_line.specs.declared.command.LevelTask.{LevelTask}
+use Rattle.command_line.specs.declared.command.LevelTask.TheVariants.{Render, Audit, Limits, Trim, Trace}
 use Rattle.scene_load.specs.Stops as files
 use Rattle.scene_load.specs.Stops.{no_file}
 use Rattle.refusals.specs.declared.refusal.Refusal.{Refusal}
@@ -21,7 +21,7 @@ asks_for_none (Ok value) e = cc
 asks_for_none (Err refusal) e = cc
 
 -- files that are in order are held
-load_held : {wanted widest' : ℕ} (level : ToldScene) (wads : List (List ℕ)) (held : List File) → IsFullLoad level wads held wanted widest' → load_in level wads held ≡ Err files.absent → ⊥
+load_held : {wanted widest' : ℕ} (level : LevelJobValue) (wads : List (List ℕ)) (held : List File) → IsFullLoad level wads held wanted widest' → load_in level wads held ≡ Err files.absent → ⊥
 unfolding load_in
 load_held level wads held full e = asks_for_none _ (rw full.are at e)
 
@@ -41,7 +41,7 @@ accepted_load (Err files.absent) accepted e = absurd (cc)
 accepted_load (Err (files.stopped refusal)) accepted e = absurd (cc)
 
 -- over a level: where a zone is full, no file is absent
-scene_held : {wanted widest' : ℕ} (job : SceneJob) (level : ToldScene) (wads : List (List ℕ)) (held : List File) →
+scene_held : {wanted widest' : ℕ} (job : LevelTask) (level : LevelJobValue) (wads : List (List ℕ)) (held : List File) →
     IsFullLoad level wads held wanted widest' → scene_verdict job level wads held ≡ Err absent → ⊥
 scene_held (Render format) level wads held full e = cc
 scene_held Audit level wads held full e = load_held level wads held full (absent_load (load_in level wads held) e)
@@ -50,13 +50,13 @@ scene_held Trim level wads held full e = cc
 scene_held Trace level wads held full e = cc
 
 -- where a zone is full, no file is absent
-pub run_held : (command : Option Told) (held : List File) (wanted widest' : ℕ) → IfSome command (λ told. IsFullRun told held wanted widest') →
+pub run_held : (command : Option CommandValue) (held : List File) (wanted widest' : ℕ) → IfSome command (λ told. IsFullRun told held wanted widest') →
     and_then (else_stop usage command) (λ told. job_verdict told held) ≡ Err absent → ⊥
 run_held None held wanted widest' full e = cc
 run_held (Some told) held wanted widest' full e = scene_held full.job full.level full.wads held full.full (rw full.is at e)
 
 -- over a level: a zone that is large enough for what is accepted is not full
-scene_room : {wanted widest' : ℕ} (job : SceneJob) (level : ToldScene) (wads : List (List ℕ)) (held : List File) (accepted : Accepted) →
+scene_room : {wanted widest' : ℕ} (job : LevelTask) (level : LevelJobValue) (wads : List (List ℕ)) (held : List File) (accepted : Accepted) →
     IsFullLoad level wads held wanted widest' → enough_for accepted ≤ level.settings.zone → scene_verdict job level wads held ≡ Ok accepted → ⊥
 scene_room (Render format) level wads held accepted full room e = cc
 scene_room Audit level wads held accepted full room e =
@@ -69,8 +69,8 @@ scene_room Trim level wads held accepted full room e = cc
 scene_room Trace level wads held accepted full room e = cc
 
 -- a zone that is large enough for what is accepted is not full
-pub run_room : (words : List (List ℕ)) (command : Option Told) (held : List File) (accepted : Accepted) (wanted widest' : ℕ) → command_of words ≡ command →
+pub run_room : (words : List (List ℕ)) (command : Option CommandValue) (held : List File) (accepted : Accepted) (wanted widest' : ℕ) → command_of words ≡ command →
     IfSome command (λ told. IsFullRun told held wanted widest') → HasRoom words accepted → and_then (else_stop usage command) (λ told. job_verdict told held) ≡ Ok accepted → ⊥
 run_room words None held accepted wanted widest' are full room e = cc
 run_room words (Some told) held accepted wanted widest' are full room e =
-    scene_room full.job full.level full.wads held accepted full.full (room.enough full.job full.level full.wads (are ∙ ap (λ (t : Told). Some t) full.is)) (rw full.is at e)
+    scene_room full.job full.level full.wads held accepted full.full (room.enough full.job full.level full.wads (are ∙ ap (λ (t : CommandValue). Some t) full.is)) (rw full.is at e)

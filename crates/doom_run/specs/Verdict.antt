@@ -3,10 +3,10 @@ use Rattle.std.specs.Prelude.{ℕ, zero, List, Result, Ok, Err, codes}
 use Rattle.outside.specs.Shelf.{File}
 use Rattle.outside.specs.Faults.{and_then, from_below}
 use Rattle.frame_writer.specs.Ppm.{ppm}
-use Rattle.command_line.specs.Commands.{Told, flat, scene, make, exercise, command_of}
-use Rattle.command_line.specs.Scenes.{ToldScene}
-use Rattle.command_line.specs.declared.command.SceneJob.{SceneJob}
-use Rattle.command_line.specs.declared.command.SceneJob.TheVariants.{Render, Audit, Limits, Trim, Trace}
+use Rattle.command_line.specs.Commands.{CommandValue, flat, scene, make, exercise, command_of}
+use Rattle.command_line.specs.LevelJobs.{LevelJobValue}
+use Rattle.command_line.specs.declared.command.LevelTask.{LevelTask}
+use Rattle.command_line.specs.declared.command.LevelTask.TheVariants.{Render, Audit, Limits, Trim, Trace}
 use Rattle.scene_rules.specs.declared.ZoneSizes.{ZoneSizes}
 use Rattle.doom_run.specs.declared.status.Status.{Status}
 use Rattle.doom_run.specs.declared.status.Status.TheVariants.{Done}
@@ -25,7 +25,7 @@ pub data Accepted : Type 0 where
   audited : ZoneSizes → Accepted
 
 -- what a job over a level comes to
-abbrev pub scene_verdict : SceneJob → ToldScene → List (List ℕ) → List File → Result Accepted Stop
+abbrev pub scene_verdict : LevelTask → LevelJobValue → List (List ℕ) → List File → Result Accepted Stop
 scene_verdict (Render format) level wads files = Err usage
 scene_verdict Audit level wads files = and_then (from_below stop_of (audit_verdict level wads files)) (λ sizes. Ok (audited sizes))
 scene_verdict Limits level wads files = Err usage
@@ -33,7 +33,7 @@ scene_verdict Trim level wads files = Err usage
 scene_verdict Trace level wads files = Err usage
 
 -- What a job comes to. A job that is not built is no command.
-abbrev pub job_verdict : Told → List File → Result Accepted Stop
+abbrev pub job_verdict : CommandValue → List File → Result Accepted Stop
 job_verdict (flat name file) files = and_then (flat_verdict name file files) (λ picture. Ok (tiled_flat picture))
 job_verdict (scene job level wads) files = scene_verdict job level wads files
 job_verdict (make job) files = Ok (made (made_file job))

@@ -4,8 +4,8 @@ ghost use Rattle.outside.specs.Causes.{FaultsRose};
 ghost use Rattle.outside.specs.Shelf.{File, Holds};
 ghost use Rattle.outside.specs.Sink.{Grew, GrewByPrefix};
 ghost use Rattle.command_line.specs.Commands.{IsCounted, IsCountedMake, command_of, flat, make, scene, told};
-ghost use Rattle.command_line.specs.Scenes.{IsScene, told_scene};
-ghost use Rattle.command_line.specs.declared.command.SceneJob.TheVariants.{Audit};
+ghost use Rattle.command_line.specs.LevelJobs.{IsLevelJob, level_job_value};
+ghost use Rattle.command_line.specs.declared.command.LevelTask.TheVariants.{Audit};
 ghost use Rattle.scene_load.specs.Fulls.{IsFullLoad};
 ghost use Rattle.doom_run.specs.Ends.{EndsAt, EndsWith, IsEnd, IsUnwritten};
 ghost use Rattle.doom_run.specs.Fulls.{HasRoom, IsFullRun};
@@ -20,7 +20,7 @@ use crate::flat::{deliver_flat, prepare_flat};
 use crate::make::{deliver_make, prepare_make};
 use crate::notes::put_note;
 use crate::status::Status;
-use command_line::{Command, CommandFault, MakeJob, Scene, SceneJob, command_of};
+use command_line::{Command, CommandFault, MakeJob, Scene, LevelTask, command_of};
 use outside::{Shelf, Sink};
 use std::alloc::Global;
 use wad_dir::Name8;
@@ -181,30 +181,30 @@ fn perform_job<S: Shelf, K: Sink>(
     match command {
         Command::Flat { name, file } => perform_flat(alloc, name, file, shelf, out),
         Command::Make(job) => perform_make(alloc, *job, out),
-        Command::Scene { job, scene, wads } => perform_scene(alloc, *job, scene, wads, shelf, out),
+        Command::Level { job, scene, wads } => perform_scene(alloc, *job, scene, wads, shelf, out),
         Command::Exercise { .. } => Status::Usage,
     }
 }
 
 fn perform_scene<S: Shelf, K: Sink>(
     alloc: Global,
-    job: SceneJob,
-    level: &Scene<'_>,
+    job: LevelTask,
+    level: &LevelJob<'_>,
     wads: &[&str],
     shelf: &mut S,
     out: &mut K,
 ) -> Status
-    requires { IsScene (told_scene level.now) (map (λ wad. wad.now) wads.now) }
+    requires { IsLevelJob (level_job_value level.now) (map (λ wad. wad.now) wads.now) }
     ensures ends { (files : List File) →
         (IsTrue (scene_asks job) → Holds (S.view shelf.old) files) →
         EndsAt (S.view shelf.old).steady
-        (scene_verdict job (told_scene level.now) (map (λ wad. wad.now) wads.now) files)
+        (scene_verdict job (level_job_value level.now) (map (λ wad. wad.now) wads.now) files)
         (K.written out.old) (K.written out.new) result }
     ensures unwritten { IsUnwritten result → Grew (K.written out.old) (K.written out.new) [] }
     ensures usage { (files : List File) → result ≡ Status.Usage →
-        scene_verdict job (told_scene level.now) (map (λ wad. wad.now) wads.now) files ≡ Err usage }
+        scene_verdict job (level_job_value level.now) (map (λ wad. wad.now) wads.now) files ≡ Err usage }
     ensures not_built { (files : List File) →
-        scene_verdict job (told_scene level.now) (map (λ wad. wad.now) wads.now) files ≡ Err usage →
+        scene_verdict job (level_job_value level.now) (map (λ wad. wad.now) wads.now) files ≡ Err usage →
         result ≡ Status.Usage }
     ensures read_fault { result ≡ Status.ReadFault →
         FaultsRose (S.view shelf.old).faults (S.view shelf.new).faults }
@@ -212,27 +212,27 @@ fn perform_scene<S: Shelf, K: Sink>(
     ensures zone_full { (files : List File) (wanted widest : ℕ) →
         result ≡ Status.ZoneFull wanted widest →
         (IsTrue (scene_asks job) → Holds (S.view shelf.old) files) →
-        IsFullLoad (told_scene level.now) (map (λ wad. wad.now) wads.now) files wanted widest }
+        IsFullLoad (level_job_value level.now) (map (λ wad. wad.now) wads.now) files wanted widest }
     ensures asked { result ≡ Status.ReadFault → IsTrue (scene_asks job) }
     ensures untouched { scene_asks job ≡ false → shelf.new ≡ shelf.old }
 {
     match job {
-        SceneJob::Audit => perform_audit(alloc, level, wads, shelf, out),
-        SceneJob::Render(_) | SceneJob::Limits | SceneJob::Trim | SceneJob::Trace => Status::Usage,
+        LevelTask::Audit => perform_audit(alloc, level, wads, shelf, out),
+        LevelTask::Render(_) | LevelTask::Limits | LevelTask::Trim | LevelTask::Trace => Status::Usage,
     }
 }
 
 fn perform_audit<S: Shelf, K: Sink>(
     alloc: Global,
-    level: &Scene<'_>,
+    level: &LevelJob<'_>,
     wads: &[&str],
     shelf: &mut S,
     out: &mut K,
 ) -> Status
-    requires { IsScene (told_scene level.now) (map (λ wad. wad.now) wads.now) }
+    requires { IsLevelJob (level_job_value level.now) (map (λ wad. wad.now) wads.now) }
     ensures ends { (files : List File) → Holds (S.view shelf.old) files →
         EndsAt (S.view shelf.old).steady
-        (scene_verdict Audit (told_scene level.now) (map (λ wad. wad.now) wads.now) files)
+        (scene_verdict Audit (level_job_value level.now) (map (λ wad. wad.now) wads.now) files)
         (K.written out.old) (K.written out.new) result }
     ensures unwritten { IsUnwritten result → Grew (K.written out.old) (K.written out.new) [] }
     ensures not_usage { result ≡ Status.Usage → ⊥ }
@@ -241,7 +241,7 @@ fn perform_audit<S: Shelf, K: Sink>(
     ensures write_fault { result ≡ Status.WriteFault → FaultsRose (K.faults out.old) (K.faults out.new) }
     ensures zone_full { (files : List File) (wanted widest : ℕ) →
         result ≡ Status.ZoneFull wanted widest → Holds (S.view shelf.old) files →
-        IsFullLoad (told_scene level.now) (map (λ wad. wad.now) wads.now) files wanted widest }
+        IsFullLoad (level_job_value level.now) (map (λ wad. wad.now) wads.now) files wanted widest }
 {
     match prepare_audit(alloc, level, wads, shelf) {
         Ok(sizes) => deliver_audit(sizes, out),

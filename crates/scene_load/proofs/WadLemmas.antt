@@ -8,14 +8,14 @@ use Rattle.lump_rules.specs.declared.wad.Lump.{Lump}
 use Rattle.wad_dir.specs.declared.fault.DirFault.{DirFault}
 use Rattle.wad_dir.specs.declared.fault.DirFault.TheVariants as dir
 use Rattle.wad_dir.specs.Faults.{dir_fault}
-use Rattle.scene_load.specs.declared.fault.FilesRefusal.{FilesRefusal}
-use Rattle.scene_load.specs.declared.fault.FilesRefusal.TheVariants.{Wad}
-use Rattle.scene_load.specs.declared.fault.FilesFault.{FilesFault}
+use Rattle.refusals.specs.declared.refusal.Refusal.{Refusal}
+use Rattle.refusals.specs.declared.refusal.Refusal.TheVariants.{Wad}
+use Rattle.outside.specs.declared.fault.Fault.{Fault}
 use Rattle.scene_load.specs.Faults.{fault_of_dir}
 use Rattle.scene_load.specs.Files.{files_named, lumps_in, wad_files}
 use Rattle.scene_load.specs.Found.{AllStandForNamed}
-use Rattle.scene_load.specs.Stops.{else_absent, no_file, StopsAt, ResultIsOrAbsent}
-use Rattle.scene_load.proofs.StopLemmas.{stops_all}
+use Rattle.outside.specs.Stops.{else_absent, no_file, FaultFitsOrAbsent, ResultIsOrAbsent}
+use Rattle.outside.proofs.StopLemmas.{stops_all}
 
 -- what a fault of the directory tells where files are read
 pub dir_told_above : (fault : DirFault) → itself (fault_of_dir fault) ≡ fault_above Wad (dir_fault fault)
@@ -24,13 +24,13 @@ dir_told_above dir.ReadFault = refl
 dir_told_above dir.OutOfMemory = refl
 
 -- a file was not found
-pub wads_unfound : {B : Type 0} {steady : Bool} {value : B → List Lump} (names : List (List ℕ)) (files : List File) (fault : FilesFault) (result : Result B FilesFault) →
-    StopsAt {R = FilesRefusal} steady (else_absent (files_named names files)) (itself fault) → IsErrAnd result (λ e. e ≡ fault) →
+pub wads_unfound : {B : Type 0} {steady : Bool} {value : B → List Lump} (names : List (List ℕ)) (files : List File) (fault : (Fault Refusal)) (result : Result B (Fault Refusal)) →
+    FaultFitsOrAbsent {R = Refusal} steady (else_absent (files_named names files)) (itself fault) → IsErrAnd result (λ e. e ≡ fault) →
     ResultIsOrAbsent itself steady value (lumps_in names files) result
 unfolding lumps_in
 wads_unfound {B} {steady} names files fault result stops is =
-    let p : (y : FilesFault) × (result ≡ Err y) × (y ≡ fault) = err_from_is_err_and result is in
-    let k : StopsAt steady (lumps_in names files) (itself p.0) = rw p.2 (stops_all steady (else_absent (files_named names files)) (λ contents. no_file (wad_files contents)) (itself fault) stops) in
+    let p : (y : (Fault Refusal)) × (result ≡ Err y) × (y ≡ fault) = err_from_is_err_and result is in
+    let k : FaultFitsOrAbsent steady (lumps_in names files) (itself p.0) = rw p.2 (stops_all steady (else_absent (files_named names files)) (λ contents. no_file (wad_files contents)) (itself fault) stops) in
     rw p.1 (record { ok = tt; err = k })
 
 -- all files were found

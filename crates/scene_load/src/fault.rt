@@ -4,7 +4,7 @@ ghost use Rattle.scene_load.specs.Faults.{above_audit, above_files};
 
 use level_audit::AuditFault;
 use refusals::Refusal;
-use crate::FilesFault;
+use crate::LoadFault;
 
 /// What stops the loading of a scene: the bytes of the files, a call of the shelf that failed, a zone
 /// without room (the size of a lump's block with its header, and the widest gap, in bytes), or want
@@ -17,14 +17,14 @@ pub enum LoadFault {
     OutOfMemory,
 }
 
-impl From<FilesFault> for LoadFault {
+impl From<LoadFault> for LoadFault {
     ghost from_gives = { λ below fault. fault ≡ above_files below };
 
-    fn from(below: FilesFault) -> Self {
+    fn from(below: LoadFault) -> Self {
         match below {
-            FilesFault::Refused(refusal) => LoadFault::Refused(Refusal::from(refusal)),
-            FilesFault::ReadFault => LoadFault::ReadFault,
-            FilesFault::OutOfMemory => LoadFault::OutOfMemory,
+            Fault::Refused(refusal) => LoadFault::Refused(Refusal::from(refusal)),
+            Fault::ReadFault => LoadFault::ReadFault,
+            Fault::OutOfMemory => LoadFault::OutOfMemory,
         }
     }
 }

@@ -10,14 +10,14 @@ ghost use Rattle.zone_rules.specs.Zones.{IsZoneSize};
 ghost use Rattle.view_rules.specs.declared.TheConstants.{MIN_SIZE, MAX_SIZE};
 ghost use Rattle.lump_cache.specs.Caches.{IsAtRest, IsEmpty, IsFaithful, KeepsCounts};
 ghost use Rattle.lump_cache.specs.Calls.{IfFull, HoldContents, ReadsLumps};
-ghost use Rattle.command_line.specs.Scenes.{told_scene};
+ghost use Rattle.command_line.specs.LevelJobs.{level_job_value};
 ghost use Rattle.scene_load.specs.Files.{files_named, value_of};
-ghost use Rattle.scene_load.specs.Stops.{ResultIsOrAbsent};
+ghost use Rattle.outside.specs.Stops.{ResultIsOrAbsent};
 ghost use Rattle.scene_load.specs.Fulls.{IsFullLoad, IsFullOver, IsOfLayers};
 ghost use Rattle.scene_load.specs.Loads.{audited_in, audited_value, load_in, loaded_lumps, loaded_sizes, loaded_value, weapons_of, with_layers};
 
 use crate::LoadFault;
-use command_line::Scene;
+use command_line::LevelJob;
 use csv_tables::WeaponTable;
 use level_audit::{AuditFault, SoundScene, audit, audit_weapons};
 use lump_cache::LumpCache;
@@ -59,7 +59,7 @@ pub struct LoadedScene {
 /// The original: `D_DoomMain`, d_main.c, with `R_Init`, r_main.c, and `P_SetupLevel`, p_setup.c.
 pub fn load_scene<S: Shelf>(
     alloc: Global,
-    level: &Scene<'_>,
+    level: &LevelJob<'_>,
     wads: &[&str],
     shelf: &mut S,
 ) -> Result<LoadedScene, LoadFault>
@@ -68,11 +68,11 @@ pub fn load_scene<S: Shelf>(
     requires least { MIN_SIZE ≤ level.now.settings.size }
     requires greatest { level.now.settings.size ≤ MAX_SIZE }
     ensures answers { (files : List File) → Holds (S.view shelf.old) files →
-        ResultIsOrAbsent itself (S.view shelf.old).steady loaded_value (load_in (told_scene level.now) (map (λ wad. wad.now) wads.now) files) result }
+        ResultIsOrAbsent itself (S.view shelf.old).steady loaded_value (load_in (level_job_value level.now) (map (λ wad. wad.now) wads.now) files) result }
     ensures named { IfOk result (λ loaded. loaded.scene.named ≡ loaded_lumps (loaded_value loaded)) }
     ensures sizes { IfOk result (λ loaded. loaded.scene.sizes ≡ loaded_sizes (loaded_value loaded)) }
     ensures full { (files : List File) → Holds (S.view shelf.old) files →
-        IfErr result (λ fault. IfFull (itself fault) (IsFullLoad (told_scene level.now) (map (λ wad. wad.now) wads.now) files)) }
+        IfErr result (λ fault. IfFull (itself fault) (IsFullLoad (level_job_value level.now) (map (λ wad. wad.now) wads.now) files)) }
     ensures rest { IfOk result (λ loaded. IsAtRest loaded.scene.scene.base.colormap (lump_at loaded.files.dir.lumps loaded.scene.scene.base.colormap).size loaded.cache) }
     ensures contents { (files : List File) (contents : List (List ℕ)) → Holds (S.view shelf.old) files →
         files_named (map (λ wad. wad.now) wads.now) files ≡ Some contents →
@@ -114,7 +114,7 @@ fn make_cache(alloc: Global, dir: &Directory, size: u32) -> Result<LumpCache, Au
 // The audit of the level, and the pictures of its weapon layers, where there are some.
 fn audit_files<S: Shelf>(
     alloc: Global,
-    level: &Scene<'_>,
+    level: &LevelJob<'_>,
     files: &SceneFiles,
     cache: &mut LumpCache,
     shelf: &mut S,
@@ -126,7 +126,7 @@ fn audit_files<S: Shelf>(
     ensures answers { (contents : List (List ℕ)) →
         HoldContents (S.view shelf.old) files.now.dir cache.old contents →
         ResultIs itself (S.view shelf.old).steady (audited_value (value_of files.now))
-        (audited_in (lump_bytes contents files.now.dir.lumps) (told_scene level.now)
+        (audited_in (lump_bytes contents files.now.dir.lumps) (level_job_value level.now)
         (value_of files.now)) result }
     ensures named { IfOk result (λ audited.
         audited.0.named ≡ loaded_lumps (audited_value (value_of files.now) audited)) }
@@ -135,7 +135,7 @@ fn audit_files<S: Shelf>(
     ensures full { (contents : List (List ℕ)) →
         HoldContents (S.view shelf.old) files.now.dir cache.old contents →
         IfErr result (λ fault. IfFull (itself fault)
-        (IsFullOver (lump_bytes contents files.now.dir.lumps) (told_scene level.now)
+        (IsFullOver (lump_bytes contents files.now.dir.lumps) (level_job_value level.now)
         (value_of files.now))) }
     ensures rest { IfOk result (λ audited. IsAtRest audited.0.scene.base.colormap
         (lump_at files.now.dir.lumps audited.0.scene.base.colormap).size cache.new) }

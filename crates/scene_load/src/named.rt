@@ -4,9 +4,9 @@ ghost use Rattle.outside.specs.Shelf.{File, IsLaterShelf, Holds, Stands};
 ghost use Rattle.outside.specs.Faults.{ResultIs, HasCauses, itself};
 ghost use Rattle.scene_load.specs.Files.{in_file, unless_refused};
 ghost use Rattle.scene_load.specs.Lengths.{bytes_in, length_refusal, most_bytes, tables_length_refusal, text_length_refusal};
-ghost use Rattle.scene_load.specs.Stops.{ResultIsOrAbsent};
+ghost use Rattle.outside.specs.Stops.{ResultIsOrAbsent};
 
-use crate::{FilesFault, FilesRefusal};
+use crate::{LoadFault, Refusal};
 use csv_tables::{CsvRefusal, MAX_TABLE_BYTES};
 use outside::{FileNo, OutOfMemory, Shelf};
 use std::alloc::Global;
@@ -27,7 +27,7 @@ pub fn read_named<S: Shelf>(
     shelf: &mut S,
     name: &str,
     kind: FileKind,
-) -> Result<Vec<u8>, FilesFault>
+) -> Result<Vec<u8>, LoadFault>
     ensures answers { (files : List File) → Holds (S.view shelf.old) files →
         ResultIsOrAbsent itself (S.view shelf.old).steady (λ bytes. bytes.items)
         (in_file (bytes_in kind) name.now files) result }
@@ -46,7 +46,7 @@ fn read_file<S: Shelf>(
     shelf: &mut S,
     file: FileNo,
     kind: FileKind,
-) -> Result<Vec<u8>, FilesFault>
+) -> Result<Vec<u8>, LoadFault>
     ensures answers { (bytes : List ℕ) → Stands (S.view shelf.old) file.0 bytes →
         ResultIs itself (S.view shelf.old).steady (λ found. found.items)
         (bytes_in kind bytes) result }
@@ -66,7 +66,7 @@ fn read_whole<S: Shelf>(
     shelf: &mut S,
     file: FileNo,
     size: usize,
-) -> Result<Vec<u8>, FilesFault>
+) -> Result<Vec<u8>, LoadFault>
     ensures answers { (bytes : List ℕ) →
         Stands (S.view shelf.old) file.0 bytes → length bytes ≡ size →
         ResultIs itself (S.view shelf.old).steady (λ found. found.items) (Ok bytes) result }
@@ -82,7 +82,7 @@ fn read_whole<S: Shelf>(
 
 // The length of a file, where it is not refused.
 #[tactic(auto, unfolding(crate::specs::Lengths::length_refusal, crate::specs::Lengths::tables_length_refusal, crate::specs::Lengths::text_length_refusal))]
-fn check_length(kind: FileKind, size: u64) -> Result<usize, FilesRefusal>
+fn check_length(kind: FileKind, size: u64) -> Result<usize, Refusal>
     ensures value { result ≡ unless_refused (length_refusal kind size) size }
     ensures most { IfOk result (λ same. same ≤ most_bytes kind) }
 {
@@ -94,14 +94,14 @@ fn check_length(kind: FileKind, size: u64) -> Result<usize, FilesRefusal>
 
 // The refusal of a length.
 #[tactic(auto, unfolding(crate::specs::Lengths::length_refusal))]
-fn length_refusal(kind: FileKind, size: u64) -> Option<FilesRefusal>
+fn length_refusal(kind: FileKind, size: u64) -> Option<Refusal>
     ensures { result ≡ length_refusal kind size }
 {
     match kind {
-        FileKind::Tables => Some(FilesRefusal::Tables(tables_length_refusal(size)?)),
-        FileKind::Things => Some(FilesRefusal::Things(text_length_refusal(size)?)),
-        FileKind::Path => Some(FilesRefusal::Path(text_length_refusal(size)?)),
-        FileKind::Weapons => Some(FilesRefusal::Weapons(text_length_refusal(size)?)),
+        FileKind::Tables => Some(Refusal::Tables(tables_length_refusal(size)?)),
+        FileKind::Things => Some(Refusal::Things(text_length_refusal(size)?)),
+        FileKind::Path => Some(Refusal::Path(text_length_refusal(size)?)),
+        FileKind::Weapons => Some(Refusal::Weapons(text_length_refusal(size)?)),
     }
 }
 

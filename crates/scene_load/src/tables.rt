@@ -4,10 +4,10 @@ ghost use Rattle.outside.specs.Shelf.{File, IsLaterShelf, Holds};
 ghost use Rattle.outside.specs.Faults.{ResultIs, HasCauses, itself};
 ghost use Rattle.view_rules.specs.declared.TheConstants.{MIN_SIZE, MAX_SIZE};
 ghost use Rattle.scene_load.specs.Files.{in_file, tables_file, tables_in};
-ghost use Rattle.scene_load.specs.Stops.{ResultIsOrAbsent};
+ghost use Rattle.outside.specs.Stops.{ResultIsOrAbsent};
 
 use crate::named::{FileKind, read_named};
-use crate::{FilesFault, FilesRefusal};
+use crate::{LoadFault, Refusal};
 use angle_tables::{Tables, TablesFault};
 use outside::Shelf;
 use std::alloc::Global;
@@ -19,7 +19,7 @@ pub fn load_tables<S: Shelf>(
     shelf: &mut S,
     name: &str,
     size: u8,
-) -> Result<Tables, FilesFault>
+) -> Result<Tables, LoadFault>
     requires least { MIN_SIZE ≤ size }
     requires greatest { size ≤ MAX_SIZE }
     ensures answers { (files : List File) → Holds (S.view shelf.old) files →
@@ -36,7 +36,7 @@ pub fn load_tables<S: Shelf>(
 }
 
 #[tactic(auto, unfolding(crate::specs::Files::tables_in))]
-fn check_tables(alloc: Global, bytes: &[u8], size: u8) -> Result<Tables, FilesFault>
+fn check_tables(alloc: Global, bytes: &[u8], size: u8) -> Result<Tables, LoadFault>
     requires least { MIN_SIZE ≤ size }
     requires greatest { size ≤ MAX_SIZE }
     ensures answers { ResultIs itself true (λ tables. tables)
@@ -47,8 +47,8 @@ fn check_tables(alloc: Global, bytes: &[u8], size: u8) -> Result<Tables, FilesFa
     match Tables::from_bytes(alloc, bytes, size) {
         Ok(tables) => Ok(tables),
         Err(TablesFault::Refused(refusal)) => {
-            Err(FilesFault::Refused(FilesRefusal::Tables(refusal)))
+            Err(Fault::Refused(Refusal::Tables(refusal)))
         }
-        Err(TablesFault::OutOfMemory) => Err(FilesFault::OutOfMemory),
+        Err(TablesFault::OutOfMemory) => Err(Fault::OutOfMemory),
     }
 }

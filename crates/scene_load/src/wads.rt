@@ -4,12 +4,12 @@ ghost use Rattle.outside.specs.Shelf.{NameFiles, File, IsLaterShelf, Holds};
 ghost use Rattle.outside.specs.Faults.{HasCauses, itself};
 ghost use Rattle.lump_rules.specs.Contents.{AllWithin};
 ghost use Rattle.lump_rules.specs.Wads.{listing_sizes};
-ghost use Rattle.scene_load.specs.declared.fault.FilesRefusal.{FilesRefusal};
+ghost use Rattle.refusals.specs.declared.refusal.Refusal.{Refusal};
 ghost use Rattle.scene_load.specs.Files.{files_named, lumps_in};
 ghost use Rattle.scene_load.specs.Found.{AllStandForNamed};
-ghost use Rattle.scene_load.specs.Stops.{ResultIsOrAbsent, StopsAt, else_absent};
+ghost use Rattle.outside.specs.Stops.{ResultIsOrAbsent, FaultFitsOrAbsent, else_absent};
 
-use crate::FilesFault;
+use crate::LoadFault;
 use lump_rules::{ENTRY_SIZE, HEADER_SIZE};
 use outside::{FileNo, Shelf};
 use std::alloc::Global;
@@ -20,7 +20,7 @@ pub fn load_wads<S: Shelf>(
     alloc: Global,
     shelf: &mut S,
     names: &[&str],
-) -> Result<Directory, FilesFault>
+) -> Result<Directory, LoadFault>
     ensures answers { (files : List File) → Holds (S.view shelf.old) files →
         ResultIsOrAbsent itself (S.view shelf.old).steady (λ dir. dir.lumps)
         (lumps_in (map (λ name. name.now) names.now) files) result }
@@ -51,12 +51,12 @@ fn find_all<S: Shelf>(
     alloc: Global,
     shelf: &mut S,
     names: &[&str],
-) -> Result<Vec<FileNo>, FilesFault>
+) -> Result<Vec<FileNo>, LoadFault>
     ensures found { (files : List File) → Holds (S.view shelf.old) files →
         IfOk result (λ numbers. AllStandForNamed (S.view shelf.new) numbers.items
         (map (λ name. name.now) names.now) files) }
     ensures stops { (files : List File) → Holds (S.view shelf.old) files →
-        IfErr result (λ fault. StopsAt {R = FilesRefusal} (S.view shelf.old).steady
+        IfErr result (λ fault. FaultFitsOrAbsent {R = Refusal} (S.view shelf.old).steady
         (else_absent (files_named (map (λ name. name.now) names.now) files)) (itself fault)) }
     ensures count { IfOk result (λ numbers. length numbers.items ≡ length names.now) }
     ensures follows { IsLaterShelf (S.view shelf.old) (S.view shelf.new) }

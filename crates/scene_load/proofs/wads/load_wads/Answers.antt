@@ -3,10 +3,10 @@ use Rattle.outside.specs.Shelf.{NameFiles}
 use Rattle.outside.proofs.ShelfLemmas.{all_stand_later, follows_then}
 use Rattle.outside.proofs.StepLemmas.{last_step, last_stop}
 use Rattle.lump_rules.specs.Wads.{directory}
-use Rattle.scene_load.specs.declared.fault.FilesRefusal.TheVariants.{Wad}
+use Rattle.refusals.specs.declared.refusal.Refusal.TheVariants.{Wad}
 use Rattle.scene_load.specs.Faults.{fault_of_dir}
 use Rattle.scene_load.specs.Files.{wad_files}
-use Rattle.scene_load.proofs.StopLemmas.{no_file_agrees}
+use Rattle.outside.proofs.StopLemmas.{no_file_agrees}
 use Rattle.scene_load.proofs.WadLemmas.{dir_told_above, wads_unfound, lumps_found, stand_named}
 use Rattle.scene_load.proofs.wads.load_wads.Goals as goal
 
