@@ -12,7 +12,7 @@ use Rattle.csv.specs.Records.{field_at}
 use Rattle.csv.specs.declared.parser.Config.{Config}
 use Rattle.csv.specs.declared.parser.State.{State}
 use Rattle.csv.specs.declared.parser.State.TheVariants as st
-use Rattle.csv_tables.specs.Records.{is_header, is_of_length, records_of}
+use Rattle.csv_tables.specs.Records.{is_header, is_of_length, csv_records}
 
 none-some : {A : Type 0} (x : A) → ◌≡◌ {A = Option A} None (Some x) → ⊥
 none-some x e = cc
@@ -107,13 +107,13 @@ reached-end cfg s s2 (c ∷ xs) ys (r ∷ rs) (suc m) (suc n) h e l k =
     rw (h.1, more) (ap (λ (t : List (List ℕ)). t ∷ rs) (sym h.2))
 
 -- a loop that stops at its limit
-pub first_records-full : (n : ℕ) (bytes ys : List ℕ) (s2 : State) (rows : List (List (List ℕ))) → Reached default_config st.StartRecord (strip_bom bytes) rows s2 ys → length rows ≡ n → rows ≡ take n (records_of bytes)
-unfolding records_of
+pub first_records-full : (n : ℕ) (bytes ys : List ℕ) (s2 : State) (rows : List (List (List ℕ))) → Reached default_config st.StartRecord (strip_bom bytes) rows s2 ys → length rows ≡ n → rows ≡ take n (csv_records bytes)
+unfolding csv_records
 first_records-full n bytes ys s2 rows h e = rw (← e) (sym (reached-take default_config st.StartRecord s2 (strip_bom bytes) ys rows (length (strip_bom bytes) + 1) h (omega arith)))
 
 -- a loop that came to the end
-pub first_records-end : (n : ℕ) (bytes ys : List ℕ) (s2 : State) (rows : List (List (List ℕ))) → Reached default_config st.StartRecord (strip_bom bytes) rows s2 ys → next_record default_config s2 [] [] ys ≡ None → length rows ≤ n → rows ≡ take n (records_of bytes)
-unfolding records_of
+pub first_records-end : (n : ℕ) (bytes ys : List ℕ) (s2 : State) (rows : List (List (List ℕ))) → Reached default_config st.StartRecord (strip_bom bytes) rows s2 ys → next_record default_config s2 [] [] ys ≡ None → length rows ≤ n → rows ≡ take n (csv_records bytes)
+unfolding csv_records
 first_records-end n bytes ys s2 rows h e l = sym (reached-end default_config st.StartRecord s2 (strip_bom bytes) ys rows (length (strip_bom bytes) + 1) n h e (omega arith) l)
 
 false-end : (b : Bool) → (b && false) ≡ false

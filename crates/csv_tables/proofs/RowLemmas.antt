@@ -7,7 +7,7 @@ use Rattle.csv_tables.specs.declared.fault.CsvRefusal.{CsvRefusal}
 use Rattle.csv_tables.specs.declared.fault.CsvRefusal.TheVariants.{TooMany}
 use Rattle.csv_tables.specs.declared.fault.CsvFault.{CsvFault}
 use Rattle.csv_tables.specs.declared.fault.CsvFault.TheVariants.{Refused}
-use Rattle.csv_tables.specs.Records.{and_then}
+use Rattle.csv_tables.specs.Records.{then_checked}
 use Rattle.csv_tables.specs.Rows.{rows_after}
 
 -- the records are at their end
@@ -19,7 +19,7 @@ rows_after-end read rows records i l =
 
 -- one record more
 rows_after-more : {A : Type 0} (read : List A → ℕ → List (List ℕ) → Result A CsvRefusal) (rows : List A) (records : List (List (List ℕ))) (i : ℕ) (fields : List (List ℕ)) → i < length records → get_or records i [] ≡ fields → length rows ≡ i
-    → rows_after read rows (drop i records) ≡ and_then (read rows (i + 1) fields) (λ row. rows_after read (rows ++ row ∷ []) (drop (i + 1) records))
+    → rows_after read rows (drop i records) ≡ then_checked (read rows (i + 1) fields) (λ row. rows_after read (rows ++ row ∷ []) (drop (i + 1) records))
 unfolding rows_after
 rows_after-more read rows records i fields l g n =
     let one = at_drop_more (rows_after read rows) records i [] l in
@@ -33,11 +33,11 @@ pub rows_after-refused : {A : Type 0} (read : List A → ℕ → List (List ℕ)
     → read rows (i + 1) fields ≡ Err refusal → rows_after read rows (drop i records) ≡ Err refusal
 rows_after-refused read rows records i fields refusal l g n e = rows_after-more read rows records i fields l g n ∙ rw e refl
 
-pub and_then-same : {A B : Type 0} (r : Result A CsvRefusal) (f g : A → Result B CsvRefusal) → ((a : A) → f a ≡ g a) → and_then r f ≡ and_then r g
+pub and_then-same : {A B : Type 0} (r : Result A CsvRefusal) (f g : A → Result B CsvRefusal) → ((a : A) → f a ≡ g a) → then_checked r f ≡ then_checked r g
 and_then-same (Ok a) f g h = h a
 and_then-same (Err e) f g h = refl
 
-pub and_then-err : {A B : Type 0} (r : Result A CsvRefusal) (f : A → Result B CsvRefusal) (e : CsvRefusal) → r ≡ Err e → and_then r f ≡ Err e
+pub and_then-err : {A B : Type 0} (r : Result A CsvRefusal) (f : A → Result B CsvRefusal) (e : CsvRefusal) → r ≡ Err e → then_checked r f ≡ Err e
 and_then-err r f e h = rw h refl
 
 -- where each row past the limit is one too many, the records past the first of those say nothing

@@ -9,16 +9,16 @@ use Rattle.level_rules.specs.declared.ThingLine.{ThingLine}
 use Rattle.csv_tables.specs.declared.things.TheConstants.{MAX_THINGS, THING_WIDTH}
 use Rattle.csv_tables.specs.declared.weapons.WeaponRow.{WeaponRow}
 use Rattle.csv_tables.specs.declared.weapons.TheConstants.{MAX_WEAPONS, WEAPON_WIDTH}
-use Rattle.csv_tables.specs.Records.{records_of, row_shape, table_records}
+use Rattle.csv_tables.specs.Records.{csv_records, checked_shape, table_records}
 use Rattle.csv_tables.specs.Paths.{path_in, path_of_records, path_row, path_width}
-use Rattle.csv_tables.specs.Things.{is_thing_header, lines_of_records, read_line, thing_line, things_in}
+use Rattle.csv_tables.specs.Things.{is_thing_header, lines_of_records, read_line, thing_line, things_in_table}
 use Rattle.csv_tables.specs.Weapons.{is_weapon_header, weapon_row, weapon_rows, weapons_in, weapons_of_records}
 use Rattle.csv_tables.proofs.RowLemmas.{and_then-err, and_then-same, rows_after-first}
 use Rattle.csv_tables.proofs.RowSentences.{ok-err, rows_after-within}
 
 -- a row past the limit is one too many
-row_shape-past : (limit width row : ℕ) (fields : List (List ℕ)) → limit < row → row_shape limit width row fields ≡ Err TooMany
-unfolding row_shape
+row_shape-past : (limit width row : ℕ) (fields : List (List ℕ)) → limit < row → checked_shape limit width row fields ≡ Err TooMany
+unfolding checked_shape
 row_shape-past limit width row fields past = let over : nat_lt limit row ≡ true = grind (arith, nat_tests) in rw over refl
 
 path_row-past : (width row : ℕ) (fields : List (List ℕ)) → MAX_VIEWS < row → path_row width row fields ≡ Err TooMany
@@ -59,17 +59,17 @@ weapons_of_records-first (suc n) (head ∷ rows) l =
     ap (λ (rows : Result (List WeaponRow) CsvRefusal). cond (is_weapon_header head) rows (Err Header)) (rows_after-first (λ _. weapon_row) MAX_WEAPONS n [] rows (λ _ row fields past. weapon_row-past row fields past) (omega arith) (omega arith))
 
 -- a table read from the first records of a file that is not too long
-pub path_in-first : (bytes : List ℕ) (n : ℕ) (given : List (List (List ℕ))) (r : Result (List PathRow) CsvRefusal) → table_records bytes ≡ Ok (records_of bytes) → given ≡ take n (records_of bytes) → MAX_VIEWS + 2 ≤ n → path_of_records given ≡ r → path_in bytes ≡ r
+pub path_in-first : (bytes : List ℕ) (n : ℕ) (given : List (List (List ℕ))) (r : Result (List PathRow) CsvRefusal) → table_records bytes ≡ Ok (csv_records bytes) → given ≡ take n (csv_records bytes) → MAX_VIEWS + 2 ≤ n → path_of_records given ≡ r → path_in bytes ≡ r
 unfolding path_in
-path_in-first bytes n given r whole first l e = rw whole (sym (path_of_records-first n (records_of bytes) l) ∙ ap path_of_records (sym first) ∙ e)
+path_in-first bytes n given r whole first l e = rw whole (sym (path_of_records-first n (csv_records bytes) l) ∙ ap path_of_records (sym first) ∙ e)
 
-pub things_in-first : (bytes : List ℕ) (n : ℕ) (given : List (List (List ℕ))) (r : Result (List ThingLine) CsvRefusal) → table_records bytes ≡ Ok (records_of bytes) → given ≡ take n (records_of bytes) → MAX_THINGS + 2 ≤ n → lines_of_records given ≡ r → things_in bytes ≡ r
-unfolding things_in
-things_in-first bytes n given r whole first l e = rw whole (sym (lines_of_records-first n (records_of bytes) l) ∙ ap lines_of_records (sym first) ∙ e)
+pub things_in-first : (bytes : List ℕ) (n : ℕ) (given : List (List (List ℕ))) (r : Result (List ThingLine) CsvRefusal) → table_records bytes ≡ Ok (csv_records bytes) → given ≡ take n (csv_records bytes) → MAX_THINGS + 2 ≤ n → lines_of_records given ≡ r → things_in_table bytes ≡ r
+unfolding things_in_table
+things_in-first bytes n given r whole first l e = rw whole (sym (lines_of_records-first n (csv_records bytes) l) ∙ ap lines_of_records (sym first) ∙ e)
 
-pub weapons_in-first : (bytes : List ℕ) (n : ℕ) (given : List (List (List ℕ))) (r : Result (List WeaponRow) CsvRefusal) → table_records bytes ≡ Ok (records_of bytes) → given ≡ take n (records_of bytes) → MAX_WEAPONS + 2 ≤ n → weapons_of_records given ≡ r → weapons_in bytes ≡ r
+pub weapons_in-first : (bytes : List ℕ) (n : ℕ) (given : List (List (List ℕ))) (r : Result (List WeaponRow) CsvRefusal) → table_records bytes ≡ Ok (csv_records bytes) → given ≡ take n (csv_records bytes) → MAX_WEAPONS + 2 ≤ n → weapons_of_records given ≡ r → weapons_in bytes ≡ r
 unfolding weapons_in
-weapons_in-first bytes n given r whole first l e = rw whole (sym (weapons_of_records-first n (records_of bytes) l) ∙ ap weapons_of_records (sym first) ∙ e)
+weapons_in-first bytes n given r whole first l e = rw whole (sym (weapons_of_records-first n (csv_records bytes) l) ∙ ap weapons_of_records (sym first) ∙ e)
 
 -- where a refusal stands on the other branch, an Ok value is that of the first
 cond-ok : {A : Type 0} (b : Bool) (r : Result A CsvRefusal) (refusal : CsvRefusal) (a : A) → cond b r (Err refusal) ≡ Ok a → r ≡ Ok a

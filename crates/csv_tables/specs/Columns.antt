@@ -7,7 +7,7 @@ use Rattle.csv_tables.specs.declared.fault.CsvRefusal.{CsvRefusal}
 use Rattle.csv_tables.specs.declared.fault.CsvRefusal.TheVariants.{Fields, Number, Range}
 use Rattle.csv_tables.specs.declared.columns.TheConstants.{FIRST_FRAME, FIRST_VISIBLE, GREATEST_PLACE, LAST_FRAME, LAST_VISIBLE, LEAST_PLACE, SPRITE_LENGTH}
 use Rattle.csv_tables.specs.Numbers.{number}
-use Rattle.csv_tables.specs.Records.{and_then}
+use Rattle.csv_tables.specs.Records.{then_checked}
 
 -- a number from low to high
 unfoldable pub in_range : ℕ → ℕ → ℤ → ℤ → ℤ → Result ℤ CsvRefusal
@@ -37,23 +37,23 @@ natural_column row column high fields = natural_of (integer_column row column (p
 
 -- a flag: 0 or 1
 unfoldable pub flag_column : ℕ → ℕ → List (List ℕ) → Result Bool CsvRefusal
-flag_column row column fields = and_then (natural_column row column 1 fields) (λ flag. Ok (flag == 1))
+flag_column row column fields = then_checked (natural_column row column 1 fields) (λ flag. Ok (flag == 1))
 
 -- four bytes from `!` to `~`, small letters as capitals
 unfoldable pub is_sprite : List ℕ → Bool
 is_sprite text = (length text == SPRITE_LENGTH) && list_all (λ b. nat_le FIRST_VISIBLE b && nat_le b LAST_VISIBLE) text
 
-unfoldable pub sprite_column : ℕ → ℕ → Option (List ℕ) → Result (List ℕ) CsvRefusal
-sprite_column row column None = Err (Fields row)
-sprite_column row column (Some text) = cond (is_sprite text) (Ok (map to_ascii_uppercase text)) (Err (Range row column))
+unfoldable pub sprite_field : ℕ → ℕ → Option (List ℕ) → Result (List ℕ) CsvRefusal
+sprite_field row column None = Err (Fields row)
+sprite_field row column (Some text) = cond (is_sprite text) (Ok (map to_ascii_uppercase text)) (Err (Range row column))
 
 -- one of the bytes from `A` to `]`, small letters as capitals
 unfoldable pub capital : List ℕ → ℕ
 capital text = to_ascii_uppercase (slice_index text 0)
 
-unfoldable pub is_frame : List ℕ → Bool
-is_frame text = (length text == 1) && (nat_le FIRST_FRAME (capital text) && nat_le (capital text) LAST_FRAME)
+unfoldable pub is_frame_letter : List ℕ → Bool
+is_frame_letter text = (length text == 1) && (nat_le FIRST_FRAME (capital text) && nat_le (capital text) LAST_FRAME)
 
 unfoldable pub frame_column : ℕ → ℕ → Option (List ℕ) → Result ℕ CsvRefusal
 frame_column row column None = Err (Fields row)
-frame_column row column (Some text) = cond (is_frame text) (Ok (capital text)) (Err (Range row column))
+frame_column row column (Some text) = cond (is_frame_letter text) (Ok (capital text)) (Err (Range row column))

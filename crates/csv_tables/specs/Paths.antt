@@ -4,7 +4,7 @@ use Rattle.csv_tables.specs.declared.fault.CsvRefusal.{CsvRefusal}
 use Rattle.csv_tables.specs.declared.fault.CsvRefusal.TheVariants.{Header}
 use Rattle.csv_tables.specs.declared.path.PathRow.{PathRow}
 use Rattle.csv_tables.specs.declared.path.TheConstants.{LIT_WIDTH, MAX_ANGLE, MAX_COLORMAP, MAX_EXTRALIGHT, MAX_VIEWS, PLAIN_WIDTH}
-use Rattle.csv_tables.specs.Records.{and_then, is_header, row_shape, table_records}
+use Rattle.csv_tables.specs.Records.{then_checked, is_header, checked_shape, table_records}
 use Rattle.csv_tables.specs.Columns.{natural_column, place_column}
 use Rattle.csv_tables.specs.Rows.{rows_after}
 
@@ -27,18 +27,18 @@ unfoldable pub light_column : ℕ → ℕ → ℕ → ℕ → List (List ℕ) �
 light_column width row column high fields = cond (width == PLAIN_WIDTH) (Ok 0) (natural_column row column high fields)
 
 -- the view of a row with the right number of fields, its columns from left to right
-unfoldable pub view_of : ℕ → ℕ → List (List ℕ) → Result PathRow CsvRefusal
-view_of width row fields =
-    and_then (place_column row 0 fields) (λ x.
-    and_then (place_column row 1 fields) (λ y.
-    and_then (place_column row 2 fields) (λ z.
-    and_then (natural_column row 3 MAX_ANGLE fields) (λ angle.
-    and_then (light_column width row 4 MAX_EXTRALIGHT fields) (λ extralight.
-    and_then (light_column width row 5 MAX_COLORMAP fields) (λ colormap.
+unfoldable pub view_of_fields : ℕ → ℕ → List (List ℕ) → Result PathRow CsvRefusal
+view_of_fields width row fields =
+    then_checked (place_column row 0 fields) (λ x.
+    then_checked (place_column row 1 fields) (λ y.
+    then_checked (place_column row 2 fields) (λ z.
+    then_checked (natural_column row 3 MAX_ANGLE fields) (λ angle.
+    then_checked (light_column width row 4 MAX_EXTRALIGHT fields) (λ extralight.
+    then_checked (light_column width row 5 MAX_COLORMAP fields) (λ colormap.
     Ok (record { x = x; y = y; z = z; angle = angle; extralight = extralight; colormap = colormap })))))))
 
 unfoldable pub path_row : ℕ → ℕ → List (List ℕ) → Result PathRow CsvRefusal
-path_row width row fields = and_then (row_shape MAX_VIEWS width row fields) (λ _. view_of width row fields)
+path_row width row fields = then_checked (checked_shape MAX_VIEWS width row fields) (λ _. view_of_fields width row fields)
 
 abbrev pub path_rows : ℕ → List (List (List ℕ)) → Result (List PathRow) CsvRefusal
 path_rows width rows = rows_after (λ _. path_row width) [] rows
@@ -46,8 +46,8 @@ path_rows width rows = rows_after (λ _. path_row width) [] rows
 -- the header and the rows under it
 unfoldable pub path_of_records : List (List (List ℕ)) → Result (List PathRow) CsvRefusal
 path_of_records [] = Err Header
-path_of_records (head ∷ rows) = and_then (path_width head) (λ width. path_rows width rows)
+path_of_records (head ∷ rows) = then_checked (path_width head) (λ width. path_rows width rows)
 
 -- the views of a file, or its first refusal
 unfoldable pub path_in : List ℕ → Result (List PathRow) CsvRefusal
-path_in bytes = and_then (table_records bytes) path_of_records
+path_in bytes = then_checked (table_records bytes) path_of_records

@@ -8,17 +8,17 @@ use Rattle.csv_tables.specs.declared.fault.CsvRefusal.TheVariants.{TooLong, Fiel
 use Rattle.csv_tables.specs.declared.records.TheConstants.{MAX_TABLE_BYTES}
 
 -- what comes after a step that may refuse
-abbrev pub and_then : {A B : Type 0} → Result A CsvRefusal → (A → Result B CsvRefusal) → Result B CsvRefusal
-and_then (Ok a) f = f a
-and_then (Err e) f = Err e
+abbrev pub then_checked : {A B : Type 0} → Result A CsvRefusal → (A → Result B CsvRefusal) → Result B CsvRefusal
+then_checked (Ok a) f = f a
+then_checked (Err e) f = Err e
 
 -- every record that `csv` gives for the bytes: its defaults, with no header row of its own
-unfoldable pub records_of : List ℕ → List (List (List ℕ))
-records_of bytes = records default_config (strip_bom bytes)
+unfoldable pub csv_records : List ℕ → List (List (List ℕ))
+csv_records bytes = records default_config (strip_bom bytes)
 
 -- the records of a file that is not too long
 unfoldable pub table_records : List ℕ → Result (List (List (List ℕ))) CsvRefusal
-table_records bytes = cond (nat_lt MAX_TABLE_BYTES (length bytes)) (Err (TooLong (length bytes))) (Ok (records_of bytes))
+table_records bytes = cond (nat_lt MAX_TABLE_BYTES (length bytes)) (Err (TooLong (length bytes))) (Ok (csv_records bytes))
 
 -- the fields are these names
 unfoldable pub is_header : List (List ℕ) → List (List ℕ) → Bool
@@ -28,8 +28,8 @@ is_header (n ∷ ns) [] = false
 is_header (n ∷ ns) (f ∷ fs) = bytes_eq f n && is_header ns fs
 
 -- a row is one too many; else it has another number of fields than the header
-unfoldable pub row_shape : ℕ → ℕ → ℕ → List (List ℕ) → Result (Unit {0}) CsvRefusal
-row_shape limit width row fields = cond (nat_lt limit row) (Err TooMany) (cond (length fields == width) (Ok tt) (Err (Fields row)))
+unfoldable pub checked_shape : ℕ → ℕ → ℕ → List (List ℕ) → Result (Unit {0}) CsvRefusal
+checked_shape limit width row fields = cond (nat_lt limit row) (Err TooMany) (cond (length fields == width) (Ok tt) (Err (Fields row)))
 
 -- a record was refused for its number of fields
 unfoldable pub is_of_length : ErrorKind → Bool

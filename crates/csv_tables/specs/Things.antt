@@ -8,8 +8,8 @@ use Rattle.level_rules.specs.declared.ThingLine.{ThingLine}
 use Rattle.level_rules.specs.Types.{row_of}
 use Rattle.csv_tables.specs.declared.things.TheConstants.{MAX_HANG, MAX_THINGS, MAX_TYPE, THING_WIDTH}
 use Rattle.csv_tables.specs.declared.columns.TheConstants.{FIRST_FRAME, LAST_FRAME}
-use Rattle.csv_tables.specs.Records.{and_then, is_header, row_shape, table_records}
-use Rattle.csv_tables.specs.Columns.{flag_column, frame_column, natural_column, sprite_column}
+use Rattle.csv_tables.specs.Records.{then_checked, is_header, checked_shape, table_records}
+use Rattle.csv_tables.specs.Columns.{flag_column, frame_column, natural_column, sprite_field}
 use Rattle.csv_tables.specs.Rows.{rows_after}
 
 -- the frame is a frame letter, and the distance from the ceiling within its range
@@ -26,25 +26,25 @@ unfoldable pub is_thing_header : List (List ℕ) → Bool
 is_thing_header head = is_header thing_header head
 
 -- the line of a row with the right number of fields, its columns from left to right
-unfoldable pub line_of : ℕ → List (List ℕ) → Result ThingLine CsvRefusal
-line_of row fields =
-    and_then (natural_column row 0 MAX_TYPE fields) (λ kind.
-    and_then (sprite_column row 1 (field_at fields 1)) (λ sprite.
-    and_then (frame_column row 2 (field_at fields 2)) (λ frame.
-    and_then (flag_column row 3 fields) (λ bright.
-    and_then (natural_column row 4 MAX_HANG fields) (λ hang.
-    and_then (flag_column row 5 fields) (λ shadow.
+unfoldable pub line_of_fields : ℕ → List (List ℕ) → Result ThingLine CsvRefusal
+line_of_fields row fields =
+    then_checked (natural_column row 0 MAX_TYPE fields) (λ kind.
+    then_checked (sprite_field row 1 (field_at fields 1)) (λ sprite.
+    then_checked (frame_column row 2 (field_at fields 2)) (λ frame.
+    then_checked (flag_column row 3 fields) (λ bright.
+    then_checked (natural_column row 4 MAX_HANG fields) (λ hang.
+    then_checked (flag_column row 5 fields) (λ shadow.
     Ok (record { kind = kind; row = record { sprite = sprite; frame = frame; bright = bright; hang = hang; shadow = shadow } })))))))
 
 unfoldable pub thing_line : ℕ → List (List ℕ) → Result ThingLine CsvRefusal
-thing_line row fields = and_then (row_shape MAX_THINGS THING_WIDTH row fields) (λ _. line_of row fields)
+thing_line row fields = then_checked (checked_shape MAX_THINGS THING_WIDTH row fields) (λ _. line_of_fields row fields)
 
 -- a line of a type that no earlier line has
 unfoldable pub not_repeated : Option ThingRow → ℕ → ThingLine → Result ThingLine CsvRefusal
 not_repeated earlier row line = cond (is_some earlier) (Err (Repeat row)) (Ok line)
 
 unfoldable pub read_line : List ThingLine → ℕ → List (List ℕ) → Result ThingLine CsvRefusal
-read_line lines row fields = and_then (thing_line row fields) (λ line. not_repeated (row_of lines line.kind) row line)
+read_line lines row fields = then_checked (thing_line row fields) (λ line. not_repeated (row_of lines line.kind) row line)
 
 abbrev pub thing_lines : List (List (List ℕ)) → Result (List ThingLine) CsvRefusal
 thing_lines rows = rows_after read_line [] rows
@@ -55,5 +55,5 @@ lines_of_records [] = Err Header
 lines_of_records (head ∷ rows) = cond (is_thing_header head) (thing_lines rows) (Err Header)
 
 -- the lines of a file, or its first refusal
-unfoldable pub things_in : List ℕ → Result (List ThingLine) CsvRefusal
-things_in bytes = and_then (table_records bytes) lines_of_records
+unfoldable pub things_in_table : List ℕ → Result (List ThingLine) CsvRefusal
+things_in_table bytes = then_checked (table_records bytes) lines_of_records

@@ -6,8 +6,8 @@ use Rattle.csv_tables.specs.declared.fault.CsvRefusal.TheVariants.{Header}
 use Rattle.csv_tables.specs.declared.weapons.WeaponRow.{WeaponRow}
 use Rattle.csv_tables.specs.declared.weapons.TheConstants.{MAX_VIEW, MAX_WEAPONS, WEAPON_WIDTH}
 use Rattle.csv_tables.specs.declared.columns.TheConstants.{FIRST_FRAME, LAST_FRAME}
-use Rattle.csv_tables.specs.Records.{and_then, is_header, row_shape, table_records}
-use Rattle.csv_tables.specs.Columns.{flag_column, frame_column, natural_column, place_column, sprite_column}
+use Rattle.csv_tables.specs.Records.{then_checked, is_header, checked_shape, table_records}
+use Rattle.csv_tables.specs.Columns.{flag_column, frame_column, natural_column, place_column, sprite_field}
 use Rattle.csv_tables.specs.Rows.{rows_after}
 
 -- the number of the view is one that a path may have, and the frame is a frame letter
@@ -23,16 +23,16 @@ is_weapon_header head = is_header weapon_header head
 -- the layer of a row with the right number of fields, its columns from left to right
 unfoldable pub weapon_of : ℕ → List (List ℕ) → Result WeaponRow CsvRefusal
 weapon_of row fields =
-    and_then (natural_column row 0 MAX_VIEW fields) (λ view.
-    and_then (sprite_column row 1 (field_at fields 1)) (λ sprite.
-    and_then (frame_column row 2 (field_at fields 2)) (λ frame.
-    and_then (flag_column row 3 fields) (λ bright.
-    and_then (place_column row 4 fields) (λ sx.
-    and_then (place_column row 5 fields) (λ sy.
+    then_checked (natural_column row 0 MAX_VIEW fields) (λ view.
+    then_checked (sprite_field row 1 (field_at fields 1)) (λ sprite.
+    then_checked (frame_column row 2 (field_at fields 2)) (λ frame.
+    then_checked (flag_column row 3 fields) (λ bright.
+    then_checked (place_column row 4 fields) (λ sx.
+    then_checked (place_column row 5 fields) (λ sy.
     Ok (record { view = view; sprite = sprite; frame = frame; bright = bright; sx = sx; sy = sy })))))))
 
 unfoldable pub weapon_row : ℕ → List (List ℕ) → Result WeaponRow CsvRefusal
-weapon_row row fields = and_then (row_shape MAX_WEAPONS WEAPON_WIDTH row fields) (λ _. weapon_of row fields)
+weapon_row row fields = then_checked (checked_shape MAX_WEAPONS WEAPON_WIDTH row fields) (λ _. weapon_of row fields)
 
 abbrev pub weapon_rows : List (List (List ℕ)) → Result (List WeaponRow) CsvRefusal
 weapon_rows rows = rows_after (λ _. weapon_row) [] rows
@@ -44,4 +44,4 @@ weapons_of_records (head ∷ rows) = cond (is_weapon_header head) (weapon_rows r
 
 -- the layers of a file, or its first refusal
 unfoldable pub weapons_in : List ℕ → Result (List WeaponRow) CsvRefusal
-weapons_in bytes = and_then (table_records bytes) weapons_of_records
+weapons_in bytes = then_checked (table_records bytes) weapons_of_records

@@ -4,7 +4,7 @@ ghost use Rattle.std.specs.Prelude.{◌≡◌, ◌<◌, ◌≤◌, ◌≤ℤ◌,
 ghost use Rattle.std.specs.List.{list_all};
 ghost use Rattle.std.specs.Char.{to_ascii_uppercase};
 ghost use Rattle.csv.specs.Records.{fields_of, field_at};
-ghost use Rattle.csv_tables.specs.Columns.{capital, flag_column, frame_column, in_range, integer_column, is_frame, is_sprite, natural_column, number_in, place_column, sprite_column};
+ghost use Rattle.csv_tables.specs.Columns.{capital, flag_column, frame_column, in_range, integer_column, is_frame_letter, is_sprite, natural_column, number_in, place_column, sprite_field};
 
 use crate::fault::CsvRefusal;
 use crate::number::number;
@@ -110,13 +110,13 @@ pub(crate) fn flag_column(row: u64, column: usize, fields: &ByteRecord) -> Resul
 }
 
 // The name of a sprite, small letters as capitals.
-#[tactic(auto, unfolding(crate::specs::Columns::sprite_column))]
-pub(crate) fn sprite_column(
+#[tactic(auto, unfolding(crate::specs::Columns::sprite_field))]
+pub(crate) fn sprite_field(
     row: u64,
     column: usize,
     fields: &ByteRecord,
 ) -> Result<[u8; 4], CsvRefusal>
-    ensures { result ≡ sprite_column row column (field_at (fields_of fields.now) column) }
+    ensures { result ≡ sprite_field row column (field_at (fields_of fields.now) column) }
 {
     match fields.get(column) {
         Some(text) => {
@@ -170,7 +170,7 @@ pub(crate) fn frame_column(row: u64, column: usize, fields: &ByteRecord) -> Resu
 {
     match fields.get(column) {
         Some(text) => {
-            if is_frame(text) {
+            if is_frame_letter(text) {
                 Ok(capital(text))
             } else {
                 Err(CsvRefusal::Range {
@@ -184,9 +184,9 @@ pub(crate) fn frame_column(row: u64, column: usize, fields: &ByteRecord) -> Resu
 }
 
 // Whether this is one frame letter.
-#[tactic(auto, unfolding(crate::specs::Columns::is_frame))]
-fn is_frame(text: &[u8]) -> bool
-    ensures value { result ≡ is_frame text.now }
+#[tactic(auto, unfolding(crate::specs::Columns::is_frame_letter))]
+fn is_frame_letter(text: &[u8]) -> bool
+    ensures value { result ≡ is_frame_letter text.now }
     ensures limits { result ≡ true →
         (FIRST_FRAME ≤ capital text.now) × (capital text.now ≤ LAST_FRAME) }
 {

@@ -4,11 +4,11 @@ ghost use Rattle.std.specs.Prelude.{◌≡◌, ◌≤◌, ◌+◌, ℕ, List, []
 ghost use Rattle.csv.specs.Records.{fields_of};
 ghost use Rattle.csv_tables.specs.declared.fault.CsvRefusal.{CsvRefusal};
 ghost use Rattle.csv_tables.specs.declared.path.PathRow.{PathRow};
-ghost use Rattle.csv_tables.specs.Paths.{HasLightInRange, light_column, path_in, path_of_records, path_row, path_rows, path_width, view_of};
+ghost use Rattle.csv_tables.specs.Paths.{HasLightInRange, light_column, path_in, path_of_records, path_row, path_rows, path_width, view_of_fields};
 
 use crate::columns::{natural_column, place_column};
 use crate::fault::{CsvFault, CsvRefusal};
-use crate::records::{is_header, row_shape, table_records};
+use crate::records::{is_header, checked_shape, table_records};
 use csv::ByteRecord;
 use std::alloc::Global;
 use std::marker::Model;
@@ -153,14 +153,14 @@ fn path_row(width: usize, row: u64, fields: &ByteRecord) -> Result<PathRow, CsvR
     ensures value { result ≡ path_row width row (fields_of fields.now) }
     ensures light { IfOk result HasLightInRange }
 {
-    row_shape(MAX_VIEWS, width, row, fields)?;
-    view_of(width, row, fields)
+    checked_shape(MAX_VIEWS, width, row, fields)?;
+    view_of_fields(width, row, fields)
 }
 
 // The view of a row with the right number of fields.
-#[tactic(auto, unfolding(crate::specs::Paths::view_of))]
-fn view_of(width: usize, row: u64, fields: &ByteRecord) -> Result<PathRow, CsvRefusal>
-    ensures value { result ≡ view_of width row (fields_of fields.now) }
+#[tactic(auto, unfolding(crate::specs::Paths::view_of_fields))]
+fn view_of_fields(width: usize, row: u64, fields: &ByteRecord) -> Result<PathRow, CsvRefusal>
+    ensures value { result ≡ view_of_fields width row (fields_of fields.now) }
     ensures light { IfOk result HasLightInRange }
 {
     let x = place_column(row, 0, fields)?;

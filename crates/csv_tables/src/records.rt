@@ -5,7 +5,7 @@ ghost use Rattle.std.specs.Prelude.{bytes_eq};
 ghost use Rattle.std.specs.Option.{option_map_or};
 ghost use Rattle.csv.specs.Records.{fields_of, field_at};
 ghost use Rattle.csv.specs.Reading.{error_kind};
-ghost use Rattle.csv_tables.specs.Records.{is_of_length, is_header, records_of, row_shape, table_records};
+ghost use Rattle.csv_tables.specs.Records.{is_of_length, is_header, csv_records, checked_shape, table_records};
 
 use crate::fault::{CsvFault, CsvRefusal};
 use csv::{ByteRecord, Error, ErrorKind, ReaderBuilder};
@@ -21,8 +21,8 @@ pub(crate) fn table_records(
     bytes: &[u8],
     limit: usize,
 ) -> Result<Vec<ByteRecord>, CsvFault>
-    ensures whole { IfOk result (λ v. table_records bytes.now ≡ Ok (records_of bytes.now)) }
-    ensures records { IfOk result (λ v. map fields_of v.items ≡ take limit (records_of bytes.now)) }
+    ensures whole { IfOk result (λ v. table_records bytes.now ≡ Ok (csv_records bytes.now)) }
+    ensures records { IfOk result (λ v. map fields_of v.items ≡ take limit (csv_records bytes.now)) }
     ensures refused { (r : CsvRefusal) → result ≡ Err (CsvFault.Refused r) →
         table_records bytes.now ≡ Err r }
 {
@@ -43,7 +43,7 @@ pub(crate) fn first_records(
     bytes: &[u8],
     limit: usize,
 ) -> Result<Vec<ByteRecord>, AllocError>
-    ensures { IfOk result (λ v. map fields_of v.items ≡ take limit (records_of bytes.now)) }
+    ensures { IfOk result (λ v. map fields_of v.items ≡ take limit (csv_records bytes.now)) }
 {
     let rdr = ReaderBuilder::new()
         .has_headers(false)
@@ -105,14 +105,14 @@ fn has_field(fields: &ByteRecord, i: usize, name: &[u8]) -> bool
 }
 
 // Whether a row is one too many, and else whether it has as many fields as the header.
-#[tactic(auto, unfolding(crate::specs::Records::row_shape))]
-pub(crate) fn row_shape(
+#[tactic(auto, unfolding(crate::specs::Records::checked_shape))]
+pub(crate) fn checked_shape(
     limit: u64,
     width: usize,
     row: u64,
     fields: &ByteRecord,
 ) -> Result<(), CsvRefusal>
-    ensures value { result ≡ row_shape limit width row (fields_of fields.now) }
+    ensures value { result ≡ checked_shape limit width row (fields_of fields.now) }
     ensures within { IfOk result (λ _. row ≤ limit) }
 {
     if row > limit {

@@ -3,13 +3,13 @@
 ghost use Rattle.std.specs.Prelude.{◌≡◌, ◌<◌, ◌≤◌, ◌+◌, ℕ, List, [], true, false, length, IfOk, IfSome, map, Option, Some, None, Result, Ok, Err, All, get_or, replicate};
 ghost use Rattle.csv.specs.Records.{fields_of, field_at};
 ghost use Rattle.csv_tables.specs.declared.fault.CsvRefusal.{CsvRefusal};
-ghost use Rattle.csv_tables.specs.Things.{IsLineInRange, IsThingInRange, is_thing_header, line_of, lines_of_records, not_repeated, read_line, thing_line, thing_lines, things_in};
+ghost use Rattle.csv_tables.specs.Things.{IsLineInRange, IsThingInRange, is_thing_header, line_of_fields, lines_of_records, not_repeated, read_line, thing_line, thing_lines, things_in_table};
 ghost use Rattle.level_rules.specs.Types.{row_of};
 ghost use Rattle.csv_tables.specs.Slots.{AreNumbersOf, numbered_row};
 
-use crate::columns::{flag_column, frame_column, natural_column, sprite_column};
+use crate::columns::{flag_column, frame_column, natural_column, sprite_field};
 use crate::fault::{CsvFault, CsvRefusal};
-use crate::records::{is_header, row_shape, table_records};
+use crate::records::{is_header, checked_shape, table_records};
 use csv::ByteRecord;
 use level_rules::{ThingLine, ThingRow};
 use std::alloc::{AllocError, Global};
@@ -64,11 +64,11 @@ impl ThingTable {
     /// earlier row. `OutOfMemory`.
     ///
     /// The original has the table in its program: `mobjinfo`, info.c.
-    #[tactic(auto, unfolding(crate::specs::Things::things_in))]
+    #[tactic(auto, unfolding(crate::specs::Things::things_in_table))]
     pub fn read(alloc: Global, bytes: &[u8]) -> Result<ThingTable, CsvFault>
-        ensures ok { IfOk result (λ t. things_in bytes.now ≡ Ok t) }
+        ensures ok { IfOk result (λ t. things_in_table bytes.now ≡ Ok t) }
         ensures refused { (r : CsvRefusal) → result ≡ Err (CsvFault.Refused r) →
-            things_in bytes.now ≡ Err r }
+            things_in_table bytes.now ≡ Err r }
     {
         let records = table_records(alloc, bytes, MAX_THING_RECORDS)?;
         table_of_records(alloc, &records)
@@ -213,18 +213,18 @@ fn thing_line(row: u64, fields: &ByteRecord) -> Result<ThingLine, CsvRefusal>
     ensures range { IfOk result IsLineInRange }
     ensures within { IfOk result (λ _. row ≤ MAX_THINGS) }
 {
-    row_shape(MAX_THINGS, THING_WIDTH, row, fields)?;
-    line_of(row, fields)
+    checked_shape(MAX_THINGS, THING_WIDTH, row, fields)?;
+    line_of_fields(row, fields)
 }
 
 // The line of a row with the right number of fields.
-#[tactic(auto, unfolding(crate::specs::Things::line_of))]
-fn line_of(row: u64, fields: &ByteRecord) -> Result<ThingLine, CsvRefusal>
-    ensures value { result ≡ line_of row (fields_of fields.now) }
+#[tactic(auto, unfolding(crate::specs::Things::line_of_fields))]
+fn line_of_fields(row: u64, fields: &ByteRecord) -> Result<ThingLine, CsvRefusal>
+    ensures value { result ≡ line_of_fields row (fields_of fields.now) }
     ensures range { IfOk result IsLineInRange }
 {
     let kind = natural_column(row, 0, MAX_TYPE, fields)?;
-    let sprite = sprite_column(row, 1, fields)?;
+    let sprite = sprite_field(row, 1, fields)?;
     let frame = frame_column(row, 2, fields)?;
     let bright = flag_column(row, 3, fields)?;
     let hang = natural_column(row, 4, MAX_HANG as u32, fields)?;

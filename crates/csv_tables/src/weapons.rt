@@ -6,9 +6,9 @@ ghost use Rattle.csv_tables.specs.declared.fault.CsvRefusal.{CsvRefusal};
 ghost use Rattle.csv_tables.specs.declared.weapons.TheConstants.{MAX_WEAPONS};
 ghost use Rattle.csv_tables.specs.Weapons.{IsWeaponInRange, weapon_of, weapon_row, weapon_rows, weapons_in, weapons_of_records, is_weapon_header};
 
-use crate::columns::{flag_column, frame_column, natural_column, place_column, sprite_column};
+use crate::columns::{flag_column, frame_column, natural_column, place_column, sprite_field};
 use crate::fault::{CsvFault, CsvRefusal};
-use crate::records::{is_header, row_shape, table_records};
+use crate::records::{is_header, checked_shape, table_records};
 use csv::ByteRecord;
 use std::alloc::Global;
 use std::marker::Model;
@@ -145,7 +145,7 @@ fn weapon_row(row: u64, fields: &ByteRecord) -> Result<WeaponRow, CsvRefusal>
     ensures value { result ≡ weapon_row row (fields_of fields.now) }
     ensures range { IfOk result IsWeaponInRange }
 {
-    row_shape(MAX_WEAPONS, WEAPON_WIDTH, row, fields)?;
+    checked_shape(MAX_WEAPONS, WEAPON_WIDTH, row, fields)?;
     weapon_of(row, fields)
 }
 
@@ -156,7 +156,7 @@ fn weapon_of(row: u64, fields: &ByteRecord) -> Result<WeaponRow, CsvRefusal>
     ensures range { IfOk result IsWeaponInRange }
 {
     let view = natural_column(row, 0, MAX_VIEW, fields)?;
-    let sprite = sprite_column(row, 1, fields)?;
+    let sprite = sprite_field(row, 1, fields)?;
     let frame = frame_column(row, 2, fields)?;
     let bright = flag_column(row, 3, fields)?;
     let sx = place_column(row, 4, fields)?;

@@ -1,10 +1,8 @@
-mod PictureLemmas
-mod WeaponLemmas
+pub mod ArtLemmas
 pub mod AuditLemmas
-pub mod ColourLemmas
-pub mod FaultLemmas
-pub mod FetchLemmas
 pub mod BaseLemmas
+pub mod ColourLemmas
+pub mod FetchLemmas
 pub mod MarkLemmas
 pub mod MemberLemmas
 pub mod MiddleLemmas
@@ -15,3 +13,5 @@ pub mod PartLemmas
 pub mod PictureLemmas
 pub mod SceneLemmas
 pub mod SizeLemmas
+pub mod StepLemmas
+pub mod WeaponLemmas

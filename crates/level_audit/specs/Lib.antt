@@ -1,6 +1,6 @@
 pub mod Asked
-pub mod Faults
 pub mod Bases
+pub mod Faults
 pub mod Reads
 pub mod Scenes
 pub mod Sound

@@ -1,20 +1,18 @@
 -- What the rows of a weapon table need, and the book of it.
 use Rattle.std.specs.Prelude.{ℕ, suc, List, [], ◌∷◌, Result}
-use Rattle.outside.specs.Faults.{from_below}
+use Rattle.outside.specs.declared.fault.Fault.{Fault}
+use Rattle.outside.specs.Faults.{fault_above, from_below}
 use Rattle.lump_rules.specs.declared.wad.Lump.{Lump}
 use Rattle.csv_tables.specs.declared.weapons.WeaponRow.{WeaponRow}
 use Rattle.art_rules.specs.declared.refusal.SpriteRefusal.{SpriteRefusal}
 use Rattle.art_rules.specs.declared.refusal.SpriteRefusal.TheVariants as sprite
-use Rattle.sprite_book.specs.declared.fault.SpriteFault.{SpriteFault}
-use Rattle.sprite_book.specs.declared.fault.SpriteFault.TheVariants as fault
 use Rattle.art_rules.specs.declared.shapes.Frame.{Frame}
 use Rattle.art_rules.specs.declared.shapes.Need.{Need}
 use Rattle.art_rules.specs.Books.{each_of, first_needs, frame_of}
+use Rattle.scene_rules.specs.declared.refusal.AuditRefusal.{AuditRefusal}
 use Rattle.scene_rules.specs.declared.refusal.AuditRefusal.TheVariants.{WeaponArt}
 use Rattle.scene_rules.specs.declared.refusal.WeaponRefusal.{WeaponRefusal}
 use Rattle.scene_rules.specs.declared.refusal.WeaponRefusal.TheVariants.{NoFrame, MissingRotation, BadPatch}
-use Rattle.level_audit.specs.declared.fault.AuditFault.{AuditFault}
-use Rattle.level_audit.specs.declared.fault.AuditFault.TheVariants.{Refused, ReadFault, ZoneFull, OutOfMemory}
 
 -- the frame of a row, which is told by its number
 unfoldable pub need_of_row : ℕ → WeaponRow → Need
@@ -34,11 +32,12 @@ weapon_refusal (sprite.NoFrame thing) = NoFrame thing
 weapon_refusal (sprite.MissingRotation thing rotation) = MissingRotation thing rotation
 weapon_refusal (sprite.BadPatch lump) = BadPatch lump
 
-abbrev pub weapon_fault : SpriteFault → AuditFault
-weapon_fault (fault.Refused refusal) = Refused (WeaponArt (weapon_refusal refusal))
-weapon_fault fault.ReadFault = ReadFault
-weapon_fault (fault.ZoneFull wanted widest) = ZoneFull wanted widest
-weapon_fault fault.OutOfMemory = OutOfMemory
+-- a refusal of the book is one of the weapons' art
+abbrev pub weapon_art : SpriteRefusal → AuditRefusal
+weapon_art refusal = WeaponArt (weapon_refusal refusal)
+
+abbrev pub weapon_fault : Fault SpriteRefusal → Fault AuditRefusal
+weapon_fault = fault_above weapon_art
 
 -- the book of the rows' frames, refused for the first row that lacks something
 unfoldable pub weapon_book : (ℕ → List ℕ) → List Lump → List WeaponRow → Result (List Frame) WeaponRefusal

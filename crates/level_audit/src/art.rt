@@ -16,7 +16,7 @@ ghost use Rattle.scene_rules.specs.Places.{need_of};
 ghost use Rattle.scene_rules.specs.Scenes.{book_in};
 ghost use Rattle.scene_rules.specs.Sides.{is_wanted_texture};
 
-use crate::AuditFault;
+use crate::{AuditFault, AuditRefusal};
 use level_rules::SideTextures;
 use level_scene::{PlacedThings, wanted_textures};
 use lump_cache::LumpCache;
@@ -44,8 +44,9 @@ pub(crate) fn prepare_faces<S: Shelf>(
     ensures middles { OnOk result (All (λ side. (side.middle ≡ 0) ⊎ IsPrepared textures.new side.middle) sides.now) }
 {
     let wanted = wanted_textures(alloc, sides, sky)?;
-    textures.prepare(alloc, &wanted, dir, cache, shelf)?;
-    Ok(())
+    textures
+        .prepare(alloc, &wanted, dir, cache, shelf)
+        .map_err(|fault| fault.above(AuditRefusal::Texture))
 }
 
 // Reads the pictures of the frames that placed things need.
@@ -60,5 +61,6 @@ pub(crate) fn read_book<S: Shelf>(
     ensures tells { ReadsLumps itself (S.view shelf.old) (S.view shelf.new) dir.now cache.old cache.new (IsWanted dir.now.lumps (map need_of placed.now)) (λ book. book) (λ bytes. from_below Sprite (book_in bytes dir.now.lumps placed.now)) result }
 {
     let needs = placed.needs(alloc)?;
-    Ok(SpriteBook::load(alloc, &needs, dir, cache, shelf)?)
+    SpriteBook::load(alloc, &needs, dir, cache, shelf)
+        .map_err(|fault| fault.above(AuditRefusal::Sprite))
 }

@@ -18,13 +18,14 @@ ghost use Rattle.scene_rules.specs.Sizes.{needed_lumps};
 ghost use Rattle.level_audit.specs.Asked.{IsOfBase};
 ghost use Rattle.level_audit.specs.Reads.{IsFullAudit, IsReadBy, IsReadLater};
 
-use crate::{AuditFault, SoundScene};
+use crate::{AuditFault, AuditRefusal, SoundScene};
 use csv_tables::ThingTable;
-use crate::{find_colormap, read_base};
+use crate::base::read_base;
+use crate::colours::find_colormap;
+use crate::scene::read_scene;
 use lump_cache::LumpCache;
 use lump_rules::Name8;
-use outside::Shelf;
-use crate::read_scene;
+use outside::{Fault, Shelf};
 use std::alloc::Global;
 use wad_dir::{Directory, LumpNo};
 use zone_heap::Tag;
@@ -87,9 +88,14 @@ pub fn audit<S: Shelf>(
         IsInOrder items cache.old →
         MatchResult result (λ _. KeepsOrder items cache.old cache.new (S.view shelf.old).taken (S.view shelf.new).taken) (λ fault. InOrderAt (itself fault) (KeepsOrder items cache.old cache.new (S.view shelf.old).taken (S.view shelf.new).taken)) }
 {
-    let colormap = find_colormap(dir)?;
-    cache.fetch(shelf, dir, colormap, Tag::Static)?;
-    audit_rest(alloc, colormap, dir, cache, shelf, things, map, skill)
+    let colormap = match find_colormap(dir) {
+        Ok(colormap) => colormap,
+        Err(refusal) => return Err(Fault::Refused(AuditRefusal::Art(refusal))),
+    };
+    match cache.fetch(shelf, dir, colormap, Tag::Static) {
+        Ok(()) => audit_rest(alloc, colormap, dir, cache, shelf, things, map, skill),
+        Err(fault) => Err(fault.above()),
+    }
 }
 
 // The steps after COLORMAP, whose lump this is.

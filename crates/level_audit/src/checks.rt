@@ -13,7 +13,7 @@ ghost use Rattle.scene_rules.specs.Scenes.{checked, texture_by};
 use crate::SceneRefusal;
 use level_rules::{Seg, SideTextures};
 use level_scene::{PlacedThings, SceneFault};
-use crate::find_bad_middle;
+use crate::middles::find_bad_middle;
 use std::alloc::Global;
 use texture_build::Textures;
 

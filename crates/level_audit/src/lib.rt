@@ -9,16 +9,31 @@
 //! r_data.c, `R_InitSprites`, r_things.c, which end the program at what is refused here.
 #![tactic(auto)]
 
-mod pictures;
+mod art;
+mod audit_steps;
+mod base;
+#[cfg(test)]
+mod base_tests;
+mod checks;
+mod colours;
+mod fault;
+mod marks;
+mod middles;
+mod names;
+mod needed;
+mod needs;
+mod scene;
+mod sizes;
 mod sound;
-mod steps;
 #[cfg(test)]
 mod tests;
 mod weapons;
 
-pub use crate::{ArtRefusal, AuditFault, AuditRefusal, SceneRefusal, WeaponRefusal};
+pub use audit_steps::audit;
+pub use fault::AuditFault;
 pub use level_rules::{PlacedThing, SideTextures, Surface};
-pub use scene_rules::{Flat, SectorFlats, ZoneSizes};
+pub use scene_rules::{
+    ArtRefusal, AuditRefusal, Flat, SceneRefusal, SectorFlats, WeaponRefusal, ZoneSizes,
+};
 pub use sound::SoundScene;
-pub use steps::audit;
 pub use weapons::audit_weapons;

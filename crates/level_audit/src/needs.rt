@@ -8,8 +8,9 @@ ghost use Rattle.level_audit.specs.Scenes.{scene_value};
 ghost use Rattle.level_audit.specs.Sound.{art_with};
 
 use outside::OutOfMemory;
-use crate::{NeededArt, needed_lumps, zone_sizes};
-use crate::ReadScene;
+use crate::needed::{NeededArt, needed_lumps};
+use crate::scene::ReadScene;
+use crate::sizes::zone_sizes;
 use scene_rules::ZoneSizes;
 use std::alloc::Global;
 use wad_dir::{Directory, LumpNo};

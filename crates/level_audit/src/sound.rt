@@ -16,7 +16,7 @@ use level_scene::Level;
 use level_rules::{PlacedThing, SideTextures, Surface};
 use level_scene::{make_surfaces, sector_at};
 use outside::OutOfMemory;
-use crate::ReadScene;
+use crate::scene::ReadScene;
 use scene_rules::{SectorFlats, ZoneSizes};
 use sprite_book::SpriteBook;
 use std::alloc::Global;

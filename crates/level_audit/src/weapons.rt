@@ -14,7 +14,7 @@ use crate::{AuditFault, AuditRefusal, SoundScene, WeaponRefusal};
 use art_rules::SpriteRefusal;
 use csv_tables::{WeaponRow, WeaponTable};
 use lump_cache::LumpCache;
-use outside::{OutOfMemory, Shelf};
+use outside::{Fault, OutOfMemory, Shelf};
 use sprite_book::{Need, SpriteBook, SpriteFault};
 use std::alloc::Global;
 use wad_dir::{Directory, LumpNo};
@@ -99,12 +99,12 @@ fn weapon_fault(fault: SpriteFault) -> AuditFault
     ensures { result ≡ weapon_fault fault }
 {
     match fault {
-        SpriteFault::Refused(refusal) => {
-            AuditFault::Refused(AuditRefusal::WeaponArt(weapon_refusal(refusal)))
+        Fault::Refused(refusal) => {
+            Fault::Refused(AuditRefusal::WeaponArt(weapon_refusal(refusal)))
         }
-        SpriteFault::ReadFault => AuditFault::ReadFault,
-        SpriteFault::ZoneFull { wanted, widest } => AuditFault::ZoneFull { wanted, widest },
-        SpriteFault::OutOfMemory => AuditFault::OutOfMemory,
+        Fault::ReadFault => Fault::ReadFault,
+        Fault::ZoneFull { wanted, widest } => Fault::ZoneFull { wanted, widest },
+        Fault::OutOfMemory => Fault::OutOfMemory,
     }
 }
 

@@ -1,14 +1,14 @@
 // The cells of a made level and their walls.
 ghost use Rattle.std.specs.Prelude.{◌≡◌, ◌<◌, ◌≤◌, ◌*◌, ◌+◌, ◌^◌};
-ghost use Rattle.made_rules.specs.Cells.{column_of, row_of, vertex_number, corner, next_edge, opposite_edge, is_inner, cell_across, side_across, edge_angle};
+ghost use Rattle.made_rules.specs.Cells.{made_column, made_row, vertex_number, corner, next_edge, opposite_edge, is_inner, cell_across, side_across, edge_angle};
 
 use made_rules::{EDGES, NO_SIDE};
 
 /// The column of a cell, from the west.
-#[tactic(auto, unfolding(made_rules::specs::Cells::column_of))]
-pub fn column_of(side: u32, cell: u32) -> u32
+#[tactic(auto, unfolding(made_rules::specs::Cells::made_column))]
+pub fn made_column(side: u32, cell: u32) -> u32
     requires { 0 < side }
-    ensures value { result ≡ column_of side cell }
+    ensures value { result ≡ made_column side cell }
     ensures most { result ≤ cell }
     ensures within { result < side }
 {
@@ -16,10 +16,10 @@ pub fn column_of(side: u32, cell: u32) -> u32
 }
 
 /// The row of a cell, from the south.
-#[tactic(auto, unfolding(made_rules::specs::Cells::row_of))]
-pub fn row_of(side: u32, cell: u32) -> u32
+#[tactic(auto, unfolding(made_rules::specs::Cells::made_row))]
+pub fn made_row(side: u32, cell: u32) -> u32
     requires { 0 < side }
-    ensures value { result ≡ row_of side cell }
+    ensures value { result ≡ made_row side cell }
     ensures most { result ≤ cell }
 {
     cell / side
@@ -45,8 +45,8 @@ pub fn corner(side: u32, cell: u32, edge: u32) -> u32
     requires edge { edge < EDGES }
     ensures { result ≡ corner side cell edge }
 {
-    let i = column_of(side, cell);
-    let j = row_of(side, cell);
+    let i = made_column(side, cell);
+    let j = made_row(side, cell);
     vertex_number(
         side,
         [i + 1, i, i, i + 1][edge as usize],
@@ -82,8 +82,8 @@ pub fn is_inner(side: u32, cell: u32, edge: u32) -> bool
     requires edge { edge < EDGES }
     ensures { result ≡ is_inner side cell edge }
 {
-    let i = column_of(side, cell);
-    let j = row_of(side, cell);
+    let i = made_column(side, cell);
+    let j = made_row(side, cell);
     [j, i, j + 1, i + 1][edge as usize] % 2 == 1
 }
 

@@ -1,6 +1,6 @@
 // The nodes of a made level.
 ghost use Rattle.std.specs.Prelude.{◌≡◌, ◌<◌, ◌≤◌, ◌++◌, ◌*◌, ◌+◌, ◌^◌, ◌/◌, true, false, IfOk, OnOk};
-ghost use Rattle.made_rules.specs.Nodes.{IsPart, width, height, node_count, is_one_cell, divides_columns, middle_column, middle_row, front_part, back_part, line_halves, box_halves, child_number, node_bytes, part_nodes, made_nodes};
+ghost use Rattle.made_rules.specs.Nodes.{IsPart, width, height, node_count, is_one_cell, divides_columns, made_middle_column, middle_row, front_part, back_part, line_halves, box_halves, child_number, node_bytes, part_nodes, made_nodes};
 
 use crate::bytes::put_halves;
 use made_rules::{CELL_SIZE, LEAF_MARK, Part};
@@ -75,7 +75,7 @@ fn put_line(lump: &mut Vec<u8>, part: Part) -> Result<(), AllocError>
         put_halves(
             lump,
             &[
-                CELL_SIZE * middle_column(part),
+                CELL_SIZE * made_middle_column(part),
                 CELL_SIZE * part.south,
                 0,
                 length,
@@ -147,10 +147,10 @@ fn divides_columns(part: Part) -> bool
     part.north - part.south <= part.east - part.west
 }
 
-#[tactic(auto, unfolding(made_rules::specs::Nodes::middle_column))]
-fn middle_column(part: Part) -> u32
+#[tactic(auto, unfolding(made_rules::specs::Nodes::made_middle_column))]
+fn made_middle_column(part: Part) -> u32
     requires { IsPart part }
-    ensures value { result ≡ middle_column part }
+    ensures value { result ≡ made_middle_column part }
     ensures most { result ≤ 2 ^ 8 }
 {
     (part.west + part.east) / 2
@@ -176,7 +176,7 @@ fn front_part(part: Part) -> Part
 {
     if divides_columns(part) {
         Part {
-            west: middle_column(part),
+            west: made_middle_column(part),
             ..part
         }
     } else {
@@ -198,7 +198,7 @@ fn back_part(part: Part) -> Part
 {
     if divides_columns(part) {
         Part {
-            east: middle_column(part),
+            east: made_middle_column(part),
             ..part
         }
     } else {

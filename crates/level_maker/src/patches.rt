@@ -3,7 +3,7 @@ ghost use Rattle.std.specs.Prelude.{◌≡◌, ◌<◌, ◌≤◌, ◌++◌, ◌
 ghost use Rattle.std.specs.List.{flat_map};
 ghost use Rattle.word_rules.specs.Listed.{listed};
 ghost use Rattle.made_rules.specs.Bytes.{halves, records};
-ghost use Rattle.made_rules.specs.Pictures.{texel, post_bytes, column_bytes, column_size, column_place, made_patch};
+ghost use Rattle.made_rules.specs.Pictures.{made_texel, post_bytes, column_bytes, column_size, made_column_place, made_patch};
 
 use crate::bytes::{put_halves, put_word};
 use made_rules::{Picture, Post};
@@ -50,7 +50,7 @@ fn put_head(lump: &mut Vec<u8>, picture: Picture) -> Result<(), AllocError>
 fn put_places(lump: &mut Vec<u8>, width: u32, size: u32) -> Result<(), AllocError>
     requires width { width < 2 ^ 16 }
     requires size { size < 2 ^ 10 }
-    ensures { OnOk result (lump.new.items ≡ lump.old.items ++ records (column_place width size)
+    ensures { OnOk result (lump.new.items ≡ lump.old.items ++ records (made_column_place width size)
         width) }
 {
     for x in 0..width {
@@ -60,12 +60,12 @@ fn put_places(lump: &mut Vec<u8>, width: u32, size: u32) -> Result<(), AllocErro
 }
 
 // Puts the place of a column: behind the head, all places and the columns before it.
-#[tactic(auto, unfolding(made_rules::specs::Pictures::column_place))]
+#[tactic(auto, unfolding(made_rules::specs::Pictures::made_column_place))]
 fn put_place(lump: &mut Vec<u8>, width: u32, size: u32, x: u32) -> Result<(), AllocError>
     requires width { width < 2 ^ 16 }
     requires size { size < 2 ^ 10 }
     requires column { x < width }
-    ensures { OnOk result (lump.new.items ≡ lump.old.items ++ column_place width size x) }
+    ensures { OnOk result (lump.new.items ≡ lump.old.items ++ made_column_place width size x) }
 {
     put_word(lump, HEAD_SIZE + PLACE_SIZE * width + x * size)
 }
@@ -116,18 +116,18 @@ fn put_post(lump: &mut Vec<u8>, seed: u8, x: u32, post: Post) -> Result<(), Allo
 #[tactic(auto, using(made_rules::proofs::BytesLemmas::listing_behind))]
 fn put_texels(lump: &mut Vec<u8>, seed: u8, x: u32, top: u8, length: u8) -> Result<(), AllocError>
     requires { x < 2 ^ 16 }
-    ensures { OnOk result (lump.new.items ≡ lump.old.items ++ listed (texel seed x top) length) }
+    ensures { OnOk result (lump.new.items ≡ lump.old.items ++ listed (made_texel seed x top) length) }
 {
     for k in 0..length {
-        lump.push(texel(seed, x, top, k))?;
+        lump.push(made_texel(seed, x, top, k))?;
     }
     Ok(())
 }
 
-#[tactic(auto, unfolding(made_rules::specs::Pictures::texel))]
-fn texel(seed: u8, x: u32, top: u8, k: u8) -> u8
+#[tactic(auto, unfolding(made_rules::specs::Pictures::made_texel))]
+fn made_texel(seed: u8, x: u32, top: u8, k: u8) -> u8
     requires { x < 2 ^ 16 }
-    ensures { result ≡ texel seed x top k }
+    ensures { result ≡ made_texel seed x top k }
 {
     ((seed as u32 + 3 * x + 5 * (top as u32 + k as u32)) % 256) as u8
 }

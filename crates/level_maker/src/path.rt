@@ -1,7 +1,7 @@
 // Paths through the made levels.
 ghost use Rattle.std.specs.Prelude.{◌≡◌, ◌<◌, ◌≤◌, ◌++◌, ◌*◌, ◌^◌, ℕ, IfOk, OnOk, decimal};
 ghost use Rattle.made_rules.specs.Bytes.{records};
-ghost use Rattle.made_rules.specs.Texts.{path_place, path_angle, path_row, made_path};
+ghost use Rattle.made_rules.specs.Texts.{path_place, path_angle, made_path_row, made_path};
 
 use itoa::Buffer;
 use made_rules::{
@@ -31,7 +31,7 @@ pub fn make_path(alloc: Global, n: u32) -> Result<Vec<u8>, AllocError>
 fn put_rows(file: &mut Vec<u8>, n: u32) -> Result<(), AllocError>
     requires least { 1 ≤ n }
     requires most { n ≤ MAX_NUMBER }
-    ensures { OnOk result (file.new.items ≡ file.old.items ++ records (path_row n)
+    ensures { OnOk result (file.new.items ≡ file.old.items ++ records (made_path_row n)
         (VIEWS_PER_NUMBER * n)) }
 {
     for k in 0..VIEWS_PER_NUMBER * n {
@@ -40,12 +40,12 @@ fn put_rows(file: &mut Vec<u8>, n: u32) -> Result<(), AllocError>
     Ok(())
 }
 
-#[tactic(auto, unfolding(made_rules::specs::Texts::path_row))]
+#[tactic(auto, unfolding(made_rules::specs::Texts::made_path_row))]
 fn put_row(file: &mut Vec<u8>, n: u32, k: u32) -> Result<(), AllocError>
     requires least { 1 ≤ n }
     requires most { n ≤ MAX_NUMBER }
     requires view { k < VIEWS_PER_NUMBER * MAX_NUMBER }
-    ensures { OnOk result (file.new.items ≡ file.old.items ++ path_row n k) }
+    ensures { OnOk result (file.new.items ≡ file.old.items ++ made_path_row n k) }
 {
     put_number(file, place(n, EAST_ROOMS, EAST_STEPS, k), b",")?;
     put_number(file, place(n, NORTH_ROOMS, NORTH_STEPS, k), b",4718592,")?;

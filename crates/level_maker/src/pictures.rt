@@ -2,7 +2,7 @@
 ghost use Rattle.std.specs.Prelude.{◌≡◌, ◌<◌, ◌≤◌, ◌++◌, ◌*◌, ◌^◌, IfOk, OnOk};
 ghost use Rattle.word_rules.specs.Listed.{listed};
 ghost use Rattle.made_rules.specs.Bytes.{records};
-ghost use Rattle.made_rules.specs.Pictures.{colour_bytes, colormap_byte, flat_byte, made_palette, made_colormaps, made_flat};
+ghost use Rattle.made_rules.specs.Pictures.{colour_bytes, colormap_byte, made_flat_byte, made_palette, made_colormaps, made_flat};
 
 use made_rules::{COLORMAPS, COLOURS, FLAT_SIZE};
 use std::alloc::{AllocError, Global};
@@ -55,16 +55,16 @@ pub fn flat(alloc: Global, number: u32) -> Result<Vec<u8>, AllocError>
 {
     let mut lump = Vec::new(alloc);
     for k in 0..FLAT_SIZE {
-        lump.push(flat_byte(number, k))?;
+        lump.push(made_flat_byte(number, k))?;
     }
     Ok(lump)
 }
 
-#[tactic(auto, unfolding(made_rules::specs::Pictures::flat_byte))]
-fn flat_byte(number: u32, k: u32) -> u8
+#[tactic(auto, unfolding(made_rules::specs::Pictures::made_flat_byte))]
+fn made_flat_byte(number: u32, k: u32) -> u8
     requires flat { number < 2 ^ 8 }
     requires byte { k < FLAT_SIZE }
-    ensures { result ≡ flat_byte number k }
+    ensures { result ≡ made_flat_byte number k }
 {
     (k * (2 * number + 3) % 256) as u8
 }

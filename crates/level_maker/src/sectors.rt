@@ -1,7 +1,7 @@
 // The sectors of a made level.
 ghost use Rattle.std.specs.Prelude.{◌≡◌, ◌<◌, ◌≤◌, ◌++◌, ◌*◌, ◌+◌, ◌^◌, bit_xor, IfOk, OnOk};
 ghost use Rattle.made_rules.specs.Bytes.{records};
-ghost use Rattle.made_rules.specs.Maps.{sector_bytes, floor_height, ceiling_height, sector_light, floor_flat, has_sky, ceiling_name, flat_name};
+ghost use Rattle.made_rules.specs.Maps.{sector_bytes, floor_height, ceiling_height, sector_light, floor_flat, has_made_sky, ceiling_name, flat_name};
 
 use crate::bytes::put_halves;
 use crate::cells::{column_of, row_of};
@@ -75,11 +75,11 @@ fn floor_flat(side: u32, cell: u32) -> u32
     (column_of(side, cell) + row_of(side, cell)) % FLATS
 }
 
-#[tactic(auto, unfolding(made_rules::specs::Maps::has_sky))]
-fn has_sky(side: u32, cell: u32) -> bool
+#[tactic(auto, unfolding(made_rules::specs::Maps::has_made_sky))]
+fn has_made_sky(side: u32, cell: u32) -> bool
     requires some { 0 < side }
     requires cell { cell < 2 ^ 16 }
-    ensures { result ≡ has_sky side cell }
+    ensures { result ≡ has_made_sky side cell }
 {
     (column_of(side, cell) / 2 + row_of(side, cell) / 2) % 3 == 2
 }
@@ -90,7 +90,7 @@ fn ceiling_name(side: u32, cell: u32) -> [u8; 8]
     requires cell { cell < 2 ^ 16 }
     ensures { result ≡ ceiling_name side cell }
 {
-    if has_sky(side, cell) {
+    if has_made_sky(side, cell) {
         *b"F_SKY1\0\0"
     } else {
         flat_name(partner(floor_flat(side, cell)))

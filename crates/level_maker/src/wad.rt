@@ -1,7 +1,7 @@
 // The made WAD file.
 ghost use Rattle.std.specs.Prelude.{◌≡◌, ◌<◌, ◌≤◌, ◌++◌, ◌*◌, ◌+◌, ◌^◌, [], ◌∷◌, IfOk, OnOk};
 ghost use Rattle.word_rules.specs.Listed.{listed};
-ghost use Rattle.made_rules.specs.Wads.{WadParts, parts_of, no_lumps, lump_of, with_lumps, table_lumps, patch_lumps, flat_lump, flat_lumps, sprite_lumps, thing_lumps, wall_lumps, tree_lumps, art_lumps, level_lumps, file_of, made_wad};
+ghost use Rattle.made_rules.specs.Wads.{WadParts, parts_of, no_lumps, lump_of, with_lumps, table_lumps, patch_lumps, made_flat_lump, flat_lumps, sprite_lumps, thing_lumps, wall_lumps, tree_lumps, art_lumps, level_lumps, file_of, made_wad};
 
 use crate::bytes::{put_size, put_word};
 use crate::map::{leaves, lines, segs, sides, things, vertices};
@@ -157,7 +157,7 @@ fn add_flats(alloc: Global, wad: &mut Wad) -> Result<(), AllocError>
 
 #[tactic(auto, using(made_rules::proofs::WadLemmas::listed_lumps))]
 fn add_all_flats(alloc: Global, wad: &mut Wad) -> Result<(), AllocError>
-    ensures { OnOk result (wad.new ≡ with_lumps wad.old (listed flat_lump FLATS)) }
+    ensures { OnOk result (wad.new ≡ with_lumps wad.old (listed made_flat_lump FLATS)) }
 {
     for number in 0..FLATS {
         add_flat(alloc, wad, number)?;
@@ -165,10 +165,10 @@ fn add_all_flats(alloc: Global, wad: &mut Wad) -> Result<(), AllocError>
     Ok(())
 }
 
-#[tactic(auto, unfolding(made_rules::specs::Wads::flat_lump))]
+#[tactic(auto, unfolding(made_rules::specs::Wads::made_flat_lump))]
 fn add_flat(alloc: Global, wad: &mut Wad, number: u32) -> Result<(), AllocError>
     requires { number < FLATS }
-    ensures { OnOk result (wad.new ≡ with_lumps wad.old (flat_lump number ∷ [])) }
+    ensures { OnOk result (wad.new ≡ with_lumps wad.old (made_flat_lump number ∷ [])) }
 {
     wad.add(&flat_name(number), &flat(alloc, number)?)
 }

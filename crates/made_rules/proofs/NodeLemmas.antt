@@ -8,7 +8,7 @@ use Rattle.std.proofs.lemmas.Grind.{common_steps}
 use Rattle.made_rules.specs.declared.map.Part.{Part}
 use Rattle.made_rules.specs.declared.map.TheConstants.{CELL_SIZE, NODE_SIZE}
 use Rattle.made_rules.specs.Bytes.{half, halves}
-use Rattle.made_rules.specs.Nodes.{IsPart, width, height, node_count, is_one_cell, divides_columns, middle_column, middle_row, front_part, back_part, line_halves, box_halves, child_number, node_bytes, nodes_within, part_nodes}
+use Rattle.made_rules.specs.Nodes.{IsPart, width, height, node_count, is_one_cell, divides_columns, made_middle_column, middle_row, front_part, back_part, line_halves, box_halves, child_number, node_bytes, nodes_within, part_nodes}
 
 -- a part with room for a division
 pub record IsDivisible (part : Part) : Type 0 where
@@ -29,8 +29,8 @@ pub divisible : (part : Part) → part.west < part.east → part.south < part.no
 unfolding is_one_cell
 divisible part p q e = record { columns = p; rows = q; size = grind (arith, nat_tests, e) }
 
-front_by : (part : Part) (b : Bool) → divides_columns part ≡ b → IsDivisible part → IsPiece part (cond b (record part { west = middle_column part }) (record part { north = middle_row part }))
-unfolding divides_columns middle_column middle_row
+front_by : (part : Part) (b : Bool) → divides_columns part ≡ b → IsDivisible part → IsPiece part (cond b (record part { west = made_middle_column part }) (record part { north = middle_row part }))
+unfolding divides_columns made_middle_column middle_row
 front_by part true e d = let wide : height part ≤ width part = grind (arith, nat_tests, e) in record { columns = omega arith; rows = omega arith; smaller = omega arith; east = omega arith; north = omega arith }
 front_by part false e d = let high : width part < height part = grind (arith, nat_tests, e) in record { columns = omega arith; rows = omega arith; smaller = omega arith; east = omega arith; north = omega arith }
 
@@ -38,8 +38,8 @@ pub front-piece : (part : Part) → IsDivisible part → IsPiece part (front_par
 unfolding front_part
 front-piece part d = front_by part (divides_columns part) refl d
 
-back_by : (part : Part) (b : Bool) → divides_columns part ≡ b → IsDivisible part → IsPiece part (cond b (record part { east = middle_column part }) (record part { south = middle_row part }))
-unfolding divides_columns middle_column middle_row
+back_by : (part : Part) (b : Bool) → divides_columns part ≡ b → IsDivisible part → IsPiece part (cond b (record part { east = made_middle_column part }) (record part { south = middle_row part }))
+unfolding divides_columns made_middle_column middle_row
 back_by part true e d = let wide : height part ≤ width part = grind (arith, nat_tests, e) in record { columns = omega arith; rows = omega arith; smaller = omega arith; east = omega arith; north = omega arith }
 back_by part false e d = let high : width part < height part = grind (arith, nat_tests, e) in record { columns = omega arith; rows = omega arith; smaller = omega arith; east = omega arith; north = omega arith }
 
@@ -86,10 +86,10 @@ count_by_cases :
     → divides_columns part ≡ b
     → IsDivisible part
     → node_count part
-    ≡ node_count (cond b (record part { west = middle_column part }) (record part { north = middle_row part }))
-    + node_count (cond b (record part { east = middle_column part }) (record part { south = middle_row part }))
+    ≡ node_count (cond b (record part { west = made_middle_column part }) (record part { north = middle_row part }))
+    + node_count (cond b (record part { east = made_middle_column part }) (record part { south = middle_row part }))
     + 1
-unfolding node_count divides_columns middle_column middle_row
+unfolding node_count divides_columns made_middle_column middle_row
 count_by_cases part true e d =
     let wide : height part ≤ width part = grind (arith, nat_tests, e) in
     let m = (part.west + part.east) / 2 in
@@ -186,7 +186,7 @@ part_nodes-parts bytes side first part within e =
     = deeper ∙ this_list (is_one_cell part) _ e in
     joined bytes (part_nodes side first (front_part part)) (part_nodes side (first + node_count (front_part part)) (back_part part)) (node_bytes side first part) _ _ _ f g whole
 
-line_length : (part : Part) (b : Bool) → length (cond b (halves ((CELL_SIZE * middle_column part) ∷ (CELL_SIZE * part.south) ∷ 0 ∷ (CELL_SIZE * height part) ∷ [])) (halves ((CELL_SIZE * part.west) ∷ (CELL_SIZE * middle_row part) ∷ (CELL_SIZE * width part) ∷ 0 ∷ []))) ≡ 8
+line_length : (part : Part) (b : Bool) → length (cond b (halves ((CELL_SIZE * made_middle_column part) ∷ (CELL_SIZE * part.south) ∷ 0 ∷ (CELL_SIZE * height part) ∷ [])) (halves ((CELL_SIZE * part.west) ∷ (CELL_SIZE * middle_row part) ∷ (CELL_SIZE * width part) ∷ 0 ∷ []))) ≡ 8
 unfolding halves half
 line_length part true = refl
 line_length part false = refl

@@ -4,11 +4,11 @@ use Rattle.std.specs.Prelude.{ℕ, ◌+◌, ◌-◌, ◌*◌, ◌/◌, ◌%◌, 
 use Rattle.made_rules.specs.declared.map.TheConstants.{EDGES, NO_SIDE}
 
 -- the column and the row of a cell
-unfoldable pub column_of : ℕ → ℕ → ℕ
-column_of side cell = cell % side
+unfoldable pub made_column : ℕ → ℕ → ℕ
+made_column side cell = cell % side
 
-unfoldable pub row_of : ℕ → ℕ → ℕ
-row_of side cell = cell / side
+unfoldable pub made_row : ℕ → ℕ → ℕ
+made_row side cell = cell / side
 
 -- of four values the one of a cell's edge: 0 south, 1 west, 2 north, 3 east
 abbrev pub at_edge : ℕ → ℕ → ℕ → ℕ → ℕ → ℕ
@@ -22,8 +22,8 @@ vertex_number side a b = b * (side + 1) + a
 -- and then its south western, north western and north eastern one
 unfoldable pub corner : ℕ → ℕ → ℕ → ℕ
 corner side cell edge =
-    let i = column_of side cell in
-    let j = row_of side cell in
+    let i = made_column side cell in
+    let j = made_row side cell in
     vertex_number side (at_edge (i + 1) i i (i + 1) edge) (at_edge j j (j + 1) (j + 1) edge)
 
 -- the next edge, and the one across
@@ -36,8 +36,8 @@ opposite_edge edge = (edge + 2) % EDGES
 -- an edge within a room of two by two cells
 unfoldable pub is_inner : ℕ → ℕ → ℕ → Bool
 is_inner side cell edge =
-    let i = column_of side cell in
-    let j = row_of side cell in
+    let i = made_column side cell in
+    let j = made_row side cell in
     at_edge j i (j + 1) (i + 1) edge % 2 == 1
 
 -- the cell across an edge

@@ -4,13 +4,13 @@ use Rattle.std.specs.Prelude.{ℕ, ◌+◌, ◌*◌, ◌/◌, ◌%◌, ◌==◌,
 use Rattle.made_rules.specs.declared.map.TheConstants.{CELL_SIZE, EDGES, ONE_SIDED, TWO_SIDED, LEVEL_THING, THING_OPTIONS}
 use Rattle.made_rules.specs.declared.pictures.TheConstants.{FLATS}
 use Rattle.made_rules.specs.Bytes.{half, halves, padded}
-use Rattle.made_rules.specs.Cells.{column_of, row_of, corner, next_edge, is_inner, side_across, edge_angle}
+use Rattle.made_rules.specs.Cells.{made_column, made_row, corner, next_edge, is_inner, side_across, edge_angle}
 
 -- a thing in the middle of its cell; it turns by an eighth from cell to cell
 unfoldable pub thing_bytes : ℕ → ℕ → List ℕ
 thing_bytes side cell =
-    let i = column_of side cell in
-    let j = row_of side cell in
+    let i = made_column side cell in
+    let j = made_row side cell in
     halves ((CELL_SIZE * i + CELL_SIZE / 2) ∷ (CELL_SIZE * j + CELL_SIZE / 2) ∷ (45 * ((i + j) % 8)) ∷ LEVEL_THING ∷ THING_OPTIONS ∷ [])
 
 -- the flags of an edge's line
@@ -26,11 +26,11 @@ line_bytes side k =
 
 -- an inner edge to the west or east, in every other room a grate
 unfoldable pub has_grate : ℕ → ℕ → ℕ → Bool
-has_grate side cell edge = edge % 2 == 1 && (column_of side cell / 2 + row_of side cell / 2) % 2 == 1
+has_grate side cell edge = edge % 2 == 1 && (made_column side cell / 2 + made_row side cell / 2) % 2 == 1
 
 -- the wall of an edge that is not inner
 unfoldable pub wall_name : ℕ → ℕ → List ℕ
-wall_name side cell = cond ((column_of side cell + row_of side cell) % 2 == 1) (padded (codes "WALL2")) (padded (codes "WALL1"))
+wall_name side cell = cond ((made_column side cell + made_row side cell) % 2 == 1) (padded (codes "WALL2")) (padded (codes "WALL1"))
 
 -- the masked mid texture of an inner edge, or none
 unfoldable pub inner_name : ℕ → ℕ → ℕ → List ℕ
@@ -67,24 +67,24 @@ flat_name a = codes "FLAT" ++ (48 + a) ∷ 0 ∷ 0 ∷ 0 ∷ []
 
 -- which of the four flats the floor has
 unfoldable pub floor_flat : ℕ → ℕ → ℕ
-floor_flat side cell = (column_of side cell + row_of side cell) % FLATS
+floor_flat side cell = (made_column side cell + made_row side cell) % FLATS
 
 -- a room whose ceiling is the sky
-unfoldable pub has_sky : ℕ → ℕ → Bool
-has_sky side cell = (column_of side cell / 2 + row_of side cell / 2) % 3 == 2
+unfoldable pub has_made_sky : ℕ → ℕ → Bool
+has_made_sky side cell = (made_column side cell / 2 + made_row side cell / 2) % 3 == 2
 
 unfoldable pub ceiling_name : ℕ → ℕ → List ℕ
-ceiling_name side cell = cond (has_sky side cell) (padded (codes "F_SKY1")) (flat_name (bit_xor (floor_flat side cell) 1))
+ceiling_name side cell = cond (has_made_sky side cell) (padded (codes "F_SKY1")) (flat_name (bit_xor (floor_flat side cell) 1))
 
 -- the heights and the light of a cell's sector
 unfoldable pub floor_height : ℕ → ℕ → ℕ
-floor_height side cell = 8 * ((column_of side cell + 2 * row_of side cell) % 4)
+floor_height side cell = 8 * ((made_column side cell + 2 * made_row side cell) % 4)
 
 unfoldable pub ceiling_height : ℕ → ℕ → ℕ
-ceiling_height side cell = 128 + 16 * ((2 * column_of side cell + row_of side cell) % 3)
+ceiling_height side cell = 128 + 16 * ((2 * made_column side cell + made_row side cell) % 3)
 
 unfoldable pub sector_light : ℕ → ℕ → ℕ
-sector_light side cell = 96 + 16 * ((column_of side cell + row_of side cell) % 4)
+sector_light side cell = 96 + 16 * ((made_column side cell + made_row side cell) % 4)
 
 -- a sector: heights, flats, light, no special, no tag
 unfoldable pub sector_bytes : ℕ → ℕ → List ℕ

@@ -29,25 +29,25 @@ is_one_cell part = width part == 1 && height part == 1
 unfoldable pub divides_columns : Part → Bool
 divides_columns part = nat_le (height part) (width part)
 
-unfoldable pub middle_column : Part → ℕ
-middle_column part = (part.west + part.east) / 2
+unfoldable pub made_middle_column : Part → ℕ
+made_middle_column part = (part.west + part.east) / 2
 
 unfoldable pub middle_row : Part → ℕ
 middle_row part = (part.south + part.north) / 2
 
 -- in front of the line, child 0: the east, or the south
 unfoldable pub front_part : Part → Part
-front_part part = cond (divides_columns part) (record part { west = middle_column part }) (record part { north = middle_row part })
+front_part part = cond (divides_columns part) (record part { west = made_middle_column part }) (record part { north = middle_row part })
 
 -- behind the line, child 1: the west, or the north
 unfoldable pub back_part : Part → Part
-back_part part = cond (divides_columns part) (record part { east = middle_column part }) (record part { south = middle_row part })
+back_part part = cond (divides_columns part) (record part { east = made_middle_column part }) (record part { south = middle_row part })
 
 -- the line: where it begins, and how far it goes
 unfoldable pub line_halves : Part → List ℕ
 line_halves part =
     cond (divides_columns part)
-    (halves ((CELL_SIZE * middle_column part) ∷ (CELL_SIZE * part.south) ∷ 0 ∷ (CELL_SIZE * height part) ∷ []))
+    (halves ((CELL_SIZE * made_middle_column part) ∷ (CELL_SIZE * part.south) ∷ 0 ∷ (CELL_SIZE * height part) ∷ []))
     (halves ((CELL_SIZE * part.west) ∷ (CELL_SIZE * middle_row part) ∷ (CELL_SIZE * width part) ∷ 0 ∷ []))
 
 -- the box of a part: top, bottom, left, right

@@ -22,19 +22,19 @@ unfoldable pub made_colormaps : List ℕ
 made_colormaps = listed colormap_byte (COLORMAPS * COLOURS)
 
 -- byte k of flat a
-unfoldable pub flat_byte : ℕ → ℕ → ℕ
-flat_byte a k = k * (2 * a + 3) % 256
+unfoldable pub made_flat_byte : ℕ → ℕ → ℕ
+made_flat_byte a k = k * (2 * a + 3) % 256
 
 unfoldable pub made_flat : ℕ → List ℕ
-made_flat a = listed (flat_byte a) FLAT_SIZE
+made_flat a = listed (made_flat_byte a) FLAT_SIZE
 
 -- the byte of column x at the k-th row from row `top` on
-unfoldable pub texel : ℕ → ℕ → ℕ → ℕ → ℕ
-texel seed x top k = (seed + 3 * x + 5 * (top + k)) % 256
+unfoldable pub made_texel : ℕ → ℕ → ℕ → ℕ → ℕ
+made_texel seed x top k = (seed + 3 * x + 5 * (top + k)) % 256
 
 -- a post: its first row, its length, a byte unread, its texels, a byte unread
 unfoldable pub post_bytes : ℕ → ℕ → Post → List ℕ
-post_bytes seed x post = post.top ∷ post.length ∷ 0 ∷ [] ++ listed (texel seed x post.top) post.length ++ 0 ∷ []
+post_bytes seed x post = post.top ∷ post.length ∷ 0 ∷ [] ++ listed (made_texel seed x post.top) post.length ++ 0 ∷ []
 
 -- column x: its posts, and the end
 unfoldable pub column_bytes : ℕ → List Post → ℕ → List ℕ
@@ -45,14 +45,14 @@ unfoldable pub column_size : List Post → ℕ
 column_size posts = sum_by (λ post. post.length + 4) posts + 1
 
 -- where column x begins: behind the head, the places of all columns and the columns before it
-unfoldable pub column_place : ℕ → ℕ → ℕ → List ℕ
-column_place width size x = word_bytes (8 + 4 * width + x * size)
+unfoldable pub made_column_place : ℕ → ℕ → ℕ → List ℕ
+made_column_place width size x = word_bytes (8 + 4 * width + x * size)
 
 -- a picture in columns, all with the same posts
 unfoldable pub made_patch : Picture → List Post → List ℕ
 made_patch picture posts =
     halves (picture.width ∷ picture.height ∷ picture.left ∷ picture.top ∷ [])
-    ++ records (column_place picture.width (column_size posts)) picture.width
+    ++ records (made_column_place picture.width (column_size posts)) picture.width
     ++ records (column_bytes picture.seed posts) picture.width
 
 -- one post that fills the column

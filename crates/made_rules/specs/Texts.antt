@@ -18,12 +18,12 @@ unfoldable pub path_angle : ℕ → ℕ
 path_angle k = k * ANGLE_STEP % 2 ^ 32
 
 -- the row of view k, 72 map units up
-unfoldable pub path_row : ℕ → ℕ → List ℕ
-path_row n k =
+unfoldable pub made_path_row : ℕ → ℕ → List ℕ
+made_path_row n k =
     (decimal (path_place n EAST_ROOMS EAST_STEPS k) ++ codes ",")
     ++ (decimal (path_place n NORTH_ROOMS NORTH_STEPS k) ++ codes ",4718592,")
     ++ (decimal (path_angle k) ++ codes "\n")
 
 -- three views a room of the level's width
 unfoldable pub made_path : ℕ → List ℕ
-made_path n = codes "x,y,z,angle\n" ++ records (path_row n) (VIEWS_PER_NUMBER * n)
+made_path n = codes "x,y,z,angle\n" ++ records (made_path_row n) (VIEWS_PER_NUMBER * n)

@@ -10,14 +10,14 @@ unfoldable pub made_patch_names : List ℕ
 made_patch_names = word_bytes 4 ++ padded (codes "WPATA") ++ padded (codes "WPATB") ++ padded (codes "GRATP") ++ padded (codes "SKYP")
 
 -- a wall texture: its name, its size in texels, its patches in order
-pub record Texture : Type 0 where
+pub record MadeTexture : Type 0 where
   pub name : List ℕ
   pub width : ℕ
   pub height : ℕ
   pub patches : List PatchPlace
 
 -- a texture of 128 rows
-abbrev pub texture : List ℕ → ℕ → List PatchPlace → Texture
+abbrev pub texture : List ℕ → ℕ → List PatchPlace → MadeTexture
 texture name width patches = record { name = name; width = width; height = 128; patches = patches }
 
 -- the patch of a number at a texel
@@ -25,7 +25,7 @@ abbrev pub patch_at : ℕ → ℤ → ℕ → PatchPlace
 patch_at x y number = record { x = x; y = y; number = number }
 
 -- the walls; the first, which is number 0 and so never seen, is the second one again
-unfoldable pub wall_textures : List Texture
+unfoldable pub wall_textures : List MadeTexture
 wall_textures =
     texture (padded (codes "NOTEX")) 64 (patch_at 0 (pos 0) 0 ∷ [])
     ∷ texture (padded (codes "WALL1")) 64 (patch_at 0 (pos 0) 0 ∷ [])
@@ -33,13 +33,13 @@ wall_textures =
     ∷ []
 
 -- the grate and the sky
-unfoldable pub other_textures : List Texture
+unfoldable pub other_textures : List MadeTexture
 other_textures =
     texture (padded (codes "GRATE")) 64 (patch_at 0 (pos 0) 2 ∷ [])
     ∷ texture (padded (codes "SKY1")) 256 (patch_at 0 (pos 0) 3 ∷ [])
     ∷ []
 
-abbrev pub textures : List Texture
+abbrev pub textures : List MadeTexture
 textures = wall_textures ++ other_textures
 
 -- a patch of a texture: where it stands, its number, and 4 bytes unread
@@ -47,14 +47,14 @@ unfoldable pub patch_place_bytes : PatchPlace → List ℕ
 patch_place_bytes place = halves (place.x ∷ cast_unsigned w16 place.y ∷ place.number ∷ 0 ∷ 0 ∷ [])
 
 -- a texture: its name, 4 bytes unread, its size, 4 bytes unread, and its patches
-unfoldable pub texture_bytes : Texture → List ℕ
+unfoldable pub texture_bytes : MadeTexture → List ℕ
 texture_bytes texture =
     texture.name
     ++ halves (0 ∷ 0 ∷ texture.width ∷ texture.height ∷ 0 ∷ 0 ∷ length texture.patches ∷ [])
     ++ flat_map patch_place_bytes texture.patches
 
 -- where the textures stand, from a place on without gaps
-unfoldable pub texture_places : ℕ → List Texture → List ℕ
+unfoldable pub texture_places : ℕ → List MadeTexture → List ℕ
 texture_places place [] = []
 texture_places place (texture ∷ rest) = place ∷ texture_places (place + length (texture_bytes texture)) rest
 

@@ -43,11 +43,11 @@ patch_lumps =
     ∷ lump (codes "SKYP") (made_patch SKY (whole_column 128))
     ∷ []
 
-unfoldable pub flat_lump : ℕ → Lump
-flat_lump a = lump_of (flat_name a) (made_flat a)
+unfoldable pub made_flat_lump : ℕ → Lump
+made_flat_lump a = lump_of (flat_name a) (made_flat a)
 
 unfoldable pub flat_lumps : List Lump
-flat_lumps = marker (codes "F_START") ∷ [] ++ listed flat_lump FLATS ++ marker (codes "F_END") ∷ []
+flat_lumps = marker (codes "F_START") ∷ [] ++ listed made_flat_lump FLATS ++ marker (codes "F_END") ∷ []
 
 unfoldable pub sprite_lumps : List Lump
 sprite_lumps =

@@ -1,7 +1,7 @@
 // The fields of a record, read from its bytes. Rules: `map_rules`, Fields.
 ghost use Rattle.std.specs.Prelude.{◌≡◌, ◌≤◌, ◌+◌, ℕ, length};
 ghost use Rattle.word_rules.specs.Words.{fixed};
-ghost use Rattle.map_rules.specs.Fields.{angle_at, fixed_at, name_at, signed_at, word_at};
+ghost use Rattle.map_rules.specs.Fields.{angle_field, fixed_at, name_field, signed_half_at, half_at};
 
 use byteorder::{ByteOrder, LittleEndian};
 use lump_rules::Name8;
@@ -9,21 +9,21 @@ use map_rules::layout::{NAME_SIZE, WORD_SIZE};
 use word_rules::{FRACTION_BITS, FRACTION_UNIT};
 
 // The unsigned number at `offset`.
-#[tactic(auto, unfolding(map_rules::specs::Fields::word_at))]
-pub(crate) fn word_at(entry: &[u8], offset: usize) -> u16
+#[tactic(auto, unfolding(map_rules::specs::Fields::half_at))]
+pub(crate) fn half_at(entry: &[u8], offset: usize) -> u16
     requires { offset + WORD_SIZE ≤ length entry.now }
-    ensures { result ≡ word_at entry.now offset }
+    ensures { result ≡ half_at entry.now offset }
 {
     LittleEndian::read_u16(&entry[offset..])
 }
 
 // The number with a sign at `offset`.
-#[tactic(auto, unfolding(map_rules::specs::Fields::signed_at))]
-pub(crate) fn signed_at(entry: &[u8], offset: usize) -> i16
+#[tactic(auto, unfolding(map_rules::specs::Fields::signed_half_at))]
+pub(crate) fn signed_half_at(entry: &[u8], offset: usize) -> i16
     requires { offset + WORD_SIZE ≤ length entry.now }
-    ensures { result ≡ signed_at entry.now offset }
+    ensures { result ≡ signed_half_at entry.now offset }
 {
-    word_at(entry, offset).cast_signed()
+    half_at(entry, offset).cast_signed()
 }
 
 // A whole number in 16.16 fixed point.
@@ -40,23 +40,23 @@ pub(crate) fn fixed_at(entry: &[u8], offset: usize) -> i32
     requires { offset + WORD_SIZE ≤ length entry.now }
     ensures { result ≡ fixed_at entry.now offset }
 {
-    fixed(signed_at(entry, offset))
+    fixed(signed_half_at(entry, offset))
 }
 
 // The upper half of an angle at `offset`, as BAM.
-#[tactic(auto, unfolding(map_rules::specs::Fields::angle_at))]
-pub(crate) fn angle_at(entry: &[u8], offset: usize) -> u32
+#[tactic(auto, unfolding(map_rules::specs::Fields::angle_field))]
+pub(crate) fn angle_field(entry: &[u8], offset: usize) -> u32
     requires { offset + WORD_SIZE ≤ length entry.now }
-    ensures { result ≡ angle_at entry.now offset }
+    ensures { result ≡ angle_field entry.now offset }
 {
-    u32::from(word_at(entry, offset)) << FRACTION_BITS
+    u32::from(half_at(entry, offset)) << FRACTION_BITS
 }
 
 // The name at `offset`.
-#[tactic(auto, unfolding(map_rules::specs::Fields::name_at))]
-pub(crate) fn name_at(entry: &[u8], offset: usize) -> Name8
+#[tactic(auto, unfolding(map_rules::specs::Fields::name_field))]
+pub(crate) fn name_field(entry: &[u8], offset: usize) -> Name8
     requires { offset + NAME_SIZE ≤ length entry.now }
-    ensures { result ≡ name_at entry.now offset }
+    ensures { result ≡ name_field entry.now offset }
 {
     let mut bytes = [0; NAME_SIZE];
     bytes.copy_from_slice(&entry[offset..][..NAME_SIZE]);

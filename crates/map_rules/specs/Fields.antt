@@ -17,26 +17,26 @@ unfoldable pub records_in : {R : Type 0} → (List ℕ → R) → ℕ → List �
 records_in read size bytes = listed (λ n. read (record_at size bytes n)) (length bytes / size)
 
 -- the unsigned number at `offset`
-unfoldable pub word_at : List ℕ → ℕ → ℕ
-word_at entry offset = little_number WORD_SIZE (drop offset entry)
+unfoldable pub half_at : List ℕ → ℕ → ℕ
+half_at entry offset = little_number WORD_SIZE (drop offset entry)
 
 -- the same two bytes with a sign
-unfoldable pub signed_at : List ℕ → ℕ → ℤ
-signed_at entry offset = cast_signed w16 (word_at entry offset)
+unfoldable pub signed_half_at : List ℕ → ℕ → ℤ
+signed_half_at entry offset = cast_signed w16 (half_at entry offset)
 
 -- whole map units at `offset`, in 16.16 fixed point
 unfoldable pub fixed_at : List ℕ → ℕ → ℤ
-fixed_at entry offset = fixed (signed_at entry offset)
+fixed_at entry offset = fixed (signed_half_at entry offset)
 
 -- the upper half of an angle at `offset`, as BAM
-unfoldable pub angle_at : List ℕ → ℕ → ℕ
-angle_at entry offset = word_at entry offset * 2 ^ FRACTION_BITS
+unfoldable pub angle_field : List ℕ → ℕ → ℕ
+angle_field entry offset = half_at entry offset * 2 ^ FRACTION_BITS
 
 -- the name at `offset`
-unfoldable pub name_at : List ℕ → ℕ → List ℕ
-name_at entry offset = name_of (take NAME_SIZE (drop offset entry))
+unfoldable pub name_field : List ℕ → ℕ → List ℕ
+name_field entry offset = name_of (take NAME_SIZE (drop offset entry))
 
 -- the bytes 255 and 255 are -1, a whole map unit below 0
 pub fixed_at_row : fixed_at (255 ∷ 255 ∷ []) 0 ≡ negsuc 65535
-unfolding fixed_at fixed shl_word signed_at word_at int_wrap
+unfolding fixed_at fixed shl_word signed_half_at half_at int_wrap
 fixed_at_row = refl

@@ -14,32 +14,32 @@ use Rattle.map_rules.specs.declared.records.MapSeg.{MapSeg}
 use Rattle.map_rules.specs.declared.records.MapLeaf.{MapLeaf}
 use Rattle.map_rules.specs.declared.layout.TheConstants as at
 use Rattle.map_rules.specs.declared.lumps.TheConstants.{LEAF_BIT}
-use Rattle.map_rules.specs.Fields.{word_at, signed_at, fixed_at, angle_at, name_at, records_in}
+use Rattle.map_rules.specs.Fields.{half_at, signed_half_at, fixed_at, angle_field, name_field, records_in}
 
 unfoldable pub thing_in : List ℕ → Thing
 thing_in e = record {
   x = fixed_at e at.THING_X;
   y = fixed_at e at.THING_Y;
-  angle = signed_at e at.THING_ANGLE;
-  kind = word_at e at.THING_KIND;
-  options = word_at e at.THING_OPTIONS;
+  angle = signed_half_at e at.THING_ANGLE;
+  kind = half_at e at.THING_KIND;
+  options = half_at e at.THING_OPTIONS;
 }
 
 unfoldable pub line_in : List ℕ → MapLine
 line_in e = record {
-  flags = word_at e at.LINE_FLAGS;
-  front = word_at e at.LINE_FRONT;
-  back = word_at e at.LINE_BACK;
+  flags = half_at e at.LINE_FLAGS;
+  front = half_at e at.LINE_FRONT;
+  back = half_at e at.LINE_BACK;
 }
 
 unfoldable pub side_in : List ℕ → Side
 side_in e = record {
   x_offset = fixed_at e at.SIDE_X_OFFSET;
   y_offset = fixed_at e at.SIDE_Y_OFFSET;
-  top = name_at e at.SIDE_TOP;
-  bottom = name_at e at.SIDE_BOTTOM;
-  middle = name_at e at.SIDE_MIDDLE;
-  sector = word_at e at.SIDE_SECTOR;
+  top = name_field e at.SIDE_TOP;
+  bottom = name_field e at.SIDE_BOTTOM;
+  middle = name_field e at.SIDE_MIDDLE;
+  sector = half_at e at.SIDE_SECTOR;
 }
 
 unfoldable pub vertex_in : List ℕ → MapVertex
@@ -47,23 +47,23 @@ vertex_in e = record { x = fixed_at e at.VERTEX_X; y = fixed_at e at.VERTEX_Y }
 
 unfoldable pub seg_in : List ℕ → MapSeg
 seg_in e = record {
-  start = word_at e at.SEG_START;
-  end = word_at e at.SEG_END;
-  angle = angle_at e at.SEG_ANGLE;
-  line = word_at e at.SEG_LINE;
-  side = word_at e at.SEG_SIDE;
+  start = half_at e at.SEG_START;
+  end = half_at e at.SEG_END;
+  angle = angle_field e at.SEG_ANGLE;
+  line = half_at e at.SEG_LINE;
+  side = half_at e at.SEG_SIDE;
   offset = fixed_at e at.SEG_OFFSET;
 }
 
 unfoldable pub leaf_in : List ℕ → MapLeaf
-leaf_in e = record { count = word_at e at.LEAF_COUNT; first = word_at e at.LEAF_FIRST }
+leaf_in e = record { count = half_at e at.LEAF_COUNT; first = half_at e at.LEAF_FIRST }
 
 -- the leaf bit marks a leaf, whose number the other bits are
 unfoldable pub child_of : ℕ → Child
 child_of number = cond (nat_lt number LEAF_BIT) (NodeChild number) (LeafChild (number - LEAF_BIT))
 
 unfoldable pub child_at : List ℕ → ℕ → Child
-child_at e offset = child_of (word_at e offset)
+child_at e offset = child_of (half_at e offset)
 
 unfoldable pub line_at : List ℕ → Partition4
 line_at e = record {
@@ -93,9 +93,9 @@ unfoldable pub sector_in : List ℕ → Sector
 sector_in e = record {
   floor = fixed_at e at.SECTOR_FLOOR;
   ceiling = fixed_at e at.SECTOR_CEILING;
-  floor_name = name_at e at.SECTOR_FLOOR_NAME;
-  ceiling_name = name_at e at.SECTOR_CEILING_NAME;
-  light = signed_at e at.SECTOR_LIGHT;
+  floor_name = name_field e at.SECTOR_FLOOR_NAME;
+  ceiling_name = name_field e at.SECTOR_CEILING_NAME;
+  light = signed_half_at e at.SECTOR_LIGHT;
 }
 
 -- the records of the whole lumps

@@ -10,7 +10,7 @@ use Rattle.walk_rules.specs.Events.Event.{LeafEvent, FragmentEvent}
 use Rattle.walk_rules.specs.Drawsegs.{leaves_entered}
 use Rattle.walk_rules.proofs.DrawsegLemmas.{leaves_entered-append}
 use Rattle.sprite_rules.specs.declared.SpriteEntry.{SpriteEntry}
-use Rattle.picture_rules.specs.Scene.{Scene, sector_of}
+use Rattle.picture_rules.specs.Scene.{Scene, leaf_sector}
 use Rattle.picture_rules.specs.Things.{first_mentions, sectors_entered, is_entered, with_things, with_sectors, view_entries}
 
 or_false : (b : Bool) → (b || false) ≡ b
@@ -54,26 +54,26 @@ sectors_more v scene entries (m ∷ ms) n = sectors_more v scene (with_things v 
 pub view_entries-fragment : (v : ViewValue) (scene : Scene) (es : List Event) (seg first last : ℕ) → view_entries v scene (es ++ FragmentEvent seg first last ∷ []) ≡ view_entries v scene es
 unfolding view_entries sectors_entered leaves_entered
 view_entries-fragment v scene es seg first last =
-    ap (λ (ls : List ℕ). with_sectors v scene [] (first_mentions [] (map (sector_of scene) ls))) (leaves_entered-append es (FragmentEvent seg first last ∷ []) ∙ append-nil (leaves_entered es))
+    ap (λ (ls : List ℕ). with_sectors v scene [] (first_mentions [] (map (leaf_sector scene) ls))) (leaves_entered-append es (FragmentEvent seg first last ∷ []) ∙ append-nil (leaves_entered es))
 
-leaf_sectors : (scene : Scene) (es : List Event) (n : ℕ) → sectors_entered scene (es ++ LeafEvent n ∷ []) ≡ sectors_entered scene es ++ cond (is_entered scene es (sector_of scene n)) [] (sector_of scene n ∷ [])
+leaf_sectors : (scene : Scene) (es : List Event) (n : ℕ) → sectors_entered scene (es ++ LeafEvent n ∷ []) ≡ sectors_entered scene es ++ cond (is_entered scene es (leaf_sector scene n)) [] (leaf_sector scene n ∷ [])
 unfolding sectors_entered leaves_entered is_entered
 leaf_sectors scene es n =
-    ap (λ (ls : List ℕ). first_mentions [] (map (sector_of scene) ls)) (leaves_entered-append es (LeafEvent n ∷ []))
-    ∙ ap (first_mentions []) (map-append (sector_of scene) (leaves_entered es) (n ∷ []))
-    ∙ mentions_more [] (map (sector_of scene) (leaves_entered es)) (sector_of scene n)
+    ap (λ (ls : List ℕ). first_mentions [] (map (leaf_sector scene) ls)) (leaves_entered-append es (LeafEvent n ∷ []))
+    ∙ ap (first_mentions []) (map-append (leaf_sector scene) (leaves_entered es) (n ∷ []))
+    ∙ mentions_more [] (map (leaf_sector scene) (leaves_entered es)) (leaf_sector scene n)
 
 -- a leaf of a sector that was entered before adds none either
-pub view_entries-again : (v : ViewValue) (scene : Scene) (es : List Event) (n : ℕ) → is_entered scene es (sector_of scene n) ≡ true → view_entries v scene (es ++ LeafEvent n ∷ []) ≡ view_entries v scene es
+pub view_entries-again : (v : ViewValue) (scene : Scene) (es : List Event) (n : ℕ) → is_entered scene es (leaf_sector scene n) ≡ true → view_entries v scene (es ++ LeafEvent n ∷ []) ≡ view_entries v scene es
 unfolding view_entries
 view_entries-again v scene es n h =
     ap (with_sectors v scene [])
-    (leaf_sectors scene es n ∙ ap (λ (b : Bool). sectors_entered scene es ++ cond b [] (sector_of scene n ∷ [])) h ∙ append-nil (sectors_entered scene es))
+    (leaf_sectors scene es n ∙ ap (λ (b : Bool). sectors_entered scene es ++ cond b [] (leaf_sector scene n ∷ [])) h ∙ append-nil (sectors_entered scene es))
 
 -- and one of another sector adds that sector's things, in drawing order
-pub view_entries-new : (v : ViewValue) (scene : Scene) (es : List Event) (n : ℕ) → is_entered scene es (sector_of scene n) ≡ false →
-    view_entries v scene (es ++ LeafEvent n ∷ []) ≡ with_things v scene (sector_of scene n) (view_entries v scene es) (scene.things_of (sector_of scene n))
+pub view_entries-new : (v : ViewValue) (scene : Scene) (es : List Event) (n : ℕ) → is_entered scene es (leaf_sector scene n) ≡ false →
+    view_entries v scene (es ++ LeafEvent n ∷ []) ≡ with_things v scene (leaf_sector scene n) (view_entries v scene es) (scene.things_of (leaf_sector scene n))
 unfolding view_entries
 view_entries-new v scene es n h =
-    ap (with_sectors v scene []) (leaf_sectors scene es n ∙ ap (λ (b : Bool). sectors_entered scene es ++ cond b [] (sector_of scene n ∷ [])) h)
-    ∙ sectors_more v scene [] (sectors_entered scene es) (sector_of scene n)
+    ap (with_sectors v scene []) (leaf_sectors scene es n ∙ ap (λ (b : Bool). sectors_entered scene es ++ cond b [] (leaf_sector scene n ∷ [])) h)
+    ∙ sectors_more v scene [] (sectors_entered scene es) (leaf_sector scene n)

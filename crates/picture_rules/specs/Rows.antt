@@ -12,13 +12,13 @@ use Rattle.wall_rules.specs.Clips.{open_clip, ceiling_rows, middle_rows, floor_r
 use Rattle.wall_rules.specs.Strips.{wall_column}
 use Rattle.pixel_rules.specs.Dots.{Dot, colour_at, last_dot}
 use Rattle.pixel_rules.specs.Rows.{pixels_unfolded, row_art, patch_byte}
-use Rattle.picture_rules.specs.Scene.{Scene, no_side, side_at, textures_at, wall_texture, sector_of, leaf_surface, facts_of, fragment_facts}
+use Rattle.picture_rules.specs.Scene.{Scene, no_side, side_at, textures_at, wall_texture, leaf_sector, leaf_surface, facts_of, fragment_facts}
 use Rattle.picture_rules.specs.Picture.{is_in_window}
 use Rattle.picture_rules.specs.Walls.{fragment_wall, walls_of, walls_from, walls_dots}
 
 -- for rows by evaluation: who unfolds it unfolds the rules of walls and those below
 unfoldable pub picture_unfolded : ℕ
-unfolding walk_unfolded walls_unfolded pixels_unfolded room room_seg room_surface row_art patch_byte side_at textures_at wall_texture sector_of leaf_surface facts_of fragment_facts fragment_wall walls_of walls_from walls_dots
+unfolding walk_unfolded walls_unfolded pixels_unfolded room room_seg room_surface row_art patch_byte side_at textures_at wall_texture leaf_sector leaf_surface facts_of fragment_facts fragment_wall walls_of walls_from walls_dots
 picture_unfolded = 0
 
 unfoldable pub row_scene : Scene

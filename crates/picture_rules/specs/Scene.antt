@@ -45,11 +45,11 @@ unfoldable pub wall_texture : Scene → ℕ → WallTexture
 wall_texture scene n = record { number = n; height = scene.texture_height n }
 
 -- the sector of a leaf
-unfoldable pub sector_of : Scene → ℕ → ℕ
-sector_of scene leaf = (leaf_at scene.level leaf).sector
+unfoldable pub leaf_sector : Scene → ℕ → ℕ
+leaf_sector scene leaf = (leaf_at scene.level leaf).sector
 
 unfoldable pub leaf_surface : Scene → ℕ → Surface
-leaf_surface scene leaf = surface_at scene.level (sector_of scene leaf)
+leaf_surface scene leaf = surface_at scene.level (leaf_sector scene leaf)
 
 -- what a seg is drawn from, seen from a sector
 unfoldable pub facts_of : Scene → Surface → ℕ → Seg → WallFacts

@@ -12,8 +12,8 @@ use Rattle.sprite_rules.specs.declared.Seen.{Seen}
 use Rattle.sprite_rules.specs.declared.Shape5.{Shape5}
 use Rattle.sprite_rules.specs.declared.SpriteEntry.{SpriteEntry}
 use Rattle.sprite_rules.specs.Projection.{project}
-use Rattle.sprite_rules.specs.Entries.{add}
-use Rattle.picture_rules.specs.Scene.{Scene, sector_of}
+use Rattle.sprite_rules.specs.Entries.{add_entry}
+use Rattle.picture_rules.specs.Scene.{Scene, leaf_sector}
 
 -- the numbers without those that came before
 unfoldable pub first_mentions : List ℕ → List ℕ → List ℕ
@@ -21,11 +21,11 @@ first_mentions before [] = []
 first_mentions before (n ∷ ns) = cond (list_any (λ m. m == n) before) (first_mentions before ns) (n ∷ first_mentions (n ∷ before) ns)
 
 unfoldable pub sectors_entered : Scene → List Event → List ℕ
-sectors_entered scene events = first_mentions [] (map (sector_of scene) (leaves_entered events))
+sectors_entered scene events = first_mentions [] (map (leaf_sector scene) (leaves_entered events))
 
 -- a leaf of that sector was entered before
 unfoldable pub is_entered : Scene → List Event → ℕ → Bool
-is_entered scene events sector = list_any (λ m. m == sector) (map (sector_of scene) (leaves_entered events))
+is_entered scene events sector = list_any (λ m. m == sector) (map (leaf_sector scene) (leaves_entered events))
 
 -- a thing with the light of its sector
 unfoldable pub placed_of : ViewValue → Scene → ℕ → PlacedThing → Placed
@@ -40,7 +40,7 @@ placed_of v scene sector thing = record {
 
 unfoldable pub with_shape : ViewValue → List SpriteEntry → Placed → Seen → Option Shape5 → List SpriteEntry
 with_shape v entries thing seen None = entries
-with_shape v entries thing seen (Some shape) = add v entries thing seen shape
+with_shape v entries thing seen (Some shape) = add_entry v entries thing seen shape
 
 unfoldable pub with_seen : ViewValue → Scene → List SpriteEntry → PlacedThing → Placed → Option Seen → List SpriteEntry
 with_seen v scene entries thing placed None = entries

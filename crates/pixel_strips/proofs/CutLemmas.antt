@@ -1,9 +1,10 @@
 -- Colours of texels and shades that are cut out.
-use Rattle.std.proofs.Common.{◌≡◌, ℕ, ◌+◌, ◌*◌, ◌<◌, List, ap, sym, ◌∙◌, arith}
+use Rattle.std.proofs.Common.{◌≡◌, ℕ, ◌+◌, ◌-◌, ◌*◌, ◌<◌, List, ap, ◌∙◌, arith}
 use Rattle.std.specs.Prelude.{slice_index, ℤ}
-use Rattle.pixel_rules.specs.declared.TheConstants.{TEXEL_ROWS, FLAT_SIDE, MAP_COLOURS}
+use Rattle.pixel_rules.specs.declared.TheConstants.{TEXEL_ROWS, MAP_COLOURS}
 use Rattle.pixel_rules.specs.Strips.{texel_row, flat_place, shade, column_colour, span_colour}
-use Rattle.pixel_strips.specs.Strips.{IsWindow, cut_colour, cut_span_colour}
+use Rattle.word_rules.specs.Steps.{step_at}
+use Rattle.pixel_strips.specs.Strips.{IsWindow, cut_colour, cut_span_colour, strip_colour, row_colour, cut_strip_colour, cut_row_colour}
 
 pub row_within : (fraction : ℤ) → texel_row fraction < TEXEL_ROWS
 unfolding texel_row
@@ -28,3 +29,39 @@ unfolding cut_span_colour span_colour shade
 cut_span flat colormap texels shades map x y t s l =
     s.same (slice_index texels (flat_place x y)) l
     ∙ ap (λ (n : ℕ). slice_index colormap (MAP_COLOURS * map + n)) (t.same (flat_place x y) (place_within x y) ∙ ap (slice_index flat) (let e : 0 + flat_place x y ≡ flat_place x y = omega arith in e))
+
+-- the colour k rows after the first, and k columns after it
+pub cut_strip_from : (texels shades : List ℕ) (fraction step : ℤ) (first k : ℕ) →
+    cut_colour texels shades (step_at fraction step k) ≡ cut_strip_colour texels shades fraction step first (first + k)
+unfolding cut_strip_colour
+cut_strip_from texels shades fraction step first k =
+    let e : k ≡ first + k - first = omega arith in
+    ap (λ (m : ℕ). cut_colour texels shades (step_at fraction step m)) e
+
+pub cut_row_from : (texels shades : List ℕ) (x_fraction y_fraction x_step y_step : ℤ) (first k : ℕ) →
+    cut_span_colour texels shades (step_at x_fraction x_step k) (step_at y_fraction y_step k)
+    ≡ cut_row_colour texels shades x_fraction y_fraction x_step y_step first (first + k)
+unfolding cut_row_colour
+cut_row_from texels shades x_fraction y_fraction x_step y_step first k =
+    let e : k ≡ first + k - first = omega arith in
+    ap (λ (m : ℕ). cut_span_colour texels shades (step_at x_fraction x_step m) (step_at y_fraction y_step m)) e
+
+-- a strip of what is cut out has the colours of the strip of the whole
+pub cut_strip : (source colormap texels shades : List ℕ) (base map : ℕ) (fraction step : ℤ) (first : ℕ) →
+    IsWindow source base TEXEL_ROWS texels → IsWindow colormap (MAP_COLOURS * map) MAP_COLOURS shades → ((k : ℕ) → slice_index texels k < MAP_COLOURS) →
+    cut_strip_colour texels shades fraction step first ≡ strip_colour source base colormap map fraction step first
+unfolding cut_strip_colour strip_colour
+cut_strip source colormap texels shades base map fraction step first t s bytes =
+    let same : (y : ℕ) → cut_strip_colour texels shades fraction step first y ≡ strip_colour source base colormap map fraction step first y =
+    λ y. cut_column source colormap texels shades base map (step_at fraction step (y - first)) t s (bytes (texel_row (step_at fraction step (y - first)))) in
+    λ i y. same y i
+
+pub cut_row : (flat colormap texels shades : List ℕ) (map : ℕ) (x_fraction y_fraction x_step y_step : ℤ) (first : ℕ) →
+    IsWindow flat 0 4096 texels → IsWindow colormap (MAP_COLOURS * map) MAP_COLOURS shades → ((k : ℕ) → slice_index texels k < MAP_COLOURS) →
+    cut_row_colour texels shades x_fraction y_fraction x_step y_step first ≡ row_colour flat colormap map x_fraction y_fraction x_step y_step first
+unfolding cut_row_colour row_colour
+cut_row flat colormap texels shades map x_fraction y_fraction x_step y_step first t s bytes =
+    let same : (x : ℕ) → cut_row_colour texels shades x_fraction y_fraction x_step y_step first x ≡ row_colour flat colormap map x_fraction y_fraction x_step y_step first x =
+    λ x. cut_span flat colormap texels shades map (step_at x_fraction x_step (x - first)) (step_at y_fraction y_step (x - first)) t s
+    (bytes (flat_place (step_at x_fraction x_step (x - first)) (step_at y_fraction y_step (x - first)))) in
+    λ i x. same x i

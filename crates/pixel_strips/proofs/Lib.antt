@@ -1,2 +1,3 @@
 pub mod CanvasLemmas
 pub mod CutLemmas
+pub mod FillLemmas

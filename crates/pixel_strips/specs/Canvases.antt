@@ -1,5 +1,5 @@
 -- A canvas, and what dots make of it.
-use Rattle.std.specs.Prelude.{ℕ, List, set, replicate}
+use Rattle.std.specs.Prelude.{◌≡◌, ℕ, zero, suc, ◌+◌, ◌*◌, List, [], ◌∷◌, set, replicate, refl}
 use Rattle.pixel_rules.specs.declared.Painter.{Painter}
 use Rattle.pixel_rules.specs.declared.TheConstants.{FRAME_CELLS}
 use Rattle.pixel_rules.specs.Dots.{Dot, cell_of, put_dots}
@@ -29,6 +29,16 @@ with_dots mark dots canvas = record canvas { cells = put_dots mark canvas.left c
 -- the mark of a frame of palette indices: the colour itself
 abbrev pub marked_by_colour : Painter → ℕ → ℕ
 marked_by_colour painter colour = colour
+
+-- the cells of a list after n of them are set, the k-th of these, from 0, at `place k` to `value k`
+unfoldable pub fill_cells : (ℕ → ℕ) → (ℕ → ℕ) → ℕ → List ℕ → List ℕ
+fill_cells place value zero cells = cells
+fill_cells place value (suc n) cells = set (fill_cells place value n cells) (place n) (value n)
+
+-- every second of five cells
+pub fill_cells_row : fill_cells (λ k. 2 * k) (λ k. 7 + k) 3 (0 ∷ 1 ∷ 2 ∷ 3 ∷ 4 ∷ []) ≡ 7 ∷ 1 ∷ 8 ∷ 3 ∷ 9 ∷ []
+unfolding fill_cells
+fill_cells_row = refl
 
 -- a frame of which nothing is painted
 unfoldable pub blank : CanvasView

@@ -1,25 +1,25 @@
 -- The dots of the strips that a canvas is painted with.
-use Rattle.std.specs.Prelude.{◌≡◌, ℕ, ◌+◌, ◌-◌, ◌<◌, ◌*◌, ℤ, List, length, slice_index}
+use Rattle.std.specs.Prelude.{◌≡◌, ℕ, ◌+◌, ◌-◌, ◌<◌, ℤ, List, length, slice_index}
 use Rattle.word_rules.specs.Listed.{listed_from}
 use Rattle.word_rules.specs.Steps.{step_at}
 use Rattle.pixel_rules.specs.declared.Painter.{Painter}
 use Rattle.pixel_rules.specs.Dots.{Dot}
-use Rattle.pixel_rules.specs.Strips.{texel_row, flat_place, column_colour, span_colour, column_dots, span_dots}
+use Rattle.pixel_rules.specs.Strips.{texel_row, flat_place, column_colour, span_colour, column_dots}
 
 -- a column strip: at row y its fraction has been stepped y - first times
 unfoldable pub strip_colour : List ℕ → ℕ → List ℕ → ℕ → ℤ → ℤ → ℕ → ℕ → ℕ
 strip_colour source base colormap map fraction step first y =
     column_colour source base colormap map (step_at fraction step (y - first))
 
-abbrev pub strip_dots : Painter → ℕ → (ℕ → ℕ) → ℕ → ℕ → List Dot
-strip_dots painter x colour first last = column_dots painter x colour (listed_from (λ y. y) first last)
+abbrev pub column_strip_dots : Painter → ℕ → (ℕ → ℕ) → ℕ → ℕ → List Dot
+column_strip_dots painter x colour first last = column_dots painter x colour (listed_from (λ y. y) first last)
 
 -- a span strip: at column x both fractions have been stepped x - first times
 unfoldable pub row_colour : List ℕ → List ℕ → ℕ → ℤ → ℤ → ℤ → ℤ → ℕ → ℕ → ℕ
 row_colour flat colormap map x_fraction y_fraction x_step y_step first x =
     span_colour flat colormap map (step_at x_fraction x_step (x - first)) (step_at y_fraction y_step (x - first))
 
--- a part of some bytes: so many of them, from an offset on
+-- a part of some bytes: `count` of them, from an offset on
 pub record IsWindow (bytes : List ℕ) (offset count : ℕ) (part : List ℕ) : Type 0 where
   pub size : length part ≡ count
   pub same : (k : ℕ) → k < count → slice_index part k ≡ slice_index bytes (offset + k)
@@ -30,3 +30,12 @@ cut_colour texels shades fraction = slice_index shades (slice_index texels (texe
 
 unfoldable pub cut_span_colour : List ℕ → List ℕ → ℤ → ℤ → ℕ
 cut_span_colour texels shades x_fraction y_fraction = slice_index shades (slice_index texels (flat_place x_fraction y_fraction))
+
+-- a column strip of cut out texels and shades: at row y its fraction has been stepped y - first times
+unfoldable pub cut_strip_colour : List ℕ → List ℕ → ℤ → ℤ → ℕ → ℕ → ℕ
+cut_strip_colour texels shades fraction step first y = cut_colour texels shades (step_at fraction step (y - first))
+
+-- a span strip of them: at column x both fractions have been stepped x - first times
+unfoldable pub cut_row_colour : List ℕ → List ℕ → ℤ → ℤ → ℤ → ℤ → ℕ → ℕ → ℕ
+cut_row_colour texels shades x_fraction y_fraction x_step y_step first x =
+    cut_span_colour texels shades (step_at x_fraction x_step (x - first)) (step_at y_fraction y_step (x - first))

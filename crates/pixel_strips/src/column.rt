@@ -3,10 +3,10 @@ ghost use Rattle.std.specs.Prelude.{◌≡◌, ◌+◌, ◌*◌, ◌^◌, ◌<�
 ghost use Rattle.view_rules.specs.declared.TheConstants.{FRAME_WIDTH, FRAME_HEIGHT};
 ghost use Rattle.pixel_rules.specs.declared.TheConstants.{TEXEL_ROWS, MAP_COLOURS};
 ghost use Rattle.pixel_strips.specs.Canvases.{with_dots};
-ghost use Rattle.pixel_strips.specs.Strips.{strip_colour, strip_dots, IsWindow};
+ghost use Rattle.pixel_strips.specs.Strips.{strip_colour, column_strip_dots, IsWindow};
 
-use crate::Canvas;
-use crate::texels::{column_colour, cut_colour, window};
+use crate::canvas::{Canvas, CutColumn};
+use crate::texels::{column_colour, window};
 use fx_words::plus;
 use pixel_rules::{MAP_COLOURS, TEXEL_ROWS};
 
@@ -33,13 +33,16 @@ pub struct ColumnStrip<'a> {
 /// Paints the strip. Takes no memory.
 ///
 /// The original: `R_DrawColumn`, r_draw.c.
+#[inline(always)]
 pub fn paint_column<C: Canvas>(canvas: &mut C, strip: &ColumnStrip<'_>)
     requires ordered { strip.now.first ≤ strip.now.last }
     requires column { strip.now.x + (C.view canvas.old).left < FRAME_WIDTH }
     requires rows { strip.now.last + (C.view canvas.old).top < FRAME_HEIGHT }
     requires base { strip.now.base < 2 ^ 63 }
-    ensures { C.view canvas.new ≡ with_dots C.mark (strip_dots (C.view canvas.old).painter strip.now.x
-        (strip_colour strip.now.source.now strip.now.base strip.now.colormap.now strip.now.map strip.now.fraction strip.now.step strip.now.first)
+    ensures { C.view canvas.new ≡ with_dots C.mark
+        (column_strip_dots (C.view canvas.old).painter strip.now.x
+        (strip_colour strip.now.source.now strip.now.base strip.now.colormap.now strip.now.map
+        strip.now.fraction strip.now.step strip.now.first)
         strip.now.first strip.now.last) (C.view canvas.old) }
 {
     if let Some(texels) = window(strip.source, strip.base, TEXEL_ROWS as usize)
@@ -63,8 +66,10 @@ pub fn paint_post<C: Canvas>(canvas: &mut C, strip: &ColumnStrip<'_>)
     requires column { strip.now.x + (C.view canvas.old).left < FRAME_WIDTH }
     requires rows { strip.now.last + (C.view canvas.old).top < FRAME_HEIGHT }
     requires base { strip.now.base < 2 ^ 63 }
-    ensures { C.view canvas.new ≡ with_dots C.mark (strip_dots (C.view canvas.old).painter strip.now.x
-        (strip_colour strip.now.source.now strip.now.base strip.now.colormap.now strip.now.map strip.now.fraction strip.now.step strip.now.first)
+    ensures { C.view canvas.new ≡ with_dots C.mark
+        (column_strip_dots (C.view canvas.old).painter strip.now.x
+        (strip_colour strip.now.source.now strip.now.base strip.now.colormap.now strip.now.map
+        strip.now.fraction strip.now.step strip.now.first)
         strip.now.first strip.now.last) (C.view canvas.old) }
 {
     paint_column(canvas, strip);
@@ -76,8 +81,10 @@ fn paint_any_column<C: Canvas>(canvas: &mut C, strip: &ColumnStrip<'_>)
     requires column { strip.now.x + (C.view canvas.old).left < FRAME_WIDTH }
     requires rows { strip.now.last + (C.view canvas.old).top < FRAME_HEIGHT }
     requires base { strip.now.base < 2 ^ 63 }
-    ensures { C.view canvas.new ≡ with_dots C.mark (strip_dots (C.view canvas.old).painter strip.now.x
-        (strip_colour strip.now.source.now strip.now.base strip.now.colormap.now strip.now.map strip.now.fraction strip.now.step strip.now.first)
+    ensures { C.view canvas.new ≡ with_dots C.mark
+        (column_strip_dots (C.view canvas.old).painter strip.now.x
+        (strip_colour strip.now.source.now strip.now.base strip.now.colormap.now strip.now.map
+        strip.now.fraction strip.now.step strip.now.first)
         strip.now.first strip.now.last) (C.view canvas.old) }
 {
     let mut fraction = strip.fraction;
@@ -105,14 +112,19 @@ fn paint_cut_column<C: Canvas>(
     requires column { strip.now.x + (C.view canvas.old).left < FRAME_WIDTH }
     requires rows { strip.now.last + (C.view canvas.old).top < FRAME_HEIGHT }
     requires texels { IsWindow strip.now.source.now strip.now.base TEXEL_ROWS texels.now }
-    requires shades { IsWindow strip.now.colormap.now (MAP_COLOURS * strip.now.map) MAP_COLOURS shades.now }
-    ensures { C.view canvas.new ≡ with_dots C.mark (strip_dots (C.view canvas.old).painter strip.now.x
-        (strip_colour strip.now.source.now strip.now.base strip.now.colormap.now strip.now.map strip.now.fraction strip.now.step strip.now.first)
+    requires shades { IsWindow strip.now.colormap.now (MAP_COLOURS * strip.now.map) MAP_COLOURS
+        shades.now }
+    ensures { C.view canvas.new ≡ with_dots C.mark
+        (column_strip_dots (C.view canvas.old).painter strip.now.x
+        (strip_colour strip.now.source.now strip.now.base strip.now.colormap.now strip.now.map
+        strip.now.fraction strip.now.step strip.now.first)
         strip.now.first strip.now.last) (C.view canvas.old) }
 {
-    let mut fraction = strip.fraction;
-    for y in strip.first..strip.last + 1 {
-        canvas.dot(strip.x, y, cut_colour(texels, shades, fraction));
-        fraction = plus(fraction, strip.step);
-    }
+    let cut = CutColumn {
+        texels,
+        shades,
+        fraction: strip.fraction,
+        step: strip.step,
+    };
+    canvas.column(strip.x, strip.first, strip.last, &cut);
 }

@@ -1,9 +1,15 @@
 // A frame of palette indices.
-ghost use Rattle.std.specs.Prelude.{◌≡◌, ◌+◌, ◌<◌, ◌*◌, length, replicate, IfOk};
-ghost use Rattle.pixel_rules.specs.declared.TheConstants.{FRAME_CELLS};
-ghost use Rattle.pixel_strips.specs.Canvases.{CanvasView, blank, marked_by_colour};
+ghost use Rattle.std.specs.Prelude.{◌≡◌, ◌+◌, ◌<◌, ◌≤◌, ◌*◌, length, replicate, IfOk};
+ghost use Rattle.word_rules.specs.Steps.{step_at};
+ghost use Rattle.view_rules.specs.declared.TheConstants.{FRAME_WIDTH};
+ghost use Rattle.pixel_rules.specs.declared.TheConstants.{FRAME_CELLS, TEXEL_ROWS, MAP_COLOURS};
+ghost use Rattle.pixel_strips.specs.declared.texels.TheConstants.{FLAT_BYTES};
+ghost use Rattle.pixel_strips.specs.Canvases.{CanvasView, blank, marked_by_colour, fill_cells};
+ghost use Rattle.pixel_strips.specs.Strips.{cut_colour, cut_span_colour};
 
-use crate::Canvas;
+use crate::canvas::{Canvas, CutColumn, CutSpan};
+use crate::texels::{cut_colour, cut_span_colour};
+use fx_words::plus;
 use pixel_rules::{FRAME_CELLS, Painter};
 use std::alloc::{AllocError, Global};
 use std::marker::Model;
@@ -72,7 +78,7 @@ impl Frame {
     }
 }
 
-// So many bytes, each 0.
+// `count` bytes, each 0.
 fn zeros(alloc: Global, count: usize) -> Result<Vec<u8>, AllocError>
     ensures { IfOk result (λ bytes. bytes.items ≡ replicate count 0) }
 {
@@ -97,5 +103,60 @@ impl Canvas for Frame {
         let row = y as usize + self.top as usize;
         let column = x as usize + self.left as usize;
         self.cells[FRAME_WIDTH as usize * row + column] = colour;
+    }
+
+    fn column(&mut self, x: u16, first: u16, last: u16, cut: &CutColumn<'_>) {
+        let row = first as usize + self.top as usize;
+        let column = x as usize + self.left as usize;
+        let start = FRAME_WIDTH as usize * row + column;
+        fill_column(&mut self.cells, start, (last - first) as usize + 1, cut);
+    }
+
+    fn span(&mut self, y: u16, first: u16, last: u16, cut: &CutSpan<'_>) {
+        let row = y as usize + self.top as usize;
+        let column = first as usize + self.left as usize;
+        let start = FRAME_WIDTH as usize * row + column;
+        fill_span(&mut self.cells, start, (last - first) as usize + 1, cut);
+    }
+}
+
+// Sets `count` cells below one another, the first at `start`. The fields of `cut` are read before
+// the loop: behind each write to a cell they would be read again.
+fn fill_column(cells: &mut [u8], start: usize, count: usize, cut: &CutColumn<'_>)
+    requires size { length cells.old ≡ FRAME_CELLS }
+    requires within { start + FRAME_WIDTH * count < FRAME_CELLS + FRAME_WIDTH }
+    requires texels { length cut.now.texels.now ≡ TEXEL_ROWS }
+    requires shades { length cut.now.shades.now ≡ MAP_COLOURS }
+    ensures { cells.new ≡ fill_cells (λ k. start + FRAME_WIDTH * k)
+        (λ k. cut_colour cut.now.texels.now cut.now.shades.now
+        (step_at cut.now.fraction cut.now.step k)) count cells.old }
+{
+    let (texels, shades, step) = (cut.texels, cut.shades, cut.step);
+    let mut fraction = cut.fraction;
+    for k in 0..count {
+        cells[start + FRAME_WIDTH as usize * k] = cut_colour(texels, shades, fraction);
+        fraction = plus(fraction, step);
+    }
+}
+
+// Sets `count` cells side by side, the first at `start`, likewise.
+fn fill_span(cells: &mut [u8], start: usize, count: usize, cut: &CutSpan<'_>)
+    requires size { length cells.old ≡ FRAME_CELLS }
+    requires within { start + count ≤ FRAME_CELLS }
+    requires texels { length cut.now.texels.now ≡ FLAT_BYTES }
+    requires shades { length cut.now.shades.now ≡ MAP_COLOURS }
+    ensures { cells.new ≡ fill_cells (λ k. start + k)
+        (λ k. cut_span_colour cut.now.texels.now cut.now.shades.now
+        (step_at cut.now.x_fraction cut.now.x_step k)
+        (step_at cut.now.y_fraction cut.now.y_step k)) count cells.old }
+{
+    let (texels, shades) = (cut.texels, cut.shades);
+    let (x_step, y_step) = (cut.x_step, cut.y_step);
+    let mut x_fraction = cut.x_fraction;
+    let mut y_fraction = cut.y_fraction;
+    for k in 0..count {
+        cells[start + k] = cut_span_colour(texels, shades, x_fraction, y_fraction);
+        x_fraction = plus(x_fraction, x_step);
+        y_fraction = plus(y_fraction, y_step);
     }
 }

@@ -14,8 +14,9 @@ mod span;
 mod tests;
 mod texels;
 
-pub use canvas::Canvas;
+pub use canvas::{Canvas, CutColumn, CutSpan};
 pub use column::{ColumnStrip, paint_column, paint_post};
 pub use frame::Frame;
 pub use pixel_rules::Painter;
 pub use span::{SpanStrip, paint_span};
+pub use texels::FLAT_BYTES;

@@ -6,8 +6,8 @@ ghost use Rattle.pixel_rules.specs.Strips.{span_dots};
 ghost use Rattle.pixel_strips.specs.Canvases.{with_dots};
 ghost use Rattle.pixel_strips.specs.Strips.{row_colour, IsWindow};
 
-use crate::Canvas;
-use crate::texels::{FLAT_BYTES, cut_span_colour, span_colour, window};
+use crate::canvas::{Canvas, CutSpan};
+use crate::texels::{FLAT_BYTES, span_colour, window};
 use fx_words::plus;
 use pixel_rules::MAP_COLOURS;
 
@@ -40,8 +40,10 @@ pub fn paint_span<C: Canvas>(canvas: &mut C, strip: &SpanStrip<'_>)
     requires ordered { strip.now.first ≤ strip.now.last }
     requires row { strip.now.y + (C.view canvas.old).top < FRAME_HEIGHT }
     requires columns { strip.now.last + (C.view canvas.old).left < FRAME_WIDTH }
-    ensures { C.view canvas.new ≡ with_dots C.mark (span_dots (C.view canvas.old).painter strip.now.y
-        (row_colour strip.now.flat.now strip.now.colormap.now strip.now.map strip.now.x_fraction strip.now.y_fraction strip.now.x_step strip.now.y_step strip.now.first)
+    ensures { C.view canvas.new ≡ with_dots C.mark
+        (span_dots (C.view canvas.old).painter strip.now.y
+        (row_colour strip.now.flat.now strip.now.colormap.now strip.now.map
+        strip.now.x_fraction strip.now.y_fraction strip.now.x_step strip.now.y_step strip.now.first)
         strip.now.first strip.now.last) (C.view canvas.old) }
 {
     if let Some(texels) = window(strip.flat, 0, FLAT_BYTES)
@@ -62,8 +64,10 @@ fn paint_any_span<C: Canvas>(canvas: &mut C, strip: &SpanStrip<'_>)
     requires ordered { strip.now.first ≤ strip.now.last }
     requires row { strip.now.y + (C.view canvas.old).top < FRAME_HEIGHT }
     requires columns { strip.now.last + (C.view canvas.old).left < FRAME_WIDTH }
-    ensures { C.view canvas.new ≡ with_dots C.mark (span_dots (C.view canvas.old).painter strip.now.y
-        (row_colour strip.now.flat.now strip.now.colormap.now strip.now.map strip.now.x_fraction strip.now.y_fraction strip.now.x_step strip.now.y_step strip.now.first)
+    ensures { C.view canvas.new ≡ with_dots C.mark
+        (span_dots (C.view canvas.old).painter strip.now.y
+        (row_colour strip.now.flat.now strip.now.colormap.now strip.now.map
+        strip.now.x_fraction strip.now.y_fraction strip.now.x_step strip.now.y_step strip.now.first)
         strip.now.first strip.now.last) (C.view canvas.old) }
 {
     let mut x_fraction = strip.x_fraction;
@@ -88,20 +92,21 @@ fn paint_cut_span<C: Canvas>(canvas: &mut C, strip: &SpanStrip<'_>, texels: &[u8
     requires row { strip.now.y + (C.view canvas.old).top < FRAME_HEIGHT }
     requires columns { strip.now.last + (C.view canvas.old).left < FRAME_WIDTH }
     requires texels { IsWindow strip.now.flat.now 0 FLAT_BYTES texels.now }
-    requires shades { IsWindow strip.now.colormap.now (MAP_COLOURS * strip.now.map) MAP_COLOURS shades.now }
-    ensures { C.view canvas.new ≡ with_dots C.mark (span_dots (C.view canvas.old).painter strip.now.y
-        (row_colour strip.now.flat.now strip.now.colormap.now strip.now.map strip.now.x_fraction strip.now.y_fraction strip.now.x_step strip.now.y_step strip.now.first)
+    requires shades { IsWindow strip.now.colormap.now (MAP_COLOURS * strip.now.map) MAP_COLOURS
+        shades.now }
+    ensures { C.view canvas.new ≡ with_dots C.mark
+        (span_dots (C.view canvas.old).painter strip.now.y
+        (row_colour strip.now.flat.now strip.now.colormap.now strip.now.map
+        strip.now.x_fraction strip.now.y_fraction strip.now.x_step strip.now.y_step strip.now.first)
         strip.now.first strip.now.last) (C.view canvas.old) }
 {
-    let mut x_fraction = strip.x_fraction;
-    let mut y_fraction = strip.y_fraction;
-    for x in strip.first..strip.last + 1 {
-        canvas.dot(
-            x,
-            strip.y,
-            cut_span_colour(texels, shades, x_fraction, y_fraction),
-        );
-        x_fraction = plus(x_fraction, strip.x_step);
-        y_fraction = plus(y_fraction, strip.y_step);
-    }
+    let cut = CutSpan {
+        texels,
+        shades,
+        x_fraction: strip.x_fraction,
+        y_fraction: strip.y_fraction,
+        x_step: strip.x_step,
+        y_step: strip.y_step,
+    };
+    canvas.span(strip.y, strip.first, strip.last, &cut);
 }

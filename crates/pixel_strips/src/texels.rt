@@ -10,7 +10,7 @@ use word_rules::FRACTION_BITS;
 /// The bytes of a flat.
 pub const FLAT_BYTES: usize = FLAT_SIDE as usize * FLAT_SIDE as usize;
 
-/// The bytes from an offset on, where there are so many.
+/// `count` bytes from an offset on, None where the end comes before.
 pub fn window(bytes: &[u8], offset: u64, count: usize) -> Option<&[u8]>
     requires { count ≤ FLAT_BYTES }
     ensures some { IfSome result (λ part. IsWindow bytes.now offset count part.now) }

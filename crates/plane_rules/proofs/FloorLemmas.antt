@@ -12,7 +12,7 @@ use Rattle.pixel_rules.proofs.DotLemmas.{last_dot-none}
 use Rattle.pixel_rules.proofs.StripLemmas.{in_column-column_dots}
 use Rattle.pixel_rules.proofs.ColumnLemmas.{last_dot-listed_columns, last_dot-column_dots, last_dot-no_row}
 use Rattle.plane_rules.specs.Planes.{Plane, column}
-use Rattle.plane_rules.specs.Spans.{holds_row, holds}
+use Rattle.plane_rules.specs.Spans.{holds_row, holds_row}
 use Rattle.plane_rules.specs.Floors.{floor_colour, run_dots, floor_dots}
 use Rattle.plane_rules.specs.Skies.{sky_column, sky_colour, sky_dots}
 
@@ -38,8 +38,8 @@ last_dot-run_dots painter x y colour (Some r) =
 -- a floor or ceiling has a dot at each pixel of the view that its runs hold
 pub last_dot-floor_dots : (v : ViewValue) (art : Art) (n lump : ℕ) (p : Plane) (x y : ℕ) → x < v.shape.width →
     last_dot x y (floor_dots v art n lump p)
-    ≡ cond (holds p y x) (Some (record { x = x; y = y; colour = floor_colour v art lump p x y; painter = painter_of PLANE n (lump_source lump) })) None
-unfolding floor_dots holds
+    ≡ cond (holds_row p y x) (Some (record { x = x; y = y; colour = floor_colour v art lump p x y; painter = painter_of PLANE n (lump_source lump) })) None
+unfolding floor_dots holds_row
 last_dot-floor_dots v art n lump p x y l =
     last_dot-listed_columns (λ c. run_dots (painter_of PLANE n (lump_source lump)) c (floor_colour v art lump p c) (column p c)) x y v.shape.width
     (λ c. in_column-run_dots (painter_of PLANE n (lump_source lump)) c (floor_colour v art lump p c) (column p c)) l
@@ -48,8 +48,8 @@ last_dot-floor_dots v art n lump p x y l =
 -- and a sky likewise
 pub last_dot-sky_dots : (v : ViewValue) (art : Art) (n sky : ℕ) (p : Plane) (x y : ℕ) → x < v.shape.width →
     last_dot x y (sky_dots v art n sky p)
-    ≡ cond (holds p y x) (Some (record { x = x; y = y; colour = sky_colour v art sky x y; painter = painter_of SKY n (art.texture_source sky (sky_column v x)) })) None
-unfolding sky_dots holds
+    ≡ cond (holds_row p y x) (Some (record { x = x; y = y; colour = sky_colour v art sky x y; painter = painter_of SKY n (art.texture_source sky (sky_column v x)) })) None
+unfolding sky_dots holds_row
 last_dot-sky_dots v art n sky p x y l =
     last_dot-listed_columns (λ c. run_dots (painter_of SKY n (art.texture_source sky (sky_column v c))) c (sky_colour v art sky c) (column p c)) x y v.shape.width
     (λ c. in_column-run_dots (painter_of SKY n (art.texture_source sky (sky_column v c))) c (sky_colour v art sky c) (column p c)) l

@@ -7,7 +7,7 @@ use Rattle.std.proofs.lemmas.List.Quantifiers.{position-Some}
 use Rattle.view_rules.specs.declared.TheConstants.{FRAME_WIDTH}
 use Rattle.plane_rules.specs.declared.PlaneKey.{PlaneKey}
 use Rattle.plane_rules.specs.Keys.{same_key}
-use Rattle.plane_rules.specs.Planes.{Plane, empty_plane, add, number_or_add, number_of, find, is_free, check_plane, check_some, check, with_run, mark_some, mark, column, AreWide}
+use Rattle.plane_rules.specs.Planes.{Plane, empty_plane, add, number_or_add, number_of, find, is_column_free, check_plane, check_some, check, with_run, mark_some, mark, column, AreWide}
 
 -- the first plane of equal key, or a new one behind the others
 pub find-some : (planes : List Plane) (key : PlaneKey) (i : ℕ) → number_of planes key ≡ Some i → find planes key ≡ record { number = i; planes = planes }
@@ -86,7 +86,7 @@ within_check_plane planes i p false l = omega (arith, length_push planes (empty_
 within_check_some : (planes : List Plane) (i : ℕ) (o : Option Plane) (first last : ℕ) → i < length planes → (check_some planes i o first last).number < length (check_some planes i o first last).planes
 unfolding check_some check_plane
 within_check_some planes i None first last l = l
-within_check_some planes i (Some p) first last l = within_check_plane planes i p (is_free p.runs first last) l
+within_check_some planes i (Some p) first last l = within_check_plane planes i p (is_column_free p.runs first last) l
 
 longer_check_plane : (planes : List Plane) (i : ℕ) (p : Plane) (b : Bool) → length planes ≤ length (cond b (record { number = i; planes = planes }) (add planes p.key)).planes
 unfolding add
@@ -96,7 +96,7 @@ longer_check_plane planes i p false = omega (arith, length_push planes (empty_pl
 longer_check_some : (planes : List Plane) (i : ℕ) (o : Option Plane) (first last : ℕ) → length planes ≤ length (check_some planes i o first last).planes
 unfolding check_some check_plane
 longer_check_some planes i None first last = omega arith
-longer_check_some planes i (Some p) first last = longer_check_plane planes i p (is_free p.runs first last)
+longer_check_some planes i (Some p) first last = longer_check_plane planes i p (is_column_free p.runs first last)
 
 pub check-within : (planes : List Plane) (i first last : ℕ) → i < length planes → (check planes i first last).number < length (check planes i first last).planes
 unfolding check
@@ -127,7 +127,7 @@ wide_check_plane planes i p false w = wide-add planes p.key w
 wide_check_some : (planes : List Plane) (i : ℕ) (o : Option Plane) (first last : ℕ) → AreWide planes → AreWide (check_some planes i o first last).planes
 unfolding check_some check_plane
 wide_check_some planes i None first last w = w
-wide_check_some planes i (Some p) first last w = wide_check_plane planes i p (is_free p.runs first last) w
+wide_check_some planes i (Some p) first last w = wide_check_plane planes i p (is_column_free p.runs first last) w
 
 pub wide-check : (planes : List Plane) (i first last : ℕ) → AreWide planes → AreWide (check planes i first last).planes
 unfolding check

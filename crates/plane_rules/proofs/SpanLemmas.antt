@@ -5,7 +5,7 @@ use Rattle.std.proofs.lemmas.Bool.{cases_lt, not-true, not-false}
 use Rattle.view_rules.specs.declared.TheConstants.{FRAME_WIDTH}
 use Rattle.walk_rules.specs.Covered.{is_covered, IsFragment}
 use Rattle.plane_rules.specs.Planes.{Plane, column}
-use Rattle.plane_rules.specs.Spans.{holds_row, holds, span_start, gaps}
+use Rattle.plane_rules.specs.Spans.{holds_row, holds_row, span_start, plane_gaps}
 
 -- one column more
 pub span_start-zero : (passes : ℕ → Bool) → span_start passes 0 ≡ 0
@@ -71,20 +71,20 @@ gap_at [] y x l = absurd (omega arith)
 gap_at (r ∷ rs) y zero l = refl
 gap_at (r ∷ rs) y (suc x) l = gap_at rs y x (omega arith)
 
--- a column is uncovered among the gaps exactly where it holds the row
-pub covered-gaps : (p : Plane) (y x : ℕ) → x < length p.runs → is_covered (gaps p y) x ≡ not (holds p y x)
-unfolding is_covered gaps holds column
+-- a column is uncovered among the plane_gaps exactly where it holds_row the row
+pub covered-gaps : (p : Plane) (y x : ℕ) → x < length p.runs → is_covered (plane_gaps p y) x ≡ not (holds_row p y x)
+unfolding is_covered plane_gaps holds_row column
 covered-gaps p y x l = gap_at p.runs y x l
 
-before_run : (p : Plane) (y first k : ℕ) → length p.runs ≡ FRAME_WIDTH → k + 1 ≡ first → first < FRAME_WIDTH → (first ≡ 0) ⊎ (is_covered (gaps p y) (first - 1) ≡ true) → holds p y k ≡ false
+before_run : (p : Plane) (y first k : ℕ) → length p.runs ≡ FRAME_WIDTH → k + 1 ≡ first → first < FRAME_WIDTH → (first ≡ 0) ⊎ (is_covered (plane_gaps p y) (first - 1) ≡ true) → holds_row p y k ≡ false
 before_run p y first k n e l (inl z) = absurd (omega arith)
 before_run p y first k n e l (inr c) =
     let d : first - 1 ≡ k = omega arith in
-    not-true (holds p y k) (sym (covered-gaps p y k (omega arith)) ∙ ap (is_covered (gaps p y)) (sym d) ∙ c)
+    not-true (holds_row p y k) (sym (covered-gaps p y k (omega arith)) ∙ ap (is_covered (plane_gaps p y)) (sym d) ∙ c)
 
 -- in each maximal run of columns that hold the row, spans begin at the run's first column
-pub span_start-run : (p : Plane) (y first last x : ℕ) → length p.runs ≡ FRAME_WIDTH → IsFragment (gaps p y) 0 (FRAME_WIDTH - 1) first last → first ≤ x → x ≤ last → span_start (holds p y) x ≡ first
+pub span_start-run : (p : Plane) (y first last x : ℕ) → length p.runs ≡ FRAME_WIDTH → IsFragment (plane_gaps p y) 0 (FRAME_WIDTH - 1) first last → first ≤ x → x ≤ last → span_start (holds_row p y) x ≡ first
 span_start-run p y first last x n f l m =
-    span_start-is (holds p y) x first l
-    (λ k a b. not-false (holds p y k) (sym (covered-gaps p y k (omega (arith, f.ends))) ∙ f.is_open k a (omega arith)))
+    span_start-is (holds_row p y) x first l
+    (λ k a b. not-false (holds_row p y k) (sym (covered-gaps p y k (omega (arith, f.ends))) ∙ f.is_open k a (omega arith)))
     (λ k e. before_run p y first k n e (omega (arith, f.ordered, f.ends)) f.left)

@@ -13,7 +13,7 @@ use Rattle.pixel_rules.specs.Dots.{Dot}
 use Rattle.pixel_rules.specs.Art.{Art, lump_source, painter_of}
 use Rattle.pixel_rules.specs.Strips.{flat_place, column_dots}
 use Rattle.plane_rules.specs.Planes.{Plane, column}
-use Rattle.plane_rules.specs.Spans.{span_start, holds}
+use Rattle.plane_rules.specs.Spans.{span_start, holds_row}
 
 -- what a pixel to the right gains at distance 1, 16.16: basexscale, baseyscale
 unfoldable pub base_angle : ViewValue → ℕ
@@ -57,7 +57,7 @@ flat_colour v art lump light distance x0 x =
 -- the colour of pixel x, y of a plane of this flat
 unfoldable pub floor_colour : ViewValue → Art → ℕ → Plane → ℕ → ℕ → ℕ
 floor_colour v art lump p x y =
-    flat_colour v art lump (light_number v p.key.light (pos 0)) (row_distance v p.key.height y) (span_start (holds p y) x) x
+    flat_colour v art lump (light_number v p.key.light (pos 0)) (row_distance v p.key.height y) (span_start (holds_row p y) x) x
 
 unfoldable pub run_dots : Painter → ℕ → (ℕ → ℕ) → Option (ℕ × ℕ) → List Dot
 run_dots painter x colour None = []

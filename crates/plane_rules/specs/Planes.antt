@@ -36,12 +36,12 @@ unfoldable pub find : List Plane → PlaneKey → PlaneChoice
 find planes key = number_or_add planes key (number_of planes key)
 
 -- none of the columns first to last is marked
-unfoldable pub is_free : List (Option (ℕ × ℕ)) → ℕ → ℕ → Bool
-is_free runs first last = list_all (λ r. is_none r) (slice_range runs first (last + 1))
+unfoldable pub is_column_free : List (Option (ℕ × ℕ)) → ℕ → ℕ → Bool
+is_column_free runs first last = list_all (λ r. is_none r) (slice_range runs first (last + 1))
 
 -- plane i itself where the columns are free, else a new one of its key
 unfoldable pub check_plane : List Plane → ℕ → Plane → ℕ → ℕ → PlaneChoice
-check_plane planes i p first last = cond (is_free p.runs first last) (record { number = i; planes = planes }) (add planes p.key)
+check_plane planes i p first last = cond (is_column_free p.runs first last) (record { number = i; planes = planes }) (add planes p.key)
 
 unfoldable pub check_some : List Plane → ℕ → Option Plane → ℕ → ℕ → PlaneChoice
 check_some planes i None first last = record { number = i; planes = planes }
@@ -70,5 +70,5 @@ AreWide planes = All (λ p. length p.runs ≡ FRAME_WIDTH) planes
 
 -- for rows by evaluation: who unfolds it unfolds the rules above
 unfoldable pub planes_unfolded : ℕ
-unfolding empty_plane add number_or_add number_of find is_free check_plane check_some check with_run mark_some mark column same_key same_flat
+unfolding empty_plane add number_or_add number_of find is_column_free check_plane check_some check with_run mark_some mark column same_key same_flat
 planes_unfolded = 0

@@ -3,16 +3,16 @@ use Rattle.std.specs.Prelude.{◌≡◌, ℕ, pos, true, slice_index_or, [], ◌
 use Rattle.word_rules.specs.Words.{words_unfolded}
 use Rattle.level_rules.specs.declared.Surface.{Surface}
 use Rattle.plane_rules.specs.Keys.{same_flat, same_key, is_sky_key, key_of, floor_key, ceiling_key}
-use Rattle.plane_rules.specs.Planes.{empty_plane, add, number_or_add, number_of, find, is_free, check_plane, check_some, check, with_run, mark_some, mark, column, planes_unfolded}
+use Rattle.plane_rules.specs.Planes.{empty_plane, add, number_or_add, number_of, find, is_column_free, check_plane, check_some, check, with_run, mark_some, mark, column, planes_unfolded}
 use Rattle.plane_rules.specs.Built.{PlaneWall, PlaneEvent, floor_found, ceiling_found, checked_plane, with_ceiling, with_floor, ceiling_checked, floor_checked, set_run, column_marked, columns_marked, wall_marked, after_event, after_events, planes_of, plane_counts}
-use Rattle.plane_rules.specs.Spans.{holds_row, holds, span_start, gaps, row_runs}
+use Rattle.plane_rules.specs.Spans.{holds_row, holds_row, span_start, plane_gaps, row_runs}
 use Rattle.plane_rules.specs.Floors.{base_angle, base_x, base_y, row_distance, span_length, span_angle, span_x, span_y, pixel_x, pixel_y, flat_colour, floor_colour, run_dots, floor_dots}
 use Rattle.plane_rules.specs.Skies.{sky_column, sky_colour, sky_dots, plane_dots_by, plane_dots}
 use Rattle.plane_rules.specs.Built.PlaneEvent.{Finds, Draws}
 
 -- for rows by evaluation: who unfolds it unfolds the rules of planes
 unfoldable pub built_unfolded : ℕ
-unfolding words_unfolded same_flat same_key is_sky_key key_of floor_key ceiling_key empty_plane add number_or_add number_of find is_free check_plane check_some check with_run mark_some mark column planes_unfolded floor_found ceiling_found checked_plane with_ceiling with_floor ceiling_checked floor_checked set_run column_marked columns_marked wall_marked after_event after_events planes_of plane_counts holds_row holds span_start gaps row_runs base_angle base_x base_y row_distance span_length span_angle span_x span_y pixel_x pixel_y flat_colour floor_colour run_dots floor_dots sky_column sky_colour sky_dots plane_dots_by plane_dots
+unfolding words_unfolded same_flat same_key is_sky_key key_of floor_key ceiling_key empty_plane add number_or_add number_of find is_column_free check_plane check_some check with_run mark_some mark column planes_unfolded floor_found ceiling_found checked_plane with_ceiling with_floor ceiling_checked floor_checked set_run column_marked columns_marked wall_marked after_event after_events planes_of plane_counts holds_row holds_row span_start plane_gaps row_runs base_angle base_x base_y row_distance span_length span_angle span_x span_y pixel_x pixel_y flat_colour floor_colour run_dots floor_dots sky_column sky_colour sky_dots plane_dots_by plane_dots
 built_unfolded = 0
 
 -- floor and ceiling are sky, below and above the viewpoint

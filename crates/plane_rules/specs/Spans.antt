@@ -4,13 +4,13 @@ use Rattle.view_rules.specs.declared.TheConstants.{FRAME_WIDTH}
 use Rattle.walk_rules.specs.Covered.{fragments}
 use Rattle.plane_rules.specs.Planes.{Plane, column}
 
--- the run holds row y
+-- the run holds_row row y
 unfoldable pub holds_row : Option (ℕ × ℕ) → ℕ → Bool
 holds_row None y = false
 holds_row (Some r) y = nat_le r.0 y && nat_le y r.1
 
-unfoldable pub holds : Plane → ℕ → ℕ → Bool
-holds p y x = holds_row (column p x) y
+unfoldable pub holds_row : Plane → ℕ → ℕ → Bool
+holds_row p y x = holds_row (column p x) y
 
 -- the least column from which on every column to x passes, x itself taken as passing
 unfoldable pub span_start : (ℕ → Bool) → ℕ → ℕ
@@ -18,12 +18,12 @@ span_start passes zero = 0
 span_start passes (suc x) = cond (passes x) (span_start passes x) (suc x)
 
 -- the columns that do not hold row y, as covered ones
-unfoldable pub gaps : Plane → ℕ → List Bool
-gaps p y = map (λ r. not (holds_row r y)) p.runs
+unfoldable pub plane_gaps : Plane → ℕ → List Bool
+plane_gaps p y = map (λ r. not (holds_row r y)) p.runs
 
 -- the maximal runs of columns that hold row y, from left to right
 unfoldable pub row_runs : Plane → ℕ → List (ℕ × ℕ)
-row_runs p y = fragments (gaps p y) 0 (FRAME_WIDTH - 1)
+row_runs p y = fragments (plane_gaps p y) 0 (FRAME_WIDTH - 1)
 
 -- columns 2, 3 and 4 pass: from 5 back the span begins at 2
 pub span_start_gap : span_start (λ x. nat_lt 1 x) 5 ≡ 2

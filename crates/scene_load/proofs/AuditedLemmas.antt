@@ -1,4 +1,5 @@
 -- What is told of an audit of the scene, and then of the weapon layers.
+use Rattle.scene_rules.specs.declared.refusal.AuditRefusal.{AuditRefusal}
 use Rattle.std.proofs.Common.{◌≡◌, ℕ, Bool, List, Option, Some, None, Result, Ok, Err, refl, sym, ap, subst, ◌∙◌, ◌≤◌, IsErrAnd}
 use Rattle.std.specs.Prelude.{IfErr}
 use Rattle.std.proofs.lemmas.Result.{err_from_is_err_and}
@@ -12,7 +13,6 @@ use Rattle.art_rules.specs.declared.shapes.Frame.{Frame}
 use Rattle.command_line.specs.LevelJobs.{LevelJobValue}
 use Rattle.scene_load.specs.Files.{FilesValue}
 use Rattle.scene_rules.specs.Scenes.{SceneValue, scene_in}
-use Rattle.outside.specs.declared.fault.Fault.{Fault}
 use Rattle.level_audit.specs.Sound.{SoundValue, with_book}
 use Rattle.level_audit.proofs.SceneLemmas.{and_then-ok}
 use Rattle.scene_load.specs.Loads.{LoadedValue, audited_in, audited_value, weapons_of, with_layers}

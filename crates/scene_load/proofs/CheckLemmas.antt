@@ -13,8 +13,8 @@ use Rattle.csv_tables.specs.declared.records.TheConstants.{MAX_TABLE_BYTES}
 use Rattle.csv_tables.specs.declared.fault.CsvRefusal.{CsvRefusal}
 use Rattle.csv_tables.specs.declared.fault.CsvRefusal.TheVariants.{TooLong}
 use Rattle.csv_tables.specs.Records as csv
-use Rattle.csv_tables.specs.Records.{records_of, table_records}
-use Rattle.csv_tables.specs.Things.{lines_of_records, things_in}
+use Rattle.csv_tables.specs.Records.{csv_records, table_records}
+use Rattle.csv_tables.specs.Things.{lines_of_records, things_in_table}
 use Rattle.csv_tables.specs.Paths.{path_of_records, path_in}
 use Rattle.csv_tables.specs.Weapons.{weapons_of_records, weapons_in}
 use Rattle.scene_load.specs.declared.named.FileKind.TheVariants as kind
@@ -34,19 +34,19 @@ text_length true above refusal records rows bytes read e = e
 text_length false above refusal records rows bytes read e = refl
 
 pub things_length : (bytes : List ℕ) → things_file bytes ≡ and_then (bytes_in kind.Things bytes) things_file
-unfolding bytes_in length_refusal text_length_refusal things_in table_records
+unfolding bytes_in length_refusal text_length_refusal things_in_table table_records
 things_length bytes =
-    text_length (nat_lt MAX_TABLE_BYTES (length bytes)) Things (TooLong (length bytes)) (records_of bytes) lines_of_records bytes things_file refl
+    text_length (nat_lt MAX_TABLE_BYTES (length bytes)) Things (TooLong (length bytes)) (csv_records bytes) lines_of_records bytes things_file refl
 
 pub path_length : (bytes : List ℕ) → path_file bytes ≡ and_then (bytes_in kind.Path bytes) path_file
 unfolding bytes_in length_refusal text_length_refusal path_in table_records
 path_length bytes =
-    text_length (nat_lt MAX_TABLE_BYTES (length bytes)) Path (TooLong (length bytes)) (records_of bytes) path_of_records bytes path_file refl
+    text_length (nat_lt MAX_TABLE_BYTES (length bytes)) Path (TooLong (length bytes)) (csv_records bytes) path_of_records bytes path_file refl
 
 pub weapons_length : (bytes : List ℕ) → weapons_file bytes ≡ and_then (bytes_in kind.Weapons bytes) weapons_file
 unfolding bytes_in length_refusal text_length_refusal weapons_in table_records
 weapons_length bytes =
-    text_length (nat_lt MAX_TABLE_BYTES (length bytes)) Weapons (TooLong (length bytes)) (records_of bytes) weapons_of_records bytes weapons_file refl
+    text_length (nat_lt MAX_TABLE_BYTES (length bytes)) Weapons (TooLong (length bytes)) (csv_records bytes) weapons_of_records bytes weapons_file refl
 
 -- what is read of tables of the right length
 whole_length : (whole : Bool) (refusal : TablesRefusal) (others : Option TablesRefusal) (tables : TablesValue) (bytes : List ℕ) (read : List ℕ → Result TablesValue Refusal) →

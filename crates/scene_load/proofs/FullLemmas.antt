@@ -1,4 +1,6 @@
 -- When the zone is full while files are audited, and while all is loaded.
+use Rattle.refusals.specs.declared.refusal.Refusal.{Refusal}
+use Rattle.scene_rules.specs.declared.refusal.AuditRefusal.{AuditRefusal}
 use Rattle.outside.specs.Faults.{itself}
 use Rattle.std.proofs.Common.{◌≡◌, ℕ, ◌+◌, ◌<◌, List, Option, Result, Ok, Err, refl, sym, ap, subst, ◌∙◌, arith, inl, inr, IsErrAnd}
 use Rattle.std.specs.Prelude.{IfErr, IsOk}
@@ -20,8 +22,6 @@ use Rattle.outside.specs.declared.fault.Fault.TheVariants.{Refused, ReadFault, Z
 use Rattle.level_audit.specs.Reads.{IsFullAudit}
 use Rattle.level_audit.specs.Sound.{SoundValue}
 use Rattle.level_audit.proofs.SceneLemmas.{colormap_there, same_value}
-use Rattle.outside.specs.declared.fault.Fault.{Fault}
-use Rattle.scene_load.specs.Faults.{above_audit}
 use Rattle.scene_load.specs.Fulls.{IsFullLoad, IsFullOver, IsOfLayers}
 use Rattle.scene_load.specs.Loads.{loaded_sizes, wad_bytes}
 use Rattle.scene_load.proofs.AuditedLemmas.{audited_by}

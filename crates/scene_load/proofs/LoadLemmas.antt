@@ -19,12 +19,9 @@ use Rattle.outside.specs.Stops.{Stop, ResultIsOrAbsent, FaultFitsOrAbsent}
 use Rattle.scene_load.proofs.AcceptedLemmas.{wads_accepted}
 use Rattle.outside.proofs.StopLemmas.{all_passed, no_file_agrees, step_stops_above}
 use Rattle.scene_rules.specs.declared.refusal.AuditRefusal.{AuditRefusal}
-use Rattle.outside.specs.declared.fault.Fault.{Fault}
 use Rattle.outside.specs.declared.fault.Fault.TheVariants as audit
 use Rattle.refusals.specs.declared.refusal.Refusal.{Refusal}
 use Rattle.refusals.specs.Groups.{of_audit, of_files}
-use Rattle.outside.specs.declared.fault.Fault.{Fault}
-use Rattle.scene_load.specs.Faults.{above_audit, above_files}
 use Rattle.scene_load.specs.Loads.{LoadedValue, audited_in, load_in, stops_of_audit, wad_bytes, wad_contents}
 
 -- what a fault of the files tells here

@@ -3,25 +3,14 @@ use Rattle.std.proofs.Common.{◌≡◌, ℕ, Bool, List, Option, Some, Result, 
 use Rattle.std.proofs.lemmas.Result.{err_from_is_err_and}
 use Rattle.outside.specs.declared.shelf.FileNo.{FileNo}
 use Rattle.outside.specs.Shelf.{File, ShelfView, NameFiles}
-use Rattle.outside.specs.Faults.{fault_above, itself}
+use Rattle.outside.specs.Faults.{itself}
 use Rattle.lump_rules.specs.declared.wad.Lump.{Lump}
-use Rattle.wad_dir.specs.declared.fault.DirFault.{DirFault}
-use Rattle.wad_dir.specs.declared.fault.DirFault.TheVariants as dir
-use Rattle.wad_dir.specs.Faults.{dir_fault}
 use Rattle.refusals.specs.declared.refusal.Refusal.{Refusal}
-use Rattle.refusals.specs.declared.refusal.Refusal.TheVariants.{Wad}
 use Rattle.outside.specs.declared.fault.Fault.{Fault}
-use Rattle.scene_load.specs.Faults.{fault_of_dir}
 use Rattle.scene_load.specs.Files.{files_named, lumps_in, wad_files}
 use Rattle.scene_load.specs.Found.{AllStandForNamed}
 use Rattle.outside.specs.Stops.{else_absent, no_file, FaultFitsOrAbsent, ResultIsOrAbsent}
 use Rattle.outside.proofs.StopLemmas.{stops_all}
-
--- what a fault of the directory tells where files are read
-pub dir_told_above : (fault : DirFault) → itself (fault_of_dir fault) ≡ fault_above Wad (dir_fault fault)
-dir_told_above (dir.Refused refusal) = refl
-dir_told_above dir.ReadFault = refl
-dir_told_above dir.OutOfMemory = refl
 
 -- a file was not found
 pub wads_unfound : {B : Type 0} {steady : Bool} {value : B → List Lump} (names : List (List ℕ)) (files : List File) (fault : (Fault Refusal)) (result : Result B (Fault Refusal)) →

@@ -1,8 +1,10 @@
 -- What the files of a job over a level give: tables of angles, things, a path, weapons where a file
 -- of them is named, and the lumps of the WADs; or the first step that stops.
-use Rattle.std.specs.Prelude.{◌≡◌, ℕ, List, [], ◌∷◌, Option, Some, None, option_and_then, option_map, Result, Ok, Err, codes, refl}
+use Rattle.std.specs.Prelude.{◌≡◌, ℕ, List, [], ◌∷◌, Option, Some, None, option_and_then, option_map, Result, Ok, Err, IfErr, codes, refl}
 use Rattle.outside.specs.Shelf.{File, file_named}
 use Rattle.outside.specs.Faults.{and_then, from_below}
+use Rattle.outside.specs.declared.fault.Fault.{Fault}
+use Rattle.lump_cache.specs.Calls.{IfFull}
 use Rattle.lump_rules.specs.declared.wad.Lump.{Lump}
 use Rattle.lump_rules.specs.Wads.{directory}
 use Rattle.view_rules.specs.declared.TablesRefusal.{TablesRefusal}
@@ -11,7 +13,7 @@ use Rattle.view_rules.specs.View.{TablesValue}
 use Rattle.csv_tables.specs.declared.path.PathRow.{PathRow}
 use Rattle.level_rules.specs.declared.ThingLine.{ThingLine}
 use Rattle.csv_tables.specs.declared.weapons.WeaponRow.{WeaponRow}
-use Rattle.csv_tables.specs.Things.{things_in}
+use Rattle.csv_tables.specs.Things.{things_in_table}
 use Rattle.csv_tables.specs.Paths.{path_in}
 use Rattle.csv_tables.specs.Weapons.{weapons_in}
 use Rattle.command_line.specs.LevelJobs.{FileNames}
@@ -38,6 +40,10 @@ value_of files = record {
   lumps = files.dir.lumps;
 }
 
+-- a call that puts nothing into a zone never tells that one is full
+abbrev pub IsNeverFull : {B R : Type 0} → Result B (Fault R) → Type 0
+IsNeverFull result = IfErr result (λ fault. IfFull fault (λ wanted widest'. ⊥))
+
 -- the value, unless there is a refusal
 abbrev pub unless_refused : {A R : Type 0} → Option R → A → Result A R
 unless_refused None value = Ok value
@@ -52,7 +58,7 @@ abbrev pub tables_file : ℕ → List ℕ → Result TablesValue Refusal
 tables_file size bytes = from_below Tables (tables_in size bytes)
 
 abbrev pub things_file : List ℕ → Result (List ThingLine) Refusal
-things_file bytes = from_below Things (things_in bytes)
+things_file bytes = from_below Things (things_in_table bytes)
 
 abbrev pub path_file : List ℕ → Result (List PathRow) Refusal
 path_file bytes = from_below Path (path_in bytes)

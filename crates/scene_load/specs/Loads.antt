@@ -11,7 +11,7 @@ use Rattle.art_rules.specs.Books.{book_lumps}
 use Rattle.command_line.specs.LevelJobs.{LevelJobValue}
 use Rattle.refusals.specs.declared.refusal.Refusal.{Refusal}
 use Rattle.scene_load.specs.Files.{FilesValue, files_in, files_named, value_of}
-use Rattle.outside.specs.Stops.{Stop, no_file, stop_above}
+use Rattle.outside.specs.Stops.{Stop, no_file}
 use Rattle.scene_rules.specs.declared.ZoneSizes.{ZoneSizes}
 use Rattle.scene_rules.specs.declared.refusal.AuditRefusal.{AuditRefusal}
 use Rattle.scene_rules.specs.declared.refusal.AuditRefusal.TheVariants.{WeaponArt}
@@ -19,8 +19,7 @@ use Rattle.scene_rules.specs.Scenes.{SceneValue, scene_in}
 use Rattle.scene_rules.specs.Sizes.{needed_lumps, zone_sizes}
 use Rattle.level_audit.specs.Sound.{SoundValue, art_with, with_book}
 use Rattle.level_audit.specs.Weapons.{weapon_book}
-use Rattle.refusals.specs.declared.refusal.Refusal.{Refusal}
-use Rattle.refusals.specs.Groups.{of_audit, of_files}
+use Rattle.refusals.specs.Groups.{of_audit}
 use Rattle.scene_load.specs.declared.load.LoadedScene.{LoadedScene}
 
 -- what is loaded: what the files give, the scene, and the book of the weapon layers, where a file of
@@ -49,10 +48,6 @@ wad_contents wads files = unwrap_or (files_named wads files) []
 abbrev pub wad_bytes : List (List ℕ) → List File → List Lump → ℕ → List ℕ
 wad_bytes wads files lumps = lump_bytes (wad_contents wads files) lumps
 
--- stops of the files, in the words of a run
-abbrev pub stops_of_files : {A : Type 0} → Result A (Stop Refusal) → Result A (Stop Refusal)
-stops_of_files expected = from_below (stop_above of_files) expected
-
 -- checks of lumps ask for no file
 abbrev pub stops_of_audit : {A : Type 0} → Result A AuditRefusal → Result A (Stop Refusal)
 stops_of_audit expected = no_file (from_below of_audit expected)
@@ -72,7 +67,7 @@ audited_in bytes level found =
 -- all steps: the files in their order, then the lumps
 unfoldable pub load_in : LevelJobValue → List (List ℕ) → List File → Result LoadedValue (Stop Refusal)
 load_in level wads files =
-    and_then (stops_of_files (files_in level.files wads level.settings.size files)) (λ found.
+    and_then (files_in level.files wads level.settings.size files) (λ found.
     stops_of_audit (audited_in (wad_bytes wads files found.lumps) level found))
 
 -- the lumps of the pictures of a scene and of its weapon layers

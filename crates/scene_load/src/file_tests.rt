@@ -5,7 +5,7 @@ ghost use Rattle.std.specs.Prelude.{◌≤◌, ◌+◌, length};
 use crate::{LoadFault, Refusal, SceneFiles, read_files};
 use command_line::Files;
 use csv_tables::CsvRefusal;
-use outside::{MemoryFile, MemoryShelf};
+use outside::{Fault, MemoryFile, MemoryShelf};
 use std::alloc::{AllocError, Global};
 use std::test::Fail;
 use view_rules::{MIN_SIZE, TABLES_BYTES, TablesRefusal};

@@ -2,13 +2,13 @@
 ghost use Rattle.std.specs.Prelude.{◌≡◌, ◌≤◌, ◌+◌, ℕ, List, length, Ok, IfOk};
 ghost use Rattle.outside.specs.Shelf.{File, IsLaterShelf, Holds, Stands};
 ghost use Rattle.outside.specs.Faults.{ResultIs, HasCauses, itself};
-ghost use Rattle.scene_load.specs.Files.{in_file, unless_refused};
+ghost use Rattle.scene_load.specs.Files.{IsNeverFull, in_file, unless_refused};
 ghost use Rattle.scene_load.specs.Lengths.{bytes_in, length_refusal, most_bytes, tables_length_refusal, text_length_refusal};
 ghost use Rattle.outside.specs.Stops.{ResultIsOrAbsent};
 
 use crate::{LoadFault, Refusal};
 use csv_tables::{CsvRefusal, MAX_TABLE_BYTES};
-use outside::{FileNo, OutOfMemory, Shelf};
+use outside::{Fault, FileNo, Shelf};
 use std::alloc::Global;
 use view_rules::{TABLES_BYTES, TablesRefusal};
 
@@ -31,6 +31,7 @@ pub fn read_named<S: Shelf>(
     ensures answers { (files : List File) → Holds (S.view shelf.old) files →
         ResultIsOrAbsent itself (S.view shelf.old).steady (λ bytes. bytes.items)
         (in_file (bytes_in kind) name.now files) result }
+    ensures full { IsNeverFull result }
     ensures follows { IsLaterShelf (S.view shelf.old) (S.view shelf.new) }
     ensures causes { HasCauses itself
         (S.view shelf.old).faults (S.view shelf.new).faults result }
@@ -50,14 +51,17 @@ fn read_file<S: Shelf>(
     ensures answers { (bytes : List ℕ) → Stands (S.view shelf.old) file.0 bytes →
         ResultIs itself (S.view shelf.old).steady (λ found. found.items)
         (bytes_in kind bytes) result }
+    ensures full { IsNeverFull result }
     ensures follows { IsLaterShelf (S.view shelf.old) (S.view shelf.new) }
     ensures causes { HasCauses itself
         (S.view shelf.old).faults (S.view shelf.new).faults result }
     ensures taken { (S.view shelf.new).taken ≤ (S.view shelf.old).taken + most_bytes kind }
 {
     let size = shelf.size_of(file)?;
-    let count = check_length(kind, size)?;
-    read_whole(alloc, shelf, file, count)
+    match check_length(kind, size) {
+        Ok(count) => read_whole(alloc, shelf, file, count),
+        Err(refusal) => Err(Fault::Refused(refusal)),
+    }
 }
 
 // All bytes of a file that has so many.
@@ -70,6 +74,7 @@ fn read_whole<S: Shelf>(
     ensures answers { (bytes : List ℕ) →
         Stands (S.view shelf.old) file.0 bytes → length bytes ≡ size →
         ResultIs itself (S.view shelf.old).steady (λ found. found.items) (Ok bytes) result }
+    ensures full { IsNeverFull result }
     ensures follows { IsLaterShelf (S.view shelf.old) (S.view shelf.new) }
     ensures causes { HasCauses itself
         (S.view shelf.old).faults (S.view shelf.new).faults result }

@@ -6,7 +6,7 @@ ghost use Rattle.lump_rules.specs.Contents.{AllWithin};
 ghost use Rattle.lump_rules.specs.Wads.{listing_sizes};
 ghost use Rattle.view_rules.specs.declared.TheConstants.{MIN_SIZE, MAX_SIZE};
 ghost use Rattle.command_line.specs.LevelJobs.{file_names};
-ghost use Rattle.scene_load.specs.Files.{files_in, files_named, value_of};
+ghost use Rattle.scene_load.specs.Files.{IsNeverFull, files_in, files_named, value_of};
 ghost use Rattle.outside.specs.Stops.{ResultIsOrAbsent};
 
 use crate::LoadFault;
@@ -67,6 +67,7 @@ pub fn read_files<S: Shelf>(
     ensures files { IfOk result (λ found. length found.dir.files ≡ length wads.now) }
     ensures count { IfOk result (λ found. length found.dir.lumps < 2 ^ 16) }
     ensures size { IfOk result (λ found. found.tables.size ≡ size) }
+    ensures full { IsNeverFull result }
     ensures follows { IsLaterShelf (S.view shelf.old) (S.view shelf.new) }
     ensures causes { HasCauses itself
         (S.view shelf.old).faults (S.view shelf.new).faults result }

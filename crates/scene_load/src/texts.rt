@@ -4,14 +4,14 @@ ghost use Rattle.std.specs.Prelude.{◌≤◌, ◌+◌, ◌*◌, ℕ, List, true
 ghost use Rattle.outside.specs.Shelf.{File, IsLaterShelf, Holds};
 ghost use Rattle.outside.specs.Faults.{ResultIs, HasCauses, itself};
 ghost use Rattle.command_line.specs.LevelJobs.{file_names};
-ghost use Rattle.scene_load.specs.Files.{in_file, in_optional_file, things_file, path_file, weapons_file, texts_in};
+ghost use Rattle.scene_load.specs.Files.{IsNeverFull, in_file, in_optional_file, things_file, path_file, weapons_file, texts_in};
 ghost use Rattle.outside.specs.Stops.{ResultIsOrAbsent};
 
 use crate::named::{FileKind, read_named};
 use crate::{LoadFault, Refusal};
 use command_line::Files;
 use csv_tables::{CsvFault, MAX_TABLE_BYTES, PathTable, ThingTable, WeaponTable};
-use outside::Shelf;
+use outside::{Fault, Shelf};
 use std::alloc::Global;
 
 /// The tables of text.
@@ -31,6 +31,7 @@ pub fn load_texts<S: Shelf>(
     ensures answers { (files : List File) → Holds (S.view shelf.old) files →
         ResultIsOrAbsent itself (S.view shelf.old).steady (λ texts. texts)
         (texts_in (file_names names.now) files) result }
+    ensures full { IsNeverFull result }
     ensures follows { IsLaterShelf (S.view shelf.old) (S.view shelf.new) }
     ensures causes { HasCauses itself
         (S.view shelf.old).faults (S.view shelf.new).faults result }
@@ -55,6 +56,7 @@ pub fn load_things<S: Shelf>(
     ensures answers { (files : List File) → Holds (S.view shelf.old) files →
         ResultIsOrAbsent itself (S.view shelf.old).steady (λ things. things)
         (in_file things_file name.now files) result }
+    ensures full { IsNeverFull result }
     ensures follows { IsLaterShelf (S.view shelf.old) (S.view shelf.new) }
     ensures causes { HasCauses itself
         (S.view shelf.old).faults (S.view shelf.new).faults result }
@@ -67,12 +69,11 @@ pub fn load_things<S: Shelf>(
 fn check_things(alloc: Global, bytes: &[u8]) -> Result<ThingTable, LoadFault>
     ensures answers { ResultIs itself true (λ things. things) (things_file bytes.now) result }
     ensures causes { (before now : ℕ) → HasCauses itself before now result }
+    ensures full { IsNeverFull result }
 {
     match ThingTable::read(alloc, bytes) {
         Ok(things) => Ok(things),
-        Err(CsvFault::Refused(refusal)) => {
-            Err(Fault::Refused(Refusal::Things(refusal)))
-        }
+        Err(CsvFault::Refused(refusal)) => Err(Fault::Refused(Refusal::Things(refusal))),
         Err(CsvFault::OutOfMemory) => Err(Fault::OutOfMemory),
     }
 }
@@ -86,6 +87,7 @@ pub fn load_path<S: Shelf>(
     ensures answers { (files : List File) → Holds (S.view shelf.old) files →
         ResultIsOrAbsent itself (S.view shelf.old).steady (λ path. path)
         (in_file path_file name.now files) result }
+    ensures full { IsNeverFull result }
     ensures follows { IsLaterShelf (S.view shelf.old) (S.view shelf.new) }
     ensures causes { HasCauses itself
         (S.view shelf.old).faults (S.view shelf.new).faults result }
@@ -98,6 +100,7 @@ pub fn load_path<S: Shelf>(
 fn check_path(alloc: Global, bytes: &[u8]) -> Result<PathTable, LoadFault>
     ensures answers { ResultIs itself true (λ path. path) (path_file bytes.now) result }
     ensures causes { (before now : ℕ) → HasCauses itself before now result }
+    ensures full { IsNeverFull result }
 {
     match PathTable::read(alloc, bytes) {
         Ok(path) => Ok(path),
@@ -115,6 +118,7 @@ pub fn load_weapons<S: Shelf>(
     ensures answers { (files : List File) → Holds (S.view shelf.old) files →
         ResultIsOrAbsent itself (S.view shelf.old).steady (λ weapons. weapons)
         (in_optional_file weapons_file (option_map (λ text. text.now) name.entry) files) result }
+    ensures full { IsNeverFull result }
     ensures follows { IsLaterShelf (S.view shelf.old) (S.view shelf.new) }
     ensures causes { HasCauses itself
         (S.view shelf.old).faults (S.view shelf.new).faults result }
@@ -135,6 +139,7 @@ fn load_layers<S: Shelf>(
     ensures answers { (files : List File) → Holds (S.view shelf.old) files →
         ResultIsOrAbsent itself (S.view shelf.old).steady (λ weapons. weapons)
         (in_file weapons_file name.now files) result }
+    ensures full { IsNeverFull result }
     ensures follows { IsLaterShelf (S.view shelf.old) (S.view shelf.new) }
     ensures causes { HasCauses itself
         (S.view shelf.old).faults (S.view shelf.new).faults result }
@@ -147,12 +152,11 @@ fn load_layers<S: Shelf>(
 fn check_layers(alloc: Global, bytes: &[u8]) -> Result<WeaponTable, LoadFault>
     ensures answers { ResultIs itself true (λ weapons. weapons) (weapons_file bytes.now) result }
     ensures causes { (before now : ℕ) → HasCauses itself before now result }
+    ensures full { IsNeverFull result }
 {
     match WeaponTable::read(alloc, bytes) {
         Ok(weapons) => Ok(weapons),
-        Err(CsvFault::Refused(refusal)) => {
-            Err(Fault::Refused(Refusal::Weapons(refusal)))
-        }
+        Err(CsvFault::Refused(refusal)) => Err(Fault::Refused(Refusal::Weapons(refusal))),
         Err(CsvFault::OutOfMemory) => Err(Fault::OutOfMemory),
     }
 }

@@ -1,15 +1,16 @@
 // The WADs: all are asked for, and then their directories are read.
 ghost use Rattle.std.specs.Prelude.{◌≡◌, ◌<◌, ◌≤◌, ◌+◌, ◌*◌, ◌^◌, ℕ, List, length, map, Some, IfOk, IfErr};
 ghost use Rattle.outside.specs.Shelf.{NameFiles, File, IsLaterShelf, Holds};
-ghost use Rattle.outside.specs.Faults.{HasCauses, itself};
+ghost use Rattle.outside.specs.Faults.{HasCauses, ResultIs, itself};
 ghost use Rattle.lump_rules.specs.Contents.{AllWithin};
 ghost use Rattle.lump_rules.specs.Wads.{listing_sizes};
 ghost use Rattle.refusals.specs.declared.refusal.Refusal.{Refusal};
-ghost use Rattle.scene_load.specs.Files.{files_named, lumps_in};
+ghost use Rattle.scene_load.specs.Files.{IsNeverFull, files_named, lumps_in, wad_files};
 ghost use Rattle.scene_load.specs.Found.{AllStandForNamed};
 ghost use Rattle.outside.specs.Stops.{ResultIsOrAbsent, FaultFitsOrAbsent, else_absent};
 
 use crate::LoadFault;
+use crate::fault::wad_fault;
 use lump_rules::{ENTRY_SIZE, HEADER_SIZE};
 use outside::{FileNo, Shelf};
 use std::alloc::Global;
@@ -31,6 +32,7 @@ pub fn load_wads<S: Shelf>(
         × AllWithin contents dir.lumps) }
     ensures files { IfOk result (λ dir. length dir.files ≡ length names.now) }
     ensures count { IfOk result (λ dir. length dir.lumps < 2 ^ 16) }
+    ensures full { IsNeverFull result }
     ensures follows { IsLaterShelf (S.view shelf.old) (S.view shelf.new) }
     ensures causes { HasCauses itself
         (S.view shelf.old).faults (S.view shelf.new).faults result }
@@ -43,7 +45,35 @@ pub fn load_wads<S: Shelf>(
         + (HEADER_SIZE * length dir.files + ENTRY_SIZE * length dir.lumps)) }
 {
     let numbers = find_all(alloc, shelf, names)?;
-    Ok(Directory::load(alloc, shelf, &numbers)?)
+    load_dir(alloc, shelf, &numbers)
+}
+
+// The directory of these files.
+fn load_dir<S: Shelf>(
+    alloc: Global,
+    shelf: &mut S,
+    numbers: &[FileNo],
+) -> Result<Directory, LoadFault>
+    ensures answers { (contents : List (List ℕ)) →
+        NameFiles (S.view shelf.old) numbers.now contents →
+        ResultIs itself (S.view shelf.old).steady (λ dir. dir.lumps) (wad_files contents) result }
+    ensures files { IfOk result (λ dir. dir.files ≡ numbers.now) }
+    ensures within { (contents : List (List ℕ)) →
+        NameFiles (S.view shelf.old) numbers.now contents →
+        IfOk result (λ dir. AllWithin contents dir.lumps) }
+    ensures count { IfOk result (λ dir. length dir.lumps < 2 ^ 16) }
+    ensures full { IsNeverFull result }
+    ensures follows { IsLaterShelf (S.view shelf.old) (S.view shelf.new) }
+    ensures causes { HasCauses itself
+        (S.view shelf.old).faults (S.view shelf.new).faults result }
+    ensures taken { (contents : List (List ℕ)) →
+        NameFiles (S.view shelf.old) numbers.now contents →
+        (S.view shelf.new).taken ≤ (S.view shelf.old).taken + listing_sizes contents }
+    ensures taken_by_count { IfOk result (λ dir.
+        (S.view shelf.new).taken ≤ (S.view shelf.old).taken
+        + (HEADER_SIZE * length dir.files + ENTRY_SIZE * length dir.lumps)) }
+{
+    Directory::load(alloc, shelf, numbers).map_err(wad_fault)
 }
 
 // A number for each name.
@@ -59,6 +89,7 @@ fn find_all<S: Shelf>(
         IfErr result (λ fault. FaultFitsOrAbsent {R = Refusal} (S.view shelf.old).steady
         (else_absent (files_named (map (λ name. name.now) names.now) files)) (itself fault)) }
     ensures count { IfOk result (λ numbers. length numbers.items ≡ length names.now) }
+    ensures full { IsNeverFull result }
     ensures follows { IsLaterShelf (S.view shelf.old) (S.view shelf.new) }
     ensures causes { HasCauses itself
         (S.view shelf.old).faults (S.view shelf.new).faults result }

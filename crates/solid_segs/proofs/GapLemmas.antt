@@ -1,4 +1,4 @@
--- The gaps between ranges are the runs of uncovered columns, and there is none where the columns are hidden.
+-- The range_gaps between ranges are the runs of uncovered columns, and there is none where the columns are hidden.
 use Rattle.std.proofs.Common.{◌≡◌, ℕ, zero, suc, ◌+◌, ◌-◌, ◌<◌, ◌≤◌, min, max, Bool, true, false, cond, List, [], ◌∷◌, ◌++◌, length, get_or, take, drop, refl, ap, sym, ◌∙◌, arith, inl, inr, append-nil}
 use Rattle.std.specs.Prelude.{nat_le, nat_lt, ◌&&◌, ◌||◌, replicate}
 use Rattle.std.proofs.lemmas.Bool.{cases_lt}
@@ -8,7 +8,7 @@ use Rattle.std.proofs.lemmas.List.{get_or-drop, get_or-take}
 use Rattle.walk_rules.specs.Covered.{runs, fragments, hides, is_covered}
 use Rattle.walk_rules.proofs.CoverLemmas.{runs-covered, runs-open, fragments-hides, hides-fragments}
 use Rattle.solid_segs.specs.declared.ranges.Range.{Range}
-use Rattle.solid_segs.specs.Ranges.{is_in, is_within, columns_of, gaps, hides_in}
+use Rattle.solid_segs.specs.Ranges.{is_in_range, is_within_range, columns_of, range_gaps, hides_in}
 use Rattle.solid_segs.proofs.RangeLemmas.{AreApart, apart_from, columns_of-covered, length-columns_of}
 
 -- the columns from at to last
@@ -38,28 +38,28 @@ stretch (suc n) at last columns b l h same =
     ∙ ap (λ (xs : List Bool). b ∷ xs) (stretch n (at + 1) last columns b (omega arith) h (λ x p q. same x (omega arith) (omega arith)) ∙ ap (λ (i : ℕ). replicate n b ++ slice columns i last) e)
 
 -- no column before the first range lies in one
-before_all : (j width x : ℕ) (rs : List Range) → AreApart j width rs → x < j → is_within rs x ≡ false
-unfolding is_within
+before_all : (j width x : ℕ) (rs : List Range) → AreApart j width rs → x < j → is_within_range rs x ≡ false
+unfolding is_within_range
 before_all j width x [] a l = refl
 before_all j width x (r ∷ rs) a l =
-    let e : is_in x r ≡ false = (let f : j ≤ r.first = a.0 in grind (arith, nat_tests)) in
+    let e : is_in_range x r ≡ false = (let f : j ≤ r.first = a.0 in grind (arith, nat_tests)) in
     rw e (before_all (r.last + 2) width x rs a.3 (let f : j ≤ r.first = a.0 in let g : r.first ≤ r.last = a.1 in omega arith))
 
-before_first : (j width x : ℕ) (r : Range) (rs : List Range) → AreApart j width (r ∷ rs) → x < r.first → is_within (r ∷ rs) x ≡ false
+before_first : (j width x : ℕ) (r : Range) (rs : List Range) → AreApart j width (r ∷ rs) → x < r.first → is_within_range (r ∷ rs) x ≡ false
 before_first j width x r rs a l = before_all r.first width x (r ∷ rs) (omega arith, a.1, a.2, a.3) l
 
-in_first : (x : ℕ) (r : Range) (rs : List Range) → r.first ≤ x → x ≤ r.last → is_within (r ∷ rs) x ≡ true
-unfolding is_within
-in_first x r rs a b = let e : is_in x r ≡ true = grind (arith, nat_tests) in rw e refl
+in_first : (x : ℕ) (r : Range) (rs : List Range) → r.first ≤ x → x ≤ r.last → is_within_range (r ∷ rs) x ≡ true
+unfolding is_within_range
+in_first x r rs a b = let e : is_in_range x r ≡ true = grind (arith, nat_tests) in rw e refl
 
-past_first : (x : ℕ) (r : Range) (rs : List Range) → r.last < x → is_within (r ∷ rs) x ≡ is_within rs x
-unfolding is_within
-past_first x r rs a = let e : is_in x r ≡ false = grind (arith, nat_tests) in rw e refl
+past_first : (x : ℕ) (r : Range) (rs : List Range) → r.last < x → is_within_range (r ∷ rs) x ≡ is_within_range rs x
+unfolding is_within_range
+past_first x r rs a = let e : is_in_range x r ≡ false = grind (arith, nat_tests) in rw e refl
 
 -- the columns from at to last are covered where the ranges say so
 pub record Agree (columns : List Bool) (at last : ℕ) (rs : List Range) : Type 0 where
   pub within : last < length columns
-  pub same : (x : ℕ) → at ≤ x → x ≤ last → is_covered columns x ≡ is_within rs x
+  pub same : (x : ℕ) → at ≤ x → x ≤ last → is_covered columns x ≡ is_within_range rs x
 
 agree_past : (columns : List Bool) (at next last : ℕ) (r : Range) (rs : List Range) → at ≤ next → r.last < next → Agree columns at last (r ∷ rs) → Agree columns next last rs
 agree_past columns at next last r rs l p g = record {
@@ -67,7 +67,7 @@ agree_past columns at next last r rs l p g = record {
   same = λ x a b. g.same x (omega arith) b ∙ past_first x r rs (omega arith);
 }
 
-gaps_none : (at last : ℕ) (rs : List Range) → last < at → gaps at last rs ≡ []
+gaps_none : (at last : ℕ) (rs : List Range) → last < at → range_gaps at last rs ≡ []
 gaps_none at last [] l = let e : nat_lt last at ≡ true = grind (arith, nat_tests) in rw e refl
 gaps_none at last (r ∷ rs) l = let e : nat_lt last at ≡ true = grind (arith, nat_tests) in rw e refl
 
@@ -75,9 +75,9 @@ runs_none : (columns : List Bool) (at last : ℕ) → last < at → runs at (sli
 unfolding runs
 runs_none columns at last l = ap (runs at) (slice_none columns at last l)
 
--- after a range, the gaps go on behind it
+-- after a range, the range_gaps go on behind it
 after_range : (columns : List Bool) (at last : ℕ) (r : Range) (rs : List Range) → r.first ≤ at → at ≤ r.last + 1 → at ≤ last + 1 → Agree columns at last (r ∷ rs) →
-    (r.last ≤ last → gaps (r.last + 1) last rs ≡ runs (r.last + 1) (slice columns (r.last + 1) last)) → gaps (r.last + 1) last rs ≡ runs at (slice columns at last)
+    (r.last ≤ last → range_gaps (r.last + 1) last rs ≡ runs (r.last + 1) (slice columns (r.last + 1) last)) → range_gaps (r.last + 1) last rs ≡ runs at (slice columns at last)
 after_range columns at last r rs f l m g rest =
     elim (cases_lt last r.last) [
       | inl short ↦
@@ -117,13 +117,13 @@ last_gap columns at last l h none =
     ∙ ap (λ (i : ℕ). (at, i) ∷ []) n)
 
 first_gap : (columns : List Bool) (at last j width : ℕ) (r : Range) (rs : List Range) → at < r.first → at ≤ last → AreApart j width (r ∷ rs) → Agree columns at last (r ∷ rs) →
-    gaps (r.last + 1) last rs ≡ runs r.first (slice columns r.first last) → (at, min last (r.first - 1)) ∷ gaps (r.last + 1) last rs ≡ runs at (slice columns at last)
+    range_gaps (r.last + 1) last rs ≡ runs r.first (slice columns r.first last) → (at, min last (r.first - 1)) ∷ range_gaps (r.last + 1) last rs ≡ runs at (slice columns at last)
 first_gap columns at last j width r rs f l a g rest =
     elim (cases_lt last r.first) [
       | inl short ↦
           let e : min last (r.first - 1) ≡ last = omega arith in
           let d : last < r.last + 1 = (let o : r.first ≤ r.last = a.1 in omega arith) in
-          ap (λ (i : ℕ). (at, i) ∷ gaps (r.last + 1) last rs) e
+          ap (λ (i : ℕ). (at, i) ∷ range_gaps (r.last + 1) last rs) e
           ∙ ap (λ (xs : List (ℕ × ℕ)). (at, last) ∷ xs) (gaps_none (r.last + 1) last rs d)
           ∙ last_gap columns at last l g.within (λ x p q. g.same x p q ∙ before_first j width x r rs a (omega arith))
       | inr long ↦
@@ -133,7 +133,7 @@ first_gap columns at last j width r rs f l a g rest =
           let o : r.first ≤ r.last = a.1 in
           let edge : get_or (slice columns (at + (r.first - 1 - at) + 1) last) 0 true ≡ true =
           ap (λ (i : ℕ). get_or (slice columns i last) 0 true) m ∙ first_of_slice columns r.first last long g.within ∙ g.same r.first (omega arith) long ∙ in_first r.first r rs (omega arith) o in
-          ap (λ (i : ℕ). (at, i) ∷ gaps (r.last + 1) last rs) e
+          ap (λ (i : ℕ). (at, i) ∷ range_gaps (r.last + 1) last rs) e
           ∙ ap (λ (xs : List (ℕ × ℕ)). (at, r.first - 1) ∷ xs) rest
           ∙ sym (open_run columns (r.first - 1 - at) at last (omega arith) g.within (λ x p q. g.same x p (omega arith) ∙ before_first j width x r rs a (omega arith)) edge
           ∙ ap (λ (i : ℕ). (at, i) ∷ runs (at + (r.first - 1 - at) + 1) (slice columns (at + (r.first - 1 - at) + 1) last)) n
@@ -145,8 +145,8 @@ agree_later : (columns : List Bool) (at next last : ℕ) (rs : List Range) → a
 agree_later columns at next last rs l g = record { within = g.within; same = λ x a b. g.same x (omega arith) b }
 
 gaps_cases : (columns : List Bool) (at last j width : ℕ) (r : Range) (rs : List Range) (b c : Bool) → nat_lt last at ≡ b → nat_lt at r.first ≡ c → at ≤ last + 1 → AreApart j width (r ∷ rs) → Agree columns at last (r ∷ rs) →
-    ((next : ℕ) → at ≤ next → r.last < next → next ≤ last + 1 → gaps next last rs ≡ runs next (slice columns next last)) →
-    cond b [] (cond c ((at, min last (r.first - 1)) ∷ gaps (r.last + 1) last rs) (gaps (max at (r.last + 1)) last rs)) ≡ runs at (slice columns at last)
+    ((next : ℕ) → at ≤ next → r.last < next → next ≤ last + 1 → range_gaps next last rs ≡ runs next (slice columns next last)) →
+    cond b [] (cond c ((at, min last (r.first - 1)) ∷ range_gaps (r.last + 1) last rs) (range_gaps (max at (r.last + 1)) last rs)) ≡ runs at (slice columns at last)
 gaps_cases columns at last j width r rs true c d e l a g rest = sym (runs_none columns at last (grind (arith, nat_tests)))
 gaps_cases columns at last j width r rs false true d e l a g rest =
     let f : at < r.first = grind (arith, nat_tests) in
@@ -162,34 +162,34 @@ gaps_cases columns at last j width r rs false false d e l a g rest =
     elim (cases_lt r.last at) [
       | inl past ↦
           let m : max at (r.last + 1) ≡ at = omega arith in
-          ap (λ (i : ℕ). gaps i last rs) m ∙ rest at (omega arith) past l
+          ap (λ (i : ℕ). range_gaps i last rs) m ∙ rest at (omega arith) past l
       | inr within ↦
           let m : max at (r.last + 1) ≡ r.last + 1 = omega arith in
-          ap (λ (i : ℕ). gaps i last rs) m ∙ after_range columns at last r rs f (omega arith) l g (λ h. rest (r.last + 1) (omega arith) (omega arith) (omega arith))
+          ap (λ (i : ℕ). range_gaps i last rs) m ∙ after_range columns at last r rs f (omega arith) l g (λ h. rest (r.last + 1) (omega arith) (omega arith) (omega arith))
     ]
 
 gap_alone : (columns : List Bool) (at last : ℕ) (b : Bool) → nat_lt last at ≡ b → Agree columns at last [] → cond b [] ((at, last) ∷ []) ≡ runs at (slice columns at last)
-unfolding is_within
+unfolding is_within_range
 gap_alone columns at last true e g = sym (runs_none columns at last (grind (arith, nat_tests)))
 gap_alone columns at last false e g = last_gap columns at last (grind (arith, nat_tests)) g.within (λ x p q. g.same x p q)
 
 gaps_runs : (columns : List Bool) (at last j width : ℕ) (rs : List Range) → at ≤ last + 1 → AreApart j width rs → Agree columns at last rs →
-    gaps at last rs ≡ runs at (slice columns at last)
+    range_gaps at last rs ≡ runs at (slice columns at last)
 gaps_runs columns at last j width [] l a g = gap_alone columns at last (nat_lt last at) refl g
 gaps_runs columns at last j width (r ∷ rs) l a g =
     gaps_cases columns at last j width r rs (nat_lt last at) (nat_lt at r.first) refl refl l a g
     (λ next p q s. gaps_runs columns next last (r.last + 2) width rs s a.3 (agree_past columns at next last r rs p q g))
 
--- the gaps between the ranges of a cover are its fragments
+-- the range_gaps between the ranges of a cover are its fragments
 pub gaps-fragments : (width first last : ℕ) (rs : List Range) → AreApart 0 width rs → first ≤ last → last < width →
-    gaps first last rs ≡ fragments (columns_of width rs) first last
+    range_gaps first last rs ≡ fragments (columns_of width rs) first last
 unfolding fragments
 gaps-fragments width first last rs a o l =
     gaps_runs (columns_of width rs) first last 0 width rs (omega arith) a
     (record { within = omega (arith, length-columns_of width rs); same = λ x p q. columns_of-covered width x rs (omega arith) })
 
 -- a gap is left where a range begins past the first column, or ends before the last
-gap_left : (at last j width : ℕ) (rs : List Range) → at ≤ last → AreApart j width rs → at < j → gaps at last rs ≡ [] → ⊥
+gap_left : (at last j width : ℕ) (rs : List Range) → at ≤ last → AreApart j width rs → at < j → range_gaps at last rs ≡ [] → ⊥
 gap_left at last j width [] l a h e = let b : nat_lt last at ≡ false = grind (arith, nat_tests) in cc
 gap_left at last j width (r ∷ rs) l a h e =
     let b : nat_lt last at ≡ false = grind (arith, nat_tests) in
@@ -197,7 +197,7 @@ gap_left at last j width (r ∷ rs) l a h e =
 
 -- what the first range that reaches the columns says of them
 hidden_here : (first last width : ℕ) (r : Range) (rs : List Range) (d : Bool) → (nat_le r.first first && nat_le last r.last) ≡ d → first ≤ last → first ≤ r.last → AreApart (r.last + 2) width rs →
-    (d ≡ true → gaps first last (r ∷ rs) ≡ []) × (d ≡ false → gaps first last (r ∷ rs) ≡ [] → ⊥)
+    (d ≡ true → range_gaps first last (r ∷ rs) ≡ []) × (d ≡ false → range_gaps first last (r ∷ rs) ≡ [] → ⊥)
 hidden_here first last width r rs d e o t a =
     let b : nat_lt last first ≡ false = grind (arith, nat_tests) in
     elim (cases_lt first r.first) [
@@ -209,7 +209,7 @@ hidden_here first last width r rs d e o t a =
           let c : nat_lt first r.first ≡ false = grind (arith, nat_tests) in
           let m : max first (r.last + 1) ≡ r.last + 1 = omega arith in
           let n : nat_le r.first first ≡ true = grind (arith, nat_tests) in
-          let g : gaps first last (r ∷ rs) ≡ gaps (r.last + 1) last rs = rw (b, c) (ap (λ (i : ℕ). gaps i last rs) m) in
+          let g : range_gaps first last (r ∷ rs) ≡ range_gaps (r.last + 1) last rs = rw (b, c) (ap (λ (i : ℕ). range_gaps i last rs) m) in
           elim (cases_lt r.last last) [
             | inl short ↦
                 let p : nat_le last r.last ≡ false = grind (arith, nat_tests) in
@@ -220,25 +220,25 @@ hidden_here first last width r rs d e o t a =
           ]
     ]
 
-past_range : (first last : ℕ) (r : Range) (rs : List Range) → first ≤ last → r.first ≤ r.last → r.last < first → gaps first last (r ∷ rs) ≡ gaps first last rs
+past_range : (first last : ℕ) (r : Range) (rs : List Range) → first ≤ last → r.first ≤ r.last → r.last < first → range_gaps first last (r ∷ rs) ≡ range_gaps first last rs
 past_range first last r rs o p l =
     let b : nat_lt last first ≡ false = grind (arith, nat_tests) in
     let c : nat_lt first r.first ≡ false = grind (arith, nat_tests) in
     let m : max first (r.last + 1) ≡ first = omega arith in
-    rw (b, c) (ap (λ (i : ℕ). gaps i last rs) m)
+    rw (b, c) (ap (λ (i : ℕ). range_gaps i last rs) m)
 
 hidden_cases : (first last width : ℕ) (r : Range) (rs : List Range) (b : Bool) → nat_lt r.last first ≡ b → first ≤ last → r.first ≤ r.last → AreApart (r.last + 2) width rs →
-    ((hides_in first last rs ≡ true → gaps first last rs ≡ []) × (hides_in first last rs ≡ false → gaps first last rs ≡ [] → ⊥)) →
-    (cond b (hides_in first last rs) (nat_le r.first first && nat_le last r.last) ≡ true → gaps first last (r ∷ rs) ≡ [])
-    × (cond b (hides_in first last rs) (nat_le r.first first && nat_le last r.last) ≡ false → gaps first last (r ∷ rs) ≡ [] → ⊥)
+    ((hides_in first last rs ≡ true → range_gaps first last rs ≡ []) × (hides_in first last rs ≡ false → range_gaps first last rs ≡ [] → ⊥)) →
+    (cond b (hides_in first last rs) (nat_le r.first first && nat_le last r.last) ≡ true → range_gaps first last (r ∷ rs) ≡ [])
+    × (cond b (hides_in first last rs) (nat_le r.first first && nat_le last r.last) ≡ false → range_gaps first last (r ∷ rs) ≡ [] → ⊥)
 hidden_cases first last width r rs true e o p a h =
-    let g : gaps first last (r ∷ rs) ≡ gaps first last rs = past_range first last r rs o p (grind (arith, nat_tests)) in
+    let g : range_gaps first last (r ∷ rs) ≡ range_gaps first last rs = past_range first last r rs o p (grind (arith, nat_tests)) in
     (λ t. g ∙ h.0 t, λ f none. h.1 f (sym g ∙ none))
 hidden_cases first last width r rs false e o p a h =
     hidden_here first last width r rs (nat_le r.first first && nat_le last r.last) refl o (grind (arith, nat_tests)) a
 
 hidden : (first last j width : ℕ) (rs : List Range) → first ≤ last → AreApart j width rs →
-    (hides_in first last rs ≡ true → gaps first last rs ≡ []) × (hides_in first last rs ≡ false → gaps first last rs ≡ [] → ⊥)
+    (hides_in first last rs ≡ true → range_gaps first last rs ≡ []) × (hides_in first last rs ≡ false → range_gaps first last rs ≡ [] → ⊥)
 hidden first last j width [] o a = (λ t. cc, λ f none. (let b : nat_lt last first ≡ false = grind (arith, nat_tests) in cc))
 hidden first last j width (r ∷ rs) o a =
     hidden_cases first last width r rs (nat_lt r.last first) refl o a.1 a.3 (hidden first last (r.last + 2) width rs o a.3)
@@ -254,5 +254,5 @@ same_tests columns first last gs false true e g h = absurd (h.1 refl (g ∙ frag
 pub hides_in-hides : (width first last : ℕ) (rs : List Range) → AreApart 0 width rs → first ≤ last → last < width →
     hides_in first last rs ≡ hides (columns_of width rs) first last
 hides_in-hides width first last rs a o l =
-    same_tests (columns_of width rs) first last (gaps first last rs) (hides_in first last rs) (hides (columns_of width rs) first last) refl
+    same_tests (columns_of width rs) first last (range_gaps first last rs) (hides_in first last rs) (hides (columns_of width rs) first last) refl
     (gaps-fragments width first last rs a o l) (hidden first last 0 width rs o a)

@@ -9,7 +9,7 @@ use Rattle.word_rules.proofs.ListedLemmas.{length-listed, get_or-listed, listed-
 use Rattle.walk_rules.specs.Covered.{cover, is_covered}
 use Rattle.walk_rules.proofs.CoverLemmas.{length-cover, covered-before, covered-between, covered-after}
 use Rattle.solid_segs.specs.declared.ranges.Range.{Range}
-use Rattle.solid_segs.specs.Ranges.{is_in, is_within, columns_of, are_apart, ends_before, starts_after, count_before, union, joined, with_range}
+use Rattle.solid_segs.specs.Ranges.{is_in_range, is_within_range, columns_of, are_apart, ends_before, starts_after, ranges_before, union, joined, with_range}
 
 -- the parts of `are_apart`
 abbrev pub AreApart : ℕ → ℕ → List Range → Type 0
@@ -67,12 +67,12 @@ split_at range r rs n false e = refl
 
 -- one more range stands behind those that end before it
 pub with_range-split : (range : Range) (rs : List Range) →
-    with_range range rs ≡ take (count_before range.first rs) rs ++ joined range (drop (count_before range.first rs) rs)
+    with_range range rs ≡ take (ranges_before range.first rs) rs ++ joined range (drop (ranges_before range.first rs) rs)
 with_range-split range [] = refl
-with_range-split range (r ∷ rs) = split_at range r rs (count_before range.first rs) (ends_before range.first r) (with_range-split range rs)
+with_range-split range (r ∷ rs) = split_at range r rs (ranges_before range.first rs) (ends_before range.first r) (with_range-split range rs)
 
 -- a range that took up those that it touches, put in behind those that end before it
-pub with_range-inserted : (range took : Range) (old rest new : List Range) (i : ℕ) → i ≡ count_before range.first old → take i rest ≡ take i old →
+pub with_range-inserted : (range took : Range) (old rest new : List Range) (i : ℕ) → i ≡ ranges_before range.first old → take i rest ≡ take i old →
     joined range (drop i old) ≡ took ∷ drop i rest → new ≡ take i rest ++ (took ∷ drop i rest) → new ≡ with_range range old
 with_range-inserted range took old rest new i count front join e =
     e ∙ ap (λ (xs : List Range). xs ++ (took ∷ drop i rest)) front ∙ ap (λ (xs : List Range). take i old ++ xs) (sym join)
@@ -89,7 +89,7 @@ or_swap false b c = refl
 
 -- a column lies in two ranges that touch exactly where it lies in one of them
 union-is_in : (x : ℕ) (m r : Range) → m.first ≤ r.last + 1 → r.first ≤ m.last + 1 → m.first ≤ m.last → r.first ≤ r.last →
-    is_in x (union m r) ≡ (is_in x m || is_in x r)
+    is_in_range x (union m r) ≡ (is_in_range x m || is_in_range x r)
 union-is_in x m r a b c d = grind (arith, nat_tests)
 
 -- the first of the ranges ends where the range begins, or later
@@ -101,33 +101,33 @@ next_touches : (m r : Range) (width : ℕ) (rs : List Range) → m.first ≤ r.l
 next_touches m r width [] t a = tt
 next_touches m r width (s ∷ rs) t a = omega arith
 
-within_cases : (x : ℕ) (m r : Range) (rs : List Range) (b : Bool) → starts_after m.last r ≡ b → (b ≡ false → is_within (joined (union m r) rs) x ≡ (is_in x (union m r) || is_within rs x)) →
-    m.first ≤ m.last → r.first ≤ r.last → m.first ≤ r.last + 1 → is_within (cond b (m ∷ (r ∷ rs)) (joined (union m r) rs)) x ≡ (is_in x m || is_within (r ∷ rs) x)
-unfolding is_within
+within_cases : (x : ℕ) (m r : Range) (rs : List Range) (b : Bool) → starts_after m.last r ≡ b → (b ≡ false → is_within_range (joined (union m r) rs) x ≡ (is_in_range x (union m r) || is_within_range rs x)) →
+    m.first ≤ m.last → r.first ≤ r.last → m.first ≤ r.last + 1 → is_within_range (cond b (m ∷ (r ∷ rs)) (joined (union m r) rs)) x ≡ (is_in_range x m || is_within_range (r ∷ rs) x)
+unfolding is_within_range
 within_cases x m r rs true e h c d t = refl
 within_cases x m r rs false e h c d t =
     let b : r.first ≤ m.last + 1 = grind (arith, nat_tests) in
-    h refl ∙ ap (λ (v : Bool). v || is_within rs x) (union-is_in x m r t b c d) ∙ or_assoc (is_in x m) (is_in x r) (is_within rs x)
+    h refl ∙ ap (λ (v : Bool). v || is_within_range rs x) (union-is_in x m r t b c d) ∙ or_assoc (is_in_range x m) (is_in_range x r) (is_within_range rs x)
 
 -- the columns of a range joined with those that it touches
 joined-is_within : (x j width : ℕ) (m : Range) (rs : List Range) → AreApart j width rs → Touches m rs → m.first ≤ m.last →
-    is_within (joined m rs) x ≡ (is_in x m || is_within rs x)
-unfolding is_within
+    is_within_range (joined m rs) x ≡ (is_in_range x m || is_within_range rs x)
+unfolding is_within_range
 joined-is_within x j width m [] a t c = refl
 joined-is_within x j width m (r ∷ rs) a t c =
     within_cases x m r rs (starts_after m.last r) refl
     (λ _. joined-is_within x (r.last + 2) width (union m r) rs a.3 (next_touches m r width rs t a.3) (let d : r.first ≤ r.last = a.1 in omega arith)) c a.1 t
 
-with_cases : (x j width : ℕ) (m r : Range) (rs : List Range) (b : Bool) → ends_before m.first r ≡ b → is_within (with_range m rs) x ≡ (is_in x m || is_within rs x) →
-    AreApart j width (r ∷ rs) → m.first ≤ m.last → is_within (cond b (r ∷ with_range m rs) (joined m (r ∷ rs))) x ≡ (is_in x m || is_within (r ∷ rs) x)
-unfolding is_within
-with_cases x j width m r rs true e h a c = ap (λ (v : Bool). is_in x r || v) h ∙ or_swap (is_in x r) (is_in x m) (is_within rs x)
+with_cases : (x j width : ℕ) (m r : Range) (rs : List Range) (b : Bool) → ends_before m.first r ≡ b → is_within_range (with_range m rs) x ≡ (is_in_range x m || is_within_range rs x) →
+    AreApart j width (r ∷ rs) → m.first ≤ m.last → is_within_range (cond b (r ∷ with_range m rs) (joined m (r ∷ rs))) x ≡ (is_in_range x m || is_within_range (r ∷ rs) x)
+unfolding is_within_range
+with_cases x j width m r rs true e h a c = ap (λ (v : Bool). is_in_range x r || v) h ∙ or_swap (is_in_range x r) (is_in_range x m) (is_within_range rs x)
 with_cases x j width m r rs false e h a c = joined-is_within x j width m (r ∷ rs) a (grind (arith, nat_tests)) c
 
 -- one more range covers its columns, and no other
 pub with_range-is_within : (x j width : ℕ) (m : Range) (rs : List Range) → AreApart j width rs → m.first ≤ m.last →
-    is_within (with_range m rs) x ≡ (is_in x m || is_within rs x)
-unfolding is_within
+    is_within_range (with_range m rs) x ≡ (is_in_range x m || is_within_range rs x)
+unfolding is_within_range
 with_range-is_within x j width m [] a c = refl
 with_range-is_within x j width m (r ∷ rs) a c =
     with_cases x j width m r rs (ends_before m.first r) refl (with_range-is_within x (r.last + 2) width m rs a.3 c) a c
@@ -160,24 +160,24 @@ with_range-apart j width m (r ∷ rs) a p c q =
 
 pub length-columns_of : (width : ℕ) (rs : List Range) → length (columns_of width rs) ≡ width
 unfolding columns_of
-length-columns_of width rs = length-listed (is_within rs) width
+length-columns_of width rs = length-listed (is_within_range rs) width
 
 -- the columns before the width are those of the ranges
-pub columns_of-covered : (width x : ℕ) (rs : List Range) → x < width → is_covered (columns_of width rs) x ≡ is_within rs x
+pub columns_of-covered : (width x : ℕ) (rs : List Range) → x < width → is_covered (columns_of width rs) x ≡ is_within_range rs x
 unfolding columns_of is_covered
-columns_of-covered width x rs l = get_or-listed (is_within rs) width x true l
+columns_of-covered width x rs l = get_or-listed (is_within_range rs) width x true l
 
-in_range : (x first last : ℕ) → first ≤ x → x ≤ last → is_in x (record { first = first; last = last }) ≡ true
+in_range : (x first last : ℕ) → first ≤ x → x ≤ last → is_in_range x (record { first = first; last = last }) ≡ true
 in_range x first last a b = grind (arith, nat_tests)
 
-out_before : (x first last : ℕ) → x < first → is_in x (record { first = first; last = last }) ≡ false
+out_before : (x first last : ℕ) → x < first → is_in_range x (record { first = first; last = last }) ≡ false
 out_before x first last a = grind (arith, nat_tests)
 
-out_after : (x first last : ℕ) → last < x → is_in x (record { first = first; last = last }) ≡ false
+out_after : (x first last : ℕ) → last < x → is_in_range x (record { first = first; last = last }) ≡ false
 out_after x first last a = grind (arith, nat_tests)
 
 covered_at : (width first last x : ℕ) (rs : List Range) → first ≤ last → last < width → x < width →
-    is_covered (cover (columns_of width rs) first last) x ≡ (is_in x (record { first = first; last = last }) || is_within rs x)
+    is_covered (cover (columns_of width rs) first last) x ≡ (is_in_range x (record { first = first; last = last }) || is_within_range rs x)
 covered_at width first last x rs o l h =
     let n : last < length (columns_of width rs) = omega (arith, length-columns_of width rs) in
     elim (cases_lt x first) [
@@ -189,7 +189,7 @@ covered_at width first last x rs o l h =
     ]
 
 covered_values : (width first last k : ℕ) (rs : List Range) → AreApart 0 width rs → first ≤ last → last < width → k < width →
-    get_or (cover (columns_of width rs) first last) k true ≡ is_within (with_range (record { first = first; last = last }) rs) k
+    get_or (cover (columns_of width rs) first last) k true ≡ is_within_range (with_range (record { first = first; last = last }) rs) k
 unfolding is_covered
 covered_values width first last k rs a o l h =
     covered_at width first last k rs o l h ∙ sym (with_range-is_within k 0 width (record { first = first; last = last }) rs a o)
@@ -201,11 +201,11 @@ unfolding columns_of
 with_range-cover width first last rs a o l =
     let n : length (cover (columns_of width rs) first last) ≡ width =
     length-cover (columns_of width rs) first last o (omega (arith, length-columns_of width rs)) ∙ length-columns_of width rs in
-    sym (listed-all (is_within (with_range (record { first = first; last = last }) rs)) (cover (columns_of width rs) first last) width true n
+    sym (listed-all (is_within_range (with_range (record { first = first; last = last }) rs)) (cover (columns_of width rs) first last) width true n
     (λ k h. covered_values width first last k rs a o l h))
 
 -- no range covers no column
 pub columns_of-none : (width : ℕ) → replicate width false ≡ columns_of width []
-unfolding columns_of is_within
+unfolding columns_of is_within_range
 columns_of-none width =
-    listed-all (is_within []) (replicate width false) width true (length-replicate width false) (λ k h. get_or-replicate width k false true h)
+    listed-all (is_within_range []) (replicate width false) width true (length-replicate width false) (λ k h. get_or-replicate width k false true h)

@@ -5,16 +5,16 @@ use Rattle.word_rules.specs.Listed.{listed}
 use Rattle.solid_segs.specs.declared.ranges.Range.{Range}
 
 -- column x lies in the range
-abbrev pub is_in : ℕ → Range → Bool
-is_in x range = nat_le range.first x && nat_le x range.last
+abbrev pub is_in_range : ℕ → Range → Bool
+is_in_range x range = nat_le range.first x && nat_le x range.last
 
 -- column x lies in one of the ranges
-unfoldable pub is_within : List Range → ℕ → Bool
-is_within ranges x = list_any (is_in x) ranges
+unfoldable pub is_within_range : List Range → ℕ → Bool
+is_within_range ranges x = list_any (is_in_range x) ranges
 
 -- the columns of a view of that width: true where a range covers them
 unfoldable pub columns_of : ℕ → List Range → List Bool
-columns_of width ranges = listed (is_within ranges) width
+columns_of width ranges = listed (is_within_range ranges) width
 
 -- From column j on and before the width: each range is ordered, and at least one column lies between two.
 abbrev pub are_apart : ℕ → ℕ → List Range → Bool
@@ -31,9 +31,9 @@ abbrev pub starts_after : ℕ → Range → Bool
 starts_after last range = nat_lt (last + 1) range.first
 
 -- how many ranges at the front end before column first
-abbrev pub count_before : ℕ → List Range → ℕ
-count_before first [] = 0
-count_before first (r ∷ rs) = cond (ends_before first r) (suc (count_before first rs)) 0
+abbrev pub ranges_before : ℕ → List Range → ℕ
+ranges_before first [] = 0
+ranges_before first (r ∷ rs) = cond (ends_before first r) (suc (ranges_before first rs)) 0
 
 -- the least range that holds both
 abbrev pub union : Range → Range → Range
@@ -54,13 +54,13 @@ abbrev pub hides_in : ℕ → ℕ → List Range → Bool
 hides_in first last [] = false
 hides_in first last (r ∷ rs) = cond (nat_lt r.last first) (hides_in first last rs) (nat_le r.first first && nat_le last r.last)
 
--- the gaps between the ranges, from column at to column last
-abbrev pub gaps : ℕ → ℕ → List Range → List (ℕ × ℕ)
-gaps at last [] = cond (nat_lt last at) [] ((at, last) ∷ [])
-gaps at last (r ∷ rs) =
+-- the range_gaps between the ranges, from column at to column last
+abbrev pub range_gaps : ℕ → ℕ → List Range → List (ℕ × ℕ)
+range_gaps at last [] = cond (nat_lt last at) [] ((at, last) ∷ [])
+range_gaps at last (r ∷ rs) =
     cond (nat_lt last at) []
-    (cond (nat_lt at r.first) ((at, min last (r.first - 1)) ∷ gaps (r.last + 1) last rs)
-    (gaps (max at (r.last + 1)) last rs))
+    (cond (nat_lt at r.first) ((at, min last (r.first - 1)) ∷ range_gaps (r.last + 1) last rs)
+    (range_gaps (max at (r.last + 1)) last rs))
 
 -- column at lies before the first range, or is past the last column
 abbrev pub is_open : ℕ → ℕ → List Range → Bool

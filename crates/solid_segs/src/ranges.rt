@@ -1,7 +1,7 @@
 // Ranges of covered columns, apart and in order.
 ghost use Rattle.std.specs.Prelude.{◌≡◌, ◌+◌, ◌<◌, ◌≤◌, ◌∷◌, ◌++◌, length, take, drop};
 ghost use Rattle.arrayvec.specs.ArrayVec.{array_vec_len};
-ghost use Rattle.solid_segs.specs.Ranges.{ends_before, starts_after, count_before, union, joined, with_range, hides_in};
+ghost use Rattle.solid_segs.specs.Ranges.{ends_before, starts_after, ranges_before, union, joined, with_range, hides_in};
 
 use arrayvec::ArrayVec;
 
@@ -33,7 +33,7 @@ pub fn add_range(ranges: &mut ArrayVec<Range, MAX_RANGES>, range: Range)
     requires { array_vec_len ranges.old < MAX_RANGES }
     ensures { ranges.new.items ≡ with_range range ranges.old.items }
 {
-    let index = count_before(ranges, range.first);
+    let index = ranges_before(ranges, range.first);
     let joined = absorb(ranges, index, range);
     ranges.insert(index, joined);
 }
@@ -53,8 +53,8 @@ fn starts_after(range: Range, last: u16) -> bool
 }
 
 // How many ranges at the front end before column `first`.
-fn count_before(ranges: &[Range], first: u16) -> usize
-    ensures count { result ≡ count_before first ranges.now }
+fn ranges_before(ranges: &[Range], first: u16) -> usize
+    ensures count { result ≡ ranges_before first ranges.now }
     ensures within { result ≤ length ranges.now }
 {
     for (index, range) in ranges.iter().enumerate() {

@@ -1,7 +1,7 @@
 // The runs of columns that no range covers.
 ghost use Rattle.std.specs.Prelude.{◌≡◌, ◌<◌, ◌≤◌, ◌∷◌, IsTrue};
 ghost use Rattle.std.specs.Iterator.{YieldsFirst, item_count};
-ghost use Rattle.solid_segs.specs.Ranges.{gaps, is_open, are_apart};
+ghost use Rattle.solid_segs.specs.Ranges.{range_gaps, is_open, are_apart};
 
 use crate::MAX_WIDTH;
 use crate::ranges::Range;
@@ -18,21 +18,21 @@ pub struct Runs<'a> {
 impl<'a> Model for Runs<'a> {
     ghost use Rattle.std.specs.Prelude.{List, ℕ, ◌<◌, IsTrue};
     ghost use Rattle.solid_segs.specs.declared.TheConstants.{MAX_WIDTH};
-    ghost use Rattle.solid_segs.specs.Ranges.{gaps, are_apart};
+    ghost use Rattle.solid_segs.specs.Ranges.{range_gaps, are_apart};
 
     ghost Value = { List (ℕ × ℕ) };
 
-    ghost view = { λ r. gaps r.at r.last r.rest.now };
+    ghost view = { λ r. range_gaps r.at r.last r.rest.now };
 
     ghost invariant = { λ r. (r.last < MAX_WIDTH) × IsTrue (are_apart 0 MAX_WIDTH r.rest.now) };
 }
 
 impl<'a> Runs<'a> {
-    // The gaps between ranges, from column `at` to column `last`.
+    // The range_gaps between ranges, from column `at` to column `last`.
     pub fn new(rest: &'a [Range], at: u16, last: u16) -> Runs<'a>
         requires within { last < MAX_WIDTH }
         requires apart { IsTrue (are_apart 0 MAX_WIDTH rest.now) }
-        ensures { result ≡ gaps at last rest.now }
+        ensures { result ≡ range_gaps at last rest.now }
     {
         Runs { rest, at, last }
     }
@@ -63,7 +63,7 @@ impl<'a> Iterator for Runs<'a> {
 // after them.
 fn pass_covered<'a>(ranges: &'a [Range], at: u16, last: u16) -> (&'a [Range], u16)
     requires { IsTrue (are_apart 0 MAX_WIDTH ranges.now) }
-    ensures gaps { gaps result.1 last result.0.now ≡ gaps at last ranges.now }
+    ensures range_gaps { range_gaps result.1 last result.0.now ≡ range_gaps at last ranges.now }
     ensures open { IsTrue (is_open result.1 last result.0.now) }
     ensures apart { IsTrue (are_apart 0 MAX_WIDTH result.0.now) }
 {
@@ -86,7 +86,7 @@ fn first_gap<'a>(ranges: &'a [Range], at: u16, last: u16) -> (u16, &'a [Range], 
     requires within { last < MAX_WIDTH }
     requires open { IsTrue (is_open at last ranges.now) }
     requires apart { IsTrue (are_apart 0 MAX_WIDTH ranges.now) }
-    ensures gaps { gaps at last ranges.now ≡ (at, result.0) ∷ gaps result.2 last result.1.now }
+    ensures range_gaps { range_gaps at last ranges.now ≡ (at, result.0) ∷ range_gaps result.2 last result.1.now }
     ensures apart { IsTrue (are_apart 0 MAX_WIDTH result.1.now) }
 {
     match ranges.first() {

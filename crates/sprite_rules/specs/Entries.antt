@@ -74,5 +74,5 @@ with_entry entries None = entries
 with_entry entries (Some e) = cond (nat_lt (length entries) MAX_VISSPRITES) (entries ++ e ∷ []) entries
 
 -- the entries after one more thing; past the most that a view keeps nothing changes
-unfoldable pub add : ViewValue → List SpriteEntry → Placed → Seen → Shape5 → List SpriteEntry
-add v entries thing seen shape = with_entry entries (entry_for v (length entries) thing seen shape)
+unfoldable pub add_entry : ViewValue → List SpriteEntry → Placed → Seen → Shape5 → List SpriteEntry
+add_entry v entries thing seen shape = with_entry entries (entry_for v (length entries) thing seen shape)

@@ -11,7 +11,7 @@ use Rattle.sprite_rules.specs.declared.Placed.{Placed}
 use Rattle.sprite_rules.specs.declared.Shape5.{Shape5}
 use Rattle.sprite_rules.specs.declared.SpriteEntry.{SpriteEntry}
 use Rattle.sprite_rules.specs.Projection.{view_sine, view_cosine, depth, side, sprite_scale, rotation, seen_at, seen_within, project}
-use Rattle.sprite_rules.specs.Entries.{left_edge, right_edge, edge_column, picture_first, picture_last, misses_view, sprite_map, picture_height, entry_of, entry_within, entry_for, with_entry, add}
+use Rattle.sprite_rules.specs.Entries.{left_edge, right_edge, edge_column, picture_first, picture_last, misses_view, sprite_map, picture_height, entry_of, entry_within, entry_for, with_entry, add_entry}
 use Rattle.sprite_rules.specs.Order.{insert_entry, draw_order, is_smaller, insert_last}
 use Rattle.sprite_rules.specs.Drawsegs.{Drawseg, seg_line, drawseg_has, entry_has, is_in_front, is_behind}
 use Rattle.sprite_rules.specs.Clips.{gives_bottom, gives_top, passes_at, greatest_that, clip_of_some, clip_of_number, sprite_bottom, sprite_top, sprite_in_front, stands_in_front}
@@ -21,7 +21,7 @@ use Rattle.sprite_rules.specs.Weapons.{WeaponLayer, weapon_scale, weapon_iscale,
 
 -- for rows by evaluation: who unfolds it unfolds the rules of sprites and those below
 unfoldable pub sprites_unfolded : ℕ
-unfolding view_unfolded pixels_unfolded greatest step_at row_art patch_byte picture_column_posts view_sine view_cosine depth side sprite_scale rotation seen_at seen_within project left_edge right_edge edge_column picture_first picture_last misses_view sprite_map picture_height entry_of entry_within entry_for with_entry add insert_entry draw_order is_smaller insert_last seg_line drawseg_has entry_has is_in_front is_behind gives_bottom gives_top passes_at greatest_that clip_of_some clip_of_number sprite_bottom sprite_top sprite_in_front stands_in_front texels_across column_fraction picture_column sprite_masked sprite_column sprite_dots middle_hangs middle_stands masked_mid drawseg_scale middle_masked middle_by middle_column same_number columns_at middles_of middles_at sprite_step sprites_from masked_dots weapon_scale weapon_iscale weapon_left weapon_right weapon_first weapon_last weapon_mid weapon_map weapon_masked weapon_column weapon_within weapon_dots
+unfolding view_unfolded pixels_unfolded greatest step_at row_art patch_byte picture_column_posts view_sine view_cosine depth side sprite_scale rotation seen_at seen_within project left_edge right_edge edge_column picture_first picture_last misses_view sprite_map picture_height entry_of entry_within entry_for with_entry add_entry insert_entry draw_order is_smaller insert_last seg_line drawseg_has entry_has is_in_front is_behind gives_bottom gives_top passes_at greatest_that clip_of_some clip_of_number sprite_bottom sprite_top sprite_in_front stands_in_front texels_across column_fraction picture_column sprite_masked sprite_column sprite_dots middle_hangs middle_stands masked_mid drawseg_scale middle_masked middle_by middle_column same_number columns_at middles_of middles_at sprite_step sprites_from masked_dots weapon_scale weapon_iscale weapon_left weapon_right weapon_first weapon_last weapon_mid weapon_map weapon_masked weapon_column weapon_within weapon_dots
 sprites_unfolded = 0
 
 -- a bright weapon of 32 by 64 texels at 0, 100: columns 0 to 15, rows 36 to 99

@@ -9,8 +9,8 @@ use Rattle.word_rules.specs.Listed.{listed}
 use Rattle.word_rules.proofs.ListedLemmas.{length-listed, get_or-listed, listed-all}
 use Rattle.view_rules.specs.declared.TheConstants.{FRAME_WIDTH, FRAME_HEIGHT}
 use Rattle.plane_rules.specs.declared.PlaneKey.{PlaneKey}
-use Rattle.plane_rules.specs.Planes.{Plane, empty_plane, is_free, with_run, column}
-use Rattle.plane_rules.specs.Spans.{holds_row, holds}
+use Rattle.plane_rules.specs.Planes.{Plane, empty_plane, is_column_free, with_run, column}
+use Rattle.plane_rules.specs.Spans.{holds_row, holds_row}
 use Rattle.visplanes.specs.declared.columns.TheConstants.{NO_RUN}
 use Rattle.visplanes.specs.Columns.{run_at, runs_of, plane_of, IsKept, HasRun}
 
@@ -42,12 +42,12 @@ pub column-past : (key : PlaneKey) (tops bottoms : List ℕ) (x : ℕ) → FRAME
 unfolding column
 column-past key tops bottoms x l = get_or_past (runs_of tops bottoms) x None (omega (arith, length-runs_of tops bottoms))
 
-pub holds-none : (p : Plane) (y x : ℕ) → column p x ≡ None → holds p y x ≡ false
-unfolding holds holds_row
+pub holds-none : (p : Plane) (y x : ℕ) → column p x ≡ None → holds_row p y x ≡ false
+unfolding holds_row holds_row
 holds-none p y x e = rw e refl
 
--- a column that holds a row is one of the marked ones
-marked_from : (key : PlaneKey) (tops bottoms : List ℕ) (first last x y : ℕ) → IsKept tops bottoms first last → holds (plane_of key tops bottoms) y x ≡ true → x < FRAME_WIDTH → (first ≤ x) × (x ≤ last)
+-- a column that holds_row a row is one of the marked ones
+marked_from : (key : PlaneKey) (tops bottoms : List ℕ) (first last x y : ℕ) → IsKept tops bottoms first last → holds_row (plane_of key tops bottoms) y x ≡ true → x < FRAME_WIDTH → (first ≤ x) × (x ≤ last)
 marked_from key tops bottoms first last x y k h l =
     elim (cases_lt x first) [
       | inl a ↦ (let n = holds-none (plane_of key tops bottoms) y x (column-kept key tops bottoms x l ∙ run_at-none tops bottoms x (k.before x l a)) in absurd (cc))
@@ -57,7 +57,7 @@ marked_from key tops bottoms first last x y k h l =
       ]
     ]
 
-pub kept-marked : (key : PlaneKey) (tops bottoms : List ℕ) (first last x y : ℕ) → IsKept tops bottoms first last → holds (plane_of key tops bottoms) y x ≡ true → (first ≤ x) × (x ≤ last)
+pub kept-marked : (key : PlaneKey) (tops bottoms : List ℕ) (first last x y : ℕ) → IsKept tops bottoms first last → holds_row (plane_of key tops bottoms) y x ≡ true → (first ≤ x) × (x ≤ last)
 kept-marked key tops bottoms first last x y k h =
     elim (cases_lt x FRAME_WIDTH) [
       | inl l ↦ marked_from key tops bottoms first last x y k h l
@@ -65,13 +65,13 @@ kept-marked key tops bottoms first last x y k h =
     ]
 
 -- and it is in a frame, as the row is
-row_of_run : (p : Plane) (x y : ℕ) (r : ℕ × ℕ) → column p x ≡ Some r → holds p y x ≡ true → y ≤ r.1
-unfolding holds holds_row
+row_of_run : (p : Plane) (x y : ℕ) (r : ℕ × ℕ) → column p x ≡ Some r → holds_row p y x ≡ true → y ≤ r.1
+unfolding holds_row holds_row
 row_of_run p x y r e h =
     let a : (nat_le r.0 y && nat_le y r.1) ≡ true = ap (λ (o : Option (ℕ × ℕ)). holds_row o y) (sym e) ∙ h in
     leb-true y r.1 (and_parts (nat_le r.0 y) (nat_le y r.1) a).1
 
-frame_row : (key : PlaneKey) (tops bottoms : List ℕ) (first last x y : ℕ) → IsKept tops bottoms first last → holds (plane_of key tops bottoms) y x ≡ true → x < FRAME_WIDTH → y < FRAME_HEIGHT
+frame_row : (key : PlaneKey) (tops bottoms : List ℕ) (first last x y : ℕ) → IsKept tops bottoms first last → holds_row (plane_of key tops bottoms) y x ≡ true → x < FRAME_WIDTH → y < FRAME_HEIGHT
 frame_row key tops bottoms first last x y k h l =
     elim (cases_eq (slice_index tops x) NO_RUN) [
       | inl e ↦ (let n = holds-none (plane_of key tops bottoms) y x (column-kept key tops bottoms x l ∙ run_at-none tops bottoms x e) in absurd (cc))
@@ -80,7 +80,7 @@ frame_row key tops bottoms first last x y k h l =
           omega (arith, a, k.rows x l))
     ]
 
-pub kept-frame : (key : PlaneKey) (tops bottoms : List ℕ) (first last x y : ℕ) → IsKept tops bottoms first last → holds (plane_of key tops bottoms) y x ≡ true → (x < FRAME_WIDTH) × (y < FRAME_HEIGHT)
+pub kept-frame : (key : PlaneKey) (tops bottoms : List ℕ) (first last x y : ℕ) → IsKept tops bottoms first last → holds_row (plane_of key tops bottoms) y x ≡ true → (x < FRAME_WIDTH) × (y < FRAME_HEIGHT)
 kept-frame key tops bottoms first last x y k h =
     elim (cases_lt x FRAME_WIDTH) [
       | inl l ↦ (l, frame_row key tops bottoms first last x y k h l)
@@ -89,7 +89,7 @@ kept-frame key tops bottoms first last x y k h =
 
 -- no column is marked
 pub kept-empty : (tops bottoms : List ℕ) → length tops ≡ FRAME_WIDTH → length bottoms ≡ FRAME_WIDTH →
-    ((x : ℕ) → x < FRAME_WIDTH → slice_index tops x ≡ NO_RUN) → ((x : ℕ) → x < FRAME_WIDTH → slice_index bottoms x ≡ 0) → IsKept tops bottoms FRAME_WIDTH 0
+    ((x : ℕ) → x < FRAME_WIDTH → slice_index tops x ≡ NO_RUN) → ((x : ℕ) → x < FRAME_WIDTH → slice_index bottoms x < FRAME_HEIGHT) → IsKept tops bottoms FRAME_WIDTH 0
 kept-empty tops bottoms l m t b = record {
   top_bytes = l;
   bottom_bytes = m;
@@ -97,9 +97,24 @@ kept-empty tops bottoms l m t b = record {
   after = λ x h a. t x h;
   start = omega arith;
   within = omega arith;
+  least = λ l. absurd (omega (arith, l));
+  greatest = λ l. absurd (omega (arith, l));
+  none = λ e. refl;
   ordered = λ x h. inl (t x h);
-  rows = λ x h. omega (arith, b x h);
+  rows = b;
 }
+
+-- where the first marked column is the frame's width, no column has a run; else that column has one
+pub kept-blank : (key : PlaneKey) (tops bottoms : List ℕ) (first last x : ℕ) → IsKept tops bottoms first last → first ≡ FRAME_WIDTH → column (plane_of key tops bottoms) x ≡ None
+kept-blank key tops bottoms first last x k e =
+    elim (cases_lt x FRAME_WIDTH) [
+      | inl l ↦ column-kept key tops bottoms x l ∙ run_at-none tops bottoms x (k.before x l (omega (arith, l, e)))
+      | inr l ↦ column-past key tops bottoms x l
+    ]
+
+pub kept-run : (key : PlaneKey) (tops bottoms : List ℕ) (first last : ℕ) → IsKept tops bottoms first last → first < FRAME_WIDTH →
+    column (plane_of key tops bottoms) first ≡ Some (slice_index tops first, slice_index bottoms first)
+kept-run key tops bottoms first last k l = column-kept key tops bottoms first l ∙ run_at-some tops bottoms first (k.least l)
 
 pub plane_of-empty : (key : PlaneKey) (tops bottoms : List ℕ) → ((x : ℕ) → x < FRAME_WIDTH → slice_index tops x ≡ NO_RUN) → plane_of key tops bottoms ≡ empty_plane key
 unfolding empty_plane runs_of
@@ -109,6 +124,55 @@ plane_of-empty key tops bottoms t =
     (λ x l. get_or-replicate FRAME_WIDTH x None None l ∙ sym (run_at-none tops bottoms x (t x l)))))
 
 -- one column is marked
+set_here : (xs : List ℕ) (x v k : ℕ) → x < length xs → k ≡ x → slice_index (set xs x v) k ≡ v
+set_here xs x v k l e = ap (slice_index (set xs x v)) e ∙ get_or-set_same xs x v 0 l
+
+set_there : (xs : List ℕ) (x v k : ℕ) → k ≢ x → slice_index (set xs x v) k ≡ slice_index xs k
+set_there xs x v k n = get_or-set_other xs x k v 0 n
+
+-- a column is marked where it was before, or is the one that is marked now
+run_there : (tops : List ℕ) (x top k : ℕ) → x < length tops → top ≢ NO_RUN → (k ≢ x → slice_index tops k ≢ NO_RUN) → slice_index (set tops x top) k ≢ NO_RUN
+run_there tops x top k l n h =
+    elim (cases_eq k x) [
+      | inl e ↦ (λ q. n (sym (set_here tops x top k l e) ∙ q))
+      | inr d ↦ (λ q. h d (sym (set_there tops x top k d) ∙ q))
+    ]
+
+pub kept-more : (tops bottoms : List ℕ) (first last x top bottom : ℕ) → IsKept tops bottoms first last → x < FRAME_WIDTH → top ≤ bottom → bottom < FRAME_HEIGHT →
+    IsKept (set tops x top) (set bottoms x bottom) (min first x) (max last x)
+kept-more tops bottoms first last x top bottom k l m h =
+    let n : top ≢ NO_RUN = λ e. absurd (omega (arith, e)) in
+    let in_tops : x < length tops = omega (arith, k.top_bytes) in
+    let in_bottoms : x < length bottoms = omega (arith, k.bottom_bytes) in
+    record {
+      top_bytes = length-set tops x top ∙ k.top_bytes;
+      bottom_bytes = length-set bottoms x bottom ∙ k.bottom_bytes;
+      before = λ i b a. set_there tops x top i (λ e. absurd (omega (arith, e, a))) ∙ k.before i b (omega (arith, a));
+      after = λ i b a. set_there tops x top i (λ e. absurd (omega (arith, e, a))) ∙ k.after i b (omega (arith, a));
+      start = omega (arith, k.start);
+      within = omega (arith, k.within);
+      least = λ b. run_there tops x top (min first x) in_tops n
+          (λ d. let s : min first x ≡ first = omega (arith, d) in λ q. k.least (omega (arith, d)) (ap (slice_index tops) (sym s) ∙ q));
+      greatest = λ b. run_there tops x top (max last x) in_tops n
+          (λ d. let s : max last x ≡ last = omega (arith, d) in
+          let some : first < FRAME_WIDTH = elim (cases_lt first FRAME_WIDTH) [
+            | inl c ↦ c
+            | inr c ↦ absurd (let e : first ≡ FRAME_WIDTH = omega (arith, c, k.start) in omega (arith, d, k.none e))
+          ] in λ q. k.greatest some (ap (slice_index tops) (sym s) ∙ q));
+      none = λ e. absurd (omega (arith, e));
+      ordered = λ i b. elim (cases_eq i x) [
+        | inl e ↦ inr (let t = set_here tops x top i in_tops e in let u = set_here bottoms x bottom i in_bottoms e in omega (arith, t, u))
+        | inr d ↦ elim (k.ordered i b) [
+          | inl e ↦ inl (set_there tops x top i d ∙ e)
+          | inr o ↦ inr (let t = set_there tops x top i d in let u = set_there bottoms x bottom i d in omega (arith, t, u, o))
+        ]
+      ];
+      rows = λ i b. elim (cases_eq i x) [
+        | inl e ↦ (let u = set_here bottoms x bottom i in_bottoms e in omega (arith, u))
+        | inr d ↦ (let u = set_there bottoms x bottom i d in omega (arith, u, k.rows i b))
+      ];
+    }
+
 marked_run : (tops bottoms : List ℕ) (x top bottom k : ℕ) → x < length tops → x < length bottoms → x < FRAME_WIDTH → top ≢ NO_RUN → k < FRAME_WIDTH →
     get_or (set (runs_of tops bottoms) x (Some (top, bottom))) k None ≡ run_at (set tops x top) (set bottoms x bottom) k
 unfolding runs_of
@@ -159,14 +223,14 @@ part_at rs first last k l = get_or-take (last + 1 - first) (drop first rs) k Non
 length_part : (rs : List (Option (ℕ × ℕ))) (first last : ℕ) → last < length rs → length (slice_range rs first (last + 1)) ≡ last + 1 - first
 length_part rs first last l = length-take (last + 1 - first) (drop first rs) ∙ (let d = length-drop first rs in omega arith)
 
-pub is_free-true : (rs : List (Option (ℕ × ℕ))) (first last : ℕ) → last < length rs → ((x : ℕ) → first ≤ x → x ≤ last → get_or rs x None ≡ None) → is_free rs first last ≡ true
-unfolding is_free
+pub is_free-true : (rs : List (Option (ℕ × ℕ))) (first last : ℕ) → last < length rs → ((x : ℕ) → first ≤ x → x ≤ last → get_or rs x None ≡ None) → is_column_free rs first last ≡ true
+unfolding is_column_free
 is_free-true rs first last l h =
     all_none (slice_range rs first (last + 1))
     (λ k m. (let n : k < last + 1 - first = omega (arith, length_part rs first last l) in part_at rs first last k n ∙ h (first + k) (omega arith) (omega arith)))
 
-pub is_free-false : (rs : List (Option (ℕ × ℕ))) (first last x : ℕ) (r : ℕ × ℕ) → last < length rs → first ≤ x → x ≤ last → get_or rs x None ≡ Some r → is_free rs first last ≡ false
-unfolding is_free
+pub is_free-false : (rs : List (Option (ℕ × ℕ))) (first last x : ℕ) (r : ℕ × ℕ) → last < length rs → first ≤ x → x ≤ last → get_or rs x None ≡ Some r → is_column_free rs first last ≡ false
+unfolding is_column_free
 is_free-false rs first last x r l m n e =
     let k : x - first < last + 1 - first = omega arith in
     let i : first + (x - first) ≡ x = omega arith in
@@ -188,13 +252,13 @@ free_within tops bottoms least greatest first last x k l h a b =
     ])
 
 pub kept-free : (tops bottoms : List ℕ) (least greatest first last : ℕ) → IsKept tops bottoms least greatest → last < FRAME_WIDTH →
-    ((x : ℕ) → max first least ≤ x → x ≤ min last greatest → slice_index tops x ≡ NO_RUN) → is_free (runs_of tops bottoms) first last ≡ true
+    ((x : ℕ) → max first least ≤ x → x ≤ min last greatest → slice_index tops x ≡ NO_RUN) → is_column_free (runs_of tops bottoms) first last ≡ true
 kept-free tops bottoms least greatest first last k l h =
     is_free-true (runs_of tops bottoms) first last (omega (arith, length-runs_of tops bottoms))
     (λ x a b. free_within tops bottoms least greatest first last x k l h a b)
 
 pub kept-taken : (tops bottoms : List ℕ) (least greatest first last : ℕ) → last < FRAME_WIDTH →
-    HasRun tops (max first least) (min last greatest) → is_free (runs_of tops bottoms) first last ≡ false
+    HasRun tops (max first least) (min last greatest) → is_column_free (runs_of tops bottoms) first last ≡ false
 unfolding runs_of
 kept-taken tops bottoms least greatest first last l r =
     let a : first ≤ r.x = omega (arith, r.from) in

@@ -9,7 +9,7 @@ use Rattle.pixel_rules.specs.declared.Painter.{Painter}
 use Rattle.pixel_rules.specs.Dots.{Dot, last_dot}
 use Rattle.pixel_rules.proofs.DotLemmas.{last_dot-append, last_dot-none, put_dots-append, in_frame-append}
 use Rattle.plane_rules.specs.Planes.{Plane}
-use Rattle.plane_rules.specs.Spans.{holds_row, holds, span_start}
+use Rattle.plane_rules.specs.Spans.{holds_row, holds_row, span_start}
 use Rattle.plane_rules.proofs.SpanLemmas.{span_start-on, span_start-off, span_start-zero, span_start-within, span_start-passes, span_start-least, span_start-is}
 use Rattle.pixel_strips.specs.Canvases.{CanvasView, with_dots}
 use Rattle.pixel_strips.proofs.CanvasLemmas.{dots_none}
@@ -23,45 +23,45 @@ pub dots_append : (mark : Painter → ℕ → ℕ) (xs ys : List Dot) (canvas : 
 dots_append mark xs ys canvas =
     ap (λ (cells : List ℕ). record canvas { cells = cells }) (sym (put_dots-append mark canvas.left canvas.top xs ys canvas.cells))
 
--- the column before column x holds row y
+-- the column before column x holds_row row y
 abbrev pub held_before : Plane → ℕ → ℕ → Bool
 held_before p y x = holds_row (run_before p x) y
 
-pub held_before-more : (p : Plane) (y x n : ℕ) → x + 1 ≡ n → held_before p y n ≡ holds p y x
-unfolding run_before holds
+pub held_before-more : (p : Plane) (y x n : ℕ) → x + 1 ≡ n → held_before p y n ≡ holds_row p y x
+unfolding run_before holds_row
 held_before-more p y x n e = let f : n ≡ suc x = omega arith in ap (λ (i : ℕ). holds_row (run_before p i) y) f
 
 held_before-none : (p : Plane) (y : ℕ) → held_before p y 0 ≡ false
 unfolding run_before holds_row
 held_before-none p y = refl
 
-pub held_before-nowhere : (p : Plane) (y x : ℕ) → ((k : ℕ) → k < x → holds p y k ≡ false) → held_before p y x ≡ false
+pub held_before-nowhere : (p : Plane) (y x : ℕ) → ((k : ℕ) → k < x → holds_row p y k ≡ false) → held_before p y x ≡ false
 held_before-nowhere p y zero h = held_before-none p y
 held_before-nowhere p y (suc x) h = held_before-more p y x (suc x) (omega arith) ∙ h x (omega arith)
 
--- where the span that is open in row y begins: as before where the column holds the row, else after it
-pub start-kept : (p : Plane) (y x n : ℕ) → x + 1 ≡ n → holds p y x ≡ true → span_start (holds p y) n ≡ span_start (holds p y) x
-start-kept p y x n e h = span_start-on (holds p y) x n e h
+-- where the span that is open in row y begins: as before where the column holds_row the row, else after it
+pub start-kept : (p : Plane) (y x n : ℕ) → x + 1 ≡ n → holds_row p y x ≡ true → span_start (holds_row p y) n ≡ span_start (holds_row p y) x
+start-kept p y x n e h = span_start-on (holds_row p y) x n e h
 
 -- and at the column itself where the one before does not hold it
-pub start-fresh : (p : Plane) (y x : ℕ) → held_before p y x ≡ false → span_start (holds p y) x ≡ x
-start-fresh p y zero h = span_start-zero (holds p y)
-start-fresh p y (suc x) h = span_start-off (holds p y) x (suc x) (omega arith) (sym (held_before-more p y x (suc x) (omega arith)) ∙ h)
+pub start-fresh : (p : Plane) (y x : ℕ) → held_before p y x ≡ false → span_start (holds_row p y) x ≡ x
+start-fresh p y zero h = span_start-zero (holds_row p y)
+start-fresh p y (suc x) h = span_start-off (holds_row p y) x (suc x) (omega arith) (sym (held_before-more p y x (suc x) (omega arith)) ∙ h)
 
--- a row that the column before holds has a span that began before
-pub start-before : (p : Plane) (y x : ℕ) → held_before p y x ≡ true → span_start (holds p y) x < x
+-- a row that the column before holds_row has a span that began before
+pub start-before : (p : Plane) (y x : ℕ) → held_before p y x ≡ true → span_start (holds_row p y) x < x
 start-before p y zero h = absurd (both_ways (held_before p y 0) (held_before-none p y) h)
 start-before p y (suc x) h =
-    let e : span_start (holds p y) (suc x) ≡ span_start (holds p y) x = span_start-on (holds p y) x (suc x) (omega arith) (sym (held_before-more p y x (suc x) (omega arith)) ∙ h) in
-    let w : span_start (holds p y) x ≤ x = span_start-within (holds p y) x in
+    let e : span_start (holds_row p y) (suc x) ≡ span_start (holds_row p y) x = span_start-on (holds_row p y) x (suc x) (omega arith) (sym (held_before-more p y x (suc x) (omega arith)) ∙ h) in
+    let w : span_start (holds_row p y) x ≤ x = span_start-within (holds_row p y) x in
     omega arith
 
 -- such a span may be painted
-pub can_paint : (shape : ViewShape) (left top : ℕ) (p : Plane) → IsSeen shape left top p → (s x y : ℕ) → held_before p y x ≡ true → s ≡ span_start (holds p y) x → CanPaint shape left top s x y
+pub can_paint : (shape : ViewShape) (left top : ℕ) (p : Plane) → IsSeen shape left top p → (s x y : ℕ) → held_before p y x ≡ true → s ≡ span_start (holds_row p y) x → CanPaint shape left top s x y
 can_paint shape left top p seen s zero y h e = absurd (both_ways (held_before p y 0) (held_before-none p y) h)
 can_paint shape left top p seen s (suc x) y h e =
-    let t : holds p y x ≡ true = sym (held_before-more p y x (suc x) (omega arith)) ∙ h in
-    let b : span_start (holds p y) (suc x) < suc x = start-before p y (suc x) h in
+    let t : holds_row p y x ≡ true = sym (held_before-more p y x (suc x) (omega arith)) ∙ h in
+    let b : span_start (holds_row p y) (suc x) < suc x = start-before p y (suc x) h in
     let v : x < shape.width = seen.column x y t in
     let w : x + left < FRAME_WIDTH = seen.frame_column x y t in
     record {
@@ -73,29 +73,29 @@ can_paint shape left top p seen s (suc x) y h e =
     }
 
 -- the column before a span does not hold its row
-all_pass : (p : Plane) (y x j : ℕ) → j + 1 ≡ span_start (holds p y) x → holds p y j ≡ true → (k : ℕ) → j ≤ k → k < x → holds p y k ≡ true
+all_pass : (p : Plane) (y x j : ℕ) → j + 1 ≡ span_start (holds_row p y) x → holds_row p y j ≡ true → (k : ℕ) → j ≤ k → k < x → holds_row p y k ≡ true
 all_pass p y x j e h k a b =
     elim (cases_eq k j) [
-      | inl f ↦ ap (holds p y) f ∙ h
-      | inr f ↦ span_start-passes (holds p y) x k (omega arith) b
+      | inl f ↦ ap (holds_row p y) f ∙ h
+      | inr f ↦ span_start-passes (holds_row p y) x k (omega arith) b
     ]
 
-before_span : (p : Plane) (y x j : ℕ) → j + 1 ≡ span_start (holds p y) x → (b : Bool) → holds p y j ≡ b → b ≡ false
+before_span : (p : Plane) (y x j : ℕ) → j + 1 ≡ span_start (holds_row p y) x → (b : Bool) → holds_row p y j ≡ b → b ≡ false
 before_span p y x j e false h = refl
 before_span p y x j e true h =
-    let w : span_start (holds p y) x ≤ x = span_start-within (holds p y) x in
-    let l : span_start (holds p y) x ≤ j = span_start-least (holds p y) x j (omega arith) (all_pass p y x j e h) in
+    let w : span_start (holds_row p y) x ≤ x = span_start-within (holds_row p y) x in
+    let l : span_start (holds_row p y) x ≤ j = span_start-least (holds_row p y) x j (omega arith) (all_pass p y x j e h) in
     absurd (omega arith)
 
 -- in a span the start is that of its first column
-same_start : (p : Plane) (y x k : ℕ) → span_start (holds p y) x ≤ k → k ≤ x → span_start (holds p y) k ≡ span_start (holds p y) x
+same_start : (p : Plane) (y x k : ℕ) → span_start (holds_row p y) x ≤ k → k ≤ x → span_start (holds_row p y) k ≡ span_start (holds_row p y) x
 same_start p y x k l m =
-    span_start-is (holds p y) k (span_start (holds p y) x) l
-    (λ j a b. span_start-passes (holds p y) x j a (omega arith))
-    (λ j e. before_span p y x j e (holds p y j) refl)
+    span_start-is (holds_row p y) k (span_start (holds_row p y) x) l
+    (λ j a b. span_start-passes (holds_row p y) x j a (omega arith))
+    (λ j e. before_span p y x j e (holds_row p y j) refl)
 
 -- the dots of a row that ends before column x
-ended_from : (f : FloorView) (painter : Painter) (p : Plane) (s x k y : ℕ) → s ≡ span_start (holds p y) x → s < x →
+ended_from : (f : FloorView) (painter : Painter) (p : Plane) (s x k y : ℕ) → s ≡ span_start (holds_row p y) x → s < x →
     last_dot k y (row_dots f painter y s (x - 1)) ≡ cond (not (nat_lt k s) && nat_lt k x) (Some (plane_dot f painter p k y)) None
 unfolding plane_dot
 ended_from f painter p s x k y e l =
@@ -110,10 +110,10 @@ ended_from f painter p s x k y e l =
       ]
     ]
 
-ended_at : (f : FloorView) (painter : Painter) (p : Plane) (start x k y : ℕ) → start ≡ span_start (holds p y) x → span_start (holds p y) x < x →
-    last_dot k y (row_dots f painter y start (x - 1)) ≡ cond (not (nat_lt k (span_start (holds p y) x)) && nat_lt k x) (Some (plane_dot f painter p k y)) None
+ended_at : (f : FloorView) (painter : Painter) (p : Plane) (start x k y : ℕ) → start ≡ span_start (holds_row p y) x → span_start (holds_row p y) x < x →
+    last_dot k y (row_dots f painter y start (x - 1)) ≡ cond (not (nat_lt k (span_start (holds_row p y) x)) && nat_lt k x) (Some (plane_dot f painter p k y)) None
 ended_at f painter p start x k y e l =
-    ap (λ (s : ℕ). last_dot k y (row_dots f painter y s (x - 1))) e ∙ ended_from f painter p (span_start (holds p y) x) x k y refl l
+    ap (λ (s : ℕ). last_dot k y (row_dots f painter y s (x - 1))) e ∙ ended_from f painter p (span_start (holds_row p y) x) x k y refl l
 
 both_dots : (a b : Bool) (d : Dot) → or_else (cond a (Some d) None) (cond b (Some d) None) ≡ cond (a || b) (Some d) None
 both_dots true b d = refl
@@ -145,33 +145,33 @@ stays x n k v e f =
     ]
 
 -- which pixels of a row are painted when column x is passed, by whether the column before and the column itself hold it
-painted_more : (p : Plane) (y x n k : ℕ) → x + 1 ≡ n → (b h : Bool) → held_before p y x ≡ b → holds p y x ≡ h →
-    (((b && not h) && (not (nat_lt k (span_start (holds p y) x)) && nat_lt k x)) || (nat_lt k (span_start (holds p y) x) && holds p y k)) ≡ (nat_lt k (span_start (holds p y) n) && holds p y k)
-painted_more p y x n k e true true c d = ap (λ (s : ℕ). nat_lt k s && holds p y k) (sym (start-kept p y x n e d))
-painted_more p y x n k e false true c d = ap (λ (s : ℕ). nat_lt k s && holds p y k) (sym (start-kept p y x n e d))
+painted_more : (p : Plane) (y x n k : ℕ) → x + 1 ≡ n → (b h : Bool) → held_before p y x ≡ b → holds_row p y x ≡ h →
+    (((b && not h) && (not (nat_lt k (span_start (holds_row p y) x)) && nat_lt k x)) || (nat_lt k (span_start (holds_row p y) x) && holds_row p y k)) ≡ (nat_lt k (span_start (holds_row p y) n) && holds_row p y k)
+painted_more p y x n k e true true c d = ap (λ (s : ℕ). nat_lt k s && holds_row p y k) (sym (start-kept p y x n e d))
+painted_more p y x n k e false true c d = ap (λ (s : ℕ). nat_lt k s && holds_row p y k) (sym (start-kept p y x n e d))
 painted_more p y x n k e true false c d =
-    ends (span_start (holds p y) x) x n k (holds p y k) (start-before p y x c) e (λ a b. span_start-passes (holds p y) x k a b) (λ q. ap (holds p y) q ∙ d)
-    ∙ ap (λ (s : ℕ). nat_lt k s && holds p y k) (sym (span_start-off (holds p y) x n e d))
+    ends (span_start (holds_row p y) x) x n k (holds_row p y k) (start-before p y x c) e (λ a b. span_start-passes (holds_row p y) x k a b) (λ q. ap (holds_row p y) q ∙ d)
+    ∙ ap (λ (s : ℕ). nat_lt k s && holds_row p y k) (sym (span_start-off (holds_row p y) x n e d))
 painted_more p y x n k e false false c d =
-    ap (λ (s : ℕ). nat_lt k s && holds p y k) (start-fresh p y x c)
-    ∙ stays x n k (holds p y k) e (λ q. ap (holds p y) q ∙ d)
-    ∙ ap (λ (s : ℕ). nat_lt k s && holds p y k) (sym (span_start-off (holds p y) x n e d))
+    ap (λ (s : ℕ). nat_lt k s && holds_row p y k) (start-fresh p y x c)
+    ∙ stays x n k (holds_row p y k) e (λ q. ap (holds_row p y) q ∙ d)
+    ∙ ap (λ (s : ℕ). nat_lt k s && holds_row p y k) (sym (span_start-off (holds_row p y) x n e d))
 
 closed_pixel : (b h c : Bool) (o : Option Dot) (d : Dot) → (b ≡ true → o ≡ cond c (Some d) None) → cond (b && not h) o None ≡ cond ((b && not h) && c) (Some d) None
 closed_pixel true true c o d e = refl
 closed_pixel true false c o d e = e refl
 closed_pixel false h c o d e = refl
 
--- no column that holds a row is passed: no dot yet
-none_yet : (p : Plane) (x k y : ℕ) → ((k y : ℕ) → k < x → holds p y k ≡ false) → (nat_lt k (span_start (holds p y) x) && holds p y k) ≡ false
+-- no column that holds_row a row is passed: no dot yet
+none_yet : (p : Plane) (x k y : ℕ) → ((k y : ℕ) → k < x → holds_row p y k ≡ false) → (nat_lt k (span_start (holds_row p y) x) && holds_row p y k) ≡ false
 none_yet p x k y h =
     elim (cases_lt k x) [
-      | inl a ↦ and_right (nat_lt k (span_start (holds p y) x)) (holds p y k) (h k y a)
-      | inr a ↦ (let w : span_start (holds p y) x ≤ x = span_start-within (holds p y) x in and_left (nat_lt k (span_start (holds p y) x)) (holds p y k) (le-ltb k (span_start (holds p y) x) (omega arith)))
+      | inl a ↦ and_right (nat_lt k (span_start (holds_row p y) x)) (holds_row p y k) (h k y a)
+      | inr a ↦ (let w : span_start (holds_row p y) x ≤ x = span_start-within (holds_row p y) x in and_left (nat_lt k (span_start (holds_row p y) x)) (holds_row p y k) (le-ltb k (span_start (holds_row p y) x) (omega arith)))
     ]
 
-pub spans_none : (mark : Painter → ℕ → ℕ) (f : FloorView) (p : Plane) (x : ℕ) (canvas : CanvasView) → ((k y : ℕ) → k < x → holds p y k ≡ false) →
-    HasSpans mark f p (λ y. span_start (holds p y) x) canvas canvas
+pub spans_none : (mark : Painter → ℕ → ℕ) (f : FloorView) (p : Plane) (x : ℕ) (canvas : CanvasView) → ((k y : ℕ) → k < x → holds_row p y k ≡ false) →
+    HasSpans mark f p (λ y. span_start (holds_row p y) x) canvas canvas
 spans_none mark f p x canvas h = record {
   dots = [];
   painted = dots_none mark canvas;
@@ -185,23 +185,23 @@ pub record IsPassing (shape : ViewShape) (p : Plane) (start : ℕ → ℕ) (befo
   pub before_ordered : before.begin ≤ before.end
   pub now_ordered : now.begin ≤ now.end
   pub held : (y : ℕ) → is_in before y ≡ held_before p y x
-  pub holding : (y : ℕ) → is_in now y ≡ holds p y x
-  pub starts : (y : ℕ) → is_in before y ≡ true → start y ≡ span_start (holds p y) x
+  pub holding : (y : ℕ) → is_in now y ≡ holds_row p y x
+  pub starts : (y : ℕ) → is_in before y ≡ true → start y ≡ span_start (holds_row p y) x
 
 passing_frame : (shape : ViewShape) (p : Plane) (start : ℕ → ℕ) (before now : Rows) (x : ℕ) (canvas : CanvasView) → IsPassing shape p start before now x canvas →
     (y : ℕ) → before.begin ≤ y → y < before.end → (0 < x) × (x + canvas.left < FRAME_WIDTH + 1) × (y + canvas.top < FRAME_HEIGHT)
 passing_frame shape p start before now x canvas i y l m =
     let h : held_before p y x ≡ true = sym (i.held y) ∙ is_in-from before y l m in
-    let c = can_paint shape canvas.left canvas.top p i.seen (span_start (holds p y) x) x y h refl in
+    let c = can_paint shape canvas.left canvas.top p i.seen (span_start (holds_row p y) x) x y h refl in
     (omega (arith, c.begins), c.frame_column, c.frame_row)
 
 -- the pixels when column x is passed
 passed_pixel : (f : FloorView) (painter : Painter) (shape : ViewShape) (p : Plane) (start : ℕ → ℕ) (before now : Rows) (x n : ℕ) (canvas : CanvasView) (dots : List Dot) (k y : ℕ) →
     x + 1 ≡ n → IsPassing shape p start before now x canvas →
-    last_dot k y dots ≡ cond (nat_lt k (span_start (holds p y) x) && holds p y k) (Some (plane_dot f painter p k y)) None →
-    last_dot k y (dots ++ closed_dots f painter start before now x) ≡ cond (nat_lt k (span_start (holds p y) n) && holds p y k) (Some (plane_dot f painter p k y)) None
+    last_dot k y dots ≡ cond (nat_lt k (span_start (holds_row p y) x) && holds_row p y k) (Some (plane_dot f painter p k y)) None →
+    last_dot k y (dots ++ closed_dots f painter start before now x) ≡ cond (nat_lt k (span_start (holds_row p y) n) && holds_row p y k) (Some (plane_dot f painter p k y)) None
 passed_pixel f painter shape p start before now x n canvas dots k y e i h =
-    let ends_here : Bool = not (nat_lt k (span_start (holds p y) x)) && nat_lt k x in
+    let ends_here : Bool = not (nat_lt k (span_start (holds_row p y) x)) && nat_lt k x in
     let d : Dot = plane_dot f painter p k y in
     last_dot-append k y dots (closed_dots f painter start before now x)
     ∙ ap (λ (o : Option Dot). or_else o (last_dot k y dots))
@@ -209,12 +209,12 @@ passed_pixel f painter shape p start before now x n canvas dots k y e i h =
     ∙ closed_pixel (is_in before y) (is_in now y) ends_here (last_dot k y (row_dots f painter y (start y) (x - 1))) d
     (λ t. ended_at f painter p (start y) x k y (i.starts y t) (start-before p y x (sym (i.held y) ∙ t))))
     ∙ ap (or_else (cond ((is_in before y && not (is_in now y)) && ends_here) (Some d) None)) h
-    ∙ both_dots ((is_in before y && not (is_in now y)) && ends_here) (nat_lt k (span_start (holds p y) x) && holds p y k) d
+    ∙ both_dots ((is_in before y && not (is_in now y)) && ends_here) (nat_lt k (span_start (holds_row p y) x) && holds_row p y k) d
     ∙ ap (λ (b : Bool). cond b (Some d) None) (painted_more p y x n k e (is_in before y) (is_in now y) (sym (i.held y)) (sym (i.holding y)))
 
 pub spans_more : (mark : Painter → ℕ → ℕ) (f : FloorView) (shape : ViewShape) (p : Plane) (start : ℕ → ℕ) (before now : Rows) (x n : ℕ) (canvas mid after : CanvasView) →
-    x + 1 ≡ n → IsPassing shape p start before now x canvas → HasSpans mark f p (λ y. span_start (holds p y) x) canvas mid →
-    after ≡ with_dots mark (closed_dots f mid.painter start before now x) mid → HasSpans mark f p (λ y. span_start (holds p y) n) canvas after
+    x + 1 ≡ n → IsPassing shape p start before now x canvas → HasSpans mark f p (λ y. span_start (holds_row p y) x) canvas mid →
+    after ≡ with_dots mark (closed_dots f mid.painter start before now x) mid → HasSpans mark f p (λ y. span_start (holds_row p y) n) canvas after
 spans_more mark f shape p start before now x n canvas mid after e i h g = record {
   dots = h.dots ++ closed_dots f canvas.painter start before now x;
   painted = g ∙ ap (λ (m : CanvasView). with_dots mark (closed_dots f m.painter start before now x) m) h.painted
@@ -230,10 +230,10 @@ until_same a b k true l m = (let i = l refl in let j = m refl in rw (lt-ltb k a 
 until_same a b k false l m = and_right (nat_lt k a) false refl ∙ sym (and_right (nat_lt k b) false refl)
 
 pub spans_all : (mark : Painter → ℕ → ℕ) (f : FloorView) (p : Plane) (u v : ℕ → ℕ) (canvas after : CanvasView) → HasSpans mark f p u canvas after →
-    ((k y : ℕ) → holds p y k ≡ true → k < u y) → ((k y : ℕ) → holds p y k ≡ true → k < v y) → HasSpans mark f p v canvas after
+    ((k y : ℕ) → holds_row p y k ≡ true → k < u y) → ((k y : ℕ) → holds_row p y k ≡ true → k < v y) → HasSpans mark f p v canvas after
 spans_all mark f p u v canvas after h l m = record {
   dots = h.dots;
   painted = h.painted;
   in_frame = h.in_frame;
-  pixels = λ k y. h.pixels k y ∙ ap (λ (b : Bool). cond b (Some (plane_dot f canvas.painter p k y)) None) (until_same (u y) (v y) k (holds p y k) (l k y) (m k y));
+  pixels = λ k y. h.pixels k y ∙ ap (λ (b : Bool). cond b (Some (plane_dot f canvas.painter p k y)) None) (until_same (u y) (v y) k (holds_row p y k) (l k y) (m k y));
 }

@@ -20,7 +20,7 @@ use Rattle.plane_rules.specs.declared.Flat4.{Flat4}
 use Rattle.plane_rules.specs.declared.Flat4.TheVariants.{Sky, Lump}
 use Rattle.plane_rules.specs.Keys.{same_flat, is_sky_key}
 use Rattle.plane_rules.specs.Planes.{Plane, column}
-use Rattle.plane_rules.specs.Spans.{holds_row, holds, span_start}
+use Rattle.plane_rules.specs.Spans.{holds_row, holds_row, span_start}
 use Rattle.plane_rules.specs.Floors.{row_distance, pixel_x, pixel_y, flat_colour, floor_colour, run_dots, floor_dots}
 use Rattle.plane_rules.specs.Skies.{plane_dots_by, plane_dots}
 use Rattle.plane_rules.proofs.FloorLemmas.{in_column-run_dots, last_dot-floor_dots}
@@ -58,8 +58,8 @@ unfolding joined_lists
 frame_columns left top f [] h = tt
 frame_columns left top f (x ∷ xs) h = in_frame-append left top (f x) (joined_lists f xs) (h x) (frame_columns left top f xs h)
 
-holds_at : (p : Plane) (x y : ℕ) (r : ℕ × ℕ) → column p x ≡ Some r → r.0 ≤ y → y ≤ r.1 → holds p y x ≡ true
-unfolding holds holds_row
+holds_at : (p : Plane) (x y : ℕ) (r : ℕ × ℕ) → column p x ≡ Some r → r.0 ≤ y → y ≤ r.1 → holds_row p y x ≡ true
+unfolding holds_row holds_row
 holds_at p x y r e l m = rw e (and_from (nat_le r.0 y) (nat_le y r.1) (le-leb r.0 y l) (le-leb y r.1 m))
 
 frame_run : (shape : ViewShape) (left top : ℕ) (p : Plane) → IsSeen shape left top p → (painter : Painter) (x : ℕ) (colour : ℕ → ℕ) (r : Option (ℕ × ℕ)) → column p x ≡ r →
@@ -70,7 +70,7 @@ frame_run shape left top p seen painter x colour (Some r) e =
     elim (cases_lt r.1 r.0) [
       | inl a ↦ rw (listed_from-none (λ y. y) r.0 r.1 a, column_dots-none) tt
       | inr a ↦
-          let h : holds p r.1 x ≡ true = holds_at p x r.1 r e a (omega arith) in
+          let h : holds_row p r.1 x ≡ true = holds_at p x r.1 r e a (omega arith) in
           in_frame-column_dots painter left top x colour r.0 r.1 (seen.frame_column x r.1 h) (seen.frame_row x r.1 h)
     ]
 
@@ -82,38 +82,38 @@ floor_dots-frame v art n lump left top p seen =
 
 -- the colours are those of the art that gives the bytes
 same_colour : (v : ViewValue) (art : Art) (lump : ℕ) (p : Plane) (flat colormap : List ℕ) (x y : ℕ) → GivesFlat art lump flat colormap →
-    pixel_colour (record { view = v; key = p.key; flat = flat; colormap = colormap }) y (span_start (holds p y) x) x ≡ floor_colour v art lump p x y
+    pixel_colour (record { view = v; key = p.key; flat = flat; colormap = colormap }) y (span_start (holds_row p y) x) x ≡ floor_colour v art lump p x y
 unfolding pixel_colour distance_at light_at span_colour floor_colour flat_colour
 same_colour v art lump p flat colormap x y g =
     let light : ℕ = light_number v p.key.light (pos 0) in
     let distance : ℤ = row_distance v p.key.height y in
-    let place : ℕ = flat_place (pixel_x v distance (span_start (holds p y) x) x) (pixel_y v distance (span_start (holds p y) x) x) in
+    let place : ℕ = flat_place (pixel_x v distance (span_start (holds_row p y) x) x) (pixel_y v distance (span_start (holds_row p y) x) x) in
     ap (shade colormap (distance_map v light distance)) (sym (g.byte place)) ∙ sym (g.shade (distance_map v light distance) (art.byte lump place))
 
-no_pixel : (shape : ViewShape) (left top : ℕ) (p : Plane) → IsSeen shape left top p → (x y : ℕ) → shape.width ≤ x → (b : Bool) → holds p y x ≡ b → b ≡ false
+no_pixel : (shape : ViewShape) (left top : ℕ) (p : Plane) → IsSeen shape left top p → (x y : ℕ) → shape.width ≤ x → (b : Bool) → holds_row p y x ≡ b → b ≡ false
 no_pixel shape left top p seen x y l false h = refl
 no_pixel shape left top p seen x y l true h = absurd (let w : x < shape.width = seen.column x y h in omega arith)
 
-within_frame : (shape : ViewShape) (left top : ℕ) (p : Plane) → IsSeen shape left top p → (x y : ℕ) (b : Bool) → holds p y x ≡ b → (nat_lt x FRAME_WIDTH && b) ≡ b
+within_frame : (shape : ViewShape) (left top : ℕ) (p : Plane) → IsSeen shape left top p → (x y : ℕ) (b : Bool) → holds_row p y x ≡ b → (nat_lt x FRAME_WIDTH && b) ≡ b
 within_frame shape left top p seen x y true h = (let w : x + left < FRAME_WIDTH = seen.frame_column x y h in let m : x < FRAME_WIDTH = omega arith in rw (lt-ltb x FRAME_WIDTH m) refl)
 within_frame shape left top p seen x y false h = and_right (nat_lt x FRAME_WIDTH) false refl
 
 -- so each pixel has the same dot
 same_dot : (v : ViewValue) (art : Art) (n lump : ℕ) (p : Plane) (flat colormap : List ℕ) (left top : ℕ) (painter : Painter) (x y : ℕ) → GivesFlat art lump flat colormap →
     IsSeen v.shape left top p → painter ≡ painter_of PLANE n (lump_source lump) →
-    cond (nat_lt x FRAME_WIDTH && holds p y x) (Some (plane_dot (record { view = v; key = p.key; flat = flat; colormap = colormap }) painter p x y)) None
+    cond (nat_lt x FRAME_WIDTH && holds_row p y x) (Some (plane_dot (record { view = v; key = p.key; flat = flat; colormap = colormap }) painter p x y)) None
     ≡ last_dot x y (floor_dots v art n lump p)
 unfolding plane_dot
 same_dot v art n lump p flat colormap left top painter x y g seen e =
     let with_colour : ℕ → Painter → Option Dot = λ c q. Some (record { x = x; y = y; colour = c; painter = q }) in
-    ap (λ (b : Bool). cond b (with_colour (pixel_colour (record { view = v; key = p.key; flat = flat; colormap = colormap }) y (span_start (holds p y) x) x) painter) None)
-    (within_frame v.shape left top p seen x y (holds p y x) refl)
-    ∙ ap (λ (c : ℕ). cond (holds p y x) (with_colour c painter) None) (same_colour v art lump p flat colormap x y g)
-    ∙ ap (λ (q : Painter). cond (holds p y x) (with_colour (floor_colour v art lump p x y) q) None) e
+    ap (λ (b : Bool). cond b (with_colour (pixel_colour (record { view = v; key = p.key; flat = flat; colormap = colormap }) y (span_start (holds_row p y) x) x) painter) None)
+    (within_frame v.shape left top p seen x y (holds_row p y x) refl)
+    ∙ ap (λ (c : ℕ). cond (holds_row p y x) (with_colour c painter) None) (same_colour v art lump p flat colormap x y g)
+    ∙ ap (λ (q : Painter). cond (holds_row p y x) (with_colour (floor_colour v art lump p x y) q) None) e
     ∙ elim (cases_lt x v.shape.width) [
       | inl l ↦ sym (last_dot-floor_dots v art n lump p x y l)
       | inr l ↦
-          ap (λ (b : Bool). cond b (with_colour (floor_colour v art lump p x y) (painter_of PLANE n (lump_source lump))) None) (no_pixel v.shape left top p seen x y l (holds p y x) refl)
+          ap (λ (b : Bool). cond b (with_colour (floor_colour v art lump p x y) (painter_of PLANE n (lump_source lump))) None) (no_pixel v.shape left top p seen x y l (holds_row p y x) refl)
           ∙ sym (floor_dots-past v art n lump p x y l)
     ]
 

@@ -5,7 +5,7 @@ use Rattle.std.proofs.lemmas.List.{get_or-take, length-set, length-take, length-
 use Rattle.std.proofs.lemmas.List.Elements.{All-set, All-push}
 use Rattle.view_rules.specs.declared.TheConstants.{FRAME_WIDTH}
 use Rattle.plane_rules.specs.declared.PlaneKey.{PlaneKey}
-use Rattle.plane_rules.specs.Planes.{Plane, empty_plane, add, is_free, check, check_plane, mark, with_run, AreWide}
+use Rattle.plane_rules.specs.Planes.{Plane, empty_plane, add, is_column_free, check, check_plane, mark, with_run, AreWide}
 use Rattle.plane_rules.proofs.PlaneLemmas.{check-some, mark-some}
 use Rattle.visplanes.specs.Planes.{PlanesView}
 
@@ -42,11 +42,11 @@ mark-taken planes n i x rows p marked l m e f =
     take-put n planes i marked ∙ ap (set (take n planes) i) f ∙ sym (mark-some (take n planes) i x rows p (get-taken planes n i p l m e))
 
 -- a plane whose columns are free is kept, and else there is a new one
-pub check-free : (planes : List Plane) (i first last : ℕ) (p : Plane) → slice_get planes i ≡ Some p → is_free p.runs first last ≡ true → check planes i first last ≡ record { number = i; planes = planes }
+pub check-free : (planes : List Plane) (i first last : ℕ) (p : Plane) → slice_get planes i ≡ Some p → is_column_free p.runs first last ≡ true → check planes i first last ≡ record { number = i; planes = planes }
 unfolding check_plane
 check-free planes i first last p e f = check-some planes i first last p e ∙ rw f refl
 
-pub check-taken : (planes : List Plane) (i first last : ℕ) (p : Plane) → slice_get planes i ≡ Some p → is_free p.runs first last ≡ false → check planes i first last ≡ add planes p.key
+pub check-taken : (planes : List Plane) (i first last : ℕ) (p : Plane) → slice_get planes i ≡ Some p → is_column_free p.runs first last ≡ false → check planes i first last ≡ add planes p.key
 unfolding check_plane
 check-taken planes i first last p e f = check-some planes i first last p e ∙ rw f refl
 

@@ -1,5 +1,5 @@
--- How a plane keeps its runs: a byte for the top and one for the bottom of each column of a frame, and the columns
--- outside which none is marked.
+-- How a plane keeps its runs: a byte for the top and one for the bottom of each column of a frame, and the least and the
+-- greatest marked column.
 use Rattle.std.specs.Prelude.{◌≡◌, ℕ, ◌<◌, ◌≤◌, ◌≢◌, ◌==◌, ◌⊎◌, cond, List, Option, Some, None, length, slice_index}
 use Rattle.word_rules.specs.Listed.{listed}
 use Rattle.view_rules.specs.declared.TheConstants.{FRAME_WIDTH, FRAME_HEIGHT}
@@ -24,8 +24,12 @@ pub record IsKept (tops bottoms : List ℕ) (first last : ℕ) : Type 0 where
   -- outside first to last no column is marked
   pub before : (x : ℕ) → x < FRAME_WIDTH → x < first → slice_index tops x ≡ NO_RUN
   pub after : (x : ℕ) → x < FRAME_WIDTH → last < x → slice_index tops x ≡ NO_RUN
+  -- first and last are marked, and are the frame's width and 0 where no column is
   pub start : first ≤ FRAME_WIDTH
   pub within : last < FRAME_WIDTH
+  pub least : first < FRAME_WIDTH → slice_index tops first ≢ NO_RUN
+  pub greatest : first < FRAME_WIDTH → slice_index tops last ≢ NO_RUN
+  pub none : first ≡ FRAME_WIDTH → last ≡ 0
   -- a run has a row, and its rows are in a frame
   pub ordered : (x : ℕ) → x < FRAME_WIDTH → (slice_index tops x ≡ NO_RUN) ⊎ (slice_index tops x ≤ slice_index bottoms x)
   pub rows : (x : ℕ) → x < FRAME_WIDTH → slice_index bottoms x < FRAME_HEIGHT

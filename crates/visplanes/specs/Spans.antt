@@ -12,14 +12,14 @@ use Rattle.pixel_rules.specs.Art.{Art}
 use Rattle.pixel_rules.specs.Strips.{shade, span_colour, span_dots}
 use Rattle.plane_rules.specs.declared.PlaneKey.{PlaneKey}
 use Rattle.plane_rules.specs.Planes.{Plane, column}
-use Rattle.plane_rules.specs.Spans.{holds, span_start, gaps}
+use Rattle.plane_rules.specs.Spans.{holds_row, span_start, plane_gaps}
 use Rattle.plane_rules.specs.Floors.{row_distance, pixel_x, pixel_y}
 use Rattle.pixel_strips.specs.Canvases.{CanvasView, with_dots}
 use Rattle.visplanes.specs.declared.rows.Rows.{Rows}
 
 -- the maximal runs of columns that hold row y, from column x on
 unfoldable pub runs_from : Plane → ℕ → ℕ → List (ℕ × ℕ)
-runs_from p y x = runs x (drop x (gaps p y))
+runs_from p y x = runs x (drop x (plane_gaps p y))
 
 -- the rows of a run
 abbrev pub rows_of : Option (ℕ × ℕ) → Rows
@@ -79,21 +79,21 @@ pub record CanPaint (shape : ViewShape) (left top : ℕ) (start x y : ℕ) : Typ
 
 -- each pixel of the plane is in the view, and in the frame
 pub record IsSeen (shape : ViewShape) (left top : ℕ) (p : Plane) : Type 0 where
-  pub column : (x y : ℕ) → holds p y x ≡ true → x < shape.width
-  pub row : (x y : ℕ) → holds p y x ≡ true → y < shape.height
-  pub frame_column : (x y : ℕ) → holds p y x ≡ true → x + left < FRAME_WIDTH
-  pub frame_row : (x y : ℕ) → holds p y x ≡ true → y + top < FRAME_HEIGHT
+  pub column : (x y : ℕ) → holds_row p y x ≡ true → x < shape.width
+  pub row : (x y : ℕ) → holds_row p y x ≡ true → y < shape.height
+  pub frame_column : (x y : ℕ) → holds_row p y x ≡ true → x + left < FRAME_WIDTH
+  pub frame_row : (x y : ℕ) → holds_row p y x ≡ true → y + top < FRAME_HEIGHT
 
 -- the dot of a plane at column x of row y, in the span that has it
 unfoldable pub plane_dot : FloorView → Painter → Plane → ℕ → ℕ → Dot
-plane_dot f painter p x y = record { x = x; y = y; colour = pixel_colour f y (span_start (holds p y) x) x; painter = painter }
+plane_dot f painter p x y = record { x = x; y = y; colour = pixel_colour f y (span_start (holds_row p y) x) x; painter = painter }
 
 -- the canvas was given the plane's dots, in each row y those left of column `until y`, each once
 pub record HasSpans (mark : Painter → ℕ → ℕ) (f : FloorView) (p : Plane) (until : ℕ → ℕ) (canvas after : CanvasView) : Type 0 where
   pub dots : List Dot
   pub painted : after ≡ with_dots mark dots canvas
   pub in_frame : AreInFrame canvas.left canvas.top dots
-  pub pixels : (x y : ℕ) → last_dot x y dots ≡ cond (nat_lt x (until y) && holds p y x) (Some (plane_dot f canvas.painter p x y)) None
+  pub pixels : (x y : ℕ) → last_dot x y dots ≡ cond (nat_lt x (until y) && holds_row p y x) (Some (plane_dot f canvas.painter p x y)) None
 
 -- what the art of a scene gives of a flat's lump and of the colormaps
 pub record GivesFlat (art : Art) (lump : ℕ) (flat colormap : List ℕ) : Type 0 where

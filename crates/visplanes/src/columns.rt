@@ -1,8 +1,8 @@
 // The columns of a plane.
-ghost use Rattle.std.specs.Prelude.{◌≡◌, ℕ, ◌+◌, ◌<◌, ◌≤◌, IfSome, true, false, length, slice_index};
+ghost use Rattle.std.specs.Prelude.{◌≡◌, ℕ, ◌+◌, ◌<◌, ◌≤◌, ◌↔◌, IfSome, None, true, false, length, slice_index};
 ghost use Rattle.view_rules.specs.declared.TheConstants.{FRAME_WIDTH, FRAME_HEIGHT};
-ghost use Rattle.plane_rules.specs.Planes.{empty_plane, is_free, with_run, column};
-ghost use Rattle.plane_rules.specs.Spans.{holds};
+ghost use Rattle.plane_rules.specs.Planes.{empty_plane, is_column_free, with_run, column};
+ghost use Rattle.plane_rules.specs.Spans.{holds_row};
 ghost use Rattle.visplanes.specs.Columns.{HasRun};
 
 use plane_rules::PlaneKey;
@@ -13,7 +13,8 @@ use view_rules::FRAME_WIDTH;
 pub const NO_RUN: u8 = 255;
 
 /// A plane: a top and a bottom row for each column of a frame, and the least and the greatest
-/// column that is marked. Contracts see its key, and a run of rows or none for each column.
+/// marked column, `FRAME_WIDTH` and 0 where none is. Contracts see its key, and a run of rows or
+/// none for each column.
 ///
 /// The original: `visplane_t`, r_defs.h.
 #[derive(Drop)]
@@ -50,24 +51,44 @@ impl Visplane {
         }
     }
 
+    /// Makes it a plane of that key with no marked column. The bottoms stay: without its top a
+    /// column has no run.
+    pub fn reset(&mut self, key: PlaneKey)
+        ensures { self.new ≡ empty_plane key }
+    {
+        self.key = key;
+        self.tops.fill(NO_RUN);
+        self.first = FRAME_WIDTH;
+        self.last = 0;
+    }
+
+    /// Whether no column is marked. Looks at no column.
+    pub fn is_empty(&self) -> bool
+        ensures { (result ≡ true) ↔ ((x : ℕ) → column self.now x ≡ None) }
+    {
+        self.first == FRAME_WIDTH
+    }
+
     /// The key.
     pub fn key(&self) -> PlaneKey
         ensures value { result ≡ self.now.key }
-        ensures frame { (x y : ℕ) → holds self.now y x ≡ true → (x < FRAME_WIDTH) × (y < FRAME_HEIGHT) }
+        ensures frame { (x y : ℕ) → holds_row self.now y x ≡ true →
+            (x < FRAME_WIDTH) × (y < FRAME_HEIGHT) }
     {
         self.key
     }
 
     /// Whether no column from `first` to `last` is marked.
-    pub fn is_free(&self, first: u16, last: u16) -> bool
+    pub fn is_column_free(&self, first: u16, last: u16) -> bool
         requires ordered { first ≤ last }
         requires within { last < FRAME_WIDTH }
-        ensures { result ≡ is_free self.now.runs first last }
+        ensures { result ≡ is_column_free self.now.runs first last }
     {
         are_unmarked(&self.tops, first.max(self.first), last.min(self.last))
     }
 
     /// Sets the run of column `x`, and no other.
+    #[inline(always)]
     pub fn mark(&mut self, x: u16, top: u8, bottom: u8)
         requires column { x < FRAME_WIDTH }
         requires ordered { top ≤ bottom }
@@ -98,7 +119,7 @@ impl Visplane {
 
     /// The least and the greatest marked column; the first is the greater where none is marked.
     pub fn marked(&self) -> (u16, u16)
-        ensures pixels { (x y : ℕ) → holds self.now y x ≡ true → (result.0 ≤ x) × (x ≤ result.1) }
+        ensures pixels { (x y : ℕ) → holds_row self.now y x ≡ true → (result.0 ≤ x) × (x ≤ result.1) }
         ensures first { result.0 ≤ FRAME_WIDTH }
         ensures last { result.1 < FRAME_WIDTH }
         ensures wide { length self.now.runs ≡ FRAME_WIDTH }
@@ -119,7 +140,8 @@ fn row_bytes(value: u8) -> [u8; FRAME_WIDTH as usize]
 fn are_unmarked(tops: &[u8], first: u16, last: u16) -> bool
     requires size { length tops.now ≡ FRAME_WIDTH }
     requires within { last < FRAME_WIDTH }
-    ensures free { result ≡ true → (x : ℕ) → first ≤ x → x ≤ last → slice_index tops.now x ≡ NO_RUN }
+    ensures free { result ≡ true → (x : ℕ) → first ≤ x → x ≤ last →
+        slice_index tops.now x ≡ NO_RUN }
     ensures taken { result ≡ false → HasRun tops.now first last }
 {
     for x in first..last + 1 {

@@ -5,7 +5,7 @@ ghost use Rattle.pixel_rules.specs.declared.TheConstants.{PLANE};
 ghost use Rattle.pixel_rules.specs.Art.{Art, lump_source, painter_of};
 ghost use Rattle.plane_rules.specs.declared.Flat4.{Flat4};
 ghost use Rattle.plane_rules.specs.Keys.{is_sky_key};
-ghost use Rattle.plane_rules.specs.Spans.{holds, span_start};
+ghost use Rattle.plane_rules.specs.Spans.{holds_row, span_start};
 ghost use Rattle.plane_rules.specs.Skies.{plane_dots};
 ghost use Rattle.pixel_strips.specs.Canvases.{with_painter, with_dots};
 ghost use Rattle.visplanes.specs.Planes.{plane_at, flat_lump};
@@ -40,10 +40,16 @@ pub fn draw_plane<C: Canvas>(
 )
     requires plane { plane.0 < length planes.now.planes }
     requires floor { is_sky_key (plane_at planes.now.planes plane.0).key ≡ false }
-    requires seen { IsSeen view.now.shape (C.view canvas.old).left (C.view canvas.old).top (plane_at planes.now.planes plane.0) }
-    ensures { (art : Art) (sky : ℕ) → GivesFlat art (flat_lump (plane_at planes.now.planes plane.0).key.flat) flat.now colormap.now →
-        C.view canvas.new ≡ with_dots C.mark (plane_dots view.now art sky plane.0 (plane_at planes.now.planes plane.0))
-        (with_painter (painter_of PLANE plane.0 (lump_source (flat_lump (plane_at planes.now.planes plane.0).key.flat))) (C.view canvas.old)) }
+    requires seen { IsSeen view.now.shape (C.view canvas.old).left (C.view canvas.old).top
+        (plane_at planes.now.planes plane.0) }
+    ensures { (art : Art) (sky : ℕ) →
+        GivesFlat art (flat_lump (plane_at planes.now.planes plane.0).key.flat) flat.now
+        colormap.now →
+        C.view canvas.new ≡ with_dots C.mark
+        (plane_dots view.now art sky plane.0 (plane_at planes.now.planes plane.0))
+        (with_painter (painter_of PLANE plane.0
+        (lump_source (flat_lump (plane_at planes.now.planes plane.0).key.flat)))
+        (C.view canvas.old)) }
 {
     let visplane = planes.visplane(plane);
     let key = visplane.key();
@@ -75,8 +81,10 @@ fn draw_columns<C: Canvas>(
     canvas: &mut C,
 )
     requires room { length starts.old ≡ FRAME_HEIGHT }
-    requires seen { IsSeen floor.now.view.shape (C.view canvas.old).left (C.view canvas.old).top plane.now }
-    ensures { HasSpans C.mark floor.now plane.now (λ y. FRAME_WIDTH) (C.view canvas.old) (C.view canvas.new) }
+    requires seen { IsSeen floor.now.view.shape (C.view canvas.old).left (C.view canvas.old).top
+        plane.now }
+    ensures { HasSpans C.mark floor.now plane.now (λ y. FRAME_WIDTH) (C.view canvas.old)
+        (C.view canvas.new) }
 {
     let (first, last) = plane.marked();
     let mut before = NO_ROWS;
@@ -99,8 +107,11 @@ fn close_rows<C: Canvas>(
 )
     requires room { before.end ≤ length starts.now }
     requires spans { (y : ℕ) → before.begin ≤ y → y < before.end →
-        CanPaint floor.now.view.shape (C.view canvas.old).left (C.view canvas.old).top (slice_index starts.now y) x y }
-    ensures { C.view canvas.new ≡ with_dots C.mark (closed_dots floor.now (C.view canvas.old).painter (slice_index starts.now) before now x) (C.view canvas.old) }
+        CanPaint floor.now.view.shape (C.view canvas.old).left (C.view canvas.old).top
+        (slice_index starts.now y) x y }
+    ensures { C.view canvas.new ≡ with_dots C.mark
+        (closed_dots floor.now (C.view canvas.old).painter (slice_index starts.now) before now x)
+        (C.view canvas.old) }
 {
     paint_rows(
         floor,
@@ -131,8 +142,11 @@ fn paint_rows<C: Canvas>(
 )
     requires room { end ≤ length starts.now }
     requires spans { (y : ℕ) → begin ≤ y → y < end →
-        CanPaint floor.now.view.shape (C.view canvas.old).left (C.view canvas.old).top (slice_index starts.now y) x y }
-    ensures { C.view canvas.new ≡ with_dots C.mark (closed_rows floor.now (C.view canvas.old).painter (slice_index starts.now) x begin (end - begin)) (C.view canvas.old) }
+        CanPaint floor.now.view.shape (C.view canvas.old).left (C.view canvas.old).top
+        (slice_index starts.now y) x y }
+    ensures { C.view canvas.new ≡ with_dots C.mark
+        (closed_rows floor.now (C.view canvas.old).painter (slice_index starts.now) x begin
+        (end - begin)) (C.view canvas.old) }
 {
     for y in begin..end {
         floor.paint_row(canvas, y, starts[y as usize], x - 1);
@@ -142,8 +156,10 @@ fn paint_rows<C: Canvas>(
 // Begins a span at column `x` in each of its rows that the column before does not have.
 fn open_rows(starts: &mut [u16], before: Rows, now: Rows, x: u16)
     requires room { now.end ≤ length starts.old }
-    ensures kept { (y : ℕ) → is_in before y ≡ true → slice_index starts.new y ≡ slice_index starts.old y }
-    ensures opened { (y : ℕ) → is_in now y ≡ true → is_in before y ≡ false → slice_index starts.new y ≡ x }
+    ensures kept { (y : ℕ) → is_in before y ≡ true →
+        slice_index starts.new y ≡ slice_index starts.old y }
+    ensures opened { (y : ℕ) → is_in now y ≡ true → is_in before y ≡ false →
+        slice_index starts.new y ≡ x }
 {
     set_starts(starts, now.begin, now.end.min(before.begin), x);
     set_starts(starts, now.begin.max(before.end), now.end, x);

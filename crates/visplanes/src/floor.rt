@@ -38,9 +38,15 @@ impl<'a, 'b> Model for Floor<'a, 'b> {
 
     ghost Value = { FloorView };
 
-    ghost view = { λ f. record { view = f.view.now; key = f.key; flat = f.flat.now; colormap = f.colormap.now } };
+    ghost view = { λ f. record {
+      view = f.view.now;
+      key = f.key;
+      flat = f.flat.now;
+      colormap = f.colormap.now;
+    } };
 
-    ghost invariant = { λ f. (f.light ≡ light_number f.view.now f.key.light (pos 0)) × (f.light < LIGHT_LEVELS)
+    ghost invariant = { λ f. (f.light ≡ light_number f.view.now f.key.light (pos 0))
+        × (f.light < LIGHT_LEVELS)
         × (f.gain_x ≡ base_x f.view.now) × (f.gain_y ≡ base_y f.view.now) };
 }
 
@@ -52,7 +58,12 @@ impl<'a, 'b> Floor<'a, 'b> {
         flat: &'a [u8],
         colormap: &'a [u8],
     ) -> Floor<'a, 'b>
-        ensures { result ≡ record { view = view.now; key = key; flat = flat.now; colormap = colormap.now } }
+        ensures { result ≡ record {
+          view = view.now;
+          key = key;
+          flat = flat.now;
+          colormap = colormap.now;
+        } }
     {
         Floor {
             view,
@@ -69,13 +80,15 @@ impl<'a, 'b> Floor<'a, 'b> {
     /// column.
     ///
     /// The original: `R_MapPlane`, r_plane.c.
+    #[inline(always)]
     pub fn paint_row<C: Canvas>(&self, canvas: &mut C, y: u16, first: u16, last: u16)
         requires ordered { first ≤ last }
         requires column { last < self.now.view.shape.width }
         requires row { y < self.now.view.shape.height }
         requires frame_column { last + (C.view canvas.old).left < FRAME_WIDTH }
         requires frame_row { y + (C.view canvas.old).top < FRAME_HEIGHT }
-        ensures { C.view canvas.new ≡ with_dots C.mark (row_dots self.now (C.view canvas.old).painter y first last) (C.view canvas.old) }
+        ensures { C.view canvas.new ≡ with_dots C.mark
+            (row_dots self.now (C.view canvas.old).painter y first last) (C.view canvas.old) }
     {
         let distance = row_distance(self.view, self.key.height, y);
         let (x_fraction, y_fraction) = span_origin(self.view, distance, first);
@@ -158,6 +171,7 @@ fn span_angle(view: &View<'_>, x0: u16) -> usize
 }
 
 // The fractions at column `x0` of a row at that distance.
+#[inline(always)]
 #[tactic(auto, unfolding(plane_rules::specs::Floors::span_x, plane_rules::specs::Floors::span_y))]
 fn span_origin(view: &View<'_>, distance: i32, x0: u16) -> (i32, i32)
     requires { x0 < view.now.shape.width }
@@ -180,7 +194,8 @@ fn along_x(view: &View<'_>, angle: usize, length: i32) -> i32
 // The negated y that lies `length` off the viewpoint at a fine angle.
 fn along_y(view: &View<'_>, angle: usize, length: i32) -> i32
     requires { angle < FINE_ANGLES }
-    ensures { result ≡ minus (neg_word view.now.eye.y) (mul (sine_at view.now.tables angle) length) }
+    ensures { result ≡
+        minus (neg_word view.now.eye.y) (mul (sine_at view.now.tables angle) length) }
 {
     minus(
         neg_word(view.eye().y),

@@ -1,9 +1,9 @@
 // The planes of a view.
-ghost use Rattle.std.specs.Prelude.{◌≡◌, ℕ, ◌+◌, ◌<◌, ◌≤◌, ◌↔◌, true, [], length, position, IfOk, IfErr, IfSome, IsErr, OnOk, OnErr};
+ghost use Rattle.std.specs.Prelude.{◌≡◌, ℕ, ◌+◌, ◌<◌, ◌≤◌, ◌↔◌, true, [], None, length, position, IfOk, IfErr, IfSome, IsErr, OnOk, OnErr};
 ghost use Rattle.view_rules.specs.declared.TheConstants.{FRAME_WIDTH, FRAME_HEIGHT};
 ghost use Rattle.plane_rules.specs.declared.TheConstants.{MOST_VISPLANES};
 ghost use Rattle.plane_rules.specs.Planes.{find, check, mark, add, column, number_of, AreWide};
-ghost use Rattle.plane_rules.specs.Spans.{holds, row_runs};
+ghost use Rattle.plane_rules.specs.Spans.{holds_row, row_runs};
 ghost use Rattle.visplanes.specs.Planes.{PlanesView, with_planes, plane_at};
 
 use crate::columns::Visplane;
@@ -12,18 +12,21 @@ use crate::row_runs::RowRuns;
 use plane_rules::{Flat4, MOST_VISPLANES, PlaneKey};
 use std::alloc::{AllocError, Global};
 use std::marker::Model;
+use thiserror::Error;
 
 /// The number of a plane among the planes of a view, counted from 0 in order of making.
 #[derive(Clone, Copy, Debug, PartialEq, Eq)]
 pub struct PlaneNo(pub u16);
 
-/// A new plane is wanted and there is no room for it: so many planes would be there with it.
-#[derive(Clone, Copy, Debug, PartialEq, Eq)]
+/// A new plane is wanted and there is no room for it: `count` is the number of planes with it.
+#[derive(Clone, Copy, Debug, PartialEq, Eq, Error)]
+#[error("the view has {count} visplanes, one more than there is room for")]
 pub struct PlanesFull {
     pub count: u32,
 }
 
-/// The planes of a view, in order of making. Contracts see their list, and the room that `new` took.
+/// The planes of a view, in order of making. Contracts see their list, and the room that `new`
+/// took.
 ///
 /// The original: `visplanes` and `lastvisplane`, r_plane.c.
 #[derive(Drop)]
@@ -40,9 +43,13 @@ impl Model for Planes {
 
     ghost Value = { PlanesView };
 
-    ghost view = { λ p. record { planes = take p.count p.planes.items; room = length p.planes.items } };
+    ghost view = { λ p. record {
+      planes = take p.count p.planes.items;
+      room = length p.planes.items;
+    } };
 
-    ghost invariant = { λ p. (p.count ≤ length p.planes.items) × (length p.planes.items ≤ MOST_VISPLANES) × AreWide p.planes.items };
+    ghost invariant = { λ p. (p.count ≤ length p.planes.items)
+        × (length p.planes.items ≤ MOST_VISPLANES) × AreWide p.planes.items };
 }
 
 impl Planes {
@@ -90,7 +97,8 @@ impl Planes {
     ///
     /// The original: `R_FindPlane`, r_plane.c, which ends the program there.
     pub fn find(&mut self, key: PlaneKey) -> Result<PlaneNo, PlanesFull>
-        ensures ok { OnOk result (self.new ≡ with_planes (find self.old.planes key).planes self.old) }
+        ensures ok { OnOk result
+            (self.new ≡ with_planes (find self.old.planes key).planes self.old) }
         ensures number { IfOk result (λ plane. plane.0 ≡ (find self.old.planes key).number) }
         ensures within { IfOk result (λ plane. plane.0 < length self.new.planes) }
         ensures full { IsErr result ↔ (self.old.room < length (find self.old.planes key).planes) }
@@ -116,10 +124,13 @@ impl Planes {
         requires plane { plane.0 < length self.old.planes }
         requires ordered { first ≤ last }
         requires within { last < FRAME_WIDTH }
-        ensures ok { OnOk result (self.new ≡ with_planes (check self.old.planes plane.0 first last).planes self.old) }
-        ensures number { IfOk result (λ checked. checked.0 ≡ (check self.old.planes plane.0 first last).number) }
+        ensures ok { OnOk result
+            (self.new ≡ with_planes (check self.old.planes plane.0 first last).planes self.old) }
+        ensures number { IfOk result (λ checked.
+            checked.0 ≡ (check self.old.planes plane.0 first last).number) }
         ensures within { IfOk result (λ checked. checked.0 < length self.new.planes) }
-        ensures full { IsErr result ↔ (self.old.room < length (check self.old.planes plane.0 first last).planes) }
+        ensures full { IsErr result ↔
+            (self.old.room < length (check self.old.planes plane.0 first last).planes) }
         ensures count { IfErr result (λ e. e.count ≡ self.old.room + 1) }
         ensures err { OnErr result (self.new ≡ self.old) }
     {
@@ -135,12 +146,14 @@ impl Planes {
     /// and no other plane changes.
     ///
     /// The original: `ceilingplane->top[rw_x] = top` and its kin, `R_RenderSegLoop`, r_segs.c.
+    #[inline(always)]
     pub fn mark(&mut self, plane: PlaneNo, x: u16, top: u8, bottom: u8)
         requires plane { plane.0 < length self.old.planes }
         requires column { x < FRAME_WIDTH }
         requires ordered { top ≤ bottom }
         requires row { bottom < FRAME_HEIGHT }
-        ensures run { self.new ≡ with_planes (mark self.old.planes plane.0 x (top, bottom)) self.old }
+        ensures run { self.new ≡
+            with_planes (mark self.old.planes plane.0 x (top, bottom)) self.old }
         ensures count { length self.new.planes ≡ length self.old.planes }
     {
         self.planes[plane.0 as usize].mark(x, top, bottom);
@@ -155,11 +168,23 @@ impl Planes {
         self.visplane(plane).column(x)
     }
 
+    /// Whether no column of a plane has a run. Looks at no column.
+    ///
+    /// The original: `pl->minx > pl->maxx`, `R_DrawPlanes`, r_plane.c.
+    pub fn is_empty(&self, plane: PlaneNo) -> bool
+        requires { plane.0 < length self.now.planes }
+        ensures { (result ≡ true) ↔
+            ((x : ℕ) → column (plane_at self.now.planes plane.0) x ≡ None) }
+    {
+        self.visplane(plane).is_empty()
+    }
+
     /// The key of a plane. All that its runs hold lies in a frame.
     pub fn key(&self, plane: PlaneNo) -> PlaneKey
         requires { plane.0 < length self.now.planes }
         ensures value { result ≡ (plane_at self.now.planes plane.0).key }
-        ensures frame { (x y : ℕ) → holds (plane_at self.now.planes plane.0) y x ≡ true → (x < FRAME_WIDTH) × (y < FRAME_HEIGHT) }
+        ensures frame { (x y : ℕ) → holds_row (plane_at self.now.planes plane.0) y x ≡ true →
+            (x < FRAME_WIDTH) × (y < FRAME_HEIGHT) }
     {
         self.visplane(plane).key()
     }
@@ -199,7 +224,8 @@ impl Planes {
     // A new plane behind the others.
     #[tactic(auto, unfolding(plane_rules::specs::Planes::add))]
     fn add(&mut self, key: PlaneKey) -> Result<PlaneNo, PlanesFull>
-        ensures ok { OnOk result (self.new ≡ with_planes (add self.old.planes key).planes self.old) }
+        ensures ok { OnOk result
+            (self.new ≡ with_planes (add self.old.planes key).planes self.old) }
         ensures number { IfOk result (λ plane. plane.0 ≡ (add self.old.planes key).number) }
         ensures within { IfOk result (λ plane. plane.0 < length self.new.planes) }
         ensures full { IsErr result ↔ (self.old.room < length (add self.old.planes key).planes) }
@@ -211,13 +237,13 @@ impl Planes {
             return Err(PlanesFull { count });
         }
         let number = PlaneNo(self.count as u16);
-        self.planes[self.count] = Visplane::new(key);
+        self.planes[self.count].reset(key);
         self.count += 1;
         Ok(number)
     }
 }
 
-// So many planes that nothing has marked.
+// `room` planes that nothing has marked.
 fn blank_planes(alloc: Global, room: usize) -> Result<Vec<Visplane>, AllocError>
     ensures room { IfOk result (λ planes. length planes.items ≡ room) }
     ensures wide { IfOk result (λ planes. AreWide planes.items) }

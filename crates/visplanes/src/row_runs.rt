@@ -2,7 +2,7 @@
 ghost use Rattle.std.specs.Prelude.{◌≡◌, ℕ, ◌+◌, ◌-◌, ◌<◌, ◌≤◌, ◌∷◌, length, true};
 ghost use Rattle.std.specs.Iterator.{YieldsFirst, item_count};
 ghost use Rattle.view_rules.specs.declared.TheConstants.{FRAME_WIDTH};
-ghost use Rattle.plane_rules.specs.Spans.{holds, row_runs};
+ghost use Rattle.plane_rules.specs.Spans.{holds_row, row_runs};
 ghost use Rattle.visplanes.specs.Spans.{runs_from};
 
 use crate::columns::Visplane;
@@ -10,8 +10,8 @@ use crate::rows::holds_row;
 use std::marker::Model;
 use view_rules::FRAME_WIDTH;
 
-/// The runs of columns of a plane that hold a row and are still to come, from left to right, each by
-/// its first and its last column.
+/// The runs of columns of a plane that hold a row and are still to come, from left to right, each
+/// by its first and its last column.
 #[derive(Drop)]
 pub struct RowRuns<'a> {
     plane: &'a Visplane,
@@ -60,13 +60,13 @@ impl<'a> Iterator for RowRuns<'a> {
     }
 }
 
-// The least column from `at` on that holds the row, or the frame's width where none does.
+// The least column from `at` on that holds_row the row, or the frame's width where none does.
 fn first_holding(plane: &Visplane, row: u8, at: u16) -> u16
     requires wide { length plane.now.runs ≡ FRAME_WIDTH }
     requires within { at ≤ FRAME_WIDTH }
     ensures same { runs_from plane.now row result ≡ runs_from plane.now row at }
     ensures within { result ≤ FRAME_WIDTH }
-    ensures holds { result < FRAME_WIDTH → holds plane.now row result ≡ true }
+    ensures holds_row { result < FRAME_WIDTH → holds_row plane.now row result ≡ true }
 {
     let mut x = at;
     while x < FRAME_WIDTH && !holds_row(plane.column(x), row) {
@@ -79,8 +79,9 @@ fn first_holding(plane: &Visplane, row: u8, at: u16) -> u16
 fn first_not_holding(plane: &Visplane, row: u8, first: u16) -> u16
     requires wide { length plane.now.runs ≡ FRAME_WIDTH }
     requires within { first < FRAME_WIDTH }
-    requires holds { holds plane.now row first ≡ true }
-    ensures run { runs_from plane.now row first ≡ (first, result - 1) ∷ runs_from plane.now row result }
+    requires holds_row { holds_row plane.now row first ≡ true }
+    ensures run { runs_from plane.now row first ≡
+        (first, result - 1) ∷ runs_from plane.now row result }
     ensures after { first < result }
     ensures end { result ≤ FRAME_WIDTH }
 {

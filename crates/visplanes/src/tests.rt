@@ -30,7 +30,13 @@ fn planes_are_made_up_to_the_room(rt: HostRuntime) -> Result<(), Fail> {
     let second = planes.check(same, 3, 4)?;
     assert_eq!(rt; second, PlaneNo(1));
     assert_eq!(rt; planes.find(floor_at(0)), Ok(PlaneNo(0)));
-    assert_eq!(rt; planes.find(floor_at(8)), Err(PlanesFull { count: 3 }));
+    let full = PlanesFull { count: 3 };
+    assert_eq!(rt; planes.find(floor_at(8)), Err(full));
+    let message = format!(in rt.alloc(); "{full}")?;
+    assert_eq!(rt;
+        message.as_str(),
+        "the view has 3 visplanes, one more than there is room for"
+    );
     assert_eq!(rt; planes.count(), 2);
     planes.clear();
     assert_eq!(rt; planes.count(), 0);
@@ -42,7 +48,9 @@ fn planes_are_made_up_to_the_room(rt: HostRuntime) -> Result<(), Fail> {
 fn the_later_run_of_a_column_stays(rt: HostRuntime) -> Result<(), Fail> {
     let mut planes = Planes::new(rt.alloc(), 1)?;
     let floor = planes.find(floor_at(0))?;
+    assert!(rt; planes.is_empty(floor));
     planes.mark(floor, 4, 0, 9);
+    assert!(rt; !planes.is_empty(floor));
     planes.mark(floor, 4, 20, 29);
     assert_eq!(rt; planes.column(floor, 4), Some((20, 29)));
     assert_eq!(rt; planes.column(floor, 5), None);

@@ -15,7 +15,7 @@ use Rattle.sprite_rules.specs.declared.Placed.{Placed}
 use Rattle.sprite_rules.specs.declared.Seen.{Seen}
 use Rattle.sprite_rules.specs.declared.Shape5.{Shape5}
 use Rattle.sprite_rules.specs.declared.SpriteEntry.{SpriteEntry}
-use Rattle.sprite_rules.specs.Entries.{entry_of, entry_within, entry_for, with_entry, add}
+use Rattle.sprite_rules.specs.Entries.{entry_of, entry_within, entry_for, with_entry, add_entry}
 use Rattle.sprite_rules.specs.Order.{draw_order}
 use Rattle.sprite_rules.proofs.OrderLemmas.{draw_order-permutation}
 use Rattle.vissprites.specs.Bounds.{lies_within, has_lump_below}
@@ -35,8 +35,8 @@ with_all test es (Some e) a h = cond_all test es e (nat_lt (length es) MAX_VISSP
 
 -- what holds of each entry and of a thing's holds of each when it is added
 pub add-all : (test : SpriteEntry → Bool) (v : ViewValue) (es : List SpriteEntry) (thing : Placed) (seen : Seen) (shape : Shape5) →
-    AllPass test es → ((e : SpriteEntry) → entry_for v (length es) thing seen shape ≡ Some e → test e ≡ true) → AllPass test (add v es thing seen shape)
-unfolding add
+    AllPass test es → ((e : SpriteEntry) → entry_for v (length es) thing seen shape ≡ Some e → test e ≡ true) → AllPass test (add_entry v es thing seen shape)
+unfolding add_entry
 add-all test v es thing seen shape a h = with_all test es (entry_for v (length es) thing seen shape) a h
 
 made : (b : Bool) (e f : SpriteEntry) → cond b None (Some e) ≡ Some f → e ≡ f

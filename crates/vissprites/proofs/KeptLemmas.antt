@@ -10,7 +10,7 @@ use Rattle.sprite_rules.specs.declared.Shape5.{Shape5}
 use Rattle.sprite_rules.specs.declared.SpriteEntry.{SpriteEntry}
 use Rattle.sprite_rules.specs.Order.{draw_order, is_smaller, insert_last}
 use Rattle.sprite_rules.proofs.OrderLemmas.{draw_order-more, length-draw_order}
-use Rattle.sprite_rules.specs.Entries.{entry_for, with_entry, add}
+use Rattle.sprite_rules.specs.Entries.{entry_for, with_entry, add_entry}
 use Rattle.vissprites.specs.Kept.{insert_made, made_order, are_below, IsKept, count_before}
 
 both_true : (a b : Bool) → (a && b) ≡ true → (a ≡ true) × (b ≡ true)
@@ -183,7 +183,7 @@ with_entry-none es = refl
 
 -- what one more thing does to the entries, by the entry that it has
 pub add-entry : (v : ViewValue) (es : List SpriteEntry) (thing : Placed) (seen : Seen) (shape : Shape5) (number : ℕ) (entry : Option SpriteEntry) →
-    number ≡ length es → entry_for v number thing seen shape ≡ entry → with_entry es entry ≡ add v es thing seen shape
-unfolding add
+    number ≡ length es → entry_for v number thing seen shape ≡ entry → with_entry es entry ≡ add_entry v es thing seen shape
+unfolding add_entry
 add-entry v es thing seen shape number entry n h =
     ap (with_entry es) (sym h ∙ ap (λ (k : ℕ). entry_for v k thing seen shape) n)

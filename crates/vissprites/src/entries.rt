@@ -133,6 +133,7 @@ fn picture_last(view: &View<'_>, seen: Seen, shape: Shape5) -> i32
 }
 
 /// The column of an edge (map units 16.16, to the right) at a scale.
+#[inline(always)]
 #[tactic(auto, unfolding(sprite_rules::specs::Entries::edge_column))]
 fn edge_column(view: &View<'_>, edge: i32, scale: i32) -> i32
     ensures { result ≡ edge_column view.now edge scale }
@@ -142,6 +143,7 @@ fn edge_column(view: &View<'_>, edge: i32, scale: i32) -> i32
 }
 
 /// The left edge of the picture of a thing that is seen so far to the right.
+#[inline(always)]
 #[tactic(auto, unfolding(sprite_rules::specs::Entries::left_edge))]
 fn left_edge(side: i32, shape: Shape5) -> i32
     ensures { result ≡ left_edge side shape }
@@ -150,6 +152,7 @@ fn left_edge(side: i32, shape: Shape5) -> i32
 }
 
 /// The right edge.
+#[inline(always)]
 #[tactic(auto, unfolding(sprite_rules::specs::Entries::right_edge))]
 fn right_edge(side: i32, shape: Shape5) -> i32
     ensures { result ≡ right_edge side shape }

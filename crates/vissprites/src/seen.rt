@@ -54,6 +54,7 @@ fn seen_at(view: &View<'_>, thing: &Placed, depth: i32, side: i32) -> Seen
     }
 }
 
+#[inline(always)]
 #[tactic(auto, unfolding(sprite_rules::specs::Projection::sprite_scale))]
 fn sprite_scale(view: &View<'_>, depth: i32) -> i32
     ensures { result ≡ sprite_scale view.now depth }
@@ -71,6 +72,7 @@ fn rotation(view: &View<'_>, thing: &Placed) -> u8
 }
 
 /// How far a place is along the view's direction.
+#[inline(always)]
 #[tactic(auto, unfolding(sprite_rules::specs::Projection::depth))]
 fn depth(view: &View<'_>, x: i32, y: i32) -> i32
     ensures { result ≡ depth view.now x y }
@@ -83,6 +85,7 @@ fn depth(view: &View<'_>, x: i32, y: i32) -> i32
 }
 
 /// And across it, to the right.
+#[inline(always)]
 #[tactic(auto, unfolding(sprite_rules::specs::Projection::side))]
 fn side(view: &View<'_>, x: i32, y: i32) -> i32
     ensures { result ≡ side view.now x y }
@@ -94,6 +97,7 @@ fn side(view: &View<'_>, x: i32, y: i32) -> i32
     ))
 }
 
+#[inline(always)]
 #[tactic(auto, unfolding(sprite_rules::specs::Projection::view_sine))]
 fn view_sine(view: &View<'_>) -> i32
     ensures { result ≡ view_sine view.now }
@@ -101,6 +105,7 @@ fn view_sine(view: &View<'_>) -> i32
     view.tables().sine(fine_angle(view.eye().angle))
 }
 
+#[inline(always)]
 #[tactic(auto, unfolding(sprite_rules::specs::Projection::view_cosine))]
 fn view_cosine(view: &View<'_>) -> i32
     ensures { result ≡ view_cosine view.now }

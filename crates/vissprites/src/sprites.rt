@@ -6,7 +6,7 @@ ghost use Rattle.std.specs.List.Sorted.{IsSortedBy, IsStableBy};
 ghost use Rattle.view_rules.specs.declared.TheConstants.{LIGHT_LEVELS};
 ghost use Rattle.sprite_rules.specs.declared.TheConstants.{MAX_VISSPRITES};
 ghost use Rattle.sprite_rules.specs.Projection.{project};
-ghost use Rattle.sprite_rules.specs.Entries.{add, with_entry};
+ghost use Rattle.sprite_rules.specs.Entries.{add_entry, with_entry};
 ghost use Rattle.sprite_rules.specs.Order.{is_smaller, insert_last, draw_order};
 ghost use Rattle.sprite_rules.specs.declared.SpriteEntry.{SpriteEntry};
 ghost use Rattle.vissprites.specs.Kept.{made_order, IsKept, count_before};
@@ -75,14 +75,16 @@ impl Sprites {
     /// Needs a light number below 16. Takes no memory.
     ///
     /// The original: the second half of `R_ProjectSprite`, r_things.c.
-    pub fn add(&mut self, view: &View<'_>, thing: &Placed, seen: Seen, shape: Shape5)
+    pub fn add_entry(&mut self, view: &View<'_>, thing: &Placed, seen: Seen, shape: Shape5)
         requires seen { project view.now thing.now ≡ Some seen }
         requires light { thing.now.light < LIGHT_LEVELS }
-        ensures value { self.new ≡ add view.now self.old thing.now seen shape }
+        ensures value { self.new ≡ add_entry view.now self.old thing.now seen shape }
 
         // What the masked pass asks of entries.
-        ensures columns { AllPass (lies_within view.now.shape.width) self.old → AllPass (lies_within view.now.shape.width) self.new }
-        ensures lumps { (n : ℕ) → shape.lump < n → AllPass (has_lump_below n) self.old → AllPass (has_lump_below n) self.new }
+        ensures columns { AllPass (lies_within view.now.shape.width) self.old →
+            AllPass (lies_within view.now.shape.width) self.new }
+        ensures lumps { (n : ℕ) → shape.lump < n → AllPass (has_lump_below n) self.old →
+            AllPass (has_lump_below n) self.new }
     {
         let number = self.kept.len() as u16;
         if let Some(entry) = entry_for(view, number, thing, seen, shape) {
@@ -102,7 +104,8 @@ impl Sprites {
         ensures stable { IsStableBy is_smaller self.now result }
 
         // What holds of each entry that was made holds of each that is drawn.
-        ensures entries { (test : SpriteEntry → Bool) → AllPass test self.now → AllPass test result }
+        ensures entries { (test : SpriteEntry → Bool) →
+            AllPass test self.now → AllPass test result }
     {
         SortedSprites::new(&self.kept)
     }
@@ -113,7 +116,8 @@ fn keep(kept: &mut Vec<SpriteEntry>, entry: SpriteEntry)
     requires kept { IsKept kept.old.items }
     requires capacity { MAX_VISSPRITES ≤ vec_capacity kept.old }
     requires number { entry.number ≡ vec_len kept.old }
-    ensures entries { made_order kept.new.items ≡ with_entry (made_order kept.old.items) (Some entry) }
+    ensures entries { made_order kept.new.items ≡
+        with_entry (made_order kept.old.items) (Some entry) }
     ensures kept { IsKept kept.new.items }
     ensures capacity { MAX_VISSPRITES ≤ vec_capacity kept.new }
 {
@@ -148,6 +152,7 @@ fn count_before(kept: &[SpriteEntry], entry: &SpriteEntry) -> usize
     kept.len()
 }
 
+#[inline(always)]
 #[tactic(auto, unfolding(sprite_rules::specs::Order::is_smaller))]
 fn is_smaller(entry: &SpriteEntry, other: &SpriteEntry) -> bool
     ensures { result ≡ is_smaller entry.now other.now }

@@ -7,7 +7,7 @@ use Rattle.wall_rules.specs.declared.FragmentNumbers.{FragmentNumbers}
 use Rattle.wall_rules.specs.Numbers.{fragment_numbers}
 use Rattle.wall_rules.specs.Notes.{silhouette_of}
 use Rattle.wall_edges.specs.declared.line.SegLine.{SegLine}
-use Rattle.wall_edges.specs.Lines.{line_of}
+use Rattle.wall_edges.specs.Lines.{seg_line_of}
 
 -- the numbers that a fragment shows
 pub record FragmentFields : Type 0 where
@@ -57,5 +57,5 @@ fragment_of v facts first last = record {
   shape = v.shape;
   first = first;
   last = last;
-  line = line_of v facts;
+  line = seg_line_of v facts;
 }

@@ -5,5 +5,5 @@ use Rattle.wall_rules.specs.Scales.{seg_normal, seg_distance}
 use Rattle.wall_rules.specs.Columns.{texture_offset}
 use Rattle.wall_edges.specs.declared.line.SegLine.{SegLine}
 
-abbrev pub line_of : ViewValue → WallFacts → SegLine
-line_of v facts = record { normal = seg_normal facts.seg; distance = seg_distance v facts.seg; offset = texture_offset v facts }
+abbrev pub seg_line_of : ViewValue → WallFacts → SegLine
+seg_line_of v facts = record { normal = seg_normal facts.seg; distance = seg_distance v facts.seg; offset = texture_offset v facts }

@@ -8,7 +8,7 @@ ghost use Rattle.view_rules.specs.declared.TheConstants.{TANGENTS};
 ghost use Rattle.view_rules.specs.Angles.{tangent_at};
 ghost use Rattle.wall_rules.specs.Scales.{seg_normal};
 ghost use Rattle.wall_rules.specs.Columns.{column_tangent, texture_column};
-ghost use Rattle.wall_edges.specs.Lines.{line_of};
+ghost use Rattle.wall_edges.specs.Lines.{seg_line_of};
 
 use crate::line::SegLine;
 use fx_words::{fine_angle, minus, mul, shr_word, turn, turn_back};
@@ -17,6 +17,7 @@ use view_rules::TANGENTS;
 use word_rules::{ANG90, FRACTION_BITS};
 
 /// The angle (BAM) at which column `x` looks, from the view's own.
+#[inline(always)]
 pub fn angle_of_column(view: &View<'_>, x: u16) -> u32
     requires { x < view.now.shape.width }
     ensures { result ≡ angle_of_column view.now.tables view.now.shape x }
@@ -25,6 +26,7 @@ pub fn angle_of_column(view: &View<'_>, x: u16) -> u32
 }
 
 /// The tangent of a fine angle from a quarter turn right.
+#[inline(always)]
 fn tangent(view: &View<'_>, fine: usize) -> i32
     requires { fine < TANGENTS }
     ensures { result ≡ tangent_at view.now.tables fine }
@@ -33,6 +35,7 @@ fn tangent(view: &View<'_>, fine: usize) -> i32
 }
 
 /// The fine angle between a normal and the look of column `x`.
+#[inline(always)]
 #[tactic(auto, unfolding(wall_rules::specs::Columns::column_tangent))]
 fn column_tangent(view: &View<'_>, normal: u32, x: u16) -> usize
     requires { x < view.now.shape.width }
@@ -44,10 +47,12 @@ fn column_tangent(view: &View<'_>, normal: u32, x: u16) -> usize
 }
 
 /// The texture column of a line at column `x`.
+#[inline(always)]
 #[tactic(auto, unfolding(wall_rules::specs::Columns::texture_column))]
 pub fn texture_column(view: &View<'_>, line: SegLine, x: u16) -> i32
     requires { x < view.now.shape.width }
-    ensures { (facts : WallFacts) → line ≡ line_of view.now facts → result ≡ texture_column view.now facts x }
+    ensures { (facts : WallFacts) → line ≡ seg_line_of view.now facts →
+        result ≡ texture_column view.now facts x }
 {
     let slope = tangent(view, column_tangent(view, line.normal, x));
     shr_word(minus(line.offset, mul(slope, line.distance)), FRACTION_BITS)

@@ -8,7 +8,7 @@ ghost use Rattle.wall_edges.specs.Fragments.{fragment_of};
 
 use crate::columns::texture_column;
 use crate::edges::edges_at;
-use crate::line::{SegLine, line_of};
+use crate::line::{SegLine, seg_line_of};
 use crate::numbers::{fragment_numbers, silhouette_of};
 use std::marker::Model;
 use view_frame::View;
@@ -88,7 +88,7 @@ impl Fragment {
         requires within { last < view.now.shape.width }
         ensures { result ≡ fragment_of view.now facts.now first last }
     {
-        let line = line_of(view, facts);
+        let line = seg_line_of(view, facts);
         let numbers = fragment_numbers(view, facts, line.distance, first, last);
         Fragment {
             floor_mark: numbers.floor_mark,
@@ -136,9 +136,12 @@ impl Fragment {
     /// given.
     ///
     /// The original: `texturecolumn`, r_segs.c.
+    #[inline(always)]
     pub fn column_at(&self, view: &View<'_>, x: u16) -> i32
         requires { x < view.now.shape.width }
-        ensures { (facts : WallFacts) (first last : ℕ) → self.now ≡ fragment_of view.now facts first last → result ≡ texture_column view.now facts x }
+        ensures { (facts : WallFacts) (first last : ℕ) →
+            self.now ≡ fragment_of view.now facts first last →
+            result ≡ texture_column view.now facts x }
     {
         texture_column(view, self.line, x)
     }

@@ -22,6 +22,7 @@ mod silhouettes;
 mod stepper;
 
 pub use fragment::Fragment;
+pub use numbers::seg_light;
 pub use stepper::Stepper;
 pub use wall_rules::{
     Clip, Edges, FragmentNote, FragmentNumbers, Part, Silhouette, WallFacts, WallTexture,

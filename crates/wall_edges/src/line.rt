@@ -6,7 +6,7 @@ ghost use Rattle.word_rules.specs.Words.{mul, abs_word, signed_of, neg_word, tur
 ghost use Rattle.view_rules.specs.Angles.{sine_at};
 ghost use Rattle.wall_rules.specs.Scales.{seg_normal, vertex_angle, vertex_dist, normal_turn};
 ghost use Rattle.wall_rules.specs.Columns.{quarter_of, texture_offset};
-ghost use Rattle.wall_edges.specs.Lines.{line_of};
+ghost use Rattle.wall_edges.specs.Lines.{seg_line_of};
 
 use fx_words::{abs_word, fine_angle, mul, neg_word, plus, signed_of, turn, turn_back};
 use level_rules::Seg;
@@ -25,8 +25,8 @@ pub struct SegLine {
 
 /// The line of the seg of `facts`.
 #[tactic(auto, unfolding(wall_rules::specs::Scales::offset_angle, wall_rules::specs::Scales::seg_distance))]
-pub fn line_of(view: &View<'_>, facts: &WallFacts) -> SegLine
-    ensures { result ≡ line_of view.now facts.now }
+pub fn seg_line_of(view: &View<'_>, facts: &WallFacts) -> SegLine
+    ensures { result ≡ seg_line_of view.now facts.now }
 {
     let off = normal_turn(view, &facts.seg);
     let dist = vertex_dist(view, &facts.seg);
@@ -86,7 +86,8 @@ fn unsigned_quarter(off: u32) -> u32
 
 /// The distance of the line, by that of a point of it which is seen `off` the normal.
 fn distance_by(view: &View<'_>, off: u32, dist: i32) -> i32
-    ensures { result ≡ mul dist (sine_at view.now.tables (fine_angle (turn_back ang90 (min (unsigned_abs (abs_word (signed_of off))) ang90)))) }
+    ensures { result ≡ mul dist (sine_at view.now.tables (fine_angle
+        (turn_back ang90 (min (unsigned_abs (abs_word (signed_of off))) ang90)))) }
 {
     mul(
         dist,

@@ -1,6 +1,7 @@
 // The numbers of a fragment: rules `wall_rules`, Scales and Numbers.
 
 ghost use Rattle.std.specs.Prelude.{◌≡◌, ◌<◌, ◌≤◌};
+ghost use Rattle.view_rules.specs.declared.TheConstants.{LIGHT_LEVELS};
 ghost use Rattle.wall_rules.specs.Scales.{seg_distance, scale_of_column, scale_step};
 ghost use Rattle.wall_rules.specs.Numbers.{seg_contrast, seg_light, numbers_by, fragment_numbers};
 ghost use Rattle.wall_rules.specs.Notes.{silhouette_of};
@@ -53,9 +54,17 @@ fn seg_contrast(seg: &Seg) -> i8
     }
 }
 
+/// The light number, 0 to 15, of a wall along the seg before a sector of this light (0 to 255):
+/// one less than the sector's where the seg runs along the x axis, one more along the y axis.
+///
+/// Takes no memory.
+///
+/// The original: `lightnum` and `walllights`, `R_StoreWallRange` and `R_RenderMaskedSegRange`,
+/// r_segs.c.
 #[tactic(auto, unfolding(wall_rules::specs::Numbers::seg_light))]
-fn seg_light(view: &View<'_>, seg: &Seg, light: i16) -> u8
-    ensures { result ≡ seg_light view.now seg.now light }
+pub fn seg_light(view: &View<'_>, seg: &Seg, light: i16) -> u8
+    ensures value { result ≡ seg_light view.now seg.now light }
+    ensures bound { result < LIGHT_LEVELS }
 {
     view.light_number(light, seg_contrast(seg))
 }

@@ -51,8 +51,10 @@ impl Stepper {
     pub fn next(&mut self) -> Option<Edges>
         ensures answer { result ≡ next_edges self.old }
         ensures state { self.new ≡ next_stepper self.old }
-        ensures column { (f : FragmentValue) (k : ℕ) → IsAt f k self.old → IfSome result (λ e. (e ≡ edges_at f.shape f.numbers k) × IsAt f (k + 1) self.new) }
-        ensures end { (f : FragmentValue) (k : ℕ) → IsAt f k self.old → IfNone result (f.first + k ≡ f.last + 1) }
+        ensures column { (f : FragmentValue) (k : ℕ) → IsAt f k self.old → IfSome result (λ e.
+            (e ≡ edges_at f.shape f.numbers k) × IsAt f (k + 1) self.new) }
+        ensures end { (f : FragmentValue) (k : ℕ) → IsAt f k self.old →
+            IfNone result (f.first + k ≡ f.last + 1) }
     {
         if self.left == 0 {
             return None;

@@ -1,4 +1,4 @@
--- Rows: the room whose east wall is 256 map units away.
+-- Rows: the wall_room whose east wall is 256 map units away.
 use Rattle.std.specs.Prelude.{◌≡◌, ℕ, ◌*◌, pos, negsuc, ◌-◌, None, refl}
 use Rattle.word_rules.specs.Steps.{step_at}
 use Rattle.view_rules.specs.Made.{row_view}
@@ -29,11 +29,11 @@ unfoldable pub east_seg : Seg
 east_seg = record { x1 = pos (256 * 65536); y1 = pos (256 * 65536); x2 = pos (256 * 65536); y2 = negsuc (256 * 65536 - 1); angle = 49152 * 65536; offset = pos 0; flags = 1; side = 0; front = 0; back = None }
 
 -- floor 0, ceiling 128, light 160
-unfoldable pub room : Surface
-room = record { floor = pos 0; ceiling = pos (128 * 65536); floor_flat = 1; ceiling_flat = 2; light = pos 160 }
+unfoldable pub wall_room : Surface
+wall_room = record { floor = pos 0; ceiling = pos (128 * 65536); floor_flat = 1; ceiling_flat = 2; light = pos 160 }
 
 unfoldable pub east_facts : WallFacts
-east_facts = record { seg_no = 0; seg = east_seg; front = room; back = None; x_offset = pos 0; y_offset = pos 0; top = record { number = 0; height = 0 }; bottom = record { number = 0; height = 0 }; middle = record { number = 1; height = 128 } }
+east_facts = record { seg_no = 0; seg = east_seg; front = wall_room; back = None; x_offset = pos 0; y_offset = pos 0; top = record { number = 0; height = 0 }; bottom = record { number = 0; height = 0 }; middle = record { number = 1; height = 128 } }
 
 -- for rows by evaluation: who unfolds it unfolds the rules of a view and those of walls
 unfoldable pub walls_unfolded : ℕ
@@ -57,32 +57,32 @@ unfoldable pub east_edges : Edges
 east_edges = edges_at row_view.shape east_numbers 159
 
 pub step_row : east_numbers.step ≡ pos 0
-unfolding walls_unfolded east_seg room east_facts east_numbers
+unfolding walls_unfolded east_seg wall_room east_facts east_numbers
 step_row = refl
 
 -- the ceiling has rows 0 to 45, the wall 46 to 125, the floor 126 to 199
 pub ceiling_rows_row : ceiling_rows (open_clip 200) east_edges ≡ record { first = pos 0; last = pos 45 }
-unfolding walls_unfolded east_seg room east_facts east_numbers east_edges
+unfolding walls_unfolded east_seg wall_room east_facts east_numbers east_edges
 ceiling_rows_row = refl
 
 pub middle_rows_row : middle_rows (open_clip 200) east_edges ≡ record { first = pos 46; last = pos 125 }
-unfolding walls_unfolded east_seg room east_facts east_numbers east_edges
+unfolding walls_unfolded east_seg wall_room east_facts east_numbers east_edges
 middle_rows_row = refl
 
 pub floor_rows_row : floor_rows (open_clip 200) east_edges ≡ record { first = pos 126; last = pos 199 }
-unfolding walls_unfolded east_seg room east_facts east_numbers east_edges
+unfolding walls_unfolded east_seg wall_room east_facts east_numbers east_edges
 floor_rows_row = refl
 
 -- nothing is open behind it
 pub clip_row : clip_after 200 east_numbers (open_clip 200) east_edges ≡ shut_clip 200
-unfolding walls_unfolded east_seg room east_facts east_numbers east_edges
+unfolding walls_unfolded east_seg wall_room east_facts east_numbers east_edges
 clip_row = refl
 
 -- at column 160 it has texture column 255 and colormap 12
 pub texture_column_row : texture_column row_view east_facts 160 ≡ pos 255
-unfolding walls_unfolded east_seg room east_facts
+unfolding walls_unfolded east_seg wall_room east_facts
 texture_column_row = refl
 
 pub map_row : scale_map row_view east_numbers.light east_edges.scale ≡ 12
-unfolding walls_unfolded east_seg room east_facts east_numbers east_edges
+unfolding walls_unfolded east_seg wall_room east_facts east_numbers east_edges
 map_row = refl

@@ -1,8 +1,8 @@
 -- The places so far are put.
 use Rattle.std.proofs.Common.{◌≡◌, ◌++◌}
 use Rattle.made_rules.specs.Bytes.{records}
-use Rattle.made_rules.specs.Pictures.{column_place}
+use Rattle.made_rules.specs.Pictures.{made_column_place}
 use Rattle.level_maker.proofs.patches.put_places.Given as goal
 
 abbrev pub invariant-loop-x : goal.invariant-loop-x
-invariant-loop-x l = l.lump.items ≡ l.initial.lump.items ++ records (column_place l.width l.size) l.x
+invariant-loop-x l = l.lump.items ≡ l.initial.lump.items ++ records (made_column_place l.width l.size) l.x

@@ -1,8 +1,8 @@
 -- The texels so far are put.
 use Rattle.std.proofs.Common.{◌≡◌, ◌++◌}
 use Rattle.word_rules.specs.Listed.{listed}
-use Rattle.made_rules.specs.Pictures.{texel}
+use Rattle.made_rules.specs.Pictures.{made_texel}
 use Rattle.level_maker.proofs.patches.put_texels.Given as goal
 
 abbrev pub invariant-loop-k : goal.invariant-loop-k
-invariant-loop-k l = l.lump.items ≡ l.initial.lump.items ++ listed (texel l.seed l.x l.top) l.k
+invariant-loop-k l = l.lump.items ≡ l.initial.lump.items ++ listed (made_texel l.seed l.x l.top) l.k

@@ -1,8 +1,8 @@
 -- The rows so far are put.
 use Rattle.std.proofs.Common.{◌≡◌, ◌++◌}
 use Rattle.made_rules.specs.Bytes.{records}
-use Rattle.made_rules.specs.Texts.{path_row}
+use Rattle.made_rules.specs.Texts.{made_path_row}
 use Rattle.level_maker.proofs.path.put_rows.Given as goal
 
 abbrev pub invariant-loop-k : goal.invariant-loop-k
-invariant-loop-k l = l.file.items ≡ l.initial.file.items ++ records (path_row l.n) l.k
+invariant-loop-k l = l.file.items ≡ l.initial.file.items ++ records (made_path_row l.n) l.k

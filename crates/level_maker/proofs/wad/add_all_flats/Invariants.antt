@@ -1,8 +1,8 @@
 -- The flats so far are put.
 use Rattle.std.proofs.Common.{◌≡◌}
 use Rattle.word_rules.specs.Listed.{listed}
-use Rattle.made_rules.specs.Wads.{with_lumps, flat_lump}
+use Rattle.made_rules.specs.Wads.{with_lumps, made_flat_lump}
 use Rattle.level_maker.proofs.wad.add_all_flats.Given as goal
 
 abbrev pub invariant-loop-number : goal.invariant-loop-number
-invariant-loop-number l = l.wad ≡ with_lumps l.initial.wad (listed flat_lump l.number)
+invariant-loop-number l = l.wad ≡ with_lumps l.initial.wad (listed made_flat_lump l.number)

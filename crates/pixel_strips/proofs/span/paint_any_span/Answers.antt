@@ -1,4 +1,4 @@
-use Rattle.std.proofs.Common.{◌≡◌, ℕ, ◌+◌, ◌-◌, ◌*◌, ◌<◌, List, ap, sym, ◌∙◌, refl, arith, rules, to_z}
+use Rattle.std.proofs.Common.{◌≡◌, ℕ, ◌+◌, ◌-◌, List, ap, sym, ◌∙◌, refl, arith, rules, to_z}
 use Rattle.std.specs.Prelude.{ℤ}
 use Rattle.std.specs.Int.{w32}
 use Rattle.std.proofs.lemmas.Int.{to_z-of_z}
@@ -6,7 +6,7 @@ use Rattle.word_rules.specs.Words.{plus}
 use Rattle.word_rules.specs.Steps.{step_at}
 use Rattle.word_rules.proofs.StepLemmas.{step_at-zero, step_at-more}
 use Rattle.pixel_rules.specs.Dots.{Dot}
-use Rattle.pixel_rules.specs.Strips.{span_colour, flat_place}
+use Rattle.pixel_rules.specs.Strips.{span_colour}
 use Rattle.pixel_strips.specs.Canvases.{with_dot, with_dots}
 use Rattle.pixel_strips.specs.Strips.{row_colour}
 use Rattle.pixel_strips.proofs.CanvasLemmas.{dots_none, dots_more, span_dot, columns_dots, columns_none, columns_more, columns_all}

@@ -1,10 +1,10 @@
 use Rattle.std.proofs.Common.{ap, ◌∙◌}
-use Rattle.solid_segs.specs.Ranges.{count_before}
+use Rattle.solid_segs.specs.Ranges.{ranges_before}
 use Rattle.solid_segs.proofs.RangeLemmas.{with_range-inserted}
 use Rattle.solid_segs.proofs.ranges.add_range.Goals as goal
 
 pub returns : goal.returns
 returns c =
     with_range-inserted c.args.range c.absorb-joined.result c.args.ranges.now.items c.absorb-joined.new.ranges.items _ c.count_before-index.result
-    (c.count_before-index.ensures.count ∙ ap (count_before c.args.range.first) c.deref.ensures.0)
+    (c.count_before-index.ensures.count ∙ ap (ranges_before c.args.range.first) c.deref.ensures.0)
     c.absorb-joined.ensures.front c.absorb-joined.ensures.joined c.insert.ensures.items

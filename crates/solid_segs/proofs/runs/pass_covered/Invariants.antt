@@ -1,11 +1,11 @@
 use Rattle.std.proofs.Common.{◌≡◌, length}
 use Rattle.std.specs.Prelude.{IsTrue}
-use Rattle.solid_segs.specs.Ranges.{gaps, are_apart}
+use Rattle.solid_segs.specs.Ranges.{range_gaps, are_apart}
 use Rattle.solid_segs.proofs.runs.pass_covered.Given as goal
 
 abbrev pub invariant-loop-range : goal.invariant-loop-range
 invariant-loop-range l = record {
-  gaps : gaps l.column l.last l.rest ≡ gaps l.at l.last l.fn.ranges;
+  range_gaps : range_gaps l.column l.last l.rest ≡ range_gaps l.at l.last l.fn.ranges;
   apart : IsTrue (are_apart 0 320 l.rest);
 }
 

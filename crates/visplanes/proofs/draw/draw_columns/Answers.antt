@@ -3,7 +3,7 @@ use Rattle.std.specs.Prelude.{slice_index}
 use Rattle.std.proofs.lemmas.Bool.{cases_Bool, both_ways, false_from_ne_true}
 use Rattle.view_rules.specs.declared.TheConstants.{FRAME_WIDTH}
 use Rattle.plane_rules.specs.Planes.{Plane, column}
-use Rattle.plane_rules.specs.Spans.{holds, span_start}
+use Rattle.plane_rules.specs.Spans.{holds_row, span_start}
 use Rattle.pixel_strips.specs.Canvases.{CanvasView}
 use Rattle.visplanes.specs.declared.rows.Rows.{Rows}
 use Rattle.visplanes.specs.Spans.{rows_of, is_in, CanPaint}
@@ -14,8 +14,8 @@ use Rattle.visplanes.proofs.draw.draw_columns.Goals as goal
 pub loop-x-init : goal.loop-x-init
 loop-x-init g c =
     let p = c.args.plane.now in
-    let none : (k y : ℕ) → k < c.marked-first.result.0 → holds p y k ≡ false =
-    λ k y l. false_from_ne_true (holds p y k) (λ t. absurd (omega (arith, l, (c.marked-first.ensures.pixels k y t).0))) in
+    let none : (k y : ℕ) → k < c.marked-first.result.0 → holds_row p y k ≡ false =
+    λ k y l. false_from_ne_true (holds_row p y k) (λ t. absurd (omega (arith, l, (c.marked-first.ensures.pixels k y t).0))) in
     record {
       spans = spans_none g.C.Canvas.mark c.args.floor.now p c.marked-first.result.0 (g.C.Canvas.view c.args.canvas.now) none;
       starts = λ y h. absurd (both_ways _ (is_in-none y) h);
@@ -33,7 +33,7 @@ close_rows-requires-clause-spans g c = λ y l m.
     (can_paint c.args.floor.now.view.shape old.left old.top c.args.plane.now c.requires.seen (slice_index c.loop-x.starts y) c.loop-x.x y (sym (i.held y) ∙ h) (i.starts y h))
 
 pub loop-x-preserved : goal.loop-x-preserved
-unfolding holds
+unfolding holds_row
 loop-x-preserved g c =
     let i = c.loop-x.invariant in
     let p : Plane = c.args.plane.now in
@@ -42,7 +42,7 @@ loop-x-preserved g c =
     let before : Rows = c.loop-x.before in
     let now : Rows = c.rows_of-now.result in
     let old = g.C.Canvas.view c.args.canvas.now in
-    let holding : (y : ℕ) → is_in now y ≡ holds p y x =
+    let holding : (y : ℕ) → is_in now y ≡ holds_row p y x =
     λ y. ap (λ (r : Rows). is_in r y) (c.rows_of-now.ensures.rows ∙ ap rows_of c.column.ensures.run) ∙ is_in-rows_of (column p x) y in
     let passing : IsPassing c.args.floor.now.view.shape p (slice_index c.loop-x.starts) before now x old =
     record { seen = c.requires.seen; before_ordered = i.ordered; now_ordered = c.rows_of-now.ensures.ordered; held = i.held; holding = holding; starts = i.starts } in
@@ -50,7 +50,7 @@ loop-x-preserved g c =
       spans = spans_more g.C.Canvas.mark c.args.floor.now c.args.floor.now.view.shape p (slice_index c.loop-x.starts) before now x n old
           (g.C.Canvas.view c.loop-x.canvas) (g.C.Canvas.view c.close_rows.new.canvas) refl passing i.spans c.close_rows.ensures;
       starts = λ y h.
-          let on : holds p y x ≡ true = sym (holding y) ∙ h in
+          let on : holds_row p y x ≡ true = sym (holding y) ∙ h in
           elim (cases_Bool (is_in before y)) [
             | inl t ↦ c.open_rows.ensures.kept y t ∙ i.starts y t ∙ sym (start-kept p y x n refl on)
             | inr f ↦ c.open_rows.ensures.opened y h f ∙ sym (start-kept p y x n refl on ∙ start-fresh p y x (sym (i.held y) ∙ f))
@@ -65,11 +65,11 @@ returns g c =
     let p = c.args.plane.now in
     let x = c.loop-x.x in
     let m = c.marked-first in
-    let closed : (k y : ℕ) → holds p y k ≡ true → k < span_start (holds p y) x = λ k y t.
+    let closed : (k y : ℕ) → holds_row p y k ≡ true → k < span_start (holds_row p y) x = λ k y t.
     let a = m.ensures.pixels k y t in
     let e : m.result.1 + 1 + 1 ≡ x = omega (arith, a.0, a.1, c.loop-x-test.false, c.loop-x.auto.x-end) in
-    let off : holds p y (m.result.1 + 1) ≡ false = false_from_ne_true (holds p y (m.result.1 + 1)) (λ q. absurd (omega (arith, (m.ensures.pixels (m.result.1 + 1) y q).1))) in
-    let s : span_start (holds p y) x ≡ x = start-fresh p y x (held_before-more p y (m.result.1 + 1) x e ∙ off) in
+    let off : holds_row p y (m.result.1 + 1) ≡ false = false_from_ne_true (holds_row p y (m.result.1 + 1)) (λ q. absurd (omega (arith, (m.ensures.pixels (m.result.1 + 1) y q).1))) in
+    let s : span_start (holds_row p y) x ≡ x = start-fresh p y x (held_before-more p y (m.result.1 + 1) x e ∙ off) in
     omega (arith, a.1, e, s) in
-    spans_all g.C.Canvas.mark c.args.floor.now p (λ y. span_start (holds p y) x) (λ y. FRAME_WIDTH) (g.C.Canvas.view c.args.canvas.now) (g.C.Canvas.view c.loop-x.canvas) c.loop-x.invariant.spans closed
+    spans_all g.C.Canvas.mark c.args.floor.now p (λ y. span_start (holds_row p y) x) (λ y. FRAME_WIDTH) (g.C.Canvas.view c.args.canvas.now) (g.C.Canvas.view c.loop-x.canvas) c.loop-x.invariant.spans closed
     (λ k y t. omega (arith, (m.ensures.pixels k y t).1, m.ensures.last))

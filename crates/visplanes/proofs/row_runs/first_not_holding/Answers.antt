@@ -1,27 +1,27 @@
 use Rattle.std.proofs.Common.{◌≡◌, ℕ, true, false, Option, ap, sym, ◌∙◌, arith, inl, inr}
 use Rattle.std.proofs.lemmas.Bool.{cases_lt}
-use Rattle.plane_rules.specs.Spans.{holds_row, holds}
+use Rattle.plane_rules.specs.Spans.{holds_row, holds_row}
 use Rattle.visplanes.proofs.RunLemmas.{runs_from-run}
 use Rattle.visplanes.proofs.row_runs.first_not_holding.Goals as goal
 
 pub loop-x-preserved : goal.loop-x-preserved
-unfolding holds
+unfolding holds_row
 loop-x-preserved c =
     let p = c.args.plane.now in
     let y = c.args.row in
     let x = c.loop-x.x in
-    let on : holds p y x ≡ true =
+    let on : holds_row p y x ≡ true =
     ap (λ (r : Option (ℕ × ℕ)). holds_row r y) (sym c.column.ensures.run) ∙ sym c.holds_row.ensures ∙ c.if-holds_row.true in
     record {
-      held = λ k a b. elim (cases_lt k x) [ inl l ↦ c.loop-x.invariant.held k a l | inr m ↦ (let e : k ≡ x = omega arith in ap (λ (i : ℕ). holds p y i) e ∙ on) ];
+      held = λ k a b. elim (cases_lt k x) [ inl l ↦ c.loop-x.invariant.held k a l | inr m ↦ (let e : k ≡ x = omega arith in ap (λ (i : ℕ). holds_row p y i) e ∙ on) ];
       after = omega (arith, c.loop-x.invariant.after);
       within = omega arith;
     }
 
 pub returns-else-holds_row-clause-run : goal.returns-else-holds_row-clause-run
-unfolding holds
+unfolding holds_row
 returns-else-holds_row-clause-run c =
-    let off : holds c.args.plane.now c.args.row c.loop-x.x ≡ false =
+    let off : holds_row c.args.plane.now c.args.row c.loop-x.x ≡ false =
     ap (λ (r : Option (ℕ × ℕ)). holds_row r c.args.row) (sym c.column.ensures.run) ∙ sym c.holds_row.ensures ∙ c.if-holds_row.false in
     runs_from-run c.args.plane.now c.args.row c.args.first c.loop-x.x c.loop-x.invariant.after (omega (arith, c.requires.wide, c.loop-x.invariant.within)) c.loop-x.invariant.held (inr off)
 

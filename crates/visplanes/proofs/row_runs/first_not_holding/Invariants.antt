@@ -1,11 +1,11 @@
 use Rattle.std.proofs.Common.{◌≡◌, ℕ, ◌-◌, ◌<◌, ◌≤◌, true}
 use Rattle.view_rules.specs.declared.TheConstants.{FRAME_WIDTH}
-use Rattle.plane_rules.specs.Spans.{holds}
+use Rattle.plane_rules.specs.Spans.{holds_row}
 use Rattle.visplanes.proofs.row_runs.first_not_holding.Given as goal
 
 abbrev pub invariant-loop-x : goal.invariant-loop-x
 invariant-loop-x l = record {
-  held : (k : ℕ) → l.first ≤ k → k < l.x → holds l.plane l.row k ≡ true;
+  held : (k : ℕ) → l.first ≤ k → k < l.x → holds_row l.plane l.row k ≡ true;
   after : l.first < l.x;
   within : l.x ≤ FRAME_WIDTH;
 }

@@ -1,5 +1,5 @@
 use Rattle.std.proofs.Common.{◌≡◌, ℕ, ◌<◌, ◌≤◌, List, Bool, length, ap, sym, ◌∙◌, arith}
-use Rattle.solid_segs.specs.Ranges.{columns_of, are_apart, gaps}
+use Rattle.solid_segs.specs.Ranges.{columns_of, are_apart, range_gaps}
 use Rattle.walk_rules.specs.Covered.{fragments}
 use Rattle.solid_segs.proofs.RangeLemmas.{apart_parts, apart_test, apart_wider, length-columns_of}
 use Rattle.solid_segs.proofs.GapLemmas.{gaps-fragments}
@@ -19,6 +19,6 @@ pub returns : goal.returns
 returns c =
     let within : c.args.last < c.self.inside.width =
     omega (arith, ap length c.self.view_is, length-columns_of c.self.inside.width c.self.inside.ranges.items) in
-    c.new.ensures ∙ ap (gaps c.args.first c.args.last) c.deref.ensures.0
+    c.new.ensures ∙ ap (range_gaps c.args.first c.args.last) c.deref.ensures.0
     ∙ gaps-fragments c.self.inside.width c.args.first c.args.last c.self.inside.ranges.items (apart_parts 0 _ _ c.self.invariant.1) c.requires.ordered within
     ∙ ap (λ (columns : List Bool). fragments columns c.args.first c.args.last) c.self.view_is

@@ -1,6 +1,6 @@
 use Rattle.std.proofs.Common.{ap, sym, ◌∙◌, arith, inl, inr}
 use Rattle.std.proofs.lemmas.Bool.{cases_Bool}
-use Rattle.plane_rules.specs.Planes.{Plane, is_free}
+use Rattle.plane_rules.specs.Planes.{Plane, is_column_free}
 use Rattle.visplanes.proofs.ColumnLemmas.{kept-free, kept-taken}
 use Rattle.visplanes.proofs.columns.Visplane.is_free.Goals as goal
 
@@ -13,9 +13,9 @@ returns c =
       | inl t ↦
           t ∙ sym (kept-free i.tops i.bottoms i.first i.last a b c.self.invariant c.requires.within
           (λ x l m. c.are_unmarked.ensures.free t x (omega (arith, c.max.ensures)) (omega (arith, c.min.ensures))))
-          ∙ ap (λ (p : Plane). is_free p.runs a b) c.self.view_is
+          ∙ ap (λ (p : Plane). is_column_free p.runs a b) c.self.view_is
       | inr f ↦
           f ∙ sym (kept-taken i.tops i.bottoms i.first i.last a b c.requires.within
           (let r = c.are_unmarked.ensures.taken f in record { x = r.x; from = omega (arith, r.from, c.max.ensures); to = omega (arith, r.to, c.min.ensures); run = r.run }))
-          ∙ ap (λ (p : Plane). is_free p.runs a b) c.self.view_is
+          ∙ ap (λ (p : Plane). is_column_free p.runs a b) c.self.view_is
     ]

@@ -1,10 +1,10 @@
 use Rattle.std.proofs.Common.{ap, ◌∙◌}
 use Rattle.plane_rules.specs.Planes.{Plane}
-use Rattle.plane_rules.specs.Spans.{holds}
+use Rattle.plane_rules.specs.Spans.{holds_row}
 use Rattle.visplanes.proofs.ColumnLemmas.{kept-frame}
 use Rattle.visplanes.proofs.columns.Visplane.key.Goals as goal
 
 pub returns-clause-frame : goal.returns-clause-frame
 returns-clause-frame c = λ x y h.
     let i = c.self.inside in
-    kept-frame i.key i.tops i.bottoms i.first i.last x y c.self.invariant (ap (λ (p : Plane). holds p y x) c.self.view_is ∙ h)
+    kept-frame i.key i.tops i.bottoms i.first i.last x y c.self.invariant (ap (λ (p : Plane). holds_row p y x) c.self.view_is ∙ h)

@@ -1,7 +1,18 @@
-use Rattle.std.proofs.Common.{ap, ◌∙◌, arith}
+use Rattle.std.proofs.Common.{ap, sym, ◌∙◌, subst, arith}
+use Rattle.std.proofs.Common.{ℕ, max, set}
 use Rattle.plane_rules.specs.Planes.{Plane, with_run}
-use Rattle.visplanes.proofs.ColumnLemmas.{plane_of-marked}
+use Rattle.visplanes.specs.Columns.{IsKept}
+use Rattle.visplanes.proofs.ColumnLemmas.{plane_of-marked, kept-more}
 use Rattle.visplanes.proofs.columns.Visplane.mark.Goals as goal
+
+pub invariant_of-self : goal.invariant_of-self
+invariant_of-self c =
+    let i = c.self.inside in
+    let tops = set i.tops c.args.x c.args.top in
+    let bottoms = set i.bottoms c.args.x c.args.bottom in
+    let kept = kept-more i.tops i.bottoms i.first i.last c.args.x c.args.top c.args.bottom c.self.invariant c.requires.column c.requires.ordered c.requires.row in
+    subst (λ (last : ℕ). IsKept tops bottoms c.min-self-inside.result last) (sym c.max-self-inside.ensures)
+    (subst (λ (first : ℕ). IsKept tops bottoms first (max i.last c.args.x)) (sym c.min-self-inside.ensures) kept)
 
 pub returns : goal.returns
 returns c =

@@ -1,14 +1,14 @@
 use Rattle.std.proofs.Common.{ap, sym, ◌∙◌}
 use Rattle.std.proofs.Common.{length}
 use Rattle.plane_rules.specs.Planes.{Plane}
-use Rattle.plane_rules.specs.Spans.{holds}
+use Rattle.plane_rules.specs.Spans.{holds_row}
 use Rattle.visplanes.proofs.ColumnLemmas.{kept-marked, length-runs_of}
 use Rattle.visplanes.proofs.columns.Visplane.marked.Goals as goal
 
 pub returns-clause-pixels : goal.returns-clause-pixels
 returns-clause-pixels c = λ x y h.
     let i = c.self.inside in
-    kept-marked i.key i.tops i.bottoms i.first i.last x y c.self.invariant (ap (λ (p : Plane). holds p y x) c.self.view_is ∙ h)
+    kept-marked i.key i.tops i.bottoms i.first i.last x y c.self.invariant (ap (λ (p : Plane). holds_row p y x) c.self.view_is ∙ h)
 
 pub returns-clause-wide : goal.returns-clause-wide
 returns-clause-wide c = ap (λ (p : Plane). length p.runs) (sym c.self.view_is) ∙ length-runs_of c.self.inside.tops c.self.inside.bottoms

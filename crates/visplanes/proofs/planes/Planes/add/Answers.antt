@@ -9,5 +9,5 @@ invariant_of-self c =
     let i = c.self.inside in (
       omega (arith, length-set {A = Plane}),
       omega (arith, length-set {A = Plane}),
-      wide-put i.planes.items i.count c.new.result (ap (λ (p : Plane). length p.runs) c.new.ensures ∙ length-empty_plane c.args.key) c.self.invariant.2,
+      wide-put i.planes.items i.count c.reset.new.self (ap (λ (p : Plane). length p.runs) c.reset.ensures ∙ length-empty_plane c.args.key) c.self.invariant.2,
     )

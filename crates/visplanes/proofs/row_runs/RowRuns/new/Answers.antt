@@ -1,6 +1,6 @@
 use Rattle.std.proofs.Common.{arith}
 use Rattle.std.proofs.lemmas.Bool.{false_from_ne_true}
-use Rattle.plane_rules.specs.Spans.{holds}
+use Rattle.plane_rules.specs.Spans.{holds_row}
 use Rattle.visplanes.proofs.RunLemmas.{row_runs-skipped}
 use Rattle.visplanes.proofs.row_runs.RowRuns.new.Goals as goal
 
@@ -8,4 +8,4 @@ pub returns : goal.returns
 returns c =
     let m = c.marked-at.ensures in
     row_runs-skipped c.args.plane.now c.args.row _ m.wide m.first
-    (λ k l. false_from_ne_true (holds c.args.plane.now c.args.row k) (λ t. absurd (omega (arith, l, (m.pixels k c.args.row t).0))))
+    (λ k l. false_from_ne_true (holds_row c.args.plane.now c.args.row k) (λ t. absurd (omega (arith, l, (m.pixels k c.args.row t).0))))

@@ -1,0 +1,66 @@
+-- Laws of `fill_cells`: one cell more, and that the cells of a strip of a frame are those of its dots.
+use Rattle.std.proofs.Common.{◌≡◌, ℕ, zero, suc, ◌+◌, ◌*◌, List, [], ◌∷◌, ◌++◌, set, refl, ap, sym, ◌∙◌, arith}
+use Rattle.view_rules.specs.declared.TheConstants.{FRAME_WIDTH}
+use Rattle.pixel_rules.specs.declared.Painter.{Painter}
+use Rattle.pixel_rules.specs.Dots.{Dot, cell_of, put_dots}
+use Rattle.pixel_rules.specs.Strips.{column_dots, span_dots}
+use Rattle.pixel_rules.proofs.DotLemmas.{put_dots-more, put_dots-none}
+use Rattle.word_rules.specs.Listed.{listed_from}
+use Rattle.pixel_strips.specs.Canvases.{marked_by_colour, fill_cells}
+use Rattle.pixel_strips.proofs.CanvasLemmas.{rows_dots, rows_none, rows_more, rows_all, span_dot, columns_dots, columns_none, columns_more, columns_all}
+
+pub fill_cells-none : (place value : ℕ → ℕ) (cells : List ℕ) → cells ≡ fill_cells place value 0 cells
+unfolding fill_cells
+fill_cells-none place value cells = refl
+
+pub fill_cells-more : (place value : ℕ → ℕ) (k n : ℕ) (cells : List ℕ) → k + 1 ≡ n →
+    set (fill_cells place value k cells) (place k) (value k) ≡ fill_cells place value n cells
+unfolding fill_cells
+fill_cells-more place value k n cells e =
+    let f : suc k ≡ n = omega arith in
+    ap (λ (m : ℕ). fill_cells place value m cells) f
+
+-- dots that come one by one set the cells one by one
+fill_cells-dots : (left top : ℕ) (dots : ℕ → List Dot) (dot : ℕ → Dot) (place value : ℕ → ℕ) (cells : List ℕ) →
+    dots 0 ≡ [] → ((k : ℕ) → dots k ++ dot k ∷ [] ≡ dots (suc k)) →
+    ((k : ℕ) → place k ≡ cell_of left top (dot k).x (dot k).y) → ((k : ℕ) → value k ≡ (dot k).colour) →
+    (n : ℕ) → fill_cells place value n cells ≡ put_dots marked_by_colour left top (dots n) cells
+unfolding fill_cells
+fill_cells-dots left top dots dot place value cells none more places values zero =
+    sym (ap (λ (ds : List Dot). put_dots marked_by_colour left top ds cells) none ∙ put_dots-none marked_by_colour left top cells)
+fill_cells-dots left top dots dot place value cells none more places values (suc n) =
+    ap (λ (before : List ℕ). set before (place n) (value n)) (fill_cells-dots left top dots dot place value cells none more places values n)
+    ∙ ap (λ (i : ℕ). set (put_dots marked_by_colour left top (dots n) cells) i (value n)) (places n)
+    ∙ ap (set (put_dots marked_by_colour left top (dots n) cells) (cell_of left top (dot n).x (dot n).y)) (values n)
+    ∙ sym (put_dots-more marked_by_colour left top (dots n) (dot n) cells)
+    ∙ ap (λ (ds : List Dot). put_dots marked_by_colour left top ds cells) (more n)
+
+row_cell : (left top x first start k : ℕ) → start ≡ FRAME_WIDTH * (first + top) + (x + left) → start + FRAME_WIDTH * k ≡ cell_of left top x (first + k)
+unfolding cell_of
+row_cell left top x first start k e = omega (arith, e)
+
+column_cell : (left top y first start k : ℕ) → start ≡ FRAME_WIDTH * (y + top) + (first + left) → start + k ≡ cell_of left top (first + k) y
+unfolding cell_of
+column_cell left top y first start k e = omega (arith, e)
+
+-- the cells of a column, from the one of its first row on
+pub fill_cells-column : (painter : Painter) (left top x : ℕ) (colour : ℕ → ℕ) (first last start n : ℕ) (value : ℕ → ℕ) (cells : List ℕ) →
+    start ≡ FRAME_WIDTH * (first + top) + (x + left) → first + n ≡ last + 1 → ((k : ℕ) → value k ≡ colour (first + k)) →
+    fill_cells (λ k. start + FRAME_WIDTH * k) value n cells ≡ put_dots marked_by_colour left top (column_dots painter x colour (listed_from (λ y. y) first last)) cells
+fill_cells-column painter left top x colour first last start n value cells s e values =
+    let dot : ℕ → Dot = λ k. record { x = x; y = first + k; colour = colour (first + k); painter = painter } in
+    fill_cells-dots left top (rows_dots painter x colour first) dot (λ k. start + FRAME_WIDTH * k) value cells
+    (rows_none painter x colour first 0 refl) (λ k. rows_more painter x colour first k (suc k) (first + k) (omega arith) refl)
+    (λ k. row_cell left top x first start k s) values n
+    ∙ ap (λ (ds : List Dot). put_dots marked_by_colour left top ds cells) (rows_all painter x colour first last n e)
+
+-- the cells of a span, from the one of its first column on
+pub fill_cells-span : (painter : Painter) (left top y : ℕ) (colour : ℕ → ℕ) (first last start n : ℕ) (value : ℕ → ℕ) (cells : List ℕ) →
+    start ≡ FRAME_WIDTH * (y + top) + (first + left) → first + n ≡ last + 1 → ((k : ℕ) → value k ≡ colour (first + k)) →
+    fill_cells (λ k. start + k) value n cells ≡ put_dots marked_by_colour left top (span_dots painter y colour first last) cells
+fill_cells-span painter left top y colour first last start n value cells s e values =
+    let dot : ℕ → Dot = λ k. span_dot painter y colour (first + k) in
+    fill_cells-dots left top (columns_dots painter y colour first) dot (λ k. start + k) value cells
+    (columns_none painter y colour first 0 refl) (λ k. columns_more painter y colour first k (suc k) (first + k) (omega arith) refl)
+    (λ k. column_cell left top y first start k s) values n
+    ∙ ap (λ (ds : List Dot). put_dots marked_by_colour left top ds cells) (columns_all painter y colour first last n e)

@@ -1,0 +1,20 @@
+use Rattle.std.proofs.Common.{◌≡◌, ◌<◌, ℕ, List, ap, ◌∙◌, arith}
+use Rattle.std.specs.Prelude.{slice_index}
+use Rattle.std.proofs.lemmas.List.{get_or-replicate}
+use Rattle.view_rules.specs.declared.TheConstants.{FRAME_WIDTH}
+use Rattle.visplanes.specs.declared.columns.TheConstants.{NO_RUN}
+use Rattle.visplanes.proofs.ColumnLemmas.{kept-empty, plane_of-empty}
+use Rattle.visplanes.proofs.columns.Visplane.reset.Goals as goal
+
+-- no column has a top
+unmarked : (c : goal.After-self-2-1) (x : ℕ) → x < FRAME_WIDTH → slice_index c.fill.new.self x ≡ NO_RUN
+unmarked c x l =
+    ap (λ (tops : List ℕ). slice_index tops x) (c.fill.ensures.after (λ y e. e))
+    ∙ get_or-replicate _ x NO_RUN 0 (omega (arith, l, c.self.invariant.top_bytes))
+
+pub invariant_of-self : goal.invariant_of-self
+invariant_of-self c =
+    kept-empty c.fill.new.self c.self.inside.bottoms (c.fill.ensures.len ∙ c.self.invariant.top_bytes) c.self.invariant.bottom_bytes (unmarked c) c.self.invariant.rows
+
+pub returns : goal.returns
+returns c = plane_of-empty c.args.key c.fill.new.self c.self.inside.bottoms (unmarked c)
