@@ -28,7 +28,7 @@ use Rattle.outside.proofs.StopLemmas.{step_stops, unread_agrees}
 
 -- what is read of text that is not too long
 text_length : {A X : Type 0} (long : Bool) (above : CsvRefusal → Refusal) (refusal : CsvRefusal) (records : X) (rows : X → Result A CsvRefusal) (bytes : List ℕ) (read : List ℕ → Result A Refusal) →
-    read bytes ≡ from_below above (csv.and_then (cond long (Err refusal) (Ok records)) rows) →
+    read bytes ≡ from_below above (csv.then_checked (cond long (Err refusal) (Ok records)) rows) →
     read bytes ≡ and_then (unless_refused (option_map above (cond long (Some refusal) None)) bytes) read
 text_length true above refusal records rows bytes read e = e
 text_length false above refusal records rows bytes read e = refl

@@ -33,10 +33,3 @@ bytes_whole kind size count bytes e h =
     let k : unless_refused (length_refusal kind (length bytes)) (length bytes) ≡ Ok count = rw e at h in
     let fine = not_refused (length_refusal kind (length bytes)) (length bytes) count k in
     (rw fine.0 refl, sym fine.1)
-
--- a call ends with the refusal of the steps
-pub refusal_answers : {A B : Type 0} (steady : Bool) (value : B → A) (expected : Result A Refusal) (reason : Refusal) (result : Result B (Fault Refusal)) →
-    expected ≡ Err reason → IsErrAnd result (λ e. e ≡ Refused reason) → ResultIs itself steady value expected result
-refusal_answers {A} {B} steady value expected reason result e is =
-    let p : (y : (Fault Refusal)) × (result ≡ Err y) × (y ≡ Refused reason) = err_from_is_err_and result is in
-    rw (p.1, p.2) (record { ok = tt; err = e })

@@ -1,5 +1,8 @@
 -- The lumps of WADs that were asked for.
-use Rattle.std.proofs.Common.{◌≡◌, ℕ, Bool, List, Option, Some, Result, Err, IsErrAnd, refl}
+use Rattle.std.proofs.Common.{◌≡◌, ℕ, Bool, List, Option, Some, Result, Ok, Err, IsErrAnd, refl}
+use Rattle.std.specs.Prelude.{IfOk}
+use Rattle.lump_rules.specs.Contents.{AllWithin}
+use Rattle.wad_dir.specs.DirectoryView.{DirectoryView}
 use Rattle.std.proofs.lemmas.Result.{err_from_is_err_and}
 use Rattle.outside.specs.declared.shelf.FileNo.{FileNo}
 use Rattle.outside.specs.Shelf.{File, ShelfView, NameFiles}
@@ -36,3 +39,10 @@ pub stand_named : (view : ShelfView) (numbers given : List FileNo) (names : List
 stand_named view numbers given names files contents found same named =
     let these : found.contents ≡ contents = same_found (files_named names files) found.contents contents found.named named in
     rw (same, ← these) found.stand
+
+-- a directory of the files of these numbers
+pub wads_stand : {E : Type 0} (view : ShelfView) (numbers : List FileNo) (contents : List (List ℕ)) (result : Result DirectoryView E) →
+    NameFiles view numbers contents → IfOk result (λ dir. dir.files ≡ numbers) → IfOk result (λ dir. AllWithin contents dir.lumps) →
+    IfOk result (λ dir. NameFiles view dir.files contents × AllWithin contents dir.lumps)
+wads_stand view numbers contents (Ok dir) stand files within = (rw files stand, within)
+wads_stand view numbers contents (Err fault) stand files within = tt
