@@ -29,24 +29,33 @@ last_mention all need = ok_or (last_that (is_of_frame need.frame) all) (NoFrame 
 
 -- its picture from the k-th rotation
 unfoldable pub picture_or_missing : List Mention → Need → ℕ → Result Mention SpriteRefusal
-picture_or_missing all need k = ok_or (frame_picture all need.frame k) (MissingRotation need.thing (suc k))
+picture_or_missing all need k =
+    ok_or (frame_picture all need.frame k) (MissingRotation need.thing (suc k))
 
 -- its pictures from the eight rotations, in order
 unfoldable pub pictures_of : List Mention → Need → Result (List Mention) SpriteRefusal
 pictures_of all need =
-    and_then (last_mention all need) (λ last. each_of (picture_or_missing all need) (range_with_len 0 ROTATIONS))
+    and_then (last_mention all need)
+    (λ last. each_of (picture_or_missing all need) (range_with_len 0 ROTATIONS))
 
 -- how a picture is drawn whose lump is that patch
 unfoldable pub shape_in : Mention → Patch → Shape
 shape_in mention patch =
-    record { lump = record { 0 = mention.lump }; flip = mention.flip; width = patch.width; left = patch.left; top = patch.top }
+    record {
+      lump = record { 0 = mention.lump };
+      flip = mention.flip;
+      width = patch.width;
+      left = patch.left;
+      top = patch.top;
+    }
 
 -- the patch that a lump is
 unfoldable pub patch_or_bad : (ℕ → List ℕ) → ℕ → Result Patch SpriteRefusal
 patch_or_bad bytes lump = ok_or (patch_of (bytes lump)) (BadPatch lump)
 
 unfoldable pub shape_of : (ℕ → List ℕ) → Mention → Result Shape SpriteRefusal
-shape_of bytes mention = and_then (patch_or_bad bytes mention.lump) (λ patch. Ok (shape_in mention patch))
+shape_of bytes mention =
+    and_then (patch_or_bad bytes mention.lump) (λ patch. Ok (shape_in mention patch))
 
 -- a needed frame, with its shapes
 unfoldable pub frame_in : Need → List Shape → Frame
@@ -68,7 +77,8 @@ first_needs (need ∷ rest) = need ∷ filter (λ other. not (same_frame need ot
 
 -- the frames that are needed, in the order in which they are first needed
 unfoldable pub book_of : List (List ℕ) → List Lump → List Need → Result (List Frame) SpriteRefusal
-book_of contents lumps needs = each_of (frame_of (lump_bytes contents lumps) lumps) (first_needs needs)
+book_of contents lumps needs =
+    each_of (frame_of (lump_bytes contents lumps) lumps) (first_needs needs)
 
 -- what the directory alone tells of a frame: the lumps of its shapes, and which are flipped
 pub record Outline : Type 0 where
@@ -80,7 +90,8 @@ unfoldable pub shape_outline : Shape → ℕ × Bool
 shape_outline shape = (shape.lump.0, shape.flip)
 
 unfoldable pub outline : Frame → Outline
-outline frame = record { sprite = frame.sprite; frame = frame.frame; pictures = map shape_outline frame.shapes }
+outline frame =
+    record { sprite = frame.sprite; frame = frame.frame; pictures = map shape_outline frame.shapes }
 
 unfoldable pub mention_outline : Mention → ℕ × Bool
 mention_outline mention = (mention.lump, mention.flip)
@@ -90,7 +101,9 @@ outline_in need pictures =
     record { sprite = need.sprite; frame = need.frame; pictures = map mention_outline pictures }
 
 unfoldable pub outline_of : List Lump → Need → Result Outline SpriteRefusal
-outline_of lumps need = and_then (pictures_of (mentions lumps need.sprite) need) (λ pictures. Ok (outline_in need pictures))
+outline_of lumps need =
+    and_then (pictures_of (mentions lumps need.sprite) need)
+    (λ pictures. Ok (outline_in need pictures))
 
 unfoldable pub outlines_of : List Lump → List Need → Result (List Outline) SpriteRefusal
 outlines_of lumps needs = each_of (outline_of lumps) (first_needs needs)
@@ -100,7 +113,9 @@ unfoldable pub is_frame : List ℕ → ℕ → Frame → Bool
 is_frame sprite letter frame = bytes_eq frame.sprite sprite && (frame.frame == letter)
 
 unfoldable pub picked : List Frame → List ℕ → ℕ → ℕ → Option Shape
-picked book sprite letter rotation = option_and_then (λ (frame : Frame). slice_get frame.shapes rotation) (find (is_frame sprite letter) book)
+picked book sprite letter rotation =
+    option_and_then (λ (frame : Frame). slice_get frame.shapes rotation)
+    (find (is_frame sprite letter) book)
 
 -- the lumps of all shapes
 unfoldable pub shape_lumps : Frame → List ℕ

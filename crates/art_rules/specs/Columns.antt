@@ -45,7 +45,8 @@ composite_size patches width height = height * composed_count patches width
 unfoldable pub composite_place : List PlacedPatch → ℕ → ℕ → ℕ
 composite_place patches height x = height * composed_count patches x
 
--- a post in a texture: the row of its first byte, before it is cut, its length, and its lump's bytes
+-- a post in a texture: the row of its first byte, before it is cut, its length, and its lump's
+-- bytes
 pub record PlacedPost : Type 0 where
   pub row : ℤ
   pub post : Post
@@ -75,7 +76,9 @@ put_byte v placed = byte_at placed.bytes (placed.post.first + (v - first_row pla
 -- the byte of the last post that is put at row v
 unfoldable pub last_put : ℕ → ℕ → List PlacedPost → Option ℕ
 last_put height v [] = None
-last_put height v (placed ∷ rest) = or_else (last_put height v rest) (cond (is_put_at height v placed) (Some (put_byte v placed)) None)
+last_put height v (placed ∷ rest) =
+    or_else (last_put height v rest)
+    (cond (is_put_at height v placed) (Some (put_byte v placed)) None)
 
 -- the byte at row v of a composed column, 0 where no post is put
 unfoldable pub composed_byte : ℕ → List PlacedPost → ℕ → ℕ
@@ -84,7 +87,8 @@ composed_byte height placed v = unwrap_or (last_put height v placed) 0
 -- the posts of a patch in column x of its texture; bytes gives those of a lump
 unfoldable pub placed_posts : (ℕ → List ℕ) → ℕ → PlacedPatch → List PlacedPost
 placed_posts bytes x patch =
-    map (λ post. record { row = patch.y +ℤ pos post.topdelta; post = post; bytes = bytes patch.lump })
+    map (λ post. record
+    { row = patch.y +ℤ pos post.topdelta; post = post; bytes = bytes patch.lump })
     (posts (bytes patch.lump) (column_place (bytes patch.lump) (own_column x patch)))
 
 -- the posts of a column, patch by patch
@@ -93,16 +97,20 @@ column_posts bytes patches x = joined_lists (placed_posts bytes x) (patches_in p
 
 -- a composed column
 unfoldable pub composed_column : (ℕ → List ℕ) → List PlacedPatch → ℕ → ℕ → List ℕ
-composed_column bytes patches height x = listed (composed_byte height (column_posts bytes patches x)) height
+composed_column bytes patches height x =
+    listed (composed_byte height (column_posts bytes patches x)) height
 
 -- the composite of a texture
 unfoldable pub composite : (ℕ → List ℕ) → List PlacedPatch → ℕ → ℕ → List ℕ
-composite bytes patches width height = joined_lists (composed_column bytes patches height) (composed_columns patches width)
+composite bytes patches width height =
+    joined_lists (composed_column bytes patches height) (composed_columns patches width)
 
 -- texel r of a column: of its one patch, or of the composite, 0 where no patch stands; a composed
 -- column goes on in the next one
 unfoldable pub patch_texel : (ℕ → List ℕ) → ℕ → PlacedPatch → ℕ → ℕ
-patch_texel bytes x patch r = byte_at (bytes patch.lump) (column_place (bytes patch.lump) (own_column x patch) + POST_BYTES_AT + r)
+patch_texel bytes x patch r =
+    byte_at (bytes patch.lump)
+    (column_place (bytes patch.lump) (own_column x patch) + POST_BYTES_AT + r)
 
 unfoldable pub texel_of : (ℕ → List ℕ) → List PlacedPatch → List PlacedPatch → ℕ → ℕ → ℕ → ℕ → ℕ
 texel_of bytes [] patches width height x r = 0
@@ -111,9 +119,18 @@ texel_of bytes (first ∷ second ∷ rest) patches width height x r =
     byte_at (composite bytes patches width height) (composite_place patches height x + r)
 
 unfoldable pub texel : (ℕ → List ℕ) → List PlacedPatch → ℕ → ℕ → ℕ → ℕ → ℕ
-texel bytes patches width height x r = texel_of bytes (patches_in patches x) patches width height x r
+texel bytes patches width height x r =
+    texel_of bytes (patches_in patches x) patches width height x r
 
--- a post that hangs over the top of a texture of four rows: its first two bytes stand at rows 0 and 1
-pub hanging_row : listed (composed_byte 4 (record { row = negsuc 1; post = record { topdelta = 0; length = 4; first = 0 }; bytes = 11 ∷ 12 ∷ 13 ∷ 14 ∷ [] } ∷ [])) 4 ≡ 11 ∷ 12 ∷ 0 ∷ 0 ∷ []
-unfolding listed composed_byte last_put is_put_at put_byte put_count first_row rows_above natural byte_at
+-- a post that hangs over the top of a texture of four rows: its first two bytes stand at rows 0 and
+-- 1
+pub hanging_row : listed
+    (composed_byte 4
+    (record {
+      row = negsuc 1;
+      post = record { topdelta = 0; length = 4; first = 0 };
+      bytes = 11 ∷ 12 ∷ 13 ∷ 14 ∷ [];
+    } ∷ [])) 4 ≡ 11 ∷ 12 ∷ 0 ∷ 0 ∷ []
+unfolding listed composed_byte last_put is_put_at put_byte put_count first_row rows_above natural
+    byte_at
 hanging_row = refl

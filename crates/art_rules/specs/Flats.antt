@@ -11,4 +11,5 @@ flat_byte bytes x y = byte_at bytes (FLAT_SIDE * y + x)
 -- red, green and blue of a colour
 unfoldable pub palette_colour : List ℕ → ℕ → List ℕ
 palette_colour playpal index =
-    byte_at playpal (COLOUR_SIZE * index) ∷ byte_at playpal (COLOUR_SIZE * index + 1) ∷ byte_at playpal (COLOUR_SIZE * index + 2) ∷ []
+    byte_at playpal (COLOUR_SIZE * index) ∷ byte_at playpal (COLOUR_SIZE * index + 1)
+    ∷ byte_at playpal (COLOUR_SIZE * index + 2) ∷ []

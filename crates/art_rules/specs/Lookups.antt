@@ -1,5 +1,5 @@
--- What each column of a texture is read from, and its texels by that (R_GenerateLookup, R_GetColumn,
--- r_data.c).
+-- What each column of a texture is read from, and its texels by that (R_GenerateLookup,
+-- R_GetColumn, r_data.c).
 use Rattle.std.specs.Prelude.{◌≡◌, ℕ, ◌+◌, ◌<◌, ℤ, pos, negsuc, bit_and, Bool, true, false, is_some, List, [], ◌∷◌, length, Option, Some, None, take, slice_index_or, refl}
 use Rattle.word_rules.specs.Listed.{listed, joined_lists}
 use Rattle.word_rules.specs.Words.{bits_of}
@@ -14,25 +14,30 @@ use Rattle.art_rules.specs.Columns.{patches_in, own_column, composed_columns, co
 -- by the patches that stand in column x: nothing, a column of one patch, or where in the composite
 unfoldable pub lookup_of : (ℕ → List ℕ) → ℕ → ℕ → List PlacedPatch → ColumnLookup
 lookup_of bytes start x [] = Empty
-lookup_of bytes start x (patch ∷ []) = Single patch.lump (column_place (bytes patch.lump) (own_column x patch))
+lookup_of bytes start x (patch ∷ []) =
+    Single patch.lump (column_place (bytes patch.lump) (own_column x patch))
 lookup_of bytes start x (first ∷ second ∷ rest) = Composed start
 
 -- what column x is read from
 unfoldable pub column_lookup : (ℕ → List ℕ) → List PlacedPatch → ℕ → ℕ → ColumnLookup
-column_lookup bytes patches height x = lookup_of bytes (composite_place patches height x) x (patches_in patches x)
+column_lookup bytes patches height x =
+    lookup_of bytes (composite_place patches height x) x (patches_in patches x)
 
 -- all columns of a texture
 unfoldable pub column_lookups : (ℕ → List ℕ) → List PlacedPatch → ℕ → ℕ → List ColumnLookup
 column_lookups bytes patches width height = listed (column_lookup bytes patches height) width
 
 -- column x is read from what its patches say, whatever the bytes of their lumps were
-pub record IsColumnOf (patches : List PlacedPatch) (height x : ℕ) (lookup : ColumnLookup) : Type 0 where
-  pub bytes : ℕ → List ℕ
-  pub is : lookup ≡ column_lookup bytes patches height x
+pub record IsColumnOf (patches : List PlacedPatch) (height x : ℕ) (lookup : ColumnLookup) : Type 0
+  where
+    pub bytes : ℕ → List ℕ
+    pub is : lookup ≡ column_lookup bytes patches height x
 
 -- so is each column: which are composed, and where, is known without the bytes of a lump
-pub record AreColumnsOf (patches : List PlacedPatch) (height : ℕ) (columns : List ColumnLookup) : Type 0 where
-  pub at : (x : ℕ) → x < length columns → IsColumnOf patches height x (slice_index_or columns x Empty)
+pub record AreColumnsOf (patches : List PlacedPatch) (height : ℕ)
+    (columns : List ColumnLookup) : Type 0 where
+  pub at : (x : ℕ) → x < length columns →
+      IsColumnOf patches height x (slice_index_or columns x Empty)
 
 -- the composite so far, once the first n patches are put
 unfoldable pub composite_of_first : (ℕ → List ℕ) → List PlacedPatch → ℕ → ℕ → ℕ → List ℕ

@@ -32,7 +32,8 @@ list_count bytes = word_at bytes 0
 
 -- a list of items of that size is shorter than its count says
 unfoldable pub is_short : ℕ → List ℕ → Bool
-is_short size bytes = nat_lt (length bytes) COUNT_SIZE || nat_lt (length bytes) (COUNT_SIZE + size * list_count bytes)
+is_short size bytes = nat_lt (length bytes) COUNT_SIZE
+    || nat_lt (length bytes) (COUNT_SIZE + size * list_count bytes)
 
 -- the name at a place
 unfoldable pub name_at : List ℕ → ℕ → List ℕ
@@ -44,7 +45,12 @@ names_in bytes = listed (λ i. name_at bytes (COUNT_SIZE + NAME_SIZE * i)) (list
 
 -- the patch of a texture at a place
 unfoldable pub entry_at : List ℕ → ℕ → TextureEntry
-entry_at bytes place = record { x = signed_half_at bytes place; y = signed_half_at bytes (place + ENTRY_Y_AT); number = half_at bytes (place + ENTRY_NUMBER_AT) }
+entry_at bytes place =
+    record {
+      x = signed_half_at bytes place;
+      y = signed_half_at bytes (place + ENTRY_Y_AT);
+      number = half_at bytes (place + ENTRY_NUMBER_AT);
+    }
 
 unfoldable pub patch_count : List ℕ → ℕ → ℕ
 patch_count bytes place = half_at bytes (place + PATCH_COUNT_AT)
@@ -55,7 +61,8 @@ texture_in bytes place = record {
   name = name_at bytes place;
   width = half_at bytes (place + TEXTURE_WIDTH_AT);
   height = half_at bytes (place + TEXTURE_HEIGHT_AT);
-  patches = listed (λ i. entry_at bytes (place + TEXTURE_HEAD_SIZE + ENTRY_SIZE * i)) (patch_count bytes place);
+  patches = listed (λ i. entry_at bytes (place + TEXTURE_HEAD_SIZE + ENTRY_SIZE * i))
+      (patch_count bytes place);
 }
 
 -- where record i begins
@@ -82,9 +89,10 @@ unfoldable pub patch_names : Option (List ℕ) → Result (List (List ℕ)) TexR
 patch_names None = Err Pnames
 patch_names (Some bytes) = if is_short NAME_SIZE bytes then Err Pnames else Ok (names_in bytes)
 
--- a list is short, or with so many textures before it passes the limit
+-- a list is short, or its textures pass the limit behind those before it
 unfoldable pub is_bad_list : ℕ → List ℕ → Bool
-is_bad_list before bytes = is_short PLACE_SIZE bytes || nat_lt MAX_TEXTURES (before + list_count bytes)
+is_bad_list before bytes = is_short PLACE_SIZE bytes
+    || nat_lt MAX_TEXTURES (before + list_count bytes)
 
 unfoldable pub first_list : Option (List ℕ) → Result (List ℕ) TexRefusal
 first_list None = Err (Lump FIRST_LIST)
@@ -93,7 +101,8 @@ first_list (Some bytes) = if is_bad_list 0 bytes then Err (Lump FIRST_LIST) else
 -- the second list need not be there; without it no texture follows those of the first
 unfoldable pub second_list : ℕ → Option (List ℕ) → Result (Option (List ℕ)) TexRefusal
 second_list before None = Ok None
-second_list before (Some bytes) = if is_bad_list before bytes then Err (Lump SECOND_LIST) else Ok (Some bytes)
+second_list before (Some bytes) =
+    if is_bad_list before bytes then Err (Lump SECOND_LIST) else Ok (Some bytes)
 
 -- the textures of the second list, and the number of its first wrong record
 unfoldable pub later_textures : Option (List ℕ) → List Texture
@@ -114,7 +123,8 @@ unless_wrong (Some number) textures = Err (Entry number)
 
 -- the textures of both lists, refused for the first wrong record
 unfoldable pub joined_textures : List ℕ → Option (List ℕ) → Result (List Texture) TexRefusal
-joined_textures first second = unless_wrong (first_wrong first second) (textures_in first ++ later_textures second)
+joined_textures first second =
+    unless_wrong (first_wrong first second) (textures_in first ++ later_textures second)
 
 -- both lists are judged as wholes before a record of either is
 unfoldable pub both_lists : Option (List ℕ) → Option (List ℕ) → Result (List Texture) TexRefusal
@@ -123,10 +133,12 @@ both_lists texture1 texture2 =
     and_then (second_list (list_count first) texture2) (λ second. joined_textures first second))
 
 -- the lists by their three lumps, judged one after the other
-unfoldable pub texture_lists : Option (List ℕ) → Option (List ℕ) → Option (List ℕ) → Result TextureLists TexRefusal
+unfoldable pub texture_lists : Option (List ℕ) → Option (List ℕ) → Option (List ℕ) →
+    Result TextureLists TexRefusal
 texture_lists pnames texture1 texture2 =
     and_then (patch_names pnames) (λ names.
-    and_then (both_lists texture1 texture2) (λ textures. Ok (record { names = names; textures = textures })))
+    and_then (both_lists texture1 texture2)
+    (λ textures. Ok (record { names = names; textures = textures })))
 
 -- a name that begins so stands for no texture
 unfoldable pub is_no_texture : List ℕ → Bool

@@ -19,8 +19,8 @@ pub struct Patch {
 impl Patch {
     /// What the bytes of a lump say as a patch. Takes no memory.
     ///
-    /// `None` exactly where the lump is no patch: it has fewer than 8 bytes, its width is below 1, or
-    /// the places of its columns pass its end.
+    /// `None` exactly where the lump is no patch: it has fewer than 8 bytes, its width is below 1,
+    /// or the places of its columns pass its end.
     ///
     /// The original: `patch_t`, r_defs.h. This project's own: lumps that are no patch are refused.
     #[tactic(auto, unfolding(crate::specs::Patches::patch_of))]

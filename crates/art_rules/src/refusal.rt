@@ -18,13 +18,13 @@ use thiserror::Error;
 pub enum TexRefusal {
     #[error("PNAMES is absent, or shorter than its count of names needs")]
     Pnames,
-    #[error("TEXTURE{which} is absent or too short, or the textures pass {most}", most = MAX_TEXTURES)]
+    #[error("TEXTURE{which} is absent or short, or textures pass {most}", most = MAX_TEXTURES)]
     Lump { which: u64 },
-    #[error("the record of texture {number} passes the end of its lump, or has a width or height below 1")]
+    #[error("texture {number} passes the end of its lump, or has a width or height below 1")]
     Entry { number: u64 },
-    #[error("texture {texture} has a patch without a name in PNAMES, without a lump, or of wrong bytes")]
+    #[error("texture {texture} has a patch that PNAMES or the WADs lack, or that is not a patch")]
     MissingPatch { texture: u64 },
-    #[error("the composed columns of texture {texture} take more than {most} bytes", most = MAX_COMPOSITE)]
+    #[error("texture {texture}: its composed columns pass {most} bytes", most = MAX_COMPOSITE)]
     TooBig { texture: u64 },
 }
 

@@ -8,7 +8,7 @@ fn a_refusal_says_where_the_file_is_wrong(rt: HostRuntime) -> Result<(), Fail> {
     let list = TexRefusal::Lump { which: 2 };
     assert_eq!(rt;
         format!(in alloc; "{list}")?,
-        "TEXTURE2 is absent or too short, or the textures pass 32767"
+        "TEXTURE2 is absent or short, or textures pass 32767"
     );
     let rotation = SpriteRefusal::MissingRotation {
         thing: 7,

@@ -15,14 +15,12 @@ use Rattle.zone_rules.proofs.OrderLemmas.{order_then}
 use Rattle.wad_dir.specs.DirectoryView.{DirectoryView}
 use Rattle.lump_cache.specs.declared.fault.CacheFault.{CacheFault}
 use Rattle.lump_cache.specs.declared.fault.CacheFault.TheVariants.{ZoneFull, ReadFault}
-use Rattle.lump_cache.specs.Caches.{IsAtRest, IsFaithful, NoRoom, WhereFull}
+use Rattle.lump_cache.specs.Caches.{IsAtRest, IsFaithful, NoRoom, WhereFull, from_cache}
 use Rattle.level_rules.specs.declared.ThingLine.{ThingLine}
 use Rattle.lump_cache.specs.Calls.{IfFull, InOrderAt, IsFullFor, HoldContents}
 use Rattle.lump_cache.specs.Sizes.{HasSizes, StandsBeside}
 use Rattle.lump_cache.proofs.CallLemmas.{full_at, order_at}
-use Rattle.level_audit.specs.declared.fault.AuditFault.{AuditFault}
-use Rattle.level_audit.specs.declared.fault.AuditFault.TheVariants.{Refused}
-use Rattle.level_audit.specs.Faults.{above_cache}
+use Rattle.outside.specs.declared.fault.Fault.TheVariants.{Refused}
 use Rattle.scene_rules.specs.declared.refusal.AuditRefusal.{AuditRefusal}
 use Rattle.scene_rules.specs.Scenes.{SceneValue, colormap_of}
 use Rattle.level_audit.specs.Asked.{IsOfBase}
@@ -38,17 +36,17 @@ told_after {v} {w} {dir} follows faithful contents told = record {
 }
 
 -- no colormap
-pub answers_none : {B : Type 0} {value : B → SceneValue} (steady : Bool) (expected : Result SceneValue AuditRefusal) (refusal : AuditRefusal) (result : Result B AuditFault) → expected ≡ Err refusal → IsErrAnd result (λ e. e ≡ Refused refusal) → ResultIs itself steady value expected result
+pub answers_none : {B : Type 0} {value : B → SceneValue} (steady : Bool) (expected : Result SceneValue AuditRefusal) (refusal : AuditRefusal) (result : Result B (Fault AuditRefusal)) → expected ≡ Err refusal → IsErrAnd result (λ e. e ≡ Refused refusal) → ResultIs itself steady value expected result
 answers_none steady expected refusal result e is =
     let s = err_from_is_err_and result is in
     rw (s.1, s.2) (record { ok = tt; err = e })
 
 -- what is said of a zone without room for the fetched lump, said of the audit
-pub full_above : (P Q : ℕ → ℕ → Type 0) (fetched : Result (Unit {0}) CacheFault) (fault : CacheFault) (result : Result SoundValue AuditFault) → fetched ≡ Err fault → IsErrAnd result (λ e. e ≡ above_cache fault) → ((wanted widest' : ℕ) → P wanted widest' → Q wanted widest') → WhereFull fetched P → IfErr result (λ f. IfFull (itself f) Q)
+pub full_above : (P Q : ℕ → ℕ → Type 0) (fetched : Result (Unit {0}) CacheFault) (fault : CacheFault) (result : Result SoundValue (Fault AuditRefusal)) → fetched ≡ Err fault → IsErrAnd result (λ e. e ≡ from_cache fault) → ((wanted widest' : ℕ) → P wanted widest' → Q wanted widest') → WhereFull fetched P → IfErr result (λ f. IfFull (itself f) Q)
 full_above P Q fetched fault result was is then_ full =
     let s = err_from_is_err_and result is in
-    subst (λ (r : Result SoundValue AuditFault). IfErr r (λ f. IfFull (itself f) Q)) (sym (s.1 ∙ ap Err s.2)) (go fault (subst (λ (r : Result (Unit {0}) CacheFault). WhereFull r P) was full)) where
-      go : (f : CacheFault) → WhereFull {A = Unit {0}} (Err f) P → IfFull (itself (above_cache f)) Q
+    subst (λ (r : Result SoundValue (Fault AuditRefusal)). IfErr r (λ f. IfFull (itself f) Q)) (sym (s.1 ∙ ap Err s.2)) (go fault (subst (λ (r : Result (Unit {0}) CacheFault). WhereFull r P) was full)) where
+      go : (f : CacheFault) → WhereFull {A = Unit {0}} (Err f) P → IfFull (itself (from_cache f)) Q
       go ReadFault k = tt
       go (ZoneFull wanted widest') k = then_ wanted widest' k
 
@@ -73,10 +71,10 @@ module _ {v w : ShelfView} {dir : DirectoryView} {a b : Heap} (later : (contents
   answers_after {told} {value} expected result steady answers contents t = subst (λ s. ResultIs told s value (expected (lump_bytes contents dir.lumps)) result) steady (answers contents (later contents t))
 
   -- no room for a later lump
-  pub full_after : (lines : List ThingLine) (name : List ℕ) (skill : ℕ) (result : Result SoundValue AuditFault) → IfErr result (λ f. IfFull (itself f) (IsFullFor (IsReadLater w dir b lines name skill) dir b)) → IfErr result (λ f. IfFull (itself f) (IsFullAudit v dir a lines name skill))
+  pub full_after : (lines : List ThingLine) (name : List ℕ) (skill : ℕ) (result : Result SoundValue (Fault AuditRefusal)) → IfErr result (λ f. IfFull (itself f) (IsFullFor (IsReadLater w dir b lines name skill) dir b)) → IfErr result (λ f. IfFull (itself f) (IsFullAudit v dir a lines name skill))
   full_after lines name skill (Ok sound) full = tt
   full_after lines name skill (Err fault) full =
-      full_at (itself fault) (λ wanted widest' k. record { lump = k.lump; asked = λ contents t. inr (k.asked contents (later contents t)); wanted_is = k.full.wanted_is; narrow = k.full.narrow }) full
+      full_at (itself fault) (λ wanted widest' k. record { lump = k.lump; asked = λ contents t. inr (k.asked contents (later contents t)); wanted_is = k.wanted_is; narrow = k.narrow }) full
 
 -- a cache that was in order stays so through both
 pub order_after : {R E A : Type 0} {items : List Item} {a b : Heap} {i j : ℕ} (told : E → Fault R) (c : Heap) (k : ℕ) (result : Result A E) → KeepsOrder items a b i j → MatchResult result (λ _. KeepsOrder items b c j k) (λ f. InOrderAt (told f) (KeepsOrder items b c j k)) →
@@ -84,11 +82,11 @@ pub order_after : {R E A : Type 0} {items : List Item} {a b : Heap} {i j : ℕ} 
 order_after told c k (Ok found) one two = order_then one two
 order_after told c k (Err fault) one two = order_at (told fault) (λ two. order_then one two) two
 
-module _ (dir : DirectoryView) (a b : Heap) (colormap : ℕ) (result : Result SoundValue AuditFault) (same : IfOk result (λ sound. sound.scene.base.colormap ≡ colormap)) where
+module _ (dir : DirectoryView) (a b : Heap) (colormap : ℕ) (result : Result SoundValue (Fault AuditRefusal)) (same : IfOk result (λ sound. sound.scene.base.colormap ≡ colormap)) where
   -- the colormap is pinned, and nothing else
   pub rest_after : (c : Heap) → IsAtRest colormap (lump_at dir.lumps colormap).size b → ((number count : ℕ) → IsAtRest number count b → IsAtRest number count c) → IfOk result (λ sound. IsAtRest sound.scene.base.colormap (lump_at dir.lumps sound.scene.base.colormap).size c)
   rest_after c rest keeps = go result same where
-    go : (r : Result SoundValue AuditFault) → IfOk r (λ sound. sound.scene.base.colormap ≡ colormap) → IfOk r (λ sound. IsAtRest sound.scene.base.colormap (lump_at dir.lumps sound.scene.base.colormap).size c)
+    go : (r : Result SoundValue (Fault AuditRefusal)) → IfOk r (λ sound. sound.scene.base.colormap ≡ colormap) → IfOk r (λ sound. IsAtRest sound.scene.base.colormap (lump_at dir.lumps sound.scene.base.colormap).size c)
     go (Ok sound) is = subst (λ n. IsAtRest n (lump_at dir.lumps n).size c) (sym is) (keeps colormap (lump_at dir.lumps colormap).size rest)
     go (Err fault) is = tt
 
@@ -96,7 +94,7 @@ module _ (dir : DirectoryView) (a b : Heap) (colormap : ℕ) (result : Result So
   pub fits_after : (name : List ℕ) → IsAtRest colormap (lump_at dir.lumps colormap).size b → HasSizes dir.lumps b → b.size ≡ a.size → IfOk result (λ sound. (lump : ℕ) → IsOfBase dir.lumps name lump → StandsBeside dir.lumps b lump) →
       IfOk result (λ sound. (lump : ℕ) → IsOfBase dir.lumps name lump → lump ≢ sound.scene.base.colormap → block_size (lump_at dir.lumps sound.scene.base.colormap).size + block_size (lump_at dir.lumps lump).size ≤ a.size)
   fits_after name rest has size fits = go result same fits where
-    go : (r : Result SoundValue AuditFault) → IfOk r (λ sound. sound.scene.base.colormap ≡ colormap) → IfOk r (λ sound. (lump : ℕ) → IsOfBase dir.lumps name lump → StandsBeside dir.lumps b lump) →
+    go : (r : Result SoundValue (Fault AuditRefusal)) → IfOk r (λ sound. sound.scene.base.colormap ≡ colormap) → IfOk r (λ sound. (lump : ℕ) → IsOfBase dir.lumps name lump → StandsBeside dir.lumps b lump) →
         IfOk r (λ sound. (lump : ℕ) → IsOfBase dir.lumps name lump → lump ≢ sound.scene.base.colormap → block_size (lump_at dir.lumps sound.scene.base.colormap).size + block_size (lump_at dir.lumps lump).size ≤ a.size)
     go (Ok sound) is beside = λ lump asked.
         subst (λ n. lump ≢ n → block_size (lump_at dir.lumps n).size + block_size (lump_at dir.lumps lump).size ≤ a.size) (sym is)

@@ -36,7 +36,7 @@ use Rattle.level_audit.specs.Reads.{IsAfterColormap, IsOverBase, IsReadLater}
 use Rattle.level_audit.specs.Sound.{SoundValue}
 use Rattle.level_audit.proofs.NeededPatchLemmas.{wanted_patch}
 use Rattle.level_audit.proofs.NeededPictureLemmas.{needed_picture}
-use Rattle.level_audit.proofs.SceneLemmas.{IsGroundOf, IsSceneOf, colormap_there, ground_parts, same_value, scene_parts}
+use Rattle.level_audit.proofs.SceneLemmas.{IsBaseOf, IsSceneOf, colormap_there, base_parts, same_value, scene_parts}
 
 -- the reasons for which a lump is needed
 module _ (lumps : List Lump) (art : SceneArt) (lump : ℕ) where
@@ -76,8 +76,8 @@ list_lump lumps lump (inr (inl first)) = rw (last_is lumps TEXTURE1 lump first, 
 list_lump lumps lump (inr (inr second)) = rw (last_is lumps TEXTURE2 lump second, or-true) refl
 
 module _ (bytes : ℕ → List ℕ) (lumps : List Lump) (lines : List ThingLine) (name : List ℕ) (skill : ℕ) (scene : SceneValue) (parts : IsSceneOf bytes lumps lines name skill scene) (lump : ℕ) where
-  base_parts : IsGroundOf lumps name scene.base
-  base_parts = ground_parts bytes lumps name scene.base parts.base
+  base_parts : IsBaseOf lumps name scene.base
+  base_parts = base_parts bytes lumps name scene.base parts.base
 
   -- a lump of the map, of the base
   needed_map : IsLumpOfMap lumps name lump → is_needed lumps (art_of scene) lump ≡ true
@@ -156,7 +156,7 @@ module _ (bytes : ℕ → List ℕ) (lumps : List Lump) (lines : List ThingLine)
   parts_of = scene_parts bytes lumps lines name skill scene accepted
 
   colormap_is : scene.base.colormap ≡ colormap
-  colormap_is = same_value scene.base.colormap colormap (ground_parts bytes lumps name scene.base parts_of.base).colormap is
+  colormap_is = same_value scene.base.colormap colormap (base_parts bytes lumps name scene.base parts_of.base).colormap is
 
   -- a zone that does not hold COLORMAP, or COLORMAP and a further lump
   pub small_first : (size wanted : ℕ) → wanted ≡ block_size (lump_at lumps colormap).size → size < wanted → size < (sizes_of lumps scene).enough
@@ -167,7 +167,7 @@ module _ (bytes : ℕ → List ℕ) (lumps : List Lump) (lines : List ThingLine)
   pub small_later : (size wanted lump : ℕ) → IsAfterColormap bytes lumps lines name skill lump → wanted ≡ block_size (lump_at lumps lump).size → size < block_size (lump_at lumps colormap).size + wanted + MIN_FRAGMENT → size < (sizes_of lumps scene).enough
   unfolding lump_block
   small_later size wanted lump asked e l =
-      let there : scene.base.colormap < length lumps = colormap_there lumps scene.base.colormap (ground_parts bytes lumps name scene.base parts_of.base).colormap in
+      let there : scene.base.colormap < length lumps = colormap_there lumps scene.base.colormap (base_parts bytes lumps name scene.base parts_of.base).colormap in
       let block : wanted ≤ greatest_by (λ number. block_size (lump_at lumps number).size) (needed_lumps lumps (art_of scene)) = omega (arith, e, needed_block lumps scene lump there (needed_later bytes lumps lines name skill scene parts_of lump asked)) in
       let same : block_size (lump_at lumps scene.base.colormap).size ≡ block_size (lump_at lumps colormap).size = ap (λ (n : ℕ). block_size (lump_at lumps n).size) colormap_is in
       omega (arith, l, same, enough_beside lumps scene wanted block)
@@ -178,5 +178,5 @@ pub enough_after : {w : ShelfView} (dir : DirectoryView) (a b : Heap) (contents 
 enough_after dir a b contents lines name skill scene colormap (Ok sound) is accepted told rest size full = tt
 enough_after dir a b contents lines name skill scene colormap (Err fault) is accepted told rest size full =
     full_at (itself fault) (λ wanted widest' k.
-    small_later (lump_bytes contents dir.lumps) dir.lumps lines name skill scene accepted colormap is a.size wanted k.lump (k.asked contents told) k.full.wanted_is
-    (subst (λ n. n < block_size (lump_at dir.lumps colormap).size + wanted + MIN_FRAGMENT) size (k.full.room colormap (lump_at dir.lumps colormap).size rest))) full
+    small_later (lump_bytes contents dir.lumps) dir.lumps lines name skill scene accepted colormap is a.size wanted k.lump (k.asked contents told) k.wanted_is
+    (subst (λ n. n < block_size (lump_at dir.lumps colormap).size + wanted + MIN_FRAGMENT) size (k.room colormap (lump_at dir.lumps colormap).size rest))) full

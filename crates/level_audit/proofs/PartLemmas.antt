@@ -1,7 +1,7 @@
 -- What is told of a part that reads no lump.
-use Rattle.std.proofs.Common.{◌≡◌, ℕ, true, List, Option, Result, Ok, Err, refl, subst}
+use Rattle.std.proofs.Common.{◌≡◌, ℕ, true, List, Option, Result, Ok, Err, refl, sym, ap, ◌∙◌, subst}
 use Rattle.outside.specs.Shelf.{ShelfView}
-use Rattle.outside.specs.Faults.{ResultIs, from_below, itself}
+use Rattle.outside.specs.Faults.{IsAboveBy, ResultIs, fault_above, from_below, itself}
 use Rattle.zone_rules.specs.Zones.{Heap}
 use Rattle.wad_dir.specs.DirectoryView.{DirectoryView}
 use Rattle.lump_cache.specs.Calls.{ReadsLumps}
@@ -20,9 +20,21 @@ use Rattle.scene_rules.specs.declared.refusal.SceneRefusal.{SceneRefusal}
 use Rattle.scene_rules.specs.Middles.{bad_middle}
 use Rattle.scene_rules.specs.Scenes.{checked, faces_in, texture_by}
 use Rattle.level_audit.specs.Faults.{above_scene}
-use Rattle.level_audit.proofs.FaultLemmas.{scene_above}
+use Rattle.std.proofs.lemmas.Result.{err_from_is_err_and}
+use Rattle.outside.specs.declared.fault.Fault.{Fault}
+use Rattle.outside.proofs.ThroughLemmas.{IsThrough, above_is}
 use Rattle.level_audit.specs.declared.names.ReadFaces.{ReadFaces}
 use Rattle.level_audit.specs.Scenes.{faces_of}
+
+-- a call of a layer below whose refusal is named here (`fault.above`)
+through_above : {B R Q : Type 0} (lift : R → Q) (one : Result B (Fault R)) (result : Result B (Fault Q)) → IsThrough (λ e f. IsAboveBy (λ refusal named. named ≡ lift refusal) e f) one result → result ≡ result_above (fault_above lift) one
+through_above lift (Ok x) result is = is
+through_above lift (Err e) result is = let s = err_from_is_err_and result is in s.1 ∙ ap Err (above_is lift e s.0 s.2)
+
+pub above_reads : {A B R Q : Type 0} {v w : ShelfView} {dir : DirectoryView} {a b : Heap} {wants : ℕ → Type 0} {value : B → A} {expected : (ℕ → List ℕ) → Result A R} (lift : R → Q) (one : Result B (Fault R)) (result : Result B (Fault Q)) →
+    IsThrough (λ e f. IsAboveBy (λ refusal named. named ≡ lift refusal) e f) one result → ReadsLumps itself v w dir a b wants value expected one → ReadsLumps itself v w dir a b wants value (λ bytes. from_below lift (expected bytes)) result
+above_reads {v} {w} {dir} {a} {b} {wants} {value} {expected} lift one result is reads =
+    subst (λ r. ReadsLumps itself v w dir a b wants value (λ bytes. from_below lift (expected bytes)) r) (sym (through_above lift one result is)) (reads_above lift (fault_above lift) (λ fault. refl) one reads)
 
 module _ {A B : Type 0} {value : B → A} {expected : Result A SceneRefusal} (view : ShelfView) (dir : DirectoryView) (z : Heap) (wants : ℕ → Type 0) where
   -- the shelf and the cache are as before
@@ -33,7 +45,7 @@ module _ {A B : Type 0} {value : B → A} {expected : Result A SceneRefusal} (vi
 
   -- in the words of an audit
   pub tells_part : (result : Result B SceneFault) → ResultIs scene_fault true value expected result → ReadsLumps itself view view dir z z wants value (λ bytes. from_below Scene expected) (result_above above_scene result)
-  tells_part result answers = reads_above Scene above_scene scene_above result (tells_answered result answers)
+  tells_part result answers = reads_above Scene above_scene (λ fault. refl) result (tells_answered result answers)
 
 -- the last checks, over segs and sides that are lent
 pub checks_told : (view : ShelfView) (dir : DirectoryView) (z : Heap) (wants : ℕ → Type 0) (placed : List Placed) (prepared : List (Option PreparedTexture)) (segs lent : List Seg) (sides seen : List SideTextures) (result : Result (Unit {0}) SceneFault) → lent ≡ segs → seen ≡ sides →

@@ -1,4 +1,4 @@
--- A scene by its steps: the base with the first palette and the rest over it, and what an accepted
+-- A scene by its steps: the base and the rest over it, and what an accepted
 -- scene is made of.
 use Rattle.std.proofs.Common.{◌≡◌, ◌<◌, ℕ, Bool, true, false, List, length, Option, Some, None, Result, Ok, Err, refl, sym, ap, subst, ◌∙◌, take}
 use Rattle.std.specs.Option.{ok_or, option_and_then}
@@ -18,11 +18,9 @@ use Rattle.scene_rules.specs.declared.refusal.AuditRefusal.{AuditRefusal}
 use Rattle.scene_rules.specs.declared.refusal.AuditRefusal.TheVariants.{Art, Map, Texture, Sprite, Scene}
 use Rattle.scene_rules.specs.Middles.{bad_middle}
 use Rattle.scene_rules.specs.Places.{placed_things}
-use Rattle.scene_rules.specs.Scenes.{Faces, LevelBase, SceneValue, book_in, checked, colormap_of, faces_in, base_in, base_over, if_long, label_of, level_in, lists_in, long_lump, playpal_of, scene_in, scene_on, scene_over, texture_by}
+use Rattle.scene_rules.specs.Scenes.{Faces, LevelBase, SceneValue, book_in, checked, colormap_of, faces_in, base_in, base_over, if_long, label_of, level_in, lists_in, long_lump, playpal_of, scene_in, scene_on, scene_over, scene_with, texture_by}
 use Rattle.scene_rules.specs.Sides.{is_wanted_texture}
 use Rattle.map_rules.specs.Levels.{level_of}
-use Rattle.level_audit.specs.Bases.{base_and_palette}
-use Rattle.level_audit.specs.Scenes.{given_palette}
 
 -- a step that was passed
 pub and_then-ok : {A B R : Type 0} (r : Result A R) (next : A → Result B R) (y : B) → and_then r next ≡ Ok y → (x : A) × (r ≡ Ok x) × (next x ≡ Ok y)
@@ -62,85 +60,48 @@ unfolding scene_in base_in
 scene_in-none bytes lumps lines name skill refusal e = rw e refl
 
 -- what a scene is made of
-abbrev made_scene : (ℕ → List ℕ) → LevelBase → Faces → List Placed → List (Option PreparedTexture) → List Frame → SceneValue
-made_scene bytes base faces placed prepared book = record { base = base; faces = faces; prepared = prepared; placed = placed; book = book; palette = take PALETTE_SIZE (bytes base.playpal) }
+abbrev made_scene : LevelBase → Faces → List Placed → List (Option PreparedTexture) → List Frame → SceneValue
+made_scene base faces placed prepared book = record { base = base; faces = faces; prepared = prepared; placed = placed; book = book }
 
 module _ (bytes : ℕ → List ℕ) (lumps : List Lump) (base : LevelBase) (faces : Faces) (placed : List Placed) (prepared : List (Option PreparedTexture)) where
-  -- its palette is the one that was read before
-  over_given : given_palette (take PALETTE_SIZE (bytes base.playpal)) (scene_over bytes lumps base faces placed prepared) ≡ scene_over bytes lumps base faces placed prepared
-  unfolding scene_over given_palette
-  over_given = go (from_below Sprite (book_in bytes lumps placed)) (from_below Scene (checked placed (bad_middle (texture_by prepared) base.level.segs faces.sides))) where
-    go : (book : Result (List Frame) AuditRefusal) (done : Result (Unit {0}) AuditRefusal) →
-        given_palette (take PALETTE_SIZE (bytes base.playpal)) (and_then book (λ book. and_then done (λ done. Ok (made_scene bytes base faces placed prepared book)))) ≡ and_then book (λ book. and_then done (λ done. Ok (made_scene bytes base faces placed prepared book)))
-    go (Ok book) (Ok done) = refl
-    go (Ok book) (Err refusal) = refl
-    go (Err refusal) done = refl
-
   -- its book is that of the placed things
-  over_parts : (scene : SceneValue) → scene_over bytes lumps base faces placed prepared ≡ Ok scene → (book : List Frame) × (book_in bytes lumps placed ≡ Ok book) × (made_scene bytes base faces placed prepared book ≡ scene)
+  over_parts : (scene : SceneValue) → scene_over bytes lumps base faces placed prepared ≡ Ok scene → (book : List Frame) × (book_in bytes lumps placed ≡ Ok book) × (made_scene base faces placed prepared book ≡ scene)
   unfolding scene_over
   over_parts scene e =
       let done = from_below Scene (checked placed (bad_middle (texture_by prepared) base.level.segs faces.sides)) in
-      let a = and_then-ok (from_below Sprite (book_in bytes lumps placed)) (λ book. and_then done (λ done. Ok (made_scene bytes base faces placed prepared book))) scene e in
-      let b = and_then-ok done (λ done. Ok (made_scene bytes base faces placed prepared a.0)) scene a.2 in
-      (a.0, from_below-ok Sprite (book_in bytes lumps placed) a.0 a.1, let made : made_scene bytes base faces placed prepared a.0 ≡ scene = cc in made)
+      let a = and_then-ok (from_below Sprite (book_in bytes lumps placed)) (λ book. and_then done (λ done. Ok (made_scene base faces placed prepared book))) scene e in
+      let b = and_then-ok done (λ done. Ok (made_scene base faces placed prepared a.0)) scene a.2 in
+      (a.0, from_below-ok Sprite (book_in bytes lumps placed) a.0 a.1, let made : made_scene base faces placed prepared a.0 ≡ scene = cc in made)
 
 module _ (bytes : ℕ → List ℕ) (lumps : List Lump) (lines : List ThingLine) (name : List ℕ) (skill : ℕ) where
-  -- likewise of the scene over a base
-  on_given : (base : LevelBase) → given_palette (take PALETTE_SIZE (bytes base.playpal)) (scene_on bytes lumps lines skill name base) ≡ scene_on bytes lumps lines skill name base
-  unfolding scene_on given_palette
-  on_given base = by_faces (from_below Scene (faces_in lumps name base.level base.lists)) where
-    by_textures : (faces : Faces) (r : Result (List (Option PreparedTexture)) AuditRefusal) → given_palette (take PALETTE_SIZE (bytes base.playpal)) (and_then r (λ prepared. scene_over bytes lumps base faces (placed_things base.level lines skill) prepared)) ≡ and_then r (λ prepared. scene_over bytes lumps base faces (placed_things base.level lines skill) prepared)
-    by_textures faces (Ok prepared) = over_given bytes lumps base faces (placed_things base.level lines skill) prepared
-    by_textures faces (Err refusal) = refl
-
-    by_faces : (r : Result Faces AuditRefusal) →
-        given_palette (take PALETTE_SIZE (bytes base.playpal)) (and_then r (λ faces. and_then (from_below Texture (prepared_textures (last_of lumps) bytes base.lists (is_wanted_texture faces.sides faces.sky))) (λ prepared. scene_over bytes lumps base faces (placed_things base.level lines skill) prepared)))
-        ≡ and_then r (λ faces. and_then (from_below Texture (prepared_textures (last_of lumps) bytes base.lists (is_wanted_texture faces.sides faces.sky))) (λ prepared. scene_over bytes lumps base faces (placed_things base.level lines skill) prepared))
-    by_faces (Ok faces) = by_textures faces (from_below Texture (prepared_textures (last_of lumps) bytes base.lists (is_wanted_texture faces.sides faces.sky)))
-    by_faces (Err refusal) = refl
-
-  -- the base with the first palette was refused
-  pub scene_in-stop : (refusal : AuditRefusal) → base_and_palette bytes lumps name ≡ Err refusal → scene_in bytes lumps lines name skill ≡ Err refusal
-  unfolding scene_in base_and_palette
-  scene_in-stop refusal e = go (base_in bytes lumps name) e where
-    go : (r : Result LevelBase AuditRefusal) → and_then {B = LevelBase × List ℕ} r (λ base. Ok (base, take PALETTE_SIZE (bytes base.playpal))) ≡ Err refusal → and_then r (scene_on bytes lumps lines skill name) ≡ Err refusal
-    go (Ok base) is = cc
-    go (Err reason) is = let same : reason ≡ refusal = cc in ap Err same
+  -- the base was refused
+  pub scene_in-stop : (refusal : AuditRefusal) → base_in bytes lumps name ≡ Err refusal → scene_in bytes lumps lines name skill ≡ Err refusal
+  unfolding scene_in
+  scene_in-stop refusal e = ap (λ r. and_then r (scene_on bytes lumps lines skill name)) e
 
   -- it was found
-  pub base_known : (base : LevelBase) (palette : List ℕ) → base_and_palette bytes lumps name ≡ Ok (base, palette) → (base_in bytes lumps name ≡ Ok base) × (take PALETTE_SIZE (bytes base.playpal) ≡ palette)
-  unfolding base_and_palette
-  base_known base palette e =
-      let p = and_then-ok (base_in bytes lumps name) (λ base. Ok (base, take PALETTE_SIZE (bytes base.playpal))) (base, palette) e in
-      let pair : (p.0, take PALETTE_SIZE (bytes p.0.playpal)) ≡ (base, palette) = cc in
-      let same : p.0 ≡ base = ap (λ (x : LevelBase × List ℕ). x.0) pair in
-      (p.1 ∙ ap Ok same, ap (λ (b : LevelBase). take PALETTE_SIZE (bytes b.playpal)) (sym same) ∙ ap (λ (x : LevelBase × List ℕ). x.1) pair)
-
-  pub scene_in-more : (base : LevelBase) (palette : List ℕ) → base_and_palette bytes lumps name ≡ Ok (base, palette) → scene_in bytes lumps lines name skill ≡ given_palette palette (scene_on bytes lumps lines skill name base)
+  pub scene_in-more : (base : LevelBase) → base_in bytes lumps name ≡ Ok base → scene_in bytes lumps lines name skill ≡ scene_on bytes lumps lines skill name base
   unfolding scene_in
-  scene_in-more base palette e =
-      let told = base_known base palette e in
-      ap (λ r. and_then r (scene_on bytes lumps lines skill name)) told.0 ∙ sym (on_given base) ∙ ap (λ (p : List ℕ). given_palette p (scene_on bytes lumps lines skill name base)) told.1
+  scene_in-more base e = ap (λ r. and_then r (scene_on bytes lumps lines skill name)) e
 
 -- what the directory tells of a base
-pub record IsGroundOf (lumps : List Lump) (name : List ℕ) (base : LevelBase) : Type 0 where
+pub record IsBaseOf (lumps : List Lump) (name : List ℕ) (base : LevelBase) : Type 0 where
   pub colormap : colormap_of lumps ≡ Ok base.colormap
   pub playpal : playpal_of lumps ≡ Ok base.playpal
   pub label : label_of lumps name ≡ Ok base.label
 
-pub ground_parts : (bytes : ℕ → List ℕ) (lumps : List Lump) (name : List ℕ) (base : LevelBase) → base_in bytes lumps name ≡ Ok base → IsGroundOf lumps name base
+pub base_parts : (bytes : ℕ → List ℕ) (lumps : List Lump) (name : List ℕ) (base : LevelBase) → base_in bytes lumps name ≡ Ok base → IsBaseOf lumps name base
 unfolding base_in base_over level_in
-ground_parts bytes lumps name base e =
+base_parts bytes lumps name base e =
     let a = and_then-ok (from_below Art (colormap_of lumps)) _ base e in
     let b = and_then-ok (from_below Art (playpal_of lumps)) _ base a.2 in
     let c = and_then-ok (from_below Map (level_in bytes lumps name)) _ base b.2 in
     let d = and_then-ok (from_below Texture (lists_in bytes lumps)) _ base c.2 in
     let found = and_then-ok (label_of lumps name) _ c.0 (from_below-ok Map (level_in bytes lumps name) c.0 c.1) in
     let level = and_then-ok (level_of _) _ c.0 found.2 in
-    let made : ◌≡◌ {A = LevelBase} (record { colormap = a.0; playpal = b.0; label = c.0.0; level = c.0.1; lists = d.0 }) base = cc in
+    let made : ◌≡◌ {A = LevelBase} (record { colormap = a.0; playpal = b.0; palette = take PALETTE_SIZE (bytes b.0); label = c.0.0; level = c.0.1; lists = d.0 }) base = cc in
     let pair : (found.0, level.0) ≡ c.0 = cc in
-    subst (IsGroundOf lumps name) made (record { colormap = from_below-ok Art (colormap_of lumps) a.0 a.1; playpal = from_below-ok Art (playpal_of lumps) b.0 b.1; label = found.1 ∙ ap (λ (x : ℕ × _). Ok x.0) pair })
+    subst (IsBaseOf lumps name) made (record { colormap = from_below-ok Art (colormap_of lumps) a.0 a.1; playpal = from_below-ok Art (playpal_of lumps) b.0 b.1; label = found.1 ∙ ap (λ (x : ℕ × _). Ok x.0) pair })
 
 -- what an accepted scene is made of
 pub record IsSceneOf (bytes : ℕ → List ℕ) (lumps : List Lump) (lines : List ThingLine) (name : List ℕ) (skill : ℕ) (scene : SceneValue) : Type 0 where
@@ -157,7 +118,7 @@ module _ (bytes : ℕ → List ℕ) (lumps : List Lump) (lines : List ThingLine)
       subst (IsSceneOf bytes lumps lines name skill) book.2 (record { base = one; faces = two; prepared = three; book = book.1 })
 
   pub scene_parts : scene_in bytes lumps lines name skill ≡ Ok scene → IsSceneOf bytes lumps lines name skill scene
-  unfolding scene_in scene_on
+  unfolding scene_in scene_on scene_with
   scene_parts e =
       let a = and_then-ok (base_in bytes lumps name) (scene_on bytes lumps lines skill name) scene e in
       let b = and_then-ok (from_below Scene (faces_in lumps name a.0.level a.0.lists)) _ scene a.2 in

@@ -1,4 +1,4 @@
--- A scene over its base, a step at a time, with a palette that was read before.
+-- A scene over its base, a step at a time.
 use Rattle.std.proofs.Common.{◌≡◌, ℕ, List, Option, Ok, Err, refl, sym, ap, ◌∙◌}
 use Rattle.outside.specs.Faults.{and_then, from_below}
 use Rattle.lump_rules.specs.declared.wad.Lump.{Lump}
@@ -12,53 +12,52 @@ use Rattle.scene_rules.specs.declared.refusal.AuditRefusal.{AuditRefusal}
 use Rattle.scene_rules.specs.declared.refusal.AuditRefusal.TheVariants.{Scene, Sprite, Texture}
 use Rattle.scene_rules.specs.Middles.{bad_middle}
 use Rattle.scene_rules.specs.Places.{placed_things}
-use Rattle.scene_rules.specs.Scenes.{Faces, LevelBase, book_in, checked, faces_in, scene_on, scene_over, texture_by}
+use Rattle.scene_rules.specs.Scenes.{Faces, LevelBase, book_in, checked, faces_in, scene_on, scene_over, scene_with, texture_by}
 use Rattle.scene_rules.specs.Sides.{is_wanted_texture}
-use Rattle.level_audit.specs.Scenes.{given_palette, scene_from}
 
-module _ (palette : List ℕ) (bytes : ℕ → List ℕ) (lumps : List Lump) (g : LevelBase) (faces : Faces) where
+module _ (bytes : ℕ → List ℕ) (lumps : List Lump) (g : LevelBase) (faces : Faces) where
   module _ (placed : List Placed) (prepared : List (Option PreparedTexture)) where
     -- the book is refused
-    pub scene_over-unread : (refusal : AuditRefusal) → from_below Sprite (book_in bytes lumps placed) ≡ Err refusal → given_palette palette (scene_over bytes lumps g faces placed prepared) ≡ Err refusal
-    unfolding scene_over given_palette
+    pub scene_over-unread : (refusal : AuditRefusal) → from_below Sprite (book_in bytes lumps placed) ≡ Err refusal → scene_over bytes lumps g faces placed prepared ≡ Err refusal
+    unfolding scene_over
     scene_over-unread refusal e = rw e refl
 
     -- a check refuses
     pub scene_over-unsound : (book : List Frame) (refusal : AuditRefusal) → from_below Sprite (book_in bytes lumps placed) ≡ Ok book →
-        from_below Scene (checked placed (bad_middle (texture_by prepared) g.level.segs faces.sides)) ≡ Err refusal → given_palette palette (scene_over bytes lumps g faces placed prepared) ≡ Err refusal
-    unfolding scene_over given_palette
+        from_below Scene (checked placed (bad_middle (texture_by prepared) g.level.segs faces.sides)) ≡ Err refusal → scene_over bytes lumps g faces placed prepared ≡ Err refusal
+    unfolding scene_over
     scene_over-unsound book refusal e f = rw (e, f) refl
 
     -- the scene
     pub scene_over-sound : (book : List Frame) → from_below Sprite (book_in bytes lumps placed) ≡ Ok book →
         from_below Scene (checked placed (bad_middle (texture_by prepared) g.level.segs faces.sides)) ≡ Ok tt →
-        given_palette palette (scene_over bytes lumps g faces placed prepared) ≡ Ok (record { base = g; faces = faces; prepared = prepared; placed = placed; book = book; palette = palette })
-    unfolding scene_over given_palette
+        scene_over bytes lumps g faces placed prepared ≡ Ok (record { base = g; faces = faces; prepared = prepared; placed = placed; book = book })
+    unfolding scene_over
     scene_over-sound book e f = rw (e, f) refl
 
   module _ (lines : List ThingLine) (skill : ℕ) where
     -- the textures are refused
-    pub scene_from-stop : (refusal : AuditRefusal) → from_below Texture (prepared_textures (last_of lumps) bytes g.lists (is_wanted_texture faces.sides faces.sky)) ≡ Err refusal →
-        given_palette palette (scene_from bytes lumps lines skill g faces) ≡ Err refusal
-    unfolding scene_from given_palette
-    scene_from-stop refusal e = rw e refl
+    pub scene_with-stop : (refusal : AuditRefusal) → from_below Texture (prepared_textures (last_of lumps) bytes g.lists (is_wanted_texture faces.sides faces.sky)) ≡ Err refusal →
+        scene_with bytes lumps lines skill g faces ≡ Err refusal
+    unfolding scene_with
+    scene_with-stop refusal e = rw e refl
 
     -- the textures are prepared, with the same lists, and the things are placed
-    pub scene_from-more : (prepared : List (Option PreparedTexture)) (lists : TextureLists) (placed : List Placed) → from_below Texture (prepared_textures (last_of lumps) bytes g.lists (is_wanted_texture faces.sides faces.sky)) ≡ Ok prepared →
-        lists ≡ g.lists → placed ≡ placed_things g.level lines skill → given_palette palette (scene_from bytes lumps lines skill g faces) ≡ given_palette palette (scene_over bytes lumps (record g { lists = lists }) faces placed prepared)
-    unfolding scene_from
-    scene_from-more prepared lists placed e same are =
-        ap (λ r. given_palette palette (and_then r (scene_over bytes lumps g faces (placed_things g.level lines skill)))) e
-        ∙ ap (λ (l : TextureLists). given_palette palette (scene_over bytes lumps (record g { lists = l }) faces (placed_things g.level lines skill) prepared)) (sym same)
-        ∙ ap (λ (p : List Placed). given_palette palette (scene_over bytes lumps (record g { lists = lists }) faces p prepared)) (sym are)
+    pub scene_with-more : (prepared : List (Option PreparedTexture)) (lists : TextureLists) (placed : List Placed) → from_below Texture (prepared_textures (last_of lumps) bytes g.lists (is_wanted_texture faces.sides faces.sky)) ≡ Ok prepared →
+        lists ≡ g.lists → placed ≡ placed_things g.level lines skill → scene_with bytes lumps lines skill g faces ≡ scene_over bytes lumps (record g { lists = lists }) faces placed prepared
+    unfolding scene_with
+    scene_with-more prepared lists placed e same are =
+        ap (λ r. and_then r (scene_over bytes lumps g faces (placed_things g.level lines skill))) e
+        ∙ ap (λ (l : TextureLists). scene_over bytes lumps (record g { lists = l }) faces (placed_things g.level lines skill) prepared) (sym same)
+        ∙ ap (λ (p : List Placed). scene_over bytes lumps (record g { lists = lists }) faces p prepared) (sym are)
 
-module _ (palette : List ℕ) (bytes : ℕ → List ℕ) (lumps : List Lump) (lines : List ThingLine) (skill : ℕ) (name : List ℕ) (g : LevelBase) where
+module _ (bytes : ℕ → List ℕ) (lumps : List Lump) (lines : List ThingLine) (skill : ℕ) (name : List ℕ) (g : LevelBase) where
   -- the faces are refused
-  pub scene_on-stop : (refusal : AuditRefusal) → from_below Scene (faces_in lumps name g.level g.lists) ≡ Err refusal → given_palette palette (scene_on bytes lumps lines skill name g) ≡ Err refusal
-  unfolding scene_on given_palette
+  pub scene_on-stop : (refusal : AuditRefusal) → from_below Scene (faces_in lumps name g.level g.lists) ≡ Err refusal → scene_on bytes lumps lines skill name g ≡ Err refusal
+  unfolding scene_on
   scene_on-stop refusal e = rw e refl
 
   -- the faces are found
-  pub scene_on-more : (faces : Faces) → from_below Scene (faces_in lumps name g.level g.lists) ≡ Ok faces → given_palette palette (scene_on bytes lumps lines skill name g) ≡ given_palette palette (scene_from bytes lumps lines skill g faces)
-  unfolding scene_on scene_from
+  pub scene_on-more : (faces : Faces) → from_below Scene (faces_in lumps name g.level g.lists) ≡ Ok faces → scene_on bytes lumps lines skill name g ≡ scene_with bytes lumps lines skill g faces
+  unfolding scene_on scene_with
   scene_on-more faces e = rw e refl

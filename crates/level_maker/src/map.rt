@@ -4,7 +4,7 @@ ghost use Rattle.made_rules.specs.Bytes.{records};
 ghost use Rattle.made_rules.specs.Maps.{thing_bytes, line_flags, line_bytes, side_bytes, middle_name, inner_name, has_grate, wall_name, vertex_bytes, seg_bytes, leaf_bytes};
 
 use crate::bytes::{put_half, put_halves};
-use crate::cells::{column_of, corner, edge_angle, is_inner, next_edge, row_of, side_across};
+use crate::cells::{made_column, corner, edge_angle, is_inner, next_edge, made_row, side_across};
 use made_rules::{CELL_SIZE, EDGES, LEVEL_THING, ONE_SIDED, THING_OPTIONS, TWO_SIDED};
 use std::alloc::{AllocError, Global};
 
@@ -31,9 +31,9 @@ fn put_thing(lump: &mut Vec<u8>, side: u32, cell: u32) -> Result<(), AllocError>
     requires cell { cell < 2 ^ 16 }
     ensures { OnOk result (lump.new.items ≡ lump.old.items ++ thing_bytes side cell) }
 {
-    let x = CELL_SIZE * column_of(side, cell) + CELL_SIZE / 2;
-    let y = CELL_SIZE * row_of(side, cell) + CELL_SIZE / 2;
-    let angle = 45 * ((column_of(side, cell) + row_of(side, cell)) % 8);
+    let x = CELL_SIZE * made_column(side, cell) + CELL_SIZE / 2;
+    let y = CELL_SIZE * made_row(side, cell) + CELL_SIZE / 2;
+    let angle = 45 * ((made_column(side, cell) + made_row(side, cell)) % 8);
     put_halves(lump, &[x, y, angle, LEVEL_THING, THING_OPTIONS])
 }
 
@@ -142,7 +142,7 @@ fn has_grate(side: u32, cell: u32, edge: u32) -> bool
     requires cell { cell < 2 ^ 16 }
     ensures { result ≡ has_grate side cell edge }
 {
-    edge % 2 == 1 && (column_of(side, cell) / 2 + row_of(side, cell) / 2) % 2 == 1
+    edge % 2 == 1 && (made_column(side, cell) / 2 + made_row(side, cell) / 2) % 2 == 1
 }
 
 #[tactic(auto, unfolding(made_rules::specs::Maps::wall_name))]
@@ -151,7 +151,7 @@ fn wall_name(side: u32, cell: u32) -> [u8; 8]
     requires cell { cell < 2 ^ 16 }
     ensures { result ≡ wall_name side cell }
 {
-    let odd = (column_of(side, cell) + row_of(side, cell)) % 2 == 1;
+    let odd = (made_column(side, cell) + made_row(side, cell)) % 2 == 1;
     if odd {
         *b"WALL2\0\0\0"
     } else {

@@ -4,10 +4,8 @@ ghost use Rattle.made_rules.specs.Bytes.{records};
 ghost use Rattle.made_rules.specs.Texts.{path_place, path_angle, made_path_row, made_path};
 
 use itoa::Buffer;
-use made_rules::{
-    ANGLE_STEP, EAST_ROOMS, EAST_STEPS, FREE_STEPS, MAX_NUMBER, NORTH_ROOMS, NORTH_STEPS, ONE,
-    ROOM_SIZE, VIEWS_PER_NUMBER, WALL_DISTANCE,
-};
+use made_rules::{ANGLE_STEP, EAST_ROOMS, EAST_STEPS, FREE_STEPS, MAX_NUMBER, NORTH_ROOMS, NORTH_STEPS, ROOM_SIZE, VIEWS_PER_NUMBER, WALL_DISTANCE};
+use view_rules::ONE;
 use std::alloc::{AllocError, Global};
 
 /// The bytes of the path of number n: its header and 3 n rows, points in 16.16 map units and angles

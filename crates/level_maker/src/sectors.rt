@@ -4,7 +4,7 @@ ghost use Rattle.made_rules.specs.Bytes.{records};
 ghost use Rattle.made_rules.specs.Maps.{sector_bytes, floor_height, ceiling_height, sector_light, floor_flat, has_made_sky, ceiling_name, flat_name};
 
 use crate::bytes::put_halves;
-use crate::cells::{column_of, row_of};
+use crate::cells::{made_column, made_row};
 use made_rules::FLATS;
 use std::alloc::{AllocError, Global};
 
@@ -43,7 +43,7 @@ fn floor_height(side: u32, cell: u32) -> u32
     requires cell { cell < 2 ^ 16 }
     ensures { result ≡ floor_height side cell }
 {
-    8 * ((column_of(side, cell) + 2 * row_of(side, cell)) % 4)
+    8 * ((made_column(side, cell) + 2 * made_row(side, cell)) % 4)
 }
 
 #[tactic(auto, unfolding(made_rules::specs::Maps::ceiling_height))]
@@ -52,7 +52,7 @@ fn ceiling_height(side: u32, cell: u32) -> u32
     requires cell { cell < 2 ^ 16 }
     ensures { result ≡ ceiling_height side cell }
 {
-    128 + 16 * ((2 * column_of(side, cell) + row_of(side, cell)) % 3)
+    128 + 16 * ((2 * made_column(side, cell) + made_row(side, cell)) % 3)
 }
 
 #[tactic(auto, unfolding(made_rules::specs::Maps::sector_light))]
@@ -61,7 +61,7 @@ fn sector_light(side: u32, cell: u32) -> u32
     requires cell { cell < 2 ^ 16 }
     ensures { result ≡ sector_light side cell }
 {
-    96 + 16 * ((column_of(side, cell) + row_of(side, cell)) % 4)
+    96 + 16 * ((made_column(side, cell) + made_row(side, cell)) % 4)
 }
 
 // Which of the four flats the floor has.
@@ -72,7 +72,7 @@ fn floor_flat(side: u32, cell: u32) -> u32
     ensures value { result ≡ floor_flat side cell }
     ensures within { result < FLATS }
 {
-    (column_of(side, cell) + row_of(side, cell)) % FLATS
+    (made_column(side, cell) + made_row(side, cell)) % FLATS
 }
 
 #[tactic(auto, unfolding(made_rules::specs::Maps::has_made_sky))]
@@ -81,7 +81,7 @@ fn has_made_sky(side: u32, cell: u32) -> bool
     requires cell { cell < 2 ^ 16 }
     ensures { result ≡ has_made_sky side cell }
 {
-    (column_of(side, cell) / 2 + row_of(side, cell) / 2) % 3 == 2
+    (made_column(side, cell) / 2 + made_row(side, cell) / 2) % 3 == 2
 }
 
 #[tactic(auto, unfolding(made_rules::specs::Maps::ceiling_name))]

@@ -3,7 +3,7 @@ ghost use Rattle.std.specs.Prelude.{◌≡◌, ◌<◌, ◌≤◌, ◌+◌, ◌*
 ghost use Rattle.map_rules.specs.Fields.{record_at, records_in};
 ghost use Rattle.map_rules.specs.Records.{box_at, child_at, child_of, leaf_in, line_at, line_in, node_in, sector_in, seg_in, side_in, thing_in, vertex_in};
 
-use crate::fields::{angle_at, fixed_at, name_at, signed_at, word_at};
+use crate::fields::{angle_field, fixed_at, name_field, signed_half_at, half_at};
 use level_rules::{Box4, Child, Node, Partition4, Sector, Side, Thing};
 use map_rules::layout::*;
 use map_rules::{LEAF_BIT, MAX_RECORDS, MapLeaf, MapLine, MapSeg, MapVertex};
@@ -66,9 +66,9 @@ impl MapRecord for Thing {
         Thing {
             x: fixed_at(entry, THING_X),
             y: fixed_at(entry, THING_Y),
-            angle: signed_at(entry, THING_ANGLE),
-            kind: word_at(entry, THING_KIND),
-            options: word_at(entry, THING_OPTIONS),
+            angle: signed_half_at(entry, THING_ANGLE),
+            kind: half_at(entry, THING_KIND),
+            options: half_at(entry, THING_OPTIONS),
         }
     }
 
@@ -90,9 +90,9 @@ impl MapRecord for MapLine {
     #[tactic(auto, unfolding(map_rules::specs::Records::line_in))]
     fn read(entry: &[u8]) -> MapLine {
         MapLine {
-            flags: word_at(entry, LINE_FLAGS),
-            front: word_at(entry, LINE_FRONT),
-            back: word_at(entry, LINE_BACK),
+            flags: half_at(entry, LINE_FLAGS),
+            front: half_at(entry, LINE_FRONT),
+            back: half_at(entry, LINE_BACK),
         }
     }
 
@@ -116,10 +116,10 @@ impl MapRecord for Side {
         Side {
             x_offset: fixed_at(entry, SIDE_X_OFFSET),
             y_offset: fixed_at(entry, SIDE_Y_OFFSET),
-            top: name_at(entry, SIDE_TOP),
-            bottom: name_at(entry, SIDE_BOTTOM),
-            middle: name_at(entry, SIDE_MIDDLE),
-            sector: word_at(entry, SIDE_SECTOR),
+            top: name_field(entry, SIDE_TOP),
+            bottom: name_field(entry, SIDE_BOTTOM),
+            middle: name_field(entry, SIDE_MIDDLE),
+            sector: half_at(entry, SIDE_SECTOR),
         }
     }
 
@@ -164,11 +164,11 @@ impl MapRecord for MapSeg {
     #[tactic(auto, unfolding(map_rules::specs::Records::seg_in))]
     fn read(entry: &[u8]) -> MapSeg {
         MapSeg {
-            start: word_at(entry, SEG_START),
-            end: word_at(entry, SEG_END),
-            angle: angle_at(entry, SEG_ANGLE),
-            line: word_at(entry, SEG_LINE),
-            side: word_at(entry, SEG_SIDE),
+            start: half_at(entry, SEG_START),
+            end: half_at(entry, SEG_END),
+            angle: angle_field(entry, SEG_ANGLE),
+            line: half_at(entry, SEG_LINE),
+            side: half_at(entry, SEG_SIDE),
             offset: fixed_at(entry, SEG_OFFSET),
         }
     }
@@ -191,8 +191,8 @@ impl MapRecord for MapLeaf {
     #[tactic(auto, unfolding(map_rules::specs::Records::leaf_in))]
     fn read(entry: &[u8]) -> MapLeaf {
         MapLeaf {
-            count: word_at(entry, LEAF_COUNT),
-            first: word_at(entry, LEAF_FIRST),
+            count: half_at(entry, LEAF_COUNT),
+            first: half_at(entry, LEAF_FIRST),
         }
     }
 
@@ -240,9 +240,9 @@ impl MapRecord for Sector {
         Sector {
             floor: fixed_at(entry, SECTOR_FLOOR),
             ceiling: fixed_at(entry, SECTOR_CEILING),
-            floor_name: name_at(entry, SECTOR_FLOOR_NAME),
-            ceiling_name: name_at(entry, SECTOR_CEILING_NAME),
-            light: signed_at(entry, SECTOR_LIGHT),
+            floor_name: name_field(entry, SECTOR_FLOOR_NAME),
+            ceiling_name: name_field(entry, SECTOR_CEILING_NAME),
+            light: signed_half_at(entry, SECTOR_LIGHT),
         }
     }
 
@@ -283,7 +283,7 @@ fn child_at(entry: &[u8], offset: usize) -> Child
     requires { offset + WORD_SIZE ≤ length entry.now }
     ensures { result ≡ child_at entry.now offset }
 {
-    child_of(word_at(entry, offset))
+    child_of(half_at(entry, offset))
 }
 
 // The child of a number, in which the leaf bit marks a leaf.

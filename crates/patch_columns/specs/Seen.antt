@@ -8,7 +8,8 @@ use Rattle.art_rules.specs.Patches.{column_place}
 use Rattle.art_rules.specs.Columns.{own_column, patches_in, stands_in}
 use Rattle.art_rules.specs.Lookups.{lookup_of}
 
--- column x by the patches so far; where in the composite it begins is not known yet, and stands as 0
+-- column x by the patches so far; where in the composite it begins is not known yet, and stands as
+-- 0
 unfoldable pub seen_lookup : (ℕ → List ℕ) → List PlacedPatch → ℕ → ColumnLookup
 seen_lookup bytes patches x = lookup_of bytes 0 x (patches_in patches x)
 
@@ -31,11 +32,13 @@ lookup_behind lump patch x (Composed place) = Composed 0
 
 -- column x once one more patch is added to the texture
 unfoldable pub lookup_with : List ℕ → PlacedPatch → ℕ → ColumnLookup → ColumnLookup
-lookup_with lump patch x lookup = cond (stands_in x patch) (lookup_behind lump patch x lookup) lookup
+lookup_with lump patch x lookup =
+    cond (stands_in x patch) (lookup_behind lump patch x lookup) lookup
 
 -- all columns once one more patch is added
 unfoldable pub columns_with : List ℕ → PlacedPatch → List ColumnLookup → List ColumnLookup
-columns_with lump patch columns = listed (λ x. lookup_with lump patch x (slice_index_or columns x Empty)) (length columns)
+columns_with lump patch columns =
+    listed (λ x. lookup_with lump patch x (slice_index_or columns x Empty)) (length columns)
 
 -- a column once its place in the composite is known
 unfoldable pub placed_lookup : ℕ → ColumnLookup → ColumnLookup
@@ -50,10 +53,12 @@ composed_bytes height (Single lump place) = 0
 composed_bytes height (Composed place) = height
 
 -- a second patch makes a column a composed one; a patch that stands beside it changes nothing
-pub lookup_with_row : lookup_with [] (record { lump = 7; x = pos 2; y = pos 0; width = 4 }) 5 (Single 3 20) ≡ Composed 0
+pub lookup_with_row : lookup_with [] (record { lump = 7; x = pos 2; y = pos 0; width = 4 }) 5
+    (Single 3 20) ≡ Composed 0
 unfolding lookup_with stands_in lookup_behind
 lookup_with_row = refl
 
-pub lookup_beside_row : lookup_with [] (record { lump = 7; x = pos 2; y = pos 0; width = 4 }) 6 (Single 3 20) ≡ Single 3 20
+pub lookup_beside_row : lookup_with [] (record { lump = 7; x = pos 2; y = pos 0; width = 4 }) 6
+    (Single 3 20) ≡ Single 3 20
 unfolding lookup_with stands_in lookup_behind
 lookup_beside_row = refl

@@ -10,15 +10,15 @@ ghost use Rattle.art_rules.specs.Patches.{post_at, next_place};
 ghost use Rattle.patch_columns.specs.Composites.{placed_post, posts_at, posts_in, with_posts};
 
 use crate::lookups::{own_column, stands_in};
-use art_rules::{ColumnLookup, PlacedPatch, byte_at};
 use crate::{Post, column_place, next_place, post_at};
+use art_rules::{ColumnLookup, PlacedPatch, byte_at};
 
 /// Puts a patch of a texture of `height` rows into the texture's composite, over the patches before
-/// it: its posts in each composed column in which it stands. `lump` is the bytes of its lump, `columns`
-/// what each column of the texture is read from.
+/// it: its posts in each composed column in which it stands. `lump` is the bytes of its lump,
+/// `columns` what each column of the texture is read from.
 ///
-/// A post that begins above the first row loses as many bytes at its end; one that passes the last row
-/// is cut there.
+/// A post that begins above the first row loses as many bytes at its end; one that passes the last
+/// row is cut there.
 ///
 /// The original: `R_GenerateComposite`, r_data.c.
 pub fn put_patch(
@@ -30,8 +30,11 @@ pub fn put_patch(
 )
     requires width { length columns.now < 2 ^ 16 }
     ensures count { length composite.new ≡ length composite.old }
-    ensures put { (bytes : ℕ → List ℕ) (patches : List PlacedPatch) (n : ℕ) → n < length patches → slice_get patches n ≡ Some patch.now → bytes patch.now.lump ≡ lump.now → AreColumnsOf patches height columns.now →
-        composite.old ≡ composite_of_first bytes patches n (length columns.now) height → composite.new ≡ composite_of_first bytes patches (n + 1) (length columns.now) height }
+    ensures put { (bytes : ℕ → List ℕ) (patches : List PlacedPatch) (n : ℕ) → n < length patches →
+        slice_get patches n ≡ Some patch.now → bytes patch.now.lump ≡ lump.now →
+        AreColumnsOf patches height columns.now →
+        composite.old ≡ composite_of_first bytes patches n (length columns.now) height →
+        composite.new ≡ composite_of_first bytes patches (n + 1) (length columns.now) height }
 {
     for (x, lookup) in columns.iter().enumerate() {
         put_in_composite(lump, *patch, x as u16, *lookup, height, composite);

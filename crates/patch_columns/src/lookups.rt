@@ -7,19 +7,21 @@ ghost use Rattle.art_rules.specs.Columns.{composite_size, own_column, stands_in}
 ghost use Rattle.art_rules.specs.Lookups.{AreColumnsOf, column_lookups};
 ghost use Rattle.patch_columns.specs.Seen.{AreSeen, columns_with, composed_bytes, lookup_behind, lookup_with, placed_lookup, seen_lookups};
 
-use art_rules::{ColumnLookup, PlacedPatch};
 use crate::column_place;
+use art_rules::{ColumnLookup, PlacedPatch};
 
-/// Adds a patch to the columns of its texture, behind the patches that were added before: a column in
-/// which no other stands is read from it, one in which another stands is composed. `lump` is the bytes
-/// of the patch's lump, which may be others each time that a lump is a patch of the texture.
+/// Adds a patch to the columns of its texture, behind the patches that were added before: a column
+/// in which no other stands is read from it, one in which another stands is composed. `lump` is the
+/// bytes of the patch's lump, which may be others each time that a lump is a patch of the texture.
 ///
 /// The original: `R_GenerateLookup`, r_data.c.
 pub fn add_patch(columns: &mut [ColumnLookup], lump: &[u8], patch: &PlacedPatch)
     requires { length columns.old < 2 ^ 16 }
     ensures value { columns.new ≡ columns_with lump.now patch.now columns.old }
-    ensures added { (bytes : ℕ → List ℕ) (patches : List PlacedPatch) → bytes patch.now.lump ≡ lump.now →
-        columns.old ≡ seen_lookups bytes patches (length columns.old) → columns.new ≡ seen_lookups bytes (patches ++ patch.now ∷ []) (length columns.old) }
+    ensures added { (bytes : ℕ → List ℕ) (patches : List PlacedPatch) →
+        bytes patch.now.lump ≡ lump.now →
+        columns.old ≡ seen_lookups bytes patches (length columns.old) →
+        columns.new ≡ seen_lookups bytes (patches ++ patch.now ∷ []) (length columns.old) }
     ensures count { length columns.new ≡ length columns.old }
 {
     for (x, column) in columns.iter_mut().enumerate() {
@@ -27,16 +29,19 @@ pub fn add_patch(columns: &mut [ColumnLookup], lump: &[u8], patch: &PlacedPatch)
     }
 }
 
-/// Gives the composed columns of a texture of `height` rows their places in its composite, from left
-/// to right, once all patches are added. Returns the composite's size in bytes.
+/// Gives the composed columns of a texture of `height` rows their places in its composite, from
+/// left to right, once all patches are added. Returns the composite's size in bytes.
 ///
 /// The original: `R_GenerateLookup`, r_data.c.
 pub fn place_columns(columns: &mut [ColumnLookup], height: u16) -> u64
     requires { length columns.old < 2 ^ 16 }
-    ensures placed { (bytes : ℕ → List ℕ) (patches : List PlacedPatch) → columns.old ≡ seen_lookups bytes patches (length columns.old) →
+    ensures placed { (bytes : ℕ → List ℕ) (patches : List PlacedPatch) →
+        columns.old ≡ seen_lookups bytes patches (length columns.old) →
         columns.new ≡ column_lookups bytes patches (length columns.old) height }
-    ensures columns { (patches : List PlacedPatch) → AreSeen patches columns.old → AreColumnsOf patches height columns.new }
-    ensures size { (patches : List PlacedPatch) → AreSeen patches columns.old → result ≡ composite_size patches (length columns.old) height }
+    ensures columns { (patches : List PlacedPatch) → AreSeen patches columns.old →
+        AreColumnsOf patches height columns.new }
+    ensures size { (patches : List PlacedPatch) → AreSeen patches columns.old →
+        result ≡ composite_size patches (length columns.old) height }
     ensures count { length columns.new ≡ length columns.old }
 {
     let mut place: u64 = 0;

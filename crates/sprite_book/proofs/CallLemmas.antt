@@ -16,15 +16,15 @@ use Rattle.lump_cache.specs.Calls.{ReadsLumps, PreservesCache, IsFullFor, IfFull
 use Rattle.lump_cache.proofs.CallLemmas.{keeps_none, keeps_then, told_later, full_for_earlier, cause_later, full_at, order_at, reads_at}
 use Rattle.outside.specs.declared.fault.Fault.{Fault}
 use Rattle.outside.specs.declared.fault.Fault.TheVariants.{Refused, OutOfMemory}
-use Rattle.sprite_book.specs.Calls.{Reads, IsToldWith, ArePatchesOf}
+use Rattle.sprite_book.specs.Calls.{Reads, HoldContentsWith, ArePatchesOf}
 
 -- the contents are told later too
-told_with : {a b : ShelfView} {dir : DirectoryView} {x y : Heap} {p q : List (Option Patch)} {contents : List (List ℕ)} → PreservesCache a b dir x y → IsToldWith a dir x p contents → ArePatchesOf (lump_bytes contents dir.lumps) q → IsToldWith b dir y q contents
-told_with keeps told read = record { told = told_later keeps told.told; read = read }
+told_with : {a b : ShelfView} {dir : DirectoryView} {x y : Heap} {p q : List (Option Patch)} {contents : List (List ℕ)} → PreservesCache a b dir x y → HoldContentsWith a dir x p contents → ArePatchesOf (lump_bytes contents dir.lumps) q → HoldContentsWith b dir y q contents
+told_with keeps told read = record { hold = told_later keeps told.hold; read = read }
 
 module _ {A B : Type 0} {wants : ℕ → Type 0} {value : B → A} {expected : (ℕ → List ℕ) → Result A SpriteRefusal} where
   -- a call that reads nothing, and whose answer is known
-  pub reads_known : (view : ShelfView) (dir : DirectoryView) (z : Heap) (p : List (Option Patch)) (found : B) → ((contents : List (List ℕ)) → IsToldWith view dir z p contents → expected (lump_bytes contents dir.lumps) ≡ Ok (value found)) → Reads view view dir z z p p wants value expected (Ok found)
+  pub reads_known : (view : ShelfView) (dir : DirectoryView) (z : Heap) (p : List (Option Patch)) (found : B) → ((contents : List (List ℕ)) → HoldContentsWith view dir z p contents → expected (lump_bytes contents dir.lumps) ≡ Ok (value found)) → Reads view view dir z z p p wants value expected (Ok found)
   reads_known view dir z p found known = record {
     keeps = keeps_none view dir z;
     read = λ contents told. told.read;
@@ -53,7 +53,7 @@ module _ {A B : Type 0} {wants : ℕ → Type 0} {value : B → A} {expected : (
 
 step_read : {C D E F : Type 0} {v w x : ShelfView} {dir : DirectoryView} {a b c : Heap} {p q r : List (Option Patch)} {wants some : ℕ → Type 0} {first : D → C} {next : F → E}
     {before : (ℕ → List ℕ) → Result C SpriteRefusal} {part : (ℕ → List ℕ) → Result E SpriteRefusal} {found : D} {result : Result F (Fault SpriteRefusal)} → Reads v w dir a b p q wants first before (Ok found) → Reads w x dir b c q r some next part result →
-    (contents : List (List ℕ)) → IsToldWith v dir a p contents → ArePatchesOf (lump_bytes contents dir.lumps) r
+    (contents : List (List ℕ)) → HoldContentsWith v dir a p contents → ArePatchesOf (lump_bytes contents dir.lumps) r
 step_read one two contents told = two.read contents (told_with one.keeps told (one.read contents told))
 
 -- before the first part
@@ -122,7 +122,7 @@ module _ {v w : ShelfView} {dir : DirectoryView} {a b : Heap} {p q : List (Optio
   pub reads_alone : {A B : Type 0} {value : B → A} {expected : (ℕ → List ℕ) → Result A SpriteRefusal} {result : Result B (Fault SpriteRefusal)} → ((bytes : ℕ → List ℕ) → ArePatchesOf bytes p) → Reads v w dir a b p q wants value expected result → ReadsLumps itself v w dir a b wants value expected result
   reads_alone none one = record {
     keeps = one.keeps;
-    answers = λ contents told. one.answers contents (record { told = told; read = none (lump_bytes contents dir.lumps) });
+    answers = λ contents told. one.answers contents (record { hold = told; read = none (lump_bytes contents dir.lumps) });
     causes = one.causes;
     full = one.full;
     order = one.order;
@@ -134,7 +134,7 @@ reads_of patches one = record {
   keeps = one.keeps;
   read = λ contents told. told.read;
   count = refl;
-  answers = λ contents told. one.answers contents told.told;
+  answers = λ contents told. one.answers contents told.hold;
   causes = one.causes;
   full = one.full;
   order = one.order;

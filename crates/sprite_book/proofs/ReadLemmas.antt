@@ -77,9 +77,9 @@ pub read_kept : {view after : ShelfView} {dir : DirectoryView} {old new : Heap} 
     Reads view after dir old new patches (set patches lump (Some patch)) wants (λ (patch : Patch). patch) (λ bytes. patch_or_bad bytes lump) (Ok patch)
 read_kept {dir} patches lump patch lt one = record {
   keeps = one.keeps;
-  read = λ contents told. set_read (lump_bytes contents dir.lumps) patches lump patch lt told.read (patch_was (lump_bytes contents dir.lumps) lump patch (one.answers contents told.told).ok);
+  read = λ contents told. set_read (lump_bytes contents dir.lumps) patches lump patch lt told.read (patch_was (lump_bytes contents dir.lumps) lump patch (one.answers contents told.hold).ok);
   count = length-set patches lump (Some patch);
-  answers = λ contents told. one.answers contents told.told;
+  answers = λ contents told. one.answers contents told.hold;
   causes = one.causes;
   full = one.full;
   order = one.order;

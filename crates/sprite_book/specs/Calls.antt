@@ -1,4 +1,4 @@
--- What is told of a call that reads sprite lumps: which it may ask for, and what was read so far.
+-- Calls that read sprite lumps: which they may ask for, and which patches were read so far.
 use Rattle.std.specs.Prelude.{◌≡◌, ℕ, List, length, Option, Some, None, IfSome, IfErr, MatchResult, Result, Ok, Contains, slice_index_or}
 use Rattle.outside.specs.Shelf.{ShelfView}
 use Rattle.outside.specs.Faults.{ResultIs, HasCauses, itself}
@@ -33,21 +33,29 @@ pub record IsWanted (lumps : List Lump) (needs : List Need) (lump : ℕ) : Type 
 
 -- what was read so far are the patches that the lumps' bytes are
 pub record ArePatchesOf (bytes : ℕ → List ℕ) (patches : List (Option Patch)) : Type 0 where
-  pub at : (lump : ℕ) → IfSome (slice_index_or patches lump None) (λ patch. patch_of (bytes lump) ≡ Some patch)
+  pub at : (lump : ℕ) →
+      IfSome (slice_index_or patches lump None) (λ patch. patch_of (bytes lump) ≡ Some patch)
 
 -- the shelf and the cache tell these contents, and what was read so far are patches of them
-pub record IsToldWith (view : ShelfView) (dir : DirectoryView) (z : Heap) (patches : List (Option Patch)) (contents : List (List ℕ)) : Type 0 where
-  pub told : HoldContents view dir z contents
+pub record HoldContentsWith (view : ShelfView) (dir : DirectoryView) (z : Heap)
+    (patches : List (Option Patch)) (contents : List (List ℕ)) : Type 0 where
+  pub hold : HoldContents view dir z contents
   pub read : ArePatchesOf (lump_bytes contents dir.lumps) patches
 
--- A call over the cache that also keeps the patches that it reads: its answer, what it keeps, when a read
--- fails, when the zone is full, and that a cache in order stays so.
-pub record Reads {A B : Type 0} (view after : ShelfView) (dir : DirectoryView) (old new : Heap) (before now : List (Option Patch)) (wants : ℕ → Type 0) (value : B → A) (expected : (ℕ → List ℕ) → Result A SpriteRefusal) (result : Result B (Fault SpriteRefusal)) : Type 0 where
+-- A call over the cache that also keeps the patches that it reads: its answer, what it keeps, when
+-- a read fails, when the zone is full, and that a cache in order stays so.
+pub record Reads {A B : Type 0} (view after : ShelfView) (dir : DirectoryView) (old new : Heap)
+    (before now : List (Option Patch)) (wants : ℕ → Type 0) (value : B → A)
+    (expected : (ℕ → List ℕ) → Result A SpriteRefusal)
+    (result : Result B (Fault SpriteRefusal)) : Type 0 where
   pub keeps : PreservesCache view after dir old new
-  pub read : (contents : List (List ℕ)) → IsToldWith view dir old before contents → ArePatchesOf (lump_bytes contents dir.lumps) now
+  pub read : (contents : List (List ℕ)) → HoldContentsWith view dir old before contents →
+      ArePatchesOf (lump_bytes contents dir.lumps) now
   pub count : length now ≡ length before
-  pub answers : (contents : List (List ℕ)) → IsToldWith view dir old before contents → ResultIs itself view.steady value (expected (lump_bytes contents dir.lumps)) result
+  pub answers : (contents : List (List ℕ)) → HoldContentsWith view dir old before contents →
+      ResultIs itself view.steady value (expected (lump_bytes contents dir.lumps)) result
   pub causes : HasCauses itself view.faults after.faults result
   pub full : IfErr result (λ fault. IfFull (itself fault) (IsFullFor wants dir old))
   pub order : (items : List Item) → HasAll items dir wants → IsInOrder items old →
-      MatchResult result (λ _. KeepsOrder items old new view.taken after.taken) (λ fault. InOrderAt (itself fault) (KeepsOrder items old new view.taken after.taken))
+      MatchResult result (λ _. KeepsOrder items old new view.taken after.taken)
+      (λ fault. InOrderAt (itself fault) (KeepsOrder items old new view.taken after.taken))

@@ -58,15 +58,15 @@ impl SpriteBook {
     /// The frames that are needed, found by the names of the sprite lumps and read through the
     /// cache.
     ///
-    /// Each need is judged before the next. Takes memory for what the names mention, for the frames,
-    /// and while it runs a few bytes for each lump.
+    /// Each need is judged before the next. Takes memory for what the names mention, for the
+    /// frames, and while it runs a few bytes for each lump.
     ///
     /// Errors: `Refused` with the first refusal of the needs in their order: of each first that no
     /// lump mentions the frame, then the least rotation without a picture, then the first picture
     /// that is no patch. `ReadFault` only where the shelf's count of faults rose. `ZoneFull` only
     /// where no gap held the block of a picture of a needed frame. `OutOfMemory`. The shelf goes on
-    /// to stand for what it stood for, a cache that was at rest or faithful stays so, and no composite
-    /// is made.
+    /// to stand for what it stood for, a cache that was at rest or faithful stays so, and no
+    /// composite is made.
     ///
     /// The original: `R_InitSprites` and `R_InitSpriteDefs`, r_things.c, which end the program
     /// there. This project's own: only the frames that are needed are looked at, a lump that is no
@@ -79,22 +79,48 @@ impl SpriteBook {
         shelf: &mut S,
     ) -> Result<SpriteBook, SpriteFault>
         requires slots { length dir.now.lumps ≤ cache.old.lumps }
-        ensures tells { ReadsLumps itself (S.view shelf.old) (S.view shelf.new) dir.now cache.old cache.new (IsWanted dir.now.lumps needed.now) (λ book. book) (λ bytes. each_of (frame_of bytes dir.now.lumps) (first_needs needed.now)) result }
-        ensures answers { (contents : List (List ℕ)) → NameFiles (S.view shelf.old) dir.now.files contents → AllWithin contents dir.now.lumps → IsFaithful contents dir.now.lumps cache.old →
-            ResultIs itself (S.view shelf.old).steady (λ book. book) (book_of contents dir.now.lumps needed.now) result }
-        ensures outlines { IfOk result (λ book. outlines_of dir.now.lumps needed.now ≡ Ok (map outline book)) }
-        ensures there { IfOk result (λ book. All (λ frame. All (λ shape. shape.lump.0 < length dir.now.lumps) frame.shapes) book) }
+        ensures tells { ReadsLumps itself (S.view shelf.old) (S.view shelf.new) dir.now cache.old
+            cache.new (IsWanted dir.now.lumps needed.now) (λ book. book)
+            (λ bytes. each_of (frame_of bytes dir.now.lumps) (first_needs needed.now)) result }
+        ensures answers { (contents : List (List ℕ)) →
+            NameFiles (S.view shelf.old) dir.now.files contents → AllWithin contents dir.now.lumps →
+            IsFaithful contents dir.now.lumps cache.old →
+            ResultIs itself (S.view shelf.old).steady (λ book. book)
+            (book_of contents dir.now.lumps needed.now) result }
+        ensures outlines { IfOk result
+            (λ book. outlines_of dir.now.lumps needed.now ≡ Ok (map outline book)) }
+        ensures there { IfOk result (λ book. All
+            (λ frame. All (λ shape. shape.lump.0 < length dir.now.lumps) frame.shapes) book) }
         ensures follows { IsLaterShelf (S.view shelf.old) (S.view shelf.new) }
-        ensures causes { HasCauses itself (S.view shelf.old).faults (S.view shelf.new).faults result }
-        ensures full { IfErr result (λ fault. IfFull (itself fault) (λ wanted widest'. (lump : ℕ) × IsWanted dir.now.lumps needed.now lump × (wanted ≡ block_size (lump_at dir.now.lumps lump).size) × (widest' < wanted))) }
+        ensures causes { HasCauses itself (S.view shelf.old).faults (S.view shelf.new).faults
+            result }
+        ensures full { IfErr result
+            (λ fault. IfFull (itself fault)
+            (λ wanted widest'. (lump : ℕ) × IsWanted dir.now.lumps needed.now lump ×
+            (wanted ≡ block_size (lump_at dir.now.lumps lump).size) × (widest' < wanted))) }
         ensures room { (colormap size : ℕ) → IsAtRest colormap size cache.old →
-            IfErr result (λ fault. IfFull (itself fault) (λ wanted widest'. cache.old.size < block_size size + wanted + MIN_FRAGMENT)) }
-        ensures faithful { (contents : List (List ℕ)) → NameFiles (S.view shelf.old) dir.now.files contents → IsFaithful contents dir.now.lumps cache.old → IsFaithful contents dir.now.lumps cache.new }
-        ensures rest { (colormap size : ℕ) → IsAtRest colormap size cache.old → IsAtRest colormap size cache.new }
+            IfErr result (λ fault. IfFull (itself fault)
+            (λ wanted widest'. cache.old.size < block_size size + wanted + MIN_FRAGMENT)) }
+        ensures faithful { (contents : List (List ℕ)) →
+            NameFiles (S.view shelf.old) dir.now.files contents →
+            IsFaithful contents dir.now.lumps cache.old →
+            IsFaithful contents dir.now.lumps cache.new }
+        ensures rest { (colormap size : ℕ) → IsAtRest colormap size cache.old →
+            IsAtRest colormap size cache.new }
         ensures counts { KeepsCounts cache.old cache.new }
-        ensures composites { (number : ℕ) → IfSome (bytes_of (composite_owner number) cache.new.blocks) (λ bytes. bytes_of (composite_owner number) cache.old.blocks ≡ Some bytes) }
-        ensures order { (items : List Item) → ((lump : ℕ) → IsWanted dir.now.lumps needed.now lump → has_item items (lump_owner lump) (lump_at dir.now.lumps lump).size ≡ true) → IsInOrder items cache.old →
-            MatchResult result (λ _. KeepsOrder items cache.old cache.new (S.view shelf.old).taken (S.view shelf.new).taken) (λ fault. InOrderAt (itself fault) (KeepsOrder items cache.old cache.new (S.view shelf.old).taken (S.view shelf.new).taken)) }
+        ensures composites { (number : ℕ) →
+            IfSome (bytes_of (composite_owner number) cache.new.blocks)
+            (λ bytes. bytes_of (composite_owner number) cache.old.blocks ≡ Some bytes) }
+        ensures order { (items : List Item) →
+            ((lump : ℕ) → IsWanted dir.now.lumps needed.now lump →
+            has_item items (lump_owner lump) (lump_at dir.now.lumps lump).size ≡ true) →
+            IsInOrder items cache.old →
+            MatchResult result
+            (λ _. KeepsOrder items cache.old cache.new (S.view shelf.old).taken
+            (S.view shelf.new).taken)
+            (λ fault. InOrderAt (itself fault)
+            (KeepsOrder items cache.old cache.new (S.view shelf.old).taken
+            (S.view shelf.new).taken)) }
     {
         make_book(alloc, needed, dir, cache, shelf)
     }
@@ -116,7 +142,8 @@ impl SpriteBook {
     /// The lumps of all shapes, ascending and each once.
     pub fn pictures(&self) -> &[LumpNo]
         ensures ascending { IsStrictlyIncreasing (map (λ lump. lump.0) result.now) }
-        ensures lumps { (lump : ℕ) → Contains (map (λ lump. lump.0) result.now) lump ↔ Contains (book_lumps self.now) lump }
+        ensures lumps { (lump : ℕ) →
+            Contains (map (λ lump. lump.0) result.now) lump ↔ Contains (book_lumps self.now) lump }
     {
         &self.pictures
     }
@@ -131,8 +158,11 @@ fn make_book<S: Shelf>(
     shelf: &mut S,
 ) -> Result<SpriteBook, SpriteFault>
     requires { length dir.now.lumps ≤ cache.old.lumps }
-    ensures tells { ReadsLumps itself (S.view shelf.old) (S.view shelf.new) dir.now cache.old cache.new (IsWanted dir.now.lumps needed.now) (λ book. book) (λ bytes. each_of (frame_of bytes dir.now.lumps) (first_needs needed.now)) result }
-    ensures outlines { IfOk result (λ book. each_of (outline_of dir.now.lumps) (first_needs needed.now) ≡ Ok (map outline book)) }
+    ensures tells { ReadsLumps itself (S.view shelf.old) (S.view shelf.new) dir.now cache.old
+        cache.new (IsWanted dir.now.lumps needed.now) (λ book. book)
+        (λ bytes. each_of (frame_of bytes dir.now.lumps) (first_needs needed.now)) result }
+    ensures outlines { IfOk result (λ book. each_of (outline_of dir.now.lumps)
+        (first_needs needed.now) ≡ Ok (map outline book)) }
 {
     let index = index_mentions(alloc, dir)?;
     let list = read_list(alloc, needed, &index, dir, cache, shelf)?;

@@ -33,7 +33,8 @@ impl FrameList {
     // Whether the needed frame is there.
     pub fn has(&self, need: &Need) -> bool
         requires { IsPlaceOf self.now.index self.now.frames.items }
-        ensures { result ≡ is_some (position_from (is_frame need.now.sprite need.now.frame) 0 self.now.frames.items) }
+        ensures { result ≡ is_some
+            (position_from (is_frame need.now.sprite need.now.frame) 0 self.now.frames.items) }
     {
         self.index.get(&(need.sprite, need.frame)).is_some()
     }
@@ -41,7 +42,8 @@ impl FrameList {
     // Adds a frame behind the others.
     pub fn add(&mut self, frame: Frame) -> Result<(), OutOfMemory>
         requires placed { IsPlaceOf self.old.index self.old.frames.items }
-        requires absent { position_from (is_frame frame.sprite frame.frame) 0 self.old.frames.items ≡ None }
+        requires absent { position_from (is_frame frame.sprite frame.frame) 0 self.old.frames.items
+            ≡ None }
         ensures frames { OnOk result (self.new.frames.items ≡ self.old.frames.items ++ frame ∷ []) }
         ensures placed { OnOk result (IsPlaceOf self.new.index self.new.frames.items) }
     {
@@ -93,7 +95,8 @@ fn shape_numbers(alloc: Global, frames: &[Frame]) -> Result<Vec<u16>, OutOfMemor
 }
 
 fn add_numbers(numbers: &mut Vec<u16>, shapes: &[Shape]) -> Result<(), OutOfMemory>
-    ensures { OnOk result (numbers.new.items ≡ numbers.old.items ++ map (λ shape. shape.lump.0) shapes.now) }
+    ensures { OnOk result (numbers.new.items ≡ numbers.old.items
+        ++ map (λ shape. shape.lump.0) shapes.now) }
 {
     for shape in shapes {
         numbers.push(shape.lump.0)?;

@@ -43,7 +43,9 @@ pub fn index_mentions(alloc: Global, dir: &Directory) -> Result<Mentions, OutOfM
 #[tactic(auto, unfolding(art_rules::specs::Frames::name_mentions, art_rules::specs::Frames::is_of_sprite))]
 fn add_name(index: &mut Mentions, lump: u16, name: &[u8; NAME_SIZE]) -> Result<(), OutOfMemory>
     ensures { OnOk result ((all : List ℕ → List Mention) → IsIndexOf index.old all →
-        IsIndexOf index.new (λ sprite. all sprite ++ cond (is_of_sprite sprite name.now) (name_mentions lump name.now) [])) }
+        IsIndexOf index.new
+        (λ sprite. all sprite
+        ++ cond (is_of_sprite sprite name.now) (name_mentions lump name.now) [])) }
 {
     let letters = letters_of(name);
     add_mention(
@@ -61,7 +63,8 @@ fn add_mention(
     found: Option<Mention>,
 ) -> Result<(), OutOfMemory>
     ensures { OnOk result ((all : List ℕ → List Mention) → IsIndexOf index.old all →
-        IsIndexOf index.new (λ sprite. all sprite ++ cond (bytes_eq letters sprite) (option_to_list found) [])) }
+        IsIndexOf index.new
+        (λ sprite. all sprite ++ cond (bytes_eq letters sprite) (option_to_list found) [])) }
 {
     if let Some(mention) = found {
         index.frames.insert((letters, mention.frame), mention)?;
@@ -83,7 +86,9 @@ fn letters_of(name: &[u8; NAME_SIZE]) -> Letters
 
 // What the second pair of a name mentions, where the name has one.
 fn second_mention(lump: u16, name: &[u8; NAME_SIZE]) -> Option<Mention>
-    ensures { option_to_list result ≡ cond (slice_index name.now SECOND_PAIR_AT == 0) [] (mention_at lump name.now SECOND_PAIR_AT true) }
+    ensures { option_to_list result
+        ≡ cond (slice_index name.now SECOND_PAIR_AT == 0) []
+        (mention_at lump name.now SECOND_PAIR_AT true) }
 {
     if name[SECOND_PAIR_AT] == 0 {
         return None;

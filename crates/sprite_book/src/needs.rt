@@ -8,11 +8,11 @@ ghost use Rattle.art_rules.specs.Books.{frame_of, outline, outline_of, each_of, 
 ghost use Rattle.sprite_book.specs.Calls.{Reads, IsWanted};
 ghost use Rattle.sprite_book.specs.Indexes.{IsIndexOf, IsPlaceOf};
 
+use crate::Need;
 use crate::fault::SpriteFault;
 use crate::list::FrameList;
 use crate::mentions::Mentions;
 use crate::read::read_frame;
-use crate::Need;
 use art_rules::Patch;
 use lump_cache::LumpCache;
 use outside::{OutOfMemory, Shelf};
@@ -30,8 +30,11 @@ pub fn read_list<S: Shelf>(
 ) -> Result<FrameList, SpriteFault>
     requires slots { length dir.now.lumps ≤ cache.old.lumps }
     requires indexed { IsIndexOf index.now (mentions dir.now.lumps) }
-    ensures tells { ReadsLumps itself (S.view shelf.old) (S.view shelf.new) dir.now cache.old cache.new (IsWanted dir.now.lumps needed.now) (λ list. list.frames.items) (λ bytes. each_of (frame_of bytes dir.now.lumps) (first_needs needed.now)) result }
-    ensures outlines { IfOk result (λ list. each_of (outline_of dir.now.lumps) (first_needs needed.now) ≡ Ok (map outline list.frames.items)) }
+    ensures tells { ReadsLumps itself (S.view shelf.old) (S.view shelf.new) dir.now cache.old
+        cache.new (IsWanted dir.now.lumps needed.now) (λ list. list.frames.items)
+        (λ bytes. each_of (frame_of bytes dir.now.lumps) (first_needs needed.now)) result }
+    ensures outlines { IfOk result (λ list. each_of (outline_of dir.now.lumps)
+        (first_needs needed.now) ≡ Ok (map outline list.frames.items)) }
     ensures placed { IfOk result (λ list. IsPlaceOf list.index list.frames.items) }
 {
     let mut patches = no_patches(alloc, dir.count() as usize)?;
@@ -62,8 +65,11 @@ fn read_frames<S: Shelf>(
     requires indexed { IsIndexOf index.now (mentions dir.now.lumps) }
     requires empty { list.old.frames.items ≡ [] }
     requires placed { IsPlaceOf list.old.index list.old.frames.items }
-    ensures tells { Reads (S.view shelf.old) (S.view shelf.new) dir.now cache.old cache.new patches.old patches.new (IsWanted dir.now.lumps needed.now) (λ _. list.new.frames.items) (λ bytes. each_of (frame_of bytes dir.now.lumps) (first_needs needed.now)) result }
-    ensures outlines { OnOk result (each_of (outline_of dir.now.lumps) (first_needs needed.now) ≡ Ok (map outline list.new.frames.items)) }
+    ensures tells { Reads (S.view shelf.old) (S.view shelf.new) dir.now cache.old cache.new
+        patches.old patches.new (IsWanted dir.now.lumps needed.now) (λ _. list.new.frames.items)
+        (λ bytes. each_of (frame_of bytes dir.now.lumps) (first_needs needed.now)) result }
+    ensures outlines { OnOk result (each_of (outline_of dir.now.lumps) (first_needs needed.now)
+        ≡ Ok (map outline list.new.frames.items)) }
     ensures placed { OnOk result (IsPlaceOf list.new.index list.new.frames.items) }
 {
     for need in needed {

@@ -6,13 +6,14 @@ ghost use Rattle.art_rules.specs.Frames.{frame_picture, last_that, is_of_frame};
 ghost use Rattle.art_rules.specs.Books.{pictures_of, picture_or_missing, last_mention, each_of};
 ghost use Rattle.sprite_book.specs.Indexes.{IsIndexOf};
 
-use crate::mentions::Mentions;
 use crate::Need;
+use crate::mentions::Mentions;
 use art_rules::{Mention, ROTATIONS, SpriteRefusal};
 
 // The pictures of a frame from the eight rotations, or why it is refused.
 pub fn find_pictures(index: &Mentions, need: &Need) -> Result<[Mention; ROTATIONS], SpriteRefusal>
-    ensures { (all : List ℕ → List Mention) → IsIndexOf index.now all → result ≡ pictures_of (all need.now.sprite) need.now }
+    ensures { (all : List ℕ → List Mention) → IsIndexOf index.now all →
+        result ≡ pictures_of (all need.now.sprite) need.now }
 {
     let last = last_mention(index, need)?;
     let mut pictures = [last; ROTATIONS];
@@ -23,7 +24,8 @@ pub fn find_pictures(index: &Mentions, need: &Need) -> Result<[Mention; ROTATION
 // The last mention of the frame, which decides its kind.
 #[tactic(auto, unfolding(art_rules::specs::Books::last_mention))]
 fn last_mention(index: &Mentions, need: &Need) -> Result<Mention, SpriteRefusal>
-    ensures { (all : List ℕ → List Mention) → IsIndexOf index.now all → result ≡ last_mention (all need.now.sprite) need.now }
+    ensures { (all : List ℕ → List Mention) → IsIndexOf index.now all →
+        result ≡ last_mention (all need.now.sprite) need.now }
 {
     match index.frames.get(&(need.sprite, need.frame)) {
         Some(mention) => Ok(*mention),
@@ -41,9 +43,13 @@ fn fill_pictures(
     pictures: &mut [Mention],
 ) -> Result<(), SpriteRefusal>
     requires { length pictures.old < 2 ^ 8 }
-    ensures { (all : List ℕ → List Mention) → IsIndexOf index.now all → last_that (is_of_frame need.now.frame) (all need.now.sprite) ≡ Some last.now →
-        MatchResult result (λ _. each_of (picture_or_missing (all need.now.sprite) need.now) (range_with_len 0 (length pictures.old)) ≡ Ok pictures.new)
-        (λ refusal. each_of (picture_or_missing (all need.now.sprite) need.now) (range_with_len 0 (length pictures.old)) ≡ Err refusal) }
+    ensures { (all : List ℕ → List Mention) → IsIndexOf index.now all →
+        last_that (is_of_frame need.now.frame) (all need.now.sprite) ≡ Some last.now →
+        MatchResult result
+        (λ _. each_of (picture_or_missing (all need.now.sprite) need.now)
+        (range_with_len 0 (length pictures.old)) ≡ Ok pictures.new)
+        (λ refusal. each_of (picture_or_missing (all need.now.sprite) need.now)
+        (range_with_len 0 (length pictures.old)) ≡ Err refusal) }
 {
     for (k, picture) in pictures.iter_mut().enumerate() {
         *picture = picture_at(index, need, last, k as u8)?;
@@ -60,7 +66,8 @@ fn picture_at(
     k: u8,
 ) -> Result<Mention, SpriteRefusal>
     requires { k < 2 ^ 8 - 1 }
-    ensures { (all : List ℕ → List Mention) → IsIndexOf index.now all → last_that (is_of_frame need.now.frame) (all need.now.sprite) ≡ Some last.now →
+    ensures { (all : List ℕ → List Mention) → IsIndexOf index.now all →
+        last_that (is_of_frame need.now.frame) (all need.now.sprite) ≡ Some last.now →
         result ≡ picture_or_missing (all need.now.sprite) need.now k }
 {
     match mention_from(index, need, last, k) {
@@ -76,7 +83,8 @@ fn picture_at(
 #[tactic(auto, unfolding(art_rules::specs::Frames::frame_picture, art_rules::specs::Frames::picture_if, art_rules::specs::Frames::picture_by))]
 fn mention_from(index: &Mentions, need: &Need, last: &Mention, k: u8) -> Option<Mention>
     requires { k < 2 ^ 8 - 1 }
-    ensures { (all : List ℕ → List Mention) → IsIndexOf index.now all → last_that (is_of_frame need.now.frame) (all need.now.sprite) ≡ Some last.now →
+    ensures { (all : List ℕ → List Mention) → IsIndexOf index.now all →
+        last_that (is_of_frame need.now.frame) (all need.now.sprite) ≡ Some last.now →
         result ≡ frame_picture (all need.now.sprite) need.now.frame k }
 {
     if last.rotation == 0 {

@@ -43,8 +43,11 @@ pub fn read_frame<S: Shelf>(
     requires slots { length dir.now.lumps ≤ cache.old.lumps }
     requires rows { length dir.now.lumps ≤ length patches.old }
     requires indexed { IsIndexOf index.now (mentions dir.now.lumps) }
-    ensures tells { Reads (S.view shelf.old) (S.view shelf.new) dir.now cache.old cache.new patches.old patches.new (IsWantedBy dir.now.lumps need.now) (λ frame. frame) (λ bytes. frame_of bytes dir.now.lumps need.now) result }
-    ensures outline { IfOk result (λ frame. outline_of dir.now.lumps need.now ≡ Ok (outline frame)) }
+    ensures tells { Reads (S.view shelf.old) (S.view shelf.new) dir.now cache.old cache.new
+        patches.old patches.new (IsWantedBy dir.now.lumps need.now) (λ frame. frame)
+        (λ bytes. frame_of bytes dir.now.lumps need.now) result }
+    ensures outline { IfOk result (λ frame. outline_of dir.now.lumps need.now
+        ≡ Ok (outline frame)) }
 {
     let pictures = find_pictures(index, need).map_err(SpriteFault::Refused)?;
     let mut shapes = [NO_SHAPE; ROTATIONS];
@@ -69,8 +72,11 @@ fn fill_shapes<S: Shelf>(
     requires rows { length dir.now.lumps ≤ length patches.old }
     requires count { length shapes.old ≡ length pictures.now }
     requires there { All (λ mention. mention.lump < length dir.now.lumps) pictures.now }
-    ensures tells { Reads (S.view shelf.old) (S.view shelf.new) dir.now cache.old cache.new patches.old patches.new (IsLumpOf pictures.now) (λ _. shapes.new) (λ bytes. each_of (shape_of bytes) pictures.now) result }
-    ensures outlines { OnOk result (map shape_outline shapes.new ≡ map mention_outline pictures.now) }
+    ensures tells { Reads (S.view shelf.old) (S.view shelf.new) dir.now cache.old cache.new
+        patches.old patches.new (IsLumpOf pictures.now) (λ _. shapes.new)
+        (λ bytes. each_of (shape_of bytes) pictures.now) result }
+    ensures outlines { OnOk result (map shape_outline shapes.new
+        ≡ map mention_outline pictures.now) }
 {
     for (k, mention) in pictures.iter().enumerate() {
         let patch = read_patch(patches, dir, cache, shelf, mention.lump)?;
@@ -104,7 +110,8 @@ fn read_patch<S: Shelf>(
     requires there { lump < length dir.now.lumps }
     requires slots { length dir.now.lumps ≤ cache.old.lumps }
     requires rows { length dir.now.lumps ≤ length patches.old }
-    ensures { Reads (S.view shelf.old) (S.view shelf.new) dir.now cache.old cache.new patches.old patches.new (λ n. n ≡ lump) (λ patch. patch) (λ bytes. patch_or_bad bytes lump) result }
+    ensures { Reads (S.view shelf.old) (S.view shelf.new) dir.now cache.old cache.new patches.old
+        patches.new (λ n. n ≡ lump) (λ patch. patch) (λ bytes. patch_or_bad bytes lump) result }
 {
     if let Some(patch) = patches[lump as usize] {
         return Ok(patch);
@@ -123,7 +130,8 @@ fn fetch_patch<S: Shelf>(
 ) -> Result<Patch, SpriteFault>
     requires there { lump < length dir.now.lumps }
     requires slots { length dir.now.lumps ≤ cache.old.lumps }
-    ensures { ReadsLumps itself (S.view shelf.old) (S.view shelf.new) dir.now cache.old cache.new (λ n. n ≡ lump) (λ patch. patch) (λ bytes. patch_or_bad bytes lump) result }
+    ensures { ReadsLumps itself (S.view shelf.old) (S.view shelf.new) dir.now cache.old cache.new
+        (λ n. n ≡ lump) (λ patch. patch) (λ bytes. patch_or_bad bytes lump) result }
 {
     fetch_sprite(cache, dir, shelf, LumpNo(lump))?;
     match live_patch(cache, LumpNo(lump)) {
@@ -143,10 +151,13 @@ fn fetch_sprite<S: Shelf>(
 ) -> Result<(), SpriteFault>
     requires slots { length dir.now.lumps ≤ cache.old.lumps }
     requires listed { lump.0 < length dir.now.lumps }
-    ensures tells { ReadsLumps itself (S.view shelf.old) (S.view shelf.new) dir.now cache.old cache.new
+    ensures tells { ReadsLumps itself (S.view shelf.old) (S.view shelf.new) dir.now cache.old
+        cache.new
         (λ number. number ≡ lump.0) (λ done. done) (λ bytes. Ok tt) result }
-    ensures bytes { (contents : List (List ℕ)) → HoldContents (S.view shelf.old) dir.now cache.old contents →
-        OnOk result (bytes_of (lump_owner lump.0) cache.new.blocks ≡ Some (lump_bytes contents dir.now.lumps lump.0)) }
+    ensures bytes { (contents : List (List ℕ)) →
+        HoldContents (S.view shelf.old) dir.now cache.old contents →
+        OnOk result (bytes_of (lump_owner lump.0) cache.new.blocks
+        ≡ Some (lump_bytes contents dir.now.lumps lump.0)) }
 {
     fetch_live(cache, dir, shelf, lump).map_err(CacheFault::above)
 }

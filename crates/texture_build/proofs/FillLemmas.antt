@@ -12,8 +12,8 @@ use Rattle.zone_rules.proofs.OrderChangeLemmas.{order_written}
 use Rattle.lump_cache.specs.Caches.{HasAsked, HasBlock, HasUse, IsAsked, IsAtRestExcept, IsFaithful, IsFilled, IsPinned, KeepsCounts, KeptOrPurged, composite_owner}
 use Rattle.lump_cache.proofs.FaithLemmas.{bytes_in}
 use Rattle.lump_cache.proofs.FillLemmas.{filled_others}
-use Rattle.lump_cache.proofs.RestButLemmas.{rest_but_written, write_pinned}
-use Rattle.lump_cache.proofs.WriteLemmas.{faithful_written}
+use Rattle.lump_cache.proofs.RestButLemmas.{rest_but_written, written_pinned}
+use Rattle.lump_cache.proofs.WriteLemmas.{write_faithful}
 use Rattle.lump_cache.proofs.FetchLemmas.{others_keep}
 use Rattle.texture_build.specs.Builds.{IsBuilding, OthersKeep}
 
@@ -118,7 +118,7 @@ module _ {number : ℕ} {old new : Heap} {P : List ℕ → Type 0} (f : IsFilled
   filled_counts = subst (KeepsCounts old) (sym f.zone) (refl, refl, refl)
 
   pub filled_faithful : (contents : List (List ℕ)) (lumps : List Lump) → IsFaithful contents lumps old → IsFaithful contents lumps new
-  filled_faithful contents lumps k = subst (IsFaithful contents lumps) (sym f.zone) (faithful_written number f.bytes contents lumps old k)
+  filled_faithful contents lumps k = write_faithful (composite_owner number) f.bytes old f.zone (λ n. refl) contents lumps k
 
   pub filled_rest : (colormap count : ℕ) (pinned : List Owner) → IsAtRestExcept colormap count pinned old → IsAtRestExcept colormap count pinned new
   filled_rest colormap count pinned k = subst (IsAtRestExcept colormap count pinned) (sym f.zone) (rest_but_written (composite_owner number) f.bytes colormap count pinned old refl k)
@@ -131,7 +131,7 @@ module _ {number : ℕ} {old new : Heap} {P : List ℕ → Type 0} (f : IsFilled
 
   pub filled_building : (size : ℕ) → IsBuilding number size old → IsBuilding number size new
   filled_building size b = subst (IsBuilding number size) (sym f.zone) (record {
-    pinned = write_pinned (composite_owner number) f.bytes (composite_owner number) old.blocks b.pinned;
+    pinned = written_pinned (composite_owner number) f.bytes (composite_owner number) old.blocks b.pinned;
     asked = written_asked (composite_owner number) f.bytes size old.blocks b.asked;
   })
 

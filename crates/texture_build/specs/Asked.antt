@@ -19,7 +19,8 @@ abbrev pub patch_lump : List Lump → List (List ℕ) → TextureEntry → Optio
 patch_lump lumps names entry = option_and_then (last_of lumps) (slice_get names entry.number)
 
 -- a patch of a wanted texture
-pub record IsWantedPatch (lumps : List Lump) (lists : TextureLists) (wanted : ℕ → Bool) (lump : ℕ) : Type 0 where
+pub record IsWantedPatch (lumps : List Lump) (lists : TextureLists) (wanted : ℕ → Bool)
+    (lump : ℕ) : Type 0 where
   pub number : ℕ
   pub texture : Texture
   pub at : slice_get lists.textures number ≡ Some texture
@@ -37,31 +38,39 @@ abbrev pub IsComposite : ℕ → PreparedTexture → Owner → ℕ → Type 0
 IsComposite number t o size = (o ≡ composite_owner number) × (size ≡ size_of t)
 
 abbrev pub IsPatch : List Lump → PreparedTexture → Owner → ℕ → Type 0
-IsPatch lumps t o size = (patch : PlacedPatch) × Contains t.patches patch × (o ≡ lump_owner patch.lump) × (size ≡ (lump_at lumps patch.lump).size)
+IsPatch lumps t o size = (patch : PlacedPatch) × Contains t.patches patch ×
+    (o ≡ lump_owner patch.lump) × (size ≡ (lump_at lumps patch.lump).size)
 
 -- what a column asks for, by what it is read from
 abbrev pub IsAskedByColumn : List Lump → ℕ → PreparedTexture → ColumnLookup → Owner → ℕ → Type 0
 IsAskedByColumn lumps number t Empty o size = ⊥
-IsAskedByColumn lumps number t (Single lump place) o size = (o ≡ lump_owner lump) × (size ≡ (lump_at lumps lump).size)
-IsAskedByColumn lumps number t (Composed place) o size = IsComposite number t o size ⊎ IsPatch lumps t o size
+IsAskedByColumn lumps number t (Single lump place) o size = (o ≡ lump_owner lump) ×
+    (size ≡ (lump_at lumps lump).size)
+IsAskedByColumn lumps number t (Composed place) o size = IsComposite number t o size ⊎
+    IsPatch lumps t o size
 
--- the zone does not hold a block beside the colormap of so many bytes
+-- the zone does not hold a block of `wanted` bytes beside the colormap
 abbrev pub IsSmall : ℕ → ℕ → ℕ → Type 0
 IsSmall zone colormap wanted = zone < block_size colormap + wanted + MIN_FRAGMENT
 
 -- the zone does not hold two such blocks beside the colormap and a composite
 abbrev pub IsSmallBeside : ℕ → ℕ → ℕ → ℕ → Type 0
-IsSmallBeside zone colormap composite wanted = zone < block_size colormap + block_size composite + 2 * wanted + 2 * MIN_FRAGMENT
+IsSmallBeside zone colormap composite wanted = zone < block_size colormap + block_size composite
+    + 2 * wanted + 2 * MIN_FRAGMENT
 
 -- no gap held what a column asked for; where the cache was at rest, the zone is that small
-pub record IsFullForColumn (lumps : List Lump) (number : ℕ) (t : PreparedTexture) (lookup : ColumnLookup) (z : Heap) (wanted widest' : ℕ) : Type 0 where
+pub record IsFullForColumn (lumps : List Lump) (number : ℕ) (t : PreparedTexture)
+    (lookup : ColumnLookup) (z : Heap) (wanted widest' : ℕ) : Type 0 where
   pub owner : Owner
   pub size : ℕ
   pub asked : IsAskedByColumn lumps number t lookup owner size
   pub wanted_is : wanted ≡ block_size size
   pub narrow : widest' < wanted
-  pub room : (colormap count : ℕ) → IsAtRest colormap count z → IsSmall z.size count wanted ⊎ (IsPatch lumps t owner size × IsSmallBeside z.size count (size_of t) wanted)
+  pub room : (colormap count : ℕ) → IsAtRest colormap count z →
+      IsSmall z.size count wanted ⊎
+      (IsPatch lumps t owner size × IsSmallBeside z.size count (size_of t) wanted)
 
 -- a list has all that a column asks for
 abbrev pub HasColumnAsked : List Item → List Lump → ℕ → PreparedTexture → ColumnLookup → Type 0
-HasColumnAsked items lumps number t lookup = (o : Owner) (size : ℕ) → IsAskedByColumn lumps number t lookup o size → has_item items o size ≡ true
+HasColumnAsked items lumps number t lookup = (o : Owner) (size : ℕ) →
+    IsAskedByColumn lumps number t lookup o size → has_item items o size ≡ true

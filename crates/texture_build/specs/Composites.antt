@@ -12,4 +12,6 @@ composite_of bytes t = composite bytes t.patches (length t.columns) t.height
 
 -- each live composite of a prepared texture has its bytes
 pub record AreComposites (bytes : ℕ → List ℕ) (textures : TexturesView) (z : Heap) : Type 0 where
-  pub at : (number : ℕ) → IfSome (prepared_at textures.prepared number) (λ t. IfSome (bytes_of (composite_owner number) z.blocks) (λ xs. xs ≡ composite_of bytes t))
+  pub at : (number : ℕ) →
+      IfSome (prepared_at textures.prepared number)
+      (λ t. IfSome (bytes_of (composite_owner number) z.blocks) (λ xs. xs ≡ composite_of bytes t))

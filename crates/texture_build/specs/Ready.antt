@@ -1,4 +1,4 @@
--- What is told of a call that makes live what a texture column is read from.
+-- A call that makes live what a texture column is read from.
 use Rattle.std.specs.Prelude.{◌≡◌, ℕ, List, None, Some, IfErr, OnOk, OnErr, MatchResult, Result, Ok}
 use Rattle.outside.specs.Shelf.{ShelfView, IsLaterShelf, NameFiles}
 use Rattle.outside.specs.Faults.{ResultIs, HasCauses}
@@ -17,17 +17,28 @@ use Rattle.texture_build.specs.Sources.{IsColumnLive, IsComposedColumn}
 use Rattle.texture_build.specs.Views.{TexturesView, prepared_at}
 
 -- for a column of the texture of that number, which is read from that
-pub record MakesColumnLive (number : ℕ) (t : PreparedTexture) (lookup : ColumnLookup) (view after : ShelfView) (dir : DirectoryView) (old new : Heap) (result : Result (Unit {0}) CacheFault) : Type 0 where
-  pub answers : (contents : List (List ℕ)) → NameFiles view dir.files contents → AllWithin contents dir.lumps → ResultIs cache_fault view.steady (λ (done : Unit {0}). done) (Ok tt) result
+pub record MakesColumnLive (number : ℕ) (t : PreparedTexture) (lookup : ColumnLookup)
+    (view after : ShelfView) (dir : DirectoryView) (old new : Heap)
+    (result : Result (Unit {0}) CacheFault) : Type 0 where
+  pub answers : (contents : List (List ℕ)) → NameFiles view dir.files contents →
+      AllWithin contents dir.lumps →
+      ResultIs cache_fault view.steady (λ (done : Unit {0}). done) (Ok tt) result
   pub live : OnOk result (IsColumnLive number new lookup)
   pub follows : IsLaterShelf view after
   pub causes : HasCauses cache_fault view.faults after.faults result
   pub counts : KeepsCounts old new
   pub rest : (colormap count : ℕ) → IsAtRest colormap count old → IsAtRest colormap count new
-  pub faithful : (contents : List (List ℕ)) → NameFiles view dir.files contents → IsFaithful contents dir.lumps old → IsFaithful contents dir.lumps new
-  pub composites : (contents : List (List ℕ)) (textures : TexturesView) → prepared_at textures.prepared number ≡ Some t → HoldContents view dir old contents →
-      AreComposites (lump_bytes contents dir.lumps) textures old → AreComposites (lump_bytes contents dir.lumps) textures new
-  pub empty : OnErr result (IsComposedColumn lookup → owned_block (composite_owner number) new.blocks ≡ None)
-  pub full : IfErr result (λ fault. IfFull (cache_fault fault) (IsFullForColumn dir.lumps number t lookup old))
-  pub order : (items : List Item) → HasColumnAsked items dir.lumps number t lookup → IsInOrder items old →
-      MatchResult result (λ _. KeepsOrder items old new view.taken after.taken) (λ fault. InOrderAt (cache_fault fault) (KeepsOrder items old new view.taken after.taken))
+  pub faithful : (contents : List (List ℕ)) → NameFiles view dir.files contents →
+      IsFaithful contents dir.lumps old → IsFaithful contents dir.lumps new
+  pub composites : (contents : List (List ℕ)) (textures : TexturesView) →
+      prepared_at textures.prepared number ≡ Some t → HoldContents view dir old contents →
+      AreComposites (lump_bytes contents dir.lumps) textures old →
+      AreComposites (lump_bytes contents dir.lumps) textures new
+  pub empty : OnErr result
+      (IsComposedColumn lookup → owned_block (composite_owner number) new.blocks ≡ None)
+  pub full : IfErr result
+      (λ fault. IfFull (cache_fault fault) (IsFullForColumn dir.lumps number t lookup old))
+  pub order : (items : List Item) → HasColumnAsked items dir.lumps number t lookup →
+      IsInOrder items old →
+      MatchResult result (λ _. KeepsOrder items old new view.taken after.taken)
+      (λ fault. InOrderAt (cache_fault fault) (KeepsOrder items old new view.taken after.taken))

@@ -57,5 +57,7 @@ column_from first bytes = record { bytes = bytes; first = first }
 
 abbrev pub column_view : ℕ → Heap → ColumnLookup → Option ColumnView
 column_view number z Empty = Some (column_from 0 [])
-column_view number z (Single lump place) = option_map (column_from (place + POST_BYTES_AT)) (bytes_of (lump_owner lump) z.blocks)
-column_view number z (Composed place) = option_map (column_from place) (bytes_of (composite_owner number) z.blocks)
+column_view number z (Single lump place) =
+    option_map (column_from (place + POST_BYTES_AT)) (bytes_of (lump_owner lump) z.blocks)
+column_view number z (Composed place) =
+    option_map (column_from place) (bytes_of (composite_owner number) z.blocks)

@@ -38,21 +38,28 @@ abbrev pub is_wanted : List TexNo → ℕ → Bool
 is_wanted wanted number = list_any (λ (tex : TexNo). tex.0 == number) wanted
 
 -- these textures are those of a directory whose files have these contents
-pub record AreTexturesOf (contents : List (List ℕ)) (lumps : List Lump) (textures : TexturesView) : Type 0 where
+pub record AreTexturesOf (contents : List (List ℕ)) (lumps : List Lump)
+    (textures : TexturesView) : Type 0 where
   pub wanted : ℕ → Bool
-  pub lists : texture_lists (named_bytes (lump_bytes contents lumps) lumps PNAMES) (named_bytes (lump_bytes contents lumps) lumps TEXTURE1) (named_bytes (lump_bytes contents lumps) lumps TEXTURE2) ≡ Ok textures.lists
-  pub prepared : prepared_textures (last_of lumps) (lump_bytes contents lumps) textures.lists wanted ≡ Ok textures.prepared
+  pub lists : texture_lists (named_bytes (lump_bytes contents lumps) lumps PNAMES)
+      (named_bytes (lump_bytes contents lumps) lumps TEXTURE1)
+      (named_bytes (lump_bytes contents lumps) lumps TEXTURE2) ≡ Ok textures.lists
+  pub prepared : prepared_textures (last_of lumps) (lump_bytes contents lumps) textures.lists wanted
+      ≡ Ok textures.prepared
 
 -- the lumps of a texture's patches are of the directory
 abbrev pub ArePatchesThere : List Lump → PreparedTexture → Type 0
 ArePatchesThere lumps t = All (λ (patch : PlacedPatch). patch.lump < length lumps) t.patches
 
 abbrev pub AllThere : List Lump → TexturesView → Type 0
-AllThere lumps textures = All (λ (t : Option PreparedTexture). IfSome t (ArePatchesThere lumps)) textures.prepared
+AllThere lumps textures =
+    All (λ (t : Option PreparedTexture). IfSome t (ArePatchesThere lumps)) textures.prepared
 
 -- a prepared texture has as many columns and rows as its record says
 abbrev pub IsListedAs : Texture → PreparedTexture → Type 0
 IsListedAs listed t = (length t.columns ≡ listed.width) × (t.height ≡ listed.height)
 
 abbrev pub AllTexturesListed : TexturesView → Type 0
-AllTexturesListed textures = (number : ℕ) → IfSome (prepared_at textures.prepared number) (IsListedAs (texture_at textures.lists.textures number))
+AllTexturesListed textures = (number : ℕ) →
+    IfSome (prepared_at textures.prepared number)
+    (IsListedAs (texture_at textures.lists.textures number))

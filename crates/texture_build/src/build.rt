@@ -41,19 +41,37 @@ pub(crate) fn build_composite<S: Shelf>(
     requires composite { number < cache.old.composites }
     requires there { ArePatchesThere dir.now.lumps texture.now }
     requires empty { IsNone (holding_of (composite_owner number) cache.old.blocks) }
-    ensures answers { (contents : List (List ℕ)) → NameFiles (S.view shelf.old) dir.now.files contents → AllWithin contents dir.now.lumps → ResultIs cache_fault (S.view shelf.old).steady (λ done. done) (Ok tt) result }
+    ensures answers { (contents : List (List ℕ)) →
+        NameFiles (S.view shelf.old) dir.now.files contents → AllWithin contents dir.now.lumps →
+        ResultIs cache_fault (S.view shelf.old).steady (λ done. done) (Ok tt) result }
     ensures live { OnOk result (IsLive cache.new (composite_owner number)) }
     ensures follows { IsLaterShelf (S.view shelf.old) (S.view shelf.new) }
-    ensures causes { HasCauses cache_fault (S.view shelf.old).faults (S.view shelf.new).faults result }
+    ensures causes { HasCauses cache_fault (S.view shelf.old).faults (S.view shelf.new).faults
+        result }
     ensures counts { KeepsCounts cache.old cache.new }
-    ensures rest { (colormap count : ℕ) → IsAtRest colormap count cache.old → IsAtRest colormap count cache.new }
-    ensures faithful { (contents : List (List ℕ)) → NameFiles (S.view shelf.old) dir.now.files contents → IsFaithful contents dir.now.lumps cache.old → IsFaithful contents dir.now.lumps cache.new }
-    ensures composite { (contents : List (List ℕ)) → HoldContents (S.view shelf.old) dir.now cache.old contents → OnOk result (bytes_of (composite_owner number) cache.new.blocks ≡ Some (composite_of (lump_bytes contents dir.now.lumps) texture.now)) }
+    ensures rest { (colormap count : ℕ) → IsAtRest colormap count cache.old →
+        IsAtRest colormap count cache.new }
+    ensures faithful { (contents : List (List ℕ)) →
+        NameFiles (S.view shelf.old) dir.now.files contents →
+        IsFaithful contents dir.now.lumps cache.old → IsFaithful contents dir.now.lumps cache.new }
+    ensures composite { (contents : List (List ℕ)) →
+        HoldContents (S.view shelf.old) dir.now cache.old contents →
+        OnOk result (bytes_of (composite_owner number) cache.new.blocks
+        ≡ Some (composite_of (lump_bytes contents dir.now.lumps) texture.now)) }
     ensures others { OthersKeep number cache.old cache.new }
     ensures empty { OnErr result (owned_block (composite_owner number) cache.new.blocks ≡ None) }
-    ensures full { (place : ℕ) → IfErr result (λ fault. IfFull (cache_fault fault) (IsFullForColumn dir.now.lumps number texture.now (Composed place) cache.old)) }
-    ensures order { (place : ℕ) (items : List Item) → HasColumnAsked items dir.now.lumps number texture.now (Composed place) → IsInOrder items cache.old →
-        MatchResult result (λ _. KeepsOrder items cache.old cache.new (S.view shelf.old).taken (S.view shelf.new).taken) (λ fault. InOrderAt (cache_fault fault) (KeepsOrder items cache.old cache.new (S.view shelf.old).taken (S.view shelf.new).taken)) }
+    ensures full { (place : ℕ) →
+        IfErr result (λ fault. IfFull (cache_fault fault)
+        (IsFullForColumn dir.now.lumps number texture.now (Composed place) cache.old)) }
+    ensures order { (place : ℕ) (items : List Item) →
+        HasColumnAsked items dir.now.lumps number texture.now (Composed place) →
+        IsInOrder items cache.old →
+        MatchResult result
+        (λ _. KeepsOrder items cache.old cache.new (S.view shelf.old).taken
+        (S.view shelf.new).taken)
+        (λ fault. InOrderAt (cache_fault fault)
+        (KeepsOrder items cache.old cache.new (S.view shelf.old).taken
+        (S.view shelf.new).taken)) }
 {
     begin_composite(cache, number, texture.size())?;
     let built = put_patches(texture, number, dir, cache, shelf);
@@ -65,7 +83,8 @@ pub(crate) fn build_composite<S: Shelf>(
 fn begin_composite(cache: &mut LumpCache, number: u32, size: u32) -> Result<(), ZoneFull>
     requires in_range { number < cache.old.composites }
     requires empty { IsNone (holding_of (composite_owner number) cache.old.blocks) }
-    ensures { MatchResult result (λ _. StartsComposite number size cache.old cache.new) (λ e. FailsToBegin number size cache.old cache.new e.wanted e.widest) }
+    ensures { MatchResult result (λ _. StartsComposite number size cache.old cache.new)
+        (λ e. FailsToBegin number size cache.old cache.new e.wanted e.widest) }
 {
     cache.take_composite(number, size)?;
     clear_composite(cache, number);
@@ -76,13 +95,14 @@ fn begin_composite(cache: &mut LumpCache, number: u32, size: u32) -> Result<(), 
 fn clear_composite(cache: &mut LumpCache, number: u32)
     requires in_range { number < cache.old.composites }
     requires live { IsLive cache.old (composite_owner number) }
-    ensures { IsFilled (composite_owner number) cache.old cache.new (λ w. w ≡ replicate (length w) 0) }
+    ensures { IsFilled (composite_owner number) cache.old cache.new
+        (λ w. w ≡ replicate (length w) 0) }
 {
     cache.composite_mut(number).fill(0);
 }
 
-// EndsComposite the building of a composite: what was built is made purgeable, and after a fault its block
-// is freed.
+// Ends the building of a composite: one that was built is made purgeable, and after a fault its
+// block is freed.
 fn end_composite(cache: &mut LumpCache, number: u32, built: &Result<(), CacheFault>)
     requires in_range { number < cache.old.composites }
     requires live { IsLive cache.old (composite_owner number) }
@@ -107,7 +127,8 @@ fn put_patches<S: Shelf>(
     requires composite { number < cache.old.composites }
     requires there { ArePatchesThere dir.now.lumps texture.now }
     requires building { IsBuilding number (size_of texture.now) cache.old }
-    ensures { PutsPatches number texture.now 0 (length texture.now.patches) (S.view shelf.old) (S.view shelf.new) dir.now cache.old cache.new result }
+    ensures { PutsPatches number texture.now 0 (length texture.now.patches) (S.view shelf.old)
+        (S.view shelf.new) dir.now cache.old cache.new result }
 {
     for patch in texture.patches() {
         fetch_and_put(texture, number, patch, dir, cache, shelf)?;
@@ -129,7 +150,9 @@ fn fetch_and_put<S: Shelf>(
     requires among { Contains texture.now.patches patch.now }
     requires there { patch.now.lump < length dir.now.lumps }
     requires building { IsBuilding number (size_of texture.now) cache.old }
-    ensures { (n : ℕ) → slice_get texture.now.patches n ≡ Some patch.now → PutsPatches number texture.now n (n + 1) (S.view shelf.old) (S.view shelf.new) dir.now cache.old cache.new result }
+    ensures { (n : ℕ) → slice_get texture.now.patches n ≡ Some patch.now →
+        PutsPatches number texture.now n (n + 1) (S.view shelf.old) (S.view shelf.new) dir.now
+        cache.old cache.new result }
 {
     let lump = LumpNo(patch.lump);
     cache.fetch(shelf, dir, lump, Tag::Level)?;
@@ -144,7 +167,8 @@ fn put_live(cache: &mut LumpCache, number: u32, texture: &PreparedTexture, patch
     requires in_range { number < cache.old.composites }
     requires lump_live { IsLive cache.old (lump_owner patch.now.lump) }
     requires live { IsLive cache.old (composite_owner number) }
-    ensures { IsFilled (composite_owner number) cache.old cache.new (PutsPatch number texture.now patch.now cache.old) }
+    ensures { IsFilled (composite_owner number) cache.old cache.new
+        (PutsPatch number texture.now patch.now cache.old) }
 {
     let columns = texture.columns();
     let height = texture.height();

@@ -42,8 +42,8 @@ impl<'c> Column<'c> {
     }
 }
 
-// The texels of a column of the texture of that number, by what it is read from; `None` exactly where
-// those bytes are not live. Takes no memory.
+// The texels of a column of the texture of that number, by what it is read from; `None` exactly
+// where those bytes are not live. Takes no memory.
 #[inline(always)]
 #[tactic(auto, unfolding(art_rules::specs::Lookups::single_place))]
 pub(crate) fn lend_lookup<'c>(

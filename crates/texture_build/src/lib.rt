@@ -1,10 +1,10 @@
 //! The textures of walls: prepared column by column, composed in the zone, and lent as texels.
 //!
-//! Rules: `art_rules`, Textures, Columns, Lookups and Wanted; what a contract sees is in
-//! `specs/Views`, how the patches of a texture come in `specs/Parts`, what a column is read from in
-//! `specs/Sources`, what may be asked of the zone in `specs/Asked`, which composites a cache holds in
-//! `specs/Composites`, how one is built in `specs/Builds`, and what is told of a column made live in
-//! `specs/Ready`. Proved: each call. Tested only: that memory is found. The original: r_data.c.
+//! Rules: `art_rules`, Textures, Columns, Lookups and Wanted. `specs/Views` has what a contract
+//! sees, `specs/Parts` how the patches of a texture come, `specs/Sources` what a column is read
+//! from, `specs/Asked` what a call may ask of the zone, `specs/Composites` which composites a cache
+//! has, `specs/Builds` how one is built, `specs/Ready` what it means that a column is made live.
+//! Proved: each call. Tested only: that memory suffices. The original: r_data.c.
 #![tactic(auto)]
 
 mod build;

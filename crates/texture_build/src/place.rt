@@ -1,7 +1,7 @@
 // The patches of a texture, placed one after the other.
 //
-// Rules: `art_rules`, Wanted, and `specs/Parts`. The original: `R_InitTextures`, `R_GenerateLookup`,
-// r_data.c.
+// Rules: `art_rules`, Wanted, and `specs/Parts`. The original: `R_InitTextures`,
+// `R_GenerateLookup`, r_data.c.
 ghost use Rattle.outside.specs.Faults.{itself};
 ghost use Rattle.std.specs.Prelude.{◌≡◌, ◌<◌, ◌≤◌, ◌^◌, ◌++◌, ◌∷◌, ℕ, [], List, All, length, option_map, option_and_then, Some, Ok, IfOk, IfSome, OnOk};
 ghost use Rattle.lump_rules.specs.Contents.{lump_bytes};
@@ -39,10 +39,18 @@ pub(crate) fn place_patches<S: Shelf>(
     requires slots { length dir.now.lumps ≤ cache.old.lumps }
     requires width { length columns.old < 2 ^ 16 }
     requires none { patches.old.items ≡ [] }
-    requires empty { (bytes : ℕ → List ℕ) → columns.old ≡ seen_lookups bytes [] (length columns.old) }
-    ensures tells { ReadsLumps itself (S.view shelf.old) (S.view shelf.new) dir.now cache.old cache.new (IsEntryPatch dir.now.lumps lists.now.names entries.now) (λ _. record { patches = patches.new.items; columns = columns.new }) (λ bytes. or_missing tex.0 (option_map (patches_part bytes (length columns.old)) (placed_patches (last_of dir.now.lumps) bytes lists.now.names entries.now))) result }
+    requires empty { (bytes : ℕ → List ℕ) →
+        columns.old ≡ seen_lookups bytes [] (length columns.old) }
+    ensures tells { ReadsLumps itself (S.view shelf.old) (S.view shelf.new) dir.now cache.old
+        cache.new (IsEntryPatch dir.now.lumps lists.now.names entries.now)
+        (λ _. record { patches = patches.new.items; columns = columns.new })
+        (λ bytes. or_missing tex.0
+        (option_map (patches_part bytes (length columns.old))
+        (placed_patches (last_of dir.now.lumps) bytes lists.now.names entries.now)))
+        result }
     ensures seen { OnOk result (AreSeen patches.new.items columns.new) }
-    ensures there { OnOk result (All (λ patch. patch.lump < length dir.now.lumps) patches.new.items) }
+    ensures there { OnOk result (All (λ patch. patch.lump < length dir.now.lumps)
+        patches.new.items) }
     ensures count { length columns.new ≡ length columns.old }
 {
     for entry in entries {
@@ -64,8 +72,14 @@ fn place_entry<S: Shelf>(
 ) -> Result<PlacedPatch, TexFault>
     requires slots { length dir.now.lumps ≤ cache.old.lumps }
     requires width { length columns.old < 2 ^ 16 }
-    ensures tells { ReadsLumps itself (S.view shelf.old) (S.view shelf.new) dir.now cache.old cache.new (λ lump. patch_lump dir.now.lumps lists.now.names entry.now ≡ Some lump) (λ patch. record { patch = patch; columns = columns.new }) (λ bytes. or_missing tex.0 (option_map (step_of bytes columns.old) (placed_patch (last_of dir.now.lumps) bytes lists.now.names entry.now))) result }
-    ensures seen { (patches : List PlacedPatch) → AreSeen patches columns.old → IfOk result (λ patch. AreSeen (patches ++ patch ∷ []) columns.new) }
+    ensures tells { ReadsLumps itself (S.view shelf.old) (S.view shelf.new) dir.now cache.old
+        cache.new (λ lump. patch_lump dir.now.lumps lists.now.names entry.now ≡ Some lump)
+        (λ patch. record { patch = patch; columns = columns.new })
+        (λ bytes. or_missing tex.0
+        (option_map (step_of bytes columns.old)
+        (placed_patch (last_of dir.now.lumps) bytes lists.now.names entry.now))) result }
+    ensures seen { (patches : List PlacedPatch) → AreSeen patches columns.old →
+        IfOk result (λ patch. AreSeen (patches ++ patch ∷ []) columns.new) }
     ensures there { IfOk result (λ patch. patch.lump < length dir.now.lumps) }
     ensures count { length columns.new ≡ length columns.old }
 {
@@ -78,7 +92,8 @@ fn place_entry<S: Shelf>(
 // The last lump of a patch's name; `None` exactly where its number is none of the names of patches,
 // or no lump has the name.
 fn patch_lump(entry: &TextureEntry, lists: &ListedTextures, dir: &Directory) -> Option<LumpNo>
-    ensures found { option_map (λ lump. lump.0) result ≡ patch_lump dir.now.lumps lists.now.names entry.now }
+    ensures found { option_map (λ lump. lump.0) result
+        ≡ patch_lump dir.now.lumps lists.now.names entry.now }
     ensures there { IfSome result (λ lump. lump.0 < length dir.now.lumps) }
 {
     match lists.patch_name(entry.number) {
@@ -100,8 +115,13 @@ fn place_lump<S: Shelf>(
     requires slots { length dir.now.lumps ≤ cache.old.lumps }
     requires listed { lump.0 < length dir.now.lumps }
     requires width { length columns.old < 2 ^ 16 }
-    ensures tells { ReadsLumps itself (S.view shelf.old) (S.view shelf.new) dir.now cache.old cache.new (λ number. number ≡ lump.0) (λ patch. record { patch = patch; columns = columns.new }) (λ bytes. or_missing tex.0 (option_map (step_of bytes columns.old) (place_lump bytes entry.now lump.0))) result }
-    ensures seen { (patches : List PlacedPatch) → AreSeen patches columns.old → IfOk result (λ patch. AreSeen (patches ++ patch ∷ []) columns.new) }
+    ensures tells { ReadsLumps itself (S.view shelf.old) (S.view shelf.new) dir.now cache.old
+        cache.new (λ number. number ≡ lump.0)
+        (λ patch. record { patch = patch; columns = columns.new })
+        (λ bytes. or_missing tex.0
+        (option_map (step_of bytes columns.old) (place_lump bytes entry.now lump.0))) result }
+    ensures seen { (patches : List PlacedPatch) → AreSeen patches columns.old →
+        IfOk result (λ patch. AreSeen (patches ++ patch ∷ []) columns.new) }
     ensures lump { IfOk result (λ patch. patch.lump ≡ lump.0) }
     ensures count { length columns.new ≡ length columns.old }
 {
@@ -121,10 +141,13 @@ fn fetch_patch<S: Shelf>(
 ) -> Result<(), TexFault>
     requires slots { length dir.now.lumps ≤ cache.old.lumps }
     requires listed { lump.0 < length dir.now.lumps }
-    ensures tells { ReadsLumps itself (S.view shelf.old) (S.view shelf.new) dir.now cache.old cache.new
+    ensures tells { ReadsLumps itself (S.view shelf.old) (S.view shelf.new) dir.now cache.old
+        cache.new
         (λ number. number ≡ lump.0) (λ done. done) (λ bytes. Ok tt) result }
-    ensures bytes { (contents : List (List ℕ)) → HoldContents (S.view shelf.old) dir.now cache.old contents →
-        OnOk result (bytes_of (lump_owner lump.0) cache.new.blocks ≡ Some (lump_bytes contents dir.now.lumps lump.0)) }
+    ensures bytes { (contents : List (List ℕ)) →
+        HoldContents (S.view shelf.old) dir.now cache.old contents →
+        OnOk result (bytes_of (lump_owner lump.0) cache.new.blocks
+        ≡ Some (lump_bytes contents dir.now.lumps lump.0)) }
 {
     fetch_live(cache, dir, shelf, lump).map_err(CacheFault::above)
 }
@@ -138,9 +161,14 @@ fn place_live(
 ) -> Option<PlacedPatch>
     requires slots { lump.0 < cache.now.lumps }
     requires width { length columns.old < 2 ^ 16 }
-    ensures value { result ≡ option_and_then (λ bytes. option_map (place_patch entry.now lump.0) (patch_of bytes)) (bytes_of (lump_owner lump.0) cache.now.blocks) }
-    ensures columns { IfSome result (λ patch. IfSome (bytes_of (lump_owner lump.0) cache.now.blocks) (λ bytes. columns.new ≡ columns_with bytes patch columns.old)) }
-    ensures seen { (patches : List PlacedPatch) → AreSeen patches columns.old → IfSome result (λ patch. AreSeen (patches ++ patch ∷ []) columns.new) }
+    ensures value { result ≡ option_and_then
+        (λ bytes. option_map (place_patch entry.now lump.0) (patch_of bytes))
+        (bytes_of (lump_owner lump.0) cache.now.blocks) }
+    ensures columns { IfSome result
+        (λ patch. IfSome (bytes_of (lump_owner lump.0) cache.now.blocks)
+        (λ bytes. columns.new ≡ columns_with bytes patch columns.old)) }
+    ensures seen { (patches : List PlacedPatch) → AreSeen patches columns.old →
+        IfSome result (λ patch. AreSeen (patches ++ patch ∷ []) columns.new) }
     ensures count { length columns.new ≡ length columns.old }
 {
     match cache.bytes(lump) {
@@ -158,8 +186,10 @@ fn place_bytes(
 ) -> Option<PlacedPatch>
     requires { length columns.old < 2 ^ 16 }
     ensures value { result ≡ option_map (place_patch entry.now lump.0) (patch_of bytes.now) }
-    ensures columns { IfSome result (λ patch. columns.new ≡ columns_with bytes.now patch columns.old) }
-    ensures seen { (patches : List PlacedPatch) → AreSeen patches columns.old → IfSome result (λ patch. AreSeen (patches ++ patch ∷ []) columns.new) }
+    ensures columns { IfSome result
+        (λ patch. columns.new ≡ columns_with bytes.now patch columns.old) }
+    ensures seen { (patches : List PlacedPatch) → AreSeen patches columns.old →
+        IfSome result (λ patch. AreSeen (patches ++ patch ∷ []) columns.new) }
     ensures count { length columns.new ≡ length columns.old }
 {
     let patch = Patch::read(bytes)?;

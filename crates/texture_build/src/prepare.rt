@@ -37,10 +37,18 @@ pub(crate) fn prepare_wanted<S: Shelf>(
 ) -> Result<PreparedList, TexFault>
     requires slots { length dir.now.lumps ≤ cache.old.lumps }
     requires below { All (λ tex. tex.0 < length lists.now.textures) wanted.now }
-    ensures tells { ReadsLumps itself (S.view shelf.old) (S.view shelf.new) dir.now cache.old cache.new (IsWantedPatch dir.now.lumps lists.now (is_wanted wanted.now)) (λ textures. textures) (λ bytes. prepared_textures (last_of dir.now.lumps) bytes lists.now (is_wanted wanted.now)) result }
-    ensures there { IfOk result (λ textures. All (λ t. IfSome t (ArePatchesThere dir.now.lumps)) textures) }
-    ensures listed { IfOk result (λ textures. (number : ℕ) → IfSome (prepared_at textures number) (IsListedAs (texture_at lists.now.textures number))) }
-    ensures wanted { IfOk result (λ textures. All (λ tex. IsSome (prepared_at textures tex.0)) wanted.now) }
+    ensures tells { ReadsLumps itself (S.view shelf.old) (S.view shelf.new) dir.now cache.old
+        cache.new (IsWantedPatch dir.now.lumps lists.now (is_wanted wanted.now))
+        (λ textures. textures)
+        (λ bytes. prepared_textures (last_of dir.now.lumps) bytes lists.now (is_wanted wanted.now))
+        result }
+    ensures there { IfOk result (λ textures. All (λ t. IfSome t (ArePatchesThere dir.now.lumps))
+        textures) }
+    ensures listed { IfOk result (λ textures. (number : ℕ) →
+        IfSome (prepared_at textures number)
+        (IsListedAs (texture_at lists.now.textures number))) }
+    ensures wanted { IfOk result (λ textures. All (λ tex. IsSome (prepared_at textures tex.0))
+        wanted.now) }
     ensures count { IfOk result (λ textures. length textures ≡ length lists.now.textures) }
 {
     let marks = mark_wanted(alloc, lists.count(), wanted)?;
@@ -48,11 +56,12 @@ pub(crate) fn prepare_wanted<S: Shelf>(
     Ok(PreparedList::new(alloc, textures)?)
 }
 
-// So many marks, of which those of the wanted textures are set.
+// `count` marks, of which those of the wanted textures are set.
 fn mark_wanted(alloc: Global, count: u32, wanted: &[TexNo]) -> Result<Vec<bool>, OutOfMemory>
     requires { All (λ tex. tex.0 < count) wanted.now }
     ensures count { IfOk result (λ marks. length marks.items ≡ count) }
-    ensures marked { IfOk result (λ marks. (number : ℕ) → is_marked marks.items number ≡ is_wanted wanted.now number) }
+    ensures marked { IfOk result (λ marks. (number : ℕ) →
+        is_marked marks.items number ≡ is_wanted wanted.now number) }
 {
     let mut marks = no_marks(alloc, count as usize)?;
     set_marks(&mut marks, wanted);
@@ -61,7 +70,9 @@ fn mark_wanted(alloc: Global, count: u32, wanted: &[TexNo]) -> Result<Vec<bool>,
 
 fn set_marks(marks: &mut [bool], wanted: &[TexNo])
     ensures count { length marks.new ≡ length marks.old }
-    ensures marked { (number : ℕ) → number < length marks.old → slice_index_or marks.new number false ≡ (slice_index_or marks.old number false || is_wanted wanted.now number) }
+    ensures marked { (number : ℕ) → number < length marks.old →
+        slice_index_or marks.new number false
+        ≡ (slice_index_or marks.old number false || is_wanted wanted.now number) }
 {
     for tex in wanted {
         set_mark(marks, tex.0);
@@ -80,9 +91,16 @@ fn prepare_marked<S: Shelf>(
     requires slots { length dir.now.lumps ≤ cache.old.lumps }
     requires count { length marks.now ≡ length lists.now.textures }
     requires few { length marks.now < 2 ^ 16 }
-    ensures tells { ReadsLumps itself (S.view shelf.old) (S.view shelf.new) dir.now cache.old cache.new (IsWantedPatch dir.now.lumps lists.now (is_marked marks.now)) (λ textures. textures.items) (λ bytes. prepared_textures (last_of dir.now.lumps) bytes lists.now (is_marked marks.now)) result }
-    ensures there { IfOk result (λ textures. All (λ t. IfSome t (ArePatchesThere dir.now.lumps)) textures.items) }
-    ensures listed { IfOk result (λ textures. (number : ℕ) → IfSome (prepared_at textures.items number) (IsListedAs (texture_at lists.now.textures number))) }
+    ensures tells { ReadsLumps itself (S.view shelf.old) (S.view shelf.new) dir.now cache.old
+        cache.new (IsWantedPatch dir.now.lumps lists.now (is_marked marks.now))
+        (λ textures. textures.items)
+        (λ bytes. prepared_textures (last_of dir.now.lumps) bytes lists.now (is_marked marks.now))
+        result }
+    ensures there { IfOk result (λ textures. All (λ t. IfSome t (ArePatchesThere dir.now.lumps))
+        textures.items) }
+    ensures listed { IfOk result (λ textures. (number : ℕ) →
+        IfSome (prepared_at textures.items number)
+        (IsListedAs (texture_at lists.now.textures number))) }
     ensures marks { IfOk result (λ textures. map is_some textures.items ≡ marks.now) }
 {
     let mut textures = Vec::new(alloc);
@@ -106,9 +124,16 @@ fn prepare_if<S: Shelf>(
 ) -> Result<Option<PreparedTexture>, TexFault>
     requires slots { length dir.now.lumps ≤ cache.old.lumps }
     requires below { tex.0 < length lists.now.textures }
-    ensures tells { ReadsLumps itself (S.view shelf.old) (S.view shelf.new) dir.now cache.old cache.new (λ lump. (wanted ≡ true) × IsEntryPatch dir.now.lumps lists.now.names (texture_at lists.now.textures tex.0).patches lump) (λ texture. texture) (λ bytes. prepared_if wanted (prepared (last_of dir.now.lumps) bytes lists.now.names tex.0 (texture_at lists.now.textures tex.0))) result }
+    ensures tells { ReadsLumps itself (S.view shelf.old) (S.view shelf.new) dir.now cache.old
+        cache.new (λ lump. (wanted ≡ true) ×
+        IsEntryPatch dir.now.lumps lists.now.names (texture_at lists.now.textures tex.0).patches
+        lump) (λ texture. texture)
+        (λ bytes. prepared_if wanted
+        (prepared (last_of dir.now.lumps) bytes lists.now.names tex.0
+        (texture_at lists.now.textures tex.0))) result }
     ensures there { IfOk result (λ texture. IfSome texture (ArePatchesThere dir.now.lumps)) }
-    ensures listed { IfOk result (λ texture. IfSome texture (IsListedAs (texture_at lists.now.textures tex.0))) }
+    ensures listed { IfOk result (λ texture. IfSome texture
+        (IsListedAs (texture_at lists.now.textures tex.0))) }
     ensures wanted { IfOk result (λ texture. is_some texture ≡ wanted) }
 {
     if wanted {
@@ -129,7 +154,11 @@ fn prepare_texture<S: Shelf>(
 ) -> Result<PreparedTexture, TexFault>
     requires slots { length dir.now.lumps ≤ cache.old.lumps }
     requires below { tex.0 < length lists.now.textures }
-    ensures tells { ReadsLumps itself (S.view shelf.old) (S.view shelf.new) dir.now cache.old cache.new (IsEntryPatch dir.now.lumps lists.now.names (texture_at lists.now.textures tex.0).patches) (λ texture. texture) (λ bytes. prepared (last_of dir.now.lumps) bytes lists.now.names tex.0 (texture_at lists.now.textures tex.0)) result }
+    ensures tells { ReadsLumps itself (S.view shelf.old) (S.view shelf.new) dir.now cache.old
+        cache.new (IsEntryPatch dir.now.lumps lists.now.names
+        (texture_at lists.now.textures tex.0).patches) (λ texture. texture)
+        (λ bytes. prepared (last_of dir.now.lumps) bytes lists.now.names tex.0
+        (texture_at lists.now.textures tex.0)) result }
     ensures there { IfOk result (ArePatchesThere dir.now.lumps) }
     ensures listed { IfOk result (IsListedAs (texture_at lists.now.textures tex.0)) }
 {
@@ -149,7 +178,7 @@ fn prepare_texture<S: Shelf>(
     bind_texture(tex, lists, patches, columns)
 }
 
-// So many columns in which no patch stands.
+// `width` columns in which no patch stands.
 fn empty_columns(alloc: Global, width: u16) -> Result<Vec<ColumnLookup>, OutOfMemory>
     ensures { IfOk result (λ columns. columns.items ≡ replicate width Empty) }
 {
@@ -168,10 +197,14 @@ fn bind_texture(
     requires some { 0 < length columns.items }
     requires few { length columns.items < 2 ^ 16 }
     requires seen { AreSeen patches.items columns.items }
-    ensures ok { (bytes : ℕ → List ℕ) → columns.items ≡ seen_lookups bytes patches.items (length columns.items) →
-        IfOk result (λ texture. unless_too_big bytes tex.0 (texture_at lists.now.textures tex.0) patches.items ≡ Ok texture) }
+    ensures ok { (bytes : ℕ → List ℕ) →
+        columns.items ≡ seen_lookups bytes patches.items (length columns.items) →
+        IfOk result (λ texture. unless_too_big bytes tex.0 (texture_at lists.now.textures tex.0)
+        patches.items ≡ Ok texture) }
     ensures err { IfErr result (λ fault. (fault ≡ Refused (TooBig tex.0))
-        × ((bytes : ℕ → List ℕ) → unless_too_big bytes tex.0 (texture_at lists.now.textures tex.0) patches.items ≡ Err (TooBig tex.0))) }
+        × ((bytes : ℕ → List ℕ) →
+        unless_too_big bytes tex.0 (texture_at lists.now.textures tex.0) patches.items
+        ≡ Err (TooBig tex.0))) }
     ensures patches { IfOk result (λ texture. texture.patches ≡ patches.items) }
     ensures listed { IfOk result (IsListedAs (texture_at lists.now.textures tex.0)) }
 {

@@ -13,8 +13,8 @@ ghost use Rattle.texture_build.specs.Sources.{IsColumnThere, column_in, own_look
 ghost use Rattle.texture_build.specs.Views.{ArePatchesThere};
 
 use art_rules::{ColumnLookup, MAX_COMPOSITE, PlacedPatch};
-use std::marker::Model;
 use patch_columns::place_columns;
+use std::marker::Model;
 
 // A texture with its patches as lumps, and what each of its columns is read from.
 #[derive(Drop)]
@@ -37,7 +37,11 @@ impl Model for PreparedTexture {
 
     ghost Value = { PreparedTexture };
 
-    ghost view = { λ t. record { patches = t.patches.items; height = t.height; columns = t.columns.items } };
+    ghost view = { λ t. record {
+      patches = t.patches.items;
+      height = t.height;
+      columns = t.columns.items;
+    } };
 
     ghost invariant = { λ t.
         AreColumnsOf t.patches.items t.height t.columns.items
@@ -49,9 +53,9 @@ impl Model for PreparedTexture {
 }
 
 impl PreparedTexture {
-    // The texture of these patches and rows, whose columns are what was seen while its patches came;
-    // `None` exactly where its composite has more than `MAX_COMPOSITE` bytes. `mask` is that of its
-    // columns.
+    // The texture of these patches and rows, whose columns are what was seen while its patches
+    // came; `None` exactly where its composite has more than `MAX_COMPOSITE` bytes. `mask` is that
+    // of its columns.
     pub(crate) fn new(
         patches: Vec<PlacedPatch>,
         mut columns: Vec<ColumnLookup>,
@@ -62,11 +66,19 @@ impl PreparedTexture {
         requires width { length columns.items < 2 ^ 16 }
         requires seen { AreSeen patches.items columns.items }
         requires mask { mask ≡ mask_of (length columns.items) }
-        ensures big { IsNone result ↔ (MAX_COMPOSITE < composite_size patches.items (length columns.items) height) }
-        ensures columns { (bytes : ℕ → List ℕ) → columns.items ≡ seen_lookups bytes patches.items (length columns.items) →
-            IfSome result (λ t. t ≡ record { patches = patches.items; height = height; columns = column_lookups bytes patches.items (length columns.items) height }) }
+        ensures big { IsNone result ↔
+            (MAX_COMPOSITE < composite_size patches.items (length columns.items) height) }
+        ensures columns { (bytes : ℕ → List ℕ) →
+            columns.items ≡ seen_lookups bytes patches.items (length columns.items) →
+            IfSome result (λ t. t
+            ≡ record {
+              patches = patches.items;
+              height = height;
+              columns = column_lookups bytes patches.items (length columns.items) height;
+            }) }
         ensures patches { IfSome result (λ t. t.patches ≡ patches.items) }
-        ensures listed { IfSome result (λ t. (length t.columns ≡ length columns.items) × (t.height ≡ height)) }
+        ensures listed { IfSome result
+            (λ t. (length t.columns ≡ length columns.items) × (t.height ≡ height)) }
     {
         let size = place_columns(&mut columns, height);
         if size > MAX_COMPOSITE as u64 {
@@ -123,7 +135,8 @@ impl PreparedTexture {
     // What a texture column is read from.
     pub(crate) fn lookup(&self, col: i32) -> ColumnLookup
         ensures column { result ≡ column_in self.now col }
-        ensures there { (lumps : List Lump) → ArePatchesThere lumps self.now → IsColumnThere lumps result }
+        ensures there { (lumps : List Lump) → ArePatchesThere lumps self.now →
+            IsColumnThere lumps result }
     {
         lookup_at(&self.columns, masked_column(self.mask, col))
     }

@@ -29,7 +29,8 @@ impl Model for PreparedList {
 
     ghost view = { λ list. list.textures.items };
 
-    ghost invariant = { λ list. map (λ lump. lump.0) list.lumps.items ≡ patch_lumps list.textures.items MAX_LUMPS };
+    ghost invariant = { λ list. map (λ lump. lump.0) list.lumps.items
+        ≡ patch_lumps list.textures.items MAX_LUMPS };
 }
 
 impl PreparedList {

@@ -24,9 +24,9 @@ use outside::Shelf;
 use wad_dir::{Directory, LumpNo};
 use zone_heap::Tag;
 
-// Makes live what a column of the texture of that number is read from, by its lookup: the lump of its
-// one patch, or the composite, which is built where it is not live. A cache at rest is at rest after it. Takes
-// no memory.
+// Makes live what a column of the texture of that number is read from, by its lookup: the lump of
+// its one patch, or the composite, which is built where it is not live. A cache at rest is at rest
+// after it. Takes no memory.
 //
 // Errors: `ZoneFull` where no gap of the zone held the block of the lump, of the composite or of a
 // patch of it, `ReadFault` where a call of the shelf failed.
@@ -43,20 +43,38 @@ pub(crate) fn make_ready_at<S: Shelf>(
     requires composite { number < cache.old.composites }
     requires there { ArePatchesThere dir.now.lumps texture.now }
     requires listed { IsColumnThere dir.now.lumps lookup }
-    ensures answers { (contents : List (List ℕ)) → NameFiles (S.view shelf.old) dir.now.files contents → AllWithin contents dir.now.lumps → ResultIs cache_fault (S.view shelf.old).steady (λ done. done) (Ok tt) result }
+    ensures answers { (contents : List (List ℕ)) →
+        NameFiles (S.view shelf.old) dir.now.files contents → AllWithin contents dir.now.lumps →
+        ResultIs cache_fault (S.view shelf.old).steady (λ done. done) (Ok tt) result }
     ensures live { OnOk result (IsColumnLive number cache.new lookup) }
-    ensures hit { IsColumnLive number cache.old lookup → (result ≡ Ok tt) × (shelf.new ≡ shelf.old) }
+    ensures hit { IsColumnLive number cache.old lookup →
+        (result ≡ Ok tt) × (shelf.new ≡ shelf.old) }
     ensures follows { IsLaterShelf (S.view shelf.old) (S.view shelf.new) }
-    ensures causes { HasCauses cache_fault (S.view shelf.old).faults (S.view shelf.new).faults result }
+    ensures causes { HasCauses cache_fault (S.view shelf.old).faults (S.view shelf.new).faults
+        result }
     ensures counts { KeepsCounts cache.old cache.new }
-    ensures rest { (colormap count : ℕ) → IsAtRest colormap count cache.old → IsAtRest colormap count cache.new }
-    ensures faithful { (contents : List (List ℕ)) → NameFiles (S.view shelf.old) dir.now.files contents → IsFaithful contents dir.now.lumps cache.old → IsFaithful contents dir.now.lumps cache.new }
-    ensures composites { (contents : List (List ℕ)) (textures : TexturesView) → prepared_at textures.prepared number ≡ Some texture.now → HoldContents (S.view shelf.old) dir.now cache.old contents →
-        AreComposites (lump_bytes contents dir.now.lumps) textures cache.old → AreComposites (lump_bytes contents dir.now.lumps) textures cache.new }
-    ensures empty { OnErr result (IsComposedColumn lookup → owned_block (composite_owner number) cache.new.blocks ≡ None) }
-    ensures full { IfErr result (λ fault. IfFull (cache_fault fault) (IsFullForColumn dir.now.lumps number texture.now lookup cache.old)) }
-    ensures order { (items : List Item) → HasColumnAsked items dir.now.lumps number texture.now lookup → IsInOrder items cache.old →
-        MatchResult result (λ _. KeepsOrder items cache.old cache.new (S.view shelf.old).taken (S.view shelf.new).taken) (λ fault. InOrderAt (cache_fault fault) (KeepsOrder items cache.old cache.new (S.view shelf.old).taken (S.view shelf.new).taken)) }
+    ensures rest { (colormap count : ℕ) → IsAtRest colormap count cache.old →
+        IsAtRest colormap count cache.new }
+    ensures faithful { (contents : List (List ℕ)) →
+        NameFiles (S.view shelf.old) dir.now.files contents →
+        IsFaithful contents dir.now.lumps cache.old → IsFaithful contents dir.now.lumps cache.new }
+    ensures composites { (contents : List (List ℕ)) (textures : TexturesView) →
+        prepared_at textures.prepared number ≡ Some texture.now →
+        HoldContents (S.view shelf.old) dir.now cache.old contents →
+        AreComposites (lump_bytes contents dir.now.lumps) textures cache.old →
+        AreComposites (lump_bytes contents dir.now.lumps) textures cache.new }
+    ensures empty { OnErr result
+        (IsComposedColumn lookup → owned_block (composite_owner number) cache.new.blocks ≡ None) }
+    ensures full { IfErr result (λ fault. IfFull (cache_fault fault)
+        (IsFullForColumn dir.now.lumps number texture.now lookup cache.old)) }
+    ensures order { (items : List Item) →
+        HasColumnAsked items dir.now.lumps number texture.now lookup → IsInOrder items cache.old →
+        MatchResult result
+        (λ _. KeepsOrder items cache.old cache.new (S.view shelf.old).taken
+        (S.view shelf.new).taken)
+        (λ fault. InOrderAt (cache_fault fault)
+        (KeepsOrder items cache.old cache.new (S.view shelf.old).taken
+        (S.view shelf.new).taken)) }
 {
     match lookup {
         ColumnLookup::Empty => Ok(()),
@@ -80,8 +98,11 @@ fn ready_composite<S: Shelf>(
     requires slots { length dir.now.lumps ≤ cache.old.lumps }
     requires composite { number < cache.old.composites }
     requires there { ArePatchesThere dir.now.lumps texture.now }
-    ensures readies { (place : ℕ) → MakesColumnLive number texture.now (Composed place) (S.view shelf.old) (S.view shelf.new) dir.now cache.old cache.new result }
-    ensures hit { IsLive cache.old (composite_owner number) → (result ≡ Ok tt) × (shelf.new ≡ shelf.old) }
+    ensures readies { (place : ℕ) →
+        MakesColumnLive number texture.now (Composed place) (S.view shelf.old) (S.view shelf.new)
+        dir.now cache.old cache.new result }
+    ensures hit { IsLive cache.old (composite_owner number) →
+        (result ≡ Ok tt) × (shelf.new ≡ shelf.old) }
 {
     if is_composite_live(cache, number) {
         return Ok(());

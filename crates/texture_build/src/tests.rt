@@ -1,4 +1,4 @@
-// Values from outside: a file of small lists and patches, as their format is told.
+// Values from outside: a file of small lists and patches, written by hand in their format.
 ghost use Rattle.std.specs.Prelude.{◌≡◌, ◌<◌, ◌≤◌, All, length, IfOk};
 ghost use Rattle.art_rules.specs.Textures.{texture_at};
 ghost use Rattle.texture_build.specs.Views.{ArePatchesThere, IsPrepared, prepared_texture};
@@ -12,8 +12,8 @@ use wad_dir::{Directory, LumpNo};
 
 // PNAMES at 12 with three names, of which NOLUMP has no lump. TEXTURE1 at 40: GOOD of 5 by 3 at 56
 // with PATCHA at column 0 and PATCHB at column 2; LIMIT of 4 by 16384 at 98 with PATCHB twice at
-// column 0 and twice at column 2; MISS of 2 by 1 at 160 with NOLUMP. PATCHA at 192 has three columns
-// with a texel 7, PATCHB at 218 two with a texel 9. The directory is at 240.
+// column 0 and twice at column 2; MISS of 2 by 1 at 160 with NOLUMP. PATCHA at 192 has three
+// columns with a texel 7, PATCHB at 218 two with a texel 9. The directory is at 240.
 fn wad() -> &'static [u8; 304] {
     b"PWAD\x04\0\0\0\xf0\0\0\0\
 \x03\0\0\0PATCHA\0\0PATCHB\0\0NOLUMP\0\0\
@@ -41,7 +41,8 @@ struct Loaded {
     textures: Textures,
 }
 
-// The file with two bytes changed, its directory, and its textures read through a zone of 4096 bytes.
+// The file with two bytes changed, its directory, and its textures read through a zone of 4096
+// bytes.
 fn load(alloc: Global, changes: [(usize, u8); 2]) -> Result<Loaded, Fail>
     ensures slots { IfOk result (λ l. length l.dir.lumps ≤ l.cache.lumps) }
     ensures composites { IfOk result (λ l. l.cache.composites ≡ 3) }
@@ -79,8 +80,10 @@ fn prepared(alloc: Global, changes: [(usize, u8); 2], tex: TexNo) -> Result<Load
     ensures composites { IfOk result (λ l. l.cache.composites ≡ 3) }
     ensures count { IfOk result (λ l. length l.textures.lists.textures ≡ 3) }
     ensures prepared { IfOk result (λ l. IsPrepared l.textures tex.0) }
-    ensures there { IfOk result (λ l. ArePatchesThere l.dir.lumps (prepared_texture l.textures tex.0)) }
-    ensures listed { IfOk result (λ l. length (prepared_texture l.textures tex.0).columns ≡ (texture_at l.textures.lists.textures tex.0).width) }
+    ensures there { IfOk result (λ l. ArePatchesThere l.dir.lumps
+        (prepared_texture l.textures tex.0)) }
+    ensures listed { IfOk result (λ l. length (prepared_texture l.textures tex.0).columns
+        ≡ (texture_at l.textures.lists.textures tex.0).width) }
 {
     let mut l = load(alloc, changes)?;
     l.textures

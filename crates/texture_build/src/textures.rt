@@ -59,16 +59,16 @@ impl Model for Textures {
 }
 
 impl Textures {
-    /// Reads the names of patches and both lists of textures: PNAMES, TEXTURE1 and, where it is
-    /// there, TEXTURE2, each the last lump of its name. No texture is prepared. Takes memory for the
-    /// lists and an index by name; no byte of a lump is kept.
+    /// Reads the names of patches and both lists of textures: PNAMES, TEXTURE1 and, if the
+    /// directory has one, TEXTURE2, each the last lump of its name. No texture is prepared. Takes
+    /// memory for the lists and an index by name; no byte of a lump is kept.
     ///
     /// Errors: `Refused` with the first refusal of these lumps: `Pnames`, `Lump`, and only then
-    /// `Entry`. `ZoneFull` only where no gap of the zone held the block of one of them. `ReadFault`
-    /// only where the shelf's count of faults rose. `OutOfMemory`. Whatever comes, a cache at rest is
-    /// at rest, and one that was faithful is faithful. From a cache at rest whose live lumps have the
-    /// directory's sizes, after Ok, the colormap's block and that of any other of the lists are
-    /// together no larger than the zone.
+    /// `Entry`. `ZoneFull` only if no gap of the zone held the block of one of them. `ReadFault`
+    /// only if the shelf's count of faults rose. `OutOfMemory`. After any answer, a cache that was
+    /// at rest is at rest, and one that was faithful is faithful. After Ok from a cache at rest,
+    /// whose live lumps have the directory's sizes, the zone holds the colormap's block beside that
+    /// of each of the lists.
     ///
     /// The original: `R_InitTextures`, r_data.c, which ends the program there.
     pub fn load<S: Shelf>(
@@ -78,10 +78,15 @@ impl Textures {
         shelf: &mut S,
     ) -> Result<Textures, TexFault>
         requires { length dir.now.lumps ≤ cache.old.lumps }
-        ensures tells { ReadsLumps itself (S.view shelf.old) (S.view shelf.new) dir.now cache.old cache.new (IsListLump dir.now.lumps) (λ textures. textures.lists) (λ bytes. texture_lists (named_bytes bytes dir.now.lumps PNAMES) (named_bytes bytes dir.now.lumps TEXTURE1) (named_bytes bytes dir.now.lumps TEXTURE2)) result }
+        ensures tells { ReadsLumps itself (S.view shelf.old) (S.view shelf.new) dir.now cache.old
+            cache.new (IsListLump dir.now.lumps) (λ textures. textures.lists)
+            (λ bytes. texture_lists (named_bytes bytes dir.now.lumps PNAMES)
+            (named_bytes bytes dir.now.lumps TEXTURE1)
+            (named_bytes bytes dir.now.lumps TEXTURE2)) result }
         ensures few { IfOk result (λ textures. length textures.lists.textures ≤ MAX_TEXTURES) }
         ensures unprepared { IfOk result (λ textures. textures.prepared ≡ []) }
-        ensures fits { OnOk result ((lump : ℕ) → IsListLump dir.now.lumps lump → StandsBeside dir.now.lumps cache.old lump) }
+        ensures fits { OnOk result ((lump : ℕ) → IsListLump dir.now.lumps lump →
+            StandsBeside dir.now.lumps cache.old lump) }
     {
         let lists = ListedTextures::load(alloc, dir, cache, shelf)?;
         Ok(Textures {
@@ -94,17 +99,17 @@ impl Textures {
     /// patches, and what each of their columns is read from. Takes memory for the patches and the
     /// columns, and while it runs a byte for each texture and for each lump that there may be.
     ///
-    /// Errors: `Refused` with the refusal of the least wanted number that has one, in whatever order
-    /// the numbers come: `MissingPatch` where a patch is not among the names of patches, its name has
-    /// no lump, or the lump is no patch; then `TooBig` where the composite has more than 65536 bytes.
-    /// `ZoneFull` only where no gap of the zone held the block of a wanted patch. `ReadFault` only
-    /// where the shelf's count of faults rose. `OutOfMemory`. After any of them no texture is
-    /// prepared, and it may be called again. Whatever comes, a cache at rest is at rest, and one that
-    /// was faithful is faithful.
+    /// Errors: `Refused` with the refusal of the least wanted number that has one, in whatever
+    /// order the numbers come: `MissingPatch` if a patch is not among the names of patches, its
+    /// name has no lump, or the lump is no patch; then `TooBig` if the composite has more than
+    /// 65536 bytes. `ZoneFull` only if no gap of the zone held the block of a wanted patch.
+    /// `ReadFault` only if the shelf's count of faults rose. `OutOfMemory`. After any of them no
+    /// texture is prepared, and the call may be made again. After any answer, a cache that was at
+    /// rest is at rest, and one that was faithful is faithful.
     ///
-    /// The original: `R_InitTextures`, `R_GenerateLookup` and `R_PrecacheLevel`, r_data.c, which end
-    /// the program there. This project's own: only the textures that are wanted are looked at, and a
-    /// lump that is no patch is refused.
+    /// The original: `R_InitTextures`, `R_GenerateLookup` and `R_PrecacheLevel`, r_data.c, which
+    /// end the program there. This project's own: only the textures that are wanted are looked at,
+    /// and a lump that is no patch is refused.
     pub fn prepare<S: Shelf>(
         &mut self,
         alloc: Global,
@@ -115,7 +120,11 @@ impl Textures {
     ) -> Result<(), TexFault>
         requires slots { length dir.now.lumps ≤ cache.old.lumps }
         requires below { All (λ tex. tex.0 < length self.old.lists.textures) wanted.now }
-        ensures tells { ReadsLumps itself (S.view shelf.old) (S.view shelf.new) dir.now cache.old cache.new (IsWantedPatch dir.now.lumps self.old.lists (is_wanted wanted.now)) (λ _. self.new.prepared) (λ bytes. prepared_textures (last_of dir.now.lumps) bytes self.old.lists (is_wanted wanted.now)) result }
+        ensures tells { ReadsLumps itself (S.view shelf.old) (S.view shelf.new) dir.now cache.old
+            cache.new (IsWantedPatch dir.now.lumps self.old.lists (is_wanted wanted.now))
+            (λ _. self.new.prepared)
+            (λ bytes. prepared_textures (last_of dir.now.lumps) bytes self.old.lists
+            (is_wanted wanted.now)) result }
         ensures lists { self.new.lists ≡ self.old.lists }
         ensures err { OnErr result (self.new.prepared ≡ []) }
         ensures there { AllThere dir.now.lumps self.new }
@@ -147,14 +156,15 @@ impl Textures {
         self.lists.count()
     }
 
-    /// The number of a texture's name: 0 where its first byte is `-`, else the least texture of that
-    /// name. Not to be asked while drawing.
+    /// The number of a texture's name: 0 where its first byte is `-`, else the least texture of
+    /// that name. Not to be asked while drawing.
     ///
     /// `None` exactly where the name does not begin with `-` and no texture has it.
     ///
     /// The original: `R_CheckTextureNumForName`, r_data.c.
     pub fn number(&self, name: &Name8) -> Option<TexNo>
-        ensures found { option_map (λ tex. tex.0) result ≡ texture_number self.now.lists.textures name.now }
+        ensures found { option_map (λ tex. tex.0) result
+            ≡ texture_number self.now.lists.textures name.now }
         ensures there { IfSome result (λ tex. 0 < tex.0 → tex.0 < length self.now.lists.textures) }
     {
         self.lists.number(name)
@@ -200,8 +210,8 @@ impl Textures {
         self.prepared.is_prepared(tex.0)
     }
 
-    /// The last column of a prepared texture, counted from its left one, that a texture column stands
-    /// for: its mask.
+    /// The last column of a prepared texture, counted from its left one, that a texture column
+    /// stands for: its mask.
     ///
     /// The original: `texturewidthmask`, r_data.c.
     pub fn last_column(&self, tex: TexNo) -> u16
@@ -212,15 +222,16 @@ impl Textures {
         self.prepared.texture(tex.0).mask()
     }
 
-    /// Whether exactly one patch stands in column `col` of a prepared texture, counted from its left
-    /// one.
+    /// Whether exactly one patch stands in column `col` of a prepared texture, counted from its
+    /// left one.
     ///
     /// The original: `texturecolumnlump`, r_data.c, above 0.
     pub fn single(&self, tex: TexNo, col: u16) -> bool
         requires prepared { IsPrepared self.now tex.0 }
         requires within { col < length (prepared_texture self.now tex.0).columns }
         ensures value { result ≡ is_single (prepared_texture self.now tex.0).patches col }
-        ensures place { result ≡ is_some (single_place (own_lookup (prepared_texture self.now tex.0) col)) }
+        ensures place { result ≡ is_some
+            (single_place (own_lookup (prepared_texture self.now tex.0) col)) }
     {
         self.prepared.texture(tex.0).is_single(col)
     }
@@ -237,7 +248,8 @@ impl Textures {
     pub fn lookup(&self, tex: TexNo, col: i32) -> ColumnLookup
         requires { IsPrepared self.now tex.0 }
         ensures value { result ≡ column_in (prepared_texture self.now tex.0) col }
-        ensures there { (lumps : List Lump) → ArePatchesThere lumps (prepared_texture self.now tex.0) →
+        ensures there { (lumps : List Lump) →
+            ArePatchesThere lumps (prepared_texture self.now tex.0) →
             IsColumnThere lumps result }
     {
         self.prepared.texture(tex.0).lookup(col)
@@ -250,7 +262,9 @@ impl Textures {
     pub fn source(&self, tex: TexNo, col: i32) -> ColumnSource
         requires { IsPrepared self.now tex.0 }
         ensures value { result ≡ source_of tex.0 (column_in (prepared_texture self.now tex.0) col) }
-        ensures there { (lumps : List Lump) → ArePatchesThere lumps (prepared_texture self.now tex.0) → IsColumnThere lumps (column_in (prepared_texture self.now tex.0) col) }
+        ensures there { (lumps : List Lump) →
+            ArePatchesThere lumps (prepared_texture self.now tex.0) →
+            IsColumnThere lumps (column_in (prepared_texture self.now tex.0) col) }
     {
         self.source_at(tex, self.lookup(tex, col))
     }
@@ -292,19 +306,20 @@ impl Textures {
     pub fn posts_place(&self, tex: TexNo, col: i32) -> (LumpNo, u64)
         requires prepared { IsPrepared self.now tex.0 }
         requires single { IsSome (single_place (column_in (prepared_texture self.now tex.0) col)) }
-        ensures { single_place (column_in (prepared_texture self.now tex.0) col) ≡ Some (result.0.0, result.1) }
+        ensures { single_place (column_in (prepared_texture self.now tex.0) col)
+            ≡ Some (result.0.0, result.1) }
     {
         posts_place(self.prepared.texture(tex.0).lookup(col))
     }
 
-    /// Makes live what a texture column of a prepared texture is read from: the lump of its one patch,
-    /// or the composite, which is built where it is not live. Of `col` the bits of the texture's mask
-    /// count. Nothing is pinned after it. Takes no memory.
+    /// Makes live what a texture column of a prepared texture is read from: the lump of its one
+    /// patch, or the composite, which is built if it is not live. Of `col` the bits of the
+    /// texture's mask count. Pins nothing that stays pinned. Takes no memory.
     ///
-    /// Errors: `ZoneFull` only where no gap of the zone held the block of the lump, or of the
-    /// composite or one of its patches; `ReadFault` only where the shelf's count of faults rose. The
-    /// composite is not live then. Whatever comes, a cache at rest is at rest, one that was faithful
-    /// is faithful, and composites that had their bytes have them.
+    /// Errors: `ZoneFull` only if no gap of the zone held the block of the lump, or of the
+    /// composite or one of its patches; `ReadFault` only if the shelf's count of faults rose. The
+    /// composite is not live then. After any answer, a cache that was at rest is at rest, one that
+    /// was faithful is faithful, and composites that had their bytes have them.
     ///
     /// The original: `R_GetColumn` and `R_GenerateComposite`, r_data.c.
     pub fn ready<S: Shelf>(
@@ -319,20 +334,46 @@ impl Textures {
         requires composite { tex.0 < cache.old.composites }
         requires prepared { IsPrepared self.now tex.0 }
         requires there { ArePatchesThere dir.now.lumps (prepared_texture self.now tex.0) }
-        ensures answers { (contents : List (List ℕ)) → NameFiles (S.view shelf.old) dir.now.files contents → AllWithin contents dir.now.lumps → ResultIs cache_fault (S.view shelf.old).steady (λ done. done) (Ok tt) result }
-        ensures live { OnOk result (IsColumnLive tex.0 cache.new (column_in (prepared_texture self.now tex.0) col)) }
-        ensures there { IsColumnThere dir.now.lumps (column_in (prepared_texture self.now tex.0) col) }
-        ensures hit { IsColumnLive tex.0 cache.old (column_in (prepared_texture self.now tex.0) col) → (result ≡ Ok tt) × (shelf.new ≡ shelf.old) }
+        ensures answers { (contents : List (List ℕ)) →
+            NameFiles (S.view shelf.old) dir.now.files contents → AllWithin contents dir.now.lumps →
+            ResultIs cache_fault (S.view shelf.old).steady (λ done. done) (Ok tt) result }
+        ensures live { OnOk result (IsColumnLive tex.0 cache.new
+            (column_in (prepared_texture self.now tex.0) col)) }
+        ensures there { IsColumnThere dir.now.lumps
+            (column_in (prepared_texture self.now tex.0) col) }
+        ensures hit { IsColumnLive tex.0 cache.old
+            (column_in (prepared_texture self.now tex.0) col) →
+            (result ≡ Ok tt) × (shelf.new ≡ shelf.old) }
         ensures follows { IsLaterShelf (S.view shelf.old) (S.view shelf.new) }
-        ensures causes { HasCauses cache_fault (S.view shelf.old).faults (S.view shelf.new).faults result }
+        ensures causes { HasCauses cache_fault (S.view shelf.old).faults (S.view shelf.new).faults
+            result }
         ensures counts { KeepsCounts cache.old cache.new }
-        ensures rest { (colormap count : ℕ) → IsAtRest colormap count cache.old → IsAtRest colormap count cache.new }
-        ensures faithful { (contents : List (List ℕ)) → NameFiles (S.view shelf.old) dir.now.files contents → IsFaithful contents dir.now.lumps cache.old → IsFaithful contents dir.now.lumps cache.new }
-        ensures composites { (contents : List (List ℕ)) → HoldContents (S.view shelf.old) dir.now cache.old contents → AreComposites (lump_bytes contents dir.now.lumps) self.now cache.old → AreComposites (lump_bytes contents dir.now.lumps) self.now cache.new }
-        ensures empty { OnErr result (IsComposedColumn (column_in (prepared_texture self.now tex.0) col) → owned_block (composite_owner tex.0) cache.new.blocks ≡ None) }
-        ensures full { IfErr result (λ fault. IfFull (cache_fault fault) (IsFullForColumn dir.now.lumps tex.0 (prepared_texture self.now tex.0) (column_in (prepared_texture self.now tex.0) col) cache.old)) }
-        ensures order { (items : List Item) → HasColumnAsked items dir.now.lumps tex.0 (prepared_texture self.now tex.0) (column_in (prepared_texture self.now tex.0) col) → IsInOrder items cache.old →
-            MatchResult result (λ _. KeepsOrder items cache.old cache.new (S.view shelf.old).taken (S.view shelf.new).taken) (λ fault. InOrderAt (cache_fault fault) (KeepsOrder items cache.old cache.new (S.view shelf.old).taken (S.view shelf.new).taken)) }
+        ensures rest { (colormap count : ℕ) → IsAtRest colormap count cache.old →
+            IsAtRest colormap count cache.new }
+        ensures faithful { (contents : List (List ℕ)) →
+            NameFiles (S.view shelf.old) dir.now.files contents →
+            IsFaithful contents dir.now.lumps cache.old →
+            IsFaithful contents dir.now.lumps cache.new }
+        ensures composites { (contents : List (List ℕ)) →
+            HoldContents (S.view shelf.old) dir.now cache.old contents →
+            AreComposites (lump_bytes contents dir.now.lumps) self.now cache.old →
+            AreComposites (lump_bytes contents dir.now.lumps) self.now cache.new }
+        ensures empty { OnErr result
+            (IsComposedColumn (column_in (prepared_texture self.now tex.0) col) →
+            owned_block (composite_owner tex.0) cache.new.blocks ≡ None) }
+        ensures full { IfErr result
+            (λ fault. IfFull (cache_fault fault)
+            (IsFullForColumn dir.now.lumps tex.0 (prepared_texture self.now tex.0)
+            (column_in (prepared_texture self.now tex.0) col) cache.old)) }
+        ensures order { (items : List Item) →
+            HasColumnAsked items dir.now.lumps tex.0 (prepared_texture self.now tex.0)
+            (column_in (prepared_texture self.now tex.0) col) → IsInOrder items cache.old →
+            MatchResult result
+            (λ _. KeepsOrder items cache.old cache.new (S.view shelf.old).taken
+            (S.view shelf.new).taken)
+            (λ fault. InOrderAt (cache_fault fault)
+            (KeepsOrder items cache.old cache.new (S.view shelf.old).taken
+            (S.view shelf.new).taken)) }
     {
         self.ready_at(cache, dir, shelf, tex, self.lookup(tex, col))
     }
@@ -356,36 +397,70 @@ impl Textures {
         requires prepared { IsPrepared self.now tex.0 }
         requires there { ArePatchesThere dir.now.lumps (prepared_texture self.now tex.0) }
         requires listed { IsColumnThere dir.now.lumps lookup }
-        ensures answers { (contents : List (List ℕ)) → NameFiles (S.view shelf.old) dir.now.files contents → AllWithin contents dir.now.lumps → ResultIs cache_fault (S.view shelf.old).steady (λ done. done) (Ok tt) result }
+        ensures answers { (contents : List (List ℕ)) →
+            NameFiles (S.view shelf.old) dir.now.files contents → AllWithin contents dir.now.lumps →
+            ResultIs cache_fault (S.view shelf.old).steady (λ done. done) (Ok tt) result }
         ensures live { OnOk result (IsColumnLive tex.0 cache.new lookup) }
-        ensures hit { IsColumnLive tex.0 cache.old lookup → (result ≡ Ok tt) × (shelf.new ≡ shelf.old) }
+        ensures hit { IsColumnLive tex.0 cache.old lookup →
+            (result ≡ Ok tt) × (shelf.new ≡ shelf.old) }
         ensures follows { IsLaterShelf (S.view shelf.old) (S.view shelf.new) }
-        ensures causes { HasCauses cache_fault (S.view shelf.old).faults (S.view shelf.new).faults result }
+        ensures causes { HasCauses cache_fault (S.view shelf.old).faults (S.view shelf.new).faults
+            result }
         ensures counts { KeepsCounts cache.old cache.new }
-        ensures rest { (colormap count : ℕ) → IsAtRest colormap count cache.old → IsAtRest colormap count cache.new }
-        ensures faithful { (contents : List (List ℕ)) → NameFiles (S.view shelf.old) dir.now.files contents → IsFaithful contents dir.now.lumps cache.old → IsFaithful contents dir.now.lumps cache.new }
-        ensures composites { (contents : List (List ℕ)) → HoldContents (S.view shelf.old) dir.now cache.old contents → AreComposites (lump_bytes contents dir.now.lumps) self.now cache.old → AreComposites (lump_bytes contents dir.now.lumps) self.now cache.new }
-        ensures empty { OnErr result (IsComposedColumn lookup → owned_block (composite_owner tex.0) cache.new.blocks ≡ None) }
-        ensures full { IfErr result (λ fault. IfFull (cache_fault fault) (IsFullForColumn dir.now.lumps tex.0 (prepared_texture self.now tex.0) lookup cache.old)) }
-        ensures order { (items : List Item) → HasColumnAsked items dir.now.lumps tex.0 (prepared_texture self.now tex.0) lookup → IsInOrder items cache.old →
-            MatchResult result (λ _. KeepsOrder items cache.old cache.new (S.view shelf.old).taken (S.view shelf.new).taken) (λ fault. InOrderAt (cache_fault fault) (KeepsOrder items cache.old cache.new (S.view shelf.old).taken (S.view shelf.new).taken)) }
+        ensures rest { (colormap count : ℕ) → IsAtRest colormap count cache.old →
+            IsAtRest colormap count cache.new }
+        ensures faithful { (contents : List (List ℕ)) →
+            NameFiles (S.view shelf.old) dir.now.files contents →
+            IsFaithful contents dir.now.lumps cache.old →
+            IsFaithful contents dir.now.lumps cache.new }
+        ensures composites { (contents : List (List ℕ)) →
+            HoldContents (S.view shelf.old) dir.now cache.old contents →
+            AreComposites (lump_bytes contents dir.now.lumps) self.now cache.old →
+            AreComposites (lump_bytes contents dir.now.lumps) self.now cache.new }
+        ensures empty { OnErr result
+            (IsComposedColumn lookup →
+            owned_block (composite_owner tex.0) cache.new.blocks ≡ None) }
+        ensures full { IfErr result
+            (λ fault. IfFull (cache_fault fault)
+            (IsFullForColumn dir.now.lumps tex.0 (prepared_texture self.now tex.0) lookup
+            cache.old)) }
+        ensures order { (items : List Item) →
+            HasColumnAsked items dir.now.lumps tex.0 (prepared_texture self.now tex.0) lookup →
+            IsInOrder items cache.old →
+            MatchResult result
+            (λ _. KeepsOrder items cache.old cache.new (S.view shelf.old).taken
+            (S.view shelf.new).taken)
+            (λ fault. InOrderAt (cache_fault fault)
+            (KeepsOrder items cache.old cache.new (S.view shelf.old).taken
+            (S.view shelf.new).taken)) }
     {
         let texture = self.prepared.texture(tex.0);
         make_ready_at(texture, u32::from(tex.0), lookup, dir, cache, shelf)
     }
 
-    /// The texels of a texture column of a prepared texture; `None` exactly where the bytes that it is
-    /// read from are not live. Of `col` the bits of the texture's mask count. Takes no memory.
+    /// The texels of a texture column of a prepared texture; `None` exactly where the bytes that it
+    /// is read from are not live. Of `col` the bits of the texture's mask count. Takes no memory.
     ///
     /// The original: `R_GetColumn`, r_data.c.
     pub fn column<'c>(&self, cache: &'c LumpCache, tex: TexNo, col: i32) -> Option<Column<'c>>
-        requires lumps { IfSome (single_place (column_in (prepared_texture self.now tex.0) col)) (λ s. s.0 < cache.now.lumps) }
+        requires lumps { IfSome (single_place (column_in (prepared_texture self.now tex.0) col))
+            (λ s. s.0 < cache.now.lumps) }
         requires composite { tex.0 < cache.now.composites }
         requires prepared { IsPrepared self.now tex.0 }
-        ensures column { result ≡ column_view tex.0 cache.now (column_in (prepared_texture self.now tex.0) col) }
+        ensures column { result ≡ column_view tex.0 cache.now
+            (column_in (prepared_texture self.now tex.0) col) }
         ensures first { IfSome result (λ column. column.first < 2 ^ 33) }
-        ensures texel { (contents : List (List ℕ)) (lumps : List Lump) → ArePatchesThere lumps (prepared_texture self.now tex.0) → IsFaithful contents lumps cache.now → AreComposites (lump_bytes contents lumps) self.now cache.now → AreTexturesOf contents lumps self.now →
-            IfSome result (λ column. (r : ℕ) → byte_at column.bytes (column.first + r) ≡ texel (lump_bytes contents lumps) (prepared_texture self.now tex.0).patches (length (prepared_texture self.now tex.0).columns) (prepared_texture self.now tex.0).height (texture_column (prepared_texture self.now tex.0) col) r) }
+        ensures texel { (contents : List (List ℕ)) (lumps : List Lump) →
+            ArePatchesThere lumps (prepared_texture self.now tex.0) →
+            IsFaithful contents lumps cache.now →
+            AreComposites (lump_bytes contents lumps) self.now cache.now →
+            AreTexturesOf contents lumps self.now →
+            IfSome result (λ column. (r : ℕ) →
+            byte_at column.bytes (column.first + r)
+            ≡ texel (lump_bytes contents lumps) (prepared_texture self.now tex.0).patches
+            (length (prepared_texture self.now tex.0).columns)
+            (prepared_texture self.now tex.0).height
+            (texture_column (prepared_texture self.now tex.0) col) r) }
     {
         self.column_at(cache, tex, self.lookup(tex, col))
     }
@@ -407,12 +482,15 @@ impl Textures {
         ensures first { IfSome result (λ column. column.first < 2 ^ 33) }
         ensures texel { (col : ℤ) (contents : List (List ℕ)) (lumps : List Lump) →
             lookup ≡ column_in (prepared_texture self.now tex.0) col →
-            ArePatchesThere lumps (prepared_texture self.now tex.0) → IsFaithful contents lumps cache.now →
-            AreComposites (lump_bytes contents lumps) self.now cache.now → AreTexturesOf contents lumps self.now →
+            ArePatchesThere lumps (prepared_texture self.now tex.0) →
+            IsFaithful contents lumps cache.now →
+            AreComposites (lump_bytes contents lumps) self.now cache.now →
+            AreTexturesOf contents lumps self.now →
             IfSome result (λ column. (r : ℕ) → byte_at column.bytes (column.first + r)
-                ≡ texel (lump_bytes contents lumps) (prepared_texture self.now tex.0).patches
-                    (length (prepared_texture self.now tex.0).columns) (prepared_texture self.now tex.0).height
-                    (texture_column (prepared_texture self.now tex.0) col) r) }
+            ≡ texel (lump_bytes contents lumps) (prepared_texture self.now tex.0).patches
+            (length (prepared_texture self.now tex.0).columns)
+            (prepared_texture self.now tex.0).height
+            (texture_column (prepared_texture self.now tex.0) col) r) }
     {
         lend_lookup(lookup, u32::from(tex.0), cache)
     }

@@ -11,7 +11,8 @@ IsTextureLump lumps lump = IsLast lumps TEXTURE1 lump ⊎ IsLast lumps TEXTURE2 
 
 -- the same, or the names of patches
 abbrev pub IsListLump : List Lump → ℕ → Type 0
-IsListLump lumps lump = IsLast lumps PNAMES lump ⊎ IsLast lumps TEXTURE1 lump ⊎ IsLast lumps TEXTURE2 lump
+IsListLump lumps lump = IsLast lumps PNAMES lump ⊎ IsLast lumps TEXTURE1 lump ⊎
+    IsLast lumps TEXTURE2 lump
 
 -- the number of a lump, if there is one
 abbrev pub lump_number : Option LumpNo → Option ℕ

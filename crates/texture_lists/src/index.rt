@@ -19,7 +19,8 @@ pub(crate) fn index_textures(
     textures: &[ListedTexture],
 ) -> Result<BTreeMap<[u8; NAME_SIZE], u16>, OutOfMemory>
     requires { length textures.now ≤ MAX_TEXTURES }
-    ensures { IfOk result (λ index. (name : List ℕ) → indexed index name ≡ least_named textures.now name) }
+    ensures { IfOk result (λ index. (name : List ℕ) →
+        indexed index name ≡ least_named textures.now name) }
 {
     let mut index = BTreeMap::new(alloc);
     for (i, texture) in textures.iter().enumerate() {
@@ -34,7 +35,9 @@ fn put_new(
     name: &Name8,
     number: u16,
 ) -> Result<(), OutOfMemory>
-    ensures { OnOk result ((q : List ℕ) → indexed index.new q ≡ or_else (indexed index.old q) (if bytes_eq name.now q then Some number else None)) }
+    ensures { OnOk result ((q : List ℕ) →
+        indexed index.new q
+        ≡ or_else (indexed index.old q) (if bytes_eq name.now q then Some number else None)) }
 {
     if look_up(index, name).is_some() {
         return Ok(());

@@ -20,8 +20,8 @@ use std::collections::BTreeMap;
 use std::marker::Model;
 use wad_dir::Directory;
 
-/// The textures that a directory lists, with the names of patches. Contracts see the lists that were
-/// read.
+/// The textures that a directory lists, with the names of patches. Contracts see the lists that
+/// were read.
 ///
 /// The original: `textures`, r_data.c.
 #[derive(Drop)]
@@ -48,20 +48,20 @@ impl Model for ListedTextures {
 }
 
 impl ListedTextures {
-    /// Reads the names of patches and both lists of textures: PNAMES, TEXTURE1 and, where it is
-    /// there, TEXTURE2, each the last lump of its name. Takes memory for the lists and an index by
-    /// name; no byte of a lump is kept.
+    /// Reads the names of patches and both lists of textures: PNAMES, TEXTURE1 and, if the
+    /// directory has one, TEXTURE2, each the last lump of its name. Takes memory for the lists and
+    /// an index by name; no byte of a lump is kept.
     ///
     /// Errors: `Refused` with the first refusal of these lumps: `Pnames`, `Lump`, and only then
-    /// `Entry`. `ZoneFull` only where no gap of the zone held the block of one of them; a cache at
-    /// rest has such a gap where the zone holds the block beside COLORMAP's and 64 bytes. `ReadFault`
-    /// only where the shelf's count of faults rose. `OutOfMemory`.
+    /// `Entry`. `ZoneFull` only if no gap of the zone held the block of one of them; a cache at
+    /// rest has such a gap if the zone holds the block beside COLORMAP's and 64 bytes. `ReadFault`
+    /// only if the shelf's count of faults rose. `OutOfMemory`.
     ///
-    /// Whatever comes, a cache at rest is at rest, one that was faithful is faithful, and no composite
-    /// is made. Where the cache is in order for a list that has all three lumps, `ZoneFull` does not
-    /// come, and the cache stays in order unless a read fails.
-    /// From a cache at rest, whose live lumps have the directory's sizes, after Ok the colormap's block
-    /// and that of any other one of the three lumps are together no larger than the zone.
+    /// After any answer, a cache that was at rest is at rest, one that was faithful is faithful,
+    /// and no composite is made. If the cache is in order for a list that has all three lumps,
+    /// `ZoneFull` does not come, and the cache stays in order unless a read fails. After Ok from a
+    /// cache at rest, whose live lumps have the directory's sizes, the zone holds the colormap's
+    /// block beside that of each of the three lumps.
     ///
     /// The original: `R_InitTextures`, r_data.c, which ends the program there.
     ///
@@ -73,9 +73,14 @@ impl ListedTextures {
         shelf: &mut S,
     ) -> Result<ListedTextures, TexFault>
         requires { length dir.now.lumps ≤ cache.old.lumps }
-        ensures tells { ReadsLumps itself (S.view shelf.old) (S.view shelf.new) dir.now cache.old cache.new (IsListLump dir.now.lumps) (λ lists. lists) (λ bytes. texture_lists (named_bytes bytes dir.now.lumps PNAMES) (named_bytes bytes dir.now.lumps TEXTURE1) (named_bytes bytes dir.now.lumps TEXTURE2)) result }
+        ensures tells { ReadsLumps itself (S.view shelf.old) (S.view shelf.new) dir.now cache.old
+            cache.new (IsListLump dir.now.lumps) (λ lists. lists)
+            (λ bytes. texture_lists (named_bytes bytes dir.now.lumps PNAMES)
+            (named_bytes bytes dir.now.lumps TEXTURE1)
+            (named_bytes bytes dir.now.lumps TEXTURE2)) result }
         ensures few { IfOk result (λ lists. length lists.textures ≤ MAX_TEXTURES) }
-        ensures fits { OnOk result ((lump : ℕ) → IsListLump dir.now.lumps lump → StandsBeside dir.now.lumps cache.old lump) }
+        ensures fits { OnOk result ((lump : ℕ) → IsListLump dir.now.lumps lump →
+            StandsBeside dir.now.lumps cache.old lump) }
     {
         let names = load_names(alloc, dir, cache, shelf)?;
         let textures = load_both(alloc, dir, cache, shelf)?;
@@ -89,7 +94,8 @@ impl ListedTextures {
         textures: Vec<ListedTexture>,
     ) -> Result<ListedTextures, OutOfMemory>
         requires { length textures.items ≤ MAX_TEXTURES }
-        ensures { IfOk result (λ lists. lists ≡ record { names = names.items; textures = textures.items }) }
+        ensures { IfOk result (λ lists. lists
+            ≡ record { names = names.items; textures = textures.items }) }
     {
         let index = index_textures(alloc, &textures)?;
         Ok(ListedTextures {
@@ -109,15 +115,16 @@ impl ListedTextures {
         self.textures.len() as u32
     }
 
-    /// The number of a texture's name: 0 where its first byte is `-`, else the least texture of that
-    /// name. Not to be asked while drawing.
+    /// The number of a texture's name: 0 where its first byte is `-`, else the least texture of
+    /// that name. Not to be asked while drawing.
     ///
     /// `None` exactly where the name does not begin with `-` and no texture has it.
     ///
     /// The original: `R_CheckTextureNumForName`, r_data.c.
     #[tactic(auto, unfolding(art_rules::specs::Textures::texture_number))]
     pub fn number(&self, name: &Name8) -> Option<TexNo>
-        ensures found { option_map (λ tex. tex.0) result ≡ texture_number self.now.textures name.now }
+        ensures found { option_map (λ tex. tex.0) result
+            ≡ texture_number self.now.textures name.now }
         ensures there { IfSome result (λ tex. 0 < tex.0 → tex.0 < length self.now.textures) }
     {
         if is_no_texture(name) {
@@ -129,8 +136,8 @@ impl ListedTextures {
         }
     }
 
-    /// The name of a patch by the number that entries have, or `None` exactly where PNAMES has no such
-    /// number.
+    /// The name of a patch by the number that entries have, or `None` exactly where PNAMES has no
+    /// such number.
     ///
     /// The original: `patchlookup` of `R_InitTextures`, r_data.c, which has the lump of the name.
     pub fn patch_name(&self, number: u16) -> Option<Name8>

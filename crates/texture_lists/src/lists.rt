@@ -45,8 +45,10 @@ impl ReadList {
     #[tactic(auto, unfolding(crate::specs::Parts::joined_parts, art_rules::specs::Textures::unless_wrong))]
     pub(crate) fn joined(self, second: ReadList) -> Result<Vec<ListedTexture>, TexFault>
         requires { self.count ≤ MAX_TEXTURES }
-        ensures answers { ResultIs itself true (λ textures. textures.items) (joined_parts self second) result }
-        ensures count { IfOk result (λ textures. length textures.items ≤ length self.textures + length second.textures) }
+        ensures answers { ResultIs itself true (λ textures. textures.items)
+            (joined_parts self second) result }
+        ensures count { IfOk result (λ textures. length textures.items ≤ length self.textures
+            + length second.textures) }
         ensures of_bytes { IsOfBytes result }
     {
         if let Some(number) = self.first_wrong(&second) {
@@ -63,7 +65,8 @@ impl ReadList {
     // The number of the first wrong record of two lists.
     fn first_wrong(&self, second: &ReadList) -> Option<u64>
         requires { self.now.count ≤ MAX_TEXTURES }
-        ensures { result ≡ or_else self.now.wrong (option_map (λ i. self.now.count + i) second.now.wrong) }
+        ensures { result ≡ or_else self.now.wrong
+            (option_map (λ i. self.now.count + i) second.now.wrong) }
     {
         match self.wrong {
             Some(number) => Some(number as u64),
@@ -72,7 +75,7 @@ impl ReadList {
     }
 }
 
-// The number of a wrong record of the second list, where so many textures are before it.
+// The number of a wrong record of the second list, which follows `before` textures.
 fn later_wrong(before: u32, wrong: Option<u32>) -> Option<u64>
     ensures { result ≡ option_map (λ i. before + i) wrong }
 {
@@ -85,7 +88,8 @@ fn later_wrong(before: u32, wrong: Option<u32>) -> Option<u64>
 // What is kept of the first list, refused where it is not there or is bad as a whole.
 #[tactic(auto, unfolding(crate::specs::Parts::first_part, art_rules::specs::Textures::first_list))]
 pub(crate) fn first_part(alloc: Global, bytes: Option<&[u8]>) -> Result<ReadList, TexFault>
-    ensures answers { ResultIs itself true (λ part. part) (first_part (option_copied bytes.entry)) result }
+    ensures answers { ResultIs itself true (λ part. part) (first_part (option_copied bytes.entry))
+        result }
     ensures few { IfOk result (λ part. part.count ≤ MAX_TEXTURES) }
     ensures count { IfOk result (λ part. length part.textures ≤ part.count) }
     ensures of_bytes { IsOfBytes result }
@@ -99,7 +103,7 @@ pub(crate) fn first_part(alloc: Global, bytes: Option<&[u8]>) -> Result<ReadList
     Ok(read_list(alloc, bytes)?)
 }
 
-// What is kept of the second list, where so many textures are before it. It need not be there.
+// What is kept of the second list, which follows `before` textures. It may be absent.
 #[tactic(auto, unfolding(crate::specs::Parts::second_part, crate::specs::Parts::second_list_part, art_rules::specs::Textures::second_list))]
 pub(crate) fn second_part(
     alloc: Global,
@@ -107,7 +111,8 @@ pub(crate) fn second_part(
     bytes: Option<&[u8]>,
 ) -> Result<ReadList, TexFault>
     requires { before ≤ MAX_TEXTURES }
-    ensures answers { ResultIs itself true (λ part. part) (second_part before (option_copied bytes.entry)) result }
+    ensures answers { ResultIs itself true (λ part. part)
+        (second_part before (option_copied bytes.entry)) result }
     ensures few { IfOk result (λ part. before + part.count ≤ MAX_TEXTURES) }
     ensures count { IfOk result (λ part. length part.textures ≤ part.count) }
     ensures of_bytes { IsOfBytes result }
@@ -125,7 +130,7 @@ pub(crate) fn second_part(
     Ok(read_list(alloc, bytes)?)
 }
 
-// A list is short, or with so many textures before it passes the limit.
+// A list is short, or its textures pass the limit behind the `before` textures of the first.
 #[tactic(auto, unfolding(art_rules::specs::Textures::is_bad_list))]
 fn is_bad_list(before: u32, bytes: &[u8]) -> bool
     requires { before ≤ MAX_TEXTURES }
@@ -161,7 +166,8 @@ fn read_sound(
 ) -> Result<Vec<ListedTexture>, OutOfMemory>
     requires few { list_count bytes.now ≤ MAX_TEXTURES }
     requires wrong { wrong ≡ wrong_record bytes.now }
-    ensures textures { IfOk result (λ textures. textures.items ≡ if_sound (wrong_record bytes.now) (textures_in bytes.now)) }
+    ensures textures { IfOk result (λ textures. textures.items
+        ≡ if_sound (wrong_record bytes.now) (textures_in bytes.now)) }
     ensures count { IfOk result (λ textures. length textures.items ≤ list_count bytes.now) }
 {
     match wrong {

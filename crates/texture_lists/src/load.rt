@@ -1,5 +1,5 @@
-// The lists of textures, read through the cache: PNAMES, TEXTURE1 and TEXTURE2, each fetched and then
-// judged, and of no list more than its textures kept.
+// The lists of textures, read through the cache: PNAMES, TEXTURE1 and TEXTURE2, each fetched and
+// then judged, and of no list more than its textures kept.
 ghost use Rattle.outside.specs.Faults.{itself};
 ghost use Rattle.std.specs.Prelude.{◌≡◌, ◌<◌, ◌≤◌, ◌+◌, ℕ, List, length, Ok, IfOk, IfSome, OnOk};
 ghost use Rattle.art_rules.specs.Textures.{both_lists, patch_names};
@@ -32,13 +32,17 @@ fn fetch_list<S: Shelf>(
     name: &Name8,
 ) -> Result<Option<LumpNo>, TexFault>
     requires slots { length dir.now.lumps ≤ cache.old.lumps }
-    ensures tells { ReadsLumps itself (S.view shelf.old) (S.view shelf.new) dir.now cache.old cache.new
-        (IsLast dir.now.lumps name.now) lump_number (λ bytes. Ok (last_of dir.now.lumps name.now)) result }
+    ensures tells { ReadsLumps itself (S.view shelf.old) (S.view shelf.new) dir.now cache.old
+        cache.new
+        (IsLast dir.now.lumps name.now) lump_number (λ bytes. Ok (last_of dir.now.lumps name.now))
+        result }
     ensures last { IfOk result (λ lump. lump_number lump ≡ last_of dir.now.lumps name.now) }
     ensures there { IfOk result (λ lump. IfSome lump (λ l. l.0 < length dir.now.lumps)) }
     ensures live { IfOk result (λ lump. IfSome lump (λ l. IsLive cache.new (lump_owner l.0))) }
-    ensures bytes { (contents : List (List ℕ)) → HoldContents (S.view shelf.old) dir.now cache.old contents →
-        IfOk result (λ lump. live_bytes lump cache.new ≡ named_bytes (lump_bytes contents dir.now.lumps) dir.now.lumps name.now) }
+    ensures bytes { (contents : List (List ℕ)) →
+        HoldContents (S.view shelf.old) dir.now cache.old contents →
+        IfOk result (λ lump. live_bytes lump cache.new
+        ≡ named_bytes (lump_bytes contents dir.now.lumps) dir.now.lumps name.now) }
 {
     fetch_named(cache, dir, shelf, name).map_err(CacheFault::above)
 }
@@ -51,8 +55,11 @@ pub(crate) fn load_names<S: Shelf>(
     shelf: &mut S,
 ) -> Result<Vec<Name8>, TexFault>
     requires { length dir.now.lumps ≤ cache.old.lumps }
-    ensures tells { ReadsLumps itself (S.view shelf.old) (S.view shelf.new) dir.now cache.old cache.new (IsLast dir.now.lumps PNAMES) (λ names. names.items) (λ bytes. patch_names (named_bytes bytes dir.now.lumps PNAMES)) result }
-    ensures fits { OnOk result ((lump : ℕ) → IsLast dir.now.lumps PNAMES lump → StandsBeside dir.now.lumps cache.old lump) }
+    ensures tells { ReadsLumps itself (S.view shelf.old) (S.view shelf.new) dir.now cache.old
+        cache.new (IsLast dir.now.lumps PNAMES) (λ names. names.items)
+        (λ bytes. patch_names (named_bytes bytes dir.now.lumps PNAMES)) result }
+    ensures fits { OnOk result ((lump : ℕ) → IsLast dir.now.lumps PNAMES lump →
+        StandsBeside dir.now.lumps cache.old lump) }
 {
     let lump = fetch_list(cache, dir, shelf, &Name8::from_bytes(PNAMES))?;
     patch_names(alloc, live_bytes(cache, lump))
@@ -66,8 +73,11 @@ fn load_first<S: Shelf>(
     shelf: &mut S,
 ) -> Result<ReadList, TexFault>
     requires { length dir.now.lumps ≤ cache.old.lumps }
-    ensures tells { ReadsLumps itself (S.view shelf.old) (S.view shelf.new) dir.now cache.old cache.new (IsLast dir.now.lumps TEXTURE1) (λ part. part) (λ bytes. first_part (named_bytes bytes dir.now.lumps TEXTURE1)) result }
-    ensures fits { OnOk result ((lump : ℕ) → IsLast dir.now.lumps TEXTURE1 lump → StandsBeside dir.now.lumps cache.old lump) }
+    ensures tells { ReadsLumps itself (S.view shelf.old) (S.view shelf.new) dir.now cache.old
+        cache.new (IsLast dir.now.lumps TEXTURE1) (λ part. part)
+        (λ bytes. first_part (named_bytes bytes dir.now.lumps TEXTURE1)) result }
+    ensures fits { OnOk result ((lump : ℕ) → IsLast dir.now.lumps TEXTURE1 lump →
+        StandsBeside dir.now.lumps cache.old lump) }
     ensures few { IfOk result (λ part. part.count ≤ MAX_TEXTURES) }
     ensures count { IfOk result (λ part. length part.textures ≤ part.count) }
 {
@@ -75,7 +85,7 @@ fn load_first<S: Shelf>(
     first_part(alloc, live_bytes(cache, lump))
 }
 
-// What is kept of the second list, where so many textures are before it.
+// What is kept of the second list, which follows `before` textures.
 fn load_second<S: Shelf>(
     alloc: Global,
     before: u32,
@@ -85,8 +95,11 @@ fn load_second<S: Shelf>(
 ) -> Result<ReadList, TexFault>
     requires slots { length dir.now.lumps ≤ cache.old.lumps }
     requires before { before ≤ MAX_TEXTURES }
-    ensures tells { ReadsLumps itself (S.view shelf.old) (S.view shelf.new) dir.now cache.old cache.new (IsLast dir.now.lumps TEXTURE2) (λ part. part) (λ bytes. second_part before (named_bytes bytes dir.now.lumps TEXTURE2)) result }
-    ensures fits { OnOk result ((lump : ℕ) → IsLast dir.now.lumps TEXTURE2 lump → StandsBeside dir.now.lumps cache.old lump) }
+    ensures tells { ReadsLumps itself (S.view shelf.old) (S.view shelf.new) dir.now cache.old
+        cache.new (IsLast dir.now.lumps TEXTURE2) (λ part. part)
+        (λ bytes. second_part before (named_bytes bytes dir.now.lumps TEXTURE2)) result }
+    ensures fits { OnOk result ((lump : ℕ) → IsLast dir.now.lumps TEXTURE2 lump →
+        StandsBeside dir.now.lumps cache.old lump) }
     ensures few { IfOk result (λ part. before + part.count ≤ MAX_TEXTURES) }
     ensures count { IfOk result (λ part. length part.textures ≤ part.count) }
 {
@@ -102,8 +115,12 @@ pub(crate) fn load_both<S: Shelf>(
     shelf: &mut S,
 ) -> Result<Vec<ListedTexture>, TexFault>
     requires { length dir.now.lumps ≤ cache.old.lumps }
-    ensures tells { ReadsLumps itself (S.view shelf.old) (S.view shelf.new) dir.now cache.old cache.new (IsTextureLump dir.now.lumps) (λ textures. textures.items) (λ bytes. both_lists (named_bytes bytes dir.now.lumps TEXTURE1) (named_bytes bytes dir.now.lumps TEXTURE2)) result }
-    ensures fits { OnOk result ((lump : ℕ) → IsTextureLump dir.now.lumps lump → StandsBeside dir.now.lumps cache.old lump) }
+    ensures tells { ReadsLumps itself (S.view shelf.old) (S.view shelf.new) dir.now cache.old
+        cache.new (IsTextureLump dir.now.lumps) (λ textures. textures.items)
+        (λ bytes. both_lists (named_bytes bytes dir.now.lumps TEXTURE1)
+        (named_bytes bytes dir.now.lumps TEXTURE2)) result }
+    ensures fits { OnOk result ((lump : ℕ) → IsTextureLump dir.now.lumps lump →
+        StandsBeside dir.now.lumps cache.old lump) }
     ensures few { IfOk result (λ textures. length textures.items ≤ MAX_TEXTURES) }
 {
     let first = load_first(alloc, dir, cache, shelf)?;

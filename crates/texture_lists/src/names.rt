@@ -32,7 +32,8 @@ pub(crate) fn is_short(size: usize, bytes: &[u8]) -> bool
 // The names of patches, refused where the lump is not there or is short.
 #[tactic(auto, unfolding(art_rules::specs::Textures::patch_names))]
 pub(crate) fn patch_names(alloc: Global, bytes: Option<&[u8]>) -> Result<Vec<Name8>, TexFault>
-    ensures answers { ResultIs itself true (λ names. names.items) (patch_names (option_copied bytes.entry)) result }
+    ensures answers { ResultIs itself true (λ names. names.items)
+        (patch_names (option_copied bytes.entry)) result }
     ensures of_bytes { IsOfBytes result }
 {
     let Some(bytes) = bytes else {

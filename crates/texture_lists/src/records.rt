@@ -29,7 +29,12 @@ impl Model for ListedTexture {
 
     ghost Value = { Texture };
 
-    ghost view = { λ t. record { name = t.name; width = t.width; height = t.height; patches = t.patches.items } };
+    ghost view = { λ t. record {
+      name = t.name;
+      width = t.width;
+      height = t.height;
+      patches = t.patches.items;
+    } };
 
     ghost invariant = { λ t. (0 < t.width) × (t.mask ≡ mask_of t.width) };
 }
@@ -111,7 +116,7 @@ fn patch_count(bytes: &[u8], place: u64) -> u16
     half_at(bytes, place + PATCH_COUNT_AT as u64)
 }
 
-// So many patches of a texture, from `place` on.
+// The `count` patches of a texture, from `place` on.
 #[tactic(auto, using(word_rules::proofs::ListedLemmas::listing))]
 fn read_entries(
     alloc: Global,
@@ -120,7 +125,8 @@ fn read_entries(
     count: u16,
 ) -> Result<Vec<TextureEntry>, OutOfMemory>
     requires { place < 2 ^ 33 }
-    ensures { IfOk result (λ entries. entries.items ≡ listed (λ i. entry_at bytes.now (place + ENTRY_SIZE * i)) count) }
+    ensures { IfOk result (λ entries. entries.items
+        ≡ listed (λ i. entry_at bytes.now (place + ENTRY_SIZE * i)) count) }
 {
     let mut entries = Vec::with_capacity(alloc, count as usize)?;
     for i in 0..count as u64 {

@@ -1,4 +1,4 @@
-// Values from outside: a file of small lists, as their format is told.
+// Values from outside: a file of small lists, written by hand in their format.
 use crate::{ListedTextures, TexFault, TexNo, TexRefusal};
 use art_rules::TextureEntry;
 use lump_cache::LumpCache;
@@ -8,8 +8,8 @@ use std::alloc::Global;
 use std::test::Fail;
 use wad_dir::Directory;
 
-// PNAMES at 12, TEXTURE1 at 32 with textures of 64 by 128 and of 100 by 72, TEXTURE2 at 108 with one
-// of 8 by 4 that has the second one's name, and the directory at 148.
+// PNAMES at 12, TEXTURE1 at 32 with textures of 64 by 128 and of 100 by 72, TEXTURE2 at 108 with
+// one of 8 by 4 that has the second one's name, and the directory at 148.
 fn wad() -> &'static [u8; 196] {
     b"PWAD\x03\0\0\0\x94\0\0\0\
 \x02\0\0\0PATCH1\0\0PATCH2\0\0\
@@ -23,8 +23,8 @@ wide\0\0\0\0\0\0\0\0\x08\0\x04\0\0\0\0\0\x01\0\0\0\0\0\x01\0\0\0\0\0\
 \x6c\0\0\0\x28\0\0\0TEXTURE2"
 }
 
-// The file with two bytes changed, on a shelf whose call of that number fails, and what is loaded of
-// it through a zone of that size.
+// The file with two bytes changed, on a shelf whose call of that number fails, and what is loaded
+// of it through a zone of that size.
 fn load(
     alloc: Global,
     changes: [(usize, u8); 2],

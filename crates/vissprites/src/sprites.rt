@@ -75,7 +75,7 @@ impl Sprites {
     /// Needs a light number below 16. Takes no memory.
     ///
     /// The original: the second half of `R_ProjectSprite`, r_things.c.
-    pub fn add_entry(&mut self, view: &View<'_>, thing: &Placed, seen: Seen, shape: Shape5)
+    pub fn add(&mut self, view: &View<'_>, thing: &Placed, seen: Seen, shape: Shape5)
         requires seen { project view.now thing.now ≡ Some seen }
         requires light { thing.now.light < LIGHT_LEVELS }
         ensures value { self.new ≡ add_entry view.now self.old thing.now seen shape }

@@ -1,47 +1,46 @@
 use Rattle.std.proofs.Common.{Ok, ap, inl, inr}
 use Rattle.outside.specs.Faults.{and_then}
-use Rattle.scene_rules.specs.declared.refusal.AuditRefusal.TheVariants.{Map, Texture}
-use Rattle.lump_cache.proofs.CallLemmas.{result_above, reads_above, reads_as, reads_stop_first, reads_then}
+use Rattle.lump_cache.proofs.CallLemmas.{reads_as, reads_stop_first, reads_then}
 use Rattle.lump_cache.proofs.SizeLemmas.{either_beside}
-use Rattle.level_audit.specs.Faults.{above_level, above_textures}
-use Rattle.level_audit.proofs.FaultLemmas.{level_above, textures_above}
-use Rattle.level_audit.specs.Bases.{map_and_lists}
-use Rattle.level_audit.proofs.BaseLemmas.{map_and_lists-stop, map_and_lists-more, map_beside, then_lists}
+use Rattle.scene_rules.specs.Scenes.{base_over}
+use Rattle.level_audit.proofs.BaseLemmas.{base_over-stop, base_over-more, map_beside, then_lists, with_colours}
 use Rattle.level_audit.proofs.base.read_map.Goals as goal
 
 pub returns-in_err-label-clause-tells : goal.returns-in_err-label-clause-tells
 returns-in_err-label-clause-tells g c =
     let lumps = c.args.dir.now.lumps in
     let name = c.args.name.now in
-    reads_stop_first (λ bytes. map_and_lists bytes lumps name) (result_above above_level c.read_level.result) (above_level c.in_err-label.field-0.0) c.from_residual.result
-    (reads_above Map above_level level_above c.read_level.result c.read_level.ensures.tells) (ap (result_above above_level) c.in_err-label.was) c.from_residual.ensures.1
-    (λ lump asked. inl asked) (λ bytes refusal. map_and_lists-stop bytes lumps name refusal)
+    let colours = c.args.colours in
+    reads_stop_first (λ bytes. base_over bytes lumps name colours.colormap.0 colours.playpal.0 colours.palette.items) c.read_labelled.result c.in_err-label.field-0.0 c.from_residual.result
+    c.read_labelled.ensures.tells c.in_err-label.was c.from_residual.ensures.1
+    (λ lump asked. inl asked) (λ bytes refusal. base_over-stop bytes lumps name colours.colormap.0 colours.playpal.0 colours.palette.items refusal)
 
 pub returns-in_err-textures-clause-tells : goal.returns-in_err-textures-clause-tells
 returns-in_err-textures-clause-tells g c =
     let lumps = c.args.dir.now.lumps in
     let name = c.args.name.now in
-    let label = c.in_ok-label.label.0 in
-    let level = c.in_ok-label.level in
-    reads_then (λ bytes. map_and_lists bytes lumps name) c.from_residual-in_err-textures.result
-    (reads_above Map above_level level_above (Ok (c.in_ok-label.label, level)) c.in_ok-label.ensures.tells)
-    (reads_stop_first (λ bytes. then_lists bytes lumps (label, level)) (result_above above_textures c.load.result) (above_textures c.in_err-textures.field-0.0) c.from_residual-in_err-textures.result
-    (reads_above Texture above_textures textures_above c.load.result c.load.ensures.tells) (ap (result_above above_textures) c.in_err-textures.was) c.from_residual-in_err-textures.ensures.1
-    (λ lump asked. asked) (λ bytes refusal is. ap (λ lists. and_then lists (λ l. Ok (label, level, l))) is))
-    (λ lump asked. inl asked) (λ lump asked. inr asked) (λ bytes. map_and_lists-more bytes lumps name (label, level))
+    let colours = c.args.colours in
+    let map = (c.in_ok-label.label.0, c.in_ok-label.level) in
+    reads_then (λ bytes. base_over bytes lumps name colours.colormap.0 colours.playpal.0 colours.palette.items) c.from_residual-in_err-textures.result
+    c.in_ok-label.ensures.tells
+    (reads_stop_first (λ bytes. then_lists bytes lumps colours.colormap.0 colours.playpal.0 colours.palette.items map) c.load_lists.result c.in_err-textures.field-0.0 c.from_residual-in_err-textures.result
+    c.load_lists.ensures.tells c.in_err-textures.was c.from_residual-in_err-textures.ensures.1
+    (λ lump asked. asked) (λ bytes refusal is. ap (λ lists. and_then lists (λ l. Ok (with_colours colours.colormap.0 colours.playpal.0 colours.palette.items map l))) is))
+    (λ lump asked. inl asked) (λ lump asked. inr asked) (λ bytes. base_over-more bytes lumps name colours.colormap.0 colours.playpal.0 colours.palette.items map)
 
 pub returns-clause-tells : goal.returns-clause-tells
 returns-clause-tells g c =
     let lumps = c.args.dir.now.lumps in
     let name = c.args.name.now in
-    let label = c.in_ok-label.label.0 in
-    let level = c.in_ok-label.level in
+    let colours = c.args.colours in
+    let map = (c.in_ok-label.label.0, c.in_ok-label.level) in
     let textures = c.in_ok-textures.textures in
-    reads_then (λ bytes. map_and_lists bytes lumps name) (Ok (c.in_ok-label.label, level, textures))
-    (reads_above Map above_level level_above (Ok (c.in_ok-label.label, level)) c.in_ok-label.ensures.tells)
-    (reads_as textures (c.in_ok-label.label, level, textures) (reads_above Texture above_textures textures_above (Ok textures) c.in_ok-textures.ensures.tells)
-    (λ lump asked. asked) (λ bytes is. ap (λ lists. and_then lists (λ l. Ok (label, level, l))) is))
-    (λ lump asked. inl asked) (λ lump asked. inr asked) (λ bytes. map_and_lists-more bytes lumps name (label, level))
+    let base = record { colormap = colours.colormap; playpal = colours.playpal; palette = colours.palette; label = c.in_ok-label.label; level = c.in_ok-label.level; textures = textures } in
+    reads_then (λ bytes. base_over bytes lumps name colours.colormap.0 colours.playpal.0 colours.palette.items) (Ok base)
+    c.in_ok-label.ensures.tells
+    (reads_as textures base c.in_ok-textures.ensures.tells
+    (λ lump asked. asked) (λ bytes is. ap (λ lists. and_then lists (λ l. Ok (with_colours colours.colormap.0 colours.playpal.0 colours.palette.items map l))) is))
+    (λ lump asked. inl asked) (λ lump asked. inr asked) (λ bytes. base_over-more bytes lumps name colours.colormap.0 colours.playpal.0 colours.palette.items map)
 
 pub returns-clause-fits : goal.returns-clause-fits
 returns-clause-fits g c =

@@ -3,11 +3,12 @@ use Rattle.lump_cache.proofs.CallLemmas.{reads_same, reads_short, reads_stop_fir
 use Rattle.sprite_book.specs.Calls.{IsWanted}
 use Rattle.scene_rules.specs.declared.Placed.{Placed}
 use Rattle.scene_rules.specs.Places.{need_of}
-use Rattle.level_audit.specs.declared.fault.AuditFault.TheVariants.{OutOfMemory}
+use Rattle.outside.specs.declared.fault.Fault.TheVariants.{OutOfMemory}
 use Rattle.level_audit.specs.Bases.{base_of}
-use Rattle.level_audit.specs.Scenes.{faces_of, given_palette, scene_from}
-use Rattle.level_audit.proofs.PictureLemmas.{sides_told}
-use Rattle.level_audit.proofs.SceneLemmas.{scene_from-more, scene_from-stop}
+use Rattle.level_audit.specs.Scenes.{faces_of}
+use Rattle.scene_rules.specs.Scenes.{scene_with}
+use Rattle.level_audit.proofs.ArtLemmas.{sides_told}
+use Rattle.level_audit.proofs.StepLemmas.{scene_with-more, scene_with-stop}
 use Rattle.level_audit.proofs.scene.read_art.Goals as goal
 
 pub returns-in_err-prepare_faces-clause-tells : goal.returns-in_err-prepare_faces-clause-tells
@@ -16,17 +17,16 @@ returns-in_err-prepare_faces-clause-tells g c =
     let lines = c.args.things.now in
     let stands = base_of c.args.base in
     let faces = faces_of c.args.faces in
-    let palette = c.args.base.palette.items in
-    reads_stop_first (λ bytes. given_palette palette (scene_from bytes lumps lines c.args.skill stands faces)) c.prepare_faces.result c.in_err-prepare_faces.field-0.0 c.from_residual.result
+    reads_stop_first (λ bytes. scene_with bytes lumps lines c.args.skill stands faces) c.prepare_faces.result c.in_err-prepare_faces.field-0.0 c.from_residual.result
     (sides_told stands.lists faces.sides c.deref.result.now faces.sky c.prepare_faces.result c.deref.ensures.value c.prepare_faces.ensures.tells)
-    c.in_err-prepare_faces.was c.from_residual.ensures.1 (λ lump wanted. inl wanted) (λ bytes refusal e. scene_from-stop palette bytes lumps stands faces lines c.args.skill refusal e)
+    c.in_err-prepare_faces.was c.from_residual.ensures.1 (λ lump wanted. inl wanted) (λ bytes refusal e. scene_with-stop bytes lumps stands faces lines c.args.skill refusal e)
 
 pub returns-in_err-placed-clause-tells : goal.returns-in_err-placed-clause-tells
 returns-in_err-placed-clause-tells g c =
     let lumps = c.args.dir.now.lumps in
     let stands = base_of c.args.base in
     let faces = faces_of c.args.faces in
-    reads_same c.from_residual-in_err-placed.result OutOfMemory (λ bytes. given_palette c.args.base.palette.items (scene_from bytes lumps c.args.things.now c.args.skill stands faces)) c.from_residual-in_err-placed.ensures.1
+    reads_same c.from_residual-in_err-placed.result OutOfMemory (λ bytes. scene_with bytes lumps c.args.things.now c.args.skill stands faces) c.from_residual-in_err-placed.ensures.1
     (reads_short OutOfMemory refl (λ lump wanted. inl wanted)
     (sides_told stands.lists faces.sides c.deref.result.now faces.sky (Ok c.in_ok-prepare_faces.field-0) c.deref.ensures.value c.in_ok-prepare_faces.ensures.tells))
 
@@ -36,9 +36,8 @@ returns-clause-tells g c =
     let lines = c.args.things.now in
     let stands = base_of c.args.base in
     let faces = faces_of c.args.faces in
-    let palette = c.args.base.palette.items in
-    reads_then (λ bytes. given_palette palette (scene_from bytes lumps lines c.args.skill stands faces)) c.read_things.result
+    reads_then (λ bytes. scene_with bytes lumps lines c.args.skill stands faces) c.read_things.result
     (sides_told stands.lists faces.sides c.deref.result.now faces.sky (Ok c.in_ok-prepare_faces.field-0) c.deref.ensures.value c.in_ok-prepare_faces.ensures.tells)
     c.read_things.ensures.tells (λ lump wanted. inl wanted)
     (λ lump wanted. inr (subst (λ (placed : List Placed). IsWanted lumps (map need_of placed) lump) c.in_ok-placed.ensures wanted))
-    (λ bytes prepared. scene_from-more palette bytes lumps stands faces lines c.args.skill c.prepare_faces.new.textures.prepared c.prepare_faces.new.textures.lists c.in_ok-placed.placed prepared c.in_ok-prepare_faces.ensures.lists c.in_ok-placed.ensures)
+    (λ bytes prepared. scene_with-more bytes lumps stands faces lines c.args.skill c.prepare_faces.new.textures.prepared c.prepare_faces.new.textures.lists c.in_ok-placed.placed prepared c.in_ok-prepare_faces.ensures.lists c.in_ok-placed.ensures)

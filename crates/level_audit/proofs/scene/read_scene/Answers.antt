@@ -7,39 +7,37 @@ use Rattle.level_audit.specs.Faults.{above_scene}
 use Rattle.level_audit.specs.Bases.{base_of}
 use Rattle.level_audit.specs.declared.names.ReadFaces.{ReadFaces}
 use Rattle.level_audit.specs.Asked.{IsOfScene}
-use Rattle.level_audit.specs.Scenes.{faces_of, given_palette}
+use Rattle.level_audit.specs.Scenes.{faces_of}
 use Rattle.level_audit.proofs.PartLemmas.{faces_told}
-use Rattle.level_audit.proofs.SceneLemmas.{scene_on-more, scene_on-stop}
+use Rattle.level_audit.proofs.StepLemmas.{scene_on-more, scene_on-stop}
 use Rattle.level_audit.proofs.scene.read_scene.Goals as goal
 
-pub returns-in_err-faces-clause-tells : goal.returns-in_err-faces-clause-tells
-returns-in_err-faces-clause-tells g c =
+pub returns-in-Err-clause-tells : goal.returns-in-Err-clause-tells
+returns-in-Err-clause-tells g c =
     let dir = c.args.dir.now in
     let name = c.args.name.now in
     let stands = base_of c.args.base in
-    let palette = c.args.base.palette.items in
-    let fault = above_scene c.in_err-faces.field-0.0 in
-    reads_stop_first (λ bytes. given_palette palette (scene_on bytes dir.lumps c.args.things.now c.args.skill name stands)) (Err fault) fault c.from_residual.result
-    (faces_told (g.S.Shelf.view c.args.shelf.now) dir c.args.cache.now (IsOfScene dir.lumps c.args.things.now c.args.skill name stands) name stands.level stands.lists c.lists.result.now (Err c.in_err-faces.field-0.0) c.lists.ensures c.in_err-faces.ensures.answers)
-    refl c.from_residual.ensures.1 (λ lump wanted. wanted) (λ bytes refusal e. scene_on-stop palette bytes dir.lumps c.args.things.now c.args.skill name stands refusal e)
+    let fault = above_scene c.in-Err.fault in
+    reads_stop_first (λ bytes. scene_on bytes dir.lumps c.args.things.now c.args.skill name stands) (Err fault) fault (Err c.above_scene.result)
+    (faces_told (g.S.Shelf.view c.args.shelf.now) dir c.args.cache.now (IsOfScene dir.lumps c.args.things.now c.args.skill name stands) name stands.level stands.lists c.lists.result.now (Err c.in-Err.fault) c.lists.ensures c.in-Err.ensures.answers)
+    refl c.above_scene.ensures (λ lump wanted. wanted) (λ bytes refusal e. scene_on-stop bytes dir.lumps c.args.things.now c.args.skill name stands refusal e)
 
 pub returns-clause-tells : goal.returns-clause-tells
 returns-clause-tells g c =
     let dir = c.args.dir.now in
     let name = c.args.name.now in
     let stands = base_of c.args.base in
-    let faces = faces_of c.in_ok-faces.faces in
-    let palette = c.args.base.palette.items in
-    reads_then (λ bytes. given_palette palette (scene_on bytes dir.lumps c.args.things.now c.args.skill name stands)) c.read_art.result
-    (faces_told (g.S.Shelf.view c.args.shelf.now) dir c.args.cache.now (IsOfScene dir.lumps c.args.things.now c.args.skill name stands) name stands.level stands.lists c.lists.result.now (Ok c.in_ok-faces.faces) c.lists.ensures c.in_ok-faces.ensures.answers)
+    let faces = faces_of c.in-Ok.faces in
+    reads_then (λ bytes. scene_on bytes dir.lumps c.args.things.now c.args.skill name stands) c.read_art.result
+    (faces_told (g.S.Shelf.view c.args.shelf.now) dir c.args.cache.now (IsOfScene dir.lumps c.args.things.now c.args.skill name stands) name stands.level stands.lists c.lists.result.now (Ok c.in-Ok.faces) c.lists.ensures c.in-Ok.ensures.answers)
     c.read_art.ensures.tells (λ lump wanted. wanted)
     (λ lump wanted. record {
       faces = faces;
-      are = subst (λ (lists : TextureLists). faces_in dir.lumps name stands.level lists ≡ Ok faces) c.lists.ensures c.in_ok-faces.ensures.answers.ok;
+      are = subst (λ (lists : TextureLists). faces_in dir.lumps name stands.level lists ≡ Ok faces) c.lists.ensures c.in-Ok.ensures.answers.ok;
       asked = wanted;
     })
-    (λ bytes found. scene_on-more palette bytes dir.lumps c.args.things.now c.args.skill name stands faces found)
+    (λ bytes found. scene_on-more bytes dir.lumps c.args.things.now c.args.skill name stands faces found)
 
 pub returns-clause-flats : goal.returns-clause-flats
 returns-clause-flats g c =
-    IfOk-weaker c.read_art.result _ _ (λ scene same. ap (λ (f : ReadFaces). length f.flats.items) same ∙ c.in_ok-faces.ensures.flats) c.read_art.ensures.faces
+    IfOk-weaker c.read_art.result _ _ (λ scene same. ap (λ (f : ReadFaces). length f.flats.items) same ∙ c.in-Ok.ensures.flats) c.read_art.ensures.faces

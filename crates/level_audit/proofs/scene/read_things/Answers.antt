@@ -5,9 +5,9 @@ use Rattle.level_audit.specs.Faults.{above_scene}
 use Rattle.level_audit.specs.Bases.{base_of}
 use Rattle.scene_rules.specs.Places.{need_of}
 use Rattle.scene_rules.specs.Scenes.{scene_over}
-use Rattle.level_audit.specs.Scenes.{faces_of, given_palette}
+use Rattle.level_audit.specs.Scenes.{faces_of}
 use Rattle.level_audit.proofs.PartLemmas.{checks_told}
-use Rattle.level_audit.proofs.SceneLemmas.{scene_over-sound, scene_over-unread, scene_over-unsound}
+use Rattle.level_audit.proofs.StepLemmas.{scene_over-sound, scene_over-unread, scene_over-unsound}
 use Rattle.level_audit.proofs.scene.read_things.Goals as goal
 
 pub returns-in_err-book-clause-tells : goal.returns-in_err-book-clause-tells
@@ -15,39 +15,36 @@ returns-in_err-book-clause-tells g c =
     let lumps = c.args.dir.now.lumps in
     let stands = base_of c.args.base in
     let faces = faces_of c.args.faces in
-    let palette = c.args.base.palette.items in
     let prepared = c.args.base.textures.prepared in
-    reads_stop_first (λ bytes. given_palette palette (scene_over bytes lumps stands faces c.args.placed prepared)) c.read_book.result c.in_err-book.field-0.0 c.from_residual.result
-    c.read_book.ensures.tells c.in_err-book.was c.from_residual.ensures.1 (λ lump wanted. wanted) (λ bytes refusal e. scene_over-unread palette bytes lumps stands faces c.args.placed prepared refusal e)
+    reads_stop_first (λ bytes. scene_over bytes lumps stands faces c.args.placed prepared) c.read_book.result c.in_err-book.field-0.0 c.from_residual.result
+    c.read_book.ensures.tells c.in_err-book.was c.from_residual.ensures.1 (λ lump wanted. wanted) (λ bytes refusal e. scene_over-unread bytes lumps stands faces c.args.placed prepared refusal e)
 
 pub check_scene-requires-clause-few : goal.check_scene-requires-clause-few
 check_scene-requires-clause-few g c = omega (arith, c.segs.ensures.sound.counts.sides, c.requires.sides, ap length c.deref.ensures.value)
 
-pub returns-in_err-check_scene-clause-tells : goal.returns-in_err-check_scene-clause-tells
-returns-in_err-check_scene-clause-tells g c =
+pub returns-in-Err-clause-tells : goal.returns-in-Err-clause-tells
+returns-in-Err-clause-tells g c =
     let dir = c.args.dir.now in
     let stands = base_of c.args.base in
     let faces = faces_of c.args.faces in
-    let palette = c.args.base.palette.items in
     let prepared = c.args.base.textures.prepared in
-    let fault = above_scene c.in_err-check_scene.field-0.0 in
+    let fault = above_scene c.in-Err.fault in
     let expected = λ (bytes : ℕ → List ℕ). given_palette palette (scene_over bytes dir.lumps stands faces c.args.placed prepared) in
-    reads_same c.from_residual-in_err-check_scene.result fault expected c.from_residual-in_err-check_scene.ensures.1
+    reads_same (Err c.above_scene.result) fault expected c.above_scene.ensures
     (reads_stop expected fault c.in_ok-book.ensures.tells (Err fault)
-    (checks_told (g.S.Shelf.view c.read_book.new.shelf) dir c.read_book.new.cache (IsWanted dir.lumps (map need_of c.args.placed)) c.args.placed prepared stands.level.segs c.segs.result.now faces.sides c.deref.result.now (Err c.in_err-check_scene.field-0.0)
-    c.segs.ensures.value c.deref.ensures.value c.in_err-check_scene.ensures)
-    refl (λ lump wanted. wanted) (λ bytes refusal read stopped. scene_over-unsound palette bytes dir.lumps stands faces c.args.placed prepared c.in_ok-book.book refusal read stopped))
+    (checks_told (g.S.Shelf.view c.read_book.new.shelf) dir c.read_book.new.cache (IsWanted dir.lumps (map need_of c.args.placed)) c.args.placed prepared stands.level.segs c.segs.result.now faces.sides c.deref.result.now (Err c.in-Err.fault)
+    c.segs.ensures.value c.deref.ensures.value c.in-Err.ensures)
+    refl (λ lump wanted. wanted) (λ bytes refusal read stopped. scene_over-unsound bytes dir.lumps stands faces c.args.placed prepared c.in_ok-book.book refusal read stopped))
 
-pub returns-clause-tells : goal.returns-clause-tells
-returns-clause-tells g c =
+pub returns-in-Ok-clause-tells : goal.returns-in-Ok-clause-tells
+returns-in-Ok-clause-tells g c =
     let dir = c.args.dir.now in
     let stands = base_of c.args.base in
     let faces = faces_of c.args.faces in
-    let palette = c.args.base.palette.items in
     let prepared = c.args.base.textures.prepared in
-    reads_more (λ bytes. given_palette palette (scene_over bytes dir.lumps stands faces c.args.placed prepared)) tt
+    reads_more (λ bytes. scene_over bytes dir.lumps stands faces c.args.placed prepared) tt
     (record { base = c.args.base; faces = c.args.faces; placed = c.args.placed; book = c.in_ok-book.book })
     c.in_ok-book.ensures.tells (Ok tt)
     (checks_told (g.S.Shelf.view c.read_book.new.shelf) dir c.read_book.new.cache (IsWanted dir.lumps (map need_of c.args.placed)) c.args.placed prepared stands.level.segs c.segs.result.now faces.sides c.deref.result.now (Ok tt)
-    c.segs.ensures.value c.deref.ensures.value c.in_ok-check_scene.ensures)
-    refl (λ lump wanted. wanted) (λ bytes read sound. scene_over-sound palette bytes dir.lumps stands faces c.args.placed prepared c.in_ok-book.book read sound)
+    c.segs.ensures.value c.deref.ensures.value c.in-Ok.ensures)
+    refl (λ lump wanted. wanted) (λ bytes read sound. scene_over-sound bytes dir.lumps stands faces c.args.placed prepared c.in_ok-book.book read sound)

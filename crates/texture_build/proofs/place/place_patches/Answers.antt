@@ -37,7 +37,7 @@ loop-entry-preserved g c =
     let patches = c.loop-entry.patches.items in
     let placed = c.in_ok-patch.patch in
     record {
-      tells = tells_more (λ bytes. or_missing c.args.tex.0 (option_map (patches_part bytes (length c.args.columns.now)) (placed_patches (last_of c.args.dir.now.lumps) bytes c.args.lists.now.names (take (k + 1) entries)))) placed tt
+      tells = reads_more (λ bytes. or_missing c.args.tex.0 (option_map (patches_part bytes (length c.args.columns.now)) (placed_patches (last_of c.args.dir.now.lumps) bytes c.args.lists.now.names (take (k + 1) entries)))) placed tt
           inv.tells c.place_entry.result c.place_entry.ensures.tells c.in_ok-patch.was
           (λ lump is. record { entry = get_or entries k no_entry; among = Contains-get_or entries k no_entry l; is = is })
           (λ bytes one two. part_push (last_of c.args.dir.now.lumps) bytes c.args.lists.now.names c.args.tex.0 (length c.args.columns.now) entries k no_entry patches c.loop-entry.columns c.place_entry.new.columns placed l one two
@@ -52,8 +52,8 @@ returns-in_err-patch-clause-tells g c =
     let k = c.loop-entry.entry-index in
     let l : k < length entries = omega arith in
     let expected = λ (bytes : ℕ → List ℕ). or_missing c.args.tex.0 (option_map (patches_part bytes (length c.args.columns.now)) (placed_patches (last_of c.args.dir.now.lumps) bytes c.args.lists.now.names entries)) in
-    tells_same c.from_residual.result c.in_err-patch.field-0.0 expected c.from_residual.ensures.1
-    (tells_stop expected c.in_err-patch.field-0.0 c.loop-entry.invariant.tells c.place_entry.result c.place_entry.ensures.tells c.in_err-patch.was
+    reads_same c.from_residual.result c.in_err-patch.field-0.0 expected c.from_residual.ensures.1
+    (reads_stop expected c.in_err-patch.field-0.0 c.loop-entry.invariant.tells c.place_entry.result c.place_entry.ensures.tells c.in_err-patch.was
     (λ lump is. record { entry = get_or entries k no_entry; among = Contains-get_or entries k no_entry l; is = is })
     (λ bytes e one two. part_stop (last_of c.args.dir.now.lumps) bytes c.args.lists.now.names c.args.tex.0 (length c.args.columns.now) entries k no_entry _ c.loop-entry.columns e l one two))
 
@@ -65,7 +65,7 @@ returns-in_err-push-clause-tells g c =
     let placed = c.in_ok-patch.patch in
     let expected = λ (bytes : ℕ → List ℕ). or_missing c.args.tex.0 (option_map (patches_part bytes (length c.args.columns.now)) (placed_patches (last_of c.args.dir.now.lumps) bytes c.args.lists.now.names entries)) in
     let value : Unit {0} → PatchesPart = λ done. part (c.loop-entry.patches.items ++ placed ∷ []) c.place_entry.new.columns in
-    let one = tells_more {wants = IsEntryPatch c.args.dir.now.lumps c.args.lists.now.names entries} {value = value}
+    let one = reads_more {wants = IsEntryPatch c.args.dir.now.lumps c.args.lists.now.names entries} {value = value}
     (λ bytes. or_missing c.args.tex.0 (option_map (patches_part bytes (length c.args.columns.now)) (placed_patches (last_of c.args.dir.now.lumps) bytes c.args.lists.now.names (take (k + 1) entries)))) placed tt
     c.loop-entry.invariant.tells c.place_entry.result c.place_entry.ensures.tells c.in_ok-patch.was
     (λ lump is. record { entry = get_or entries k no_entry; among = Contains-get_or entries k no_entry l; is = is })

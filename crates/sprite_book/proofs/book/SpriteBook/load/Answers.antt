@@ -14,10 +14,10 @@ unfolding outlines_of
 returns-clause-outlines g c = c.make_book.ensures.outlines
 
 pub returns-clause-full : goal.returns-clause-full
-returns-clause-full g c = full_weaker c.make_book.result (λ wanted widest' k. (k.lump, k.asked, k.full.wanted_is, k.full.narrow)) c.make_book.ensures.tells.full
+returns-clause-full g c = full_weaker c.make_book.result (λ wanted widest' k. (k.lump, k.asked, k.wanted_is, k.narrow)) c.make_book.ensures.tells.full
 
 pub returns-clause-room : goal.returns-clause-room
-returns-clause-room g c = λ colormap size rest. full_weaker c.make_book.result (λ wanted widest' k. k.full.room colormap size rest) c.make_book.ensures.tells.full
+returns-clause-room g c = λ colormap size rest. full_weaker c.make_book.result (λ wanted widest' k. k.room colormap size rest) c.make_book.ensures.tells.full
 
 pub returns-clause-there : goal.returns-clause-there
 returns-clause-there g c = IfOk-weaker c.make_book.result _ _ (λ book e. book_there c.args.dir.now.lumps (first_needs c.args.needed.now) book e) c.make_book.ensures.outlines
