@@ -3,7 +3,7 @@ use Rattle.std.specs.Prelude.{ℕ, List, Result, Ok}
 use Rattle.outside.specs.Shelf.{File}
 use Rattle.outside.specs.Faults.{and_then}
 use Rattle.command_line.specs.LevelJobs.{LevelJobValue}
-use Rattle.scene_load.specs.Stops.{Stop}
+use Rattle.outside.specs.Stops.{Stop}
 use Rattle.scene_rules.specs.declared.ZoneSizes.{ZoneSizes}
 use Rattle.refusals.specs.declared.refusal.Refusal.{Refusal}
 use Rattle.scene_load.specs.Loads.{load_in, loaded_sizes}

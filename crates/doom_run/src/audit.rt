@@ -7,7 +7,7 @@ ghost use Rattle.zone_rules.specs.Zones.{IsZoneSize};
 ghost use Rattle.view_rules.specs.declared.TheConstants.{MIN_SIZE, MAX_SIZE};
 ghost use Rattle.lump_cache.specs.Calls.{IfFull};
 ghost use Rattle.command_line.specs.LevelJobs.{level_job_value};
-ghost use Rattle.scene_load.specs.Stops.{ResultIsOrAbsent};
+ghost use Rattle.outside.specs.Stops.{ResultIsOrAbsent};
 ghost use Rattle.scene_load.specs.Fulls.{IsFullLoad};
 ghost use Rattle.doom_run.specs.Audits.{audit_verdict};
 ghost use Rattle.doom_run.specs.Ends.{DeliversAt};

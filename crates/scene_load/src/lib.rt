@@ -26,3 +26,4 @@ pub use fault::LoadFault;
 pub use load::{LoadedScene, load_scene};
 pub use read::{SceneFiles, read_files};
 pub use refusals::Refusal;
+pub use wads::load_dir;

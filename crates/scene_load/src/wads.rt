@@ -48,8 +48,14 @@ pub fn load_wads<S: Shelf>(
     load_dir(alloc, shelf, &numbers)
 }
 
-// The directory of these files.
-fn load_dir<S: Shelf>(
+/// The directory of the WADs of these numbers, with the faults of loading.
+///
+/// Takes memory for the directory. Errors: `Refused` with the first refusal of the files' bytes.
+/// `ReadFault` only where a call of the shelf failed. `OutOfMemory`. The shelf goes on to stand for
+/// what it stood for.
+///
+/// The original: `W_InitMultipleFiles`, w_wad.c.
+pub fn load_dir<S: Shelf>(
     alloc: Global,
     shelf: &mut S,
     numbers: &[FileNo],
