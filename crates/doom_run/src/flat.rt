@@ -94,7 +94,11 @@ fn draw_flat<S: Shelf>(
 }
 
 // The first palette of a directory.
-fn read_palette<S: Shelf>(alloc: Global, shelf: &mut S, dir: &Directory) -> Result<Vec<u8>, LoadFault>
+fn read_palette<S: Shelf>(
+    alloc: Global,
+    shelf: &mut S,
+    dir: &Directory,
+) -> Result<Vec<u8>, LoadFault>
     ensures answers { (contents : List (List ℕ)) →
         NameFiles (S.view shelf.old) dir.now.files contents → AllWithin contents dir.now.lumps →
         ResultIs itself (S.view shelf.old).steady (λ palette. palette.items)

@@ -181,7 +181,9 @@ fn perform_job<S: Shelf, K: Sink>(
     match command {
         Command::Flat { name, file } => perform_flat(alloc, name, file, shelf, out),
         Command::Make(job) => perform_make(alloc, *job, out),
-        Command::Level { task, level, wads } => perform_level(alloc, *task, level, wads, shelf, out),
+        Command::Level { task, level, wads } => perform_level(
+            alloc, *task, level, wads, shelf, out,
+        ),
         Command::Exercise { .. } => Status::Usage,
     }
 }
@@ -218,7 +220,8 @@ fn perform_level<S: Shelf, K: Sink>(
 {
     match job {
         LevelTask::Audit => perform_audit(alloc, level, wads, shelf, out),
-        LevelTask::Render(_) | LevelTask::Limits | LevelTask::Trim | LevelTask::Trace => Status::Usage,
+        LevelTask::Render(_) | LevelTask::Limits | LevelTask::Trim | LevelTask::Trace =>
+            Status::Usage,
     }
 }
 

@@ -1,5 +1,5 @@
 -- When the zone is full while a scene is loaded.
-use Rattle.std.specs.Prelude.{◌≡◌, ◌<◌, ◌+◌, ℕ, List, Option, Some, Ok, ◌⊎◌}
+use Rattle.std.specs.Prelude.{◌≡◌, ◌≢◌, ◌<◌, ◌≤◌, ◌+◌, ℕ, List, Option, Some, Ok, ◌⊎◌}
 use Rattle.outside.specs.Shelf.{File}
 use Rattle.lump_rules.specs.declared.wad.Lump.{Lump}
 use Rattle.lump_rules.specs.Lookups.{lump_at}
@@ -10,9 +10,17 @@ use Rattle.sprite_book.specs.Calls.{IsWanted}
 use Rattle.command_line.specs.LevelJobs.{LevelJobValue}
 use Rattle.scene_load.specs.Files.{FilesValue, files_in}
 use Rattle.scene_rules.specs.Scenes.{colormap_of}
+use Rattle.level_audit.specs.Asked.{IsOfBase}
 use Rattle.level_audit.specs.Reads.{IsReadBy}
 use Rattle.level_audit.specs.Weapons.{weapon_needs}
 use Rattle.scene_load.specs.Loads.{LoadedValue, audited_in, load_in, loaded_sizes, wad_bytes}
+
+-- The block of COLORMAP and that of any other lump of colours, of the map or of the lists are together
+-- no larger than the zone.
+abbrev pub IsBaseWithin : List Lump → LevelJobValue → ℕ → Type 0
+IsBaseWithin lumps level colormap =
+    (lump : ℕ) → IsOfBase lumps level.map_name lump → lump ≢ colormap →
+    block_size (lump_at lumps colormap).size + block_size (lump_at lumps lump).size ≤ level.settings.zone
 
 -- a picture of a weapon layer
 abbrev pub IsOfLayers : List Lump → Option (List WeaponRow) → ℕ → Type 0

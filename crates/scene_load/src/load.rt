@@ -15,11 +15,11 @@ ghost use Rattle.command_line.specs.LevelJobs.{level_job_value};
 ghost use Rattle.refusals.specs.Groups.{of_audit};
 ghost use Rattle.scene_load.specs.Files.{files_named, value_of};
 ghost use Rattle.outside.specs.Stops.{ResultIsOrAbsent};
-ghost use Rattle.scene_load.specs.Fulls.{IsFullLoad, IsFullOver, IsOfLayers};
+ghost use Rattle.scene_load.specs.Fulls.{IsBaseWithin, IsFullLoad, IsFullOver, IsOfLayers};
 ghost use Rattle.scene_load.specs.Loads.{audited_in, audited_value, load_in, loaded_lumps, loaded_sizes, loaded_value, weapons_of, with_layers};
 
-use crate::{LoadFault, SceneFiles, read_files};
 use crate::fault::audit_fault;
+use crate::{LoadFault, SceneFiles, read_files};
 use command_line::LevelJob;
 use csv_tables::WeaponTable;
 use level_audit::{AuditFault, SoundScene, audit, audit_weapons};
@@ -81,6 +81,9 @@ pub fn load_scene<S: Shelf>(
         IfOk result (λ loaded. NameFiles (S.view shelf.new) loaded.files.dir.files contents × AllWithin contents loaded.files.dir.lumps × IsFaithful contents loaded.files.dir.lumps loaded.cache) }
     ensures slots { IfOk result (λ loaded. length loaded.files.dir.lumps ≤ loaded.cache.lumps) }
     ensures zone { IfOk result (λ loaded. loaded.cache.size ≡ level.now.settings.zone) }
+    ensures composites { IfOk result (λ loaded. loaded.cache.composites ≡ COMPOSITE_SLOTS) }
+    ensures fits { IfOk result (λ loaded. IsBaseWithin loaded.files.dir.lumps
+        (level_job_value level.now) loaded.scene.scene.base.colormap) }
     ensures follows { IsLaterShelf (S.view shelf.old) (S.view shelf.new) }
     ensures causes { HasCauses itself (S.view shelf.old).faults (S.view shelf.new).faults result }
 {
@@ -103,6 +106,7 @@ fn make_cache(alloc: Global, dir: &Directory, size: u32) -> Result<LumpCache, Lo
     ensures empty { IfOk result IsEmpty }
     ensures size { IfOk result (λ cache. cache.size ≡ size) }
     ensures slots { IfOk result (λ cache. cache.lumps ≡ length dir.now.lumps) }
+    ensures composites { IfOk result (λ cache. cache.composites ≡ COMPOSITE_SLOTS) }
     ensures faithful { (contents : List (List ℕ)) →
         IfOk result (IsFaithful contents dir.now.lumps) }
 {
@@ -141,6 +145,8 @@ fn audit_level<S: Shelf>(
         (value_of files.now))) }
     ensures rest { IfOk result (λ audited. IsAtRest audited.0.scene.base.colormap
         (lump_at files.now.dir.lumps audited.0.scene.base.colormap).size cache.new) }
+    ensures fits { IfOk result (λ audited. IsBaseWithin files.now.dir.lumps
+        (level_job_value level.now) audited.0.scene.base.colormap) }
     ensures counts { KeepsCounts cache.old cache.new }
     ensures faithful { (contents : List (List ℕ)) →
         NameFiles (S.view shelf.old) files.now.dir.files contents →
@@ -181,6 +187,8 @@ fn audit_files<S: Shelf>(
         (value_of files.now))) }
     ensures rest { IfOk result (λ audited. IsAtRest audited.0.scene.base.colormap
         (lump_at files.now.dir.lumps audited.0.scene.base.colormap).size cache.new) }
+    ensures fits { IfOk result (λ audited. IsBaseWithin files.now.dir.lumps
+        (level_job_value level.now) audited.0.scene.base.colormap) }
     ensures counts { KeepsCounts cache.old cache.new }
     ensures faithful { (contents : List (List ℕ)) →
         NameFiles (S.view shelf.old) files.now.dir.files contents →

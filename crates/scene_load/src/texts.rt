@@ -79,11 +79,7 @@ fn check_things(alloc: Global, bytes: &[u8]) -> Result<ThingTable, LoadFault>
 }
 
 // The views of a path, in a file.
-pub fn load_path<S: Shelf>(
-    alloc: Global,
-    shelf: &mut S,
-    name: &str,
-) -> Result<PathTable, LoadFault>
+pub fn load_path<S: Shelf>(alloc: Global, shelf: &mut S, name: &str) -> Result<PathTable, LoadFault>
     ensures answers { (files : List File) → Holds (S.view shelf.old) files →
         ResultIsOrAbsent itself (S.view shelf.old).steady (λ path. path)
         (in_file path_file name.now files) result }
@@ -131,11 +127,7 @@ pub fn load_weapons<S: Shelf>(
 }
 
 // The weapon layers in a file.
-fn load_layers<S: Shelf>(
-    alloc: Global,
-    shelf: &mut S,
-    name: &str,
-) -> Result<WeaponTable, LoadFault>
+fn load_layers<S: Shelf>(alloc: Global, shelf: &mut S, name: &str) -> Result<WeaponTable, LoadFault>
     ensures answers { (files : List File) → Holds (S.view shelf.old) files →
         ResultIsOrAbsent itself (S.view shelf.old).steady (λ weapons. weapons)
         (in_file weapons_file name.now files) result }

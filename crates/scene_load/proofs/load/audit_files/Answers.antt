@@ -9,7 +9,7 @@ use Rattle.scene_rules.specs.Scenes.{SceneValue}
 use Rattle.level_audit.specs.Sound.{SoundValue}
 use Rattle.level_audit.proofs.FetchLemmas.{told_after}
 use Rattle.level_audit.proofs.SceneLemmas.{colormap_there}
-use Rattle.scene_load.specs.Fulls.{IsFullOver}
+use Rattle.scene_load.specs.Fulls.{IsBaseWithin, IsFullOver}
 use Rattle.scene_load.specs.Loads.{audited_value, loaded_lumps, loaded_sizes}
 use Rattle.scene_load.proofs.AuditedLemmas.{both_accepted, causes_after, layers_stopped, scene_kept, scene_stopped}
 use Rattle.scene_load.proofs.FullLemmas.{audit_full, layers_full, same_full}
@@ -93,3 +93,10 @@ returns-clause-faithful g c = λ contents stand faithful.
 
 pub returns-clause-follows : goal.returns-clause-follows
 returns-clause-follows g c = follows_then c.in_ok-scene.ensures.follows c.in_ok-weapons.ensures.tells.keeps.follows
+
+pub returns-clause-fits : goal.returns-clause-fits
+returns-clause-fits g c =
+    let lumps = c.args.files.now.dir.lumps in
+    let same = ap (λ (s : SoundValue). s.scene) c.in_ok-weapons.ensures.scene ∙ scene_kept lumps c.in_ok-weapons.weapons c.in_ok-scene.scene in
+    subst (λ (s : SceneValue). IsBaseWithin lumps (level_job_value c.args.level.now) s.base.colormap) (sym same)
+    (λ lump asked other. rw (← c.requires.size) (c.in_ok-scene.ensures.fits c.requires.empty lump asked other))

@@ -28,3 +28,6 @@ returns-clause-rest g c = ok_through _ _ c.audit_files.result c.map_err.result c
 
 pub returns-clause-causes : goal.returns-clause-causes
 returns-clause-causes g c = causes_above itself of_audit c.audit_files.result c.map_err.result c.map_err.ensures.cases c.audit_files.ensures.causes
+
+pub returns-clause-fits : goal.returns-clause-fits
+returns-clause-fits g c = ok_through _ _ c.audit_files.result c.map_err.result c.map_err.ensures.cases c.audit_files.ensures.fits
