@@ -7,24 +7,24 @@ use Rattle.command_line.specs.declared.command.Command.TheVariants as command
 use Rattle.command_line.specs.declared.command.Format.{Format}
 use Rattle.command_line.specs.declared.command.MakeJob.{MakeJob}
 use Rattle.command_line.specs.declared.command.MakeJob.TheVariants.{Wad, Path, Tables, Things}
-use Rattle.command_line.specs.declared.command.SceneJob.{SceneJob}
+use Rattle.command_line.specs.declared.command.LevelTask.{LevelTask}
 use Rattle.command_line.specs.declared.jobs.TheConstants.{MAX_COUNT, MIN_COUNT}
 use Rattle.command_line.specs.Simple.{simple_command}
 use Rattle.command_line.specs.Choices.{format_in, has_no_options, has_no_settings, number_within, zone_in}
-use Rattle.command_line.specs.Scenes.{IsScene, ToldScene, are_wads, scene_job_in, scene_of, told_scene}
+use Rattle.command_line.specs.LevelJobs.{IsLevelJob, LevelJobValue, are_wads, level_task_in, level_job_of, level_job_value}
 
 -- a command, as text and numbers
-pub data Told : Type 0 where
-  flat : List ℕ → Text → Told
-  scene : SceneJob → ToldScene → List Text → Told
-  make : MakeJob → Told
-  exercise : ℕ → ℕ → Format → Told
+pub data CommandValue : Type 0 where
+  flat : List ℕ → Text → CommandValue
+  level_job : LevelTask → LevelJobValue → List Text → CommandValue
+  make : MakeJob → CommandValue
+  exercise : ℕ → ℕ → Format → CommandValue
 
-abbrev pub told : Command → Told
-told (command.Flat name file) = flat name file.now
-told (command.Scene job level wads) = scene job (told_scene level) (map (λ w. w.now) wads.items)
-told (command.Make job) = make job
-told (command.Exercise count zone format) = exercise count zone format
+abbrev pub command_value : Command → CommandValue
+command_value (command.Flat name file) = flat name file.now
+command_value (command.Level task level wads) = level_job task (level_job_value level) (map (λ w. w.now) wads.items)
+command_value (command.Make job) = make job
+command_value (command.Exercise count zone format) = exercise count zone format
 
 -- a number of made files
 pub record IsCount (n : ℕ) : Type 0 where
@@ -38,9 +38,9 @@ IsCountedMake Tables = Unit {0}
 IsCountedMake Things = Unit {0}
 
 -- the number of made files, or the numbers of a job over a level, are in their ranges
-abbrev pub IsCounted : Told → Type 0
+abbrev pub IsCounted : CommandValue → Type 0
 IsCounted (flat name file) = Unit {0}
-IsCounted (scene job level wads) = IsScene level wads
+IsCounted (level_job task level wads) = IsLevelJob level wads
 IsCounted (make job) = IsCountedMake job
 IsCounted (exercise count zone format) = IsCount count
 
@@ -49,7 +49,7 @@ unfoldable pub is_built : Text → Bool
 is_built job = bytes_eq job (codes "flat") || (bytes_eq job (codes "make") || bytes_eq job (codes "audit"))
 
 -- flat NAME FILE, and no option
-unfoldable pub flat_of : List Row → List Text → Option Told
+unfoldable pub flat_of : List Row → List Text → Option CommandValue
 flat_of rows [] = None
 flat_of rows (name ∷ []) = None
 flat_of rows (name ∷ file ∷ []) = cond (has_no_options rows) (option_map (λ n. flat n file) (name_of_text name)) None
@@ -76,7 +76,7 @@ make_job_of (what ∷ count ∷ []) = numbered_make what count
 make_job_of (what ∷ count ∷ more ∷ rest) = None
 
 -- and no option
-unfoldable pub make_of : List Row → List Text → Option Told
+unfoldable pub make_of : List Row → List Text → Option CommandValue
 make_of rows rest = cond (has_no_options rows) (option_map make (make_job_of rest)) None
 
 unfoldable pub exercise_numbers : List Row → Text → Option (ℕ × ℕ × Format)
@@ -85,30 +85,30 @@ exercise_numbers rows text =
     (count_of text)
 
 -- exercise N, and no option but the zone and the format
-unfoldable pub exercise_of : List Row → List Text → Option Told
+unfoldable pub exercise_of : List Row → List Text → Option CommandValue
 exercise_of rows [] = None
 exercise_of rows (count ∷ []) = cond (has_no_settings rows) (option_map (λ n. exercise n.0 n.1 n.2) (exercise_numbers rows count)) None
 exercise_of rows (count ∷ more ∷ rest) = None
 
 -- a job over a level in 1 to 16 WADs
-unfoldable pub scene_with : List Row → SceneJob → Text → List Text → Option Told
-scene_with rows job level wads = cond (are_wads wads) (option_map (λ s. scene job s wads) (scene_of rows level)) None
+unfoldable pub level_with : List Row → LevelTask → Text → List Text → Option CommandValue
+level_with rows task map_name wads = cond (are_wads wads) (option_map (λ level. level_job task level wads) (level_job_of rows map_name)) None
 
-unfoldable pub scene_command : List Row → Text → List Text → Option Told
-scene_command rows job [] = None
-scene_command rows job (level ∷ wads) = option_and_then (λ j. scene_with rows j level wads) (scene_job_in rows job)
+unfoldable pub level_command : List Row → Text → List Text → Option CommandValue
+level_command rows job [] = None
+level_command rows job (level ∷ wads) = option_and_then (λ task. level_with rows task level wads) (level_task_in rows job)
 
-unfoldable pub job_named : List Row → Text → List Text → Option Told
+unfoldable pub job_named : List Row → Text → List Text → Option CommandValue
 job_named rows job rest =
     cond (bytes_eq job (codes "flat")) (flat_of rows rest)
     (cond (bytes_eq job (codes "make")) (make_of rows rest)
     (cond (bytes_eq job (codes "exercise")) (exercise_of rows rest)
-    (scene_command rows job rest)))
+    (level_command rows job rest)))
 
 -- the command of what clap found: a job that is built, and words after it
-unfoldable pub command_in : List Row → Option Told
+unfoldable pub command_in : List Row → Option CommandValue
 command_in rows = option_and_then (λ job. option_and_then (λ rest. cond (is_built job) (job_named rows job rest) None) (all_of (codes "rest") rows)) (first_of (codes "job") rows)
 
 -- the words are a command where clap finds no fault in them, and the table takes what it finds
-unfoldable pub command_of : List Text → Option Told
+unfoldable pub command_of : List Text → Option CommandValue
 command_of words = cond (length (fault_of simple_command words) == 0) (command_in (matches_of simple_command words)) None

@@ -1,5 +1,5 @@
 pub mod Simple
 pub mod Choices
-pub mod Scenes
+pub mod LevelJobs
 pub mod Commands
 pub mod Worked

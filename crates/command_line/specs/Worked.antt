@@ -5,15 +5,15 @@ use Rattle.clap.proofs.OnLiterals.{clap_on_literals}
 use Rattle.numerals.specs.Numerals.{digits_after, is_numeral, numeral}
 use Rattle.lump_rules.specs.Names.{filled}
 use Rattle.command_line.specs.declared.command.MakeJob.TheVariants.{Wad}
-use Rattle.command_line.specs.declared.command.SceneJob.TheVariants.{Audit}
+use Rattle.command_line.specs.declared.command.LevelTask.TheVariants.{Audit}
 use Rattle.command_line.specs.Simple.{simple_command, with_files, with_limits, with_option, with_settings}
 use Rattle.command_line.specs.Choices.{has_no_files, has_no_options, has_no_settings, multiple_of_step, number_option, number_within, settings_in, zone_in}
-use Rattle.command_line.specs.Scenes.{are_wads, files_in, other_scene_job, scene_job_in, scene_of}
-use Rattle.command_line.specs.Commands.{command_in, command_of, count_of, flat, flat_of, is_built, job_named, make, make_job_of, make_of, numbered_make, plain_make, scene, scene_command, scene_with}
+use Rattle.command_line.specs.LevelJobs.{are_wads, files_in, other_level_task, level_task_in, level_job_of}
+use Rattle.command_line.specs.Commands.{command_in, command_of, count_of, flat, flat_of, is_built, job_named, make, make_job_of, make_of, numbered_make, plain_make, level_job, level_command, level_with}
 
 -- what the rows below unfold
 unfoldable pub words_unfolded : ℕ
-unfolding clap_on_literals digits_after is_numeral numeral filled simple_command with_files with_limits with_option with_settings has_no_files has_no_options has_no_settings multiple_of_step number_option number_within settings_in zone_in are_wads files_in other_scene_job scene_job_in scene_of command_in command_of count_of flat_of is_built job_named make_job_of make_of numbered_make plain_make scene_command scene_with
+unfolding clap_on_literals digits_after is_numeral numeral filled simple_command with_files with_limits with_option with_settings has_no_files has_no_options has_no_settings multiple_of_step number_option number_within settings_in zone_in are_wads files_in other_level_task level_task_in level_job_of command_in command_of count_of flat_of is_built job_named make_job_of make_of numbered_make plain_make level_command level_with
 words_unfolded = 0
 
 -- words after `--` are no options
@@ -40,7 +40,7 @@ abbrev pub audit_words : List Text → List Text
 audit_words more = codes "audit" ∷ codes "e1m1" ∷ codes "a" ∷ codes "--tables" ∷ codes "t" ∷ codes "--things" ∷ codes "o" ∷ more
 
 -- an audit with the greatest skill
-pub audit_most : command_of (audit_words (codes "--path" ∷ codes "p" ∷ codes "--skill" ∷ codes "5" ∷ [])) ≡ Some (scene Audit (record { map_name = 69 ∷ 49 ∷ 77 ∷ 49 ∷ 0 ∷ 0 ∷ 0 ∷ 0 ∷ []; files = record { tables = codes "t"; things = codes "o"; path = codes "p"; weapon = None }; settings = record { zone = 6291456; skill = 5; size = 11; planes = 128; openings = 20480 } }) (codes "a" ∷ []))
+pub audit_most : command_of (audit_words (codes "--path" ∷ codes "p" ∷ codes "--skill" ∷ codes "5" ∷ [])) ≡ Some (level_job Audit (record { map_name = 69 ∷ 49 ∷ 77 ∷ 49 ∷ 0 ∷ 0 ∷ 0 ∷ 0 ∷ []; files = record { tables = codes "t"; things = codes "o"; path = codes "p"; weapon = None }; settings = record { zone = 6291456; skill = 5; size = 11; planes = 128; openings = 20480 } }) (codes "a" ∷ []))
 unfolding words_unfolded
 audit_most = refl
 

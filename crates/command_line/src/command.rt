@@ -15,7 +15,7 @@ pub enum Format {
 
 /// A job over a level.
 #[derive(Clone, Copy, Debug, PartialEq, Eq)]
-pub enum SceneJob {
+pub enum LevelTask {
     Render(Format),
     Audit,
     Limits,
@@ -54,7 +54,7 @@ pub struct Settings {
 
 /// A level and how it is looked at.
 #[derive(Clone, Copy)]
-pub struct Scene<'a> {
+pub struct LevelJob<'a> {
     pub map: Name8,
     pub files: Files<'a>,
     pub settings: Settings,
@@ -69,9 +69,9 @@ pub enum Command<'a> {
         file: &'a str,
     },
     /// A job over a level, in 1 to 16 WADs.
-    Scene {
-        job: SceneJob,
-        scene: Scene<'a>,
+    Level {
+        task: LevelTask,
+        level: LevelJob<'a>,
         wads: Vec<&'a str>,
     },
     Make(MakeJob),

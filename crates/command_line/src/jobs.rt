@@ -2,11 +2,11 @@
 
 ghost use Rattle.std.specs.Prelude.{◌≡◌, ◌≢◌, ◌==◌, true, false, [], Err, IfOk, IfErr, IfSome, Some, None, map, option_map, codes, string_bytes};
 ghost use Rattle.clap.specs.Words.{found_of, rows_of};
-ghost use Rattle.command_line.specs.Commands.{IsCount, IsCounted, IsCountedMake, command_in, command_of, count_of, exercise_of, flat_of, is_built, job_named, make_job_of, make_of, numbered_make, plain_make, scene_command, scene_with, exercise_numbers, told};
+ghost use Rattle.command_line.specs.Commands.{IsCount, IsCounted, IsCountedMake, command_in, command_of, count_of, exercise_of, flat_of, is_built, job_named, make_job_of, make_of, numbered_make, plain_make, level_command, level_with, exercise_numbers, command_value};
 
 use crate::choices::{format_in, has_no_options, has_no_settings, number_within, zone_in};
-use crate::command::{Command, CommandFault, Format, MakeJob, SceneJob};
-use crate::scenes::{are_wads, copied, scene_job_in, scene_of};
+use crate::command::{Command, CommandFault, Format, LevelTask, MakeJob};
+use crate::level_jobs::{are_wads, copied, level_job_of, level_task_in};
 use crate::simple::{matches, rest, value};
 use clap::ArgMatches;
 use lump_rules::Name8;
@@ -28,8 +28,9 @@ pub const MAX_COUNT: u32 = 32;
 #[tactic(auto, unfolding(crate::specs::Commands::command_of))]
 pub fn command_of<'a>(alloc: Global, words: &'a [String]) -> Result<Command<'a>, CommandFault>
     ensures ok { IfOk result (λ command.
-        command_of (map string_bytes words.now) ≡ Some (told command)) }
-    ensures counted { IfOk result (λ command. IsCounted (told command)) }
+        command_of (map string_bytes words.now) ≡ Some
+        (command_value command)) }
+    ensures counted { IfOk result (λ command. IsCounted (command_value command)) }
     ensures usage { result ≡ Err CommandFault.Usage →
         command_of (map string_bytes words.now) ≡ None }
 {
@@ -43,8 +44,9 @@ pub fn command_of<'a>(alloc: Global, words: &'a [String]) -> Result<Command<'a>,
 #[tactic(auto, unfolding(crate::specs::Commands::command_in))]
 fn command_in<'a>(alloc: Global, found: &ArgMatches<'a>) -> Result<Command<'a>, CommandFault>
     ensures ok { IfOk result (λ command.
-        command_in (rows_of (found_of found.now)) ≡ Some (told command)) }
-    ensures counted { IfOk result (λ command. IsCounted (told command)) }
+        command_in (rows_of (found_of found.now)) ≡ Some
+        (command_value command)) }
+    ensures counted { IfOk result (λ command. IsCounted (command_value command)) }
     ensures usage { result ≡ Err CommandFault.Usage →
         command_in (rows_of (found_of found.now)) ≡ None }
 {
@@ -81,8 +83,8 @@ fn job_named<'m, 'a>(
 ) -> Result<Command<'a>, CommandFault>
     ensures ok { IfOk result (λ command.
         job_named (rows_of (found_of found.now)) job.now (map (λ w. w.now) rest.now) ≡ Some
-        (told command)) }
-    ensures counted { IfOk result (λ command. IsCounted (told command)) }
+        (command_value command)) }
+    ensures counted { IfOk result (λ command. IsCounted (command_value command)) }
     ensures usage { result ≡ Err CommandFault.Usage →
         job_named (rows_of (found_of found.now)) job.now (map (λ w. w.now) rest.now) ≡ None }
 {
@@ -93,7 +95,7 @@ fn job_named<'m, 'a>(
     } else if job == "exercise" {
         exercise_of(found, rest)
     } else {
-        scene_command(alloc, found, job, rest)
+        level_command(alloc, found, job, rest)
     }
 }
 
@@ -101,8 +103,9 @@ fn job_named<'m, 'a>(
 #[tactic(auto, unfolding(crate::specs::Commands::flat_of))]
 fn flat_of<'m, 'a>(found: &ArgMatches<'a>, rest: &'m [&'a str]) -> Result<Command<'a>, CommandFault>
     ensures ok { IfOk result (λ command.
-        flat_of (rows_of (found_of found.now)) (map (λ w. w.now) rest.now) ≡ Some (told command)) }
-    ensures counted { IfOk result (λ command. IsCounted (told command)) }
+        flat_of (rows_of (found_of found.now)) (map (λ w. w.now) rest.now) ≡ Some
+        (command_value command)) }
+    ensures counted { IfOk result (λ command. IsCounted (command_value command)) }
     ensures usage { IfErr result (λ _.
         flat_of (rows_of (found_of found.now)) (map (λ w. w.now) rest.now) ≡ None) }
 {
@@ -124,8 +127,9 @@ fn flat_of<'m, 'a>(found: &ArgMatches<'a>, rest: &'m [&'a str]) -> Result<Comman
 #[tactic(auto, unfolding(crate::specs::Commands::make_of))]
 fn make_of<'m, 'a>(found: &ArgMatches<'a>, rest: &'m [&'a str]) -> Result<Command<'a>, CommandFault>
     ensures ok { IfOk result (λ command.
-        make_of (rows_of (found_of found.now)) (map (λ w. w.now) rest.now) ≡ Some (told command)) }
-    ensures counted { IfOk result (λ command. IsCounted (told command)) }
+        make_of (rows_of (found_of found.now)) (map (λ w. w.now) rest.now) ≡ Some
+        (command_value command)) }
+    ensures counted { IfOk result (λ command. IsCounted (command_value command)) }
     ensures usage { IfErr result (λ _.
         make_of (rows_of (found_of found.now)) (map (λ w. w.now) rest.now) ≡ None) }
 {
@@ -200,8 +204,8 @@ fn exercise_of<'m, 'a>(
 ) -> Result<Command<'a>, CommandFault>
     ensures ok { IfOk result (λ command.
         exercise_of (rows_of (found_of found.now)) (map (λ w. w.now) rest.now) ≡ Some
-        (told command)) }
-    ensures counted { IfOk result (λ command. IsCounted (told command)) }
+        (command_value command)) }
+    ensures counted { IfOk result (λ command. IsCounted (command_value command)) }
     ensures usage { IfErr result (λ _.
         exercise_of (rows_of (found_of found.now)) (map (λ w. w.now) rest.now) ≡ None) }
 {
@@ -236,52 +240,53 @@ fn exercise_numbers(found: &ArgMatches<'_>, count: &str) -> Option<(u8, u32, For
 }
 
 // The command of a job over a level.
-#[tactic(auto, unfolding(crate::specs::Commands::scene_command))]
-fn scene_command<'m, 'a>(
+#[tactic(auto, unfolding(crate::specs::Commands::level_command))]
+fn level_command<'m, 'a>(
     alloc: Global,
     found: &ArgMatches<'a>,
     job: &str,
     rest: &'m [&'a str],
 ) -> Result<Command<'a>, CommandFault>
     ensures ok { IfOk result (λ command.
-        scene_command (rows_of (found_of found.now)) job.now (map (λ w. w.now) rest.now) ≡ Some
-        (told command)) }
-    ensures counted { IfOk result (λ command. IsCounted (told command)) }
+        level_command (rows_of (found_of found.now)) job.now (map (λ w. w.now) rest.now) ≡ Some
+        (command_value command)) }
+    ensures counted { IfOk result (λ command. IsCounted (command_value command)) }
     ensures usage { result ≡ Err CommandFault.Usage →
-        scene_command (rows_of (found_of found.now)) job.now (map (λ w. w.now) rest.now) ≡ None }
+        level_command (rows_of (found_of found.now)) job.now (map (λ w. w.now) rest.now) ≡ None }
 {
     match rest.split_first() {
         None => Err(CommandFault::Usage),
-        Some((level, wads)) => match scene_job_in(found, job) {
+        Some((level, wads)) => match level_task_in(found, job) {
             None => Err(CommandFault::Usage),
-            Some(job) => scene_with(alloc, found, job, level, wads),
+            Some(task) => level_with(alloc, found, task, level, wads),
         },
     }
 }
 
 // The command of a job over the level of that name in these WADs.
-#[tactic(auto, unfolding(crate::specs::Commands::scene_with))]
-fn scene_with<'a>(
+#[tactic(auto, unfolding(crate::specs::Commands::level_with))]
+fn level_with<'a>(
     alloc: Global,
     found: &ArgMatches<'a>,
-    job: SceneJob,
-    level: &str,
+    task: LevelTask,
+    name: &str,
     wads: &[&'a str],
 ) -> Result<Command<'a>, CommandFault>
     ensures ok { IfOk result (λ command.
-        scene_with (rows_of (found_of found.now)) job level.now (map (λ w. w.now) wads.now) ≡ Some
-        (told command)) }
-    ensures counted { IfOk result (λ command. IsCounted (told command)) }
+        level_with (rows_of (found_of found.now)) task name.now (map (λ w. w.now) wads.now) ≡ Some
+        (command_value command)) }
+    ensures counted { IfOk result (λ command. IsCounted (command_value command)) }
     ensures usage { result ≡ Err CommandFault.Usage →
-        scene_with (rows_of (found_of found.now)) job level.now (map (λ w. w.now) wads.now) ≡ None }
+        level_with (rows_of (found_of found.now)) task name.now (map (λ w. w.now) wads.now)
+        ≡ None }
 {
     if !are_wads(wads) {
         return Err(CommandFault::Usage);
     }
-    match scene_of(found, level) {
+    match level_job_of(found, name) {
         None => Err(CommandFault::Usage),
-        Some(scene) => match copied(alloc, wads) {
-            Ok(wads) => Ok(Command::Scene { job, scene, wads }),
+        Some(level) => match copied(alloc, wads) {
+            Ok(wads) => Ok(Command::Level { task, level, wads }),
             Err(_) => Err(CommandFault::OutOfMemory),
         },
     }

@@ -9,11 +9,11 @@
 mod choices;
 mod command;
 mod jobs;
-mod scenes;
+mod level_jobs;
 mod simple;
 
 pub use crate::command::{
-    Command, CommandFault, Files, Format, MakeJob, Scene, SceneJob, Settings,
+    Command, CommandFault, Files, Format, LevelJob, LevelTask, MakeJob, Settings,
 };
 pub use crate::jobs::command_of;
 

@@ -1,4 +1,4 @@
-use crate::{Command, CommandFault, MakeJob, SceneJob, Settings, command_of};
+use crate::{Command, CommandFault, LevelTask, MakeJob, Settings, command_of};
 use std::alloc::{AllocError, Global};
 use std::test::Fail;
 
@@ -38,8 +38,8 @@ fn is_made(command: &Command<'_>, made: MakeJob) -> bool {
 
 fn is_audit_of_two(command: &Command<'_>, numbers: Settings) -> bool {
     match command {
-        Command::Scene { job, scene, wads } => {
-            *job == SceneJob::Audit && scene.settings == numbers && wads.len() == 2
+        Command::Level { task, level, wads } => {
+            *task == LevelTask::Audit && level.settings == numbers && wads.len() == 2
         }
         _ => false,
     }

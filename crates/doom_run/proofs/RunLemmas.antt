@@ -6,20 +6,20 @@ use Rattle.refusals.specs.declared.refusal.Refusal.{Refusal}
 use Rattle.doom_run.specs.declared.status.Status.{Status}
 use Rattle.doom_run.specs.declared.status.Status.TheVariants.{Done, Usage, Refused, ReadFault, WriteFault, Limit, ZoneFull, OutOfMemory}
 use Rattle.doom_run.specs.Ends.{EndsAt, EndsWith, IsEnd, IsUnwritten}
-use Rattle.doom_run.specs.Steps.{Stop, usage, absent, refused}
+use Rattle.doom_run.specs.Steps.{RunStop, usage, absent, refused}
 use Rattle.doom_run.specs.Verdict.{Accepted, end_of, output}
 
-same_accepted : (verdict : Result Accepted Stop) (p q : Accepted) → verdict ≡ Ok p → verdict ≡ Ok q → p ≡ q
+same_accepted : (verdict : Result Accepted RunStop) (p q : Accepted) → verdict ≡ Ok p → verdict ≡ Ok q → p ≡ q
 same_accepted verdict p q a b = cc
 
 -- after an end a prefix of the output was written, since all of it was
-whole_at_end : (verdict : Result Accepted Stop) (old new : List ℕ → Type 0) (status : Status) (accepted : Accepted) →
+whole_at_end : (verdict : Result Accepted RunStop) (old new : List ℕ → Type 0) (status : Status) (accepted : Accepted) →
     EndsWith verdict old new status → verdict ≡ Ok accepted → GrewByPrefix old new (output accepted)
 whole_at_end verdict old new status accepted ends e =
     subst (λ (a : Accepted). GrewByPrefix old new (output a)) (same_accepted verdict ends.accepted accepted ends.is e) (grew_whole ends.written)
 
 -- whatever the status, a prefix of the output was written
-pub prefix_at_end : (steady : Bool) (verdict : Result Accepted Stop) (old new : List ℕ → Type 0) (status : Status) (accepted : Accepted) →
+pub prefix_at_end : (steady : Bool) (verdict : Result Accepted RunStop) (old new : List ℕ → Type 0) (status : Status) (accepted : Accepted) →
     EndsAt steady verdict old new status → (IsUnwritten status → Grew old new []) → verdict ≡ Ok accepted → GrewByPrefix old new (output accepted)
 prefix_at_end steady verdict old new Done accepted ends unwritten e = whole_at_end verdict old new Done accepted ends e
 prefix_at_end steady verdict old new Usage accepted ends unwritten e = prefix_of_none _ (unwritten tt)
@@ -32,7 +32,7 @@ prefix_at_end steady verdict old new (ZoneFull wanted widest) accepted ends unwr
 prefix_at_end steady verdict old new OutOfMemory accepted ends unwritten e = prefix_of_none _ (unwritten tt)
 
 -- an end is that of the verdict
-pub end_at : (steady : Bool) (verdict : Result Accepted Stop) (old new : List ℕ → Type 0) (status : Status) →
+pub end_at : (steady : Bool) (verdict : Result Accepted RunStop) (old new : List ℕ → Type 0) (status : Status) →
     EndsAt steady verdict old new status → IsEnd status → EndsWith verdict old new status
 end_at steady verdict old new Done ends is = ends
 end_at steady verdict old new Usage ends is = absurd is
@@ -43,11 +43,11 @@ end_at steady verdict old new (Limit view kind count) ends is = ends
 end_at steady verdict old new (ZoneFull wanted widest) ends is = absurd is
 end_at steady verdict old new OutOfMemory ends is = absurd is
 
-accepts_or_stops : (verdict : Result Accepted Stop) (accepted : Accepted) (stop : Stop) → verdict ≡ Ok accepted → verdict ≡ Err stop → ⊥
+accepts_or_stops : (verdict : Result Accepted RunStop) (accepted : Accepted) (stop : RunStop) → verdict ≡ Ok accepted → verdict ≡ Err stop → ⊥
 accepts_or_stops verdict accepted stop a s = cc
 
 -- where the verdict stops, nothing was written
-pub stopped_at : (steady : Bool) (verdict : Result Accepted Stop) (old new : List ℕ → Type 0) (status : Status) (stop : Stop) →
+pub stopped_at : (steady : Bool) (verdict : Result Accepted RunStop) (old new : List ℕ → Type 0) (status : Status) (stop : RunStop) →
     EndsAt steady verdict old new status → verdict ≡ Err stop → IsUnwritten status
 stopped_at steady verdict old new Done stop ends e = accepts_or_stops verdict ends.accepted stop ends.is e
 stopped_at steady verdict old new Usage stop ends e = tt
@@ -58,14 +58,14 @@ stopped_at steady verdict old new (Limit view kind count) stop ends e = accepts_
 stopped_at steady verdict old new (ZoneFull wanted widest) stop ends e = tt
 stopped_at steady verdict old new OutOfMemory stop ends e = tt
 
-not_usage : (verdict : Result Accepted Stop) (refusal : Refusal) → verdict ≡ Err usage → verdict ≡ Err (refused refusal) → ⊥
+not_usage : (verdict : Result Accepted RunStop) (refusal : Refusal) → verdict ≡ Err usage → verdict ≡ Err (refused refusal) → ⊥
 not_usage verdict refusal u e = cc
 
-same_refusal : (verdict : Result Accepted Stop) (r s : Refusal) → verdict ≡ Err (refused r) → verdict ≡ Err (refused s) → Refused r ≡ Refused s
+same_refusal : (verdict : Result Accepted RunStop) (r s : Refusal) → verdict ≡ Err (refused r) → verdict ≡ Err (refused s) → Refused r ≡ Refused s
 same_refusal verdict r s a b = cc
 
 -- where the verdict refuses, that refusal comes, but for the faults
-pub refusal_at : (steady : Bool) (verdict : Result Accepted Stop) (old new : List ℕ → Type 0) (status : Status) (refusal : Refusal) →
+pub refusal_at : (steady : Bool) (verdict : Result Accepted RunStop) (old new : List ℕ → Type 0) (status : Status) (refusal : Refusal) →
     EndsAt steady verdict old new status → verdict ≡ Err (refused refusal) →
     (status ≡ Refused refusal) ⊎ (status ≡ ReadFault) ⊎ ((wanted : ℕ) × (widest : ℕ) × (status ≡ ZoneFull wanted widest)) ⊎ (status ≡ OutOfMemory)
 refusal_at steady verdict old new Done refusal ends e = absurd (accepts_or_stops verdict ends.accepted (refused refusal) ends.is e)
@@ -77,14 +77,14 @@ refusal_at steady verdict old new (Limit view kind count) refusal ends e = absur
 refusal_at steady verdict old new (ZoneFull wanted widest) refusal ends e = inr (inr (inl (wanted, widest, refl)))
 refusal_at steady verdict old new OutOfMemory refusal ends e = inr (inr (inr refl))
 
-not_absent : (verdict : Result Accepted Stop) → verdict ≡ Err usage → verdict ≡ Err absent → ⊥
+not_absent : (verdict : Result Accepted RunStop) → verdict ≡ Err usage → verdict ≡ Err absent → ⊥
 not_absent verdict u e = cc
 
-not_refused : (verdict : Result Accepted Stop) (refusal : Refusal) → verdict ≡ Err (refused refusal) → verdict ≡ Err absent → ⊥
+not_refused : (verdict : Result Accepted RunStop) (refusal : Refusal) → verdict ≡ Err (refused refusal) → verdict ≡ Err absent → ⊥
 not_refused verdict refusal r e = cc
 
 -- where a file is absent, that is told as a read fault
-pub absent_at : (steady : Bool) (verdict : Result Accepted Stop) (old new : List ℕ → Type 0) (status : Status) →
+pub absent_at : (steady : Bool) (verdict : Result Accepted RunStop) (old new : List ℕ → Type 0) (status : Status) →
     EndsAt steady verdict old new status → verdict ≡ Err absent → ((wanted widest : ℕ) → status ≡ ZoneFull wanted widest → ⊥) →
     (status ≡ ReadFault) ⊎ (status ≡ OutOfMemory)
 absent_at steady verdict old new Done ends e full = absurd (accepts_or_stops verdict ends.accepted absent ends.is e)
@@ -96,12 +96,12 @@ absent_at steady verdict old new (Limit view kind count) ends e full = absurd (a
 absent_at steady verdict old new (ZoneFull wanted widest) ends e full = absurd (full wanted widest refl)
 absent_at steady verdict old new OutOfMemory ends e full = inr refl
 
-due_end : (verdict : Result Accepted Stop) (old new : List ℕ → Type 0) (status : Status) (accepted : Accepted) →
+due_end : (verdict : Result Accepted RunStop) (old new : List ℕ → Type 0) (status : Status) (accepted : Accepted) →
     EndsWith verdict old new status → verdict ≡ Ok accepted → status ≡ end_of accepted
 due_end verdict old new status accepted ends e = sym ends.due ∙ ap (λ (a : Accepted). end_of a) (same_accepted verdict ends.accepted accepted ends.is e)
 
 -- an accepted run in which no fault stands and no zone is full comes to its end
-pub complete_at : (steady : Bool) (verdict : Result Accepted Stop) (old new : List ℕ → Type 0) (status : Status) (accepted : Accepted) →
+pub complete_at : (steady : Bool) (verdict : Result Accepted RunStop) (old new : List ℕ → Type 0) (status : Status) (accepted : Accepted) →
     EndsAt steady verdict old new status → verdict ≡ Ok accepted → (status ≡ ReadFault → ⊥) → (status ≡ WriteFault → ⊥) → ((wanted widest : ℕ) → status ≡ ZoneFull wanted widest → ⊥) →
     (status ≡ end_of accepted) ⊎ (status ≡ OutOfMemory)
 complete_at steady verdict old new Done accepted ends e read write full = inl (due_end verdict old new Done accepted ends e)
@@ -114,7 +114,7 @@ complete_at steady verdict old new (ZoneFull wanted widest) accepted ends e read
 complete_at steady verdict old new OutOfMemory accepted ends e read write full = inr refl
 
 -- over a steady shelf an accepted run meets no read fault
-pub steady_reads : (steady : Bool) (verdict : Result Accepted Stop) (old new : List ℕ → Type 0) (status : Status) (accepted : Accepted) →
+pub steady_reads : (steady : Bool) (verdict : Result Accepted RunStop) (old new : List ℕ → Type 0) (status : Status) (accepted : Accepted) →
     EndsAt steady verdict old new status → verdict ≡ Ok accepted → (status ≡ ReadFault → IsTrue steady) → status ≡ ReadFault → ⊥
 steady_reads steady verdict old new status accepted ends e holds is =
     let h : EndsAt steady verdict old new ReadFault = rw is at ends in

@@ -2,11 +2,11 @@
 use Rattle.std.specs.Prelude.{ℕ, List, Result, Ok}
 use Rattle.outside.specs.Shelf.{File}
 use Rattle.outside.specs.Faults.{and_then}
-use Rattle.command_line.specs.Scenes.{ToldScene}
-use Rattle.scene_load.specs.Stops.{Stop}
+use Rattle.command_line.specs.LevelJobs.{LevelJobValue}
+use Rattle.outside.specs.Stops.{Stop}
 use Rattle.scene_rules.specs.declared.ZoneSizes.{ZoneSizes}
 use Rattle.refusals.specs.declared.refusal.Refusal.{Refusal}
 use Rattle.scene_load.specs.Loads.{load_in, loaded_sizes}
 
-abbrev pub audit_verdict : ToldScene → List (List ℕ) → List File → Result ZoneSizes (Stop Refusal)
+abbrev pub audit_verdict : LevelJobValue → List (List ℕ) → List File → Result ZoneSizes (Stop Refusal)
 audit_verdict level wads files = and_then (load_in level wads files) (λ loaded. Ok (loaded_sizes loaded))

@@ -1,30 +1,29 @@
 -- What a status says of a run.
 use Rattle.std.specs.Prelude.{◌≡◌, ℕ, Bool, IsTrue, List, Result, Ok, Err}
 use Rattle.outside.specs.Sink.{Grew, GrewByPrefix}
-use Rattle.doom_run.specs.declared.fault.Fault.{Fault}
-use Rattle.doom_run.specs.declared.fault.Fault.TheVariants as fault
-use Rattle.scene_load.specs.declared.fault.LoadFault.{LoadFault}
-use Rattle.scene_load.specs.declared.fault.LoadFault.TheVariants as load
+use Rattle.outside.specs.declared.fault.Fault.{Fault}
+use Rattle.outside.specs.declared.fault.Fault.TheVariants as fault
+use Rattle.refusals.specs.declared.refusal.Refusal.{Refusal}
 use Rattle.doom_run.specs.declared.status.Status.{Status}
 use Rattle.doom_run.specs.declared.status.Status.TheVariants.{Done, Usage, Refused, ReadFault, WriteFault, Limit, ZoneFull, OutOfMemory}
-use Rattle.doom_run.specs.Steps.{Stop, usage, absent, refused}
+use Rattle.doom_run.specs.Steps.{RunStop, usage, absent, refused}
 use Rattle.doom_run.specs.Verdict.{Accepted, end_of, output}
 
 -- The verdict accepts, the status is the end that is due, and the output was written to its last byte.
-pub record EndsWith (verdict : Result Accepted Stop) (old new : List ℕ → Type 0) (status : Status) : Type 0 where
+pub record EndsWith (verdict : Result Accepted RunStop) (old new : List ℕ → Type 0) (status : Status) : Type 0 where
   pub accepted : Accepted
   pub is : verdict ≡ Ok accepted
   pub due : end_of accepted ≡ status
   pub written : Grew old new (output accepted)
 
 -- The verdict accepts, and a prefix of the output was written.
-pub record FailsWith (verdict : Result Accepted Stop) (old new : List ℕ → Type 0) : Type 0 where
+pub record FailsWith (verdict : Result Accepted RunStop) (old new : List ℕ → Type 0) : Type 0 where
   pub accepted : Accepted
   pub is : verdict ≡ Ok accepted
   pub written : GrewByPrefix old new (output accepted)
 
 -- The verdict, and what was written, by the status. When a zone is full is told by IsFullRun.
-abbrev pub EndsAt : Bool → Result Accepted Stop → (List ℕ → Type 0) → (List ℕ → Type 0) → Status → Type 0
+abbrev pub EndsAt : Bool → Result Accepted RunStop → (List ℕ → Type 0) → (List ℕ → Type 0) → Status → Type 0
 EndsAt steady verdict old new Done = EndsWith verdict old new Done
 EndsAt steady verdict old new Usage = verdict ≡ Err usage
 EndsAt steady verdict old new (Refused refusal) = verdict ≡ Err (refused refusal)
@@ -68,17 +67,11 @@ IsUnwritten (ZoneFull wanted widest) = Unit {0}
 IsUnwritten OutOfMemory = Unit {0}
 
 -- the status of a fault
-abbrev pub status_of : Fault → Status
+abbrev pub status_of : Fault Refusal → Status
 status_of (fault.Refused refusal) = Refused refusal
 status_of fault.ReadFault = ReadFault
+status_of (fault.ZoneFull wanted widest) = ZoneFull wanted widest
 status_of fault.OutOfMemory = OutOfMemory
-
--- the status of a fault of loading
-abbrev pub status_of_load : LoadFault → Status
-status_of_load (load.Refused refusal) = Refused refusal
-status_of_load load.ReadFault = ReadFault
-status_of_load (load.ZoneFull wanted widest) = ZoneFull wanted widest
-status_of_load load.OutOfMemory = OutOfMemory
 
 -- the number with which the program ends
 abbrev pub code_of : Status → ℕ

@@ -13,10 +13,10 @@ use Rattle.refusals.specs.declared.refusal.Refusal.{Refusal}
 use Rattle.refusals.specs.declared.refusal.Refusal.TheVariants.{Wad, Art, Scene}
 use Rattle.scene_rules.specs.declared.refusal.SceneRefusal.TheVariants.{FlatName}
 use Rattle.scene_rules.specs.Scenes.{playpal_of}
-use Rattle.doom_run.specs.Steps.{Stop, absent, refused, else_stop}
+use Rattle.outside.specs.Stops.{Stop, else_absent, no_file}
 
 -- a frame, and the palette for its indices
-pub record Picture : Type 0 where
+pub record PictureValue : Type 0 where
   pub frame : List ℕ
   pub palette : List ℕ
 
@@ -46,17 +46,17 @@ abbrev pub flat_in : List (List ℕ) → List Lump → List ℕ → Result (List
 flat_in contents lumps name = and_then (else_refuse (Scene FlatName) (flat_of lumps name)) (λ lump. Ok (lump_bytes contents lumps lump))
 
 -- the palette, then the flat
-abbrev pub picture_in : List (List ℕ) → List ℕ → List Lump → Result Picture Refusal
+abbrev pub picture_in : List (List ℕ) → List ℕ → List Lump → Result PictureValue Refusal
 picture_in contents name lumps =
     and_then (palette_in contents lumps) (λ palette.
     and_then (flat_in contents lumps name) (λ flat.
     Ok (record { frame = tiled flat; palette = palette })))
 
 -- the directory of files of these bytes, then the picture
-abbrev pub flat_picture : List ℕ → List (List ℕ) → Result Picture Refusal
+abbrev pub flat_picture : List ℕ → List (List ℕ) → Result PictureValue Refusal
 flat_picture name contents = and_then (from_below Wad (directory contents)) (picture_in contents name)
 
 -- the picture of a flat in the file of a name, or the first stop
-abbrev pub flat_verdict : List ℕ → List ℕ → List File → Result Picture Stop
+abbrev pub flat_verdict : List ℕ → List ℕ → List File → Result PictureValue (Stop Refusal)
 flat_verdict name file files =
-    and_then (else_stop absent (file_named file files)) (λ bytes. from_below refused (flat_picture name (bytes ∷ [])))
+    and_then (else_absent (file_named file files)) (λ bytes. no_file (flat_picture name (bytes ∷ [])))

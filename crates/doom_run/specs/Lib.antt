@@ -1,6 +1,5 @@
 pub mod Audits
 pub mod Ends
-pub mod Faults
 pub mod Flats
 pub mod Fulls
 pub mod Lines

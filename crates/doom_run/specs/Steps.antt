@@ -1,33 +1,23 @@
--- The first step that stops a run, and what a fault says of it.
-use Rattle.std.specs.Prelude.{◌≡◌, Bool, IsTrue, Option, Some, None, Result, Ok, Err, IfOk, IfErr}
+-- The first step that stops a run.
+use Rattle.std.specs.Prelude.{Option, Some, None, Result, Ok, Err}
 use Rattle.refusals.specs.declared.refusal.Refusal.{Refusal}
-use Rattle.scene_load.specs.Stops as files
-use Rattle.doom_run.specs.declared.fault.Fault.{Fault}
-use Rattle.doom_run.specs.declared.fault.Fault.TheVariants.{Refused, ReadFault, OutOfMemory}
+use Rattle.outside.specs.Stops as files
+use Rattle.outside.specs.Stops.{Stop}
 
--- The words are no command, a file that the next step needs is not held, or bytes are refused.
-pub data Stop : Type 0 where
-  usage : Stop
-  absent : Stop
-  refused : Refusal → Stop
+-- the words are no command, or a step stops that reads files or bytes
+pub data RunStop : Type 0 where
+  usage : RunStop
+  at_step : Stop Refusal → RunStop
 
--- a stop of the files and lumps of a level
-abbrev pub stop_of : files.Stop Refusal → Stop
-stop_of files.absent = absent
-stop_of (files.stopped refusal) = refused refusal
+-- a file that the next step needs is not held
+abbrev pub absent : RunStop
+absent = at_step files.absent
 
--- the value, or else a stop
-abbrev pub else_stop : {A : Type 0} → Stop → Option A → Result A Stop
-else_stop stop None = Err stop
-else_stop stop (Some value) = Ok value
+-- bytes are refused
+abbrev pub refused : Refusal → RunStop
+refused refusal = at_step (files.stopped refusal)
 
--- A refusal is that of the steps. Over a steady shelf a read fails only for an absent file.
-abbrev pub StopsAt : {A : Type 0} → Bool → Result A Stop → Fault → Type 0
-StopsAt steady expected (Refused refusal) = expected ≡ Err (refused refusal)
-StopsAt steady expected ReadFault = IsTrue steady → expected ≡ Err absent
-StopsAt steady expected OutOfMemory = Unit {0}
-
--- what is told of a call whose steps, with those that ask for files, give `expected`
-pub record ResultIsOrAbsent {A B : Type 0} (steady : Bool) (value : B → A) (expected : Result A Stop) (result : Result B Fault) : Type 0 where
-  pub ok : IfOk result (λ found. expected ≡ Ok (value found))
-  pub err : IfErr result (StopsAt steady expected)
+-- the value, or else the words are no command
+abbrev pub else_usage : {A : Type 0} → Option A → Result A RunStop
+else_usage None = Err usage
+else_usage (Some value) = Ok value

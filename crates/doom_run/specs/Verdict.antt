@@ -3,45 +3,45 @@ use Rattle.std.specs.Prelude.{ℕ, zero, List, Result, Ok, Err, codes}
 use Rattle.outside.specs.Shelf.{File}
 use Rattle.outside.specs.Faults.{and_then, from_below}
 use Rattle.frame_writer.specs.Ppm.{ppm}
-use Rattle.command_line.specs.Commands.{Told, flat, scene, make, exercise, command_of}
-use Rattle.command_line.specs.Scenes.{ToldScene}
-use Rattle.command_line.specs.declared.command.SceneJob.{SceneJob}
-use Rattle.command_line.specs.declared.command.SceneJob.TheVariants.{Render, Audit, Limits, Trim, Trace}
+use Rattle.command_line.specs.Commands.{CommandValue, flat, level_job, make, exercise, command_of}
+use Rattle.command_line.specs.LevelJobs.{LevelJobValue}
+use Rattle.command_line.specs.declared.command.LevelTask.{LevelTask}
+use Rattle.command_line.specs.declared.command.LevelTask.TheVariants.{Render, Audit, Limits, Trim, Trace}
 use Rattle.scene_rules.specs.declared.ZoneSizes.{ZoneSizes}
 use Rattle.doom_run.specs.declared.status.Status.{Status}
 use Rattle.doom_run.specs.declared.status.Status.TheVariants.{Done}
 use Rattle.doom_run.specs.Audits.{audit_verdict}
-use Rattle.doom_run.specs.Flats.{Picture, flat_verdict}
+use Rattle.doom_run.specs.Flats.{PictureValue, flat_verdict}
 use Rattle.doom_run.specs.Lines.{pair_line}
 use Rattle.doom_run.specs.Made.{made_file}
-use Rattle.doom_run.specs.Steps.{Stop, usage, else_stop, stop_of}
+use Rattle.doom_run.specs.Steps.{RunStop, usage, at_step, else_usage}
 
 -- what an accepted run writes of, a constructor for each job
 pub data Accepted : Type 0 where
-  tiled_flat : Picture → Accepted
+  tiled_flat : PictureValue → Accepted
   -- the bytes of a made file
   made : List ℕ → Accepted
   -- how large a zone has to be for a level
   audited : ZoneSizes → Accepted
 
 -- what a job over a level comes to
-abbrev pub scene_verdict : SceneJob → ToldScene → List (List ℕ) → List File → Result Accepted Stop
-scene_verdict (Render format) level wads files = Err usage
-scene_verdict Audit level wads files = and_then (from_below stop_of (audit_verdict level wads files)) (λ sizes. Ok (audited sizes))
-scene_verdict Limits level wads files = Err usage
-scene_verdict Trim level wads files = Err usage
-scene_verdict Trace level wads files = Err usage
+abbrev pub level_verdict : LevelTask → LevelJobValue → List (List ℕ) → List File → Result Accepted RunStop
+level_verdict (Render format) level wads files = Err usage
+level_verdict Audit level wads files = and_then (from_below at_step (audit_verdict level wads files)) (λ sizes. Ok (audited sizes))
+level_verdict Limits level wads files = Err usage
+level_verdict Trim level wads files = Err usage
+level_verdict Trace level wads files = Err usage
 
 -- What a job comes to. A job that is not built is no command.
-abbrev pub job_verdict : Told → List File → Result Accepted Stop
-job_verdict (flat name file) files = and_then (flat_verdict name file files) (λ picture. Ok (tiled_flat picture))
-job_verdict (scene job level wads) files = scene_verdict job level wads files
+abbrev pub job_verdict : CommandValue → List File → Result Accepted RunStop
+job_verdict (flat name file) files = and_then (from_below at_step (flat_verdict name file files)) (λ picture. Ok (tiled_flat picture))
+job_verdict (level_job job level wads) files = level_verdict job level wads files
 job_verdict (make job) files = Ok (made (made_file job))
 job_verdict (exercise count zone format) files = Err usage
 
 -- the first stop, or what is accepted
-abbrev pub verdict : List (List ℕ) → List File → Result Accepted Stop
-verdict words files = and_then (else_stop usage (command_of words)) (λ command. job_verdict command files)
+abbrev pub verdict : List (List ℕ) → List File → Result Accepted RunStop
+verdict words files = and_then (else_usage (command_of words)) (λ command. job_verdict command files)
 
 -- the status of an accepted run in which nothing fails
 abbrev pub end_of : Accepted → Status

@@ -2,27 +2,27 @@
 use Rattle.std.specs.Prelude.{ℕ, Bool, true, false, IsTrue, List, map, String, string_bytes}
 use Rattle.std.specs.Option.{option_map_or}
 use Rattle.std.specs.declared.alloc.Global.{Global}
-use Rattle.command_line.specs.Commands.{Told, flat, scene, make, exercise, command_of}
-use Rattle.command_line.specs.declared.command.SceneJob.{SceneJob}
-use Rattle.command_line.specs.declared.command.SceneJob.TheVariants.{Render, Audit, Limits, Trim, Trace}
+use Rattle.command_line.specs.Commands.{CommandValue, flat, level_job, make, exercise, command_of}
+use Rattle.command_line.specs.declared.command.LevelTask.{LevelTask}
+use Rattle.command_line.specs.declared.command.LevelTask.TheVariants.{Render, Audit, Limits, Trim, Trace}
 
 -- the texts of the words
 abbrev pub texts : List (String Global) → List (List ℕ)
 texts words = map (λ word. string_bytes word) words
 
 -- a job over a level asks for files, if it is built
-abbrev pub scene_asks : SceneJob → Bool
-scene_asks (Render format) = false
-scene_asks Audit = true
-scene_asks Limits = false
-scene_asks Trim = false
-scene_asks Trace = false
+abbrev pub level_asks : LevelTask → Bool
+level_asks (Render format) = false
+level_asks Audit = true
+level_asks Limits = false
+level_asks Trim = false
+level_asks Trace = false
 
 -- The job asks the shelf for files. A made file is told by its words alone, and a job that is not
 -- built asks for nothing.
-abbrev pub asks_for_files : Told → Bool
+abbrev pub asks_for_files : CommandValue → Bool
 asks_for_files (flat name file) = true
-asks_for_files (scene job level wads) = scene_asks job
+asks_for_files (level_job job level wads) = level_asks job
 asks_for_files (make job) = false
 asks_for_files (exercise count zone format) = false
 

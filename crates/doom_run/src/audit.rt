@@ -6,8 +6,8 @@ ghost use Rattle.outside.specs.Faults.{HasCauses, itself};
 ghost use Rattle.zone_rules.specs.Zones.{IsZoneSize};
 ghost use Rattle.view_rules.specs.declared.TheConstants.{MIN_SIZE, MAX_SIZE};
 ghost use Rattle.lump_cache.specs.Calls.{IfFull};
-ghost use Rattle.command_line.specs.Scenes.{told_scene};
-ghost use Rattle.scene_load.specs.Stops.{ResultIsOrAbsent};
+ghost use Rattle.command_line.specs.LevelJobs.{level_job_value};
+ghost use Rattle.outside.specs.Stops.{ResultIsOrAbsent};
 ghost use Rattle.scene_load.specs.Fulls.{IsFullLoad};
 ghost use Rattle.doom_run.specs.Audits.{audit_verdict};
 ghost use Rattle.doom_run.specs.Ends.{DeliversAt};
@@ -15,7 +15,7 @@ ghost use Rattle.doom_run.specs.Verdict.{audited};
 
 use crate::notes::put_pair;
 use crate::status::Status;
-use command_line::Scene;
+use command_line::LevelJob;
 use outside::{Shelf, Sink};
 use scene_load::{LoadFault, load_scene};
 use scene_rules::ZoneSizes;
@@ -24,7 +24,7 @@ use std::alloc::Global;
 // The sizes of a zone for a level in these WADs. Takes all memory of the job.
 pub fn prepare_audit<S: Shelf>(
     alloc: Global,
-    level: &Scene<'_>,
+    level: &LevelJob<'_>,
     wads: &[&str],
     shelf: &mut S,
 ) -> Result<ZoneSizes, LoadFault>
@@ -34,10 +34,10 @@ pub fn prepare_audit<S: Shelf>(
     requires greatest { level.now.settings.size ≤ MAX_SIZE }
     ensures answers { (files : List File) → Holds (S.view shelf.old) files →
         ResultIsOrAbsent itself (S.view shelf.old).steady (λ sizes. sizes)
-        (audit_verdict (told_scene level.now) (map (λ wad. wad.now) wads.now) files) result }
+        (audit_verdict (level_job_value level.now) (map (λ wad. wad.now) wads.now) files) result }
     ensures full { (files : List File) → Holds (S.view shelf.old) files →
         IfErr result (λ fault. IfFull (itself fault)
-        (IsFullLoad (told_scene level.now) (map (λ wad. wad.now) wads.now) files)) }
+        (IsFullLoad (level_job_value level.now) (map (λ wad. wad.now) wads.now) files)) }
     ensures follows { IsLaterShelf (S.view shelf.old) (S.view shelf.new) }
     ensures causes { HasCauses itself
         (S.view shelf.old).faults (S.view shelf.new).faults result }

@@ -1,28 +1,26 @@
 // The job `flat`: one PPM of a flat that is tiled over the frame.
 ghost use Rattle.std.specs.Prelude.{◌≡◌, ◌<◌, ◌≤◌, ◌∷◌, [], ℕ, List, length, true, IfOk, IfSome};
-ghost use Rattle.std.specs.Option.{option_map};
 ghost use Rattle.outside.specs.Causes.{FaultsRose};
 ghost use Rattle.outside.specs.Shelf.{NameFiles, File, IsLaterShelf, Holds, Stands};
-ghost use Rattle.outside.specs.declared.fault.Fault.TheVariants.{Refused};
 ghost use Rattle.outside.specs.Faults.{ResultIs, HasCauses, itself};
 ghost use Rattle.lump_rules.specs.Contents.{AllWithin};
-ghost use Rattle.lump_rules.specs.Lookups.{lump_at, flat_of};
 ghost use Rattle.doom_run.specs.Ends.{DeliversAt};
-ghost use Rattle.doom_run.specs.Flats.{else_refuse, palette_in, flat_in, picture_in, flat_picture, flat_verdict};
-ghost use Rattle.doom_run.specs.Steps.{ResultIsOrAbsent};
+ghost use Rattle.doom_run.specs.Flats.{palette_in, flat_in, picture_in, flat_picture, flat_verdict};
+ghost use Rattle.outside.specs.Stops.{ResultIsOrAbsent};
+ghost use Rattle.scene_load.specs.Files.{IsNeverFull};
 ghost use Rattle.doom_run.specs.Verdict.{tiled_flat};
 
-use crate::drawing::Drawing;
-use crate::fault::Fault;
 use crate::lumps::{read_front, read_lump};
+use crate::picture::Picture;
 use crate::status::Status;
 use crate::tiling::tile;
 use crate::{Refusal, SceneRefusal};
 use frame_writer::{FRAME_BYTES, PALETTE_BYTES, put_ppm};
 use level_audit::find_playpal;
-use outside::{FileNo, Shelf, Sink};
+use outside::{Fault, FileNo, Shelf, Sink};
+use scene_load::{LoadFault, load_dir};
 use std::alloc::Global;
-use wad_dir::{Directory, LumpNo, Name8};
+use wad_dir::{Directory, Name8};
 
 // The picture of a flat in the first file of that name. Takes all memory of the job.
 pub fn prepare_flat<S: Shelf>(
@@ -30,10 +28,11 @@ pub fn prepare_flat<S: Shelf>(
     shelf: &mut S,
     name: &Name8,
     file: &str,
-) -> Result<Drawing, Fault>
+) -> Result<Picture, LoadFault>
     ensures answers { (files : List File) → Holds (S.view shelf.old) files →
-        ResultIsOrAbsent (S.view shelf.old).steady (λ drawing. drawing)
+        ResultIsOrAbsent itself (S.view shelf.old).steady (λ picture. picture)
         (flat_verdict name.now file.now files) result }
+    ensures full { IsNeverFull result }
     ensures follows { IsLaterShelf (S.view shelf.old) (S.view shelf.new) }
     ensures causes { HasCauses itself
         (S.view shelf.old).faults (S.view shelf.new).faults result }
@@ -43,12 +42,12 @@ pub fn prepare_flat<S: Shelf>(
 }
 
 // Writes the picture of a flat. Takes no memory.
-pub fn deliver_flat<K: Sink>(drawing: &Drawing, out: &mut K) -> Status
-    ensures ends { DeliversAt (tiled_flat drawing.now) (K.written out.old)
+pub fn deliver_flat<K: Sink>(picture: &Picture, out: &mut K) -> Status
+    ensures ends { DeliversAt (tiled_flat picture.now) (K.written out.old)
         (K.written out.new) result }
     ensures write_fault { result ≡ Status.WriteFault → FaultsRose (K.faults out.old) (K.faults out.new) }
 {
-    match put_ppm(out, drawing.frame(), drawing.playpal()) {
+    match put_ppm(out, picture.frame(), picture.playpal()) {
         Ok(()) => Status::Done,
         Err(_) => Status::WriteFault,
     }
@@ -60,15 +59,16 @@ fn load_flat<S: Shelf>(
     shelf: &mut S,
     name: &Name8,
     number: FileNo,
-) -> Result<Drawing, Fault>
+) -> Result<Picture, LoadFault>
     ensures answers { (bytes : List ℕ) → Stands (S.view shelf.old) number.0 bytes →
-        ResultIs itself (S.view shelf.old).steady (λ drawing. drawing)
+        ResultIs itself (S.view shelf.old).steady (λ picture. picture)
         (flat_picture name.now (bytes ∷ [])) result }
+    ensures full { IsNeverFull result }
     ensures follows { IsLaterShelf (S.view shelf.old) (S.view shelf.new) }
     ensures causes { HasCauses itself
         (S.view shelf.old).faults (S.view shelf.new).faults result }
 {
-    let dir = Directory::load(alloc, shelf, &[number])?;
+    let dir = load_dir(alloc, shelf, &[number])?;
     draw_flat(alloc, shelf, &dir, name)
 }
 
@@ -78,63 +78,61 @@ fn draw_flat<S: Shelf>(
     shelf: &mut S,
     dir: &Directory,
     name: &Name8,
-) -> Result<Drawing, Fault>
+) -> Result<Picture, LoadFault>
     ensures answers { (contents : List (List ℕ)) →
         NameFiles (S.view shelf.old) dir.now.files contents → AllWithin contents dir.now.lumps →
-        ResultIs itself (S.view shelf.old).steady (λ drawing. drawing)
+        ResultIs itself (S.view shelf.old).steady (λ picture. picture)
         (picture_in contents name.now dir.now.lumps) result }
+    ensures full { IsNeverFull result }
     ensures follows { IsLaterShelf (S.view shelf.old) (S.view shelf.new) }
     ensures causes { HasCauses itself
         (S.view shelf.old).faults (S.view shelf.new).faults result }
 {
     let playpal = read_palette(alloc, shelf, dir)?;
     let flat = read_flat(alloc, shelf, dir, name)?;
-    Ok(Drawing::new(tile(alloc, &flat, FRAME_BYTES)?, playpal))
+    Ok(Picture::new(tile(alloc, &flat, FRAME_BYTES)?, playpal))
 }
 
 // The first palette of a directory.
-fn read_palette<S: Shelf>(alloc: Global, shelf: &mut S, dir: &Directory) -> Result<Vec<u8>, Fault>
+fn read_palette<S: Shelf>(
+    alloc: Global,
+    shelf: &mut S,
+    dir: &Directory,
+) -> Result<Vec<u8>, LoadFault>
     ensures answers { (contents : List (List ℕ)) →
         NameFiles (S.view shelf.old) dir.now.files contents → AllWithin contents dir.now.lumps →
         ResultIs itself (S.view shelf.old).steady (λ palette. palette.items)
         (palette_in contents dir.now.lumps) result }
     ensures size { IfOk result (λ palette. length palette.items ≡ PALETTE_BYTES) }
+    ensures full { IsNeverFull result }
     ensures follows { IsLaterShelf (S.view shelf.old) (S.view shelf.new) }
     ensures causes { HasCauses itself
         (S.view shelf.old).faults (S.view shelf.new).faults result }
 {
-    let lump = find_playpal(dir)?;
-    read_front(alloc, shelf, dir, lump, PALETTE_BYTES)
+    match find_playpal(dir) {
+        Ok(lump) => read_front(alloc, shelf, dir, lump, PALETTE_BYTES),
+        Err(refusal) => Err(Fault::Refused(Refusal::Art(refusal))),
+    }
 }
 
-// The bytes of the flat of a name.
+// The bytes of the last flat of a name.
 fn read_flat<S: Shelf>(
     alloc: Global,
     shelf: &mut S,
     dir: &Directory,
     name: &Name8,
-) -> Result<Vec<u8>, Fault>
+) -> Result<Vec<u8>, LoadFault>
     ensures answers { (contents : List (List ℕ)) →
         NameFiles (S.view shelf.old) dir.now.files contents → AllWithin contents dir.now.lumps →
         ResultIs itself (S.view shelf.old).steady (λ flat. flat.items)
         (flat_in contents dir.now.lumps name.now) result }
+    ensures full { IsNeverFull result }
     ensures follows { IsLaterShelf (S.view shelf.old) (S.view shelf.new) }
     ensures causes { HasCauses itself
         (S.view shelf.old).faults (S.view shelf.new).faults result }
 {
-    let lump = find_flat(dir, name)?;
-    read_lump(alloc, shelf, dir, lump)
-}
-
-// The last flat of a name.
-fn find_flat(dir: &Directory, name: &Name8) -> Result<LumpNo, Refusal>
-    ensures answers { ResultIs (λ refusal. refused refusal) true (λ lump. lump.0)
-        (else_refuse (Refusal.Scene SceneRefusal.FlatName) (flat_of dir.now.lumps name.now))
-        result }
-    ensures there { IfOk result (λ lump. lump.0 < length dir.now.lumps) }
-{
     match dir.flat(name) {
-        Some(lump) => Ok(lump),
-        None => Err(Refusal::Scene(SceneRefusal::FlatName)),
+        Some(lump) => read_lump(alloc, shelf, dir, lump),
+        None => Err(Fault::Refused(Refusal::Scene(SceneRefusal::FlatName))),
     }
 }

@@ -13,12 +13,11 @@
 #![tactic(auto)]
 
 mod audit;
-mod drawing;
-mod fault;
 mod flat;
 mod lumps;
 mod make;
 mod notes;
+mod picture;
 mod status;
 #[cfg(test)]
 mod tests;

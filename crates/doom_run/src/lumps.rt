@@ -5,9 +5,10 @@ ghost use Rattle.outside.specs.Shelf.{NameFiles, IsLaterShelf};
 ghost use Rattle.outside.specs.Faults.{ResultIs, HasCauses, itself};
 ghost use Rattle.lump_rules.specs.Contents.{AllWithin, lump_bytes};
 ghost use Rattle.lump_rules.specs.Lookups.{lump_at};
+ghost use Rattle.scene_load.specs.Files.{IsNeverFull};
 
-use crate::fault::Fault;
 use outside::{Failed, Shelf};
+use scene_load::LoadFault;
 use std::alloc::Global;
 use wad_dir::{Directory, LumpNo};
 
@@ -18,7 +19,7 @@ pub fn read_front<S: Shelf>(
     dir: &Directory,
     lump: LumpNo,
     size: usize,
-) -> Result<Vec<u8>, Fault>
+) -> Result<Vec<u8>, LoadFault>
     requires lump { lump.0 < length dir.now.lumps }
     requires within { size ≤ (lump_at dir.now.lumps lump.0).size }
     ensures answers { (contents : List (List ℕ)) →
@@ -26,6 +27,7 @@ pub fn read_front<S: Shelf>(
         ResultIs itself (S.view shelf.old).steady (λ piece. piece.items)
         (Ok (take size (lump_bytes contents dir.now.lumps lump.0))) result }
     ensures size { IfOk result (λ piece. length piece.items ≡ size) }
+    ensures full { IsNeverFull result }
     ensures follows { IsLaterShelf (S.view shelf.old) (S.view shelf.new) }
     ensures causes { HasCauses itself
         (S.view shelf.old).faults (S.view shelf.new).faults result }
@@ -66,12 +68,13 @@ pub fn read_lump<S: Shelf>(
     shelf: &mut S,
     dir: &Directory,
     lump: LumpNo,
-) -> Result<Vec<u8>, Fault>
+) -> Result<Vec<u8>, LoadFault>
     requires { lump.0 < length dir.now.lumps }
     ensures answers { (contents : List (List ℕ)) →
         NameFiles (S.view shelf.old) dir.now.files contents → AllWithin contents dir.now.lumps →
         ResultIs itself (S.view shelf.old).steady (λ piece. piece.items)
         (Ok (lump_bytes contents dir.now.lumps lump.0)) result }
+    ensures full { IsNeverFull result }
     ensures follows { IsLaterShelf (S.view shelf.old) (S.view shelf.new) }
     ensures causes { HasCauses itself
         (S.view shelf.old).faults (S.view shelf.new).faults result }

@@ -1,9 +1,9 @@
 // How a run ends.
 ghost use Rattle.std.specs.Prelude.{◌≡◌};
-ghost use Rattle.doom_run.specs.Ends.{code_of, status_of, status_of_load};
+ghost use Rattle.doom_run.specs.Ends.{code_of, status_of};
 
 use crate::Refusal;
-use crate::fault::Fault;
+use outside::Fault;
 use scene_load::LoadFault;
 
 /// How a run ends.
@@ -62,25 +62,14 @@ impl Status {
     }
 
     // The status of a fault.
-    pub fn of(fault: Fault) -> Status
+    pub fn of(fault: LoadFault) -> Status
         ensures { result ≡ status_of fault }
     {
         match fault {
             Fault::Refused(refusal) => Status::Refused(refusal),
             Fault::ReadFault => Status::ReadFault,
+            Fault::ZoneFull { wanted, widest } => Status::ZoneFull { wanted, widest },
             Fault::OutOfMemory => Status::OutOfMemory,
-        }
-    }
-
-    // The status of a fault of loading.
-    pub fn of_load(fault: LoadFault) -> Status
-        ensures { result ≡ status_of_load fault }
-    {
-        match fault {
-            LoadFault::Refused(refusal) => Status::Refused(refusal),
-            LoadFault::ReadFault => Status::ReadFault,
-            LoadFault::ZoneFull { wanted, widest } => Status::ZoneFull { wanted, widest },
-            LoadFault::OutOfMemory => Status::OutOfMemory,
         }
     }
 }

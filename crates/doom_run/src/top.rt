@@ -3,16 +3,16 @@ ghost use Rattle.std.specs.Prelude.{◌≡◌, ◌⊎◌, ℕ, Bool, false, List
 ghost use Rattle.outside.specs.Causes.{FaultsRose};
 ghost use Rattle.outside.specs.Shelf.{File, Holds};
 ghost use Rattle.outside.specs.Sink.{Grew, GrewByPrefix};
-ghost use Rattle.command_line.specs.Commands.{IsCounted, IsCountedMake, command_of, flat, make, scene, told};
-ghost use Rattle.command_line.specs.Scenes.{IsScene, told_scene};
-ghost use Rattle.command_line.specs.declared.command.SceneJob.TheVariants.{Audit};
+ghost use Rattle.command_line.specs.Commands.{IsCounted, IsCountedMake, command_of, flat, make, command_value};
+ghost use Rattle.command_line.specs.LevelJobs.{IsLevelJob, level_job_value};
+ghost use Rattle.command_line.specs.declared.command.LevelTask.TheVariants.{Audit};
 ghost use Rattle.scene_load.specs.Fulls.{IsFullLoad};
 ghost use Rattle.doom_run.specs.Ends.{EndsAt, EndsWith, IsEnd, IsUnwritten};
 ghost use Rattle.doom_run.specs.Fulls.{HasRoom, IsFullRun};
 ghost use Rattle.doom_run.specs.Lines.{line_of};
-ghost use Rattle.doom_run.specs.Steps.{Stop, usage, absent, refused};
-ghost use Rattle.doom_run.specs.Verdict.{Accepted, job_verdict, scene_verdict, verdict, end_of, output};
-ghost use Rattle.doom_run.specs.Words.{WhereAsked, ask_for_files, asks_for_files, scene_asks, texts};
+ghost use Rattle.doom_run.specs.Steps.{RunStop, usage, absent, refused};
+ghost use Rattle.doom_run.specs.Verdict.{Accepted, job_verdict, level_verdict, verdict, end_of, output};
+ghost use Rattle.doom_run.specs.Words.{WhereAsked, ask_for_files, asks_for_files, level_asks, texts};
 
 use crate::Refusal;
 use crate::audit::{deliver_audit, prepare_audit};
@@ -20,7 +20,7 @@ use crate::flat::{deliver_flat, prepare_flat};
 use crate::make::{deliver_make, prepare_make};
 use crate::notes::put_note;
 use crate::status::Status;
-use command_line::{Command, CommandFault, MakeJob, Scene, SceneJob, command_of};
+use command_line::{Command, CommandFault, LevelJob, LevelTask, MakeJob, command_of};
 use outside::{Shelf, Sink};
 use std::alloc::Global;
 use wad_dir::Name8;
@@ -53,7 +53,7 @@ pub fn run<S: Shelf, K: Sink, N: Sink>(
         verdict (texts words.now) files ≡ Ok accepted →
         GrewByPrefix (K.written out.old) (K.written out.new) (output accepted) }
     ensures unwritten { IsUnwritten result → Grew (K.written out.old) (K.written out.new) [] }
-    ensures stopped { (files : List File) (stop : Stop) →
+    ensures stopped { (files : List File) (stop : RunStop) →
         WhereAsked (texts words.now) (Holds (S.view shelf.old) files) →
         verdict (texts words.now) files ≡ Err stop →
         Grew (K.written out.old) (K.written out.new) [] }
@@ -158,81 +158,84 @@ fn perform_job<S: Shelf, K: Sink>(
     shelf: &mut S,
     out: &mut K,
 ) -> Status
-    requires { IsCounted (told command.now) }
+    requires { IsCounted (command_value command.now) }
     ensures ends { (files : List File) →
-        (IsTrue (asks_for_files (told command.now)) → Holds (S.view shelf.old) files) →
-        EndsAt (S.view shelf.old).steady (job_verdict (told command.now) files)
+        (IsTrue (asks_for_files (command_value command.now)) → Holds (S.view shelf.old) files) →
+        EndsAt (S.view shelf.old).steady (job_verdict (command_value command.now) files)
         (K.written out.old) (K.written out.new) result }
     ensures unwritten { IsUnwritten result → Grew (K.written out.old) (K.written out.new) [] }
     ensures usage { (files : List File) → result ≡ Status.Usage →
-        job_verdict (told command.now) files ≡ Err usage }
-    ensures not_built { (files : List File) → job_verdict (told command.now) files ≡ Err usage →
+        job_verdict (command_value command.now) files ≡ Err usage }
+    ensures not_built { (files : List File) → job_verdict (command_value command.now) files ≡ Err usage →
         result ≡ Status.Usage }
     ensures read_fault { result ≡ Status.ReadFault →
         FaultsRose (S.view shelf.old).faults (S.view shelf.new).faults }
     ensures write_fault { result ≡ Status.WriteFault → FaultsRose (K.faults out.old) (K.faults out.new) }
     ensures zone_full { (files : List File) (wanted widest : ℕ) →
         result ≡ Status.ZoneFull wanted widest →
-        (IsTrue (asks_for_files (told command.now)) → Holds (S.view shelf.old) files) →
-        IsFullRun (told command.now) files wanted widest }
-    ensures asked { result ≡ Status.ReadFault → IsTrue (asks_for_files (told command.now)) }
-    ensures untouched { asks_for_files (told command.now) ≡ false → shelf.new ≡ shelf.old }
+        (IsTrue (asks_for_files (command_value command.now)) → Holds (S.view shelf.old) files) →
+        IsFullRun (command_value command.now) files wanted widest }
+    ensures asked { result ≡ Status.ReadFault → IsTrue (asks_for_files (command_value command.now)) }
+    ensures untouched { asks_for_files (command_value command.now) ≡ false → shelf.new ≡ shelf.old }
 {
     match command {
         Command::Flat { name, file } => perform_flat(alloc, name, file, shelf, out),
         Command::Make(job) => perform_make(alloc, *job, out),
-        Command::Scene { job, scene, wads } => perform_scene(alloc, *job, scene, wads, shelf, out),
+        Command::Level { task, level, wads } => perform_level(
+            alloc, *task, level, wads, shelf, out,
+        ),
         Command::Exercise { .. } => Status::Usage,
     }
 }
 
-fn perform_scene<S: Shelf, K: Sink>(
+fn perform_level<S: Shelf, K: Sink>(
     alloc: Global,
-    job: SceneJob,
-    level: &Scene<'_>,
+    job: LevelTask,
+    level: &LevelJob<'_>,
     wads: &[&str],
     shelf: &mut S,
     out: &mut K,
 ) -> Status
-    requires { IsScene (told_scene level.now) (map (λ wad. wad.now) wads.now) }
+    requires { IsLevelJob (level_job_value level.now) (map (λ wad. wad.now) wads.now) }
     ensures ends { (files : List File) →
-        (IsTrue (scene_asks job) → Holds (S.view shelf.old) files) →
+        (IsTrue (level_asks job) → Holds (S.view shelf.old) files) →
         EndsAt (S.view shelf.old).steady
-        (scene_verdict job (told_scene level.now) (map (λ wad. wad.now) wads.now) files)
+        (level_verdict job (level_job_value level.now) (map (λ wad. wad.now) wads.now) files)
         (K.written out.old) (K.written out.new) result }
     ensures unwritten { IsUnwritten result → Grew (K.written out.old) (K.written out.new) [] }
     ensures usage { (files : List File) → result ≡ Status.Usage →
-        scene_verdict job (told_scene level.now) (map (λ wad. wad.now) wads.now) files ≡ Err usage }
+        level_verdict job (level_job_value level.now) (map (λ wad. wad.now) wads.now) files ≡ Err usage }
     ensures not_built { (files : List File) →
-        scene_verdict job (told_scene level.now) (map (λ wad. wad.now) wads.now) files ≡ Err usage →
+        level_verdict job (level_job_value level.now) (map (λ wad. wad.now) wads.now) files ≡ Err usage →
         result ≡ Status.Usage }
     ensures read_fault { result ≡ Status.ReadFault →
         FaultsRose (S.view shelf.old).faults (S.view shelf.new).faults }
     ensures write_fault { result ≡ Status.WriteFault → FaultsRose (K.faults out.old) (K.faults out.new) }
     ensures zone_full { (files : List File) (wanted widest : ℕ) →
         result ≡ Status.ZoneFull wanted widest →
-        (IsTrue (scene_asks job) → Holds (S.view shelf.old) files) →
-        IsFullLoad (told_scene level.now) (map (λ wad. wad.now) wads.now) files wanted widest }
-    ensures asked { result ≡ Status.ReadFault → IsTrue (scene_asks job) }
-    ensures untouched { scene_asks job ≡ false → shelf.new ≡ shelf.old }
+        (IsTrue (level_asks job) → Holds (S.view shelf.old) files) →
+        IsFullLoad (level_job_value level.now) (map (λ wad. wad.now) wads.now) files wanted widest }
+    ensures asked { result ≡ Status.ReadFault → IsTrue (level_asks job) }
+    ensures untouched { level_asks job ≡ false → shelf.new ≡ shelf.old }
 {
     match job {
-        SceneJob::Audit => perform_audit(alloc, level, wads, shelf, out),
-        SceneJob::Render(_) | SceneJob::Limits | SceneJob::Trim | SceneJob::Trace => Status::Usage,
+        LevelTask::Audit => perform_audit(alloc, level, wads, shelf, out),
+        LevelTask::Render(_) | LevelTask::Limits | LevelTask::Trim | LevelTask::Trace =>
+            Status::Usage,
     }
 }
 
 fn perform_audit<S: Shelf, K: Sink>(
     alloc: Global,
-    level: &Scene<'_>,
+    level: &LevelJob<'_>,
     wads: &[&str],
     shelf: &mut S,
     out: &mut K,
 ) -> Status
-    requires { IsScene (told_scene level.now) (map (λ wad. wad.now) wads.now) }
+    requires { IsLevelJob (level_job_value level.now) (map (λ wad. wad.now) wads.now) }
     ensures ends { (files : List File) → Holds (S.view shelf.old) files →
         EndsAt (S.view shelf.old).steady
-        (scene_verdict Audit (told_scene level.now) (map (λ wad. wad.now) wads.now) files)
+        (level_verdict Audit (level_job_value level.now) (map (λ wad. wad.now) wads.now) files)
         (K.written out.old) (K.written out.new) result }
     ensures unwritten { IsUnwritten result → Grew (K.written out.old) (K.written out.new) [] }
     ensures not_usage { result ≡ Status.Usage → ⊥ }
@@ -241,11 +244,11 @@ fn perform_audit<S: Shelf, K: Sink>(
     ensures write_fault { result ≡ Status.WriteFault → FaultsRose (K.faults out.old) (K.faults out.new) }
     ensures zone_full { (files : List File) (wanted widest : ℕ) →
         result ≡ Status.ZoneFull wanted widest → Holds (S.view shelf.old) files →
-        IsFullLoad (told_scene level.now) (map (λ wad. wad.now) wads.now) files wanted widest }
+        IsFullLoad (level_job_value level.now) (map (λ wad. wad.now) wads.now) files wanted widest }
 {
     match prepare_audit(alloc, level, wads, shelf) {
         Ok(sizes) => deliver_audit(sizes, out),
-        Err(fault) => Status::of_load(fault),
+        Err(fault) => Status::of(fault),
     }
 }
 
@@ -267,7 +270,7 @@ fn perform_flat<S: Shelf, K: Sink>(
     ensures zone_full { (wanted widest : ℕ) → result ≡ Status.ZoneFull wanted widest → ⊥ }
 {
     match prepare_flat(alloc, shelf, name, file) {
-        Ok(drawing) => deliver_flat(&drawing, out),
+        Ok(picture) => deliver_flat(&picture, out),
         Err(fault) => Status::of(fault),
     }
 }

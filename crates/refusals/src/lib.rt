@@ -1,13 +1,15 @@
 //! Why a run is refused, and the numbers by which that is told.
 //!
-//! Rules: specs, Groups (what a refusal of a layer is here) and Lines (its code and its numbers).
-//! Proved: each conversion, and what `put_numbers_of` writes. No call takes memory. This project's
-//! own.
+//! Rules: specs, Groups (what a refusal of an audit is here) and Lines (its code and its numbers).
+//! Proved: the conversion, and what `put_numbers_of` writes. No call takes memory. Tested only: the
+//! messages. This project's own.
 #![tactic(auto)]
 
 mod codes;
 mod lines;
 mod refusal;
+#[cfg(test)]
+mod tests;
 
 pub use art_rules::{SpriteRefusal, TexRefusal};
 pub use csv_tables::CsvRefusal;

@@ -5,11 +5,11 @@ use Rattle.outside.specs.Faults.{and_then, from_below}
 use Rattle.lump_rules.specs.declared.wad.Lump.{Lump}
 use Rattle.lump_rules.specs.declared.wad.DirRefusal.{DirRefusal}
 use Rattle.lump_rules.specs.Wads.{directory}
-use Rattle.command_line.specs.Scenes.{ToldFiles}
-use Rattle.scene_load.specs.declared.fault.FilesRefusal.{FilesRefusal}
-use Rattle.scene_load.specs.declared.fault.FilesRefusal.TheVariants.{Wad}
+use Rattle.command_line.specs.LevelJobs.{FileNames}
+use Rattle.refusals.specs.declared.refusal.Refusal.{Refusal}
+use Rattle.refusals.specs.declared.refusal.Refusal.TheVariants.{Wad}
 use Rattle.scene_load.specs.Files.{FilesValue, tables_file, in_file, texts_in, files_named, lumps_in, files_in}
-use Rattle.scene_load.specs.Stops.{else_absent, no_file}
+use Rattle.outside.specs.Stops.{else_absent, no_file}
 
 -- the WADs of these names have these bytes, which list these lumps
 pub record AreListed (wads : List (List ℕ)) (files : List File) (lumps : List Lump) : Type 0 where
@@ -22,16 +22,16 @@ both_passed : {A C E : Type 0} (first : Result C E) (next : C → Result A E) (v
 both_passed (Ok found) next value e = (found, refl, e)
 both_passed (Err stop) next value e = absurd (cc)
 
-no_refusal : (listing : Result (List Lump) DirRefusal) (lumps : List Lump) → no_file {R = FilesRefusal} (from_below Wad listing) ≡ Ok lumps → listing ≡ Ok lumps
+no_refusal : (listing : Result (List Lump) DirRefusal) (lumps : List Lump) → no_file {R = Refusal} (from_below Wad listing) ≡ Ok lumps → listing ≡ Ok lumps
 no_refusal (Ok found) lumps e = let same : found ≡ lumps = cc in ap Ok same
 no_refusal (Err refusal) lumps e = absurd (cc)
 
-is_held : (file : Option (List (List ℕ))) (contents : List (List ℕ)) → else_absent {R = FilesRefusal} file ≡ Ok contents → file ≡ Some contents
+is_held : (file : Option (List (List ℕ))) (contents : List (List ℕ)) → else_absent {R = Refusal} file ≡ Ok contents → file ≡ Some contents
 is_held None contents e = absurd (cc)
 is_held (Some found) contents e = let same : found ≡ contents = cc in ap Some same
 
 -- all files were accepted: the WADs are held, and their bytes list the lumps
-pub wads_accepted : (names : ToldFiles) (wads : List (List ℕ)) (size : ℕ) (files : List File) (value : FilesValue) →
+pub wads_accepted : (names : FileNames) (wads : List (List ℕ)) (size : ℕ) (files : List File) (value : FilesValue) →
     files_in names wads size files ≡ Ok value → AreListed wads files value.lumps
 unfolding files_in lumps_in
 wads_accepted names wads size files value e =

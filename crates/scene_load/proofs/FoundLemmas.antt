@@ -7,8 +7,8 @@ use Rattle.outside.specs.Shelf.{File, ShelfView, IsLaterShelf, Stands, NameFiles
 use Rattle.outside.proofs.ShelfLemmas.{all_stand_later}
 use Rattle.scene_load.specs.Files.{files_named}
 use Rattle.scene_load.specs.Found.{AllStandForNamed}
-use Rattle.scene_load.specs.Stops.{absent, else_absent}
-use Rattle.scene_load.proofs.StopLemmas.{not_held}
+use Rattle.outside.specs.Stops.{absent, else_absent}
+use Rattle.outside.proofs.StopLemmas.{not_held}
 
 -- the first file and the others, where all are held
 record AreBoth (first : Option (List ℕ)) (others : Option (List (List ℕ))) (contents : List (List ℕ)) : Type 0 where

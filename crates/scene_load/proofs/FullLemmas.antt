@@ -1,4 +1,6 @@
 -- When the zone is full while files are audited, and while all is loaded.
+use Rattle.refusals.specs.declared.refusal.Refusal.{Refusal}
+use Rattle.scene_rules.specs.declared.refusal.AuditRefusal.{AuditRefusal}
 use Rattle.outside.specs.Faults.{itself}
 use Rattle.std.proofs.Common.{◌≡◌, ℕ, ◌+◌, ◌<◌, List, Option, Result, Ok, Err, refl, sym, ap, subst, ◌∙◌, arith, inl, inr, IsErrAnd}
 use Rattle.std.specs.Prelude.{IfErr, IsOk}
@@ -11,17 +13,15 @@ use Rattle.zone_rules.specs.Zones.{Heap, block_size}
 use Rattle.lump_cache.specs.Caches.{IsAtRest, IsEmpty}
 use Rattle.lump_cache.specs.Calls.{IfFull, IsFullFor, HoldContents}
 use Rattle.art_rules.specs.declared.shapes.Frame.{Frame}
-use Rattle.command_line.specs.Scenes.{ToldScene}
+use Rattle.command_line.specs.LevelJobs.{LevelJobValue}
 use Rattle.scene_load.specs.declared.read.SceneFiles.{SceneFiles}
-use Rattle.scene_load.specs.Files.{FilesValue, files_in, value_of}
+use Rattle.scene_load.specs.Files.{FilesValue, IsNeverFull, files_in, value_of}
 use Rattle.scene_rules.specs.Scenes.{SceneValue, colormap_of, scene_in, sizes_of}
-use Rattle.level_audit.specs.declared.fault.AuditFault.{AuditFault}
-use Rattle.level_audit.specs.declared.fault.AuditFault.TheVariants.{Refused, ReadFault, ZoneFull, OutOfMemory}
+use Rattle.outside.specs.declared.fault.Fault.{Fault}
+use Rattle.outside.specs.declared.fault.Fault.TheVariants.{Refused, ReadFault, ZoneFull, OutOfMemory}
 use Rattle.level_audit.specs.Reads.{IsFullAudit}
 use Rattle.level_audit.specs.Sound.{SoundValue}
 use Rattle.level_audit.proofs.SceneLemmas.{colormap_there, same_value}
-use Rattle.scene_load.specs.declared.fault.LoadFault.{LoadFault}
-use Rattle.scene_load.specs.Faults.{above_audit}
 use Rattle.scene_load.specs.Fulls.{IsFullLoad, IsFullOver, IsOfLayers}
 use Rattle.scene_load.specs.Loads.{loaded_sizes, wad_bytes}
 use Rattle.scene_load.proofs.AuditedLemmas.{audited_by}
@@ -29,20 +29,20 @@ use Rattle.scene_load.proofs.MoreLemmas.{enough_layers, enough_loaded}
 use Rattle.scene_load.proofs.LoadLemmas.{audited_of}
 
 -- the same is said of the fault that is returned
-pub same_full : {B D : Type 0} (P : ℕ → ℕ → Type 0) (r : Result D AuditFault) (fault : AuditFault) (result : Result B AuditFault) → IfErr r (λ f. IfFull (itself f) P) → r ≡ Err fault → IsErrAnd result (λ e. e ≡ fault) → IfErr result (λ f. IfFull (itself f) P)
+pub same_full : {B D : Type 0} (P : ℕ → ℕ → Type 0) (r : Result D (Fault AuditRefusal)) (fault : (Fault AuditRefusal)) (result : Result B (Fault AuditRefusal)) → IfErr r (λ f. IfFull (itself f) P) → r ≡ Err fault → IsErrAnd result (λ e. e ≡ fault) → IfErr result (λ f. IfFull (itself f) P)
 same_full {B} {D} P r fault result full was is =
     let s = err_from_is_err_and result is in
-    let k : IfFull (itself fault) P = subst (λ (y : Result D AuditFault). IfErr y (λ f. IfFull (itself f) P)) was full in
-    subst (λ (y : Result B AuditFault). IfErr y (λ f. IfFull (itself f) P)) (sym (s.1 ∙ ap Err s.2)) k
+    let k : IfFull (itself fault) P = subst (λ (y : Result D (Fault AuditRefusal)). IfErr y (λ f. IfFull (itself f) P)) was full in
+    subst (λ (y : Result B (Fault AuditRefusal)). IfErr y (λ f. IfFull (itself f) P)) (sym (s.1 ∙ ap Err s.2)) k
 
 -- the value of a result that is one
 ok_value : {A E : Type 0} (r : Result A E) → IsOk r → (x : A) × (r ≡ Ok x)
 ok_value (Ok x) there = (x, refl)
 ok_value (Err e) there = cc
 
-module _ (contents : List (List ℕ)) (level : ToldScene) (files : SceneFiles) where
+module _ (contents : List (List ℕ)) (level : LevelJobValue) (files : SceneFiles) where
   -- no room for a lump of the scene
-  pub audit_full : {v : ShelfView} {z : Heap} (r : Result SoundValue AuditFault) → HoldContents v files.dir z contents → IsEmpty z → z.size ≡ level.settings.zone →
+  pub audit_full : {v : ShelfView} {z : Heap} (r : Result SoundValue (Fault AuditRefusal)) → HoldContents v files.dir z contents → IsEmpty z → z.size ≡ level.settings.zone →
       IfErr r (λ f. IfFull (itself f) (IsFullAudit v files.dir z files.things level.map_name level.settings.skill)) →
       IfErr r (λ f. IfFull (itself f) (λ wanted widest'. IsOk (colormap_of files.dir.lumps))) →
       ((colormap : ℕ) → colormap_of files.dir.lumps ≡ Ok colormap → IsEmpty z → IfErr r (λ f. IfFull (itself f) (λ wanted widest'. z.size < block_size (lump_at files.dir.lumps colormap).size + wanted + MIN_FRAGMENT))) →
@@ -67,7 +67,7 @@ module _ (contents : List (List ℕ)) (level : ToldScene) (files : SceneFiles) w
       }
 
   -- no room for a picture of a weapon layer, beside COLORMAP
-  pub layers_full : {z : Heap} (scene : SceneValue) (r : Result (Option (List Frame)) AuditFault) → scene_in (lump_bytes contents files.dir.lumps) files.dir.lumps files.things level.map_name level.settings.skill ≡ Ok scene → colormap_of files.dir.lumps ≡ Ok scene.base.colormap →
+  pub layers_full : {z : Heap} (scene : SceneValue) (r : Result (Option (List Frame)) (Fault AuditRefusal)) → scene_in (lump_bytes contents files.dir.lumps) files.dir.lumps files.things level.map_name level.settings.skill ≡ Ok scene → colormap_of files.dir.lumps ≡ Ok scene.base.colormap →
       IsAtRest scene.base.colormap (lump_at files.dir.lumps scene.base.colormap).size z → z.size ≡ level.settings.zone →
       IfErr r (λ f. IfFull (itself f) (IsFullFor (IsOfLayers files.dir.lumps files.weapons) files.dir z)) → IfErr r (λ f. IfFull (itself f) (IsFullOver (lump_bytes contents files.dir.lumps) level (value_of files)))
   layers_full scene (Ok layers) accepted is rest size full = tt
@@ -76,12 +76,12 @@ module _ (contents : List (List ℕ)) (level : ToldScene) (files : SceneFiles) w
   layers_full scene (Err OutOfMemory) accepted is rest size full = tt
   layers_full scene (Err (ZoneFull wanted widest')) accepted is rest size full =
       let small : level.settings.zone < block_size (lump_at files.dir.lumps scene.base.colormap).size + wanted + MIN_FRAGMENT =
-      subst (λ n. n < block_size (lump_at files.dir.lumps scene.base.colormap).size + wanted + MIN_FRAGMENT) size (full.full.room scene.base.colormap (lump_at files.dir.lumps scene.base.colormap).size rest) in
+      subst (λ n. n < block_size (lump_at files.dir.lumps scene.base.colormap).size + wanted + MIN_FRAGMENT) size (full.room scene.base.colormap (lump_at files.dir.lumps scene.base.colormap).size rest) in
       record {
         lump = full.lump;
         asked = inr full.asked;
-        wanted_is = full.full.wanted_is;
-        narrow = full.full.narrow;
+        wanted_is = full.wanted_is;
+        narrow = full.narrow;
         colormap = scene.base.colormap;
         colormap_is = is;
         small = small;
@@ -91,19 +91,19 @@ module _ (contents : List (List ℕ)) (level : ToldScene) (files : SceneFiles) w
             (omega (
               arith,
               small,
-              full.full.wanted_is,
+              full.wanted_is,
               enough_layers (lump_bytes contents files.dir.lumps) (record { files = value_of files; scene = scene; weapons = weapons }) full.lump layers (colormap_there files.dir.lumps scene.base.colormap is) full.asked,
             )));
       }
 
 -- the zone is full while all is loaded
-pub load_full : {B D : Type 0} (level : ToldScene) (wads : List (List ℕ)) (held : List File) (found : FilesValue) (r : Result D AuditFault) (fault : AuditFault) (result : Result B LoadFault) → files_in level.files wads level.settings.size held ≡ Ok found →
-    IfErr r (λ f. IfFull (itself f) (IsFullOver (wad_bytes wads held found.lumps) level found)) → r ≡ Err fault → IsErrAnd result (λ e. e ≡ above_audit fault) → IfErr result (λ f. IfFull (itself f) (IsFullLoad level wads held))
+pub load_full : {B D : Type 0} (level : LevelJobValue) (wads : List (List ℕ)) (held : List File) (found : FilesValue) (r : Result D (Fault Refusal)) (fault : Fault Refusal) (result : Result B (Fault Refusal)) → files_in level.files wads level.settings.size held ≡ Ok found →
+    IfErr r (λ f. IfFull (itself f) (IsFullOver (wad_bytes wads held found.lumps) level found)) → r ≡ Err fault → IsErrAnd result (λ e. e ≡ fault) → IfErr result (λ f. IfFull (itself f) (IsFullLoad level wads held))
 load_full {B} {D} level wads held found r fault result are full was is =
     let s = err_from_is_err_and result is in
-    let k : IfFull (itself fault) (IsFullOver (wad_bytes wads held found.lumps) level found) = subst (λ (y : Result D AuditFault). IfErr y (λ f. IfFull (itself f) (IsFullOver (wad_bytes wads held found.lumps) level found))) was full in
-    subst (λ (y : Result B LoadFault). IfErr y (λ f. IfFull (itself f) (IsFullLoad level wads held))) (sym (s.1 ∙ ap Err s.2)) (go fault k) where
-      go : (f : AuditFault) → IfFull (itself f) (IsFullOver (wad_bytes wads held found.lumps) level found) → IfFull (itself (above_audit f)) (IsFullLoad level wads held)
+    let k : IfFull (itself fault) (IsFullOver (wad_bytes wads held found.lumps) level found) = subst (λ (y : Result D (Fault Refusal)). IfErr y (λ f. IfFull (itself f) (IsFullOver (wad_bytes wads held found.lumps) level found))) was full in
+    subst (λ (y : Result B (Fault Refusal)). IfErr y (λ f. IfFull (itself f) (IsFullLoad level wads held))) (sym (s.1 ∙ ap Err s.2)) (go fault k) where
+      go : (f : Fault Refusal) → IfFull (itself f) (IsFullOver (wad_bytes wads held found.lumps) level found) → IfFull (itself f) (IsFullLoad level wads held)
       go (Refused refusal) k = tt
       go ReadFault k = tt
       go OutOfMemory k = tt
@@ -119,3 +119,16 @@ load_full {B} {D} level wads held found r fault result are full was is =
         small = k.small;
         enough = λ loaded e. k.enough loaded (audited_of level wads held found loaded are e);
       }
+
+never_full : (P : ℕ → ℕ → Type 0) (fault : Fault Refusal) → IfFull fault (λ wanted widest'. ⊥) → IfFull fault P
+never_full P (Refused refusal) none = tt
+never_full P ReadFault none = tt
+never_full P (ZoneFull wanted widest') none = absurd none
+never_full P OutOfMemory none = tt
+
+-- the reading of files puts nothing into a zone
+pub files_full : {B D : Type 0} (P : ℕ → ℕ → Type 0) (r : Result D (Fault Refusal)) (fault : Fault Refusal) (result : Result B (Fault Refusal)) → IsNeverFull r → r ≡ Err fault → IsErrAnd result (λ e. e ≡ fault) → IfErr result (λ f. IfFull (itself f) P)
+files_full {B} {D} P r fault result never was is =
+    let s = err_from_is_err_and result is in
+    let none : IfFull fault (λ wanted widest'. ⊥) = subst (λ (y : Result D (Fault Refusal)). IsNeverFull y) was never in
+    subst (λ (y : Result B (Fault Refusal)). IfErr y (λ f. IfFull (itself f) P)) (sym (s.1 ∙ ap Err s.2)) (never_full P fault none)

@@ -12,7 +12,7 @@ use Rattle.art_rules.specs.declared.shapes.Frame.{Frame}
 use Rattle.sprite_book.specs.Calls.{IsWanted}
 use Rattle.scene_rules.specs.declared.refusal.AuditRefusal.{AuditRefusal}
 use Rattle.scene_rules.specs.declared.refusal.AuditRefusal.TheVariants.{WeaponArt}
-use Rattle.level_audit.specs.declared.fault.AuditFault.{AuditFault}
+use Rattle.outside.specs.declared.fault.Fault.{Fault}
 use Rattle.level_audit.specs.Weapons.{weapon_book, weapon_needs}
 use Rattle.scene_load.specs.Fulls.{IsOfLayers}
 use Rattle.scene_load.specs.Loads.{weapons_of}
@@ -40,7 +40,7 @@ module _ {v : ShelfView} {dir : DirectoryView} {a : Heap} (weapons : Option (Lis
 
   module _ {w : ShelfView} {b : Heap} (rows : List WeaponRow) (is : weapons ≡ Some rows) where
     -- their book was not made
-    pub book_stopped : (one : Result (List Frame) AuditFault) (fault : AuditFault) (result : Result (Option (List Frame)) AuditFault) →
+    pub book_stopped : (one : Result (List Frame) (Fault AuditRefusal)) (fault : (Fault AuditRefusal)) (result : Result (Option (List Frame)) (Fault AuditRefusal)) →
         ReadsLumps itself v w dir a b (IsWanted dir.lumps (weapon_needs rows)) (λ (book : List Frame). book) (λ bytes. from_below WeaponArt (weapon_book bytes dir.lumps rows)) one → one ≡ Err fault → IsErrAnd result (λ e. e ≡ fault) →
         ReadsLumps itself v w dir a b (IsOfLayers dir.lumps weapons) (λ (book : Option (List Frame)). book) (λ bytes. weapons_of bytes dir.lumps weapons) result
     book_stopped one fault result tells was ends =

@@ -3,9 +3,9 @@ use Rattle.std.proofs.Common.{◌≡◌, ℕ, Bool, List, length, Option, Some, 
 use Rattle.std.proofs.lemmas.Result.{err_from_is_err_and}
 use Rattle.outside.specs.Faults.{ResultIs, itself}
 use Rattle.scene_load.specs.declared.named.FileKind.{FileKind}
-use Rattle.scene_load.specs.declared.fault.FilesRefusal.{FilesRefusal}
-use Rattle.scene_load.specs.declared.fault.FilesFault.{FilesFault}
-use Rattle.scene_load.specs.declared.fault.FilesFault.TheVariants.{Refused}
+use Rattle.refusals.specs.declared.refusal.Refusal.{Refusal}
+use Rattle.outside.specs.declared.fault.Fault.{Fault}
+use Rattle.outside.specs.declared.fault.Fault.TheVariants.{Refused}
 use Rattle.scene_load.specs.Files.{unless_refused}
 use Rattle.scene_load.specs.Lengths.{length_refusal, bytes_in}
 
@@ -20,7 +20,7 @@ not_refused None value found e = let same : value ≡ found = cc in (refl, sym s
 not_refused (Some first) value found e = absurd (cc)
 
 -- a file whose length is refused
-pub bytes_refused : (kind : FileKind) (size : ℕ) (bytes : List ℕ) (reason : FilesRefusal) → size ≡ length bytes →
+pub bytes_refused : (kind : FileKind) (size : ℕ) (bytes : List ℕ) (reason : Refusal) → size ≡ length bytes →
     unless_refused (length_refusal kind size) size ≡ Err reason → bytes_in kind bytes ≡ Err reason
 unfolding bytes_in
 bytes_refused kind size bytes reason e h = refused_too (length_refusal kind (length bytes)) (length bytes) bytes reason (rw e at h)
@@ -33,10 +33,3 @@ bytes_whole kind size count bytes e h =
     let k : unless_refused (length_refusal kind (length bytes)) (length bytes) ≡ Ok count = rw e at h in
     let fine = not_refused (length_refusal kind (length bytes)) (length bytes) count k in
     (rw fine.0 refl, sym fine.1)
-
--- a call ends with the refusal of the steps
-pub refusal_answers : {A B : Type 0} (steady : Bool) (value : B → A) (expected : Result A FilesRefusal) (reason : FilesRefusal) (result : Result B FilesFault) →
-    expected ≡ Err reason → IsErrAnd result (λ e. e ≡ Refused reason) → ResultIs itself steady value expected result
-refusal_answers {A} {B} steady value expected reason result e is =
-    let p : (y : FilesFault) × (result ≡ Err y) × (y ≡ Refused reason) = err_from_is_err_and result is in
-    rw (p.1, p.2) (record { ok = tt; err = e })

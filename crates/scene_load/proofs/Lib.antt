@@ -1,3 +1,4 @@
+pub mod AboveLemmas
 pub mod AcceptedLemmas
 pub mod AuditedLemmas
 pub mod CheckLemmas
@@ -7,5 +8,4 @@ pub mod LayerLemmas
 pub mod LengthLemmas
 pub mod LoadLemmas
 pub mod MoreLemmas
-pub mod StopLemmas
 pub mod WadLemmas

@@ -4,51 +4,32 @@ use Rattle.std.specs.Prelude.{IfErr}
 use Rattle.std.proofs.lemmas.Result.{err_from_is_err_and}
 use Rattle.outside.specs.Shelf.{NameFiles, File, ShelfView}
 use Rattle.outside.specs.declared.fault.Fault.TheVariants.{OutOfMemory}
-use Rattle.outside.specs.Faults.{ResultIs, fault_above, from_below, itself}
-use Rattle.outside.proofs.StepLemmas.{last_stop}
+use Rattle.outside.specs.Faults.{FaultFits, ResultIs, from_below, itself}
 use Rattle.lump_rules.specs.Contents.{AllWithin}
 use Rattle.zone_rules.specs.Zones.{Heap}
 use Rattle.wad_dir.specs.DirectoryView.{DirectoryView}
 use Rattle.lump_cache.specs.Caches.{IsFaithful}
 use Rattle.lump_cache.specs.Calls.{IfFull, HoldContents}
-use Rattle.command_line.specs.Scenes.{ToldScene}
-use Rattle.scene_load.specs.declared.fault.FilesFault.{FilesFault}
-use Rattle.scene_load.specs.declared.fault.FilesFault.TheVariants as files
+use Rattle.command_line.specs.LevelJobs.{LevelJobValue}
+use Rattle.outside.specs.declared.fault.Fault.{Fault}
 use Rattle.scene_load.specs.Files.{FilesValue, files_in, files_named}
-use Rattle.scene_load.specs.Stops.{Stop, ResultIsOrAbsent, StopsAt}
+use Rattle.outside.specs.Stops.{Stop, ResultIsOrAbsent, FaultFitsOrAbsent, no_file}
 use Rattle.scene_load.proofs.AcceptedLemmas.{wads_accepted}
-use Rattle.scene_load.proofs.StopLemmas.{all_passed, no_file_agrees, step_stops_above}
+use Rattle.outside.proofs.StopLemmas.{all_passed, no_file_agrees, step_stops}
 use Rattle.scene_rules.specs.declared.refusal.AuditRefusal.{AuditRefusal}
-use Rattle.level_audit.specs.declared.fault.AuditFault.{AuditFault}
-use Rattle.level_audit.specs.declared.fault.AuditFault.TheVariants as audit
 use Rattle.refusals.specs.declared.refusal.Refusal.{Refusal}
-use Rattle.refusals.specs.Groups.{of_audit, of_files}
-use Rattle.scene_load.specs.declared.fault.LoadFault.{LoadFault}
-use Rattle.scene_load.specs.Faults.{above_audit, above_files}
+use Rattle.refusals.specs.Groups.{of_audit}
 use Rattle.scene_load.specs.Loads.{LoadedValue, audited_in, load_in, stops_of_audit, wad_bytes, wad_contents}
 
--- what a fault of the files tells here
-files_told_above : (fault : FilesFault) → itself (above_files fault) ≡ fault_above of_files (itself fault)
-files_told_above (files.Refused refusal) = refl
-files_told_above files.ReadFault = refl
-files_told_above files.OutOfMemory = refl
-
--- what a fault of the audit tells here
-audit_told_above : (fault : AuditFault) → itself (above_audit fault) ≡ fault_above of_audit (itself fault)
-audit_told_above (audit.Refused refusal) = refl
-audit_told_above audit.ReadFault = refl
-audit_told_above (audit.ZoneFull wanted widest) = refl
-audit_told_above audit.OutOfMemory = refl
-
 -- memory ran out, which no step decides
-pub memory_agrees : {A B : Type 0} {steady : Bool} {value : B → A} (expected : Result A (Stop Refusal)) (fault : LoadFault) (result : Result B LoadFault) → itself fault ≡ OutOfMemory → IsErrAnd result (λ e. e ≡ fault) → ResultIsOrAbsent itself steady value expected result
+pub memory_agrees : {A B : Type 0} {steady : Bool} {value : B → A} (expected : Result A (Stop Refusal)) (fault : (Fault Refusal)) (result : Result B (Fault Refusal)) → itself fault ≡ OutOfMemory → IsErrAnd result (λ e. e ≡ fault) → ResultIsOrAbsent itself steady value expected result
 memory_agrees {steady} expected fault result tells is =
     let s = err_from_is_err_and result is in
-    let k : StopsAt steady expected (itself s.0) = rw (s.2, tells) tt in
+    let k : FaultFitsOrAbsent steady expected (itself s.0) = rw (s.2, tells) tt in
     rw s.1 (record { ok = tt; err = k })
 
 -- memory ran out, which says nothing of the zone
-pub memory_full : {B : Type 0} (P : ℕ → ℕ → Type 0) (fault : LoadFault) (result : Result B LoadFault) → itself fault ≡ OutOfMemory → IsErrAnd result (λ e. e ≡ fault) → IfErr result (λ f. IfFull (itself f) P)
+pub memory_full : {B : Type 0} (P : ℕ → ℕ → Type 0) (fault : (Fault Refusal)) (result : Result B (Fault Refusal)) → itself fault ≡ OutOfMemory → IsErrAnd result (λ e. e ≡ fault) → IfErr result (λ f. IfFull (itself f) P)
 memory_full P fault result tells is =
     let s = err_from_is_err_and result is in
     let k : IfFull (itself s.0) P = rw (s.2, tells) tt in
@@ -59,12 +40,12 @@ unstopped : {A : Type 0} (expected : Result A AuditRefusal) (value : A) → stop
 unstopped (Ok found) value e = let same : found ≡ value = cc in ap Ok same
 unstopped (Err refusal) value e = absurd (cc)
 
-module _ (level : ToldScene) (wads : List (List ℕ)) (held : List File) where
+module _ (level : LevelJobValue) (wads : List (List ℕ)) (held : List File) where
   -- the files stopped the loading
-  pub files_stopped : {B D : Type 0} {steady : Bool} {value : B → LoadedValue} {v : D → FilesValue} {r : Result D FilesFault} (fault : FilesFault) (result : Result B LoadFault) →
-      ResultIsOrAbsent itself steady v (files_in level.files wads level.settings.size held) r → r ≡ Err fault → IsErrAnd result (λ e. e ≡ above_files fault) → ResultIsOrAbsent itself steady value (load_in level wads held) result
+  pub files_stopped : {B D : Type 0} {steady : Bool} {value : B → LoadedValue} {v : D → FilesValue} {r : Result D (Fault Refusal)} (fault : (Fault Refusal)) (result : Result B (Fault Refusal)) →
+      ResultIsOrAbsent itself steady v (files_in level.files wads level.settings.size held) r → r ≡ Err fault → IsErrAnd result (λ e. e ≡ fault) → ResultIsOrAbsent itself steady value (load_in level wads held) result
   unfolding load_in
-  files_stopped fault result agrees was is = step_stops_above of_files above_files files_told_above _ fault result agrees was refl is
+  files_stopped fault result agrees was is = step_stops _ fault result agrees was refl is
 
   module _ (found : FilesValue) where
     -- the files were accepted, and the lumps decide
@@ -77,16 +58,18 @@ module _ (level : ToldScene) (wads : List (List ℕ)) (held : List File) where
     audited_of loaded are e = unstopped (audited_in (wad_bytes wads held found.lumps) level found) loaded (sym (files_passed are) ∙ e)
 
     -- the audit stopped the loading
-    pub audit_stopped : {B D : Type 0} {steady later : Bool} {value : B → LoadedValue} {v : D → LoadedValue} {r : Result D AuditFault} (fault : AuditFault) (result : Result B LoadFault) → files_in level.files wads level.settings.size held ≡ Ok found → later ≡ steady →
-        ResultIs itself later v (audited_in (wad_bytes wads held found.lumps) level found) r → r ≡ Err fault → IsErrAnd result (λ e. e ≡ above_audit fault) → ResultIsOrAbsent itself steady value (load_in level wads held) result
-    audit_stopped fault result are same answers was is =
-        rw (files_passed are, ← same)
-        (no_file_agrees (from_below of_audit (audited_in (wad_bytes wads held found.lumps) level found)) result (last_stop of_audit above_audit audit_told_above fault result answers was is))
+    pub audit_stopped : {B D : Type 0} {steady later : Bool} {value : B → LoadedValue} {v : D → LoadedValue} {r : Result D (Fault Refusal)} (fault : Fault Refusal) (result : Result B (Fault Refusal)) → files_in level.files wads level.settings.size held ≡ Ok found → later ≡ steady →
+        ResultIs itself later v (from_below of_audit (audited_in (wad_bytes wads held found.lumps) level found)) r → r ≡ Err fault → IsErrAnd result (λ e. e ≡ fault) → ResultIsOrAbsent itself steady value (load_in level wads held) result
+    audit_stopped {B} {D} {steady} {later} {value} {v} {r} fault result are same answers was is =
+        let s = err_from_is_err_and result is in
+        let h : FaultFits later (from_below of_audit (audited_in (wad_bytes wads held found.lumps) level found)) fault = rw was at answers.err in
+        let k : FaultFits steady (from_below of_audit (audited_in (wad_bytes wads held found.lumps) level found)) (itself s.0) = rw (s.2, ← same) h in
+        rw (files_passed are) (no_file_agrees (from_below of_audit (audited_in (wad_bytes wads held found.lumps) level found)) result (rw s.1 (record { ok = tt; err = k })))
 
     -- all is loaded
-    pub all_loaded : {B : Type 0} {steady : Bool} {value : B → LoadedValue} (loaded : B) → files_in level.files wads level.settings.size held ≡ Ok found → audited_in (wad_bytes wads held found.lumps) level found ≡ Ok (value loaded) →
-        ResultIsOrAbsent {E = LoadFault} itself steady value (load_in level wads held) (Ok loaded)
-    all_loaded {value} loaded are accepted = all_passed _ loaded (files_passed are ∙ ap (λ (r : Result LoadedValue AuditRefusal). stops_of_audit r) accepted)
+    pub all_loaded : {B : Type 0} {steady : Bool} {value : B → LoadedValue} (loaded : B) → files_in level.files wads level.settings.size held ≡ Ok found → from_below of_audit (audited_in (wad_bytes wads held found.lumps) level found) ≡ Ok (value loaded) →
+        ResultIsOrAbsent {E = (Fault Refusal)} itself steady value (load_in level wads held) (Ok loaded)
+    all_loaded {value} loaded are accepted = all_passed _ loaded (files_passed are ∙ ap (λ (r : Result LoadedValue Refusal). no_file r) accepted)
 
     -- the shelf and the cache tell the WADs' bytes
     pub told_wads : {w : ShelfView} {dir : DirectoryView} {z : Heap} → files_in level.files wads level.settings.size held ≡ Ok found →

@@ -1,8 +1,10 @@
 -- What the files of a job over a level give: tables of angles, things, a path, weapons where a file
 -- of them is named, and the lumps of the WADs; or the first step that stops.
-use Rattle.std.specs.Prelude.{◌≡◌, ℕ, List, [], ◌∷◌, Option, Some, None, option_and_then, option_map, Result, Ok, Err, codes, refl}
+use Rattle.std.specs.Prelude.{◌≡◌, ℕ, List, [], ◌∷◌, Option, Some, None, option_and_then, option_map, Result, Ok, Err, IfErr, codes, refl}
 use Rattle.outside.specs.Shelf.{File, file_named}
 use Rattle.outside.specs.Faults.{and_then, from_below}
+use Rattle.outside.specs.declared.fault.Fault.{Fault}
+use Rattle.lump_cache.specs.Calls.{IfFull}
 use Rattle.lump_rules.specs.declared.wad.Lump.{Lump}
 use Rattle.lump_rules.specs.Wads.{directory}
 use Rattle.view_rules.specs.declared.TablesRefusal.{TablesRefusal}
@@ -14,12 +16,12 @@ use Rattle.csv_tables.specs.declared.weapons.WeaponRow.{WeaponRow}
 use Rattle.csv_tables.specs.Things.{things_in_table}
 use Rattle.csv_tables.specs.Paths.{path_in}
 use Rattle.csv_tables.specs.Weapons.{weapons_in}
-use Rattle.command_line.specs.Scenes.{ToldFiles}
-use Rattle.scene_load.specs.declared.fault.FilesRefusal.{FilesRefusal}
-use Rattle.scene_load.specs.declared.fault.FilesRefusal.TheVariants.{Tables, Things, Path, Weapons, Wad}
+use Rattle.command_line.specs.LevelJobs.{FileNames}
+use Rattle.refusals.specs.declared.refusal.Refusal.{Refusal}
+use Rattle.refusals.specs.declared.refusal.Refusal.TheVariants.{Tables, Things, Path, Weapons, Wad}
 use Rattle.scene_load.specs.declared.read.SceneFiles.{SceneFiles}
 use Rattle.scene_load.specs.declared.texts.TextTables.{TextTables}
-use Rattle.scene_load.specs.Stops.{Stop, absent, else_absent, no_file}
+use Rattle.outside.specs.Stops.{Stop, absent, else_absent, no_file}
 
 -- what the files give, but for the bytes of lumps
 pub record FilesValue : Type 0 where
@@ -38,6 +40,10 @@ value_of files = record {
   lumps = files.dir.lumps;
 }
 
+-- a call that puts nothing into a zone never tells that one is full
+abbrev pub IsNeverFull : {B R : Type 0} → Result B (Fault R) → Type 0
+IsNeverFull result = IfErr result (λ fault. IfFull fault (λ wanted widest'. ⊥))
+
 -- the value, unless there is a refusal
 abbrev pub unless_refused : {A R : Type 0} → Option R → A → Result A R
 unless_refused None value = Ok value
@@ -48,27 +54,27 @@ unfoldable pub tables_in : ℕ → List ℕ → Result TablesValue TablesRefusal
 tables_in size bytes = unless_refused (tables_refusal bytes size) (record { angles = angles_in bytes; size = size })
 
 -- what the bytes of each kind of file give
-abbrev pub tables_file : ℕ → List ℕ → Result TablesValue FilesRefusal
+abbrev pub tables_file : ℕ → List ℕ → Result TablesValue Refusal
 tables_file size bytes = from_below Tables (tables_in size bytes)
 
-abbrev pub things_file : List ℕ → Result (List ThingLine) FilesRefusal
+abbrev pub things_file : List ℕ → Result (List ThingLine) Refusal
 things_file bytes = from_below Things (things_in_table bytes)
 
-abbrev pub path_file : List ℕ → Result (List PathRow) FilesRefusal
+abbrev pub path_file : List ℕ → Result (List PathRow) Refusal
 path_file bytes = from_below Path (path_in bytes)
 
-abbrev pub weapons_file : List ℕ → Result (List WeaponRow) FilesRefusal
+abbrev pub weapons_file : List ℕ → Result (List WeaponRow) Refusal
 weapons_file bytes = from_below Weapons (weapons_in bytes)
 
-abbrev pub wad_files : List (List ℕ) → Result (List Lump) FilesRefusal
+abbrev pub wad_files : List (List ℕ) → Result (List Lump) Refusal
 wad_files contents = from_below Wad (directory contents)
 
 -- what a named file gives
-unfoldable pub in_file : {A : Type 0} → (List ℕ → Result A FilesRefusal) → List ℕ → List File → Result A (Stop FilesRefusal)
+unfoldable pub in_file : {A : Type 0} → (List ℕ → Result A Refusal) → List ℕ → List File → Result A (Stop Refusal)
 in_file read name files = and_then (else_absent (file_named name files)) (λ bytes. no_file (read bytes))
 
 -- a file that need not be named
-unfoldable pub in_optional_file : {A : Type 0} → (List ℕ → Result A FilesRefusal) → Option (List ℕ) → List File → Result (Option A) (Stop FilesRefusal)
+unfoldable pub in_optional_file : {A : Type 0} → (List ℕ → Result A Refusal) → Option (List ℕ) → List File → Result (Option A) (Stop Refusal)
 in_optional_file read None files = Ok None
 in_optional_file read (Some name) files = and_then (in_file read name files) (λ value. Ok (Some value))
 
@@ -79,11 +85,11 @@ files_named (name ∷ names) files =
     option_and_then (λ bytes. option_map (λ others. bytes ∷ others) (files_named names files)) (file_named name files)
 
 -- the lumps of the WADs of these names
-unfoldable pub lumps_in : List (List ℕ) → List File → Result (List Lump) (Stop FilesRefusal)
+unfoldable pub lumps_in : List (List ℕ) → List File → Result (List Lump) (Stop Refusal)
 lumps_in names files = and_then (else_absent (files_named names files)) (λ contents. no_file (wad_files contents))
 
 -- the tables of text: things, path, and weapons
-unfoldable pub texts_in : ToldFiles → List File → Result TextTables (Stop FilesRefusal)
+unfoldable pub texts_in : FileNames → List File → Result TextTables (Stop Refusal)
 texts_in names files =
     and_then (in_file things_file names.things files) (λ things.
     and_then (in_file path_file names.path files) (λ path.
@@ -91,7 +97,7 @@ texts_in names files =
     Ok (record { things = things; path = path; weapons = weapons }))))
 
 -- all of them in the order in which they are asked for and read: tables, texts, WADs
-unfoldable pub files_in : ToldFiles → List (List ℕ) → ℕ → List File → Result FilesValue (Stop FilesRefusal)
+unfoldable pub files_in : FileNames → List (List ℕ) → ℕ → List File → Result FilesValue (Stop Refusal)
 files_in names wads size files =
     and_then (in_file (tables_file size) names.tables files) (λ tables.
     and_then (texts_in names files) (λ texts.

@@ -1,5 +1,5 @@
 -- When the zone is full while a scene is loaded.
-use Rattle.std.specs.Prelude.{◌≡◌, ◌<◌, ◌+◌, ℕ, List, Option, Some, Ok, ◌⊎◌}
+use Rattle.std.specs.Prelude.{◌≡◌, ◌≢◌, ◌<◌, ◌≤◌, ◌+◌, ℕ, List, Option, Some, Ok, ◌⊎◌}
 use Rattle.outside.specs.Shelf.{File}
 use Rattle.lump_rules.specs.declared.wad.Lump.{Lump}
 use Rattle.lump_rules.specs.Lookups.{lump_at}
@@ -7,25 +7,33 @@ use Rattle.zone_rules.specs.declared.TheConstants.{MIN_FRAGMENT}
 use Rattle.zone_rules.specs.Zones.{block_size}
 use Rattle.csv_tables.specs.declared.weapons.WeaponRow.{WeaponRow}
 use Rattle.sprite_book.specs.Calls.{IsWanted}
-use Rattle.command_line.specs.Scenes.{ToldScene}
+use Rattle.command_line.specs.LevelJobs.{LevelJobValue}
 use Rattle.scene_load.specs.Files.{FilesValue, files_in}
 use Rattle.scene_rules.specs.Scenes.{colormap_of}
+use Rattle.level_audit.specs.Asked.{IsOfBase}
 use Rattle.level_audit.specs.Reads.{IsReadBy}
 use Rattle.level_audit.specs.Weapons.{weapon_needs}
 use Rattle.scene_load.specs.Loads.{LoadedValue, audited_in, load_in, loaded_sizes, wad_bytes}
+
+-- The block of COLORMAP and that of any other lump of colours, of the map or of the lists are together
+-- no larger than the zone.
+abbrev pub IsBaseWithin : List Lump → LevelJobValue → ℕ → Type 0
+IsBaseWithin lumps level colormap =
+    (lump : ℕ) → IsOfBase lumps level.map_name lump → lump ≢ colormap →
+    block_size (lump_at lumps colormap).size + block_size (lump_at lumps lump).size ≤ level.settings.zone
 
 -- a picture of a weapon layer
 abbrev pub IsOfLayers : List Lump → Option (List WeaponRow) → ℕ → Type 0
 IsOfLayers lumps weapons lump = (rows : List WeaponRow) × (weapons ≡ Some rows) × IsWanted lumps (weapon_needs rows) lump
 
 -- a lump that loading reads: one of the audit, or a picture of a weapon layer
-abbrev pub IsReadFor : (ℕ → List ℕ) → ToldScene → FilesValue → ℕ → Type 0
+abbrev pub IsReadFor : (ℕ → List ℕ) → LevelJobValue → FilesValue → ℕ → Type 0
 IsReadFor bytes level found lump =
     IsReadBy bytes found.lumps found.things level.map_name level.settings.skill lump ⊎ IsOfLayers found.lumps found.weapons lump
 
 -- No gap held the block of a lump that is read, whose bytes are these. The zone does not hold it beside
 -- COLORMAP; and where nothing refuses, the zone is smaller than enough.
-pub record IsFullOver (bytes : ℕ → List ℕ) (level : ToldScene) (found : FilesValue) (wanted widest' : ℕ) : Type 0 where
+pub record IsFullOver (bytes : ℕ → List ℕ) (level : LevelJobValue) (found : FilesValue) (wanted widest' : ℕ) : Type 0 where
   pub lump : ℕ
   pub asked : IsReadFor bytes level found lump
   pub wanted_is : wanted ≡ block_size (lump_at found.lumps lump).size
@@ -37,7 +45,7 @@ pub record IsFullOver (bytes : ℕ → List ℕ) (level : ToldScene) (found : Fi
 
 -- The files are in order, and no gap held the block of a lump that is read. The zone does not hold it
 -- beside COLORMAP; and where nothing refuses, the zone is smaller than enough.
-pub record IsFullLoad (level : ToldScene) (wads : List (List ℕ)) (files : List File) (wanted widest' : ℕ) : Type 0 where
+pub record IsFullLoad (level : LevelJobValue) (wads : List (List ℕ)) (files : List File) (wanted widest' : ℕ) : Type 0 where
   pub found : FilesValue
   pub are : files_in level.files wads level.settings.size files ≡ Ok found
   pub lump : ℕ

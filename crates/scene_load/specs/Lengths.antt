@@ -8,8 +8,8 @@ use Rattle.csv_tables.specs.declared.fault.CsvRefusal.{CsvRefusal}
 use Rattle.csv_tables.specs.declared.fault.CsvRefusal.TheVariants.{TooLong}
 use Rattle.scene_load.specs.declared.named.FileKind.{FileKind}
 use Rattle.scene_load.specs.declared.named.FileKind.TheVariants as kind
-use Rattle.scene_load.specs.declared.fault.FilesRefusal.{FilesRefusal}
-use Rattle.scene_load.specs.declared.fault.FilesRefusal.TheVariants.{Tables, Things, Path, Weapons}
+use Rattle.refusals.specs.declared.refusal.Refusal.{Refusal}
+use Rattle.refusals.specs.declared.refusal.Refusal.TheVariants.{Tables, Things, Path, Weapons}
 use Rattle.scene_load.specs.Files.{unless_refused}
 
 -- a file of tables of angles has one length
@@ -21,14 +21,14 @@ unfoldable pub text_length_refusal : ℕ → Option CsvRefusal
 text_length_refusal size = cond (nat_lt MAX_TABLE_BYTES size) (Some (TooLong size)) None
 
 -- the refusal of a length
-unfoldable pub length_refusal : FileKind → ℕ → Option FilesRefusal
+unfoldable pub length_refusal : FileKind → ℕ → Option Refusal
 length_refusal kind.Tables size = option_map Tables (tables_length_refusal size)
 length_refusal kind.Things size = option_map Things (text_length_refusal size)
 length_refusal kind.Path size = option_map Path (text_length_refusal size)
 length_refusal kind.Weapons size = option_map Weapons (text_length_refusal size)
 
 -- the bytes of a file, unless its length is refused
-unfoldable pub bytes_in : FileKind → List ℕ → Result (List ℕ) FilesRefusal
+unfoldable pub bytes_in : FileKind → List ℕ → Result (List ℕ) Refusal
 bytes_in kind bytes = unless_refused (length_refusal kind (length bytes)) bytes
 
 -- how many bytes a file has at most that is not refused for its length

@@ -1,7 +1,5 @@
-pub mod Faults
 pub mod Files
 pub mod Found
 pub mod Fulls
 pub mod Lengths
 pub mod Loads
-pub mod Stops

@@ -8,10 +8,10 @@ use Rattle.lump_rules.specs.Contents.{lump_bytes}
 use Rattle.csv_tables.specs.declared.weapons.WeaponRow.{WeaponRow}
 use Rattle.art_rules.specs.declared.shapes.Frame.{Frame}
 use Rattle.art_rules.specs.Books.{book_lumps}
-use Rattle.command_line.specs.Scenes.{ToldScene}
-use Rattle.scene_load.specs.declared.fault.FilesRefusal.{FilesRefusal}
+use Rattle.command_line.specs.LevelJobs.{LevelJobValue}
+use Rattle.refusals.specs.declared.refusal.Refusal.{Refusal}
 use Rattle.scene_load.specs.Files.{FilesValue, files_in, files_named, value_of}
-use Rattle.scene_load.specs.Stops.{Stop, no_file, stop_above}
+use Rattle.outside.specs.Stops.{Stop, no_file}
 use Rattle.scene_rules.specs.declared.ZoneSizes.{ZoneSizes}
 use Rattle.scene_rules.specs.declared.refusal.AuditRefusal.{AuditRefusal}
 use Rattle.scene_rules.specs.declared.refusal.AuditRefusal.TheVariants.{WeaponArt}
@@ -19,8 +19,7 @@ use Rattle.scene_rules.specs.Scenes.{SceneValue, scene_in}
 use Rattle.scene_rules.specs.Sizes.{needed_lumps, zone_sizes}
 use Rattle.level_audit.specs.Sound.{SoundValue, art_with, with_book}
 use Rattle.level_audit.specs.Weapons.{weapon_book}
-use Rattle.refusals.specs.declared.refusal.Refusal.{Refusal}
-use Rattle.refusals.specs.Groups.{of_audit, of_files}
+use Rattle.refusals.specs.Groups.{of_audit}
 use Rattle.scene_load.specs.declared.load.LoadedScene.{LoadedScene}
 
 -- what is loaded: what the files give, the scene, and the book of the weapon layers, where a file of
@@ -49,10 +48,6 @@ wad_contents wads files = unwrap_or (files_named wads files) []
 abbrev pub wad_bytes : List (List ℕ) → List File → List Lump → ℕ → List ℕ
 wad_bytes wads files lumps = lump_bytes (wad_contents wads files) lumps
 
--- stops of the files, in the words of a run
-abbrev pub stops_of_files : {A : Type 0} → Result A (Stop FilesRefusal) → Result A (Stop Refusal)
-stops_of_files expected = from_below (stop_above of_files) expected
-
 -- checks of lumps ask for no file
 abbrev pub stops_of_audit : {A : Type 0} → Result A AuditRefusal → Result A (Stop Refusal)
 stops_of_audit expected = no_file (from_below of_audit expected)
@@ -63,16 +58,16 @@ weapons_of bytes lumps None = Ok None
 weapons_of bytes lumps (Some rows) = and_then (from_below WeaponArt (weapon_book bytes lumps rows)) (λ book. Ok (Some book))
 
 -- the scene of the level, and then the weapon layers, over the lumps of the files
-unfoldable pub audited_in : (ℕ → List ℕ) → ToldScene → FilesValue → Result LoadedValue AuditRefusal
+unfoldable pub audited_in : (ℕ → List ℕ) → LevelJobValue → FilesValue → Result LoadedValue AuditRefusal
 audited_in bytes level found =
     and_then (scene_in bytes found.lumps found.things level.map_name level.settings.skill) (λ scene.
     and_then (weapons_of bytes found.lumps found.weapons) (λ weapons.
     Ok (record { files = found; scene = scene; weapons = weapons })))
 
 -- all steps: the files in their order, then the lumps
-unfoldable pub load_in : ToldScene → List (List ℕ) → List File → Result LoadedValue (Stop Refusal)
+unfoldable pub load_in : LevelJobValue → List (List ℕ) → List File → Result LoadedValue (Stop Refusal)
 load_in level wads files =
-    and_then (stops_of_files (files_in level.files wads level.settings.size files)) (λ found.
+    and_then (files_in level.files wads level.settings.size files) (λ found.
     stops_of_audit (audited_in (wad_bytes wads files found.lumps) level found))
 
 -- the lumps of the pictures of a scene and of its weapon layers

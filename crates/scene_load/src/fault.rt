@@ -1,43 +1,38 @@
-// What stops the loading of a scene.
+// Why the files and the scene of a job over a level are not loaded.
 ghost use Rattle.std.specs.Prelude.{◌≡◌};
-ghost use Rattle.scene_load.specs.Faults.{above_audit, above_files};
+ghost use Rattle.outside.specs.Faults.{fault_above};
+ghost use Rattle.wad_dir.specs.Faults.{dir_fault};
+ghost use Rattle.refusals.specs.declared.refusal.Refusal.TheVariants.{Wad};
+ghost use Rattle.refusals.specs.Groups.{of_audit};
 
 use level_audit::AuditFault;
+use outside::Fault;
 use refusals::Refusal;
-use crate::FilesFault;
+use wad_dir::DirFault;
 
-/// What stops the loading of a scene: the bytes of the files, a call of the shelf that failed, a zone
-/// without room (the size of a lump's block with its header, and the widest gap, in bytes), or want
-/// of memory.
-#[derive(Clone, Copy, Debug, PartialEq, Eq, Drop)]
-pub enum LoadFault {
-    Refused(Refusal),
-    ReadFault,
-    ZoneFull { wanted: u64, widest: u64 },
-    OutOfMemory,
-}
+/// Why there is no scene: the first refusal of the files' bytes, a file that is absent or could not
+/// be read, a zone without room for a lump, or out of memory.
+pub type LoadFault = Fault<Refusal>;
 
-impl From<FilesFault> for LoadFault {
-    ghost from_gives = { λ below fault. fault ≡ above_files below };
-
-    fn from(below: FilesFault) -> Self {
-        match below {
-            FilesFault::Refused(refusal) => LoadFault::Refused(Refusal::from(refusal)),
-            FilesFault::ReadFault => LoadFault::ReadFault,
-            FilesFault::OutOfMemory => LoadFault::OutOfMemory,
-        }
+/// A fault of a directory as that of the files.
+pub(crate) fn wad_fault(fault: DirFault) -> LoadFault
+    ensures { result ≡ fault_above Wad (dir_fault fault) }
+{
+    match fault {
+        DirFault::Refused(refusal) => Fault::Refused(Refusal::Wad(refusal)),
+        DirFault::ReadFault => Fault::ReadFault,
+        DirFault::OutOfMemory => Fault::OutOfMemory,
     }
 }
 
-impl From<AuditFault> for LoadFault {
-    ghost from_gives = { λ below fault. fault ≡ above_audit below };
-
-    fn from(below: AuditFault) -> Self {
-        match below {
-            AuditFault::Refused(refusal) => LoadFault::Refused(Refusal::from(refusal)),
-            AuditFault::ReadFault => LoadFault::ReadFault,
-            AuditFault::ZoneFull { wanted, widest } => LoadFault::ZoneFull { wanted, widest },
-            AuditFault::OutOfMemory => LoadFault::OutOfMemory,
-        }
+/// A fault of an audit as that of a scene.
+pub(crate) fn audit_fault(fault: AuditFault) -> LoadFault
+    ensures { result ≡ fault_above of_audit fault }
+{
+    match fault {
+        Fault::Refused(refusal) => Fault::Refused(Refusal::from(refusal)),
+        Fault::ReadFault => Fault::ReadFault,
+        Fault::ZoneFull { wanted, widest } => Fault::ZoneFull { wanted, widest },
+        Fault::OutOfMemory => Fault::OutOfMemory,
     }
 }

@@ -3,26 +3,28 @@
 // Rules: specs, Loads and Fulls. The original: `D_DoomMain`, d_main.c, `P_SetupLevel`, p_setup.c.
 ghost use Rattle.std.specs.Prelude.{◌≡◌, ◌<◌, ◌≤◌, ◌^◌, ℕ, List, length, map, IfOk, IfErr};
 ghost use Rattle.outside.specs.Shelf.{NameFiles, File, IsLaterShelf, Holds};
-ghost use Rattle.outside.specs.Faults.{ResultIs, HasCauses, itself};
+ghost use Rattle.outside.specs.Faults.{ResultIs, HasCauses, from_below, itself};
+ghost use Rattle.outside.specs.declared.fault.Fault.TheVariants.{OutOfMemory};
 ghost use Rattle.lump_rules.specs.Contents.{AllWithin, lump_bytes};
 ghost use Rattle.lump_rules.specs.Lookups.{lump_at};
 ghost use Rattle.zone_rules.specs.Zones.{IsZoneSize};
 ghost use Rattle.view_rules.specs.declared.TheConstants.{MIN_SIZE, MAX_SIZE};
 ghost use Rattle.lump_cache.specs.Caches.{IsAtRest, IsEmpty, IsFaithful, KeepsCounts};
 ghost use Rattle.lump_cache.specs.Calls.{IfFull, HoldContents, ReadsLumps};
-ghost use Rattle.command_line.specs.Scenes.{told_scene};
+ghost use Rattle.command_line.specs.LevelJobs.{level_job_value};
+ghost use Rattle.refusals.specs.Groups.{of_audit};
 ghost use Rattle.scene_load.specs.Files.{files_named, value_of};
-ghost use Rattle.scene_load.specs.Stops.{ResultIsOrAbsent};
-ghost use Rattle.scene_load.specs.Fulls.{IsFullLoad, IsFullOver, IsOfLayers};
+ghost use Rattle.outside.specs.Stops.{ResultIsOrAbsent};
+ghost use Rattle.scene_load.specs.Fulls.{IsBaseWithin, IsFullLoad, IsFullOver, IsOfLayers};
 ghost use Rattle.scene_load.specs.Loads.{audited_in, audited_value, load_in, loaded_lumps, loaded_sizes, loaded_value, weapons_of, with_layers};
 
-use crate::LoadFault;
-use command_line::Scene;
+use crate::fault::audit_fault;
+use crate::{LoadFault, SceneFiles, read_files};
+use command_line::LevelJob;
 use csv_tables::WeaponTable;
 use level_audit::{AuditFault, SoundScene, audit, audit_weapons};
 use lump_cache::LumpCache;
-use outside::Shelf;
-use crate::{SceneFiles, read_files};
+use outside::{Fault, Shelf};
 use sprite_book::SpriteBook;
 use std::alloc::Global;
 use wad_dir::Directory;
@@ -59,7 +61,7 @@ pub struct LoadedScene {
 /// The original: `D_DoomMain`, d_main.c, with `R_Init`, r_main.c, and `P_SetupLevel`, p_setup.c.
 pub fn load_scene<S: Shelf>(
     alloc: Global,
-    level: &Scene<'_>,
+    level: &LevelJob<'_>,
     wads: &[&str],
     shelf: &mut S,
 ) -> Result<LoadedScene, LoadFault>
@@ -68,23 +70,26 @@ pub fn load_scene<S: Shelf>(
     requires least { MIN_SIZE ≤ level.now.settings.size }
     requires greatest { level.now.settings.size ≤ MAX_SIZE }
     ensures answers { (files : List File) → Holds (S.view shelf.old) files →
-        ResultIsOrAbsent itself (S.view shelf.old).steady loaded_value (load_in (told_scene level.now) (map (λ wad. wad.now) wads.now) files) result }
+        ResultIsOrAbsent itself (S.view shelf.old).steady loaded_value (load_in (level_job_value level.now) (map (λ wad. wad.now) wads.now) files) result }
     ensures named { IfOk result (λ loaded. loaded.scene.named ≡ loaded_lumps (loaded_value loaded)) }
     ensures sizes { IfOk result (λ loaded. loaded.scene.sizes ≡ loaded_sizes (loaded_value loaded)) }
     ensures full { (files : List File) → Holds (S.view shelf.old) files →
-        IfErr result (λ fault. IfFull (itself fault) (IsFullLoad (told_scene level.now) (map (λ wad. wad.now) wads.now) files)) }
+        IfErr result (λ fault. IfFull (itself fault) (IsFullLoad (level_job_value level.now) (map (λ wad. wad.now) wads.now) files)) }
     ensures rest { IfOk result (λ loaded. IsAtRest loaded.scene.scene.base.colormap (lump_at loaded.files.dir.lumps loaded.scene.scene.base.colormap).size loaded.cache) }
     ensures contents { (files : List File) (contents : List (List ℕ)) → Holds (S.view shelf.old) files →
         files_named (map (λ wad. wad.now) wads.now) files ≡ Some contents →
         IfOk result (λ loaded. NameFiles (S.view shelf.new) loaded.files.dir.files contents × AllWithin contents loaded.files.dir.lumps × IsFaithful contents loaded.files.dir.lumps loaded.cache) }
     ensures slots { IfOk result (λ loaded. length loaded.files.dir.lumps ≤ loaded.cache.lumps) }
     ensures zone { IfOk result (λ loaded. loaded.cache.size ≡ level.now.settings.zone) }
+    ensures composites { IfOk result (λ loaded. loaded.cache.composites ≡ COMPOSITE_SLOTS) }
+    ensures fits { IfOk result (λ loaded. IsBaseWithin loaded.files.dir.lumps
+        (level_job_value level.now) loaded.scene.scene.base.colormap) }
     ensures follows { IsLaterShelf (S.view shelf.old) (S.view shelf.new) }
     ensures causes { HasCauses itself (S.view shelf.old).faults (S.view shelf.new).faults result }
 {
     let files = read_files(alloc, &level.files, wads, level.settings.size, shelf)?;
     let mut cache = make_cache(alloc, &files.dir, level.settings.zone)?;
-    let (scene, weapons) = audit_files(alloc, level, &files, &mut cache, shelf)?;
+    let (scene, weapons) = audit_level(alloc, level, &files, &mut cache, shelf)?;
     Ok(LoadedScene {
         files,
         cache,
@@ -94,27 +99,70 @@ pub fn load_scene<S: Shelf>(
 }
 
 // A cache over a zone of that size, without a live slot.
-fn make_cache(alloc: Global, dir: &Directory, size: u32) -> Result<LumpCache, AuditFault>
+fn make_cache(alloc: Global, dir: &Directory, size: u32) -> Result<LumpCache, LoadFault>
     requires zone { IsZoneSize size }
     requires few { length dir.now.lumps < 2 ^ 16 }
-    ensures memory { IfErr result (λ fault. fault ≡ AuditFault.OutOfMemory) }
+    ensures memory { IfErr result (λ fault. fault ≡ OutOfMemory) }
     ensures empty { IfOk result IsEmpty }
     ensures size { IfOk result (λ cache. cache.size ≡ size) }
     ensures slots { IfOk result (λ cache. cache.lumps ≡ length dir.now.lumps) }
+    ensures composites { IfOk result (λ cache. cache.composites ≡ COMPOSITE_SLOTS) }
     ensures faithful { (contents : List (List ℕ)) →
         IfOk result (IsFaithful contents dir.now.lumps) }
 {
     match LumpCache::new(alloc, dir, size, COMPOSITE_SLOTS) {
         Ok(cache) => Ok(cache),
         Err(ZoneMake::BadSize) => unreachable!(),
-        Err(ZoneMake::OutOfMemory) => Err(AuditFault::OutOfMemory),
+        Err(ZoneMake::OutOfMemory) => Err(Fault::OutOfMemory),
     }
+}
+
+// The audit of the level, and the pictures of its weapon layers, with the faults of loading.
+fn audit_level<S: Shelf>(
+    alloc: Global,
+    level: &LevelJob<'_>,
+    files: &SceneFiles,
+    cache: &mut LumpCache,
+    shelf: &mut S,
+) -> Result<(SoundScene, Option<SpriteBook>), LoadFault>
+    requires skill { (1 ≤ level.now.settings.skill) × (level.now.settings.skill ≤ 5) }
+    requires slots { length files.now.dir.lumps ≤ cache.old.lumps }
+    requires empty { IsEmpty cache.old }
+    requires size { cache.old.size ≡ level.now.settings.zone }
+    ensures answers { (contents : List (List ℕ)) →
+        HoldContents (S.view shelf.old) files.now.dir cache.old contents →
+        ResultIs itself (S.view shelf.old).steady (audited_value (value_of files.now))
+        (from_below of_audit (audited_in (lump_bytes contents files.now.dir.lumps)
+        (level_job_value level.now) (value_of files.now))) result }
+    ensures named { IfOk result (λ audited.
+        audited.0.named ≡ loaded_lumps (audited_value (value_of files.now) audited)) }
+    ensures sizes { IfOk result (λ audited.
+        audited.0.sizes ≡ loaded_sizes (audited_value (value_of files.now) audited)) }
+    ensures full { (contents : List (List ℕ)) →
+        HoldContents (S.view shelf.old) files.now.dir cache.old contents →
+        IfErr result (λ fault. IfFull (itself fault)
+        (IsFullOver (lump_bytes contents files.now.dir.lumps) (level_job_value level.now)
+        (value_of files.now))) }
+    ensures rest { IfOk result (λ audited. IsAtRest audited.0.scene.base.colormap
+        (lump_at files.now.dir.lumps audited.0.scene.base.colormap).size cache.new) }
+    ensures fits { IfOk result (λ audited. IsBaseWithin files.now.dir.lumps
+        (level_job_value level.now) audited.0.scene.base.colormap) }
+    ensures counts { KeepsCounts cache.old cache.new }
+    ensures faithful { (contents : List (List ℕ)) →
+        NameFiles (S.view shelf.old) files.now.dir.files contents →
+        IsFaithful contents files.now.dir.lumps cache.old →
+        IsFaithful contents files.now.dir.lumps cache.new }
+    ensures follows { IsLaterShelf (S.view shelf.old) (S.view shelf.new) }
+    ensures causes { HasCauses itself
+        (S.view shelf.old).faults (S.view shelf.new).faults result }
+{
+    audit_files(alloc, level, files, cache, shelf).map_err(audit_fault)
 }
 
 // The audit of the level, and the pictures of its weapon layers, where there are some.
 fn audit_files<S: Shelf>(
     alloc: Global,
-    level: &Scene<'_>,
+    level: &LevelJob<'_>,
     files: &SceneFiles,
     cache: &mut LumpCache,
     shelf: &mut S,
@@ -126,7 +174,7 @@ fn audit_files<S: Shelf>(
     ensures answers { (contents : List (List ℕ)) →
         HoldContents (S.view shelf.old) files.now.dir cache.old contents →
         ResultIs itself (S.view shelf.old).steady (audited_value (value_of files.now))
-        (audited_in (lump_bytes contents files.now.dir.lumps) (told_scene level.now)
+        (audited_in (lump_bytes contents files.now.dir.lumps) (level_job_value level.now)
         (value_of files.now)) result }
     ensures named { IfOk result (λ audited.
         audited.0.named ≡ loaded_lumps (audited_value (value_of files.now) audited)) }
@@ -135,10 +183,12 @@ fn audit_files<S: Shelf>(
     ensures full { (contents : List (List ℕ)) →
         HoldContents (S.view shelf.old) files.now.dir cache.old contents →
         IfErr result (λ fault. IfFull (itself fault)
-        (IsFullOver (lump_bytes contents files.now.dir.lumps) (told_scene level.now)
+        (IsFullOver (lump_bytes contents files.now.dir.lumps) (level_job_value level.now)
         (value_of files.now))) }
     ensures rest { IfOk result (λ audited. IsAtRest audited.0.scene.base.colormap
         (lump_at files.now.dir.lumps audited.0.scene.base.colormap).size cache.new) }
+    ensures fits { IfOk result (λ audited. IsBaseWithin files.now.dir.lumps
+        (level_job_value level.now) audited.0.scene.base.colormap) }
     ensures counts { KeepsCounts cache.old cache.new }
     ensures faithful { (contents : List (List ℕ)) →
         NameFiles (S.view shelf.old) files.now.dir.files contents →

@@ -2,13 +2,13 @@
 ghost use Rattle.std.specs.Prelude.{◌≡◌, ◌≤◌, ◌+◌, ℕ, List, length, Ok, IfOk};
 ghost use Rattle.outside.specs.Shelf.{File, IsLaterShelf, Holds, Stands};
 ghost use Rattle.outside.specs.Faults.{ResultIs, HasCauses, itself};
-ghost use Rattle.scene_load.specs.Files.{in_file, unless_refused};
+ghost use Rattle.scene_load.specs.Files.{IsNeverFull, in_file, unless_refused};
 ghost use Rattle.scene_load.specs.Lengths.{bytes_in, length_refusal, most_bytes, tables_length_refusal, text_length_refusal};
-ghost use Rattle.scene_load.specs.Stops.{ResultIsOrAbsent};
+ghost use Rattle.outside.specs.Stops.{ResultIsOrAbsent};
 
-use crate::{FilesFault, FilesRefusal};
+use crate::{LoadFault, Refusal};
 use csv_tables::{CsvRefusal, MAX_TABLE_BYTES};
-use outside::{FileNo, OutOfMemory, Shelf};
+use outside::{Fault, FileNo, Shelf};
 use std::alloc::Global;
 use view_rules::{TABLES_BYTES, TablesRefusal};
 
@@ -27,10 +27,11 @@ pub fn read_named<S: Shelf>(
     shelf: &mut S,
     name: &str,
     kind: FileKind,
-) -> Result<Vec<u8>, FilesFault>
+) -> Result<Vec<u8>, LoadFault>
     ensures answers { (files : List File) → Holds (S.view shelf.old) files →
         ResultIsOrAbsent itself (S.view shelf.old).steady (λ bytes. bytes.items)
         (in_file (bytes_in kind) name.now files) result }
+    ensures full { IsNeverFull result }
     ensures follows { IsLaterShelf (S.view shelf.old) (S.view shelf.new) }
     ensures causes { HasCauses itself
         (S.view shelf.old).faults (S.view shelf.new).faults result }
@@ -46,18 +47,21 @@ fn read_file<S: Shelf>(
     shelf: &mut S,
     file: FileNo,
     kind: FileKind,
-) -> Result<Vec<u8>, FilesFault>
+) -> Result<Vec<u8>, LoadFault>
     ensures answers { (bytes : List ℕ) → Stands (S.view shelf.old) file.0 bytes →
         ResultIs itself (S.view shelf.old).steady (λ found. found.items)
         (bytes_in kind bytes) result }
+    ensures full { IsNeverFull result }
     ensures follows { IsLaterShelf (S.view shelf.old) (S.view shelf.new) }
     ensures causes { HasCauses itself
         (S.view shelf.old).faults (S.view shelf.new).faults result }
     ensures taken { (S.view shelf.new).taken ≤ (S.view shelf.old).taken + most_bytes kind }
 {
     let size = shelf.size_of(file)?;
-    let count = check_length(kind, size)?;
-    read_whole(alloc, shelf, file, count)
+    match check_length(kind, size) {
+        Ok(count) => read_whole(alloc, shelf, file, count),
+        Err(refusal) => Err(Fault::Refused(refusal)),
+    }
 }
 
 // All bytes of a file that has so many.
@@ -66,10 +70,11 @@ fn read_whole<S: Shelf>(
     shelf: &mut S,
     file: FileNo,
     size: usize,
-) -> Result<Vec<u8>, FilesFault>
+) -> Result<Vec<u8>, LoadFault>
     ensures answers { (bytes : List ℕ) →
         Stands (S.view shelf.old) file.0 bytes → length bytes ≡ size →
         ResultIs itself (S.view shelf.old).steady (λ found. found.items) (Ok bytes) result }
+    ensures full { IsNeverFull result }
     ensures follows { IsLaterShelf (S.view shelf.old) (S.view shelf.new) }
     ensures causes { HasCauses itself
         (S.view shelf.old).faults (S.view shelf.new).faults result }
@@ -82,7 +87,7 @@ fn read_whole<S: Shelf>(
 
 // The length of a file, where it is not refused.
 #[tactic(auto, unfolding(crate::specs::Lengths::length_refusal, crate::specs::Lengths::tables_length_refusal, crate::specs::Lengths::text_length_refusal))]
-fn check_length(kind: FileKind, size: u64) -> Result<usize, FilesRefusal>
+fn check_length(kind: FileKind, size: u64) -> Result<usize, Refusal>
     ensures value { result ≡ unless_refused (length_refusal kind size) size }
     ensures most { IfOk result (λ same. same ≤ most_bytes kind) }
 {
@@ -94,14 +99,14 @@ fn check_length(kind: FileKind, size: u64) -> Result<usize, FilesRefusal>
 
 // The refusal of a length.
 #[tactic(auto, unfolding(crate::specs::Lengths::length_refusal))]
-fn length_refusal(kind: FileKind, size: u64) -> Option<FilesRefusal>
+fn length_refusal(kind: FileKind, size: u64) -> Option<Refusal>
     ensures { result ≡ length_refusal kind size }
 {
     match kind {
-        FileKind::Tables => Some(FilesRefusal::Tables(tables_length_refusal(size)?)),
-        FileKind::Things => Some(FilesRefusal::Things(text_length_refusal(size)?)),
-        FileKind::Path => Some(FilesRefusal::Path(text_length_refusal(size)?)),
-        FileKind::Weapons => Some(FilesRefusal::Weapons(text_length_refusal(size)?)),
+        FileKind::Tables => Some(Refusal::Tables(tables_length_refusal(size)?)),
+        FileKind::Things => Some(Refusal::Things(text_length_refusal(size)?)),
+        FileKind::Path => Some(Refusal::Path(text_length_refusal(size)?)),
+        FileKind::Weapons => Some(Refusal::Weapons(text_length_refusal(size)?)),
     }
 }
 

@@ -5,11 +5,11 @@ ghost use Rattle.outside.specs.Faults.{HasCauses, itself};
 ghost use Rattle.lump_rules.specs.Contents.{AllWithin};
 ghost use Rattle.lump_rules.specs.Wads.{listing_sizes};
 ghost use Rattle.view_rules.specs.declared.TheConstants.{MIN_SIZE, MAX_SIZE};
-ghost use Rattle.command_line.specs.Scenes.{told_files};
-ghost use Rattle.scene_load.specs.Files.{files_in, files_named, value_of};
-ghost use Rattle.scene_load.specs.Stops.{ResultIsOrAbsent};
+ghost use Rattle.command_line.specs.LevelJobs.{file_names};
+ghost use Rattle.scene_load.specs.Files.{IsNeverFull, files_in, files_named, value_of};
+ghost use Rattle.outside.specs.Stops.{ResultIsOrAbsent};
 
-use crate::FilesFault;
+use crate::LoadFault;
 use crate::tables::load_tables;
 use crate::texts::{TextTables, load_texts};
 use crate::wads::load_wads;
@@ -53,12 +53,12 @@ pub fn read_files<S: Shelf>(
     wads: &[&str],
     size: u8,
     shelf: &mut S,
-) -> Result<SceneFiles, FilesFault>
+) -> Result<SceneFiles, LoadFault>
     requires least { MIN_SIZE ≤ size }
     requires greatest { size ≤ MAX_SIZE }
     ensures answers { (files : List File) → Holds (S.view shelf.old) files →
         ResultIsOrAbsent itself (S.view shelf.old).steady value_of
-        (files_in (told_files names.now) (map (λ wad. wad.now) wads.now) size files) result }
+        (files_in (file_names names.now) (map (λ wad. wad.now) wads.now) size files) result }
     ensures contents { (files : List File) (contents : List (List ℕ)) →
         Holds (S.view shelf.old) files →
         files_named (map (λ wad. wad.now) wads.now) files ≡ Some contents →
@@ -67,6 +67,7 @@ pub fn read_files<S: Shelf>(
     ensures files { IfOk result (λ found. length found.dir.files ≡ length wads.now) }
     ensures count { IfOk result (λ found. length found.dir.lumps < 2 ^ 16) }
     ensures size { IfOk result (λ found. found.tables.size ≡ size) }
+    ensures full { IsNeverFull result }
     ensures follows { IsLaterShelf (S.view shelf.old) (S.view shelf.new) }
     ensures causes { HasCauses itself
         (S.view shelf.old).faults (S.view shelf.new).faults result }

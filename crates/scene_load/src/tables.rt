@@ -3,13 +3,13 @@ ghost use Rattle.std.specs.Prelude.{◌≡◌, ◌≤◌, ◌+◌, ℕ, List, tr
 ghost use Rattle.outside.specs.Shelf.{File, IsLaterShelf, Holds};
 ghost use Rattle.outside.specs.Faults.{ResultIs, HasCauses, itself};
 ghost use Rattle.view_rules.specs.declared.TheConstants.{MIN_SIZE, MAX_SIZE};
-ghost use Rattle.scene_load.specs.Files.{in_file, tables_file, tables_in};
-ghost use Rattle.scene_load.specs.Stops.{ResultIsOrAbsent};
+ghost use Rattle.scene_load.specs.Files.{IsNeverFull, in_file, tables_file, tables_in};
+ghost use Rattle.outside.specs.Stops.{ResultIsOrAbsent};
 
 use crate::named::{FileKind, read_named};
-use crate::{FilesFault, FilesRefusal};
+use crate::{LoadFault, Refusal};
 use angle_tables::{Tables, TablesFault};
-use outside::Shelf;
+use outside::{Fault, Shelf};
 use std::alloc::Global;
 use view_rules::TABLES_BYTES;
 
@@ -19,12 +19,13 @@ pub fn load_tables<S: Shelf>(
     shelf: &mut S,
     name: &str,
     size: u8,
-) -> Result<Tables, FilesFault>
+) -> Result<Tables, LoadFault>
     requires least { MIN_SIZE ≤ size }
     requires greatest { size ≤ MAX_SIZE }
     ensures answers { (files : List File) → Holds (S.view shelf.old) files →
         ResultIsOrAbsent itself (S.view shelf.old).steady (λ tables. tables)
         (in_file (tables_file size) name.now files) result }
+    ensures full { IsNeverFull result }
     ensures follows { IsLaterShelf (S.view shelf.old) (S.view shelf.new) }
     ensures causes { HasCauses itself
         (S.view shelf.old).faults (S.view shelf.new).faults result }
@@ -36,19 +37,18 @@ pub fn load_tables<S: Shelf>(
 }
 
 #[tactic(auto, unfolding(crate::specs::Files::tables_in))]
-fn check_tables(alloc: Global, bytes: &[u8], size: u8) -> Result<Tables, FilesFault>
+fn check_tables(alloc: Global, bytes: &[u8], size: u8) -> Result<Tables, LoadFault>
     requires least { MIN_SIZE ≤ size }
     requires greatest { size ≤ MAX_SIZE }
     ensures answers { ResultIs itself true (λ tables. tables)
         (tables_file size bytes.now) result }
     ensures causes { (before now : ℕ) → HasCauses itself before now result }
+    ensures full { IsNeverFull result }
     ensures size { IfOk result (λ tables. tables.size ≡ size) }
 {
     match Tables::from_bytes(alloc, bytes, size) {
         Ok(tables) => Ok(tables),
-        Err(TablesFault::Refused(refusal)) => {
-            Err(FilesFault::Refused(FilesRefusal::Tables(refusal)))
-        }
-        Err(TablesFault::OutOfMemory) => Err(FilesFault::OutOfMemory),
+        Err(TablesFault::Refused(refusal)) => Err(Fault::Refused(Refusal::Tables(refusal))),
+        Err(TablesFault::OutOfMemory) => Err(Fault::OutOfMemory),
     }
 }

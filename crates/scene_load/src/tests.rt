@@ -2,11 +2,11 @@
 ghost use Rattle.zone_rules.specs.Zones.{IsZoneSize};
 
 use crate::{LoadFault, LoadedScene, load_scene};
-use command_line::{Files, Scene, Settings};
+use command_line::{Files, LevelJob, Settings};
 use level_audit::ZoneSizes;
 use level_maker::{make_path, make_tables, make_things, make_wad};
 use lump_rules::Name8;
-use outside::{MemoryFile, MemoryShelf};
+use outside::{Fault, MemoryFile, MemoryShelf};
 use std::alloc::{AllocError, Global};
 use std::test::Fail;
 
@@ -35,7 +35,7 @@ fn loaded(
 ) -> Result<Result<LoadedScene, LoadFault>, Fail>
     requires { IsZoneSize zone }
 {
-    let level = Scene {
+    let level = LevelJob {
         map: Name8::from_text("map01").ok_or("a name")?,
         files: Files {
             tables: "tables",
@@ -73,7 +73,7 @@ fn made_files_are_loaded_in_a_zone_that_is_enough(rt: HostRuntime) -> Result<(),
 #[test]
 fn a_zone_without_room_for_the_sides_is_full(rt: HostRuntime) -> Result<(), Fail> {
     let fault = loaded(rt.alloc(), 56_236, None)?.err();
-    let full = LoadFault::ZoneFull {
+    let full = Fault::ZoneFull {
         wanted: 48_024,
         widest: 48_020,
     };

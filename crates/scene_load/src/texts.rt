@@ -3,15 +3,15 @@
 ghost use Rattle.std.specs.Prelude.{◌≤◌, ◌+◌, ◌*◌, ℕ, List, true, option_map};
 ghost use Rattle.outside.specs.Shelf.{File, IsLaterShelf, Holds};
 ghost use Rattle.outside.specs.Faults.{ResultIs, HasCauses, itself};
-ghost use Rattle.command_line.specs.Scenes.{told_files};
-ghost use Rattle.scene_load.specs.Files.{in_file, in_optional_file, things_file, path_file, weapons_file, texts_in};
-ghost use Rattle.scene_load.specs.Stops.{ResultIsOrAbsent};
+ghost use Rattle.command_line.specs.LevelJobs.{file_names};
+ghost use Rattle.scene_load.specs.Files.{IsNeverFull, in_file, in_optional_file, things_file, path_file, weapons_file, texts_in};
+ghost use Rattle.outside.specs.Stops.{ResultIsOrAbsent};
 
 use crate::named::{FileKind, read_named};
-use crate::{FilesFault, FilesRefusal};
+use crate::{LoadFault, Refusal};
 use command_line::Files;
 use csv_tables::{CsvFault, MAX_TABLE_BYTES, PathTable, ThingTable, WeaponTable};
-use outside::Shelf;
+use outside::{Fault, Shelf};
 use std::alloc::Global;
 
 /// The tables of text.
@@ -27,10 +27,11 @@ pub fn load_texts<S: Shelf>(
     alloc: Global,
     shelf: &mut S,
     names: &Files<'_>,
-) -> Result<TextTables, FilesFault>
+) -> Result<TextTables, LoadFault>
     ensures answers { (files : List File) → Holds (S.view shelf.old) files →
         ResultIsOrAbsent itself (S.view shelf.old).steady (λ texts. texts)
-        (texts_in (told_files names.now) files) result }
+        (texts_in (file_names names.now) files) result }
+    ensures full { IsNeverFull result }
     ensures follows { IsLaterShelf (S.view shelf.old) (S.view shelf.new) }
     ensures causes { HasCauses itself
         (S.view shelf.old).faults (S.view shelf.new).faults result }
@@ -51,10 +52,11 @@ pub fn load_things<S: Shelf>(
     alloc: Global,
     shelf: &mut S,
     name: &str,
-) -> Result<ThingTable, FilesFault>
+) -> Result<ThingTable, LoadFault>
     ensures answers { (files : List File) → Holds (S.view shelf.old) files →
         ResultIsOrAbsent itself (S.view shelf.old).steady (λ things. things)
         (in_file things_file name.now files) result }
+    ensures full { IsNeverFull result }
     ensures follows { IsLaterShelf (S.view shelf.old) (S.view shelf.new) }
     ensures causes { HasCauses itself
         (S.view shelf.old).faults (S.view shelf.new).faults result }
@@ -64,28 +66,24 @@ pub fn load_things<S: Shelf>(
     check_things(alloc, &bytes)
 }
 
-fn check_things(alloc: Global, bytes: &[u8]) -> Result<ThingTable, FilesFault>
+fn check_things(alloc: Global, bytes: &[u8]) -> Result<ThingTable, LoadFault>
     ensures answers { ResultIs itself true (λ things. things) (things_file bytes.now) result }
     ensures causes { (before now : ℕ) → HasCauses itself before now result }
+    ensures full { IsNeverFull result }
 {
     match ThingTable::read(alloc, bytes) {
         Ok(things) => Ok(things),
-        Err(CsvFault::Refused(refusal)) => {
-            Err(FilesFault::Refused(FilesRefusal::Things(refusal)))
-        }
-        Err(CsvFault::OutOfMemory) => Err(FilesFault::OutOfMemory),
+        Err(CsvFault::Refused(refusal)) => Err(Fault::Refused(Refusal::Things(refusal))),
+        Err(CsvFault::OutOfMemory) => Err(Fault::OutOfMemory),
     }
 }
 
 // The views of a path, in a file.
-pub fn load_path<S: Shelf>(
-    alloc: Global,
-    shelf: &mut S,
-    name: &str,
-) -> Result<PathTable, FilesFault>
+pub fn load_path<S: Shelf>(alloc: Global, shelf: &mut S, name: &str) -> Result<PathTable, LoadFault>
     ensures answers { (files : List File) → Holds (S.view shelf.old) files →
         ResultIsOrAbsent itself (S.view shelf.old).steady (λ path. path)
         (in_file path_file name.now files) result }
+    ensures full { IsNeverFull result }
     ensures follows { IsLaterShelf (S.view shelf.old) (S.view shelf.new) }
     ensures causes { HasCauses itself
         (S.view shelf.old).faults (S.view shelf.new).faults result }
@@ -95,14 +93,15 @@ pub fn load_path<S: Shelf>(
     check_path(alloc, &bytes)
 }
 
-fn check_path(alloc: Global, bytes: &[u8]) -> Result<PathTable, FilesFault>
+fn check_path(alloc: Global, bytes: &[u8]) -> Result<PathTable, LoadFault>
     ensures answers { ResultIs itself true (λ path. path) (path_file bytes.now) result }
     ensures causes { (before now : ℕ) → HasCauses itself before now result }
+    ensures full { IsNeverFull result }
 {
     match PathTable::read(alloc, bytes) {
         Ok(path) => Ok(path),
-        Err(CsvFault::Refused(refusal)) => Err(FilesFault::Refused(FilesRefusal::Path(refusal))),
-        Err(CsvFault::OutOfMemory) => Err(FilesFault::OutOfMemory),
+        Err(CsvFault::Refused(refusal)) => Err(Fault::Refused(Refusal::Path(refusal))),
+        Err(CsvFault::OutOfMemory) => Err(Fault::OutOfMemory),
     }
 }
 
@@ -111,10 +110,11 @@ pub fn load_weapons<S: Shelf>(
     alloc: Global,
     shelf: &mut S,
     name: Option<&str>,
-) -> Result<Option<WeaponTable>, FilesFault>
+) -> Result<Option<WeaponTable>, LoadFault>
     ensures answers { (files : List File) → Holds (S.view shelf.old) files →
         ResultIsOrAbsent itself (S.view shelf.old).steady (λ weapons. weapons)
         (in_optional_file weapons_file (option_map (λ text. text.now) name.entry) files) result }
+    ensures full { IsNeverFull result }
     ensures follows { IsLaterShelf (S.view shelf.old) (S.view shelf.new) }
     ensures causes { HasCauses itself
         (S.view shelf.old).faults (S.view shelf.new).faults result }
@@ -127,14 +127,11 @@ pub fn load_weapons<S: Shelf>(
 }
 
 // The weapon layers in a file.
-fn load_layers<S: Shelf>(
-    alloc: Global,
-    shelf: &mut S,
-    name: &str,
-) -> Result<WeaponTable, FilesFault>
+fn load_layers<S: Shelf>(alloc: Global, shelf: &mut S, name: &str) -> Result<WeaponTable, LoadFault>
     ensures answers { (files : List File) → Holds (S.view shelf.old) files →
         ResultIsOrAbsent itself (S.view shelf.old).steady (λ weapons. weapons)
         (in_file weapons_file name.now files) result }
+    ensures full { IsNeverFull result }
     ensures follows { IsLaterShelf (S.view shelf.old) (S.view shelf.new) }
     ensures causes { HasCauses itself
         (S.view shelf.old).faults (S.view shelf.new).faults result }
@@ -144,15 +141,14 @@ fn load_layers<S: Shelf>(
     check_layers(alloc, &bytes)
 }
 
-fn check_layers(alloc: Global, bytes: &[u8]) -> Result<WeaponTable, FilesFault>
+fn check_layers(alloc: Global, bytes: &[u8]) -> Result<WeaponTable, LoadFault>
     ensures answers { ResultIs itself true (λ weapons. weapons) (weapons_file bytes.now) result }
     ensures causes { (before now : ℕ) → HasCauses itself before now result }
+    ensures full { IsNeverFull result }
 {
     match WeaponTable::read(alloc, bytes) {
         Ok(weapons) => Ok(weapons),
-        Err(CsvFault::Refused(refusal)) => {
-            Err(FilesFault::Refused(FilesRefusal::Weapons(refusal)))
-        }
-        Err(CsvFault::OutOfMemory) => Err(FilesFault::OutOfMemory),
+        Err(CsvFault::Refused(refusal)) => Err(Fault::Refused(Refusal::Weapons(refusal))),
+        Err(CsvFault::OutOfMemory) => Err(Fault::OutOfMemory),
     }
 }

@@ -1,9 +1,9 @@
 use Rattle.std.proofs.Common.{◌≡◌, Some}
-use Rattle.command_line.specs.Commands.{command_of, told}
+use Rattle.command_line.specs.Commands.{command_of, command_value}
 use Rattle.doom_run.specs.Words.{texts}
 use Rattle.doom_run.proofs.top.perform.Goals as goal
 
 pub returns-in-Ok-clause-ends : goal.returns-in-Ok-clause-ends
 returns-in-Ok-clause-ends g c files held =
-    let is : command_of (texts c.args.words.now) ≡ Some (told c.in-Ok.command) = c.in-Ok.ensures.ok in
+    let is : command_of (texts c.args.words.now) ≡ Some (command_value c.in-Ok.command) = c.in-Ok.ensures.ok in
     rw is (c.perform_job.ensures.ends files (λ asked. held (rw is asked)))

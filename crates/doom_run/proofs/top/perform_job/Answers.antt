@@ -4,6 +4,6 @@ pub returns-in-Make-clause-ends : goal.returns-in-Make-clause-ends
 returns-in-Make-clause-ends g c files held =
     rw c.in-Make.is (c.perform_make.ensures.ends (g.S.Shelf.view c.args.shelf.now).steady files)
 
-pub returns-in-Scene-clause-ends : goal.returns-in-Scene-clause-ends
-returns-in-Scene-clause-ends g c files held =
-    rw (c.in-Scene.is, ← c.deref.ensures.value) (c.perform_scene.ensures.ends files (λ asked. held (rw c.in-Scene.is asked)))
+pub returns-in-Level-clause-ends : goal.returns-in-Level-clause-ends
+returns-in-Level-clause-ends g c files held =
+    rw (c.in-Level.is, ← c.deref.ensures.value) (c.perform_level.ensures.ends files (λ asked. held (rw c.in-Level.is asked)))

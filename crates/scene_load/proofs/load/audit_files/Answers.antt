@@ -3,13 +3,13 @@ use Rattle.outside.proofs.ShelfLemmas.{all_stand_later, follows_then}
 use Rattle.lump_rules.specs.Contents.{lump_bytes}
 use Rattle.lump_rules.specs.Lookups.{lump_at}
 use Rattle.lump_cache.specs.Caches.{IsAtRest}
-use Rattle.command_line.specs.Scenes.{told_scene}
+use Rattle.command_line.specs.LevelJobs.{level_job_value}
 use Rattle.scene_load.specs.Files.{value_of}
 use Rattle.scene_rules.specs.Scenes.{SceneValue}
 use Rattle.level_audit.specs.Sound.{SoundValue}
 use Rattle.level_audit.proofs.FetchLemmas.{told_after}
 use Rattle.level_audit.proofs.SceneLemmas.{colormap_there}
-use Rattle.scene_load.specs.Fulls.{IsFullOver}
+use Rattle.scene_load.specs.Fulls.{IsBaseWithin, IsFullOver}
 use Rattle.scene_load.specs.Loads.{audited_value, loaded_lumps, loaded_sizes}
 use Rattle.scene_load.proofs.AuditedLemmas.{both_accepted, causes_after, layers_stopped, scene_kept, scene_stopped}
 use Rattle.scene_load.proofs.FullLemmas.{audit_full, layers_full, same_full}
@@ -18,13 +18,13 @@ use Rattle.scene_load.proofs.load.audit_files.Goals as goal
 
 pub returns-in_err-scene-clause-answers : goal.returns-in_err-scene-clause-answers
 returns-in_err-scene-clause-answers g c = λ contents told.
-    scene_stopped _ (told_scene c.args.level.now) (value_of c.args.files.now) c.in_err-scene.field-0.0 c.from_residual.result (c.audit.ensures.answers contents told) c.in_err-scene.was c.from_residual.ensures.1
+    scene_stopped _ (level_job_value c.args.level.now) (value_of c.args.files.now) c.in_err-scene.field-0.0 c.from_residual.result (c.audit.ensures.answers contents told) c.in_err-scene.was c.from_residual.ensures.1
 
 pub returns-in_err-scene-clause-full : goal.returns-in_err-scene-clause-full
 returns-in_err-scene-clause-full g c = λ contents told.
     let e = c.audit.ensures in
-    same_full (IsFullOver (lump_bytes contents c.args.files.now.dir.lumps) (told_scene c.args.level.now) (value_of c.args.files.now)) c.audit.result c.in_err-scene.field-0.0 c.from_residual.result
-    (audit_full contents (told_scene c.args.level.now) c.args.files.now c.audit.result told c.requires.empty c.requires.size e.full e.found e.room e.enough) c.in_err-scene.was c.from_residual.ensures.1
+    same_full (IsFullOver (lump_bytes contents c.args.files.now.dir.lumps) (level_job_value c.args.level.now) (value_of c.args.files.now)) c.audit.result c.in_err-scene.field-0.0 c.from_residual.result
+    (audit_full contents (level_job_value c.args.level.now) c.args.files.now c.audit.result told c.requires.empty c.requires.size e.full e.found e.room e.enough) c.in_err-scene.was c.from_residual.ensures.1
 
 pub audit_layers-requires-clause-colormap : goal.audit_layers-requires-clause-colormap
 audit_layers-requires-clause-colormap g c = colormap_there c.args.files.now.dir.lumps c.in_ok-scene.scene.scene.base.colormap c.in_ok-scene.ensures.colormap
@@ -32,14 +32,14 @@ audit_layers-requires-clause-colormap g c = colormap_there c.args.files.now.dir.
 pub returns-in_err-weapons-clause-answers : goal.returns-in_err-weapons-clause-answers
 returns-in_err-weapons-clause-answers g c = λ contents told.
     let e = c.audit.ensures in
-    layers_stopped _ (told_scene c.args.level.now) (value_of c.args.files.now) c.in_ok-scene.scene.scene c.in_err-weapons.field-0.0 c.from_residual-in_err-weapons.result (c.in_ok-scene.ensures.answers contents told).ok e.follows.steady
+    layers_stopped _ (level_job_value c.args.level.now) (value_of c.args.files.now) c.in_ok-scene.scene.scene c.in_err-weapons.field-0.0 c.from_residual-in_err-weapons.result (c.in_ok-scene.ensures.answers contents told).ok e.follows.steady
     (c.audit_layers.ensures.tells.answers contents (told_after e.follows e.faithful contents told)) c.in_err-weapons.was c.from_residual-in_err-weapons.ensures.1
 
 pub returns-in_err-weapons-clause-full : goal.returns-in_err-weapons-clause-full
 returns-in_err-weapons-clause-full g c = λ contents told.
     let e = c.in_ok-scene.ensures in
-    same_full (IsFullOver (lump_bytes contents c.args.files.now.dir.lumps) (told_scene c.args.level.now) (value_of c.args.files.now)) c.audit_layers.result c.in_err-weapons.field-0.0 c.from_residual-in_err-weapons.result
-    (layers_full contents (told_scene c.args.level.now) c.args.files.now c.in_ok-scene.scene.scene c.audit_layers.result (e.answers contents told).ok e.colormap (e.rest c.requires.empty) (e.counts.0 ∙ c.requires.size) c.audit_layers.ensures.tells.full)
+    same_full (IsFullOver (lump_bytes contents c.args.files.now.dir.lumps) (level_job_value c.args.level.now) (value_of c.args.files.now)) c.audit_layers.result c.in_err-weapons.field-0.0 c.from_residual-in_err-weapons.result
+    (layers_full contents (level_job_value c.args.level.now) c.args.files.now c.in_ok-scene.scene.scene c.audit_layers.result (e.answers contents told).ok e.colormap (e.rest c.requires.empty) (e.counts.0 ∙ c.requires.size) c.audit_layers.ensures.tells.full)
     c.in_err-weapons.was c.from_residual-in_err-weapons.ensures.1
 
 pub returns-in_err-weapons-clause-faithful : goal.returns-in_err-weapons-clause-faithful
@@ -61,7 +61,7 @@ returns-clause-answers g c = λ contents told.
     let weapons = c.in_ok-weapons.weapons in
     let same = scene_kept c.args.files.now.dir.lumps weapons c.in_ok-scene.scene in
     record {
-      ok = both_accepted _ (told_scene c.args.level.now) found c.in_ok-scene.scene.scene weapons (e.answers contents told).ok (c.in_ok-weapons.ensures.tells.answers contents (told_after e.follows e.faithful contents told)).ok
+      ok = both_accepted _ (level_job_value c.args.level.now) found c.in_ok-scene.scene.scene weapons (e.answers contents told).ok (c.in_ok-weapons.ensures.tells.answers contents (told_after e.follows e.faithful contents told)).ok
           ∙ ap (λ (s : SceneValue). Ok (record { files = found; scene = s; weapons = weapons })) (sym (ap (λ (s : SoundValue). s.scene) c.in_ok-weapons.ensures.scene ∙ same));
       err = tt;
     }
@@ -93,3 +93,10 @@ returns-clause-faithful g c = λ contents stand faithful.
 
 pub returns-clause-follows : goal.returns-clause-follows
 returns-clause-follows g c = follows_then c.in_ok-scene.ensures.follows c.in_ok-weapons.ensures.tells.keeps.follows
+
+pub returns-clause-fits : goal.returns-clause-fits
+returns-clause-fits g c =
+    let lumps = c.args.files.now.dir.lumps in
+    let same = ap (λ (s : SoundValue). s.scene) c.in_ok-weapons.ensures.scene ∙ scene_kept lumps c.in_ok-weapons.weapons c.in_ok-scene.scene in
+    subst (λ (s : SceneValue). IsBaseWithin lumps (level_job_value c.args.level.now) s.base.colormap) (sym same)
+    (λ lump asked other. rw (← c.requires.size) (c.in_ok-scene.ensures.fits c.requires.empty lump asked other))

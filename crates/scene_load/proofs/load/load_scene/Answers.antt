@@ -1,52 +1,56 @@
+use Rattle.scene_rules.specs.declared.refusal.AuditRefusal.{AuditRefusal}
 use Rattle.outside.specs.Faults.{itself}
 use Rattle.std.proofs.Common.{Bor, ℕ, List, ap, map}
 use Rattle.outside.proofs.ShelfLemmas.{all_stand_later, follows_then}
-use Rattle.command_line.specs.Scenes.{told_scene}
+use Rattle.command_line.specs.LevelJobs.{level_job_value}
 use Rattle.scene_load.specs.Files.{value_of}
-use Rattle.level_audit.specs.declared.fault.AuditFault.{AuditFault}
-use Rattle.scene_load.specs.Faults.{above_audit}
+use Rattle.outside.specs.declared.fault.Fault.{Fault}
 use Rattle.scene_load.specs.Fulls.{IsFullLoad}
 use Rattle.scene_load.specs.Loads.{wad_contents}
-use Rattle.scene_load.proofs.FullLemmas.{load_full}
+use Rattle.scene_load.proofs.FullLemmas.{files_full, load_full}
 use Rattle.scene_load.proofs.LoadLemmas.{all_loaded, audit_stopped, files_stopped, memory_agrees, memory_full, told_wads}
 use Rattle.scene_load.proofs.load.load_scene.Goals as goal
 
 pub returns-in_err-files-clause-answers : goal.returns-in_err-files-clause-answers
 returns-in_err-files-clause-answers g c = λ files holds.
-    files_stopped (told_scene c.args.level.now) (map (λ (wad : Bor (List ℕ)). wad.now) c.args.wads.now) files c.in_err-files.field-0.0 c.from_residual.result (c.read_files.ensures.answers files holds) c.in_err-files.was c.from_residual.ensures.1
+    files_stopped (level_job_value c.args.level.now) (map (λ (wad : Bor (List ℕ)). wad.now) c.args.wads.now) files c.in_err-files.field-0.0 c.from_residual.result (c.read_files.ensures.answers files holds) c.in_err-files.was c.from_residual.ensures.1
+
+pub returns-in_err-files-clause-full : goal.returns-in_err-files-clause-full
+returns-in_err-files-clause-full g c = λ files holds.
+    files_full (IsFullLoad (level_job_value c.args.level.now) (map (λ (wad : Bor (List ℕ)). wad.now) c.args.wads.now) files) c.read_files.result c.in_err-files.field-0.0 c.from_residual.result c.read_files.ensures.full c.in_err-files.was c.from_residual.ensures.1
 
 pub returns-in_err-cache-clause-answers : goal.returns-in_err-cache-clause-answers
 returns-in_err-cache-clause-answers g c = λ files holds.
-    memory_agrees _ (above_audit c.in_err-cache.field-0.0) c.from_residual-in_err-cache.result (ap (λ (f : AuditFault). itself (above_audit f)) c.in_err-cache.ensures.memory) c.from_residual-in_err-cache.ensures.1
+    memory_agrees _ c.in_err-cache.field-0.0 c.from_residual-in_err-cache.result c.in_err-cache.ensures.memory c.from_residual-in_err-cache.ensures.1
 
 pub returns-in_err-cache-clause-full : goal.returns-in_err-cache-clause-full
 returns-in_err-cache-clause-full g c = λ files holds.
-    memory_full (IsFullLoad (told_scene c.args.level.now) (map (λ (wad : Bor (List ℕ)). wad.now) c.args.wads.now) files) (above_audit c.in_err-cache.field-0.0) c.from_residual-in_err-cache.result
-    (ap (λ (f : AuditFault). itself (above_audit f)) c.in_err-cache.ensures.memory) c.from_residual-in_err-cache.ensures.1
+    memory_full (IsFullLoad (level_job_value c.args.level.now) (map (λ (wad : Bor (List ℕ)). wad.now) c.args.wads.now) files) c.in_err-cache.field-0.0 c.from_residual-in_err-cache.result
+    c.in_err-cache.ensures.memory c.from_residual-in_err-cache.ensures.1
 
 pub returns-in_err-scene-clause-answers : goal.returns-in_err-scene-clause-answers
 returns-in_err-scene-clause-answers g c = λ files holds.
-    let level = told_scene c.args.level.now in
+    let level = level_job_value c.args.level.now in
     let wads = map (λ (wad : Bor (List ℕ)). wad.now) c.args.wads.now in
     let found = value_of c.in_ok-files.files in
     let are = (c.in_ok-files.ensures.answers files holds).ok in
     let told = told_wads level wads files found are (λ contents named. c.in_ok-files.ensures.contents files contents holds named) c.in_ok-cache.ensures.faithful in
     audit_stopped level wads files found c.in_err-scene.field-0.0 c.from_residual-in_err-scene.result are c.in_ok-files.ensures.follows.steady
-    (c.audit_files.ensures.answers (wad_contents wads files) told) c.in_err-scene.was c.from_residual-in_err-scene.ensures.1
+    (c.audit_level.ensures.answers (wad_contents wads files) told) c.in_err-scene.was c.from_residual-in_err-scene.ensures.1
 
 pub returns-in_err-scene-clause-full : goal.returns-in_err-scene-clause-full
 returns-in_err-scene-clause-full g c = λ files holds.
-    let level = told_scene c.args.level.now in
+    let level = level_job_value c.args.level.now in
     let wads = map (λ (wad : Bor (List ℕ)). wad.now) c.args.wads.now in
     let found = value_of c.in_ok-files.files in
     let are = (c.in_ok-files.ensures.answers files holds).ok in
     let told = told_wads level wads files found are (λ contents named. c.in_ok-files.ensures.contents files contents holds named) c.in_ok-cache.ensures.faithful in
-    load_full level wads files found c.audit_files.result c.in_err-scene.field-0.0 c.from_residual-in_err-scene.result are
-    (c.audit_files.ensures.full (wad_contents wads files) told) c.in_err-scene.was c.from_residual-in_err-scene.ensures.1
+    load_full level wads files found c.audit_level.result c.in_err-scene.field-0.0 c.from_residual-in_err-scene.result are
+    (c.audit_level.ensures.full (wad_contents wads files) told) c.in_err-scene.was c.from_residual-in_err-scene.ensures.1
 
 pub returns-clause-answers : goal.returns-clause-answers
 returns-clause-answers g c = λ files holds.
-    let level = told_scene c.args.level.now in
+    let level = level_job_value c.args.level.now in
     let wads = map (λ (wad : Bor (List ℕ)). wad.now) c.args.wads.now in
     let found = value_of c.in_ok-files.files in
     let are = (c.in_ok-files.ensures.answers files holds).ok in

@@ -1,9 +1,9 @@
 use Rattle.std.proofs.Common.{◌∙◌, refl}
 use Rattle.outside.specs.Shelf.{StandsForNamed, file_named}
-use Rattle.scene_load.specs.declared.fault.FilesFault.TheVariants.{ReadFault}
+use Rattle.outside.specs.declared.fault.Fault.TheVariants.{ReadFault}
 use Rattle.scene_load.specs.Files.{in_file}
 use Rattle.scene_load.specs.Lengths.{bytes_in}
-use Rattle.scene_load.proofs.StopLemmas.{absent_agrees, file_agrees}
+use Rattle.outside.proofs.StopLemmas.{absent_agrees, file_agrees}
 use Rattle.scene_load.proofs.named.read_named.Goals as goal
 
 pub returns-in_err-file-clause-answers : goal.returns-in_err-file-clause-answers

@@ -1,7 +1,7 @@
 use Rattle.std.proofs.Common.{◌∙◌, refl}
 use Rattle.outside.proofs.ShelfLemmas.{follows_then}
 use Rattle.scene_load.specs.Files.{files_in}
-use Rattle.scene_load.proofs.StopLemmas.{step_passed, step_stops, all_passed}
+use Rattle.outside.proofs.StopLemmas.{step_passed, step_stops, all_passed}
 use Rattle.scene_load.proofs.read.read_files.Goals as goal
 
 pub returns-in_err-tables-clause-answers : goal.returns-in_err-tables-clause-answers

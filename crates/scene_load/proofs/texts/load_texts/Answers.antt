@@ -1,6 +1,6 @@
 use Rattle.std.proofs.Common.{◌∙◌, refl}
 use Rattle.scene_load.specs.Files.{texts_in}
-use Rattle.scene_load.proofs.StopLemmas.{step_passed, step_stops, all_passed}
+use Rattle.outside.proofs.StopLemmas.{step_passed, step_stops, all_passed}
 use Rattle.scene_load.proofs.texts.load_texts.Goals as goal
 
 pub returns-in_err-things-clause-answers : goal.returns-in_err-things-clause-answers

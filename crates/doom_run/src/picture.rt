@@ -6,35 +6,35 @@ use std::marker::Model;
 
 /// A frame, and the palette for its indices. Contracts see the two lists.
 #[derive(Drop)]
-pub struct Drawing {
+pub struct Picture {
     pixels: Vec<u8>,
     playpal: Vec<u8>,
 }
 
-impl Model for Drawing {
+impl Model for Picture {
     ghost use Rattle.std.specs.Prelude.{◌≡◌, length};
     ghost use Rattle.frame_writer.specs.declared.TheConstants.{FRAME_BYTES, PALETTE_BYTES};
-    ghost use Rattle.doom_run.specs.Flats.{Picture};
+    ghost use Rattle.doom_run.specs.Flats.{PictureValue};
 
-    ghost Value = { Picture };
+    ghost Value = { PictureValue };
 
-    ghost view = { λ drawing. record {
-      frame = drawing.pixels.items;
-      palette = drawing.playpal.items;
+    ghost view = { λ picture. record {
+      frame = picture.pixels.items;
+      palette = picture.playpal.items;
     } };
 
-    ghost invariant = { λ drawing.
-        (length drawing.pixels.items ≡ FRAME_BYTES)
-        × (length drawing.playpal.items ≡ PALETTE_BYTES) };
+    ghost invariant = { λ picture.
+        (length picture.pixels.items ≡ FRAME_BYTES)
+        × (length picture.playpal.items ≡ PALETTE_BYTES) };
 }
 
-impl Drawing {
-    pub fn new(pixels: Vec<u8>, playpal: Vec<u8>) -> Drawing
+impl Picture {
+    pub fn new(pixels: Vec<u8>, playpal: Vec<u8>) -> Picture
         requires frame { length pixels.items ≡ FRAME_BYTES }
         requires palette { length playpal.items ≡ PALETTE_BYTES }
         ensures { result ≡ record { frame = pixels.items; palette = playpal.items } }
     {
-        Drawing { pixels, playpal }
+        Picture { pixels, playpal }
     }
 
     pub fn frame(&self) -> &[u8]

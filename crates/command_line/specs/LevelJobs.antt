@@ -3,52 +3,52 @@ use Rattle.std.specs.Prelude.{ℕ, Bool, cond, nat_lt, nat_le, ◌&&◌, List, l
 use Rattle.clap.specs.Words.{Row, Text, first_of}
 use Rattle.lump_rules.specs.Names.{name_of_text}
 use Rattle.command_line.specs.declared.command.Files.{Files}
-use Rattle.command_line.specs.declared.command.Scene.{Scene}
-use Rattle.command_line.specs.declared.command.SceneJob.{SceneJob}
-use Rattle.command_line.specs.declared.command.SceneJob.TheVariants.{Render, Audit, Limits, Trim, Trace}
+use Rattle.command_line.specs.declared.command.LevelJob.{LevelJob}
+use Rattle.command_line.specs.declared.command.LevelTask.{LevelTask}
+use Rattle.command_line.specs.declared.command.LevelTask.TheVariants.{Render, Audit, Limits, Trim, Trace}
 use Rattle.command_line.specs.declared.command.Settings.{Settings}
-use Rattle.command_line.specs.declared.scenes.TheConstants.{MAX_WADS}
+use Rattle.command_line.specs.declared.level_jobs.TheConstants.{MAX_WADS}
 use Rattle.command_line.specs.Choices.{AreSettings, IsWithin, format_in, lacks, settings_in}
 
 -- the names of files, as text
-pub record ToldFiles : Type 0 where
+pub record FileNames : Type 0 where
   pub tables : Text
   pub things : Text
   pub path : Text
   pub weapon : Option Text
 
-abbrev pub told_files : Files → ToldFiles
-told_files files = record { tables = files.tables.now; things = files.things.now; path = files.path.now; weapon = option_map (λ w. w.now) files.weapon }
+abbrev pub file_names : Files → FileNames
+file_names files = record { tables = files.tables.now; things = files.things.now; path = files.path.now; weapon = option_map (λ w. w.now) files.weapon }
 
 -- a level and how it is looked at, as text and numbers
-pub record ToldScene : Type 0 where
+pub record LevelJobValue : Type 0 where
   pub map_name : List ℕ
-  pub files : ToldFiles
+  pub files : FileNames
   pub settings : Settings
 
-abbrev pub told_scene : Scene → ToldScene
-told_scene scene = record { map_name = scene.map; files = told_files scene.files; settings = scene.settings }
+abbrev pub level_job_value : LevelJob → LevelJobValue
+level_job_value level = record { map_name = level.map; files = file_names level.files; settings = level.settings }
 
 -- the numbers of a job over a level and the number of its WADs are in their ranges
-pub record IsScene (level : ToldScene) (wads : List Text) : Type 0 where
+pub record IsLevelJob (level : LevelJobValue) (wads : List Text) : Type 0 where
   pub settings : AreSettings level.settings
   pub count : IsWithin 1 MAX_WADS (length wads)
 
-unfoldable pub other_scene_job : Text → Option SceneJob
-other_scene_job job =
+unfoldable pub other_level_task : Text → Option LevelTask
+other_level_task job =
     cond (bytes_eq job (codes "audit")) (Some Audit)
     (cond (bytes_eq job (codes "limits")) (Some Limits)
     (cond (bytes_eq job (codes "trim")) (Some Trim)
     (cond (bytes_eq job (codes "trace")) (Some Trace) None)))
 
 -- `render` may have a format, the other jobs over a level have none
-unfoldable pub scene_job_in : List Row → Text → Option SceneJob
-scene_job_in rows job =
+unfoldable pub level_task_in : List Row → Text → Option LevelTask
+level_task_in rows job =
     cond (bytes_eq job (codes "render")) (option_and_then (λ format. Some (Render format)) (format_in rows))
-    (cond (lacks (codes "format") rows) (other_scene_job job) None)
+    (cond (lacks (codes "format") rows) (other_level_task job) None)
 
 -- three files must be given, and one may be
-unfoldable pub files_in : List Row → Option ToldFiles
+unfoldable pub files_in : List Row → Option FileNames
 files_in rows =
     option_and_then (λ tables.
     option_and_then (λ things.
@@ -58,8 +58,8 @@ files_in rows =
     (first_of (codes "things") rows))
     (first_of (codes "tables") rows)
 
-unfoldable pub scene_of : List Row → Text → Option ToldScene
-scene_of rows text =
+unfoldable pub level_job_of : List Row → Text → Option LevelJobValue
+level_job_of rows text =
     option_and_then (λ name.
     option_and_then (λ files.
     option_and_then (λ settings.

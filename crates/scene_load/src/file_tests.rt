@@ -2,10 +2,10 @@
 // found.
 ghost use Rattle.std.specs.Prelude.{◌≤◌, ◌+◌, length};
 
-use crate::{FilesFault, FilesRefusal, SceneFiles, read_files};
+use crate::{LoadFault, Refusal, SceneFiles, read_files};
 use command_line::Files;
 use csv_tables::CsvRefusal;
-use outside::{MemoryFile, MemoryShelf};
+use outside::{Fault, MemoryFile, MemoryShelf};
 use std::alloc::{AllocError, Global};
 use std::test::Fail;
 use view_rules::{MIN_SIZE, TABLES_BYTES, TablesRefusal};
@@ -121,7 +121,7 @@ fn shelf_of(alloc: Global, set: &Set<'_>) -> Result<MemoryShelf, AllocError> {
 }
 
 // Reads a set of files, its WAD twice.
-fn read_set(alloc: Global, set: &Set<'_>, weapon: Option<&str>) -> Result<SceneFiles, FilesFault> {
+fn read_set(alloc: Global, set: &Set<'_>, weapon: Option<&str>) -> Result<SceneFiles, LoadFault> {
     let names = Files {
         tables: "tables",
         things: "things",
@@ -133,7 +133,7 @@ fn read_set(alloc: Global, set: &Set<'_>, weapon: Option<&str>) -> Result<SceneF
 }
 
 // What stops the reading of a set of files.
-fn fault_of(alloc: Global, set: &Set<'_>) -> Option<FilesFault> {
+fn fault_of(alloc: Global, set: &Set<'_>) -> Option<LoadFault> {
     read_set(alloc, set, Some("weapons")).err()
 }
 
@@ -177,20 +177,20 @@ fn the_first_refusal_is_told(rt: HostRuntime) {
         wad: SHORT,
         absent: "none",
     };
-    let length = FilesRefusal::Tables(TablesRefusal::Length { found: 65539 });
-    assert_eq!(rt; fault_of(alloc, &set), Some(FilesFault::Refused(length)));
+    let length = Refusal::Tables(TablesRefusal::Length { found: 65539 });
+    assert_eq!(rt; fault_of(alloc, &set), Some(Fault::Refused(length)));
     set.length = TABLES_BYTES;
-    let repeat = FilesRefusal::Things(CsvRefusal::Repeat { row: 2 });
-    assert_eq!(rt; fault_of(alloc, &set), Some(FilesFault::Refused(repeat)));
+    let repeat = Refusal::Things(CsvRefusal::Repeat { row: 2 });
+    assert_eq!(rt; fault_of(alloc, &set), Some(Fault::Refused(repeat)));
     set.things = THINGS;
-    let fields = FilesRefusal::Path(CsvRefusal::Fields { row: 1 });
-    assert_eq!(rt; fault_of(alloc, &set), Some(FilesFault::Refused(fields)));
+    let fields = Refusal::Path(CsvRefusal::Fields { row: 1 });
+    assert_eq!(rt; fault_of(alloc, &set), Some(Fault::Refused(fields)));
     set.path = PATH;
-    let header = FilesRefusal::Weapons(CsvRefusal::Header);
-    assert_eq!(rt; fault_of(alloc, &set), Some(FilesFault::Refused(header)));
+    let header = Refusal::Weapons(CsvRefusal::Header);
+    assert_eq!(rt; fault_of(alloc, &set), Some(Fault::Refused(header)));
     set.weapons = WEAPONS;
-    let short = FilesRefusal::Wad(DirRefusal::Short { file: 0 });
-    assert_eq!(rt; fault_of(alloc, &set), Some(FilesFault::Refused(short)));
+    let short = Refusal::Wad(DirRefusal::Short { file: 0 });
+    assert_eq!(rt; fault_of(alloc, &set), Some(Fault::Refused(short)));
 }
 
 // Each file is left out, and what comes after it is refused.
@@ -212,6 +212,6 @@ fn an_absent_file_stops_at_its_step(rt: HostRuntime) {
             absent,
         };
         let fault = fault_of(rt.alloc(), &set);
-        assert_eq!(rt; fault, Some(FilesFault::ReadFault), "{absent}");
+        assert_eq!(rt; fault, Some(Fault::ReadFault), "{absent}");
     }
 }

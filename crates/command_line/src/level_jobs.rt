@@ -3,10 +3,10 @@
 ghost use Rattle.std.specs.Prelude.{◌≡◌, IsTrue, [], length, Err, IfOk, IfSome, Some, None, map, option_map};
 ghost use Rattle.clap.specs.Words.{found_of, rows_of};
 ghost use Rattle.command_line.specs.Choices.{AreSettings, IsWithin};
-ghost use Rattle.command_line.specs.Scenes.{are_wads, files_in, other_scene_job, scene_job_in, scene_of, told_files, told_scene};
+ghost use Rattle.command_line.specs.LevelJobs.{are_wads, files_in, other_level_task, level_task_in, level_job_of, file_names, level_job_value};
 
 use crate::choices::{format_in, settings_in};
-use crate::command::{Files, Scene, SceneJob};
+use crate::command::{Files, LevelJob, LevelTask};
 use crate::simple::value;
 use clap::ArgMatches;
 use lump_rules::Name8;
@@ -16,42 +16,42 @@ use std::alloc::{AllocError, Global};
 pub const MAX_WADS: usize = 16;
 
 // The job over a level of that name: `render` alone has a format.
-#[tactic(auto, unfolding(crate::specs::Scenes::scene_job_in))]
-pub(crate) fn scene_job_in(found: &ArgMatches<'_>, job: &str) -> Option<SceneJob>
-    ensures { result ≡ scene_job_in (rows_of (found_of found.now)) job.now }
+#[tactic(auto, unfolding(crate::specs::LevelJobs::level_task_in))]
+pub(crate) fn level_task_in(found: &ArgMatches<'_>, job: &str) -> Option<LevelTask>
+    ensures { result ≡ level_task_in (rows_of (found_of found.now)) job.now }
 {
     if job == "render" {
         let format = format_in(found)?;
-        return Some(SceneJob::Render(format));
+        return Some(LevelTask::Render(format));
     }
     if value(found, "format").is_some() {
         return None;
     }
-    other_scene_job(job)
+    other_level_task(job)
 }
 
 // The job over a level of that name, other than `render`.
-#[tactic(auto, unfolding(crate::specs::Scenes::other_scene_job))]
-fn other_scene_job(job: &str) -> Option<SceneJob>
-    ensures { result ≡ other_scene_job job.now }
+#[tactic(auto, unfolding(crate::specs::LevelJobs::other_level_task))]
+fn other_level_task(job: &str) -> Option<LevelTask>
+    ensures { result ≡ other_level_task job.now }
 {
     if job == "audit" {
-        Some(SceneJob::Audit)
+        Some(LevelTask::Audit)
     } else if job == "limits" {
-        Some(SceneJob::Limits)
+        Some(LevelTask::Limits)
     } else if job == "trim" {
-        Some(SceneJob::Trim)
+        Some(LevelTask::Trim)
     } else if job == "trace" {
-        Some(SceneJob::Trace)
+        Some(LevelTask::Trace)
     } else {
         None
     }
 }
 
 // The names of the files, where the three that are needed are there.
-#[tactic(auto, unfolding(crate::specs::Scenes::files_in))]
+#[tactic(auto, unfolding(crate::specs::LevelJobs::files_in))]
 fn files_in<'a>(found: &ArgMatches<'a>) -> Option<Files<'a>>
-    ensures { option_map told_files result ≡ files_in (rows_of (found_of found.now)) }
+    ensures { option_map file_names result ≡ files_in (rows_of (found_of found.now)) }
 {
     let tables = value(found, "tables")?;
     let things = value(found, "things")?;
@@ -66,15 +66,16 @@ fn files_in<'a>(found: &ArgMatches<'a>) -> Option<Files<'a>>
 }
 
 // The level of that name, its files and its numbers.
-#[tactic(auto, unfolding(crate::specs::Scenes::scene_of))]
-pub(crate) fn scene_of<'a>(found: &ArgMatches<'a>, map: &str) -> Option<Scene<'a>>
-    ensures value { option_map told_scene result ≡ scene_of (rows_of (found_of found.now)) map.now }
+#[tactic(auto, unfolding(crate::specs::LevelJobs::level_job_of))]
+pub(crate) fn level_job_of<'a>(found: &ArgMatches<'a>, map: &str) -> Option<LevelJob<'a>>
+    ensures value { option_map level_job_value result
+        ≡ level_job_of (rows_of (found_of found.now)) map.now }
     ensures within { IfSome result (λ level. AreSettings level.settings) }
 {
     let map = Name8::from_text(map)?;
     let files = files_in(found)?;
     let settings = settings_in(found)?;
-    Some(Scene {
+    Some(LevelJob {
         map,
         files,
         settings,
@@ -82,7 +83,7 @@ pub(crate) fn scene_of<'a>(found: &ArgMatches<'a>, map: &str) -> Option<Scene<'a
 }
 
 // Whether there are 1 to 16 WADs.
-#[tactic(auto, unfolding(crate::specs::Scenes::are_wads))]
+#[tactic(auto, unfolding(crate::specs::LevelJobs::are_wads))]
 pub(crate) fn are_wads(wads: &[&str]) -> bool
     ensures value { result ≡ are_wads (map (λ w. w.now) wads.now) }
     ensures within { IsTrue result → IsWithin 1 MAX_WADS (length (map (λ w. w.now) wads.now)) }

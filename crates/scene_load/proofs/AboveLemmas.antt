@@ -1,0 +1,58 @@
+-- What is known of a call whose fault is named as the layer above names it.
+use Rattle.std.proofs.Common.{◌≡◌, ℕ, Result, Ok, Err, refl, Bool}
+use Rattle.std.specs.Prelude.{IfErr}
+use Rattle.std.proofs.lemmas.Result.{err_from_is_err_and}
+use Rattle.outside.specs.declared.fault.Fault.{Fault}
+use Rattle.outside.specs.declared.fault.Fault.TheVariants.{Refused, ReadFault, ZoneFull, OutOfMemory}
+use Rattle.outside.specs.Faults.{fault_above, from_below, FaultFits, HasCauseAt, HasCauses, ResultIs, itself}
+use Rattle.outside.proofs.ThroughLemmas.{IsThrough}
+use Rattle.lump_cache.specs.Calls.{IfFull}
+
+fits_above : {A R Q : Type 0} (lift : R → Q) (steady : Bool) (expected : Result A R) (fault : Fault R) →
+    FaultFits steady expected fault → FaultFits steady (from_below lift expected) (fault_above lift fault)
+fits_above lift steady expected (Refused reason) h = rw h refl
+fits_above lift steady expected ReadFault h = h
+fits_above lift steady expected (ZoneFull wanted widest) h = tt
+fits_above lift steady expected OutOfMemory h = tt
+
+cause_above : {R Q : Type 0} (lift : R → Q) (before now : ℕ) (fault : Fault R) → HasCauseAt before now fault → HasCauseAt before now (fault_above lift fault)
+cause_above lift before now (Refused reason) h = tt
+cause_above lift before now ReadFault h = h
+cause_above lift before now (ZoneFull wanted widest) h = tt
+cause_above lift before now OutOfMemory h = tt
+
+full_above : {R Q : Type 0} (lift : R → Q) (P : ℕ → ℕ → Type 0) (fault : Fault R) → IfFull fault P → IfFull (fault_above lift fault) P
+full_above lift P (Refused reason) h = tt
+full_above lift P ReadFault h = tt
+full_above lift P (ZoneFull wanted widest) h = h
+full_above lift P OutOfMemory h = tt
+
+module _ {B R Q E : Type 0} (fault_of : E → Fault R) (lift : R → Q) where
+  -- the value is the same, and each fault is named as above
+  abbrev pub IsNamedAbove : Result B E → Result B (Fault Q) → Type 0
+  IsNamedAbove one result = IsThrough (λ below above. above ≡ fault_above lift (fault_of below)) one result
+
+  -- the steps are those below
+  pub answers_above : {A : Type 0} {steady : Bool} {value : B → A} (expected : Result A R) (one : Result B E) (result : Result B (Fault Q)) →
+      IsNamedAbove one result → ResultIs fault_of steady value expected one → ResultIs itself steady value (from_below lift expected) result
+  answers_above expected (Ok x) result is answers = rw is (record { ok = rw answers.ok refl; err = tt })
+  answers_above {A} {steady} {value} expected (Err fault) result is answers =
+      let s = err_from_is_err_and result is in
+      let k : FaultFits steady (from_below lift expected) (itself s.0) = rw s.2 (fits_above lift steady expected (fault_of fault) answers.err) in
+      rw s.1 (record { ok = tt; err = k })
+
+  -- a read that failed has its cause
+  pub causes_above : {before now : ℕ} (one : Result B E) (result : Result B (Fault Q)) → IsNamedAbove one result → HasCauses fault_of before now one → HasCauses itself before now result
+  causes_above (Ok x) result is causes = rw is (record { err = tt })
+  causes_above {before} {now} (Err fault) result is causes =
+      let s = err_from_is_err_and result is in
+      let k : HasCauseAt before now (itself s.0) = rw s.2 (cause_above lift before now (fault_of fault) causes.err) in
+      rw s.1 (record { err = k })
+
+  -- what is said of a full zone
+  pub fulls_above : (P : ℕ → ℕ → Type 0) (one : Result B E) (result : Result B (Fault Q)) → IsNamedAbove one result → IfErr one (λ fault. IfFull (fault_of fault) P) → IfErr result (λ fault. IfFull (itself fault) P)
+  fulls_above P (Ok x) result is full = rw is tt
+  fulls_above P (Err fault) result is full =
+      let s = err_from_is_err_and result is in
+      let k : IfFull (itself s.0) P = rw s.2 (full_above lift P (fault_of fault) full) in
+      rw s.1 k

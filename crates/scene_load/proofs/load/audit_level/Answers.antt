@@ -1,0 +1,33 @@
+use Rattle.outside.specs.Faults.{itself}
+use Rattle.outside.proofs.ThroughLemmas.{ok_through}
+use Rattle.lump_rules.specs.Contents.{lump_bytes}
+use Rattle.command_line.specs.LevelJobs.{level_job_value}
+use Rattle.refusals.specs.Groups.{of_audit}
+use Rattle.scene_load.specs.Files.{value_of}
+use Rattle.scene_load.specs.Fulls.{IsFullOver}
+use Rattle.scene_load.specs.Loads.{audited_in}
+use Rattle.scene_load.proofs.AboveLemmas.{answers_above, causes_above, fulls_above}
+use Rattle.scene_load.proofs.load.audit_level.Goals as goal
+
+pub returns-clause-answers : goal.returns-clause-answers
+returns-clause-answers g c contents told =
+    answers_above itself of_audit (audited_in (lump_bytes contents c.args.files.now.dir.lumps) (level_job_value c.args.level.now) (value_of c.args.files.now)) c.audit_files.result c.map_err.result c.map_err.ensures.cases (c.audit_files.ensures.answers contents told)
+
+pub returns-clause-named : goal.returns-clause-named
+returns-clause-named g c = ok_through _ _ c.audit_files.result c.map_err.result c.map_err.ensures.cases c.audit_files.ensures.named
+
+pub returns-clause-sizes : goal.returns-clause-sizes
+returns-clause-sizes g c = ok_through _ _ c.audit_files.result c.map_err.result c.map_err.ensures.cases c.audit_files.ensures.sizes
+
+pub returns-clause-full : goal.returns-clause-full
+returns-clause-full g c contents told =
+    fulls_above itself of_audit (IsFullOver (lump_bytes contents c.args.files.now.dir.lumps) (level_job_value c.args.level.now) (value_of c.args.files.now)) c.audit_files.result c.map_err.result c.map_err.ensures.cases (c.audit_files.ensures.full contents told)
+
+pub returns-clause-rest : goal.returns-clause-rest
+returns-clause-rest g c = ok_through _ _ c.audit_files.result c.map_err.result c.map_err.ensures.cases c.audit_files.ensures.rest
+
+pub returns-clause-causes : goal.returns-clause-causes
+returns-clause-causes g c = causes_above itself of_audit c.audit_files.result c.map_err.result c.map_err.ensures.cases c.audit_files.ensures.causes
+
+pub returns-clause-fits : goal.returns-clause-fits
+returns-clause-fits g c = ok_through _ _ c.audit_files.result c.map_err.result c.map_err.ensures.cases c.audit_files.ensures.fits
