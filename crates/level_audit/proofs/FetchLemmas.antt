@@ -1,5 +1,5 @@
 -- What is told of an audit after its first fetch, that of COLORMAP, by what is told of the rest.
-use Rattle.std.proofs.Common.{◌≡◌, ◌≢◌, ◌≤◌, ◌+◌, ℕ, Bool, List, Result, Ok, Err, sym, ap, subst, ◌∙◌, arith, inl, inr, IsErrAnd, MatchResult}
+use Rattle.std.proofs.Common.{◌≡◌, ◌≢◌, ◌≤◌, ◌<◌, ◌+◌, ℕ, Bool, List, Result, Ok, Err, sym, ap, subst, ◌∙◌, arith, inl, inr, IsErrAnd, MatchResult}
 use Rattle.std.specs.Prelude.{IfErr, IfOk}
 use Rattle.std.proofs.lemmas.Result.{err_from_is_err_and}
 use Rattle.outside.specs.Shelf.{NameFiles, IsLaterShelf, ShelfView}
@@ -9,6 +9,7 @@ use Rattle.outside.proofs.ShelfLemmas.{all_stand_later}
 use Rattle.lump_rules.specs.Contents.{lump_bytes}
 use Rattle.lump_rules.specs.Lookups.{lump_at}
 use Rattle.zone_rules.specs.Orders.{Item, KeepsOrder}
+use Rattle.zone_rules.specs.declared.TheConstants.{MIN_FRAGMENT}
 use Rattle.zone_rules.specs.Zones.{Heap, block_size}
 use Rattle.zone_rules.proofs.GapLemmas.{small_all}
 use Rattle.zone_rules.proofs.OrderLemmas.{order_then}
@@ -75,6 +76,15 @@ module _ {v w : ShelfView} {dir : DirectoryView} {a b : Heap} (later : (contents
   full_after lines name skill (Ok sound) full = tt
   full_after lines name skill (Err fault) full =
       full_at (itself fault) (λ wanted widest' k. record { lump = k.lump; asked = λ contents t. inr (k.asked contents (later contents t)); wanted_is = k.wanted_is; narrow = k.narrow }) full
+
+-- no room for a later lump: the zone does not hold it beside the colormap
+pub room_after : (wants : ℕ → Type 0) (dir : DirectoryView) (a b : Heap) (colormap other : ℕ) (result : Result SoundValue (Fault AuditRefusal)) → colormap ≡ other → IsAtRest colormap (lump_at dir.lumps colormap).size b → b.size ≡ a.size →
+    IfErr result (λ f. IfFull (itself f) (IsFullFor wants dir b)) → IfErr result (λ f. IfFull (itself f) (λ wanted widest'. a.size < block_size (lump_at dir.lumps other).size + wanted + MIN_FRAGMENT))
+room_after wants dir a b colormap other (Ok sound) same rest size full = tt
+room_after wants dir a b colormap other (Err fault) same rest size full =
+    full_at fault (λ wanted widest' k.
+    subst (λ n. n < block_size (lump_at dir.lumps other).size + wanted + MIN_FRAGMENT) size
+    (subst (λ n. b.size < block_size (lump_at dir.lumps n).size + wanted + MIN_FRAGMENT) same (k.room colormap (lump_at dir.lumps colormap).size rest))) full
 
 -- a cache that was in order stays so through both
 pub order_after : {R E A : Type 0} {items : List Item} {a b : Heap} {i j : ℕ} (told : E → Fault R) (c : Heap) (k : ℕ) (result : Result A E) → KeepsOrder items a b i j → MatchResult result (λ _. KeepsOrder items b c j k) (λ f. InOrderAt (told f) (KeepsOrder items b c j k)) →

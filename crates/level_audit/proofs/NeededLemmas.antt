@@ -77,19 +77,19 @@ list_lump lumps lump (inr (inl first)) = rw (last_is lumps TEXTURE1 lump first, 
 list_lump lumps lump (inr (inr second)) = rw (last_is lumps TEXTURE2 lump second, or-true) refl
 
 module _ (bytes : ℕ → List ℕ) (lumps : List Lump) (lines : List ThingLine) (name : List ℕ) (skill : ℕ) (scene : SceneValue) (parts : IsSceneOf bytes lumps lines name skill scene) (lump : ℕ) where
-  base_parts : IsBaseOf lumps name scene.base
-  base_parts = base_parts bytes lumps name scene.base parts.base
+  base_facts : IsBaseOf lumps name scene.base
+  base_facts = base_parts bytes lumps name scene.base parts.base
 
   -- a lump of the map, of the base
   needed_map : IsLumpOfMap lumps name lump → is_needed lumps (art_of scene) lump ≡ true
   unfolding art_of
-  needed_map asked = for_map lumps (art_of scene) lump (ap (λ (label : ℕ). is_map_lump label lump) (same_value scene.base.label asked.label base_parts.label asked.is) ∙ asked.among)
+  needed_map asked = for_map lumps (art_of scene) lump (ap (λ (label : ℕ). is_map_lump label lump) (same_value scene.base.label asked.label base_facts.label asked.is) ∙ asked.among)
 
-  needed_ground : IsOfBase lumps name lump → is_needed lumps (art_of scene) lump ≡ true
+  needed_base : IsOfBase lumps name lump → is_needed lumps (art_of scene) lump ≡ true
   unfolding art_of
-  needed_ground (inl playpal) = for_palette lumps (art_of scene) lump (eq-eqb scene.base.playpal lump (same_value scene.base.playpal lump base_parts.playpal playpal))
-  needed_ground (inr (inl map)) = needed_map map
-  needed_ground (inr (inr list)) = for_list lumps (art_of scene) lump (list_lump lumps lump list)
+  needed_base (inl playpal) = for_palette lumps (art_of scene) lump (eq-eqb scene.base.playpal lump (same_value scene.base.playpal lump base_facts.playpal playpal))
+  needed_base (inr (inl map)) = needed_map map
+  needed_base (inr (inr list)) = for_list lumps (art_of scene) lump (list_lump lumps lump list)
 
   -- a patch or a picture
   needed_art : IsOfArt lumps lines skill scene.base scene.faces lump → is_needed lumps (art_of scene) lump ≡ true
@@ -106,7 +106,7 @@ module _ (bytes : ℕ → List ℕ) (lumps : List Lump) (lines : List ThingLine)
 
   -- all that is read after COLORMAP
   pub needed_later : IsAfterColormap bytes lumps lines name skill lump → is_needed lumps (art_of scene) lump ≡ true
-  needed_later (inl asked) = needed_ground asked
+  needed_later (inl asked) = needed_base asked
   needed_later (inr asked) = needed_over asked
 
 -- COLORMAP itself

@@ -40,9 +40,15 @@ pub(crate) fn prepare_faces<S: Shelf>(
     requires slots { length dir.now.lumps ≤ cache.old.lumps }
     requires below { All (AreBelow (length textures.old.lists.textures)) sides.now }
     requires sky { IfSome sky (λ tex. tex.0 < length textures.old.lists.textures) }
-    ensures tells { ReadsLumps itself (S.view shelf.old) (S.view shelf.new) dir.now cache.old cache.new (IsWantedPatch dir.now.lumps textures.old.lists (is_wanted_texture sides.now (option_map (λ tex. tex.0) sky))) (λ _. textures.new.prepared) (λ bytes. from_below Texture (prepared_textures (last_of dir.now.lumps) bytes textures.old.lists (is_wanted_texture sides.now (option_map (λ tex. tex.0) sky)))) result }
+    ensures tells { ReadsLumps itself (S.view shelf.old) (S.view shelf.new) dir.now cache.old
+        cache.new (IsWantedPatch dir.now.lumps textures.old.lists
+        (is_wanted_texture sides.now (option_map (λ tex. tex.0) sky))) (λ _.
+        textures.new.prepared) (λ bytes.
+        from_below Texture (prepared_textures (last_of dir.now.lumps) bytes textures.old.lists
+        (is_wanted_texture sides.now (option_map (λ tex. tex.0) sky)))) result }
     ensures lists { textures.new.lists ≡ textures.old.lists }
-    ensures middles { OnOk result (All (λ side. (side.middle ≡ 0) ⊎ IsPrepared textures.new side.middle) sides.now) }
+    ensures middles { OnOk result
+        (All (λ side. (side.middle ≡ 0) ⊎ IsPrepared textures.new side.middle) sides.now) }
 {
     let wanted = wanted_textures(alloc, sides, sky)?;
     textures
@@ -59,9 +65,10 @@ pub(crate) fn read_book<S: Shelf>(
     shelf: &mut S,
 ) -> Result<SpriteBook, AuditFault>
     requires { length dir.now.lumps ≤ cache.old.lumps }
-    ensures tells { ReadsLumps itself (S.view shelf.old) (S.view shelf.new) dir.now cache.old cache.new (IsWanted dir.now.lumps (map need_of placed.now)) (λ book. book) (λ bytes. from_below Sprite (book_in bytes dir.now.lumps placed.now)) result }
+    ensures tells { ReadsLumps itself (S.view shelf.old) (S.view shelf.new) dir.now cache.old
+        cache.new (IsWanted dir.now.lumps (map need_of placed.now)) (λ book. book) (λ bytes.
+        from_below Sprite (book_in bytes dir.now.lumps placed.now)) result }
 {
     let needs = placed.needs(alloc)?;
-    SpriteBook::load(alloc, &needs, dir, cache, shelf)
-        .map_err(above_sprites)
+    SpriteBook::load(alloc, &needs, dir, cache, shelf).map_err(above_sprites)
 }

@@ -18,11 +18,11 @@ ghost use Rattle.scene_rules.specs.Sizes.{needed_lumps};
 ghost use Rattle.level_audit.specs.Asked.{IsOfBase};
 ghost use Rattle.level_audit.specs.Reads.{IsFullAudit, IsReadBy, IsReadLater};
 
-use crate::{AuditFault, AuditRefusal, SoundScene};
-use csv_tables::ThingTable;
 use crate::base::read_base;
 use crate::colours::find_colormap;
 use crate::scene::read_scene;
+use crate::{AuditFault, AuditRefusal, SoundScene};
+use csv_tables::ThingTable;
 use lump_cache::LumpCache;
 use lump_rules::Name8;
 use outside::{Fault, Shelf};
@@ -63,30 +63,58 @@ pub fn audit<S: Shelf>(
 ) -> Result<SoundScene, AuditFault>
     requires slots { length dir.now.lumps ≤ cache.old.lumps }
     requires skill { (1 ≤ skill) × (skill ≤ 5) }
-    ensures answers { (contents : List (List ℕ)) → HoldContents (S.view shelf.old) dir.now cache.old contents →
-        ResultIs itself (S.view shelf.old).steady (λ sound. sound.scene) (scene_in (lump_bytes contents dir.now.lumps) dir.now.lumps things.now map.now skill) result }
-    ensures named { IfOk result (λ sound. sound.named ≡ needed_lumps dir.now.lumps (art_of sound.scene)) }
+    ensures answers { (contents : List (List ℕ)) →
+        HoldContents (S.view shelf.old) dir.now cache.old contents →
+        ResultIs itself (S.view shelf.old).steady (λ sound.
+            sound.scene) (scene_in (lump_bytes contents dir.now.lumps) dir.now.lumps things.now
+            map.now skill) result }
+    ensures named { IfOk result (λ sound.
+        sound.named ≡ needed_lumps dir.now.lumps (art_of sound.scene)) }
     ensures sizes { IfOk result (λ sound. sound.sizes ≡ sizes_of dir.now.lumps sound.scene) }
-    ensures colormap { IfOk result (λ sound. colormap_of dir.now.lumps ≡ Ok sound.scene.base.colormap) }
+    ensures colormap { IfOk result (λ sound.
+        colormap_of dir.now.lumps ≡ Ok sound.scene.base.colormap) }
     ensures causes { HasCauses itself (S.view shelf.old).faults (S.view shelf.new).faults result }
-    ensures found { IfErr result (λ fault. IfFull (itself fault) (λ wanted widest'. IsOk (colormap_of dir.now.lumps))) }
-    ensures full { IfErr result (λ fault. IfFull (itself fault) (IsFullAudit (S.view shelf.old) dir.now cache.old things.now map.now skill)) }
+    ensures found { IfErr result (λ fault.
+        IfFull (itself fault) (λ wanted widest'. IsOk (colormap_of dir.now.lumps))) }
+    ensures full { IfErr result (λ fault.
+        IfFull (itself fault) (IsFullAudit (S.view shelf.old) dir.now cache.old things.now map.now
+        skill)) }
     ensures room { (colormap : ℕ) → colormap_of dir.now.lumps ≡ Ok colormap → IsEmpty cache.old →
-        IfErr result (λ fault. IfFull (itself fault) (λ wanted widest'. cache.old.size < block_size (lump_at dir.now.lumps colormap).size + wanted + MIN_FRAGMENT)) }
-    ensures enough { (contents : List (List ℕ)) (scene : SceneValue) → HoldContents (S.view shelf.old) dir.now cache.old contents →
-        scene_in (lump_bytes contents dir.now.lumps) dir.now.lumps things.now map.now skill ≡ Ok scene → IsEmpty cache.old →
-        IfErr result (λ fault. IfFull (itself fault) (λ wanted widest'. cache.old.size < (sizes_of dir.now.lumps scene).enough)) }
-    ensures rest { IsEmpty cache.old → IfOk result (λ sound. IsAtRest sound.scene.base.colormap (lump_at dir.now.lumps sound.scene.base.colormap).size cache.new) }
-    ensures fits { IsEmpty cache.old → IfOk result (λ sound. (lump : ℕ) → IsOfBase dir.now.lumps map.now lump → lump ≢ sound.scene.base.colormap →
+        IfErr result (λ fault. IfFull (itself fault) (λ wanted widest'.
+            cache.old.size < block_size (lump_at dir.now.lumps colormap).size + wanted +
+            MIN_FRAGMENT)) }
+    ensures enough { (contents : List (List ℕ)) (scene : SceneValue) →
+        HoldContents (S.view shelf.old) dir.now cache.old contents →
+        scene_in (lump_bytes contents dir.now.lumps) dir.now.lumps things.now map.now skill ≡ Ok
+            scene → IsEmpty cache.old →
+        IfErr result (λ fault. IfFull (itself fault) (λ wanted widest'.
+            cache.old.size < (sizes_of dir.now.lumps scene).enough)) }
+    ensures rest { IsEmpty cache.old →
+        IfOk result (λ sound. IsAtRest sound.scene.base.colormap
+        (lump_at dir.now.lumps sound.scene.base.colormap).size cache.new) }
+    ensures fits { IsEmpty cache.old →
+        IfOk result (λ sound. (lump : ℕ) → IsOfBase dir.now.lumps map.now lump →
+        lump ≢ sound.scene.base.colormap →
         block_size (lump_at dir.now.lumps sound.scene.base.colormap).size + block_size (lump_at dir.now.lumps lump).size ≤ cache.old.size) }
     ensures follows { IsLaterShelf (S.view shelf.old) (S.view shelf.new) }
     ensures counts { KeepsCounts cache.old cache.new }
-    ensures faithful { (contents : List (List ℕ)) → NameFiles (S.view shelf.old) dir.now.files contents → IsFaithful contents dir.now.lumps cache.old → IsFaithful contents dir.now.lumps cache.new }
-    ensures composites { (number : ℕ) → IfSome (bytes_of (composite_owner number) cache.new.blocks) (λ bytes. bytes_of (composite_owner number) cache.old.blocks ≡ Some bytes) }
-    ensures order { (contents : List (List ℕ)) (items : List Item) → HoldContents (S.view shelf.old) dir.now cache.old contents →
-        ((lump : ℕ) → IsReadBy (lump_bytes contents dir.now.lumps) dir.now.lumps things.now map.now skill lump → has_item items (lump_owner lump) (lump_at dir.now.lumps lump).size ≡ true) →
+    ensures faithful { (contents : List (List ℕ)) →
+        NameFiles (S.view shelf.old) dir.now.files contents →
+        IsFaithful contents dir.now.lumps cache.old → IsFaithful contents dir.now.lumps cache.new }
+    ensures composites { (number : ℕ) →
+        IfSome (bytes_of (composite_owner number) cache.new.blocks) (λ bytes.
+        bytes_of (composite_owner number) cache.old.blocks ≡ Some bytes) }
+    ensures order { (contents : List (List ℕ)) (items : List Item) →
+        HoldContents (S.view shelf.old) dir.now cache.old contents →
+        ((lump : ℕ) →
+            IsReadBy (lump_bytes contents dir.now.lumps) dir.now.lumps things.now map.now skill
+            lump → has_item items (lump_owner lump) (lump_at dir.now.lumps lump).size ≡ true) →
         IsInOrder items cache.old →
-        MatchResult result (λ _. KeepsOrder items cache.old cache.new (S.view shelf.old).taken (S.view shelf.new).taken) (λ fault. InOrderAt (itself fault) (KeepsOrder items cache.old cache.new (S.view shelf.old).taken (S.view shelf.new).taken)) }
+        MatchResult result (λ _. KeepsOrder items cache.old cache.new (S.view shelf.old).taken
+            (S.view shelf.new).taken) (λ fault.
+            InOrderAt (itself fault)
+            (KeepsOrder items cache.old cache.new (S.view shelf.old).taken
+            (S.view shelf.new).taken)) }
 {
     let colormap = match find_colormap(dir) {
         Ok(colormap) => colormap,
@@ -112,11 +140,16 @@ fn audit_rest<S: Shelf>(
     requires slots { length dir.now.lumps ≤ cache.old.lumps }
     requires skill { (1 ≤ skill) × (skill ≤ 5) }
     requires colormap { colormap_of dir.now.lumps ≡ Ok colormap.0 }
-    ensures tells { ReadsLumps itself (S.view shelf.old) (S.view shelf.new) dir.now cache.old cache.new (IsReadLater (S.view shelf.old) dir.now cache.old things.now map.now skill) (λ sound. sound.scene) (λ bytes. scene_in bytes dir.now.lumps things.now map.now skill) result }
-    ensures named { IfOk result (λ sound. sound.named ≡ needed_lumps dir.now.lumps (art_of sound.scene)) }
+    ensures tells { ReadsLumps itself (S.view shelf.old) (S.view shelf.new) dir.now cache.old
+        cache.new (IsReadLater (S.view shelf.old) dir.now cache.old things.now map.now skill)
+        (λ sound. sound.scene) (λ bytes.
+        scene_in bytes dir.now.lumps things.now map.now skill) result }
+    ensures named { IfOk result (λ sound.
+        sound.named ≡ needed_lumps dir.now.lumps (art_of sound.scene)) }
     ensures sizes { IfOk result (λ sound. sound.sizes ≡ sizes_of dir.now.lumps sound.scene) }
     ensures colormap { IfOk result (λ sound. sound.scene.base.colormap ≡ colormap.0) }
-    ensures fits { IfOk result (λ sound. (lump : ℕ) → IsOfBase dir.now.lumps map.now lump → StandsBeside dir.now.lumps cache.old lump) }
+    ensures fits { IfOk result (λ sound. (lump : ℕ) → IsOfBase dir.now.lumps map.now lump →
+        StandsBeside dir.now.lumps cache.old lump) }
 {
     let base = read_base(alloc, colormap, map, dir, cache, shelf)?;
     let scene = read_scene(alloc, base, map, things, skill, dir, cache, shelf)?;

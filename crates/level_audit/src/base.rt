@@ -16,9 +16,9 @@ ghost use Rattle.scene_rules.specs.Sizes.{is_map_lump};
 ghost use Rattle.level_audit.specs.Asked.{IsOfBase, IsOfMap};
 ghost use Rattle.level_audit.specs.Bases.{base_of};
 
-use crate::{AuditFault, AuditRefusal};
 use crate::colours::{find_playpal, read_palette};
 use crate::fault::{above_level, above_textures};
+use crate::{AuditFault, AuditRefusal};
 use level_scene::{Level, read_level};
 use lump_cache::LumpCache;
 use lump_rules::Name8;
@@ -68,7 +68,8 @@ pub fn read_base<S: Shelf>(
     ensures tells { ReadsLumps itself (S.view shelf.old) (S.view shelf.new) dir.now cache.old
         cache.new (IsOfBase dir.now.lumps name.now) base_of
         (λ bytes. base_in bytes dir.now.lumps name.now) result }
-    ensures fits { IfOk result (λ base. (lump : ℕ) → IsOfBase dir.now.lumps name.now lump → StandsBeside dir.now.lumps cache.old lump) }
+    ensures fits { IfOk result (λ base. (lump : ℕ) → IsOfBase dir.now.lumps name.now lump →
+        StandsBeside dir.now.lumps cache.old lump) }
     ensures colormap { IfOk result (λ base. base.colormap ≡ colormap) }
     ensures label { IfOk result (λ base. base.label.0 + length MAP_LUMPS < length dir.now.lumps) }
     ensures few { IfOk result (λ base. length base.textures.lists.textures ≤ MAX_TEXTURES) }
@@ -108,7 +109,7 @@ fn read_map<S: Shelf>(
     ensures tells { ReadsLumps itself (S.view shelf.old) (S.view shelf.new) dir.now cache.old
         cache.new (IsOfMap dir.now.lumps name.now) base_of
         (λ bytes. base_over bytes dir.now.lumps name.now colours.colormap.0 colours.playpal.0
-            colours.palette.items) result }
+        colours.palette.items) result }
     ensures fits { IfOk result (λ base. (lump : ℕ) → IsOfMap dir.now.lumps name.now lump →
         StandsBeside dir.now.lumps cache.old lump) }
     ensures colormap { IfOk result (λ base. base.colormap ≡ colours.colormap) }

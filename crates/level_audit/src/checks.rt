@@ -11,9 +11,9 @@ ghost use Rattle.scene_rules.specs.Middles.{bad_middle};
 ghost use Rattle.scene_rules.specs.Scenes.{checked, texture_by};
 
 use crate::SceneRefusal;
+use crate::middles::find_bad_middle;
 use level_rules::{Seg, SideTextures};
 use level_scene::{PlacedThings, SceneFault};
-use crate::middles::find_bad_middle;
 use std::alloc::Global;
 use texture_build::Textures;
 
@@ -27,8 +27,11 @@ pub(crate) fn check_scene(
     sides: &[SideTextures],
 ) -> Result<(), SceneFault>
     requires few { length sides.now < 2 ^ 16 }
-    requires middles { All (λ side. (side.middle ≡ 0) ⊎ IsPrepared textures.now side.middle) sides.now }
-    ensures { ResultIs scene_fault true (λ done. done) (checked placed.now (bad_middle (texture_by textures.now.prepared) segs.now sides.now)) result }
+    requires middles { All (λ side. (side.middle ≡ 0) ⊎
+        IsPrepared textures.now side.middle) sides.now }
+    ensures { ResultIs scene_fault true (λ done.
+        done) (checked placed.now
+        (bad_middle (texture_by textures.now.prepared) segs.now sides.now)) result }
 {
     if let Some(thing) = placed.first_shadow() {
         return Err(SceneFault::Refused(SceneRefusal::Shadow {

@@ -26,7 +26,8 @@ use wad_dir::{Directory, LumpNo};
 ///
 /// The original: `R_InitColormaps`, r_data.c, which ends the program where there is none.
 pub fn find_colormap(dir: &Directory) -> Result<LumpNo, ArtRefusal>
-    ensures lump { MatchResult result (λ lump. colormap_of dir.now.lumps ≡ Ok lump.0) (λ refusal. colormap_of dir.now.lumps ≡ Err refusal) }
+    ensures lump { MatchResult result (λ lump. colormap_of dir.now.lumps ≡ Ok lump.0) (λ refusal.
+        colormap_of dir.now.lumps ≡ Err refusal) }
     ensures there { IfOk result (λ lump. lump.0 < length dir.now.lumps) }
 {
     find_long(dir, &Name8::from_bytes(COLORMAP), COLORMAP_SIZE).ok_or(ArtRefusal::Colormap)
@@ -38,7 +39,8 @@ pub fn find_colormap(dir: &Directory) -> Result<LumpNo, ArtRefusal>
 ///
 /// The original: `D_Display`, d_main.c, which asks for it by name.
 pub fn find_playpal(dir: &Directory) -> Result<LumpNo, ArtRefusal>
-    ensures lump { MatchResult result (λ lump. playpal_of dir.now.lumps ≡ Ok lump.0) (λ refusal. playpal_of dir.now.lumps ≡ Err refusal) }
+    ensures lump { MatchResult result (λ lump. playpal_of dir.now.lumps ≡ Ok lump.0) (λ refusal.
+        playpal_of dir.now.lumps ≡ Err refusal) }
     ensures there { IfOk result (λ lump. lump.0 < length dir.now.lumps) }
     ensures long { IfOk result (λ lump. PALETTE_SIZE ≤ (lump_at dir.now.lumps lump.0).size) }
 {
@@ -79,7 +81,9 @@ pub fn read_palette<S: Shelf>(
 ) -> Result<Vec<u8>, AuditFault>
     requires slots { length dir.now.lumps ≤ cache.old.lumps }
     requires there { playpal.0 < length dir.now.lumps }
-    ensures tells { ReadsLumps itself (S.view shelf.old) (S.view shelf.new) dir.now cache.old cache.new (λ lump. lump ≡ playpal.0) (λ palette. palette.items) (λ bytes. Ok (take PALETTE_SIZE (bytes playpal.0))) result }
+    ensures tells { ReadsLumps itself (S.view shelf.old) (S.view shelf.new) dir.now cache.old
+        cache.new (λ lump. lump ≡ playpal.0) (λ palette. palette.items) (λ bytes.
+        Ok (take PALETTE_SIZE (bytes playpal.0))) result }
     ensures fits { OnOk result (StandsBeside dir.now.lumps cache.old playpal.0) }
 {
     fetch_lump(cache, dir, shelf, playpal)?;
@@ -101,7 +105,7 @@ fn fetch_lump<S: Shelf>(
     ensures bytes { (contents : List (List ℕ)) →
         HoldContents (S.view shelf.old) dir.now cache.old contents →
         OnOk result (bytes_of (lump_owner lump.0) cache.new.blocks ≡
-            Some (lump_bytes contents dir.now.lumps lump.0)) }
+        Some (lump_bytes contents dir.now.lumps lump.0)) }
 {
     fetch_live(cache, dir, shelf, lump).map_err(CacheFault::above)
 }

@@ -56,7 +56,9 @@ impl Marks {
     // The lumps whose numbers are marked, ascending.
     pub(crate) fn lumps(&self, alloc: Global) -> Result<Vec<LumpNo>, OutOfMemory>
         requires { length self.now < 2 ^ 16 }
-        ensures { IfOk result (λ lumps. numbers_of lumps.items ≡ filter (is_marked self.now) (range_with_len 0 (length self.now))) }
+        ensures { IfOk result (λ lumps.
+            numbers_of lumps.items ≡ filter (is_marked self.now)
+            (range_with_len 0 (length self.now))) }
     {
         let mut lumps = Vec::new(alloc);
         for (number, marked) in self.list.iter().enumerate() {

@@ -33,8 +33,10 @@ pub fn find_bad_middle(
     sides: &[SideTextures],
 ) -> Result<Option<u16>, OutOfMemory>
     requires few { length sides.now < 2 ^ 16 }
-    requires prepared { All (λ side. (side.middle ≡ 0) ⊎ IsPrepared textures.now side.middle) sides.now }
-    ensures { IfOk result (λ side. side ≡ bad_middle (texture_by textures.now.prepared) segs.now sides.now) }
+    requires prepared { All (λ side. (side.middle ≡ 0) ⊎
+        IsPrepared textures.now side.middle) sides.now }
+    ensures { IfOk result (λ side.
+        side ≡ bad_middle (texture_by textures.now.prepared) segs.now sides.now) }
 {
     let mut marks = Marks::none(alloc, sides.len())?;
     mark_sides(&mut marks, segs);
@@ -44,7 +46,8 @@ pub fn find_bad_middle(
 // Marks the sides of the segs behind which there is a sector.
 fn mark_sides(marks: &mut Marks, segs: &[Seg])
     ensures count { length marks.new ≡ length marks.old }
-    ensures marked { AddsMarks marks.old marks.new (λ side. list_any (is_seen_through side) segs.now) }
+    ensures marked { AddsMarks marks.old marks.new (λ side.
+        list_any (is_seen_through side) segs.now) }
 {
     for seg in segs {
         mark_side(marks, seg);
@@ -65,9 +68,12 @@ fn mark_side(marks: &mut Marks, seg: &Seg)
 // The least side that is marked and whose middle texture is bad.
 fn first_bad(textures: &Textures, marks: &Marks, sides: &[SideTextures]) -> Option<u16>
     requires few { length sides.now < 2 ^ 16 }
-    requires prepared { All (λ side. (side.middle ≡ 0) ⊎ IsPrepared textures.now side.middle) sides.now }
+    requires prepared { All (λ side. (side.middle ≡ 0) ⊎
+        IsPrepared textures.now side.middle) sides.now }
     requires count { length marks.now ≡ length sides.now }
-    ensures { result ≡ least (λ side. is_marked marks.now side && is_bad_middle (texture_by textures.now.prepared) (middle_of sides.now side)) (length sides.now) }
+    ensures { result ≡ least (λ side.
+        is_marked marks.now side && is_bad_middle (texture_by textures.now.prepared)
+        (middle_of sides.now side)) (length sides.now) }
 {
     for (number, side) in sides.iter().enumerate() {
         if is_bad_side(textures, marks.has(number), side.middle) {
@@ -80,7 +86,8 @@ fn first_bad(textures: &Textures, marks: &Marks, sides: &[SideTextures]) -> Opti
 // Whether a side that is seen through or is not has a bad middle texture.
 fn is_bad_side(textures: &Textures, is_seen_through: bool, middle: u16) -> bool
     requires { (middle ≡ 0) ⊎ IsPrepared textures.now middle }
-    ensures { result ≡ (is_seen_through && is_bad_middle (texture_by textures.now.prepared) middle) }
+    ensures { result ≡ (is_seen_through && is_bad_middle (texture_by textures.now.prepared)
+        middle) }
 {
     is_seen_through && is_bad_middle(textures, middle)
 }

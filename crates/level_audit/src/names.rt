@@ -9,9 +9,8 @@ ghost use Rattle.level_scene.specs.Faults.{scene_fault};
 ghost use Rattle.scene_rules.specs.Scenes.{faces_in};
 ghost use Rattle.level_audit.specs.Scenes.{faces_of};
 
-use level_scene::Level;
 use level_rules::SideTextures;
-use level_scene::{SceneFault, find_flats, find_sky, number_sides};
+use level_scene::{Level, SceneFault, find_flats, find_sky, number_sides};
 use lump_rules::Name8;
 use scene_rules::SectorFlats;
 use std::alloc::Global;
@@ -38,11 +37,14 @@ pub(crate) fn find_faces(
     level: &Level,
     lists: &ListedTextures,
 ) -> Result<ReadFaces, SceneFault>
-    ensures answers { ResultIs scene_fault true faces_of (faces_in dir.now.lumps name.now level.now lists.now) result }
+    ensures answers { ResultIs scene_fault true faces_of
+        (faces_in dir.now.lumps name.now level.now lists.now) result }
     ensures sides { IfOk result (λ faces. length faces.sides.items ≡ length level.now.sides) }
     ensures flats { IfOk result (λ faces. length faces.flats.items ≡ length level.now.sectors) }
-    ensures below { IfOk result (λ faces. All (AreBelow (length lists.now.textures)) faces.sides.items) }
-    ensures sky { IfOk result (λ faces. IfSome faces.sky (λ tex. tex.0 < length lists.now.textures)) }
+    ensures below { IfOk result (λ faces.
+        All (AreBelow (length lists.now.textures)) faces.sides.items) }
+    ensures sky { IfOk result (λ faces.
+        IfSome faces.sky (λ tex. tex.0 < length lists.now.textures)) }
     ensures there { IfOk result (λ faces. All (AreThere (length dir.now.lumps)) faces.flats.items) }
 {
     let sides = number_sides(alloc, lists, level.sides())?;

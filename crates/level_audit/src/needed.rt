@@ -133,7 +133,8 @@ fn mark_patches(marks: &mut Marks, textures: &Textures)
 // Marks these lumps.
 fn mark_lumps(marks: &mut Marks, lumps: &[LumpNo])
     ensures count { length marks.new ≡ length marks.old }
-    ensures marked { AddsMarks marks.old marks.new (λ number. list_any (λ n. n == number) (numbers_of lumps.now)) }
+    ensures marked { AddsMarks marks.old marks.new (λ number.
+        list_any (λ n. n == number) (numbers_of lumps.now)) }
 {
     for lump in lumps {
         marks.set(lump.0 as usize);
@@ -144,7 +145,8 @@ fn mark_lumps(marks: &mut Marks, lumps: &[LumpNo])
 fn mark_flats(marks: &mut Marks, flats: &[SectorFlats])
     requires { length marks.old ≤ SKY_FLAT }
     ensures count { length marks.new ≡ length marks.old }
-    ensures marked { AddsMarks marks.old marks.new (λ number. list_any (has_flat number) flats.now) }
+    ensures marked { AddsMarks marks.old marks.new (λ number.
+        list_any (has_flat number) flats.now) }
 {
     for both in flats {
         mark_both(marks, both);

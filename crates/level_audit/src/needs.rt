@@ -7,10 +7,10 @@ ghost use Rattle.level_audit.specs.Views.{numbers_of};
 ghost use Rattle.level_audit.specs.Scenes.{scene_value};
 ghost use Rattle.level_audit.specs.Sound.{art_with};
 
-use outside::OutOfMemory;
 use crate::needed::{NeededArt, needed_lumps};
 use crate::scene::ReadScene;
 use crate::sizes::zone_sizes;
+use outside::OutOfMemory;
 use scene_rules::ZoneSizes;
 use std::alloc::Global;
 use wad_dir::{Directory, LumpNo};
@@ -30,8 +30,12 @@ pub(crate) fn find_needed(
     pictures: &[LumpNo],
 ) -> Result<Needed, OutOfMemory>
     requires { scene.now.base.colormap.0 < length dir.now.lumps }
-    ensures lumps { IfOk result (λ needed. numbers_of needed.lumps.items ≡ needed_lumps dir.now.lumps (art_with (scene_value scene.now) (numbers_of pictures.now))) }
-    ensures sizes { IfOk result (λ needed. needed.sizes ≡ zone_sizes dir.now.lumps (art_with (scene_value scene.now) (numbers_of pictures.now))) }
+    ensures lumps { IfOk result (λ needed.
+        numbers_of needed.lumps.items ≡ needed_lumps dir.now.lumps
+        (art_with (scene_value scene.now) (numbers_of pictures.now))) }
+    ensures sizes { IfOk result (λ needed.
+        needed.sizes ≡ zone_sizes dir.now.lumps
+        (art_with (scene_value scene.now) (numbers_of pictures.now))) }
 {
     let art = NeededArt {
         colormap: scene.base.colormap,

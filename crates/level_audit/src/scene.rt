@@ -15,11 +15,11 @@ ghost use Rattle.level_audit.specs.Asked.{IsOfArt, IsOfScene};
 ghost use Rattle.level_audit.specs.Scenes.{faces_of, scene_value};
 
 use crate::AuditFault;
+use crate::art::{prepare_faces, read_book};
+use crate::base::ReadBase;
 use crate::checks::check_scene;
 use crate::fault::above_scene;
 use crate::names::{ReadFaces, find_faces};
-use crate::art::{prepare_faces, read_book};
-use crate::base::ReadBase;
 use csv_tables::ThingTable;
 use level_scene::{PlacedThings, place_things};
 use lump_cache::LumpCache;
@@ -65,9 +65,12 @@ pub fn read_scene<S: Shelf>(
 ) -> Result<ReadScene, AuditFault>
     requires slots { length dir.now.lumps ≤ cache.old.lumps }
     requires skill { (1 ≤ skill) × (skill ≤ 5) }
-    ensures tells { ReadsLumps itself (S.view shelf.old) (S.view shelf.new) dir.now cache.old cache.new (IsOfScene dir.now.lumps things.now skill name.now (base_of base)) scene_value (λ bytes. scene_on bytes dir.now.lumps things.now skill name.now (base_of base)) result }
+    ensures tells { ReadsLumps itself (S.view shelf.old) (S.view shelf.new) dir.now cache.old
+        cache.new (IsOfScene dir.now.lumps things.now skill name.now (base_of base)) scene_value
+        (λ bytes. scene_on bytes dir.now.lumps things.now skill name.now (base_of base)) result }
     ensures base { IfOk result (λ scene. base_of scene.base ≡ base_of base) }
-    ensures flats { IfOk result (λ scene. length scene.faces.flats.items ≡ length base.level.sectors) }
+    ensures flats { IfOk result (λ scene.
+        length scene.faces.flats.items ≡ length base.level.sectors) }
 {
     let faces = match find_faces(alloc, name, dir, &base.level, base.textures.lists()) {
         Ok(faces) => faces,
@@ -92,7 +95,10 @@ fn read_art<S: Shelf>(
     requires sides { length faces.sides.items ≡ length base.level.sides }
     requires below { All (AreBelow (length base.textures.lists.textures)) faces.sides.items }
     requires sky { IfSome faces.sky (λ tex. tex.0 < length base.textures.lists.textures) }
-    ensures tells { ReadsLumps itself (S.view shelf.old) (S.view shelf.new) dir.now cache.old cache.new (IsOfArt dir.now.lumps things.now skill (base_of base) (faces_of faces)) scene_value (λ bytes. scene_with bytes dir.now.lumps things.now skill (base_of base) (faces_of faces)) result }
+    ensures tells { ReadsLumps itself (S.view shelf.old) (S.view shelf.new) dir.now cache.old
+        cache.new (IsOfArt dir.now.lumps things.now skill (base_of base) (faces_of faces))
+        scene_value (λ bytes. scene_with bytes dir.now.lumps things.now skill (base_of base)
+        (faces_of faces)) result }
     ensures base { IfOk result (λ scene. base_of scene.base ≡ base_of base) }
     ensures faces { IfOk result (λ scene. scene.faces ≡ faces) }
 {
@@ -122,8 +128,12 @@ fn read_things<S: Shelf>(
 ) -> Result<ReadScene, AuditFault>
     requires slots { length dir.now.lumps ≤ cache.old.lumps }
     requires sides { length faces.sides.items ≡ length base.level.sides }
-    requires middles { All (λ side. (side.middle ≡ 0) ⊎ IsPrepared base.textures side.middle) faces.sides.items }
-    ensures tells { ReadsLumps itself (S.view shelf.old) (S.view shelf.new) dir.now cache.old cache.new (IsWanted dir.now.lumps (map need_of placed)) scene_value (λ bytes. scene_over bytes dir.now.lumps (base_of base) (faces_of faces) placed base.textures.prepared) result }
+    requires middles { All (λ side. (side.middle ≡ 0) ⊎
+        IsPrepared base.textures side.middle) faces.sides.items }
+    ensures tells { ReadsLumps itself (S.view shelf.old) (S.view shelf.new) dir.now cache.old
+        cache.new (IsWanted dir.now.lumps (map need_of placed)) scene_value (λ bytes.
+        scene_over bytes dir.now.lumps (base_of base) (faces_of faces) placed
+        base.textures.prepared) result }
     ensures base { IfOk result (λ scene. scene.base ≡ base) }
     ensures faces { IfOk result (λ scene. scene.faces ≡ faces) }
 {

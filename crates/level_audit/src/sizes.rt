@@ -60,7 +60,8 @@ fn with_block(blocks: Blocks, size: u64) -> Blocks
 fn lump_blocks(dir: &Directory, lumps: &[LumpNo]) -> Blocks
     requires ascending { IsStrictlyIncreasing (numbers_of lumps.now) }
     requires there { All (λ lump. lump.0 < length dir.now.lumps) lumps.now }
-    ensures greatest { result.greatest ≡ greatest_by (lump_block dir.now.lumps) (numbers_of lumps.now) }
+    ensures greatest { result.greatest ≡ greatest_by (lump_block dir.now.lumps)
+        (numbers_of lumps.now) }
     ensures sum { result.sum ≡ sum_by (lump_block dir.now.lumps) (numbers_of lumps.now) }
     ensures fits { (result.greatest ≤ 2 ^ 33) × (result.sum ≤ 2 ^ 49) }
 {

@@ -12,11 +12,10 @@ ghost use Rattle.level_audit.specs.Scenes.{scene_value};
 ghost use Rattle.level_audit.specs.Sound.{middles_of, textures_view};
 
 use crate::needs::{Needed, find_needed};
-use level_scene::Level;
-use level_rules::{PlacedThing, SideTextures, Surface};
-use level_scene::{make_surfaces, sector_at};
-use outside::OutOfMemory;
 use crate::scene::ReadScene;
+use level_rules::{PlacedThing, SideTextures, Surface};
+use level_scene::{Level, make_surfaces, sector_at};
+use outside::OutOfMemory;
 use scene_rules::{SectorFlats, ZoneSizes};
 use sprite_book::SpriteBook;
 use std::alloc::Global;
@@ -63,8 +62,10 @@ impl SoundScene {
         requires flats { length scene.faces.flats.items ≡ length scene.base.level.sectors }
         requires colormap { scene.base.colormap.0 < length dir.now.lumps }
         ensures scene { IfOk result (λ sound. sound.scene ≡ scene_value scene) }
-        ensures named { IfOk result (λ sound. sound.named ≡ needed_lumps dir.now.lumps (art_of (scene_value scene))) }
-        ensures sizes { IfOk result (λ sound. sound.sizes ≡ sizes_of dir.now.lumps (scene_value scene)) }
+        ensures named { IfOk result (λ sound.
+            sound.named ≡ needed_lumps dir.now.lumps (art_of (scene_value scene))) }
+        ensures sizes { IfOk result (λ sound.
+            sound.sizes ≡ sizes_of dir.now.lumps (scene_value scene)) }
     {
         let needed = find_needed(alloc, dir, &scene, scene.book.pictures())?;
         let middles = middles_of(alloc, &scene.faces.sides)?;
@@ -86,7 +87,8 @@ impl SoundScene {
 
     // Takes what is needed, and how large a zone has to be for it, in place of what was.
     pub(crate) fn set_needed(&mut self, needed: Needed)
-        ensures { self.new ≡ record self.old { named = numbers_of needed.lumps.items; sizes = needed.sizes } }
+        ensures { self.new ≡ record self.old
+            { named = numbers_of needed.lumps.items; sizes = needed.sizes } }
     {
         self.needed = needed;
     }
@@ -142,7 +144,8 @@ impl SoundScene {
     /// The sectors as the drawing layers compare them, in their order: heights in map units (16.16
     /// fixed point), flats by the numbers of their lumps or 65536 for the sky, light.
     pub fn surfaces(&self) -> &[Surface]
-        ensures { result.now ≡ surfaces_of self.now.scene.base.level.sectors self.now.scene.faces.flats }
+        ensures { result.now ≡ surfaces_of self.now.scene.base.level.sectors
+            self.now.scene.faces.flats }
     {
         &self.surfaces
     }

@@ -41,7 +41,9 @@ pub fn audit_weapons<S: Shelf>(
 ) -> Result<SpriteBook, AuditFault>
     requires slots { length dir.now.lumps ≤ cache.old.lumps }
     requires colormap { scene.old.scene.base.colormap < length dir.now.lumps }
-    ensures tells { ReadsLumps itself (S.view shelf.old) (S.view shelf.new) dir.now cache.old cache.new (IsWanted dir.now.lumps (weapon_needs weapons.now)) (λ book. book) (λ bytes. from_below WeaponArt (weapon_book bytes dir.now.lumps weapons.now)) result }
+    ensures tells { ReadsLumps itself (S.view shelf.old) (S.view shelf.new) dir.now cache.old
+        cache.new (IsWanted dir.now.lumps (weapon_needs weapons.now)) (λ book. book) (λ bytes.
+        from_below WeaponArt (weapon_book bytes dir.now.lumps weapons.now)) result }
     ensures scene { IfOk result (λ book. scene.new ≡ with_book dir.now.lumps book scene.old) }
     ensures unchanged { OnErr result (scene.new ≡ scene.old) }
 {
@@ -61,7 +63,9 @@ fn load_weapons<S: Shelf>(
     shelf: &mut S,
 ) -> Result<SpriteBook, AuditFault>
     requires { length dir.now.lumps ≤ cache.old.lumps }
-    ensures tells { ReadsLumps itself (S.view shelf.old) (S.view shelf.new) dir.now cache.old cache.new (IsWanted dir.now.lumps (weapon_needs weapons.now)) (λ book. book) (λ bytes. from_below WeaponArt (weapon_book bytes dir.now.lumps weapons.now)) result }
+    ensures tells { ReadsLumps itself (S.view shelf.old) (S.view shelf.new) dir.now cache.old
+        cache.new (IsWanted dir.now.lumps (weapon_needs weapons.now)) (λ book. book) (λ bytes.
+        from_below WeaponArt (weapon_book bytes dir.now.lumps weapons.now)) result }
 {
     let needs = weapon_needs(alloc, weapons.rows())?;
     match SpriteBook::load(alloc, &needs, dir, cache, shelf) {

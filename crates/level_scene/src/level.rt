@@ -44,10 +44,13 @@ pub fn read_level<S: Shelf>(
     shelf: &mut S,
 ) -> Result<(LumpNo, Level), LevelFault>
     requires { length dir.now.lumps ≤ cache.old.lumps }
-    ensures tells { ReadsLumps itself (S.view shelf.old) (S.view shelf.new) dir.now cache.old cache.new (IsLumpOfMap dir.now.lumps name.now) (λ found. (found.0.0, found.1)) (λ bytes. level_in bytes dir.now.lumps name.now) result }
+    ensures tells { ReadsLumps itself (S.view shelf.old) (S.view shelf.new) dir.now cache.old
+        cache.new (IsLumpOfMap dir.now.lumps name.now) (λ found. (found.0.0, found.1)) (λ bytes.
+        level_in bytes dir.now.lumps name.now) result }
     ensures label { IfOk result (λ found. label_of dir.now.lumps name.now ≡ Ok found.0.0) }
     ensures there { IfOk result (λ found. found.0.0 + length MAP_LUMPS < length dir.now.lumps) }
-    ensures fits { IfOk result (λ found. (lump : ℕ) → is_map_lump found.0.0 lump ≡ true → StandsBeside dir.now.lumps cache.old lump) }
+    ensures fits { IfOk result (λ found. (lump : ℕ) → is_map_lump found.0.0 lump ≡ true →
+        StandsBeside dir.now.lumps cache.old lump) }
 {
     let label = match label_of(dir, name) {
         Ok(label) => label,
@@ -59,7 +62,9 @@ pub fn read_level<S: Shelf>(
 
 // The label of a map.
 fn label_of(dir: &Directory, name: &Name8) -> Result<LumpNo, MapRefusal>
-    ensures label { MatchResult result (λ label. label_of dir.now.lumps name.now ≡ Ok label.0) (λ refusal. label_of dir.now.lumps name.now ≡ Err refusal) }
+    ensures label { MatchResult result (λ label.
+        label_of dir.now.lumps name.now ≡ Ok label.0) (λ refusal.
+        label_of dir.now.lumps name.now ≡ Err refusal) }
     ensures there { IfOk result (λ label. label.0 + length MAP_LUMPS < length dir.now.lumps) }
     ensures number { IfOk result (λ label. label.0 + length MAP_LUMPS < 2 ^ 16) }
 {
@@ -77,8 +82,11 @@ fn level_behind<S: Shelf>(
     requires slots { length dir.now.lumps ≤ cache.old.lumps }
     requires there { label.0 + length MAP_LUMPS < length dir.now.lumps }
     requires number { label.0 + length MAP_LUMPS < 2 ^ 16 }
-    ensures tells { ReadsLumps itself (S.view shelf.old) (S.view shelf.new) dir.now cache.old cache.new (λ lump. is_map_lump label.0 lump ≡ true) (λ level. level) (λ bytes. level_of (map_bytes bytes label.0)) result }
-    ensures fits { IfOk result (λ level. (lump : ℕ) → is_map_lump label.0 lump ≡ true → StandsBeside dir.now.lumps cache.old lump) }
+    ensures tells { ReadsLumps itself (S.view shelf.old) (S.view shelf.new) dir.now cache.old
+        cache.new (λ lump. is_map_lump label.0 lump ≡ true) (λ level. level) (λ bytes.
+        level_of (map_bytes bytes label.0)) result }
+    ensures fits { IfOk result (λ level. (lump : ℕ) → is_map_lump label.0 lump ≡ true →
+        StandsBeside dir.now.lumps cache.old lump) }
 {
     let builder = add_lumps(alloc, &LUMPS, label, dir, cache, shelf)?;
     builder.finish(alloc).map_err(map_fault)

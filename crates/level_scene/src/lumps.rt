@@ -49,9 +49,12 @@ pub(crate) fn add_lumps<S: Shelf>(
     requires there { label.0 + length MAP_LUMPS < length dir.now.lumps }
     requires number { label.0 + length MAP_LUMPS < 2 ^ 16 }
     requires lumps { map lump_no lumps.now ≡ range_with_len 0 (length MAP_LUMPS) }
-    ensures tells { ReadsLumps itself (S.view shelf.old) (S.view shelf.new) dir.now cache.old cache.new (λ lump. is_map_lump label.0 lump ≡ true) (λ builder. builder) (λ bytes. lumps_from bytes label.0 1 lumps.now empty_builder) result }
+    ensures tells { ReadsLumps itself (S.view shelf.old) (S.view shelf.new) dir.now cache.old
+        cache.new (λ lump. is_map_lump label.0 lump ≡ true) (λ builder. builder) (λ bytes.
+        lumps_from bytes label.0 1 lumps.now empty_builder) result }
     ensures added { IfOk result (λ builder. builder.added ≡ all_added) }
-    ensures fits { IfOk result (λ builder. (lump : ℕ) → is_map_lump label.0 lump ≡ true → StandsBeside dir.now.lumps cache.old lump) }
+    ensures fits { IfOk result (λ builder. (lump : ℕ) → is_map_lump label.0 lump ≡ true →
+        StandsBeside dir.now.lumps cache.old lump) }
 {
     let mut builder = LevelBuilder::new();
     for (i, lump) in lumps.iter().enumerate() {
@@ -74,8 +77,11 @@ fn add_lump<S: Shelf>(
     requires slots { length dir.now.lumps ≤ cache.old.lumps }
     requires there { number.0 < length dir.now.lumps }
     requires absent { is_added builder.old lump ≡ false }
-    ensures tells { ReadsLumps itself (S.view shelf.old) (S.view shelf.new) dir.now cache.old cache.new (λ n. n ≡ number.0) (λ done. builder.new) (λ bytes. lump_added builder.old lump (bytes number.0)) result }
-    ensures added { OnOk result (builder.new.added ≡ slice_set builder.old.added (lump_no lump) true) }
+    ensures tells { ReadsLumps itself (S.view shelf.old) (S.view shelf.new) dir.now cache.old
+        cache.new (λ n. n ≡ number.0) (λ done. builder.new) (λ bytes.
+        lump_added builder.old lump (bytes number.0)) result }
+    ensures added { OnOk result (builder.new.added ≡ slice_set builder.old.added (lump_no lump)
+        true) }
     ensures fits { OnOk result (StandsBeside dir.now.lumps cache.old number.0) }
 {
     fetch_lump(cache, dir, shelf, number)?;
@@ -99,7 +105,7 @@ fn fetch_lump<S: Shelf>(
     ensures bytes { (contents : List (List ℕ)) →
         HoldContents (S.view shelf.old) dir.now cache.old contents →
         OnOk result (bytes_of (lump_owner number.0) cache.new.blocks ≡
-            Some (lump_bytes contents dir.now.lumps number.0)) }
+        Some (lump_bytes contents dir.now.lumps number.0)) }
 {
     fetch_live(cache, dir, shelf, number).map_err(CacheFault::above)
 }

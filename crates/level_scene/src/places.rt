@@ -13,13 +13,13 @@ ghost use Rattle.scene_rules.specs.declared.Placed.{Placed};
 ghost use Rattle.scene_rules.specs.Places.{first_shadow, is_in_skill, is_shadow, leaf_from, need_of, placed_if, placed_in, placed_row, placed_thing, placed_things, sector_at, skill_option, thing_angle, thing_height, things_of};
 ghost use Rattle.level_scene.specs.Groups.{AreGroupsOf, IsIn};
 
+use art_rules::Need;
 use csv_tables::{ThingRow, ThingTable};
 use fx_words::{minus, shl_word, times};
 use level_rules::{Child, MAX_DEPTH, Node, Partition4, PlacedThing, Sector, Thing};
 use map_lumps::Level;
 use outside::OutOfMemory;
 use scene_rules::{EASY, EIGHTH_DEGREES, HARD, LAST_EASY, NORMAL, NORMAL_SKILL, NOT_ALONE, Placed};
-use art_rules::Need;
 use std::alloc::Global;
 use std::marker::Model;
 use view_frame::side_of;

@@ -2,10 +2,10 @@
 ghost use Rattle.std.specs.Prelude.{◌≤◌};
 
 use crate::places::{PlacedThings, place_things, sector_at};
+use art_rules::Need;
 use csv_tables::ThingTable;
 use level_rules::PlacedThing;
 use map_lumps::{Level, LevelBuilder, MapFault, MapLump};
-use art_rules::Need;
 use std::alloc::{AllocError, Global};
 
 const UNIT: i32 = 65536;

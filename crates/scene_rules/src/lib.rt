@@ -10,10 +10,9 @@
 
 mod refusal;
 
-
 use level_rules::{PlacedThing, ThingRow};
-pub use refusal::{ArtRefusal, AuditRefusal, SceneRefusal, WeaponRefusal};
 use lump_rules::LumpNo;
+pub use refusal::{ArtRefusal, AuditRefusal, SceneRefusal, WeaponRefusal};
 
 /// The bytes of a name of a lump or a texture.
 pub const NAME_SIZE: usize = 8;

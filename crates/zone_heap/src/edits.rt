@@ -14,7 +14,8 @@ use zone_rules::{MIN_FRAGMENT, Tag};
 /// Joins free neighbours.
 pub fn join(records: &mut Vec<Record>)
     requires { size_of_all records.old.items < 2 ^ 32 }
-    ensures blocks { (region : List ℕ) → blocks_of region records.new.items ≡ join_free (blocks_of region records.old.items) }
+    ensures blocks { (region : List ℕ) →
+        blocks_of region records.new.items ≡ join_free (blocks_of region records.old.items) }
     ensures capacity { vec_capacity records.new ≡ vec_capacity records.old }
 {
     let mut from = records.len();
@@ -53,8 +54,10 @@ pub fn take(records: &mut Vec<Record>, index: usize, wanted: u32, used: Used) ->
     requires in_bounds { index < vec_len records.old }
     requires room { vec_len records.old < vec_capacity records.old }
     requires large { wanted ≤ (get_or records.old.items index no_record).size }
-    requires small { (get_or records.old.items index no_record).place + (get_or records.old.items index no_record).size < 2 ^ 32 }
-    ensures items { records.new.items ≡ list.take index records.old.items ++ cut_record wanted used (get_or records.old.items index no_record) ++ drop (index + 1) records.old.items }
+    requires small { (get_or records.old.items index no_record).place +
+        (get_or records.old.items index no_record).size < 2 ^ 32 }
+    ensures items { records.new.items ≡ list.take index records.old.items ++ cut_record wanted used
+        (get_or records.old.items index no_record) ++ drop (index + 1) records.old.items }
     ensures end { result ≡ end_of wanted (get_or records.old.items index no_record) }
     ensures capacity { vec_capacity records.old ≤ vec_capacity records.new }
 {
@@ -84,11 +87,21 @@ pub fn take(records: &mut Vec<Record>, index: usize, wanted: u32, used: Used) ->
 /// Gives the free block at a place to a slot, and says where the rover goes.
 pub fn place_block(records: &mut Vec<Record>, place: u32, wanted: u32, used: Used, end: u32) -> u32
     requires tiles { (region : List ℕ) → Tiles 0 end (blocks_of region records.old.items) }
-    requires room_at { (region : List ℕ) → RoomAt place wanted (blocks_of region records.old.items) }
+    requires room_at { (region : List ℕ) →
+        RoomAt place wanted (blocks_of region records.old.items) }
     requires large { 24 ≤ wanted }
     requires capacity { vec_len records.old < vec_capacity records.old }
-    ensures blocks { (region : List ℕ) → blocks_of region records.new.items ≡ take_at place wanted (record { owner = owner_of used; tag = used.tag; asked = used.asked; bytes = bytes_at region place used.asked }) (blocks_of region records.old.items) }
-    ensures rover { (region : List ℕ) → result ≡ place_after place end (blocks_of region records.new.items) }
+    ensures blocks { (region : List ℕ) →
+        blocks_of region records.new.items ≡ take_at place wanted
+        (record {
+          owner = owner_of used;
+          tag = used.tag;
+          asked = used.asked;
+          bytes = bytes_at region
+              place used.asked;
+        }) (blocks_of region records.old.items) }
+    ensures rover { (region : List ℕ) →
+        result ≡ place_after place end (blocks_of region records.new.items) }
     ensures capacity { vec_capacity records.old ≤ vec_capacity records.new }
 {
     let index = index_from(records, place);
@@ -114,7 +127,8 @@ pub fn release(records: &mut [Record], kind: u8, number: u32)
 /// Gives the block at an index another tag.
 pub fn retag(records: &mut [Record], index: usize, tag: Tag)
     requires { index < length records.old }
-    ensures { records.new ≡ slice_set records.old index (retag_at tag (get_or records.old index no_record)) }
+    ensures { records.new ≡ slice_set records.old index
+        (retag_at tag (get_or records.old index no_record)) }
 {
     let record = records[index];
     records[index] = record.retag(tag);
@@ -131,7 +145,10 @@ pub fn retag_slot(
 )
     requires tiles { (region : List ℕ) → (end : ℕ) × Tiles 0 end (blocks_of region records.old) }
     requires in_range { home_index lumps kind number < length homes.now }
-    ensures { (region : List ℕ) → KnowsAll lumps homes.now (blocks_of region records.old) → Unique (blocks_of region records.old) → blocks_of region records.new ≡ map (retag_block (record { kind = kind; number = number }) tag) (blocks_of region records.old) }
+    ensures { (region : List ℕ) → KnowsAll lumps homes.now (blocks_of region records.old) →
+        Unique (blocks_of region records.old) →
+        blocks_of region records.new ≡ map
+        (retag_block (record { kind = kind; number = number }) tag) (blocks_of region records.old) }
 {
     if let Some(index) = slot_index(records, homes, lumps, kind, number) {
         retag(records, index, tag);
@@ -141,7 +158,10 @@ pub fn retag_slot(
 /// Frees the block that a slot owns, and joins it with its free neighbours.
 pub fn free(records: &mut Vec<Record>, kind: u8, number: u32)
     requires { size_of_all records.old.items < 2 ^ 32 }
-    ensures blocks { (region : List ℕ) → blocks_of region records.new.items ≡ join_free (free_owner (record { kind = kind; number = number }) (blocks_of region records.old.items)) }
+    ensures blocks { (region : List ℕ) →
+        blocks_of region records.new.items ≡ join_free
+        (free_owner (record { kind = kind; number = number })
+        (blocks_of region records.old.items)) }
     ensures capacity { vec_capacity records.new ≡ vec_capacity records.old }
 {
     release(records, kind, number);

@@ -33,7 +33,8 @@ pub fn index_from(records: &[Record], place: u32) -> usize
     ensures below { (k : ℕ) → k < result → (get_or records.now k no_record).place < place }
     ensures at { result < length records.now → place ≤ (get_or records.now result no_record).place }
     ensures bound { result ≤ length records.now }
-    ensures value { (region : List ℕ) → result ≡ position_or_len (λ b. nat_le place b.place) (blocks_of region records.now) }
+    ensures value { (region : List ℕ) →
+        result ≡ position_or_len (λ b. nat_le place b.place) (blocks_of region records.now) }
 {
     records.partition_point(|record| record.place < place)
 }
@@ -42,8 +43,13 @@ pub fn index_from(records: &[Record], place: u32) -> usize
 pub fn owned_index(records: &[Record], home: u32, kind: u8, number: u32) -> Option<usize>
     requires { (region : List ℕ) → (end : ℕ) × Tiles 0 end (blocks_of region records.now) }
     ensures bound { IfSome result (λ i. i < length records.now) }
-    ensures held { (region : List ℕ) → IfSome result (λ i. is_held_by (record { kind = kind; number = number }) (block_of region (get_or records.now i no_record)) ≡ true) }
-    ensures value { (region : List ℕ) → LivesAt home (record { kind = kind; number = number }) (blocks_of region records.now) → owned_block (record { kind = kind; number = number }) (blocks_of region records.now) ≡ option_map (λ i. block_of region (get_or records.now i no_record)) result }
+    ensures held { (region : List ℕ) →
+        IfSome result (λ i. is_held_by (record { kind = kind; number = number })
+        (block_of region (get_or records.now i no_record)) ≡ true) }
+    ensures value { (region : List ℕ) →
+        LivesAt home (record { kind = kind; number = number }) (blocks_of region records.now) →
+        owned_block (record { kind = kind; number = number }) (blocks_of region records.now) ≡
+        option_map (λ i. block_of region (get_or records.now i no_record)) result }
 {
     let index = index_from(records, home);
     if index < records.len() && records[index].is_held_by(kind, number) {
@@ -63,8 +69,12 @@ pub fn slot_index(
     requires tiles { (region : List ℕ) → (end : ℕ) × Tiles 0 end (blocks_of region records.now) }
     requires in_range { home_index lumps kind number < length homes.now }
     ensures bound { IfSome result (λ i. i < length records.now) }
-    ensures held { (region : List ℕ) → IfSome result (λ i. is_held_by (record { kind = kind; number = number }) (block_of region (get_or records.now i no_record)) ≡ true) }
-    ensures value { (region : List ℕ) → KnowsAll lumps homes.now (blocks_of region records.now) → owned_block (record { kind = kind; number = number }) (blocks_of region records.now) ≡ option_map (λ i. block_of region (get_or records.now i no_record)) result }
+    ensures held { (region : List ℕ) →
+        IfSome result (λ i. is_held_by (record { kind = kind; number = number })
+        (block_of region (get_or records.now i no_record)) ≡ true) }
+    ensures value { (region : List ℕ) → KnowsAll lumps homes.now (blocks_of region records.now) →
+        owned_block (record { kind = kind; number = number }) (blocks_of region records.now) ≡
+        option_map (λ i. block_of region (get_or records.now i no_record)) result }
 {
     let home = homes[home_index(lumps, kind, number)];
     owned_index(records, home, kind, number)
@@ -74,7 +84,10 @@ pub fn slot_index(
 pub fn slot_tag(records: &[Record], homes: &[u32], lumps: u32, kind: u8, number: u32) -> Option<Tag>
     requires tiles { (region : List ℕ) → (end : ℕ) × Tiles 0 end (blocks_of region records.now) }
     requires in_range { home_index lumps kind number < length homes.now }
-    ensures { (region : List ℕ) → KnowsAll lumps homes.now (blocks_of region records.now) → result ≡ option_map (λ h. h.tag) (holding_of (record { kind = kind; number = number }) (blocks_of region records.now)) }
+    ensures { (region : List ℕ) → KnowsAll lumps homes.now (blocks_of region records.now) →
+        result ≡ option_map (λ h.
+        h.tag) (holding_of (record { kind = kind; number = number })
+        (blocks_of region records.now)) }
 {
     match slot_index(records, homes, lumps, kind, number) {
         None => None,
@@ -86,8 +99,16 @@ pub fn slot_tag(records: &[Record], homes: &[u32], lumps: u32, kind: u8, number:
 pub fn live_span(records: &[Record], homes: &[u32], lumps: u32, kind: u8, number: u32) -> Span
     requires tiles { (region : List ℕ) → (end : ℕ) × Tiles 0 end (blocks_of region records.now) }
     requires in_range { home_index lumps kind number < length homes.now }
-    ensures value { (region : List ℕ) → KnowsAll lumps homes.now (blocks_of region records.now) → IsSome (bytes_of (record { kind = kind; number = number }) (blocks_of region records.now)) → (bytes_of (record { kind = kind; number = number }) (blocks_of region records.now) ≡ Some (slice_range region result.from result.to)) × (result.from ≡ bytes_place (owned_block (record { kind = kind; number = number }) (blocks_of region records.now))) }
-    ensures bound { (region : List ℕ) (end lumps composites : ℕ) → Tiles 0 end (blocks_of region records.now) → AllFit lumps composites (blocks_of region records.now) → (result.from ≤ result.to) × (result.to ≤ end) }
+    ensures value { (region : List ℕ) → KnowsAll lumps homes.now (blocks_of region records.now) →
+        IsSome (bytes_of (record { kind = kind; number = number }) (blocks_of region records.now)) →
+        (bytes_of (record { kind = kind; number = number }) (blocks_of region records.now) ≡ Some
+        (slice_range region result.from result.to)) ×
+        (result.from ≡ bytes_place
+        (owned_block (record { kind = kind; number = number }) (blocks_of region records.now))) }
+    ensures bound { (region : List ℕ) (end lumps composites : ℕ) →
+        Tiles 0 end (blocks_of region records.now) →
+        AllFit lumps composites (blocks_of region records.now) →
+        (result.from ≤ result.to) × (result.to ≤ end) }
 {
     match slot_span(records, homes, lumps, kind, number) {
         None => Span { from: 0, to: 0 },
@@ -105,9 +126,16 @@ pub fn slot_span(
 ) -> Option<Span>
     requires tiles { (region : List ℕ) → (end : ℕ) × Tiles 0 end (blocks_of region records.now) }
     requires in_range { home_index lumps kind number < length homes.now }
-    ensures value { (region : List ℕ) → KnowsAll lumps homes.now (blocks_of region records.now) → bytes_of (record { kind = kind; number = number }) (blocks_of region records.now) ≡ option_map (λ s. slice_range region s.from s.to) result }
-    ensures place { (region : List ℕ) → KnowsAll lumps homes.now (blocks_of region records.now) → IfSome result (λ s. s.from ≡ bytes_place (owned_block (record { kind = kind; number = number }) (blocks_of region records.now))) }
-    ensures bound { (region : List ℕ) (end lumps composites : ℕ) → Tiles 0 end (blocks_of region records.now) → AllFit lumps composites (blocks_of region records.now) → IfSome result (λ s. (s.from ≤ s.to) × (s.to ≤ end)) }
+    ensures value { (region : List ℕ) → KnowsAll lumps homes.now (blocks_of region records.now) →
+        bytes_of (record { kind = kind; number = number }) (blocks_of region records.now) ≡
+        option_map (λ s. slice_range region s.from s.to) result }
+    ensures place { (region : List ℕ) → KnowsAll lumps homes.now (blocks_of region records.now) →
+        IfSome result (λ s. s.from ≡ bytes_place
+        (owned_block (record { kind = kind; number = number }) (blocks_of region records.now))) }
+    ensures bound { (region : List ℕ) (end lumps composites : ℕ) →
+        Tiles 0 end (blocks_of region records.now) →
+        AllFit lumps composites (blocks_of region records.now) →
+        IfSome result (λ s. (s.from ≤ s.to) × (s.to ≤ end)) }
 {
     match slot_index(records, homes, lumps, kind, number) {
         None => None,

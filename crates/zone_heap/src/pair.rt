@@ -16,7 +16,11 @@ fn read_before<R, F: FnOnce(&[u8], &mut [u8]) -> R>(
     requires apart { read.to ≤ write.from }
     requires write { write.from ≤ write.to }
     requires bound { write.to ≤ vec_len region.old }
-    ensures { (w : List ℕ) × (length w ≡ write.to - write.from) × ReturnsAtPair F.FnOnce f (slice_range region.old.items read.from read.to) (slice_range region.old.items write.from write.to) result w × (region.new.items ≡ take write.from region.old.items ++ (w ++ drop write.to region.old.items)) }
+    ensures { (w : List ℕ) × (length w ≡ write.to - write.from) ×
+        ReturnsAtPair F.FnOnce f (slice_range region.old.items read.from read.to)
+        (slice_range region.old.items write.from write.to) result w ×
+        (region.new.items ≡ take write.from region.old.items ++
+        (w ++ drop write.to region.old.items)) }
 {
     let (low, high) = region.split_at_mut(write.from);
     f(&low[read.from..read.to], &mut high[..write.to - write.from])
@@ -34,7 +38,11 @@ fn read_after<R, F: FnOnce(&[u8], &mut [u8]) -> R>(
     requires apart { write.to ≤ read.from }
     requires read { read.from ≤ read.to }
     requires bound { read.to ≤ vec_len region.old }
-    ensures { (w : List ℕ) × (length w ≡ write.to - write.from) × ReturnsAtPair F.FnOnce f (slice_range region.old.items read.from read.to) (slice_range region.old.items write.from write.to) result w × (region.new.items ≡ take write.from region.old.items ++ (w ++ drop write.to region.old.items)) }
+    ensures { (w : List ℕ) × (length w ≡ write.to - write.from) ×
+        ReturnsAtPair F.FnOnce f (slice_range region.old.items read.from read.to)
+        (slice_range region.old.items write.from write.to) result w ×
+        (region.new.items ≡ take write.from region.old.items ++
+        (w ++ drop write.to region.old.items)) }
 {
     let (low, high) = region.split_at_mut(read.from);
     f(&high[..read.to - read.from], &mut low[write.from..write.to])
@@ -53,7 +61,11 @@ pub fn with_parts<R, F: FnOnce(&[u8], &mut [u8]) -> R>(
     requires write { write.from ≤ write.to }
     requires write_bound { write.to ≤ vec_len region.old }
     requires apart { (read.to ≤ write.from) ⊎ (write.to ≤ read.from) }
-    ensures parts { (w : List ℕ) × (length w ≡ write.to - write.from) × ReturnsAtPair F.FnOnce f (slice_range region.old.items read.from read.to) (slice_range region.old.items write.from write.to) result w × (region.new.items ≡ take write.from region.old.items ++ (w ++ drop write.to region.old.items)) }
+    ensures parts { (w : List ℕ) × (length w ≡ write.to - write.from) ×
+        ReturnsAtPair F.FnOnce f (slice_range region.old.items read.from read.to)
+        (slice_range region.old.items write.from write.to) result w ×
+        (region.new.items ≡ take write.from region.old.items ++
+        (w ++ drop write.to region.old.items)) }
     ensures len { vec_len region.new ≡ vec_len region.old }
 {
     if read.to <= write.from {

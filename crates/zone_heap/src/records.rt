@@ -74,7 +74,9 @@ impl Record {
     }
 
     pub fn is_held_by(&self, kind: u8, number: u32) -> bool
-        ensures { (region : List ℕ) → result ≡ is_held_by (record { kind = kind; number = number }) (block_of region self.now) }
+        ensures { (region : List ℕ) →
+            result ≡ is_held_by (record { kind = kind; number = number })
+            (block_of region self.now) }
     {
         match self.used {
             None => false,

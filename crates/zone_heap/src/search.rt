@@ -26,7 +26,9 @@ pub struct Room {
 /// The first run of blocks without a pinned one whose sizes add up to what is wanted.
 pub fn first_fit(records: &[Record], wanted: u64) -> Option<Fit>
     requires { size_of_all records.now < 2 ^ 32 }
-    ensures value { (region : List ℕ) → option_map (λ f. (f.place, f.end)) result ≡ fit_from wanted 0 0 0 (blocks_of region records.now) }
+    ensures value { (region : List ℕ) →
+        option_map (λ f. (f.place, f.end)) result ≡ fit_from wanted 0 0 0
+        (blocks_of region records.now) }
     ensures bound { IfSome result (λ f. f.end ≤ length records.now) }
 {
     let mut place: u32 = 0;
@@ -64,7 +66,8 @@ pub fn purge(records: &mut [Record]) -> u64
 
 /// The index of the block at which a search starts: the free block before the rover, or the rover's.
 pub fn start_index(records: &[Record], rover: u32) -> usize
-    ensures value { (region : List ℕ) → result ≡ position_or_len (starts_at rover) (blocks_of region records.now) }
+    ensures value { (region : List ℕ) →
+        result ≡ position_or_len (starts_at rover) (blocks_of region records.now) }
     ensures bound { result ≤ length records.now }
 {
     for (i, record) in records.iter().enumerate() {
@@ -97,7 +100,8 @@ pub fn widest_gap(records: &[Record]) -> u64
 pub fn purge_range(records: &mut [Record], from: usize, to: usize) -> u64
     requires order { from ≤ to }
     requires in_bounds { to ≤ length records.old }
-    ensures records { records.new ≡ list.take from records.old ++ (map purge_record (slice_range records.old from to) ++ drop to records.old) }
+    ensures records { records.new ≡ list.take from records.old ++
+        (map purge_record (slice_range records.old from to) ++ drop to records.old) }
     ensures count { result ≡ count_by is_purgeable_record (slice_range records.old from to) }
     ensures bound { result ≤ length records.old }
     ensures sizes { size_of_all records.new ≡ size_of_all records.old }
@@ -111,8 +115,11 @@ pub fn clear_way(records: &mut [Record], rover: u32, wanted: u64) -> Room
     requires few { length records.old < 2 ^ 32 }
     requires positive { 0 < wanted }
     requires tiled { IsTiled rover records.old }
-    ensures search { (region : List ℕ) → SearchIs wanted rover (blocks_of region records.old) result.place (blocks_of region records.new) result.purges }
-    ensures room { (region : List ℕ) → IfSome result.place (λ p. RoomAt p wanted (join_free (blocks_of region records.new))) }
+    ensures search { (region : List ℕ) →
+        SearchIs wanted rover (blocks_of region records.old) result.place
+        (blocks_of region records.new) result.purges }
+    ensures room { (region : List ℕ) →
+        IfSome result.place (λ p. RoomAt p wanted (join_free (blocks_of region records.new))) }
     ensures sizes { size_of_all records.new ≡ size_of_all records.old }
 {
     let start = start_index(records, rover);
@@ -145,10 +152,18 @@ pub fn search(records: &mut Vec<Record>, rover: u32, wanted: u64) -> Room
     requires few { vec_len records.old < 2 ^ 32 }
     requires positive { 0 < wanted }
     requires tiled { IsTiled rover records.old.items }
-    ensures place { (region : List ℕ) → first_room wanted (stretches rover (blocks_of region records.old.items)) ≡ result.place }
-    ensures blocks { (region : List ℕ) → blocks_of region records.new.items ≡ join_free (purge_among (passed_blocks wanted (stretches rover (blocks_of region records.old.items))) (blocks_of region records.old.items)) }
-    ensures purges { (region : List ℕ) → result.purges ≡ count_among (passed_blocks wanted (stretches rover (blocks_of region records.old.items))) (blocks_of region records.old.items) }
-    ensures room { (region : List ℕ) → IfSome result.place (λ p. RoomAt p wanted (blocks_of region records.new.items)) }
+    ensures place { (region : List ℕ) →
+        first_room wanted (stretches rover (blocks_of region records.old.items)) ≡ result.place }
+    ensures blocks { (region : List ℕ) →
+        blocks_of region records.new.items ≡ join_free
+        (purge_among (passed_blocks wanted (stretches rover (blocks_of region records.old.items)))
+        (blocks_of region records.old.items)) }
+    ensures purges { (region : List ℕ) →
+        result.purges ≡ count_among
+        (passed_blocks wanted (stretches rover (blocks_of region records.old.items)))
+        (blocks_of region records.old.items) }
+    ensures room { (region : List ℕ) →
+        IfSome result.place (λ p. RoomAt p wanted (blocks_of region records.new.items)) }
     ensures capacity { vec_capacity records.new ≡ vec_capacity records.old }
 {
     let room = clear_way(records, rover, wanted);

@@ -122,12 +122,18 @@ impl Zone {
         requires in_range { slot.number < slot_count self.old K.CODE }
         requires empty { IsNone (holding_of (owner_at K.CODE slot.number) self.old.blocks) }
         ensures full { IsErr result ↔ All (λ g. total g < block_size size) (gaps self.old.blocks) }
-        ensures report { IfErr result (λ e. (e.wanted ≡ block_size size) × (e.widest ≡ widest (gaps self.old.blocks))) }
+        ensures report { IfErr result (λ e. (e.wanted ≡ block_size size) ×
+            (e.widest ≡ widest (gaps self.old.blocks))) }
         ensures err { OnErr result (self.new ≡ without_room (block_size size) self.old) }
-        ensures ok { OnOk result (TakesBlock self.old self.new (owner_at K.CODE slot.number) size tag) }
-        ensures empty { OnErr result (owned_block (owner_at K.CODE slot.number) self.new.blocks ≡ None) }
+        ensures ok { OnOk result (TakesBlock self.old self.new (owner_at K.CODE slot.number) size
+            tag) }
+        ensures empty { OnErr result
+            (owned_block (owner_at K.CODE slot.number) self.new.blocks ≡ None) }
         ensures purged { OnErr result (All (λ b. is_purgeable b ≡ false) self.new.blocks) }
-        ensures others { (o : Owner) → same_owner (owner_at K.CODE slot.number) o ≡ false → owned_block o self.new.blocks ≡ block_left (passed_blocks (block_size size) (stretches self.old.rover self.old.blocks)) (owned_block o self.old.blocks) }
+        ensures others { (o : Owner) → same_owner (owner_at K.CODE slot.number) o ≡ false →
+            owned_block o self.new.blocks ≡ block_left
+            (passed_blocks (block_size size) (stretches self.old.rover self.old.blocks))
+            (owned_block o self.old.blocks) }
         ensures sound { IsSound self.new }
     {
         let wanted = block_size(size);
@@ -179,7 +185,8 @@ impl Zone {
     /// The tag of the slot's block, or None exactly where the slot is empty.
     pub fn tag<K: SlotKind>(&self, slot: Slot<K>) -> Option<Tag>
         requires { slot.number < slot_count self.now K.CODE }
-        ensures { result ≡ option_map (λ h. h.tag) (holding_of (owner_at K.CODE slot.number) self.now.blocks) }
+        ensures { result ≡ option_map (λ h.
+            h.tag) (holding_of (owner_at K.CODE slot.number) self.now.blocks) }
     {
         homes::slot_tag(
             &self.records,
@@ -238,7 +245,8 @@ impl Zone {
         requires write_in_range { write.number < self.old.composites }
         requires read_live { IsLive self.old (owner_at 0 read.number) }
         requires write_live { IsLive self.old (owner_at 1 write.number) }
-        ensures called { PairCalled F.FnOnce f (owner_at 0 read.number) (owner_at 1 write.number) self.old self.new result }
+        ensures called { PairCalled F.FnOnce f (owner_at 0 read.number) (owner_at 1 write.number)
+            self.old self.new result }
     {
         let from = homes::live_span(&self.records, &self.homes, self.lumps, 0, read.number());
         let to = homes::live_span(&self.records, &self.homes, self.lumps, 1, write.number());
@@ -270,7 +278,8 @@ impl Zone {
         requires live { IsLive self.old (owner_at K.CODE slot.number) }
         ensures freed { self.new ≡ without_block (owner_at K.CODE slot.number) self.old }
         ensures empty { owned_block (owner_at K.CODE slot.number) self.new.blocks ≡ None }
-        ensures others { (o : Owner) → same_owner (owner_at K.CODE slot.number) o ≡ false → owned_block o self.new.blocks ≡ owned_block o self.old.blocks }
+        ensures others { (o : Owner) → same_owner (owner_at K.CODE slot.number) o ≡ false →
+            owned_block o self.new.blocks ≡ owned_block o self.old.blocks }
         ensures sound { IsSound self.new }
     {
         edits::free(&mut self.records, K::CODE, slot.number());
@@ -284,8 +293,11 @@ impl Zone {
         requires in_range { slot.number < slot_count self.old K.CODE }
         requires live { IsLive self.old (owner_at K.CODE slot.number) }
         ensures tag { self.new ≡ with_tag (owner_at K.CODE slot.number) tag self.old }
-        ensures block { owned_block (owner_at K.CODE slot.number) self.new.blocks ≡ option_map (retag_block (owner_at K.CODE slot.number) tag) (owned_block (owner_at K.CODE slot.number) self.old.blocks) }
-        ensures others { (o : Owner) → same_owner (owner_at K.CODE slot.number) o ≡ false → owned_block o self.new.blocks ≡ owned_block o self.old.blocks }
+        ensures block { owned_block (owner_at K.CODE slot.number) self.new.blocks ≡ option_map
+            (retag_block (owner_at K.CODE slot.number) tag)
+            (owned_block (owner_at K.CODE slot.number) self.old.blocks) }
+        ensures others { (o : Owner) → same_owner (owner_at K.CODE slot.number) o ≡ false →
+            owned_block o self.new.blocks ≡ owned_block o self.old.blocks }
         ensures sound { IsSound self.new }
     {
         edits::retag_slot(
@@ -330,7 +342,8 @@ fn make_parts(alloc: Global, size: u32, lumps: u32, composites: u32) -> Result<P
     requires lumps { lumps < SLOT_LIMIT }
     requires composites { composites < SLOT_LIMIT }
     ensures region { IfOk result (λ p. vec_len p.region ≡ size) }
-    ensures records { IfOk result (λ p. p.records.items ≡ record { place = 0; size = size; used = None } ∷ []) }
+    ensures records { IfOk result (λ p.
+        p.records.items ≡ record { place = 0; size = size; used = None } ∷ []) }
     ensures room { IfOk result (λ p. 2 * (lumps + composites) + 1 ≤ vec_capacity p.records) }
     ensures homes { IfOk result (λ p. vec_len p.homes ≡ lumps + composites) }
 {

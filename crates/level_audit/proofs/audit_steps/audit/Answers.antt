@@ -1,82 +1,97 @@
 use Rattle.outside.specs.Faults.{itself}
-use Rattle.std.proofs.Common.{◌<◌, refl, inl, inr}
+use Rattle.std.proofs.Common.{◌<◌, ◌+◌, Err, refl, inl, inr, arith}
 use Rattle.outside.proofs.ShelfLemmas.{follows_then, all_stand_later}
 use Rattle.lump_rules.specs.Contents.{lump_bytes}
 use Rattle.lump_rules.specs.Lookups.{lump_at}
+use Rattle.zone_rules.specs.Zones.{block_size}
+use Rattle.zone_rules.specs.declared.TheConstants.{MIN_FRAGMENT}
 use Rattle.zone_rules.specs.declared.Tag.TheVariants.{Static}
 use Rattle.lump_cache.specs.Caches.{NoRoom}
-use Rattle.lump_cache.proofs.SizeLemmas.{sizes_empty, sizes_fetched}
+use Rattle.lump_cache.proofs.FetchLemmas.{fetch_first, fetch_no_room, fetch_room_first, fetch_sizes}
+use Rattle.lump_cache.proofs.SizeLemmas.{sizes_empty}
 use Rattle.scene_rules.specs.declared.refusal.AuditRefusal.TheVariants.{Art}
 use Rattle.scene_rules.specs.Scenes.{scene_in, sizes_of}
 use Rattle.level_audit.specs.Reads.{IsFullAudit}
-use Rattle.level_audit.proofs.FetchLemmas.{answers_after, answers_none, fits_after, full_above, full_after, full_both, full_first, order_after, rest_after, told_after}
+use Rattle.level_audit.proofs.FetchLemmas.{answers_after, answers_none, fits_after, full_above, full_after, full_both, full_first, order_after, rest_after, room_after, told_after}
 use Rattle.level_audit.proofs.NeededLemmas.{enough_after, small_first}
-use Rattle.level_audit.proofs.SceneLemmas.{scene_in-none}
+use Rattle.level_audit.proofs.SceneLemmas.{same_value, scene_in-none}
 use Rattle.level_audit.proofs.audit_steps.audit.Goals as goal
 
-pub returns-in_err-colormap-clause-answers : goal.returns-in_err-colormap-clause-answers
-returns-in_err-colormap-clause-answers g c = λ contents told.
-    answers_none _ _ (Art c.in_err-colormap.field-0.0) c.from_residual.result (scene_in-none _ c.args.dir.now.lumps c.args.things.now c.args.map.now c.args.skill c.in_err-colormap.field-0.0 c.in_err-colormap.ensures.lump) c.from_residual.ensures.1
+pub returns-in-Err-clause-answers : goal.returns-in-Err-clause-answers
+returns-in-Err-clause-answers g c = λ contents told.
+    answers_none _ _ (Art c.in-Err.refusal) _ (scene_in-none _ c.args.dir.now.lumps c.args.things.now c.args.map.now c.args.skill c.in-Err.refusal c.in-Err.ensures.lump) refl
 
-pub returns-in_err-fetch-clause-full : goal.returns-in_err-fetch-clause-full
-returns-in_err-fetch-clause-full g c =
+pub returns-in-Err-fetch-clause-full : goal.returns-in-Err-fetch-clause-full
+returns-in-Err-fetch-clause-full g c =
     let dir = c.args.dir.now in
     let v = g.S.Shelf.view c.args.shelf.now in
-    let colormap = c.in_ok-colormap.colormap.0 in
-    full_above (NoRoom (lump_at dir.lumps colormap).size c.args.cache.now) (IsFullAudit v dir c.args.cache.now c.args.things.now c.args.map.now c.args.skill) c.fetch.result c.in_err-fetch.field-0.0 c.from_residual-in_err-fetch.result c.in_err-fetch.was c.from_residual-in_err-fetch.ensures.1
-    (λ wanted widest' none. full_first v dir c.args.cache.now c.args.things.now c.args.map.now c.args.skill colormap wanted widest' c.in_ok-colormap.ensures.lump none) c.fetch.ensures.full
+    let colormap = c.in-Ok.colormap.0 in
+    full_above (NoRoom (lump_at dir.lumps colormap).size c.args.cache.now) (IsFullAudit v dir c.args.cache.now c.args.things.now c.args.map.now c.args.skill) c.fetch.result c.in-Err-fetch.fault (Err c.above.result) c.in-Err-fetch.is c.above.ensures
+    (λ wanted widest' none. full_first v dir c.args.cache.now c.args.things.now c.args.map.now c.args.skill colormap wanted widest' c.in-Ok.ensures.lump none) (fetch_no_room c.fetch.ensures.fetches)
 
-pub returns-in_err-fetch-clause-enough : goal.returns-in_err-fetch-clause-enough
-returns-in_err-fetch-clause-enough g c = λ contents scene told accepted empty.
+pub returns-in-Err-fetch-clause-room : goal.returns-in-Err-fetch-clause-room
+returns-in-Err-fetch-clause-room g c = λ colormap is empty.
+    let cache = c.args.cache.now in
+    full_above (λ wanted widest'. cache.size < wanted) (λ wanted widest'. cache.size < block_size (lump_at c.args.dir.now.lumps colormap).size + wanted + MIN_FRAGMENT) c.fetch.result c.in-Err-fetch.fault (Err c.above.result) c.in-Err-fetch.is c.above.ensures
+    (λ wanted widest' small. omega (arith, small)) (fetch_room_first c.fetch.ensures.fetches empty)
+
+pub returns-in-Err-fetch-clause-enough : goal.returns-in-Err-fetch-clause-enough
+returns-in-Err-fetch-clause-enough g c = λ contents scene told accepted empty.
     let dir = c.args.dir.now in
     let cache = c.args.cache.now in
-    let colormap = c.in_ok-colormap.colormap.0 in
+    let colormap = c.in-Ok.colormap.0 in
     let none = NoRoom (lump_at dir.lumps colormap).size cache in
-    full_above (λ wanted widest'. none wanted widest' × (cache.size < wanted)) (λ wanted widest'. cache.size < (sizes_of dir.lumps scene).enough) c.fetch.result c.in_err-fetch.field-0.0 c.from_residual-in_err-fetch.result c.in_err-fetch.was c.from_residual-in_err-fetch.ensures.1
-    (λ wanted widest' k. small_first (lump_bytes contents dir.lumps) dir.lumps c.args.things.now c.args.map.now c.args.skill scene accepted colormap c.in_ok-colormap.ensures.lump cache.size wanted k.0.wanted_is k.1)
-    (full_both none (λ wanted widest'. cache.size < wanted) c.fetch.result c.fetch.ensures.full (c.fetch.ensures.room_first empty))
+    full_above (λ wanted widest'. none wanted widest' × (cache.size < wanted)) (λ wanted widest'. cache.size < (sizes_of dir.lumps scene).enough) c.fetch.result c.in-Err-fetch.fault (Err c.above.result) c.in-Err-fetch.is c.above.ensures
+    (λ wanted widest' k. small_first (lump_bytes contents dir.lumps) dir.lumps c.args.things.now c.args.map.now c.args.skill scene accepted colormap c.in-Ok.ensures.lump cache.size wanted k.0.wanted_is k.1)
+    (full_both none (λ wanted widest'. cache.size < wanted) c.fetch.result (fetch_no_room c.fetch.ensures.fetches) (fetch_room_first c.fetch.ensures.fetches empty))
 
-pub returns-clause-answers : goal.returns-clause-answers
-returns-clause-answers g c = λ contents told.
-    let e = c.in_ok-fetch.ensures in
-    answers_after (told_after e.follows e.faithful) (λ bytes. scene_in bytes c.args.dir.now.lumps c.args.things.now c.args.map.now c.args.skill) c.audit_rest.result e.follows.steady c.audit_rest.ensures.tells.answers contents told
+pub returns-in-Ok-fetch-clause-answers : goal.returns-in-Ok-fetch-clause-answers
+returns-in-Ok-fetch-clause-answers g c = λ contents told.
+    let e = c.in-Ok-fetch.ensures in
+    answers_after (told_after e.fetches.follows e.faithful) (λ bytes. scene_in bytes c.args.dir.now.lumps c.args.things.now c.args.map.now c.args.skill) c.audit_rest.result e.fetches.follows.steady c.audit_rest.ensures.tells.answers contents told
 
-pub returns-clause-full : goal.returns-clause-full
-returns-clause-full g c =
-    let e = c.in_ok-fetch.ensures in
-    full_after (told_after e.follows e.faithful) c.args.things.now c.args.map.now c.args.skill c.audit_rest.result c.audit_rest.ensures.tells.full
+pub returns-in-Ok-fetch-clause-full : goal.returns-in-Ok-fetch-clause-full
+returns-in-Ok-fetch-clause-full g c =
+    let e = c.in-Ok-fetch.ensures in
+    full_after (told_after e.fetches.follows e.faithful) c.args.things.now c.args.map.now c.args.skill c.audit_rest.result c.audit_rest.ensures.tells.full
 
-pub returns-clause-enough : goal.returns-clause-enough
-returns-clause-enough g c = λ contents scene told accepted empty.
-    let e = c.in_ok-fetch.ensures in
-    enough_after c.args.dir.now c.args.cache.now c.fetch.new.self contents c.args.things.now c.args.map.now c.args.skill scene c.in_ok-colormap.colormap.0 c.audit_rest.result c.in_ok-colormap.ensures.lump accepted
-    (told_after e.follows e.faithful contents told) (e.first refl empty) e.counts.0 c.audit_rest.ensures.tells.full
+pub returns-in-Ok-fetch-clause-room : goal.returns-in-Ok-fetch-clause-room
+returns-in-Ok-fetch-clause-room g c = λ colormap is empty.
+    let e = c.in-Ok-fetch.ensures in
+    room_after _ c.args.dir.now c.args.cache.now c.fetch.new.self c.in-Ok.colormap.0 colormap c.audit_rest.result (same_value c.in-Ok.colormap.0 colormap c.in-Ok.ensures.lump is)
+    (fetch_first e.fetches refl empty) e.counts.0 c.audit_rest.ensures.tells.full
 
-pub returns-clause-rest : goal.returns-clause-rest
-returns-clause-rest g c = λ empty.
-    rest_after c.args.dir.now c.args.cache.now c.fetch.new.self c.in_ok-colormap.colormap.0 c.audit_rest.result c.audit_rest.ensures.colormap c.audit_rest.new.cache (c.in_ok-fetch.ensures.first refl empty) c.audit_rest.ensures.tells.keeps.rest
+pub returns-in-Ok-fetch-clause-enough : goal.returns-in-Ok-fetch-clause-enough
+returns-in-Ok-fetch-clause-enough g c = λ contents scene told accepted empty.
+    let e = c.in-Ok-fetch.ensures in
+    enough_after c.args.dir.now c.args.cache.now c.fetch.new.self contents c.args.things.now c.args.map.now c.args.skill scene c.in-Ok.colormap.0 c.audit_rest.result c.in-Ok.ensures.lump accepted
+    (told_after e.fetches.follows e.faithful contents told) (fetch_first e.fetches refl empty) e.counts.0 c.audit_rest.ensures.tells.full
 
-pub returns-clause-fits : goal.returns-clause-fits
-returns-clause-fits g c = λ empty.
-    let e = c.in_ok-fetch.ensures in
+pub returns-in-Ok-fetch-clause-rest : goal.returns-in-Ok-fetch-clause-rest
+returns-in-Ok-fetch-clause-rest g c = λ empty.
+    rest_after c.args.dir.now c.args.cache.now c.fetch.new.self c.in-Ok.colormap.0 c.audit_rest.result c.audit_rest.ensures.colormap c.audit_rest.new.cache (fetch_first c.in-Ok-fetch.ensures.fetches refl empty) c.audit_rest.ensures.tells.keeps.rest
+
+pub returns-in-Ok-fetch-clause-fits : goal.returns-in-Ok-fetch-clause-fits
+returns-in-Ok-fetch-clause-fits g c = λ empty.
+    let e = c.in-Ok-fetch.ensures in
     let dir = c.args.dir.now in
-    let colormap = c.in_ok-colormap.colormap.0 in
-    fits_after dir c.args.cache.now c.fetch.new.self colormap c.audit_rest.result c.audit_rest.ensures.colormap c.args.map.now (e.first refl empty)
-    (sizes_fetched dir.lumps colormap Static c.args.cache.now c.fetch.new.self c.fetch.result c.in_ok-colormap.ensures.there (λ live. (c.fetch.ensures.hit live).2) c.fetch.ensures.block c.fetch.ensures.empty c.fetch.ensures.others (sizes_empty dir.lumps c.args.cache.now empty))
+    let colormap = c.in-Ok.colormap.0 in
+    fits_after dir c.args.cache.now c.fetch.new.self colormap c.audit_rest.result c.audit_rest.ensures.colormap c.args.map.now (fetch_first e.fetches refl empty)
+    (fetch_sizes c.fetch.ensures.fetches c.in-Ok.ensures.there (sizes_empty dir.lumps c.args.cache.now empty))
     e.counts.0 c.audit_rest.ensures.fits
 
-pub returns-clause-follows : goal.returns-clause-follows
-returns-clause-follows g c = follows_then c.in_ok-fetch.ensures.follows c.audit_rest.ensures.tells.keeps.follows
+pub returns-in-Ok-fetch-clause-follows : goal.returns-in-Ok-fetch-clause-follows
+returns-in-Ok-fetch-clause-follows g c = follows_then c.in-Ok-fetch.ensures.fetches.follows c.audit_rest.ensures.tells.keeps.follows
 
-pub returns-clause-faithful : goal.returns-clause-faithful
-returns-clause-faithful g c = λ contents stand faithful.
-    let e = c.in_ok-fetch.ensures in
-    c.audit_rest.ensures.tells.keeps.faithful contents (all_stand_later _ _ c.args.dir.now.files contents e.follows stand) (e.faithful contents stand faithful)
+pub returns-in-Ok-fetch-clause-faithful : goal.returns-in-Ok-fetch-clause-faithful
+returns-in-Ok-fetch-clause-faithful g c = λ contents stand faithful.
+    let e = c.in-Ok-fetch.ensures in
+    c.audit_rest.ensures.tells.keeps.faithful contents (all_stand_later _ _ c.args.dir.now.files contents e.fetches.follows stand) (e.faithful contents stand faithful)
 
-pub returns-clause-order : goal.returns-clause-order
-returns-clause-order g c = λ contents items told all k.
-    let e = c.in_ok-fetch.ensures in
-    let later = told_after e.follows e.faithful contents told in
-    let one = (e.order items (all c.in_ok-colormap.colormap.0 (inl c.in_ok-colormap.ensures.lump)) k).1 in
+pub returns-in-Ok-fetch-clause-order : goal.returns-in-Ok-fetch-clause-order
+returns-in-Ok-fetch-clause-order g c = λ contents items told all k.
+    let e = c.in-Ok-fetch.ensures in
+    let later = told_after e.fetches.follows e.faithful contents told in
+    let one = e.order items (all c.in-Ok.colormap.0 (inl c.in-Ok.ensures.lump)) k in
     order_after itself c.audit_rest.new.cache _ c.audit_rest.result one
     (c.audit_rest.ensures.tells.order items (λ lump asked. all lump (inr (asked contents later))) one.order)
