@@ -1,0 +1,10 @@
+pub mod WordLemmas
+pub mod PartLemmas
+pub mod EditLemmas
+pub mod HomeLemmas
+pub mod PurgeLemmas
+pub mod TakeLemmas
+pub mod LookLemmas
+pub mod ChangeLemmas
+pub mod WriteLemmas
+pub mod ZoneLemmas

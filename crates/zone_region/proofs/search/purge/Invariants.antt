@@ -1,0 +1,12 @@
+use Rattle.std.proofs.Common.{◌-◌, ◌≤◌, length}
+use Rattle.zone_region.proofs.PurgeLemmas.{PurgedTo}
+use Rattle.zone_region.proofs.search.purge.Given as goal
+
+abbrev pub invariant-loop-at : goal.invariant-loop-at
+invariant-loop-at l = record {
+  purged : PurgedTo l.lumps l.initial.region l.initial.homes l.region l.homes l.from l.at l.passed l.count;
+  within : l.passed ≤ l.most;
+}
+
+abbrev pub decreases-loop-at : goal.decreases-loop-at
+decreases-loop-at l = length l.region - l.at

@@ -1,0 +1,47 @@
+use Rattle.std.proofs.Common.{arith, ◌+◌, ◌∙◌, ap, sym, max}
+use Rattle.std.proofs.lemmas.Bool.{cond-true, cond-false}
+use Rattle.zone_region.specs.Regions.{blocks_from}
+use Rattle.zone_rules.specs.Walks.{widest_from}
+use Rattle.zone_region.proofs.PartLemmas.{opened, head_fits, nothing_left, split_first, blocks_laid, pinned_at}
+use Rattle.zone_region.proofs.search.widest_gap.Goals.{After-is_pinned, then-is_pinned, else-is_pinned}
+use Rattle.zone_region.proofs.search.widest_gap.Goals as goal
+
+pub loop-at-init : goal.loop-at-init
+loop-at-init c = record { split = split_first c.args.region.now c.requires.laid; small = omega arith; value = ap (widest_from 0 0) (blocks_laid c.args.region.now c.requires.laid) }
+
+pub header_at-header-requires : goal.header_at-header-requires
+header_at-header-requires c = head_fits c.args.region.now c.loop-at.at c.loop-at.invariant.split c.loop-at-test.true
+
+pub loop-at-smaller : goal.loop-at-smaller
+loop-at-smaller c =
+    let o = opened c.args.region.now c.loop-at.at c.loop-at.invariant.split c.loop-at-test.true c.header_at-header.result c.header_at-header.ensures in
+    let l = o.large in
+    let f = o.fits in
+    omega arith
+
+pub loop-at-preserved : goal.loop-at-preserved
+loop-at-preserved c =
+    let at = c.loop-at.at in
+    let best = c.loop-at.best in
+    let run = c.loop-at.run in
+    let h = c.header_at-header.result in
+    let o = opened c.args.region.now at c.loop-at.invariant.split c.loop-at-test.true h c.header_at-header.ensures in
+    let told = c.is_pinned.ensures ∙ pinned_at c.args.region.now at c.loop-at.invariant.split h.size o h c.header_at-header.ensures in
+    let later = blocks_from (at + h.size) o.next.rest in
+    let step = c.loop-at.invariant.value ∙ ap (widest_from best run) o.blocks in
+    let grown = o.len in
+    elim c.if-is_pinned.branch [
+      | then-is_pinned w ↦ record {
+        split = o.next;
+        small = omega arith;
+        value = rw (w.best-is, w.run-is) (step ∙ cond-true _ _ _ (sym told ∙ w.if-is_pinned.true));
+      }
+      | else-is_pinned w ↦ record {
+        split = o.next;
+        small = omega arith;
+        value = rw (w.best-is, w.run-is, w.max-best.ensures, w.from-run.ensures) (step ∙ cond-false _ _ _ (sym told ∙ w.if-is_pinned.false) ∙ ap (λ n. widest_from (max best (run + n)) (run + n) later) grown);
+      }
+    ]
+
+pub returns : goal.returns
+returns c = sym (c.loop-at.invariant.value ∙ ap (λ cs. widest_from c.loop-at.best c.loop-at.run (blocks_from c.loop-at.at cs)) (nothing_left c.args.region.now c.loop-at.at c.loop-at.invariant.split (omega arith)))

@@ -1,0 +1,56 @@
+use Rattle.std.proofs.Common.{◌≡◌, ◌∙◌, ap, ap₂, sym, subst, map, option_map, List, ℕ, length, arith}
+use Rattle.std.specs.Vec.{with_items}
+use Rattle.std.proofs.lemmas.List.{with_items_is}
+use Rattle.zone_rules.specs.Zones.{Heap, Owner, IsSound, owner_at, owned_block}
+use Rattle.zone_rules.specs.Frees.{retag_block}
+use Rattle.zone_rules.proofs.ChangeLemmas.{with_tag_sound}
+use Rattle.zone_rules.proofs.OwnerLemmas.{owned_block-map, owned_retagged_others, retag_held}
+use Rattle.zone_region.specs.View.{heap_of}
+use Rattle.zone_region.specs.Regions.{blocks_in, IsRing}
+use Rattle.zone_region.specs.Homes.{AreExact}
+use Rattle.zone_region.proofs.ZoneLemmas.{exact_tagged}
+use Rattle.zone_region.proofs.zone.Zone.change_tag.Given.{Over}
+use Rattle.zone_region.proofs.zone.Zone.change_tag.Goals.{After-retag}
+use Rattle.zone_region.proofs.zone.Zone.change_tag.Goals as goal
+
+items_are : (g : Over) (c : After-retag g) → (with_items c.self.inside.region c.retag.new.region).items ≡ c.retag.new.region
+items_are g c = let a = c.retag.ensures.len in let b = ap (λ (xs : List ℕ). length xs) c.deref_mut.ensures.value in let d = c.self.inside.region.ok.0 in with_items_is c.self.inside.region c.retag.new.region (omega arith)
+
+after : (g : Over) (c : After-retag g) → blocks_in (with_items c.self.inside.region c.retag.new.region).items ≡ map (retag_block (owner_at g.K.SlotKind.CODE c.args.slot.number) c.args.tag) (blocks_in c.self.inside.region.items)
+after g c =
+    ap blocks_in (items_are g c) ∙ c.retag.ensures.blocks ∙ ap (λ xs. map (retag_block (owner_at c.CODE.result c.number.result) c.args.tag) (blocks_in xs)) c.deref_mut.ensures.value
+    ∙ ap (λ (q : Owner). map (retag_block q c.args.tag) (blocks_in c.self.inside.region.items)) (ap₂ owner_at c.CODE.ensures c.number.ensures)
+
+sound_after : (g : Over) (c : After-retag g) → IsSound (record { size = c.self.inside.size; lumps = c.self.inside.lumps; composites = c.self.inside.composites; blocks = blocks_in (with_items c.self.inside.region c.retag.new.region).items; rover = c.self.inside.rover; purges = c.self.inside.purges })
+sound_after g c = rw (after g c) (with_tag_sound (owner_at g.K.SlotKind.CODE c.args.slot.number) c.args.tag (heap_of c.self.inside) c.self.invariant.sound)
+
+pub invariant_of-self : goal.invariant_of-self
+invariant_of-self g c =
+    let d = (goal.at.invariant_of-self g c).After-retag in
+    let zone = c.self.invariant in
+    let i = c.self.inside in
+    record {
+      sound = sound_after g d;
+      ring = subst IsRing (sym (items_are g d)) c.retag.ensures.ring;
+      exact = subst (AreExact i.lumps i.homes.items) (sym (after g d)) (exact_tagged i.lumps i.homes.items (blocks_in i.region.items) (owner_at g.K.SlotKind.CODE c.args.slot.number) c.args.tag zone.exact);
+      region = zone.region;
+      least = zone.least;
+      small = zone.small;
+      lumps = zone.lumps;
+      composites = zone.composites;
+      homes = zone.homes;
+    }
+
+pub returns-clause-sound : goal.returns-clause-sound
+returns-clause-sound g c = sound_after g (goal.at.returns-clause-sound g c).After-retag
+
+pub returns-clause-block : goal.returns-clause-block
+returns-clause-block g c =
+    let p = owner_at g.K.SlotKind.CODE c.args.slot.number in
+    let f = retag_block p c.args.tag in
+    ap (owned_block p) (after g (goal.at.returns-clause-block g c).After-retag) ∙ owned_block-map p f (retag_held p p c.args.tag) (blocks_in c.self.inside.region.items) ∙ ap (λ (z : Heap). option_map f (owned_block p z.blocks)) c.self.view_is
+
+pub returns-clause-others : goal.returns-clause-others
+returns-clause-others g c = λ o apart.
+    let p = owner_at g.K.SlotKind.CODE c.args.slot.number in
+    ap (owned_block o) (after g (goal.at.returns-clause-others g c).After-retag) ∙ owned_retagged_others o p c.args.tag apart (blocks_in c.self.inside.region.items) ∙ ap (λ (z : Heap). owned_block o z.blocks) c.self.view_is

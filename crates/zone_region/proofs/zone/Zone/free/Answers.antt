@@ -1,0 +1,57 @@
+use Rattle.std.proofs.Common.{arith, ◌≡◌, ◌∙◌, ap, ap₂, sym, subst, refl, length, List, ℕ}
+use Rattle.std.specs.Vec.{with_items}
+use Rattle.std.proofs.lemmas.List.{with_items_is}
+use Rattle.zone_region.specs.View.{heap_of}
+use Rattle.zone_rules.specs.Zones.{Heap, Owner, IsSound, owner_at, owned_block}
+use Rattle.zone_rules.specs.Requests.{join_free, place_around}
+use Rattle.zone_rules.specs.Frees.{free_owner, without_block}
+use Rattle.zone_rules.proofs.SoundLemmas.{without_block_sound}
+use Rattle.zone_rules.proofs.OwnerLemmas.{owned_freed, owned_freed_others}
+use Rattle.zone_region.specs.Regions.{blocks_in, IsRing}
+use Rattle.zone_region.specs.Homes.{AreExact}
+use Rattle.zone_region.proofs.zone.Zone.free.Given.{Over}
+use Rattle.zone_region.proofs.zone.Zone.free.Goals.{After-place_in}
+use Rattle.zone_region.proofs.zone.Zone.free.Goals as goal
+
+items_are : (g : Over) (c : After-place_in g) → (with_items c.self.inside.region c.release.new.region).items ≡ c.release.new.region
+items_are g c = let a = c.release.ensures.len in let b = ap (λ (xs : List ℕ). length xs) c.deref_mut.ensures.value in let d = c.self.inside.region.ok.0 in with_items_is c.self.inside.region c.release.new.region (omega arith)
+
+homes_are : (g : Over) (c : After-place_in g) → (with_items c.self.inside.homes c.release.new.homes).items ≡ c.release.new.homes
+homes_are g c = let a = c.release.ensures.homes in let b = ap (λ (xs : List ℕ). length xs) c.deref_mut-2.ensures.value in let d = c.self.inside.homes.ok.0 in with_items_is c.self.inside.homes c.release.new.homes (omega arith)
+
+after : (g : Over) (c : After-place_in g) → ◌≡◌ {A = Heap} (record { size = c.self.inside.size; lumps = c.self.inside.lumps; composites = c.self.inside.composites; blocks = blocks_in (with_items c.self.inside.region c.release.new.region).items; rover = c.place_in.result; purges = c.self.inside.purges })
+    (without_block (owner_at g.K.SlotKind.CODE c.args.slot.number) (heap_of c.self.inside))
+after g c =
+    let i = c.self.inside in
+    let o = ap₂ owner_at c.CODE.ensures c.number.ensures in
+    let b = ap blocks_in (items_are g c) ∙ c.release.ensures.blocks ∙ ap (λ xs. join_free (free_owner (owner_at c.CODE.result c.number.result) (blocks_in xs))) c.deref_mut.ensures.value ∙ ap (λ (p : Owner). join_free (free_owner p (blocks_in i.region.items))) o in
+    let r = c.place_in.ensures.value ∙ ap (λ xs. place_around i.rover 0 (blocks_in xs)) c.deref.ensures.value in
+    rw (r, b) refl
+
+pub invariant_of-self : goal.invariant_of-self
+invariant_of-self g c =
+    let d = (goal.at.invariant_of-self g c).After-place_in in
+    let zone = c.self.invariant in
+    let i = c.self.inside in
+    record {
+      sound = subst IsSound (sym (after g d)) (without_block_sound (owner_at g.K.SlotKind.CODE c.args.slot.number) (heap_of i) zone.sound zone.least);
+      ring = subst IsRing (sym (items_are g d)) c.release.ensures.ring;
+      exact = subst (λ xs. AreExact i.lumps (with_items i.homes c.release.new.homes).items (blocks_in xs)) (sym (items_are g d)) (subst (λ hs. AreExact i.lumps hs (blocks_in c.release.new.region)) (sym (homes_are g d)) c.release.ensures.home.exact);
+      region = zone.region;
+      least = zone.least;
+      small = zone.small;
+      lumps = zone.lumps;
+      composites = zone.composites;
+      homes = zone.homes;
+    }
+
+pub returns-clause-sound : goal.returns-clause-sound
+returns-clause-sound g c = subst IsSound (sym (after g (goal.at.returns-clause-sound g c).After-place_in)) (without_block_sound (owner_at g.K.SlotKind.CODE c.args.slot.number) (heap_of c.self.inside) c.self.invariant.sound c.self.invariant.least)
+
+pub returns-clause-empty : goal.returns-clause-empty
+returns-clause-empty g c = ap (λ (z : Heap). owned_block (owner_at g.K.SlotKind.CODE c.args.slot.number) z.blocks) (after g (goal.at.returns-clause-empty g c).After-place_in) ∙ owned_freed (owner_at g.K.SlotKind.CODE c.args.slot.number) (blocks_in c.self.inside.region.items)
+
+pub returns-clause-others : goal.returns-clause-others
+returns-clause-others g c = λ o apart.
+    let p = owner_at g.K.SlotKind.CODE c.args.slot.number in
+    ap (λ (z : Heap). owned_block o z.blocks) (after g (goal.at.returns-clause-others g c).After-place_in) ∙ owned_freed_others o p apart (blocks_in c.self.inside.region.items) ∙ ap (λ (z : Heap). owned_block o z.blocks) c.self.view_is

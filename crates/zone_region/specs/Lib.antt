@@ -1,0 +1,6 @@
+pub mod Headers
+pub mod Regions
+pub mod Homes
+pub mod Asks
+pub mod View
+pub mod Calls
