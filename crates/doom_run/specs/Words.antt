@@ -30,6 +30,17 @@ asks_for_files (exercise count zone format) = false
 abbrev pub ask_for_files : List (List ℕ) → Bool
 ask_for_files words = option_map_or asks_for_files (command_of words) false
 
+-- a job over a level has a zone, if it is built
+abbrev pub has_zone : CommandValue → Bool
+has_zone (flat name file) = false
+has_zone (level_job job level wads) = level_asks job
+has_zone (make job) = false
+has_zone (exercise count zone format) = false
+
+-- the words are a command that has a zone
+abbrev pub have_zone : List (List ℕ) → Bool
+have_zone words = option_map_or has_zone (command_of words) false
+
 -- a premise on the shelf: it counts only where the words ask for files
 abbrev pub WhereAsked : List (List ℕ) → Type 0 → Type 0
 WhereAsked words Premise = IsTrue (ask_for_files words) → Premise

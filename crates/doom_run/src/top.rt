@@ -12,7 +12,7 @@ ghost use Rattle.doom_run.specs.Fulls.{HasRoom, IsFullRun};
 ghost use Rattle.doom_run.specs.Lines.{line_of};
 ghost use Rattle.doom_run.specs.Steps.{RunStop, usage, absent, refused};
 ghost use Rattle.doom_run.specs.Verdict.{Accepted, job_verdict, level_verdict, verdict, end_of, output};
-ghost use Rattle.doom_run.specs.Words.{WhereAsked, ask_for_files, asks_for_files, level_asks, texts};
+ghost use Rattle.doom_run.specs.Words.{WhereAsked, ask_for_files, asks_for_files, has_zone, have_zone, level_asks, texts};
 
 use crate::Refusal;
 use crate::audit::{deliver_audit, prepare_audit};
@@ -93,6 +93,10 @@ pub fn run<S: Shelf, K: Sink, N: Sink>(
         WhereAsked (texts words.now) (Holds (S.view shelf.old) files) →
         IfSome (command_of (texts words.now)) (λ command. IsFullRun command files wanted widest) }
 
+    // Over every shelf it comes only for words of a job that has a zone: never for flat or make.
+    ensures zoned { (wanted widest : ℕ) → result ≡ Status.ZoneFull wanted widest →
+        IsTrue (have_zone (texts words.now)) }
+
     // Words that ask for no file leave the shelf alone.
     ensures asked { result ≡ Status.ReadFault → IsTrue (ask_for_files (texts words.now)) }
     ensures untouched { ask_for_files (texts words.now) ≡ false → shelf.new ≡ shelf.old }
@@ -142,6 +146,8 @@ fn perform<S: Shelf, K: Sink>(alloc: Global, words: &[String], shelf: &mut S, ou
         result ≡ Status.ZoneFull wanted widest →
         WhereAsked (texts words.now) (Holds (S.view shelf.old) files) →
         IfSome (command_of (texts words.now)) (λ command. IsFullRun command files wanted widest) }
+    ensures zoned { (wanted widest : ℕ) → result ≡ Status.ZoneFull wanted widest →
+        IsTrue (have_zone (texts words.now)) }
     ensures asked { result ≡ Status.ReadFault → IsTrue (ask_for_files (texts words.now)) }
     ensures untouched { ask_for_files (texts words.now) ≡ false → shelf.new ≡ shelf.old }
 {
@@ -175,6 +181,8 @@ fn perform_job<S: Shelf, K: Sink>(
         result ≡ Status.ZoneFull wanted widest →
         (IsTrue (asks_for_files (command_value command.now)) → Holds (S.view shelf.old) files) →
         IsFullRun (command_value command.now) files wanted widest }
+    ensures zoned { (wanted widest : ℕ) → result ≡ Status.ZoneFull wanted widest →
+        IsTrue (has_zone (command_value command.now)) }
     ensures asked { result ≡ Status.ReadFault → IsTrue (asks_for_files (command_value command.now)) }
     ensures untouched { asks_for_files (command_value command.now) ≡ false → shelf.new ≡ shelf.old }
 {
@@ -215,6 +223,8 @@ fn perform_level<S: Shelf, K: Sink>(
         result ≡ Status.ZoneFull wanted widest →
         (IsTrue (level_asks job) → Holds (S.view shelf.old) files) →
         IsFullLoad (level_job_value level.now) (map (λ wad. wad.now) wads.now) files wanted widest }
+    ensures zoned { (wanted widest : ℕ) → result ≡ Status.ZoneFull wanted widest →
+        IsTrue (level_asks job) }
     ensures asked { result ≡ Status.ReadFault → IsTrue (level_asks job) }
     ensures untouched { level_asks job ≡ false → shelf.new ≡ shelf.old }
 {
