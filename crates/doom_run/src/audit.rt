@@ -49,7 +49,8 @@ pub fn prepare_audit<S: Shelf>(
 // Writes the line of an accepted level. Takes no memory.
 pub fn deliver_audit<K: Sink>(sizes: ZoneSizes, out: &mut K) -> Status
     ensures ends { DeliversAt (audited sizes) (K.written out.old) (K.written out.new) result }
-    ensures write_fault { result ≡ Status.WriteFault → FaultsRose (K.faults out.old) (K.faults out.new) }
+    ensures write_fault { result ≡ Status.WriteFault →
+        FaultsRose (K.faults out.old) (K.faults out.new) }
 {
     match put_pair(
         out,

@@ -45,7 +45,8 @@ pub fn prepare_flat<S: Shelf>(
 pub fn deliver_flat<K: Sink>(picture: &Picture, out: &mut K) -> Status
     ensures ends { DeliversAt (tiled_flat picture.now) (K.written out.old)
         (K.written out.new) result }
-    ensures write_fault { result ≡ Status.WriteFault → FaultsRose (K.faults out.old) (K.faults out.new) }
+    ensures write_fault { result ≡ Status.WriteFault →
+        FaultsRose (K.faults out.old) (K.faults out.new) }
 {
     match put_ppm(out, picture.frame(), picture.playpal()) {
         Ok(()) => Status::Done,

@@ -85,7 +85,8 @@ pub fn run<S: Shelf, K: Sink, N: Sink>(
         WhereAsked (texts words.now) (Holds (S.view shelf.old) files) →
         verdict (texts words.now) files ≡ Err absent →
         (result ≡ Status.ReadFault) ⊎ (result ≡ Status.OutOfMemory) }
-    ensures write_fault { result ≡ Status.WriteFault → FaultsRose (K.faults out.old) (K.faults out.new) }
+    ensures write_fault { result ≡ Status.WriteFault →
+        FaultsRose (K.faults out.old) (K.faults out.new) }
 
     // A full zone comes only for a job over a level whose files are in order, and the zone is small.
     ensures zone_full { (files : List File) (wanted widest : ℕ) →
@@ -106,7 +107,8 @@ pub fn run<S: Shelf, K: Sink, N: Sink>(
         WhereAsked (texts words.now) (Holds (S.view shelf.old) files) →
         verdict (texts words.now) files ≡ Ok accepted →
         HasRoom (texts words.now) accepted →
-        WhereAsked (texts words.now) (FaultsRose (S.view shelf.old).faults (S.view shelf.new).faults → ⊥) →
+        WhereAsked (texts words.now)
+        (FaultsRose (S.view shelf.old).faults (S.view shelf.new).faults → ⊥) →
         (FaultsRose (K.faults out.old) (K.faults out.new) → ⊥) →
         (result ≡ end_of accepted) ⊎ (result ≡ Status.OutOfMemory) }
     ensures complete_steady { (files : List File) (accepted : Accepted) →
@@ -141,7 +143,8 @@ fn perform<S: Shelf, K: Sink>(alloc: Global, words: &[String], shelf: &mut S, ou
         (result ≡ Status.Usage) ⊎ (result ≡ Status.OutOfMemory) }
     ensures read_fault { result ≡ Status.ReadFault →
         FaultsRose (S.view shelf.old).faults (S.view shelf.new).faults }
-    ensures write_fault { result ≡ Status.WriteFault → FaultsRose (K.faults out.old) (K.faults out.new) }
+    ensures write_fault { result ≡ Status.WriteFault →
+        FaultsRose (K.faults out.old) (K.faults out.new) }
     ensures zone_full { (files : List File) (wanted widest : ℕ) →
         result ≡ Status.ZoneFull wanted widest →
         WhereAsked (texts words.now) (Holds (S.view shelf.old) files) →
@@ -172,18 +175,21 @@ fn perform_job<S: Shelf, K: Sink>(
     ensures unwritten { IsUnwritten result → Grew (K.written out.old) (K.written out.new) [] }
     ensures usage { (files : List File) → result ≡ Status.Usage →
         job_verdict (command_value command.now) files ≡ Err usage }
-    ensures not_built { (files : List File) → job_verdict (command_value command.now) files ≡ Err usage →
+    ensures not_built { (files : List File) →
+        job_verdict (command_value command.now) files ≡ Err usage →
         result ≡ Status.Usage }
     ensures read_fault { result ≡ Status.ReadFault →
         FaultsRose (S.view shelf.old).faults (S.view shelf.new).faults }
-    ensures write_fault { result ≡ Status.WriteFault → FaultsRose (K.faults out.old) (K.faults out.new) }
+    ensures write_fault { result ≡ Status.WriteFault →
+        FaultsRose (K.faults out.old) (K.faults out.new) }
     ensures zone_full { (files : List File) (wanted widest : ℕ) →
         result ≡ Status.ZoneFull wanted widest →
         (IsTrue (asks_for_files (command_value command.now)) → Holds (S.view shelf.old) files) →
         IsFullRun (command_value command.now) files wanted widest }
     ensures zoned { (wanted widest : ℕ) → result ≡ Status.ZoneFull wanted widest →
         IsTrue (has_zone (command_value command.now)) }
-    ensures asked { result ≡ Status.ReadFault → IsTrue (asks_for_files (command_value command.now)) }
+    ensures asked { result ≡ Status.ReadFault →
+        IsTrue (asks_for_files (command_value command.now)) }
     ensures untouched { asks_for_files (command_value command.now) ≡ false → shelf.new ≡ shelf.old }
 {
     match command {
@@ -212,13 +218,16 @@ fn perform_level<S: Shelf, K: Sink>(
         (K.written out.old) (K.written out.new) result }
     ensures unwritten { IsUnwritten result → Grew (K.written out.old) (K.written out.new) [] }
     ensures usage { (files : List File) → result ≡ Status.Usage →
-        level_verdict job (level_job_value level.now) (map (λ wad. wad.now) wads.now) files ≡ Err usage }
+        level_verdict job (level_job_value level.now) (map (λ wad. wad.now) wads.now) files
+        ≡ Err usage }
     ensures not_built { (files : List File) →
-        level_verdict job (level_job_value level.now) (map (λ wad. wad.now) wads.now) files ≡ Err usage →
+        level_verdict job (level_job_value level.now) (map (λ wad. wad.now) wads.now) files
+        ≡ Err usage →
         result ≡ Status.Usage }
     ensures read_fault { result ≡ Status.ReadFault →
         FaultsRose (S.view shelf.old).faults (S.view shelf.new).faults }
-    ensures write_fault { result ≡ Status.WriteFault → FaultsRose (K.faults out.old) (K.faults out.new) }
+    ensures write_fault { result ≡ Status.WriteFault →
+        FaultsRose (K.faults out.old) (K.faults out.new) }
     ensures zone_full { (files : List File) (wanted widest : ℕ) →
         result ≡ Status.ZoneFull wanted widest →
         (IsTrue (level_asks job) → Holds (S.view shelf.old) files) →
@@ -251,7 +260,8 @@ fn perform_audit<S: Shelf, K: Sink>(
     ensures not_usage { result ≡ Status.Usage → ⊥ }
     ensures read_fault { result ≡ Status.ReadFault →
         FaultsRose (S.view shelf.old).faults (S.view shelf.new).faults }
-    ensures write_fault { result ≡ Status.WriteFault → FaultsRose (K.faults out.old) (K.faults out.new) }
+    ensures write_fault { result ≡ Status.WriteFault →
+        FaultsRose (K.faults out.old) (K.faults out.new) }
     ensures zone_full { (files : List File) (wanted widest : ℕ) →
         result ≡ Status.ZoneFull wanted widest → Holds (S.view shelf.old) files →
         IsFullLoad (level_job_value level.now) (map (λ wad. wad.now) wads.now) files wanted widest }
@@ -276,7 +286,8 @@ fn perform_flat<S: Shelf, K: Sink>(
     ensures not_usage { result ≡ Status.Usage → ⊥ }
     ensures read_fault { result ≡ Status.ReadFault →
         FaultsRose (S.view shelf.old).faults (S.view shelf.new).faults }
-    ensures write_fault { result ≡ Status.WriteFault → FaultsRose (K.faults out.old) (K.faults out.new) }
+    ensures write_fault { result ≡ Status.WriteFault →
+        FaultsRose (K.faults out.old) (K.faults out.new) }
     ensures zone_full { (wanted widest : ℕ) → result ≡ Status.ZoneFull wanted widest → ⊥ }
 {
     match prepare_flat(alloc, shelf, name, file) {
@@ -288,11 +299,13 @@ fn perform_flat<S: Shelf, K: Sink>(
 fn perform_make<K: Sink>(alloc: Global, job: MakeJob, out: &mut K) -> Status
     requires { IsCountedMake job }
     ensures ends { (steady : Bool) (files : List File) →
-        EndsAt steady (job_verdict (make job) files) (K.written out.old) (K.written out.new) result }
+        EndsAt steady (job_verdict (make job) files)
+        (K.written out.old) (K.written out.new) result }
     ensures unwritten { IsUnwritten result → Grew (K.written out.old) (K.written out.new) [] }
     ensures not_usage { result ≡ Status.Usage → ⊥ }
     ensures not_read { result ≡ Status.ReadFault → ⊥ }
-    ensures write_fault { result ≡ Status.WriteFault → FaultsRose (K.faults out.old) (K.faults out.new) }
+    ensures write_fault { result ≡ Status.WriteFault →
+        FaultsRose (K.faults out.old) (K.faults out.new) }
     ensures zone_full { (wanted widest : ℕ) → result ≡ Status.ZoneFull wanted widest → ⊥ }
 {
     match prepare_make(alloc, job) {

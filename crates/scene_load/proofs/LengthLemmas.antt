@@ -1,11 +1,7 @@
 -- A file's length and its bytes.
-use Rattle.std.proofs.Common.{◌≡◌, ℕ, Bool, List, length, Option, Some, None, Result, Ok, Err, IsErrAnd, refl, sym, ap}
-use Rattle.std.proofs.lemmas.Result.{err_from_is_err_and}
-use Rattle.outside.specs.Faults.{ResultIs, itself}
+use Rattle.std.proofs.Common.{◌≡◌, ℕ, List, length, Option, Some, None, Result, Ok, Err, refl, sym, ap}
 use Rattle.scene_load.specs.declared.named.FileKind.{FileKind}
 use Rattle.refusals.specs.declared.refusal.Refusal.{Refusal}
-use Rattle.outside.specs.declared.fault.Fault.{Fault}
-use Rattle.outside.specs.declared.fault.Fault.TheVariants.{Refused}
 use Rattle.scene_load.specs.Files.{unless_refused}
 use Rattle.scene_load.specs.Lengths.{length_refusal, bytes_in}
 

@@ -1,5 +1,4 @@
 -- What a scene needs with more pictures, and with those of its weapon layers.
-use Rattle.scene_rules.specs.declared.refusal.AuditRefusal.{AuditRefusal}
 use Rattle.std.proofs.Common.{◌≡◌, ℕ, ◌+◌, ◌<◌, ◌≤◌, Bool, true, false, cond, List, [], ◌∷◌, ◌++◌, length, Option, Some, None, Ok, refl, subst, ◌∙◌, arith, inl, inr, eq-eqb}
 use Rattle.std.specs.Prelude.{◌==◌, ◌||◌, filter}
 use Rattle.std.specs.List.{list_any, range_with_len}

@@ -70,15 +70,23 @@ pub fn load_scene<S: Shelf>(
     requires least { MIN_SIZE ≤ level.now.settings.size }
     requires greatest { level.now.settings.size ≤ MAX_SIZE }
     ensures answers { (files : List File) → Holds (S.view shelf.old) files →
-        ResultIsOrAbsent itself (S.view shelf.old).steady loaded_value (load_in (level_job_value level.now) (map (λ wad. wad.now) wads.now) files) result }
-    ensures named { IfOk result (λ loaded. loaded.scene.named ≡ loaded_lumps (loaded_value loaded)) }
-    ensures sizes { IfOk result (λ loaded. loaded.scene.sizes ≡ loaded_sizes (loaded_value loaded)) }
+        ResultIsOrAbsent itself (S.view shelf.old).steady loaded_value
+        (load_in (level_job_value level.now) (map (λ wad. wad.now) wads.now) files) result }
+    ensures named { IfOk result (λ loaded.
+        loaded.scene.named ≡ loaded_lumps (loaded_value loaded)) }
+    ensures sizes { IfOk result (λ loaded.
+        loaded.scene.sizes ≡ loaded_sizes (loaded_value loaded)) }
     ensures full { (files : List File) → Holds (S.view shelf.old) files →
-        IfErr result (λ fault. IfFull (itself fault) (IsFullLoad (level_job_value level.now) (map (λ wad. wad.now) wads.now) files)) }
-    ensures rest { IfOk result (λ loaded. IsAtRest loaded.scene.scene.base.colormap (lump_at loaded.files.dir.lumps loaded.scene.scene.base.colormap).size loaded.cache) }
-    ensures contents { (files : List File) (contents : List (List ℕ)) → Holds (S.view shelf.old) files →
+        IfErr result (λ fault. IfFull (itself fault)
+        (IsFullLoad (level_job_value level.now) (map (λ wad. wad.now) wads.now) files)) }
+    ensures rest { IfOk result (λ loaded. IsAtRest loaded.scene.scene.base.colormap
+        (lump_at loaded.files.dir.lumps loaded.scene.scene.base.colormap).size loaded.cache) }
+    ensures contents { (files : List File) (contents : List (List ℕ)) →
+        Holds (S.view shelf.old) files →
         files_named (map (λ wad. wad.now) wads.now) files ≡ Some contents →
-        IfOk result (λ loaded. NameFiles (S.view shelf.new) loaded.files.dir.files contents × AllWithin contents loaded.files.dir.lumps × IsFaithful contents loaded.files.dir.lumps loaded.cache) }
+        IfOk result (λ loaded. NameFiles (S.view shelf.new) loaded.files.dir.files contents
+        × AllWithin contents loaded.files.dir.lumps
+        × IsFaithful contents loaded.files.dir.lumps loaded.cache) }
     ensures slots { IfOk result (λ loaded. length loaded.files.dir.lumps ≤ loaded.cache.lumps) }
     ensures zone { IfOk result (λ loaded. loaded.cache.size ≡ level.now.settings.zone) }
     ensures composites { IfOk result (λ loaded. loaded.cache.composites ≡ COMPOSITE_SLOTS) }

@@ -1,10 +1,7 @@
-use Rattle.scene_rules.specs.declared.refusal.AuditRefusal.{AuditRefusal}
-use Rattle.outside.specs.Faults.{itself}
-use Rattle.std.proofs.Common.{Bor, ℕ, List, ap, map}
+use Rattle.std.proofs.Common.{Bor, ℕ, List, map}
 use Rattle.outside.proofs.ShelfLemmas.{all_stand_later, follows_then}
 use Rattle.command_line.specs.LevelJobs.{level_job_value}
 use Rattle.scene_load.specs.Files.{value_of}
-use Rattle.outside.specs.declared.fault.Fault.{Fault}
 use Rattle.scene_load.specs.Fulls.{IsFullLoad}
 use Rattle.scene_load.specs.Loads.{wad_contents}
 use Rattle.scene_load.proofs.FullLemmas.{files_full, load_full}
