@@ -66,8 +66,8 @@ pub fn audit<S: Shelf>(
     ensures answers { (contents : List (List ℕ)) →
         HoldContents (S.view shelf.old) dir.now cache.old contents →
         ResultIs itself (S.view shelf.old).steady (λ sound.
-            sound.scene) (scene_in (lump_bytes contents dir.now.lumps) dir.now.lumps things.now
-            map.now skill) result }
+        sound.scene) (scene_in (lump_bytes contents dir.now.lumps) dir.now.lumps things.now
+        map.now skill) result }
     ensures named { IfOk result (λ sound.
         sound.named ≡ needed_lumps dir.now.lumps (art_of sound.scene)) }
     ensures sizes { IfOk result (λ sound. sound.sizes ≡ sizes_of dir.now.lumps sound.scene) }
@@ -81,14 +81,14 @@ pub fn audit<S: Shelf>(
         skill)) }
     ensures room { (colormap : ℕ) → colormap_of dir.now.lumps ≡ Ok colormap → IsEmpty cache.old →
         IfErr result (λ fault. IfFull (itself fault) (λ wanted widest'.
-            cache.old.size < block_size (lump_at dir.now.lumps colormap).size + wanted +
-            MIN_FRAGMENT)) }
+        cache.old.size < block_size (lump_at dir.now.lumps colormap).size + wanted +
+        MIN_FRAGMENT)) }
     ensures enough { (contents : List (List ℕ)) (scene : SceneValue) →
         HoldContents (S.view shelf.old) dir.now cache.old contents →
         scene_in (lump_bytes contents dir.now.lumps) dir.now.lumps things.now map.now skill ≡ Ok
-            scene → IsEmpty cache.old →
+        scene → IsEmpty cache.old →
         IfErr result (λ fault. IfFull (itself fault) (λ wanted widest'.
-            cache.old.size < (sizes_of dir.now.lumps scene).enough)) }
+        cache.old.size < (sizes_of dir.now.lumps scene).enough)) }
     ensures rest { IsEmpty cache.old →
         IfOk result (λ sound. IsAtRest sound.scene.base.colormap
         (lump_at dir.now.lumps sound.scene.base.colormap).size cache.new) }
@@ -107,14 +107,14 @@ pub fn audit<S: Shelf>(
     ensures order { (contents : List (List ℕ)) (items : List Item) →
         HoldContents (S.view shelf.old) dir.now cache.old contents →
         ((lump : ℕ) →
-            IsReadBy (lump_bytes contents dir.now.lumps) dir.now.lumps things.now map.now skill
-            lump → has_item items (lump_owner lump) (lump_at dir.now.lumps lump).size ≡ true) →
+        IsReadBy (lump_bytes contents dir.now.lumps) dir.now.lumps things.now map.now skill
+        lump → has_item items (lump_owner lump) (lump_at dir.now.lumps lump).size ≡ true) →
         IsInOrder items cache.old →
         MatchResult result (λ _. KeepsOrder items cache.old cache.new (S.view shelf.old).taken
-            (S.view shelf.new).taken) (λ fault.
-            InOrderAt (itself fault)
-            (KeepsOrder items cache.old cache.new (S.view shelf.old).taken
-            (S.view shelf.new).taken)) }
+        (S.view shelf.new).taken) (λ fault.
+        InOrderAt (itself fault)
+        (KeepsOrder items cache.old cache.new (S.view shelf.old).taken
+        (S.view shelf.new).taken)) }
 {
     let colormap = match find_colormap(dir) {
         Ok(colormap) => colormap,

@@ -30,6 +30,7 @@ mod tests;
 mod weapons;
 
 pub use audit_steps::audit;
+pub use colours::find_playpal;
 pub use fault::AuditFault;
 pub use level_rules::{PlacedThing, SideTextures, Surface};
 pub use scene_rules::{

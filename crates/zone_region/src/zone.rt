@@ -17,19 +17,23 @@ use crate::slot::{CompositeKind, LumpKind, Slot, SlotKind};
 use crate::{edits, figures, pair, search};
 use std::alloc::{AllocError, Global};
 use std::marker::Model;
+use thiserror::Error;
 use zone_rules::{HEADER_SIZE, MAX_ZONE_SIZE, MIN_ZONE_SIZE, SLOT_LIMIT, Tag, WORD_SIZE};
 
 /// Why a zone was not made.
-#[derive(Debug, Drop)]
+#[derive(Debug, Drop, Error)]
 pub enum ZoneMake {
     /// The size is out of range, or no multiple of a word.
+    #[error("a zone has 64 to 536870912 bytes, a multiple of 4")]
     BadSize,
     /// No memory for the bytes or the homes.
+    #[error("out of memory")]
     OutOfMemory,
 }
 
 /// No gap holds what is wanted: the size of the block with its header, and the widest gap, in bytes.
-#[derive(Debug, Drop)]
+#[derive(Debug, Drop, Error)]
+#[error("the zone is full: a block of {wanted} bytes was wanted, the widest gap has {widest}")]
 pub struct ZoneFull {
     pub wanted: u64,
     pub widest: u64,
