@@ -27,6 +27,7 @@ need_file() {
 # The first call of doomview builds it. This short job lets the build show its messages.
 need_doomview() {
     [ -x "$doomview" ] || fail "there is no program $doomview"
+    doomview=$(readlink -f "$doomview")
     "$doomview" make things >/dev/null || fail "$doomview does not run" $?
 }
 

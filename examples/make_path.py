@@ -2,10 +2,10 @@
 
 usage: make_path.py WAD MAP [VIEWS] > path.csv
 
-The place is that of the last thing of type 1, where the original puts the player too (those before it
-are voodoo dolls). The eye is 41 map units above the floor of the sector there. The first view looks as
-the thing does, in whole eighths of a turn; the others, 36 in all unless VIEWS (1 to 10000) says otherwise,
-turn left by equal steps. Coordinates are 16.16 fixed point, angles are BAM, as docs/FILES.md says."""
+The eye stands where the original puts player 1, at the last thing of type 1 (earlier ones are voodoo
+dolls), 41 map units above the floor there. The first view looks in the thing's direction, cut to eighths
+of a turn; each further view is turned left by an equal step, and VIEWS of them (1 to 10000, by default 36)
+make a whole turn. The columns are those of docs/FILES.md: x, y and z in 16.16 map units, angle in BAM."""
 import struct
 import sys
 
@@ -26,7 +26,7 @@ def records(data, layout):
 
 
 def is_behind(node, x, y):
-    """Whether a point lies on the side of child 1 of a node's line (R_PointOnSide)."""
+    """Whether a point is on child 1's side of a node's line (R_PointOnSide)."""
     node_x, node_y, line_x, line_y = node[:4]
     if line_x == 0:
         return line_y > 0 if x <= node_x else line_y < 0
@@ -46,7 +46,7 @@ def sector_at(level, x, y):
             break
         child = nodes[child][13 if is_behind(nodes[child], x, y) else 12] & 0xffff
     if not child & LEAF:
-        raise WadError('its nodes go round in a circle')
+        raise WadError('its nodes form a circle')
     _, first_seg = records(level['SSECTORS'], '<HH')[child & ~LEAF]
     line, side = records(level['SEGS'], '<6H')[first_seg][3:5]
     sidedef = records(level['LINEDEFS'], '<7H')[line][5 + side]
@@ -80,7 +80,7 @@ def path(wad, name, views):
     except WadError as error:
         raise WadError(f'{name} of {wad}: {error}')
     except (IndexError, struct.error):
-        raise WadError(f'{name} of {wad} is damaged; "doomview audit" says where')
+        raise WadError(f"{name} of {wad} is damaged; doomview's job audit says where")
 
 
 def main():

@@ -1,10 +1,10 @@
-"""Writes the tables of angles to standard output: 65,540 bytes, laid out as docs/FILES.md says.
+"""Writes the tables of angles (docs/FILES.md) to standard output, 65,540 bytes.
 
 usage: make_tables.py > tables.bin
 
-Sines, tangents and angles come from formulas, with pi taken as 3.141592657 and single precision where
-the original's generator rounded to it. All 16,385 words are those of the original's tables.c. The output
-is checked against tables.sha256 beside this script, and nothing is written where it differs."""
+Computes sines, tangents and angles by formula, with pi as 3.141592657 and some steps in single precision.
+All 16,385 words equal those of the original's tables.c. Checks its output against tables.sha256, the
+file beside this script, and writes nothing if it differs."""
 import hashlib
 import math
 import os
@@ -21,7 +21,7 @@ def single(number):
 
 
 def fine_angle(index):
-    """The middle of a fine angle, of which a turn has 8192, in radians."""
+    """The middle of a fine angle (8192 a turn), in radians."""
     return single((index + 0.5) * PI * 2 / 8192)
 
 
@@ -40,7 +40,7 @@ def main():
         sys.exit('make_tables: tables.sha256 is missing or empty')
     data = tables()
     if hashlib.sha256(data).hexdigest() != expected:
-        sys.exit("make_tables: the tables differ from tables.sha256: this Python's sin, tan or atan rounds otherwise")
+        sys.exit("make_tables: the tables differ from tables.sha256; this Python's sin, tan or atan rounds otherwise")
     sys.stdout.buffer.write(data)
 
 

@@ -22,8 +22,9 @@ COMMANDS = ['sh', 'basename', 'cat', 'dirname', 'env', 'grep', 'mkdir', 'mktemp'
 ROOM = [(-256, 256), (256, 256), (256, -256), (-256, -256)]
 FRAME = b'P6\n320 200\n255\n' + bytes(192000)
 
-# Answers as doomview does before its job render stands; MAP02 is refused.
+# Answers as doomview does without its job render; reads the files of an audit, and refuses MAP02.
 DOOMVIEW = '''#!/bin/sh
+[ "$1" != audit ] || cat "$3" "$5" "$7" "$9" >/dev/null || exit 3
 case "$1 $2" in
     'make things') echo type ;;
     'audit MAP02') echo 'doomview: refused 901 3' >&2; exit 2 ;;
@@ -44,15 +45,16 @@ def name(text):
 
 
 def room(floors, starts, nodes):
-    """The lumps of a square room of four lines, with a sector and a leaf for each floor. A leaf has one
-    seg; the sides of its line are its sector's."""
+    """The lumps of a square room of four lines, with one or two sectors, each with its floor and one leaf.
+    A leaf has one seg, the second on the back of its line."""
     count = len(floors)
     things = b''.join(struct.pack('<hhhHH', x, y, angle, kind, 7) for x, y, angle, kind in starts)
-    lines = b''.join(struct.pack('<7H', i, (i + 1) % 4, 1, 0, 0, i % count, 65535) for i in range(4))
-    sides = b''.join(struct.pack('<hh8s8s8sH', 0, 0, name('-'), name('-'), name('WALL1'), i) for i in range(count))
+    lines = b''.join(struct.pack('<7H', i, (i + 1) % 4, 4, 0, 0, 0, i % count) for i in range(4))
+    sides = b''.join(struct.pack('<hh8s8s8sH', 0, 0, name('-'), name('-'), name('WALL1'), i)
+                     for i in range(count))
     return [('THINGS', things), ('LINEDEFS', lines), ('SIDEDEFS', sides),
             ('VERTEXES', b''.join(struct.pack('<hh', *corner) for corner in ROOM)),
-            ('SEGS', b''.join(struct.pack('<6H', i, (i + 1) % 4, 0, i, 0, 0) for i in range(count))),
+            ('SEGS', b''.join(struct.pack('<6H', i, (i + 1) % 4, 0, i, i, 0) for i in range(count))),
             ('SSECTORS', b''.join(struct.pack('<HH', 1, i) for i in range(count))),
             ('NODES', b''.join(struct.pack('<12h2H', *node) for node in nodes)),
             ('SECTORS', b''.join(struct.pack('<hh8s8shhh', floor, 128, name('FLAT1'), name('FLAT1'), 160, 0, 0)
@@ -68,17 +70,19 @@ def wad(lumps):
 
 
 def made_wad():
-    """MAP01 has two sectors, the east one in front of its node; MAP02 has no node, MAP03 no player, the
-    nodes of MAP04 name themselves, and MAP05 is of another format."""
+    """MAP01 and MAP02 have two sectors, the east one in front of their node. MAP03 has no player, the node
+    of MAP04 names itself, MAP05 is of another format, MAP06 a bare label, and MAP07 has no node. The last
+    has a name that no file can have."""
     box = [256, -256, -256, 256]
     split = [0, 0, 0, 256, *box, *box, 0x8000, 0x8001]
     return wad([('PLAYPAL', bytes(768)), ('COLORMAP', bytes(8192)),
                 ('MAP01', b''), *room([24, -8], [(-64, 0, 0, 1), (64, -32, 100, 1), (0, 0, 0, 3001)], [split]),
-                ('map02', b''), *room([-16], [(10, 20, -90, 1)], []),
+                ('map02', b''), *room([24, -16], [(-10, 20, -100, 1)], [split]),
                 ('MAP03', b''), *room([0], [(0, 0, 0, 3001)], []),
                 ('MAP04', b''), *room([0], [(0, 0, 0, 1)], [[0, 0, 0, 256, *box, *box, 0, 0]]),
                 ('MAP05', b''), *room([0], [], []), ('REJECT', b''), ('BLOCKMAP', b''), ('BEHAVIOR', b''),
-                ('MAP06', b'')])
+                ('MAP06', b''), ('MAP07', b''), *room([5], [(1, 2, 45, 1)], []),
+                ('A/B', b''), *room([0], [], [])])
 
 
 class Examples(unittest.TestCase):
@@ -148,8 +152,8 @@ class Examples(unittest.TestCase):
     def test_path(self):
         eighth, unit = 1 << 29, 1 << 16
         for label, views, x, y, z, start in [('MAP01', 4, 64, -32, 24 + 41, 2 * eighth),
-                                             ('map02', 3, 10, 20, -16 + 41, 6 * eighth),
-                                             ('MAP02', 36, 10, 20, -16 + 41, 6 * eighth)]:
+                                             ('map02', 3, -10, 20, -16 + 41, 6 * eighth),
+                                             ('MAP07', 36, 1, 2, 5 + 41, eighth)]:
             count = [] if views == 36 else [str(views)]
             status, output, error = self.run_script('make_path.py', self.wad, label, *count)
             self.assertEqual((status, error), (0, ''))
@@ -168,7 +172,7 @@ class Examples(unittest.TestCase):
 
     def test_maps(self):
         status, output, _ = self.run_script('wad_maps.py', self.wad)
-        self.assertEqual((status, output), (0, b'MAP01\nMAP02\nMAP03\nMAP04\n'))
+        self.assertEqual((status, output), (0, b'MAP01\nMAP02\nMAP03\nMAP04\nMAP07\n'))
 
     def test_wrong_wads(self):
         made = made_wad()
@@ -199,7 +203,7 @@ class Examples(unittest.TestCase):
         self.write('path.csv', b'x,y,z,angle\n')
         self.refuses('ffmpeg is not', 'video', self.wad, 'MAP01', 'path.csv', 'out.mp4', doomview=doomview)
         self.refuses('neither pnmtopng', 'picture', self.wad, 'MAP01', 'out.png', doomview=doomview)
-        self.refuses('parallel is not', 'all_maps', self.wad, 'out', doomview=doomview)
+        self.refuses('parallel is not installed', 'all_maps', self.wad, 'out', doomview=doomview)
         self.stand_in('bin/parallel', '#!/bin/sh\necho parallel of moreutils\n')
         self.refuses('not GNU parallel', 'all_maps', self.wad, 'out', doomview=doomview)
         os.remove(self.at('bin/python3'))
@@ -249,7 +253,7 @@ class Examples(unittest.TestCase):
         status, output, _ = self.run_script('all_maps', 'made.wad', 'out', '--jobs', '2',
                                             doomview=self.stand_in('doomview', DOOMVIEW))
         call, *maps = output.decode().splitlines()
-        self.assertEqual((status, maps), (3, ['MAP01', 'MAP02', 'MAP03', 'MAP04']))
+        self.assertEqual((status, maps), (3, ['MAP01', 'MAP02', 'MAP03', 'MAP04', 'MAP07']))
         folder = os.path.realpath(self.folder)
         self.assertTrue(call.startswith('--quote --jobs 2 env '))
         self.assertTrue(call.endswith(f'picture {folder}/made.wad {{}} {folder}/out/{{}}.png'))
@@ -258,9 +262,10 @@ class Examples(unittest.TestCase):
     def test_audit_all(self):
         done = self.run_script('audit_all', self.wad, doomview=self.stand_in('doomview', DOOMVIEW))
         accepted = ' accepted enough 1 roomy 2\n'
-        lines = f'MAP01{accepted}MAP02 doomview: refused 901 3\nMAP03{accepted}MAP04{accepted}'
+        lines = f'MAP01{accepted}MAP02 doomview: refused 901 3\nMAP03{accepted}MAP04{accepted}MAP07{accepted}'
         self.assertEqual(done, (1, lines.encode(), ''))
-        self.assertEqual(self.run_script('audit_all', self.wad, doomview=self.stand_in('drawing', DRAWING))[0], 0)
+        self.stand_in('drawing', DRAWING)
+        self.assertEqual(self.run_script('audit_all', self.wad, doomview='drawing')[0], 0)
 
     def test_nothing_stays(self):
         """A script leaves no folder of its own behind."""

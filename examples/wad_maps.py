@@ -1,10 +1,10 @@
-"""The maps of a WAD. As a command it prints their names, one a line; make_path.py uses it to read lumps.
+"""Prints the names of a WAD's maps, one a line. Also the module by which make_path.py reads a WAD.
 
 usage: wad_maps.py WAD
 
-Names and labels are read as docs/FILES.md says: small letters count as capitals, the last label of a name
-counts, and a map of another format (with a BEHAVIOR) is none. The command leaves out a name with other
-letters than A to Z, 0 to 9 and _, since scripts make file names of them."""
+Follows docs/FILES.md: small letters count as capitals, the last label of a name counts, and a map with a
+BEHAVIOR is of another format and left out. The command also leaves out names with other characters than
+A to Z, 0 to 9 and _, since scripts use the names as file names."""
 import re
 import struct
 import sys
