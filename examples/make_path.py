@@ -6,6 +6,7 @@ The eye stands where the original puts player 1, at the last thing of type 1 (ea
 dolls), 41 map units above the floor there. The first view looks in the thing's direction, cut to eighths
 of a turn; each further view is turned left by an equal step, and VIEWS of them (1 to 10000, by default 36)
 make a whole turn. The columns are those of docs/FILES.md: x, y and z in 16.16 map units, angle in BAM."""
+import re
 import struct
 import sys
 
@@ -88,7 +89,7 @@ def main():
     if len(words) not in (2, 3):
         sys.exit('usage: make_path.py WAD MAP [VIEWS]')
     views = words[2] if len(words) == 3 else '36'
-    if not (views.isascii() and views.isdigit() and 1 <= int(views) <= MOST_VIEWS):
+    if not (re.fullmatch('[0-9]{1,5}', views) and 1 <= int(views) <= MOST_VIEWS):
         sys.exit(f'make_path: VIEWS is 1 to {MOST_VIEWS}')
     try:
         rows = path(words[0], words[1], int(views))

@@ -5,6 +5,7 @@ usage: python3 examples/test_examples.py"""
 import csv
 import hashlib
 import os
+import re
 import shutil
 import struct
 import subprocess
@@ -266,6 +267,16 @@ class Examples(unittest.TestCase):
         self.assertEqual(done, (1, lines.encode(), ''))
         self.stand_in('drawing', DRAWING)
         self.assertEqual(self.run_script('audit_all', self.wad, doomview='drawing')[0], 0)
+
+    def test_folder(self):
+        """README names each file, and no script names a path of a machine."""
+        with open(os.path.join(HERE, 'README.md')) as file:
+            readme = file.read()
+        for entry in set(os.listdir(HERE)) - {'README.md', '.gitignore', 'common.sh', '__pycache__'}:
+            self.assertIn(f'| `{entry}', readme)
+            with open(os.path.join(HERE, entry)) as file:
+                paths = re.findall(r'(?<![\w.)}])/[a-z][\w/]*', file.read())
+            self.assertLessEqual(set(paths), {'/bin/sh', '/dev/null'}, entry)
 
     def test_nothing_stays(self):
         """A script leaves no folder of its own behind."""

@@ -30,7 +30,7 @@ def read_wad(path):
         entries = [struct.unpack_from('<II8s', data, directory + 16 * i) for i in range(count)]
     except struct.error:
         raise WadError(f'{path} is cut short')
-    return [(name.split(b'\0')[0].decode('latin-1').upper(), data[offset:offset + size])
+    return [(name.split(b'\0')[0].upper().decode('latin-1'), data[offset:offset + size])
             for offset, size, name in entries]
 
 
