@@ -1,5 +1,7 @@
-// Values from outside: the made file of 1, whose lumps and colours are told in `made_rules`.
-use crate::{ArtRefusal, AuditFault, AuditRefusal, ReadBase, find_colormap, read_base};
+// Values from outside: the made file of 1, whose lumps and colours `made_rules` defines.
+use crate::base::{ReadBase, read_base};
+use crate::colours::find_colormap;
+use crate::{ArtRefusal, AuditFault, AuditRefusal};
 use level_maker::make_wad;
 use level_scene::MapRefusal;
 use lump_cache::LumpCache;
@@ -34,7 +36,7 @@ fn read(
     let name = Name8::from_text(name).ok_or("a name")?;
     match find_colormap(&dir) {
         Ok(lump) => Ok(read_base(alloc, lump, &name, &dir, &mut cache, &mut shelf)),
-        Err(refusal) => Ok(Err(refusal.into())),
+        Err(refusal) => Ok(Err(AuditFault::Refused(AuditRefusal::Art(refusal)))),
     }
 }
 
