@@ -29,6 +29,7 @@ impl Model for Picture {
 }
 
 impl Picture {
+    /// A frame of palette indices, 64000 bytes row by row, and the 768 bytes of its palette.
     pub fn new(pixels: Vec<u8>, playpal: Vec<u8>) -> Picture
         requires frame { length pixels.items ≡ FRAME_BYTES }
         requires palette { length playpal.items ≡ PALETTE_BYTES }
@@ -37,6 +38,7 @@ impl Picture {
         Picture { pixels, playpal }
     }
 
+    /// The palette index of each cell, row by row from the top.
     pub fn frame(&self) -> &[u8]
         ensures value { result.now ≡ self.now.frame }
         ensures length { length result.now ≡ FRAME_BYTES }
@@ -44,6 +46,7 @@ impl Picture {
         &self.pixels
     }
 
+    /// Red, green and blue of 256 colours.
     pub fn playpal(&self) -> &[u8]
         ensures value { result.now ≡ self.now.palette }
         ensures length { length result.now ≡ PALETTE_BYTES }

@@ -20,7 +20,7 @@ ghost use Rattle.level_audit.specs.Reads.{IsFullAudit, IsReadBy, IsReadLater};
 
 use crate::base::read_base;
 use crate::colours::find_colormap;
-use crate::scene::read_scene;
+use crate::scene::{MapRequest, read_scene};
 use crate::{AuditFault, AuditRefusal, SoundScene};
 use csv_tables::ThingTable;
 use lump_cache::LumpCache;
@@ -120,8 +120,13 @@ pub fn audit<S: Shelf>(
         Ok(colormap) => colormap,
         Err(refusal) => return Err(Fault::Refused(AuditRefusal::Art(refusal))),
     };
+    let request = MapRequest {
+        name: map,
+        things,
+        skill,
+    };
     match cache.fetch(shelf, dir, colormap, Tag::Static) {
-        Ok(()) => audit_rest(alloc, colormap, dir, cache, shelf, things, map, skill),
+        Ok(()) => audit_rest(alloc, colormap, &request, dir, cache, shelf),
         Err(fault) => Err(fault.above()),
     }
 }
@@ -130,28 +135,28 @@ pub fn audit<S: Shelf>(
 fn audit_rest<S: Shelf>(
     alloc: Global,
     colormap: LumpNo,
+    request: &MapRequest<'_>,
     dir: &Directory,
     cache: &mut LumpCache,
     shelf: &mut S,
-    things: &ThingTable,
-    map: &Name8,
-    skill: u8,
 ) -> Result<SoundScene, AuditFault>
     requires slots { length dir.now.lumps ≤ cache.old.lumps }
-    requires skill { (1 ≤ skill) × (skill ≤ 5) }
+    requires skill { (1 ≤ request.now.skill) × (request.now.skill ≤ 5) }
     requires colormap { colormap_of dir.now.lumps ≡ Ok colormap.0 }
     ensures tells { ReadsLumps itself (S.view shelf.old) (S.view shelf.new) dir.now cache.old
-        cache.new (IsReadLater (S.view shelf.old) dir.now cache.old things.now map.now skill)
-        (λ sound. sound.scene) (λ bytes.
-        scene_in bytes dir.now.lumps things.now map.now skill) result }
+        cache.new (IsReadLater (S.view shelf.old) dir.now cache.old request.now.things.now
+        request.now.name.now request.now.skill) (λ sound. sound.scene) (λ bytes.
+        scene_in bytes dir.now.lumps request.now.things.now request.now.name.now
+        request.now.skill) result }
     ensures named { IfOk result (λ sound.
         sound.named ≡ needed_lumps dir.now.lumps (art_of sound.scene)) }
     ensures sizes { IfOk result (λ sound. sound.sizes ≡ sizes_of dir.now.lumps sound.scene) }
     ensures colormap { IfOk result (λ sound. sound.scene.base.colormap ≡ colormap.0) }
-    ensures fits { IfOk result (λ sound. (lump : ℕ) → IsOfBase dir.now.lumps map.now lump →
+    ensures fits { IfOk result (λ sound. (lump : ℕ) → IsOfBase dir.now.lumps
+        request.now.name.now lump →
         StandsBeside dir.now.lumps cache.old lump) }
 {
-    let base = read_base(alloc, colormap, map, dir, cache, shelf)?;
-    let scene = read_scene(alloc, base, map, things, skill, dir, cache, shelf)?;
+    let base = read_base(alloc, colormap, request.name, dir, cache, shelf)?;
+    let scene = read_scene(alloc, base, request, dir, cache, shelf)?;
     Ok(SoundScene::new(alloc, dir, scene)?)
 }

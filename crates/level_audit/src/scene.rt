@@ -41,6 +41,14 @@ pub struct ReadScene {
     pub book: SpriteBook,
 }
 
+/// A map by name, the looks of things, and a skill of 1 to 5.
+#[derive(Clone, Copy)]
+pub struct MapRequest<'a> {
+    pub name: &'a Name8,
+    pub things: &'a ThingTable,
+    pub skill: u8,
+}
+
 /// The scene over a base, for a skill of 1 to 5, with things that look as the thing table says.
 ///
 /// In order: the textures of sides, the sky, the flats of sectors; the wanted textures are prepared;
@@ -56,27 +64,27 @@ pub struct ReadScene {
 pub fn read_scene<S: Shelf>(
     alloc: Global,
     base: ReadBase,
-    name: &Name8,
-    things: &ThingTable,
-    skill: u8,
+    request: &MapRequest<'_>,
     dir: &Directory,
     cache: &mut LumpCache,
     shelf: &mut S,
 ) -> Result<ReadScene, AuditFault>
     requires slots { length dir.now.lumps ≤ cache.old.lumps }
-    requires skill { (1 ≤ skill) × (skill ≤ 5) }
+    requires skill { (1 ≤ request.now.skill) × (request.now.skill ≤ 5) }
     ensures tells { ReadsLumps itself (S.view shelf.old) (S.view shelf.new) dir.now cache.old
-        cache.new (IsOfScene dir.now.lumps things.now skill name.now (base_of base)) scene_value
-        (λ bytes. scene_on bytes dir.now.lumps things.now skill name.now (base_of base)) result }
+        cache.new (IsOfScene dir.now.lumps request.now.things.now request.now.skill
+        request.now.name.now (base_of base)) scene_value
+        (λ bytes. scene_on bytes dir.now.lumps request.now.things.now request.now.skill
+        request.now.name.now (base_of base)) result }
     ensures base { IfOk result (λ scene. base_of scene.base ≡ base_of base) }
     ensures flats { IfOk result (λ scene.
         length scene.faces.flats.items ≡ length base.level.sectors) }
 {
-    let faces = match find_faces(alloc, name, dir, &base.level, base.textures.lists()) {
+    let faces = match find_faces(alloc, request.name, dir, &base.level, base.textures.lists()) {
         Ok(faces) => faces,
         Err(fault) => return Err(above_scene(fault)),
     };
-    read_art(alloc, base, faces, things, skill, dir, cache, shelf)
+    read_art(alloc, base, faces, request, dir, cache, shelf)
 }
 
 // The scene over a base and the faces of its level.
@@ -84,21 +92,20 @@ fn read_art<S: Shelf>(
     alloc: Global,
     base: ReadBase,
     faces: ReadFaces,
-    things: &ThingTable,
-    skill: u8,
+    request: &MapRequest<'_>,
     dir: &Directory,
     cache: &mut LumpCache,
     shelf: &mut S,
 ) -> Result<ReadScene, AuditFault>
     requires slots { length dir.now.lumps ≤ cache.old.lumps }
-    requires skill { (1 ≤ skill) × (skill ≤ 5) }
+    requires skill { (1 ≤ request.now.skill) × (request.now.skill ≤ 5) }
     requires sides { length faces.sides.items ≡ length base.level.sides }
     requires below { All (AreBelow (length base.textures.lists.textures)) faces.sides.items }
     requires sky { IfSome faces.sky (λ tex. tex.0 < length base.textures.lists.textures) }
     ensures tells { ReadsLumps itself (S.view shelf.old) (S.view shelf.new) dir.now cache.old
-        cache.new (IsOfArt dir.now.lumps things.now skill (base_of base) (faces_of faces))
-        scene_value (λ bytes. scene_with bytes dir.now.lumps things.now skill (base_of base)
-        (faces_of faces)) result }
+        cache.new (IsOfArt dir.now.lumps request.now.things.now request.now.skill (base_of base)
+        (faces_of faces)) scene_value (λ bytes. scene_with bytes dir.now.lumps
+        request.now.things.now request.now.skill (base_of base) (faces_of faces)) result }
     ensures base { IfOk result (λ scene. base_of scene.base ≡ base_of base) }
     ensures faces { IfOk result (λ scene. scene.faces ≡ faces) }
 {
@@ -112,7 +119,7 @@ fn read_art<S: Shelf>(
         cache,
         shelf,
     )?;
-    let placed = place_things(alloc, &base.level, things, skill)?;
+    let placed = place_things(alloc, &base.level, request.things, request.skill)?;
     read_things(alloc, base, faces, placed, dir, cache, shelf)
 }
 

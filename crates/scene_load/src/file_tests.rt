@@ -70,53 +70,39 @@ fn put(
     files: &mut Vec<MemoryFile>,
     absent: &str,
     name: &str,
-    bytes: Vec<u8>,
+    bytes: &[u8],
 ) -> Result<(), AllocError>
     ensures { length files.new.items ≤ length files.old.items + 1 }
 {
     if name != absent {
-        let name = name.to_string(alloc)?;
-        files.push(MemoryFile { name, bytes })?;
+        files.push(MemoryFile {
+            name: name.to_string(alloc)?,
+            bytes: bytes.to_vec(alloc)?,
+        })?;
     }
     Ok(())
 }
 
-fn bytes_of(alloc: Global, text: &str) -> Result<Vec<u8>, AllocError> {
-    text.as_bytes().to_vec(alloc)
-}
-
 fn shelf_of(alloc: Global, set: &Set<'_>) -> Result<MemoryShelf, AllocError> {
+    let tables = tables_of(alloc, set.length)?;
     let mut files = Vec::new(alloc);
-    let absent = set.absent;
+    put(alloc, &mut files, set.absent, "tables", &tables)?;
     put(
         alloc,
         &mut files,
-        absent,
-        "tables",
-        tables_of(alloc, set.length)?,
-    )?;
-    put(
-        alloc,
-        &mut files,
-        absent,
+        set.absent,
         "things",
-        bytes_of(alloc, set.things)?,
+        set.things.as_bytes(),
     )?;
+    put(alloc, &mut files, set.absent, "path", set.path.as_bytes())?;
     put(
         alloc,
         &mut files,
-        absent,
-        "path",
-        bytes_of(alloc, set.path)?,
-    )?;
-    put(
-        alloc,
-        &mut files,
-        absent,
+        set.absent,
         "weapons",
-        bytes_of(alloc, set.weapons)?,
+        set.weapons.as_bytes(),
     )?;
-    put(alloc, &mut files, absent, "wad", bytes_of(alloc, set.wad)?)?;
+    put(alloc, &mut files, set.absent, "wad", set.wad.as_bytes())?;
     Ok(MemoryShelf::new(files, Vec::new(alloc)))
 }
 

@@ -80,6 +80,25 @@ fn things_are_seen_ahead_alone(rt: HostRuntime) -> Result<(), Fail> {
     Ok(())
 }
 
+// The entry of a thing at 192, 64.
+const NEAR: SpriteEntry = SpriteEntry {
+    number: 0,
+    first: 117,
+    last: 150,
+    a1: 117,
+    x: 12582912,
+    y: 4194304,
+    gz: 524288,
+    gzt: 4718592,
+    mid: 0,
+    scale: 68982,
+    iscale: 62262,
+    flip: false,
+    width: 32,
+    lump: 9,
+    map: 0,
+};
+
 #[test]
 fn smaller_things_are_drawn_first(rt: HostRuntime) -> Result<(), Fail> {
     let bytes = make_tables(rt.alloc())?;
@@ -89,24 +108,7 @@ fn smaller_things_are_drawn_first(rt: HostRuntime) -> Result<(), Fail> {
     assert_eq!(rt; sprites.count(), 0);
     put(&mut sprites, &view, 192, 64, 8);
     assert_eq!(rt; sprites.count(), 1);
-    let entry = SpriteEntry {
-        number: 0,
-        first: 117,
-        last: 150,
-        a1: 117,
-        x: 12582912,
-        y: 4194304,
-        gz: 524288,
-        gzt: 4718592,
-        mid: 0,
-        scale: 68982,
-        iscale: 62262,
-        flip: false,
-        width: 32,
-        lump: 9,
-        map: 0,
-    };
-    assert_eq!(rt; sprites.sorted().next(), Some(entry));
+    assert_eq!(rt; sprites.sorted().next(), Some(NEAR));
     put(&mut sprites, &view, 64, 64, 0);
     put(&mut sprites, &view, 192, 192, 24);
     put(&mut sprites, &view, 192, 192, 24);

@@ -6,11 +6,11 @@ use Rattle.level_audit.proofs.audit_steps.audit_rest.Goals as goal
 
 pub returns-in_err-base-clause-tells : goal.returns-in_err-base-clause-tells
 returns-in_err-base-clause-tells g c =
-    base_stopped c.args.things.now c.args.map.now c.args.skill c.read_base.result c.in_err-base.field-0.0 c.from_residual.result c.read_base.ensures.tells c.in_err-base.was c.from_residual.ensures.1
+    base_stopped c.args.request.now.things.now c.args.request.now.name.now c.args.request.now.skill c.read_base.result c.in_err-base.field-0.0 c.from_residual.result c.read_base.ensures.tells c.in_err-base.was c.from_residual.ensures.1
 
 pub returns-in_err-scene-clause-tells : goal.returns-in_err-scene-clause-tells
 returns-in_err-scene-clause-tells g c =
-    scene_stopped c.args.things.now c.args.map.now c.args.skill c.in_ok-base.base c.in_ok-base.ensures.tells
+    scene_stopped c.args.request.now.things.now c.args.request.now.name.now c.args.request.now.skill c.in_ok-base.base c.in_ok-base.ensures.tells
     c.read_scene.result c.in_err-scene.field-0.0 c.from_residual-in_err-scene.result c.read_scene.ensures.tells c.in_err-scene.was c.from_residual-in_err-scene.ensures.1
 
 pub new-requires-clause-colormap : goal.new-requires-clause-colormap
@@ -20,10 +20,10 @@ new-requires-clause-colormap g c =
 
 pub returns-in_err-new-clause-tells : goal.returns-in_err-new-clause-tells
 returns-in_err-new-clause-tells g c =
-    sound_stopped c.args.things.now c.args.map.now c.args.skill c.in_ok-base.base c.in_ok-base.ensures.tells
+    sound_stopped c.args.request.now.things.now c.args.request.now.name.now c.args.request.now.skill c.in_ok-base.base c.in_ok-base.ensures.tells
     c.in_ok-scene.scene c.in_ok-scene.ensures.tells c.from_residual-in_err-new.result c.from_residual-in_err-new.ensures.1
 
 pub returns-clause-tells : goal.returns-clause-tells
 returns-clause-tells g c =
-    sound_passed c.args.things.now c.args.map.now c.args.skill c.in_ok-base.base c.in_ok-base.ensures.tells
+    sound_passed c.args.request.now.things.now c.args.request.now.name.now c.args.request.now.skill c.in_ok-base.base c.in_ok-base.ensures.tells
     c.in_ok-scene.scene c.in_ok-scene.ensures.tells c.in_ok-new.field-0 c.in_ok-new.ensures.scene

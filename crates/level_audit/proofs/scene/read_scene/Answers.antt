@@ -15,28 +15,28 @@ use Rattle.level_audit.proofs.scene.read_scene.Goals as goal
 pub returns-in-Err-clause-tells : goal.returns-in-Err-clause-tells
 returns-in-Err-clause-tells g c =
     let dir = c.args.dir.now in
-    let name = c.args.name.now in
+    let name = c.args.request.now.name.now in
     let stands = base_of c.args.base in
     let fault = above_scene c.in-Err.fault in
-    reads_stop_first (λ bytes. scene_on bytes dir.lumps c.args.things.now c.args.skill name stands) (Err fault) fault (Err c.above_scene.result)
-    (faces_told (g.S.Shelf.view c.args.shelf.now) dir c.args.cache.now (IsOfScene dir.lumps c.args.things.now c.args.skill name stands) name stands.level stands.lists c.lists.result.now (Err c.in-Err.fault) c.lists.ensures c.in-Err.ensures.answers)
-    refl c.above_scene.ensures (λ lump wanted. wanted) (λ bytes refusal e. scene_on-stop bytes dir.lumps c.args.things.now c.args.skill name stands refusal e)
+    reads_stop_first (λ bytes. scene_on bytes dir.lumps c.args.request.now.things.now c.args.request.now.skill name stands) (Err fault) fault (Err c.above_scene.result)
+    (faces_told (g.S.Shelf.view c.args.shelf.now) dir c.args.cache.now (IsOfScene dir.lumps c.args.request.now.things.now c.args.request.now.skill name stands) name stands.level stands.lists c.lists.result.now (Err c.in-Err.fault) c.lists.ensures c.in-Err.ensures.answers)
+    refl c.above_scene.ensures (λ lump wanted. wanted) (λ bytes refusal e. scene_on-stop bytes dir.lumps c.args.request.now.things.now c.args.request.now.skill name stands refusal e)
 
 pub returns-clause-tells : goal.returns-clause-tells
 returns-clause-tells g c =
     let dir = c.args.dir.now in
-    let name = c.args.name.now in
+    let name = c.args.request.now.name.now in
     let stands = base_of c.args.base in
     let faces = faces_of c.in-Ok.faces in
-    reads_then (λ bytes. scene_on bytes dir.lumps c.args.things.now c.args.skill name stands) c.read_art.result
-    (faces_told (g.S.Shelf.view c.args.shelf.now) dir c.args.cache.now (IsOfScene dir.lumps c.args.things.now c.args.skill name stands) name stands.level stands.lists c.lists.result.now (Ok c.in-Ok.faces) c.lists.ensures c.in-Ok.ensures.answers)
+    reads_then (λ bytes. scene_on bytes dir.lumps c.args.request.now.things.now c.args.request.now.skill name stands) c.read_art.result
+    (faces_told (g.S.Shelf.view c.args.shelf.now) dir c.args.cache.now (IsOfScene dir.lumps c.args.request.now.things.now c.args.request.now.skill name stands) name stands.level stands.lists c.lists.result.now (Ok c.in-Ok.faces) c.lists.ensures c.in-Ok.ensures.answers)
     c.read_art.ensures.tells (λ lump wanted. wanted)
     (λ lump wanted. record {
       faces = faces;
       are = subst (λ (lists : TextureLists). faces_in dir.lumps name stands.level lists ≡ Ok faces) c.lists.ensures c.in-Ok.ensures.answers.ok;
       asked = wanted;
     })
-    (λ bytes found. scene_on-more bytes dir.lumps c.args.things.now c.args.skill name stands faces found)
+    (λ bytes found. scene_on-more bytes dir.lumps c.args.request.now.things.now c.args.request.now.skill name stands faces found)
 
 pub returns-clause-flats : goal.returns-clause-flats
 returns-clause-flats g c =
