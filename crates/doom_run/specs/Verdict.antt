@@ -20,7 +20,7 @@ use Rattle.doom_run.specs.Steps.{RunStop, usage, at_step, else_usage}
 pub data Accepted : Type 0 where
   tiled_flat : PictureValue → Accepted
   -- the bytes of a made file
-  made : List ℕ → Accepted
+  made_bytes : List ℕ → Accepted
   -- how large a zone has to be for a level
   audited : ZoneSizes → Accepted
 
@@ -36,7 +36,7 @@ level_verdict Trace level wads files = Err usage
 abbrev pub job_verdict : CommandValue → List File → Result Accepted RunStop
 job_verdict (flat name file) files = and_then (from_below at_step (flat_verdict name file files)) (λ picture. Ok (tiled_flat picture))
 job_verdict (level_job job level wads) files = level_verdict job level wads files
-job_verdict (make job) files = Ok (made (made_file job))
+job_verdict (make job) files = Ok (made_bytes (made_file job))
 job_verdict (exercise count zone format) files = Err usage
 
 -- the first stop, or what is accepted
@@ -46,17 +46,17 @@ verdict words files = and_then (else_usage (command_of words)) (λ command. job_
 -- the status of an accepted run in which nothing fails
 abbrev pub end_of : Accepted → Status
 end_of (tiled_flat picture) = Done
-end_of (made bytes) = Done
+end_of (made_bytes bytes) = Done
 end_of (audited sizes) = Done
 
 -- all that an accepted run writes
 abbrev pub output : Accepted → List ℕ
 output (tiled_flat picture) = ppm picture.frame picture.palette
-output (made bytes) = bytes
+output (made_bytes bytes) = bytes
 output (audited sizes) = pair_line (codes "accepted enough ") sizes.enough (codes " roomy ") sizes.roomy
 
 -- how many bytes a zone needs that is never full, 0 where the job has none
 abbrev pub enough_for : Accepted → ℕ
 enough_for (tiled_flat picture) = zero
-enough_for (made bytes) = zero
+enough_for (made_bytes bytes) = zero
 enough_for (audited sizes) = sizes.enough

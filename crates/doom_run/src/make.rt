@@ -4,7 +4,7 @@ ghost use Rattle.outside.specs.Causes.{FaultsRose};
 ghost use Rattle.command_line.specs.Commands.{IsCountedMake};
 ghost use Rattle.doom_run.specs.Ends.{DeliversAt};
 ghost use Rattle.doom_run.specs.Made.{made_file};
-ghost use Rattle.doom_run.specs.Verdict.{made};
+ghost use Rattle.doom_run.specs.Verdict.{made_bytes};
 
 use crate::status::Status;
 use command_line::MakeJob;
@@ -27,7 +27,7 @@ pub fn prepare_make(alloc: Global, job: MakeJob) -> Result<Vec<u8>, OutOfMemory>
 
 // Writes the bytes of a made file. Takes no memory.
 pub fn deliver_make<K: Sink>(bytes: &[u8], out: &mut K) -> Status
-    ensures ends { DeliversAt (made bytes.now) (K.written out.old) (K.written out.new) result }
+    ensures ends { DeliversAt (made_bytes bytes.now) (K.written out.old) (K.written out.new) result }
     ensures write_fault { result ≡ Status.WriteFault →
         FaultsRose (K.faults out.old) (K.faults out.new) }
 {

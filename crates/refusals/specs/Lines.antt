@@ -24,7 +24,7 @@ use Rattle.refusals.specs.declared.refusal.Refusal.TheVariants.{Tables, Things, 
 
 -- the code of a refusal, and its numbers
 abbrev pub tables_numbers : TablesRefusal → List ℕ
-tables_numbers (tables.Length found) = CODE_TABLES_LENGTH ∷ found ∷ []
+tables_numbers (tables.Length count) = CODE_TABLES_LENGTH ∷ count ∷ []
 tables_numbers (tables.Sine index) = CODE_SINE ∷ index ∷ []
 tables_numbers (tables.Tangent index) = CODE_TANGENT ∷ index ∷ []
 tables_numbers (tables.Angle index) = CODE_ANGLE ∷ index ∷ []

@@ -28,31 +28,31 @@ IsOfLayers lumps weapons lump = (rows : List WeaponRow) × (weapons ≡ Some row
 
 -- a lump that loading reads: one of the audit, or a picture of a weapon layer
 abbrev pub IsReadFor : (ℕ → List ℕ) → LevelJobValue → FilesValue → ℕ → Type 0
-IsReadFor bytes level found lump =
-    IsReadBy bytes found.lumps found.things level.map_name level.settings.skill lump ⊎ IsOfLayers found.lumps found.weapons lump
+IsReadFor bytes level values lump =
+    IsReadBy bytes values.lumps values.things level.map_name level.settings.skill lump ⊎ IsOfLayers values.lumps values.weapons lump
 
 -- No gap held the block of a lump that is read, whose bytes are these. The zone does not hold it beside
 -- COLORMAP; and where nothing refuses, the zone is smaller than enough.
-pub record IsFullOver (bytes : ℕ → List ℕ) (level : LevelJobValue) (found : FilesValue) (wanted widest' : ℕ) : Type 0 where
+pub record IsFullOver (bytes : ℕ → List ℕ) (level : LevelJobValue) (values : FilesValue) (wanted widest' : ℕ) : Type 0 where
   pub lump : ℕ
-  pub asked : IsReadFor bytes level found lump
-  pub wanted_is : wanted ≡ block_size (lump_at found.lumps lump).size
+  pub asked : IsReadFor bytes level values lump
+  pub wanted_is : wanted ≡ block_size (lump_at values.lumps lump).size
   pub narrow : widest' < wanted
   pub colormap : ℕ
-  pub colormap_is : colormap_of found.lumps ≡ Ok colormap
-  pub small : level.settings.zone < block_size (lump_at found.lumps colormap).size + wanted + MIN_FRAGMENT
-  pub enough : (loaded : LoadedValue) → audited_in bytes level found ≡ Ok loaded → level.settings.zone < (loaded_sizes loaded).enough
+  pub colormap_is : colormap_of values.lumps ≡ Ok colormap
+  pub small : level.settings.zone < block_size (lump_at values.lumps colormap).size + wanted + MIN_FRAGMENT
+  pub enough : (loaded : LoadedValue) → audited_in bytes level values ≡ Ok loaded → level.settings.zone < (loaded_sizes loaded).enough
 
 -- The files are in order, and no gap held the block of a lump that is read. The zone does not hold it
 -- beside COLORMAP; and where nothing refuses, the zone is smaller than enough.
 pub record IsFullLoad (level : LevelJobValue) (wads : List (List ℕ)) (files : List File) (wanted widest' : ℕ) : Type 0 where
-  pub found : FilesValue
-  pub are : files_in level.files wads level.settings.size files ≡ Ok found
+  pub values : FilesValue
+  pub are : files_in level.files wads level.settings.size files ≡ Ok values
   pub lump : ℕ
-  pub asked : IsReadFor (wad_bytes wads files found.lumps) level found lump
-  pub wanted_is : wanted ≡ block_size (lump_at found.lumps lump).size
+  pub asked : IsReadFor (wad_bytes wads files values.lumps) level values lump
+  pub wanted_is : wanted ≡ block_size (lump_at values.lumps lump).size
   pub narrow : widest' < wanted
   pub colormap : ℕ
-  pub colormap_is : colormap_of found.lumps ≡ Ok colormap
-  pub small : level.settings.zone < block_size (lump_at found.lumps colormap).size + wanted + MIN_FRAGMENT
+  pub colormap_is : colormap_of values.lumps ≡ Ok colormap
+  pub small : level.settings.zone < block_size (lump_at values.lumps colormap).size + wanted + MIN_FRAGMENT
   pub enough : (loaded : LoadedValue) → load_in level wads files ≡ Ok loaded → level.settings.zone < (loaded_sizes loaded).enough

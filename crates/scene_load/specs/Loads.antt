@@ -34,7 +34,7 @@ loaded_value loaded = record { files = value_of loaded.files; scene = loaded.sce
 
 -- the same, of what an audit gives over the files
 abbrev pub audited_value : FilesValue → SoundValue × Option (List Frame) → LoadedValue
-audited_value found audited = record { files = found; scene = audited.0.scene; weapons = audited.1 }
+audited_value values audited = record { files = values; scene = audited.0.scene; weapons = audited.1 }
 
 -- a sound scene, which needs the pictures of the weapon layers too
 abbrev pub with_layers : List Lump → Option (List Frame) → SoundValue → SoundValue
@@ -59,16 +59,16 @@ weapons_of bytes lumps (Some rows) = and_then (from_below WeaponArt (weapon_book
 
 -- the scene of the level, and then the weapon layers, over the lumps of the files
 unfoldable pub audited_in : (ℕ → List ℕ) → LevelJobValue → FilesValue → Result LoadedValue AuditRefusal
-audited_in bytes level found =
-    and_then (scene_in bytes found.lumps found.things level.map_name level.settings.skill) (λ scene.
-    and_then (weapons_of bytes found.lumps found.weapons) (λ weapons.
-    Ok (record { files = found; scene = scene; weapons = weapons })))
+audited_in bytes level values =
+    and_then (scene_in bytes values.lumps values.things level.map_name level.settings.skill) (λ scene.
+    and_then (weapons_of bytes values.lumps values.weapons) (λ weapons.
+    Ok (record { files = values; scene = scene; weapons = weapons })))
 
 -- all steps: the files in their order, then the lumps
 unfoldable pub load_in : LevelJobValue → List (List ℕ) → List File → Result LoadedValue (Stop Refusal)
 load_in level wads files =
-    and_then (files_in level.files wads level.settings.size files) (λ found.
-    stops_of_audit (audited_in (wad_bytes wads files found.lumps) level found))
+    and_then (files_in level.files wads level.settings.size files) (λ values.
+    stops_of_audit (audited_in (wad_bytes wads files values.lumps) level values))
 
 -- the lumps of the pictures of a scene and of its weapon layers
 abbrev pub weapon_lumps : Option (List Frame) → List ℕ
