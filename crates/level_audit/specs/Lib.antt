@@ -6,3 +6,4 @@ pub mod Scenes
 pub mod Sound
 pub mod Views
 pub mod Weapons
+pub mod Whole

@@ -16,6 +16,7 @@ ghost use Rattle.lump_cache.specs.Sizes.{HasSizes, StandsBeside};
 ghost use Rattle.scene_rules.specs.Scenes.{SceneValue, art_of, colormap_of, scene_in, sizes_of};
 ghost use Rattle.scene_rules.specs.Sizes.{needed_lumps};
 ghost use Rattle.level_audit.specs.Asked.{IsOfBase};
+ghost use Rattle.level_audit.specs.Whole.{IsWholeScene};
 ghost use Rattle.level_audit.specs.Reads.{IsFullAudit, IsReadBy, IsReadLater};
 
 use crate::base::read_base;
@@ -96,6 +97,8 @@ pub fn audit<S: Shelf>(
         IfOk result (λ sound. (lump : ℕ) → IsOfBase dir.now.lumps map.now lump →
         lump ≢ sound.scene.base.colormap →
         block_size (lump_at dir.now.lumps sound.scene.base.colormap).size + block_size (lump_at dir.now.lumps lump).size ≤ cache.old.size) }
+    ensures whole { IfOk result (λ sound.
+        IsWholeScene dir.now.lumps things.now map.now skill sound.scene) }
     ensures follows { IsLaterShelf (S.view shelf.old) (S.view shelf.new) }
     ensures counts { KeepsCounts cache.old cache.new }
     ensures faithful { (contents : List (List ℕ)) →
@@ -152,6 +155,9 @@ fn audit_rest<S: Shelf>(
         sound.named ≡ needed_lumps dir.now.lumps (art_of sound.scene)) }
     ensures sizes { IfOk result (λ sound. sound.sizes ≡ sizes_of dir.now.lumps sound.scene) }
     ensures colormap { IfOk result (λ sound. sound.scene.base.colormap ≡ colormap.0) }
+    ensures whole { IfOk result (λ sound.
+        IsWholeScene dir.now.lumps request.now.things.now request.now.name.now
+        request.now.skill sound.scene) }
     ensures fits { IfOk result (λ sound. (lump : ℕ) → IsOfBase dir.now.lumps
         request.now.name.now lump →
         StandsBeside dir.now.lumps cache.old lump) }

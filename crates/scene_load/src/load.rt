@@ -90,6 +90,8 @@ pub fn load_scene<S: Shelf>(
     ensures slots { IfOk result (λ loaded. length loaded.files.dir.lumps ≤ loaded.cache.lumps) }
     ensures zone { IfOk result (λ loaded. loaded.cache.size ≡ level.now.settings.zone) }
     ensures composites { IfOk result (λ loaded. loaded.cache.composites ≡ COMPOSITE_SLOTS) }
+    ensures whole { IfOk result (λ loaded. IsWholeScene loaded.files.dir.lumps
+        loaded.files.things level.now.map level.now.settings.skill loaded.scene.scene) }
     ensures fits { IfOk result (λ loaded. IsBaseWithin loaded.files.dir.lumps
         (level_job_value level.now) loaded.scene.scene.base.colormap) }
     ensures follows { IsLaterShelf (S.view shelf.old) (S.view shelf.new) }
@@ -153,6 +155,8 @@ fn audit_level<S: Shelf>(
         (value_of files.now))) }
     ensures rest { IfOk result (λ audited. IsAtRest audited.0.scene.base.colormap
         (lump_at files.now.dir.lumps audited.0.scene.base.colormap).size cache.new) }
+    ensures whole { IfOk result (λ audited. IsWholeScene files.now.dir.lumps
+        files.now.things level.now.map level.now.settings.skill audited.0.scene) }
     ensures fits { IfOk result (λ audited. IsBaseWithin files.now.dir.lumps
         (level_job_value level.now) audited.0.scene.base.colormap) }
     ensures counts { KeepsCounts cache.old cache.new }
@@ -195,6 +199,8 @@ fn audit_files<S: Shelf>(
         (value_of files.now))) }
     ensures rest { IfOk result (λ audited. IsAtRest audited.0.scene.base.colormap
         (lump_at files.now.dir.lumps audited.0.scene.base.colormap).size cache.new) }
+    ensures whole { IfOk result (λ audited. IsWholeScene files.now.dir.lumps
+        files.now.things level.now.map level.now.settings.skill audited.0.scene) }
     ensures fits { IfOk result (λ audited. IsBaseWithin files.now.dir.lumps
         (level_job_value level.now) audited.0.scene.base.colormap) }
     ensures counts { KeepsCounts cache.old cache.new }
