@@ -1,0 +1,5 @@
+pub mod Walls
+pub mod Built
+pub mod Faults
+pub mod Draws
+pub mod Noted
