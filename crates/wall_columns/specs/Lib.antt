@@ -3,3 +3,4 @@ pub mod Built
 pub mod Faults
 pub mod Draws
 pub mod Noted
+pub mod Plans

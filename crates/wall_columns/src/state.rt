@@ -24,9 +24,8 @@ use crate::clips::{ColumnPlan, column_plan};
 use crate::columns::mark_rows;
 use crate::fault::DrawFault;
 use crate::notes::{SavePlaces, note_of, save_places};
-use crate::paint::{ColumnLook, paint_part};
+use crate::paint::paint_plan;
 use crate::tools::WallTools;
-use fx_words::inverse_word;
 use outside::Shelf;
 use pixel_strips::Canvas;
 use plane_rules::PlaneKey;
@@ -470,39 +469,6 @@ impl WallState {
         let note = note_of(seg_no, fragment, numbers, first, last, places, self.height);
         self.notes.push_reserved(note);
     }
-}
-
-// Paints what the fragment paints in a column, the upper strip first.
-#[inline(always)]
-fn paint_plan<S: Shelf, C: Canvas>(
-    tools: &mut WallTools<'_, S, C>,
-    fragment: &Fragment,
-    numbers: &FragmentNumbers,
-    number: u16,
-    x: u16,
-    edges: &Edges,
-    plan: &ColumnPlan,
-) -> Result<(), DrawFault> {
-    if !paints(plan) {
-        return Ok(());
-    }
-    let look = ColumnLook {
-        number,
-        x,
-        column: fragment.column_at(tools.view, x),
-        step: inverse_word(edges.scale),
-        map: tools.view.scale_map(numbers.light, edges.scale),
-    };
-    paint_part(tools, &look, numbers.middle_part, plan.middle)?;
-    paint_part(tools, &look, numbers.top_part, plan.top)?;
-    paint_part(tools, &look, numbers.bottom_part, plan.bottom)
-}
-
-// Whether a strip has rows.
-fn paints(plan: &ColumnPlan) -> bool {
-    plan.middle.first <= plan.middle.last
-        || plan.top.first <= plan.top.last
-        || plan.bottom.first <= plan.bottom.last
 }
 
 fn find_plane(planes: &mut Planes, key: Option<PlaneKey>) -> Result<Option<PlaneNo>, DrawFault> {
