@@ -1,5 +1,5 @@
 -- What a call that draws keeps of the cache, and whose bytes it may paint with.
-use Rattle.std.specs.Prelude.{◌≡◌, ◌≢◌, ◌<◌, ◌≤◌, ◌+◌, ◌⊎◌, ℕ, ℤ, List, IsTrue, IfErr, MatchResult, Result, ⊤, ⊥}
+use Rattle.std.specs.Prelude.{◌≡◌, ◌≢◌, ◌<◌, ◌≤◌, ◌+◌, ◌⊎◌, ℕ, ℤ, List, IsTrue, IfErr, MatchResult, Result, ⊤}
 use Rattle.std.specs.List.{AllByRecursion}
 use Rattle.outside.specs.Shelf.{ShelfView, IsLaterShelf, NameFiles}
 use Rattle.outside.specs.Faults.{HasCauses}
