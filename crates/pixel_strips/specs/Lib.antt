@@ -1,2 +1,3 @@
 pub mod Canvases
 pub mod Strips
+pub mod Dotted

@@ -5,3 +5,5 @@ pub mod Parts
 pub mod Composites
 pub mod Builds
 pub mod Ready
+pub mod Arts
+pub mod Draws

@@ -1,0 +1,16 @@
+-- A canvas that was given dots, by whatever painters.
+use Rattle.std.specs.Prelude.{◌≡◌, ℕ, List}
+use Rattle.pixel_rules.specs.declared.Painter.{Painter}
+use Rattle.pixel_rules.specs.Dots.{Dot, put_dots}
+use Rattle.pixel_strips.specs.Canvases.{CanvasView}
+
+-- it has these dots in order, and stands where it stood; the painter is not told
+pub record HasDots (mark : Painter → ℕ → ℕ) (dots : List Dot) (old new : CanvasView) : Type 0 where
+  pub cells : new.cells ≡ put_dots mark old.left old.top dots old.cells
+  pub left : new.left ≡ old.left
+  pub top : new.top ≡ old.top
+
+-- it stands where it stood
+pub record PlacedAlike (old new : CanvasView) : Type 0 where
+  pub left : new.left ≡ old.left
+  pub top : new.top ≡ old.top

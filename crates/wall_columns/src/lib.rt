@@ -1,0 +1,23 @@
+//! The walls of a view: fragments drawn column by column, with their clips, planes, openings and
+//! notes.
+//!
+//! A drawn fragment is the field's drawseg. Rules: `wall_rules`, Clips, Walls, Strips, Openings and
+//! Notes; `plane_rules`, Built; `picture_rules`, Counts; what a state stands for in this crate's
+//! Built. Proved: after each call the state and the planes are those of the fragments drawn so far,
+//! a canvas is given exactly a fragment's strips, and planes and openings past a limit are told
+//! exactly where they come. Only `new` takes memory. The original: r_segs.c, and R_Subsector of
+//! r_bsp.c.
+#![tactic(auto)]
+
+mod clips;
+mod columns;
+mod fault;
+mod notes;
+mod paint;
+mod state;
+mod tools;
+
+pub use fault::DrawFault;
+pub use state::{LeafPlanes, WallState};
+pub use tools::WallTools;
+pub use wall_rules::{Clip, FragmentNote, WallFacts};
