@@ -1,4 +1,0 @@
-pub mod Lists
-pub mod Ready
-pub mod Scenes
-pub mod Clipped

@@ -1,6 +1,0 @@
-pub mod Walls
-pub mod Built
-pub mod Faults
-pub mod Draws
-pub mod Noted
-pub mod Plans
