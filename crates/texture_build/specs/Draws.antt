@@ -38,8 +38,8 @@ pub record KeepsArt (view after : ShelfView) (dir : DirectoryView) (textures : T
 pub record HoldsArt (view : ShelfView) (dir : DirectoryView) (textures : TexturesView)
     (contents : List (List ℕ)) (colormap count : ℕ) (z : Heap) : Type 0 where
   pub rest : IsAtRest colormap count z
-  pub contents : HoldContents view dir z contents
-  pub textures : AreTexturesOf contents dir.lumps textures
+  pub files : HoldContents view dir z contents
+  pub prepared : AreTexturesOf contents dir.lumps textures
   pub composites : AreComposites (lump_bytes contents dir.lumps) textures z
 
 -- a block for whose bytes a painter reads is, with the colormap's, no larger than the zone
