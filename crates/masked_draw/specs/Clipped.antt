@@ -1,5 +1,5 @@
 -- How far a sprite is seen by the clips that were taken, and what is painted of it and of a masked column.
-use Rattle.std.specs.Prelude.{◌≡◌, ◌≤◌, ◌<◌, ◌≤ℤ◌, ℕ, ℤ, pos, List, Option, Some, None, unwrap_or, slice_index_or}
+use Rattle.std.specs.Prelude.{◌≡◌, ◌≤◌, ◌<◌, ◌≤ℤ◌, ℕ, ℤ, pos, Bool, cond, List, Option, Some, None, unwrap_or, slice_index_or}
 use Rattle.word_rules.specs.Words.{minus_one}
 use Rattle.word_rules.specs.Listed.{joined_lists}
 use Rattle.view_rules.specs.View.{ViewValue}
@@ -22,6 +22,11 @@ use Rattle.masked_draw.specs.Scenes.{scene_drawseg, scene_lists}
 -- the row that was taken in column x, if any
 abbrev pub row_in : List (Option ℤ) → ℕ → Option ℤ
 row_in rows x = slice_index_or rows x None
+
+-- a row is taken where none was and the test holds
+abbrev pub row_after : Bool → ℤ → Option ℤ → Option ℤ
+row_after gives row None = cond gives (Some row) None
+row_after gives row (Some before) = Some before
 
 -- the rows between which a sprite is seen in column x
 abbrev pub top_at : SpriteClips → ℕ → ℤ
