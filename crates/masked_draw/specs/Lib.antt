@@ -1,2 +1,4 @@
 pub mod Lists
 pub mod Ready
+pub mod Scenes
+pub mod Clipped

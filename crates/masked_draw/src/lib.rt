@@ -10,6 +10,7 @@ mod clips;
 mod middles;
 mod pass;
 mod posts;
+mod scene;
 mod sprites;
 mod tools;
 

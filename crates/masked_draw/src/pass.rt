@@ -19,6 +19,7 @@ ghost use Rattle.masked_draw.specs.Ready.{IsListed, IsNotedMiddle, IsSpriteLump}
 
 use crate::clips::{SpriteClips, is_behind};
 use crate::middles::paint_middle;
+use crate::scene::{MaskHands, MaskScene};
 use crate::sprites::paint_sprite;
 use crate::tools::MaskedTools;
 use lump_cache::CacheFault;
@@ -97,21 +98,65 @@ pub fn draw_masked<S: Shelf, C: Canvas>(
     ensures place { PlacedAlike (C.view tools.old.canvas.now) (C.view tools.new.canvas.now) }
 {
     tools.marks.fill(false);
+    let scene = scene_of(tools);
+    let mut hands = MaskHands {
+        cache: &mut *tools.cache,
+        shelf: &mut *tools.shelf,
+        canvas: &mut *tools.canvas,
+        marks: &mut *tools.marks,
+    };
+    draw_sprites(&scene, &mut hands, notes, sprites)?;
+    draw_middles(&scene, &mut hands, notes)
+}
+
+// What stays of the tools.
+fn scene_of<'a, S: Shelf, C: Canvas>(tools: &MaskedTools<'a, S, C>) -> MaskScene<'a> {
+    MaskScene {
+        view: tools.view,
+        textures: tools.textures,
+        dir: tools.dir,
+        colormap: tools.colormap,
+        openings: tools.openings,
+        segs: tools.segs,
+        sides: tools.sides,
+        sectors: tools.sectors,
+        middles: tools.middles,
+    }
+}
+
+// Draws the sprites, each after the masked columns behind it.
+fn draw_sprites<S: Shelf, C: Canvas>(
+    scene: &MaskScene<'_>,
+    hands: &mut MaskHands<'_, S, C>,
+    notes: &[FragmentNote],
+    sprites: &Sprites,
+) -> Result<(), CacheFault> {
     let mut clips = SpriteClips::new();
     for entry in sprites.sorted() {
         if entry.first <= entry.last {
-            draw_sprite(tools, notes, &entry, &mut clips)?;
+            draw_sprite(scene, hands, notes, &entry, &mut clips)?;
         }
     }
-    for (k, note) in notes.iter().enumerate().rev() {
-        paint_middle(tools, note, k as u16, note.first, note.last)?;
+    Ok(())
+}
+
+// Draws the masked columns that are left.
+fn draw_middles<S: Shelf, C: Canvas>(
+    scene: &MaskScene<'_>,
+    hands: &mut MaskHands<'_, S, C>,
+    notes: &[FragmentNote],
+) -> Result<(), CacheFault> {
+    for k in (0..notes.len()).rev() {
+        let note = &notes[k];
+        paint_middle(scene, hands, note, k as u16, note.first, note.last)?;
     }
     Ok(())
 }
 
 // Draws a sprite that has columns, after the masked columns behind it.
 fn draw_sprite<S: Shelf, C: Canvas>(
-    tools: &mut MaskedTools<'_, S, C>,
+    scene: &MaskScene<'_>,
+    hands: &mut MaskHands<'_, S, C>,
     notes: &[FragmentNote],
     entry: &SpriteEntry,
     clips: &mut SpriteClips,
@@ -119,18 +164,32 @@ fn draw_sprite<S: Shelf, C: Canvas>(
     let first = entry.first as u16;
     let last = entry.last as u16;
     clips.clear(first, last);
-    for (k, note) in notes.iter().enumerate().rev() {
-        if counts(note, first, last) {
-            let from = first.max(note.first);
-            let to = last.min(note.last);
-            if is_behind(note, &tools.segs[note.seg_no as usize], entry) {
-                paint_middle(tools, note, k as u16, from, to)?;
-            } else {
-                clips.take(note, tools.openings, entry, from, to);
-            }
-        }
+    for k in (0..notes.len()).rev() {
+        pass_fragment(scene, hands, &notes[k], k as u16, entry, clips)?;
     }
-    paint_sprite(tools, clips, entry, first, last)
+    paint_sprite(scene, hands, clips, entry, first, last)
+}
+
+// Paints the masked columns of a fragment that is behind a sprite, or takes its clips.
+fn pass_fragment<S: Shelf, C: Canvas>(
+    scene: &MaskScene<'_>,
+    hands: &mut MaskHands<'_, S, C>,
+    note: &FragmentNote,
+    number: u16,
+    entry: &SpriteEntry,
+    clips: &mut SpriteClips,
+) -> Result<(), CacheFault> {
+    let first = entry.first as u16;
+    let last = entry.last as u16;
+    if counts(note, first, last) {
+        let from = first.max(note.first);
+        let to = last.min(note.last);
+        if is_behind(note, &scene.segs[note.seg_no as usize], entry) {
+            return paint_middle(scene, hands, note, number, from, to);
+        }
+        clips.take(note, scene.openings, entry, from, to);
+    }
+    Ok(())
 }
 
 // Whether a fragment has one of the columns, and clips or is masked.

@@ -1,5 +1,5 @@
 -- What the masked pass asks of the notes of a view and of the openings that they name (drawseg_t, r_defs.h).
-use Rattle.std.specs.Prelude.{◌≡◌, ◌≢◌, ◌≤◌, ◌<◌, ◌+◌, ◌-◌, ◌*◌, ◌^◌, ◌≤ℤ◌, ◌<ℤ◌, ℕ, ℤ, pos, negsuc, bit_and, List, length, Option, Some, None, IfSome, IsSome, ⊤, ⊥, slice_get}
+use Rattle.std.specs.Prelude.{◌≡◌, ◌≢◌, ◌≤◌, ◌<◌, ◌+◌, ◌-◌, ◌*◌, ◌^◌, ◌≤ℤ◌, ◌<ℤ◌, ℕ, ℤ, pos, negsuc, bit_and, List, length, Option, Some, None, IfSome, IsSome, ⊤, slice_get}
 use Rattle.word_rules.specs.Words.{minus_one}
 use Rattle.word_rules.specs.Steps.{step_at}
 use Rattle.view_rules.specs.declared.ViewShape.{ViewShape}

@@ -1,3 +1,4 @@
 pub mod CanvasLemmas
 pub mod CutLemmas
 pub mod FillLemmas
+pub mod DottedLemmas

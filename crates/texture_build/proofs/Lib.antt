@@ -8,3 +8,5 @@ pub mod ReadyLemmas
 pub mod ViewLemmas
 pub mod TexelLemmas
 pub mod PrepareLemmas
+pub mod DrawLemmas
+pub mod BesideLemmas

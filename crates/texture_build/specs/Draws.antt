@@ -1,5 +1,5 @@
 -- What a call that draws keeps of the cache, and whose bytes it may paint with.
-use Rattle.std.specs.Prelude.{◌≡◌, ◌≢◌, ◌<◌, ◌≤◌, ◌+◌, ◌⊎◌, ℕ, ℤ, List, IsTrue, IfErr, MatchResult, Result, ⊤, ⊥}
+use Rattle.std.specs.Prelude.{◌≡◌, ◌≢◌, ◌<◌, ◌≤◌, ◌+◌, ◌⊎◌, ℕ, ℤ, List, IsTrue, IfErr, MatchResult, Result, ⊤}
 use Rattle.std.specs.List.{AllByRecursion}
 use Rattle.outside.specs.Shelf.{ShelfView, IsLaterShelf, NameFiles}
 use Rattle.outside.specs.Faults.{HasCauses}
@@ -38,8 +38,8 @@ pub record KeepsArt (view after : ShelfView) (dir : DirectoryView) (textures : T
 pub record HoldsArt (view : ShelfView) (dir : DirectoryView) (textures : TexturesView)
     (contents : List (List ℕ)) (colormap count : ℕ) (z : Heap) : Type 0 where
   pub rest : IsAtRest colormap count z
-  pub contents : HoldContents view dir z contents
-  pub textures : AreTexturesOf contents dir.lumps textures
+  pub files : HoldContents view dir z contents
+  pub prepared : AreTexturesOf contents dir.lumps textures
   pub composites : AreComposites (lump_bytes contents dir.lumps) textures z
 
 -- a block for whose bytes a painter reads is, with the colormap's, no larger than the zone

@@ -1,0 +1,426 @@
+-- Laws of calls that draw: none, one after another, one that ends the whole, and a layer above.
+use Rattle.std.proofs.Common.{◌≡◌, ◌<◌, ◌⊎◌, ℕ, ℤ, List, length, Bool, Result, Ok, Err, refl, sym, subst, ap, ◌∙◌, inl, inr, IsErrAnd, MatchResult}
+use Rattle.std.specs.Prelude.{IfErr, OnOk, IsTrue}
+use Rattle.std.proofs.lemmas.Result.{err_from_is_err_and}
+use Rattle.outside.specs.Shelf.{ShelfView, IsLaterShelf, NameFiles}
+use Rattle.outside.specs.declared.fault.Fault.{Fault}
+use Rattle.outside.specs.declared.fault.Fault.TheVariants.{Refused, ReadFault, ZoneFull, OutOfMemory}
+use Rattle.outside.specs.Faults.{fault_above, FaultFits, HasCauseAt, HasCauses, ResultIs}
+use Rattle.outside.proofs.ShelfLemmas.{follows_none, follows_then, all_stand_later}
+use Rattle.lump_rules.specs.declared.wad.Lump.{Lump}
+use Rattle.lump_rules.specs.Contents.{AllWithin, lump_bytes}
+use Rattle.zone_rules.specs.declared.Tag.TheVariants.{Cache}
+use Rattle.zone_rules.specs.Zones.{Heap}
+use Rattle.zone_rules.specs.Orders.{Item, IsInOrder, KeepsOrder}
+use Rattle.zone_rules.proofs.OrderLemmas.{order_none, order_then}
+use Rattle.wad_dir.specs.DirectoryView.{DirectoryView}
+use Rattle.lump_cache.specs.declared.fault.CacheFault.{CacheFault}
+use Rattle.lump_cache.specs.Caches.{IsAtRest, IsFaithful, KeepsCounts, cache_fault, composite_owner}
+use Rattle.lump_cache.specs.Calls.{HoldContents, IfFull, InOrderAt, IsFullFor}
+use Rattle.lump_cache.specs.Fetches.{FetchesLump}
+use Rattle.lump_cache.proofs.CallLemmas.{cause_later, full_at, order_at, result_above}
+use Rattle.lump_cache.proofs.FetchLemmas.{fetch_reads}
+use Rattle.art_rules.specs.declared.ColumnLookup.{ColumnLookup}
+use Rattle.texture_build.specs.Asked.{HasColumnAsked, IsFullForColumn, IsSmall, IsSmallBeside, IsPatch, size_of}
+use Rattle.texture_build.specs.Composites.{AreComposites}
+use Rattle.texture_build.specs.Sources.{column_in}
+use Rattle.texture_build.specs.Views.{TexturesView, prepared_texture}
+use Rattle.texture_build.specs.Draws.{KeepsArt, HoldsArt, IsNoReadFault, IsFullForTexture, DrawsWith}
+use Rattle.texture_build.proofs.ReadyLemmas.{composites_kept}
+
+-- nothing happened
+pub keeps_art-none : (view : ShelfView) (dir : DirectoryView) (textures : TexturesView) (z : Heap) →
+    KeepsArt view view dir textures z z
+keeps_art-none view dir textures z = record {
+  follows = follows_none view;
+  counts = (refl, refl, refl);
+  rest = λ colormap count r. r;
+  faithful = λ contents stand f. f;
+  composites = λ contents hold k. k;
+}
+
+-- the contents are there after a call
+pub holds_contents-later : {a b : ShelfView} {dir : DirectoryView} {textures : TexturesView}
+    {x y : Heap} {contents : List (List ℕ)} → KeepsArt a b dir textures x y →
+    HoldContents a dir x contents → HoldContents b dir y contents
+holds_contents-later {a} {b} {dir} {contents = contents} keeps hold = record {
+  stand = all_stand_later a b dir.files contents keeps.follows hold.stand;
+  within = hold.within;
+  faithful = keeps.faithful contents hold.stand hold.faithful;
+}
+
+-- two calls one after the other
+pub keeps_art-then : {a b c : ShelfView} {dir : DirectoryView} {textures : TexturesView}
+    {x y z : Heap} → KeepsArt a b dir textures x y → KeepsArt b c dir textures y z →
+    KeepsArt a c dir textures x z
+keeps_art-then {a} {b} {dir = dir} one two = record {
+  follows = follows_then one.follows two.follows;
+  counts = (two.counts.0 ∙ one.counts.0, two.counts.1 ∙ one.counts.1, two.counts.2 ∙ one.counts.2);
+  rest = λ colormap count r. two.rest colormap count (one.rest colormap count r);
+  faithful = λ contents stand f. two.faithful contents
+      (all_stand_later a b dir.files contents one.follows stand) (one.faithful contents stand f);
+  composites = λ contents hold k. two.composites contents (holds_contents-later one hold)
+      (one.composites contents hold k);
+}
+
+-- the art that is there stays
+pub holds_art-later : {a b : ShelfView} {dir : DirectoryView} {textures : TexturesView}
+    {x y : Heap} {contents : List (List ℕ)} {colormap count : ℕ} →
+    KeepsArt a b dir textures x y → HoldsArt a dir textures contents colormap count x →
+    HoldsArt b dir textures contents colormap count y
+holds_art-later {contents = contents} {colormap} {count} keeps hold = record {
+  rest = keeps.rest colormap count hold.rest;
+  files = holds_contents-later keeps hold.files;
+  prepared = hold.prepared;
+  composites = keeps.composites contents hold.files hold.composites;
+}
+
+-- a zone that was full for a column later was so from the beginning
+full_column-earlier : {a b : ShelfView} {dir : DirectoryView} {textures : TexturesView} {x y : Heap}
+    {among some : ℕ → Type 0} → KeepsArt a b dir textures x y →
+    ((number : ℕ) → some number → among number) → (wanted widest : ℕ) →
+    IsFullForTexture some dir.lumps textures y wanted widest →
+    IsFullForTexture among dir.lumps textures x wanted widest
+full_column-earlier {dir = dir} {textures} {x} {y} keeps wider wanted widest k =
+    let full = k.full in record {
+      number = k.number;
+      column = k.column;
+      is = wider k.number k.is;
+      full = record {
+        owner = full.owner;
+        size = full.size;
+        asked = full.asked;
+        wanted_is = full.wanted_is;
+        narrow = full.narrow;
+        room = λ colormap count rest. subst
+            (λ (n : ℕ). IsSmall n count wanted
+            ⊎ (IsPatch dir.lumps (prepared_texture textures k.number) full.owner full.size
+            × IsSmallBeside n count (size_of (prepared_texture textures k.number)) wanted))
+            keeps.counts.0 (full.room colormap count (keeps.rest colormap count rest));
+      };
+    }
+
+-- and one that was full for a lump
+full_lump-earlier : {a b : ShelfView} {dir : DirectoryView} {textures : TexturesView} {x y : Heap}
+    {pictures some : ℕ → Type 0} → KeepsArt a b dir textures x y →
+    ((lump : ℕ) → some lump → pictures lump) → (wanted widest : ℕ) →
+    IsFullFor some dir y wanted widest → IsFullFor pictures dir x wanted widest
+full_lump-earlier keeps wider wanted widest full = record {
+  lump = full.lump;
+  asked = wider full.lump full.asked;
+  wanted_is = full.wanted_is;
+  narrow = full.narrow;
+  room = λ colormap count rest. subst (λ (n : ℕ). IsSmall n count wanted) keeps.counts.0
+      (full.room colormap count (keeps.rest colormap count rest));
+}
+
+full-earlier : {a b : ShelfView} {dir : DirectoryView} {textures : TexturesView} {x y : Heap}
+    {among pictures some lumps : ℕ → Type 0} → KeepsArt a b dir textures x y →
+    ((number : ℕ) → some number → among number) → ((lump : ℕ) → lumps lump → pictures lump) →
+    (wanted widest : ℕ) →
+    (IsFullForTexture some dir.lumps textures y wanted widest ⊎ IsFullFor lumps dir y wanted widest) →
+    (IsFullForTexture among dir.lumps textures x wanted widest
+    ⊎ IsFullFor pictures dir x wanted widest)
+full-earlier keeps wider more wanted widest (inl k) = inl (full_column-earlier keeps wider wanted widest k)
+full-earlier keeps wider more wanted widest (inr k) = inr (full_lump-earlier keeps more wanted widest k)
+
+-- a part's order, where the whole began in order
+order-then : {R : Type 0} {items : List Item} {x y : Heap} {n m : ℕ} (z : Heap) (k : ℕ)
+    (fault : Fault R) → KeepsOrder items x y n m →
+    InOrderAt fault (KeepsOrder items y z m k) → InOrderAt fault (KeepsOrder items x z n k)
+order-then z k fault one two = order_at fault (λ kept. order_then one kept) two
+
+module _ {A E R : Type 0} {fault_of : E → Fault R} {among pictures : ℕ → Type 0} where
+  -- an answer of a call that touched nothing
+  pub draws-none : (view : ShelfView) (dir : DirectoryView) (textures : TexturesView) (z : Heap)
+      (answer : A) →
+      DrawsWith fault_of among pictures view view dir textures z z (Ok answer)
+  draws-none view dir textures z answer = record {
+    keeps = keeps_art-none view dir textures z;
+    causes = record { err = tt };
+    steady = λ contents stand within steady. tt;
+    full = tt;
+    order = λ items asked all k. order_none items z view.taken k;
+  }
+
+  -- another answer of the same value
+  pub draws-as : {v w : ShelfView} {dir : DirectoryView} {textures : TexturesView} {x y : Heap}
+      {a b : Result A E} → a ≡ b →
+      DrawsWith fault_of among pictures v w dir textures x y a →
+      DrawsWith fault_of among pictures v w dir textures x y b
+  draws-as {v} {w} {dir} {textures} {x} {y} e k =
+      subst (DrawsWith fault_of among pictures v w dir textures x y) e k
+
+  -- an answer that was Ok is Ok with another value
+  pub draws-value : {B : Type 0} {v w : ShelfView} {dir : DirectoryView} {textures : TexturesView}
+      {x y : Heap} (first : B) (answer : A) →
+      DrawsWith fault_of among pictures v w dir textures x y (Ok first) →
+      DrawsWith fault_of among pictures v w dir textures x y (Ok answer)
+  draws-value first answer one = record {
+    keeps = one.keeps;
+    causes = record { err = tt };
+    steady = λ contents stand within steady. tt;
+    full = tt;
+    order = one.order;
+  }
+
+  -- a call that ended in an error is the whole call's answer
+  pub draws-stop : {B : Type 0} {v w : ShelfView} {dir : DirectoryView} {textures : TexturesView}
+      {x y : Heap} {part : Result B E} {fault : E} {whole : Result A E} → part ≡ Err fault →
+      IsErrAnd whole (λ e. e ≡ fault) →
+      DrawsWith fault_of among pictures v w dir textures x y part →
+      DrawsWith fault_of among pictures v w dir textures x y whole
+  draws-stop {B} {v} {w} {dir} {textures} {x} {y} {part} {fault} {whole} was is part_draws =
+      let one = subst (DrawsWith {A = B} fault_of among pictures v w dir textures x y) was part_draws in
+      let s = err_from_is_err_and whole is in
+      draws-as (sym (s.1 ∙ ap Err s.2)) (record {
+        keeps = one.keeps;
+        causes = record { err = one.causes.err };
+        steady = λ contents stand within steady. one.steady contents stand within steady;
+        full = one.full;
+        order = one.order;
+      })
+
+  -- after a call that was Ok, another, whatever it answers
+  pub draws-then : {B : Type 0} {v w u : ShelfView} {dir : DirectoryView} {textures : TexturesView}
+      {x y z : Heap} {first : B} {result : Result A E} →
+      DrawsWith fault_of among pictures v w dir textures x y (Ok first) →
+      DrawsWith fault_of among pictures w u dir textures y z result →
+      DrawsWith fault_of among pictures v u dir textures x z result
+  draws-then {v = v} {w} {dir = dir} {result = Ok answer} one two = record {
+    keeps = keeps_art-then one.keeps two.keeps;
+    causes = record { err = tt };
+    steady = λ contents stand within steady. tt;
+    full = tt;
+    order = λ items asked all k.
+        let k1 = one.order items asked all k in
+        order_then k1 (two.order items asked all k1.order);
+  }
+  draws-then {v = v} {w} {u} {dir} {z = z} {result = Err fault} one two = record {
+    keeps = keeps_art-then one.keeps two.keeps;
+    causes = record {
+      err = cause_later v.faults w.faults u.faults (fault_of fault) one.keeps.follows.faults
+          two.causes.err;
+    };
+    steady = λ contents stand within steady. two.steady contents
+        (all_stand_later v w dir.files contents one.keeps.follows stand) within
+        (subst IsTrue (sym one.keeps.follows.steady) steady);
+    full = full_at (fault_of fault)
+        (full-earlier one.keeps (λ number k. k) (λ lump k. k)) two.full;
+    order = λ items asked all k.
+        let k1 = one.order items asked all k in
+        order-then z u.taken (fault_of fault) k1 (two.order items asked all k1.order);
+  }
+
+-- with more textures and more lumps
+pub draws-wider : {A E R : Type 0} {fault_of : E → Fault R} {some among lumps pictures : ℕ → Type 0}
+    {v w : ShelfView} {dir : DirectoryView} {textures : TexturesView} {x y : Heap}
+    {result : Result A E} → ((number : ℕ) → some number → among number) →
+    ((lump : ℕ) → lumps lump → pictures lump) →
+    DrawsWith fault_of some lumps v w dir textures x y result →
+    DrawsWith fault_of among pictures v w dir textures x y result
+draws-wider {result = Ok answer} wider more one = record {
+  keeps = one.keeps;
+  causes = record { err = tt };
+  steady = λ contents stand within steady. tt;
+  full = tt;
+  order = λ items asked all k. one.order items
+      (λ number column is. asked number column (wider number is))
+      (λ lump is. all lump (more lump is)) k;
+}
+draws-wider {fault_of = fault_of} {v = v} {dir = dir} {textures} {x} {result = Err fault} wider more one =
+    record {
+      keeps = one.keeps;
+      causes = record { err = one.causes.err };
+      steady = λ contents stand within steady. one.steady contents stand within steady;
+      full = full_at (fault_of fault) (full-earlier (keeps_art-none v dir textures x) wider more) one.full;
+      order = λ items asked all k. one.order items
+          (λ number column is. asked number column (wider number is))
+          (λ lump is. all lump (more lump is)) k;
+    }
+
+cause_up : {R Q : Type 0} (f : R → Q) (before now : ℕ) (fault : Fault R) →
+    HasCauseAt before now fault → HasCauseAt before now (fault_above f fault)
+cause_up f before now (Refused reason) k = tt
+cause_up f before now ReadFault k = k
+cause_up f before now (ZoneFull wanted widest) k = tt
+cause_up f before now OutOfMemory k = tt
+
+read_up : {R Q : Type 0} (f : R → Q) (fault : Fault R) → IsNoReadFault fault →
+    IsNoReadFault (fault_above f fault)
+read_up f (Refused reason) k = tt
+read_up f ReadFault k = k
+read_up f (ZoneFull wanted widest) k = tt
+read_up f OutOfMemory k = tt
+
+full_up : {R Q : Type 0} (P : ℕ → ℕ → Type 0) (f : R → Q) (fault : Fault R) → IfFull fault P →
+    IfFull (fault_above f fault) P
+full_up P f (Refused reason) k = tt
+full_up P f ReadFault k = tt
+full_up P f (ZoneFull wanted widest) k = k
+full_up P f OutOfMemory k = tt
+
+order_up : {R Q : Type 0} (P : Type 0) (f : R → Q) (fault : Fault R) → InOrderAt fault P →
+    InOrderAt (fault_above f fault) P
+order_up P f (Refused reason) k = k
+order_up P f ReadFault k = tt
+order_up P f (ZoneFull wanted widest) k = k
+order_up P f OutOfMemory k = k
+
+-- a call of the layer below, whose faults this one tells as its own
+pub draws-above : {A E R Q G : Type 0} {fault_of : E → Fault R} {high : G → Fault Q}
+    {among pictures : ℕ → Type 0} {v w : ShelfView} {dir : DirectoryView}
+    {textures : TexturesView} {x y : Heap} (f : R → Q) (above : E → G) →
+    ((e : E) → high (above e) ≡ fault_above f (fault_of e)) → (result : Result A E) →
+    DrawsWith fault_of among pictures v w dir textures x y result →
+    DrawsWith high among pictures v w dir textures x y (result_above above result)
+draws-above f above same (Ok answer) one = record {
+  keeps = one.keeps;
+  causes = record { err = tt };
+  steady = λ contents stand within steady. tt;
+  full = tt;
+  order = one.order;
+}
+draws-above {fault_of = fault_of} {among = among} {pictures} {v} {w} {dir} {textures} {x} {y} f above same (Err e) one = record {
+  keeps = one.keeps;
+  causes = record { err = rw (same e) (cause_up f v.faults w.faults (fault_of e) one.causes.err) };
+  steady = λ contents stand within steady. rw (same e)
+      (read_up f (fault_of e) (one.steady contents stand within steady));
+  full = rw (same e) (full_up (λ wanted widest.
+      IsFullForTexture among dir.lumps textures x wanted widest
+      ⊎ IsFullFor pictures dir x wanted widest) f (fault_of e) one.full);
+  order = λ items asked all k. rw (same e)
+      (order_up (KeepsOrder items x y v.taken w.taken) f (fault_of e) (one.order items asked all k));
+}
+
+-- what `map_err(above)` tells of its result
+abbrev pub IsMapped : {A E G : Type 0} → (E → G) → Result A E → Result A G → Type 0
+IsMapped above lower result =
+    MatchResult lower (λ x. result ≡ Ok x) (λ e. IsErrAnd result (λ f. f ≡ above e))
+
+mapped-is : {A E G : Type 0} (above : E → G) (lower : Result A E) (result : Result A G) →
+    IsMapped above lower result → result ≡ result_above above lower
+mapped-is above (Ok x) result is = is
+mapped-is above (Err e) result is = let s = err_from_is_err_and result is in s.1 ∙ ap Err s.2
+
+-- the same call, its faults told by `map_err`
+pub draws-mapped : {A E R Q G : Type 0} {fault_of : E → Fault R} {high : G → Fault Q}
+    {among pictures : ℕ → Type 0} {v w : ShelfView} {dir : DirectoryView}
+    {textures : TexturesView} {x y : Heap} (f : R → Q) (above : E → G) →
+    ((e : E) → high (above e) ≡ fault_above f (fault_of e)) → (lower : Result A E)
+    (result : Result A G) → IsMapped above lower result →
+    DrawsWith fault_of among pictures v w dir textures x y lower →
+    DrawsWith high among pictures v w dir textures x y result
+draws-mapped f above same lower result is one =
+    draws-as (sym (mapped-is above lower result is)) (draws-above f above same lower one)
+
+-- and what is told after an Ok
+pub on_ok-mapped : {A E G : Type 0} (P : Type 0) (above : E → G) (lower : Result A E)
+    (result : Result A G) → IsMapped above lower result → OnOk lower P → OnOk result P
+on_ok-mapped {A} {G = G} P above (Ok x) result is p = subst (λ (r : Result A G). OnOk r P) (sym is) p
+on_ok-mapped {A} {G = G} P above (Err e) result is p =
+    let s = err_from_is_err_and result is in
+    subst (λ (r : Result A G). OnOk r P) (sym s.1) tt
+
+no_read-fits : {A R : Type 0} (steady : Bool) (expected : Result A R) (fault : Fault R) →
+    IsTrue steady → FaultFits steady expected fault → IsNoReadFault fault
+no_read-fits steady expected (Refused reason) is k = tt
+no_read-fits steady expected ReadFault is k = k is
+no_read-fits steady expected (ZoneFull wanted widest) is k = tt
+no_read-fits steady expected OutOfMemory is k = tt
+
+no_read-answers : {A : Type 0} (steady : Bool) (expected : Result (Unit {0}) ⊥)
+    (value : A → Unit {0}) (result : Result A CacheFault) → IsTrue steady →
+    ResultIs cache_fault steady value expected result →
+    IfErr result (λ fault. IsNoReadFault (cache_fault fault))
+no_read-answers steady expected value (Ok done) is k = tt
+no_read-answers steady expected value (Err fault) is k =
+    no_read-fits steady expected (cache_fault fault) is k.err
+
+full-texture : (lumps : List Lump) (textures : TexturesView) (z : Heap) (number : ℕ) (column : ℤ)
+    (result : Result (Unit {0}) CacheFault) (Q : ℕ → ℕ → Type 0) →
+    IfErr result (λ fault. IfFull (cache_fault fault)
+    (IsFullForColumn lumps number (prepared_texture textures number)
+    (column_in (prepared_texture textures number) column) z)) →
+    IfErr result (λ fault. IfFull (cache_fault fault) (λ wanted widest.
+    IsFullForTexture (λ n. n ≡ number) lumps textures z wanted widest ⊎ Q wanted widest))
+full-texture lumps textures z number column (Ok done) Q k = tt
+full-texture lumps textures z number column (Err fault) Q k = full_at (cache_fault fault)
+    (λ wanted widest full. inl (record { number = number; column = column; is = refl; full = full })) k
+
+full-lump : (lumps : List Lump) (textures : TexturesView) (among : ℕ → Type 0)
+    (dir : DirectoryView) (z : Heap) (lump : ℕ) (result : Result (Unit {0}) CacheFault) →
+    IfErr result (λ fault. IfFull (cache_fault fault) (IsFullFor (λ number. number ≡ lump) dir z)) →
+    IfErr result (λ fault. IfFull (cache_fault fault) (λ wanted widest.
+    IsFullForTexture among lumps textures z wanted widest
+    ⊎ IsFullFor (λ number. number ≡ lump) dir z wanted widest))
+full-lump lumps textures among dir z lump (Ok done) k = tt
+full-lump lumps textures among dir z lump (Err fault) k =
+    full_at (cache_fault fault) (λ wanted widest full. inr full) k
+
+module _ {view after : ShelfView} {dir : DirectoryView} {textures : TexturesView} {old new : Heap}
+    {result : Result (Unit {0}) CacheFault} where
+  -- a texture column was made live: the clauses of `ready_at`, by a column that has that lookup
+  pub draws-ready : {pictures : ℕ → Type 0} (number : ℕ) (column : ℤ) (lookup : ColumnLookup) →
+      lookup ≡ column_in (prepared_texture textures number) column →
+      IsLaterShelf view after → HasCauses cache_fault view.faults after.faults result →
+      KeepsCounts old new →
+      ((colormap count : ℕ) → IsAtRest colormap count old → IsAtRest colormap count new) →
+      ((contents : List (List ℕ)) → NameFiles view dir.files contents →
+      IsFaithful contents dir.lumps old → IsFaithful contents dir.lumps new) →
+      ((contents : List (List ℕ)) → HoldContents view dir old contents →
+      AreComposites (lump_bytes contents dir.lumps) textures old →
+      AreComposites (lump_bytes contents dir.lumps) textures new) →
+      ((contents : List (List ℕ)) → NameFiles view dir.files contents →
+      AllWithin contents dir.lumps →
+      ResultIs cache_fault view.steady (λ (done : Unit {0}). done) (Ok tt) result) →
+      IfErr result (λ fault. IfFull (cache_fault fault)
+      (IsFullForColumn dir.lumps number (prepared_texture textures number) lookup old)) →
+      ((items : List Item) →
+      HasColumnAsked items dir.lumps number (prepared_texture textures number) lookup →
+      IsInOrder items old →
+      MatchResult result (λ _. KeepsOrder items old new view.taken after.taken)
+      (λ fault. InOrderAt (cache_fault fault)
+      (KeepsOrder items old new view.taken after.taken))) →
+      DrawsWith cache_fault (λ n. n ≡ number) pictures view after dir textures old new result
+  draws-ready {pictures} number column lookup is follows causes counts rest faithful composites
+      answers full order = record {
+        keeps = record {
+          follows = follows;
+          counts = counts;
+          rest = rest;
+          faithful = faithful;
+          composites = composites;
+        };
+        causes = causes;
+        steady = λ contents stand within steady. no_read-answers view.steady (Ok tt)
+            (λ (done : Unit {0}). done) result steady (answers contents stand within);
+        full = full-texture dir.lumps textures old number column result (IsFullFor pictures dir old)
+            (subst (λ (l : ColumnLookup). IfErr result (λ fault. IfFull (cache_fault fault)
+            (IsFullForColumn dir.lumps number (prepared_texture textures number) l old))) is full);
+        order = λ items asked all k. order items
+            (subst (λ (l : ColumnLookup).
+            HasColumnAsked items dir.lumps number (prepared_texture textures number) l) (sym is)
+            (asked number column refl)) k;
+      }
+
+  -- a lump was made live, and nothing pinned
+  pub draws-fetch : {among : ℕ → Type 0} (lump : ℕ) → lump < length dir.lumps →
+      FetchesLump dir lump Cache view after old new result →
+      DrawsWith cache_fault among (λ number. number ≡ lump) view after dir textures old new result
+  draws-fetch {among} lump there fetched =
+      let reads = fetch_reads fetched there in record {
+        keeps = record {
+          follows = reads.keeps.follows;
+          counts = reads.keeps.counts;
+          rest = reads.keeps.rest;
+          faithful = reads.keeps.faithful;
+          composites = λ contents hold k. composites_kept (lump_bytes contents dir.lumps) textures old
+              new (λ number. fetched.others (composite_owner number) refl) k;
+        };
+        causes = reads.causes;
+        steady = λ contents stand within steady. no_read-answers view.steady (Ok tt)
+            (λ (done : Unit {0}). done) result steady (fetched.answers contents stand within);
+        full = full-lump dir.lumps textures among dir old lump result reads.full;
+        order = λ items asked all k. reads.order items all k;
+      }
