@@ -1,7 +1,7 @@
 -- A block that was taken and then written, and what other slots keep.
-use Rattle.std.proofs.Common.{◌≡◌, ℕ, Bool, true, false, cond, ◌&&◌, List, [], ◌∷◌, length, map, Option, Some, None, refl, sym, subst, ap, ◌∙◌, option_map, inl, inr, Result, Ok, Err}
+use Rattle.std.proofs.Common.{◌≡◌, ℕ, Bool, true, false, cond, ◌&&◌, List, [], ◌∷◌, length, Option, Some, None, refl, sym, subst, ap, ◌∙◌, option_map, inl, inr, Result, Ok, Err}
 use Rattle.std.specs.Prelude.{OnOk, OnErr, IsNone, IsSome, option_and_then, ◌==◌}
-use Rattle.std.proofs.lemmas.Bool.{cond-true, and_parts, and_from, eq-eqb, eqb-true}
+use Rattle.std.proofs.lemmas.Bool.{cond-true, and_parts, and_from, eq-eqb}
 use Rattle.zone_rules.specs.declared.Tag.{Tag}
 use Rattle.zone_rules.specs.declared.Tag.TheVariants.{Cache}
 use Rattle.zone_rules.specs.Zones.{Owner, Holding, Block, Heap, IsSound, AllFit, FitsHolding, is_held_by, same_owner, owned_block, holding_of, bytes_of, is_purgeable, block_size}
@@ -11,8 +11,6 @@ use Rattle.zone_rules.proofs.OwnerLemmas.{owned_written_others, owned_retagged_o
 use Rattle.zone_rules.proofs.ChangeLemmas.{with_bytes_sound}
 use Rattle.zone_rules.proofs.SoundLemmas.{lacked, searched_lacks}
 use Rattle.zone_rules.proofs.WrittenLemmas.{block_written}
-use Rattle.zone_rules.specs.Loans.{after_loan, bytes_length, bytes_place, held_length, overlay_block}
-use Rattle.zone_rules.proofs.LoanLemmas.{overlay_sound}
 use Rattle.lump_cache.specs.Caches.{release_heap, released_heap, IsFilled, HasBlock, HasUse, KeptOrPurged, holds_static, with_tag_unless_static}
 
 pub left_kept : (ch : List Block) (b : Option Block) → KeptOrPurged b (block_left ch b)
@@ -92,23 +90,9 @@ unless_static_others o p tag z apart = go (holds_static (holding_of o z.blocks))
   go true = refl
   go false = owned_retagged_others p o tag apart z.blocks
 
--- a loan leaves a zone sound
-pub loan_sound : (o : Owner) (w : List ℕ) (z : Heap) → IsSound z → IsSound (after_loan o w z)
-loan_sound o w z s = go (length w == bytes_length (owned_block o z.blocks)) refl where
-  length_of : (b : Option Block) → (h : Holding) → option_and_then (λ (x : Block). x.holding) b ≡ Some h → bytes_length b ≡ length h.bytes
-  length_of None h e = cc
-  length_of (Some b) h e = inner b.holding e where
-    inner : (x : Option Holding) → x ≡ Some h → held_length x ≡ length h.bytes
-    inner None e = cc
-    inner (Some k) e = let s : k ≡ h = cc in ap (λ (y : Holding). length y.bytes) s
-
-  go : (t : Bool) → (length w == bytes_length (owned_block o z.blocks)) ≡ t → IsSound (cond t (with_bytes o w z) (record z { blocks = map (overlay_block (bytes_place (owned_block o z.blocks)) w) z.blocks }))
-  go true e = with_bytes_sound o w z s (λ h k. eqb-true (length w) (bytes_length (owned_block o z.blocks)) e ∙ length_of (owned_block o z.blocks) h k ∙ owned_fits o z.lumps z.composites z.blocks h s.fits k)
-  go false e = overlay_sound (bytes_place (owned_block o z.blocks)) w z s
-
--- a pair of loans
-pub pair_sound : (o : Owner) (w : List ℕ) (y : List ℕ) (old new : Heap) → bytes_of o old.blocks ≡ Some y → length w ≡ length y → new ≡ with_bytes o w old → IsSound old → IsSound new
-pair_sound o w y old new e len is s = filled_sound o old new (λ _. Unit {0}) (record { before = y; bytes = w; before_is = e; len = len; zone = is; says = tt }) s
+-- bytes that a call wrote leave a zone sound
+pub called_sound : (o : Owner) (w : List ℕ) (y : List ℕ) (old new : Heap) → bytes_of o old.blocks ≡ Some y → length w ≡ length y → new ≡ with_bytes o w old → IsSound old → IsSound new
+called_sound o w y old new e len is s = filled_sound o old new (λ _. Unit {0}) (record { before = y; bytes = w; before_is = e; len = len; zone = is; says = tt }) s
 
 -- a release leaves the blocks of others
 pub released_others : (o p : Owner) (z : Heap) → same_owner o p ≡ false → owned_block p (release_heap o z).blocks ≡ owned_block p z.blocks

@@ -5,16 +5,14 @@
 // DropLemmas. The original: w_wad.c.
 ghost use Rattle.std.specs.Prelude.{◌≡◌, ◌<◌, ◌≤◌, ◌+◌, ◌↔◌, ℕ, List, length, true, false, Err, Some, None, All, IfOk, IfSome, IsErr, OnOk, IsNone, ⊤};
 ghost use Rattle.std.specs.Option.{option_copied};
-ghost use Rattle.std.specs.Borrow.{sem};
-ghost use Rattle.zone_heap.specs.Calls.{PairCalled};
+ghost use Rattle.zone_heap.specs.Calls.{BytesChanged, PairCalled};
 ghost use Rattle.zone_rules.specs.declared.Tag.TheVariants.{Level, Cache};
 ghost use Rattle.outside.specs.Shelf.{NameFiles};
 ghost use Rattle.lump_rules.specs.Lookups.{lump_at};
 ghost use Rattle.lump_rules.specs.declared.wad.Lump.{Lump};
 ghost use Rattle.zone_rules.specs.Zones.{Owner, slot_count, Heap, IsLive, IsSound, IsZoneSize, fresh_heap, bytes_of, block_size, holding_of, owned_block, same_owner};
 ghost use Rattle.zone_rules.specs.Requests.{gaps, total};
-ghost use Rattle.zone_rules.specs.Frees.{without_block, with_bytes};
-ghost use Rattle.zone_rules.specs.Loans.{after_loan};
+ghost use Rattle.zone_rules.specs.Frees.{without_block};
 ghost use Rattle.zone_rules.specs.Orders.{Item, has_item, AreRoomy, IsInOrder, KeepsOrder};
 ghost use Rattle.lump_cache.specs.Caches.{lump_owner, composite_owner, release_heap, MatchAnswer, IsFaithful, IsAtRest, IsEmpty, IsPinned, KeepsCounts};
 ghost use Rattle.lump_cache.specs.Fetches.{FetchesLump, RequestsBlock};
@@ -54,8 +52,6 @@ impl Model for LumpCache {
 }
 
 impl LumpCache {
-    ghost use Rattle.lump_cache.specs.Lending.{LendsBytes};
-
     /// A cache over a zone of `size` bytes, with a slot for each lump of the directory and
     /// `composites` slots for composites. No slot is live. The cache is in order for each list of
     /// items that the zone has room for.
@@ -206,22 +202,20 @@ impl LumpCache {
         self.zone.bytes(composite_slot(number))
     }
 
-    /// The bytes of a live composite, to be written. The slice keeps its length.
+    /// Calls `f` with the bytes of a live composite, to be written, and returns what `f` returned.
     ///
-    /// `written` holds for whatever is written. What the cache keeps once the bytes are given back:
-    /// the laws named `write_..` in `proofs/WriteLemmas`.
-    pub fn composite_mut(&mut self, number: u32) -> &mut [u8]
+    /// What the cache keeps: the laws named `write_..` in `proofs/WriteLemmas`, by `called`'s
+    /// `zone`.
+    pub fn composite_mut<R, F: FnOnce(&mut [u8]) -> R>(&mut self, number: u32, f: F) -> R
+        requires callable { F.IsAlwaysCallable f }
         requires in_range { number < self.old.composites }
         requires live { IsLive self.old (composite_owner number) }
-        ensures* lends { sem 𝓛 (LendsBytes self.entry (composite_owner number) result) }
-        ensures value { bytes_of (composite_owner number) self.old.blocks ≡ Some result.now }
-        ensures written { (w : List ℕ) → length w ≡ length result.now →
-            after_loan (composite_owner number) w self.old
-            ≡ with_bytes (composite_owner number) w self.old }
-        ensures counts { (w : List ℕ) →
-            KeepsCounts self.old (after_loan (composite_owner number) w self.old) }
+        ensures called { BytesChanged F.FnOnce f (composite_owner number)
+            self.old self.new result }
+        ensures live { IsLive self.new (composite_owner number) }
+        ensures counts { KeepsCounts self.old self.new }
     {
-        self.zone.bytes_mut(composite_slot(number))
+        self.zone.bytes_mut(composite_slot(number), f)
     }
 
     /// Calls `f` with the bytes of a live lump and with those of a live composite, which it may

@@ -39,6 +39,7 @@ pub fn read_into<S: Shelf>(
         IfSome (bytes_of (lump_owner lump.0) zone.old.blocks) (λ xs.
         place + length xs ≤ length bytes → IsOk result)) }
 {
-    let piece = zone.bytes_mut(lump_slot(lump));
-    shelf.read_at(file, u64::from(place), piece)
+    zone.bytes_mut_with(lump_slot(lump), shelf, |piece: &mut [u8], shelf: &mut S| {
+        shelf.read_at(file, u64::from(place), piece)
+    })
 }

@@ -98,7 +98,7 @@ fn clear_composite(cache: &mut LumpCache, number: u32)
     ensures { IsFilled (composite_owner number) cache.old cache.new
         (λ w. w ≡ replicate (length w) 0) }
 {
-    cache.composite_mut(number).fill(0);
+    cache.composite_mut(number, |bytes| bytes.fill(0));
 }
 
 // Ends the building of a composite: one that was built is made purgeable, and after a fault its

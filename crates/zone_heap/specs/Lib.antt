@@ -1,4 +1,7 @@
-pub mod Records
+pub mod Headers
+pub mod Regions
+pub mod Homes
+pub mod Asks
+pub mod Walks
 pub mod View
-pub mod Lending
 pub mod Calls

@@ -1,169 +1,164 @@
-// Changes of the list of records: joined, taken, freed, given another tag.
-ghost use Rattle.std.specs.Prelude.{slice_set, length, ◌≡◌, ◌<◌, ◌≤◌, ◌+◌, ◌++◌, ◌^◌, ℕ, List, vec_len, vec_capacity, map, if◌then◌else◌, ◌==◌, slice_index_or as get_or, drop};
-ghost use Rattle.std.specs.Prelude as list;
-ghost use Rattle.zone_heap.specs.Records.{blocks_of, size_of_all, end_of, owner_of, bytes_at, no_record, cut_record, free_record, retag_at, home_index, KnowsAll};
-ghost use Rattle.zone_rules.specs.Walks.{RoomAt};
+// Changes of the blocks: joined, split, and linked into the ring.
+ghost use Rattle.std.specs.Prelude.{◌≡◌, ◌<◌, ◌≤◌, ◌^◌, ◌+◌, ◌++◌, ◌&&◌, ◌==◌, ℕ, List, [], ◌∷◌, length, drop, false, nat_lt};
+ghost use Rattle.zone_rules.specs.Zones.{free_block};
+ghost use Rattle.zone_heap.specs.Headers.{header_in, is_free_header, word_at, first_part, second_part, used_holding};
 ghost use Rattle.zone_rules.specs.Requests.{join_free, place_around, place_after, take_at};
-ghost use Rattle.zone_rules.specs.Frees.{free_owner, retag_block};
-ghost use Rattle.zone_rules.specs.Zones.{Tiles, Unique};
+ghost use Rattle.zone_rules.specs.Rooms.{RoomAt};
+ghost use Rattle.zone_heap.specs.Regions.{blocks_in, IsLaid, IsRing, ring_place};
 
-use crate::homes::{index_from, slot_index};
-use crate::records::{Record, Used};
-use zone_rules::{MIN_FRAGMENT, Tag};
+use crate::headers::{
+    FREE_OWNER, NEXT_AT, PREVIOUS_AT, Used, header_at, set_free, set_use, set_word, word_at,
+};
+use zone_rules::{HEADER_SIZE, MIN_FRAGMENT};
 
 /// Joins free neighbours.
-pub fn join(records: &mut Vec<Record>)
-    requires { size_of_all records.old.items < 2 ^ 32 }
-    ensures blocks { (region : List ℕ) →
-        blocks_of region records.new.items ≡ join_free (blocks_of region records.old.items) }
-    ensures capacity { vec_capacity records.new ≡ vec_capacity records.old }
+pub fn join(region: &mut [u8])
+    requires laid { IsLaid region.old }
+    requires some { 0 < length region.old }
+    requires small { length region.old < 2 ^ 32 }
+    ensures laid { IsLaid region.new }
+    ensures blocks { blocks_in region.new ≡ join_free (blocks_in region.old) }
+    ensures len { length region.new ≡ length region.old }
 {
-    let mut from = records.len();
-    for i in (0..records.len()).rev() {
-        let mut record = records[i];
-        if from < records.len() && record.is_free() && records[from].is_free() {
-            record.size += records[from].size;
-            records[from] = record;
+    let mut at: usize = 0;
+    let mut next = word_at(region, 0) as usize;
+    while next < region.len() {
+        let after = next + word_at(region, next) as usize;
+        if are_free(region, at, next) {
+            set_word(region, at, (after - at) as u32);
         } else {
-            from -= 1;
-            records[from] = record;
+            at = next;
         }
+        next = after;
     }
-    let kept = records.len() - from;
-    records.rotate_left(from);
-    records.truncate(kept);
+}
+
+/// Whether the blocks at two places are free.
+fn are_free(region: &[u8], at: usize, next: usize) -> bool
+    requires first { at + 24 ≤ length region.now }
+    requires second { next + 24 ≤ length region.now }
+    ensures { result
+        ≡ (is_free_header (header_in (drop at region.now)) && is_free_header (header_in (drop
+        next region.now))) }
+{
+    let first = header_at(region, at);
+    let second = header_at(region, next);
+    first.is_free() && second.is_free()
+}
+
+/// Writes the ring: of each block the place of the next and of the previous one.
+pub fn link(region: &mut [u8])
+    requires laid { IsLaid region.old }
+    requires some { 0 < length region.old }
+    requires small { length region.old < 2 ^ 32 }
+    ensures ring { IsRing region.new }
+    ensures blocks { blocks_in region.new ≡ blocks_in region.old }
+    ensures len { length region.new ≡ length region.old }
+{
+    let mut at: usize = 0;
+    let mut previous: usize = 0;
+    while at < region.len() {
+        let next = at + word_at(region, at) as usize;
+        let end = region.len();
+        set_word(region, at + NEXT_AT, ring_place(next, end) as u32);
+        set_word(region, at + PREVIOUS_AT, previous as u32);
+        previous = at;
+        at = next;
+    }
+    set_word(region, PREVIOUS_AT, previous as u32);
+}
+
+/// A place, or 0 at the region's end.
+pub fn ring_place(place: usize, end: usize) -> usize
+    ensures value { result ≡ ring_place place end }
+    ensures bound { result ≤ place }
+{
+    if place == end { 0 } else { place }
 }
 
 /// The place of the block that a place lies in.
-pub fn place_in(records: &[Record], place: u32) -> u32
-    ensures { (region : List ℕ) → result ≡ place_around place 0 (blocks_of region records.now) }
+pub fn place_in(region: &[u8], place: usize) -> usize
+    requires laid { IsLaid region.now }
+    requires small { length region.now < 2 ^ 32 }
+    ensures value { result ≡ place_around place 0 (blocks_in region.now) }
+    ensures bound { result ≤ length region.now }
 {
-    let mut around: u32 = 0;
-    for record in records {
-        if place < record.place {
+    let mut at: usize = 0;
+    let mut around: usize = 0;
+    while at < region.len() {
+        if place < at {
             return around;
         }
-        around = record.place;
+        around = at;
+        at += word_at(region, at) as usize;
     }
     around
 }
 
-/// Gives the free block at an index to a slot, and leaves a rest of more than 64 bytes free.
-/// It answers the place after the new block.
-pub fn take(records: &mut Vec<Record>, index: usize, wanted: u32, used: Used) -> u32
-    requires in_bounds { index < vec_len records.old }
-    requires room { vec_len records.old < vec_capacity records.old }
-    requires large { wanted ≤ (get_or records.old.items index no_record).size }
-    requires small { (get_or records.old.items index no_record).place +
-        (get_or records.old.items index no_record).size < 2 ^ 32 }
-    ensures items { records.new.items ≡ list.take index records.old.items ++ cut_record wanted used
-        (get_or records.old.items index no_record) ++ drop (index + 1) records.old.items }
-    ensures end { result ≡ end_of wanted (get_or records.old.items index no_record) }
-    ensures capacity { vec_capacity records.old ≤ vec_capacity records.new }
-{
-    let free = records[index];
-    let rest = free.size - wanted;
-    if MIN_FRAGMENT < rest {
-        records[index] = Record {
-            place: free.place,
-            size: wanted,
-            used: Some(used),
-        };
-        let rest = Record {
-            place: free.place + wanted,
-            size: rest,
-            used: None,
-        };
-        match records.insert(index + 1, rest) {
-            Ok(()) => free.place + wanted,
-            Err(_) => unreachable!(),
-        }
-    } else {
-        records[index].used = Some(used);
-        free.place + free.size
-    }
-}
-
-/// Gives the free block at a place to a slot, and says where the rover goes.
-pub fn place_block(records: &mut Vec<Record>, place: u32, wanted: u32, used: Used, end: u32) -> u32
-    requires tiles { (region : List ℕ) → Tiles 0 end (blocks_of region records.old.items) }
-    requires room_at { (region : List ℕ) →
-        RoomAt place wanted (blocks_of region records.old.items) }
+/// Cuts a free block into one of the wanted size and a free rest.
+fn cut(region: &mut [u8], place: usize, wanted: u32)
+    requires inside { place + wanted + 24 ≤ length region.old }
     requires large { 24 ≤ wanted }
-    requires capacity { vec_len records.old < vec_capacity records.old }
-    ensures blocks { (region : List ℕ) →
-        blocks_of region records.new.items ≡ take_at place wanted
-        (record {
-          owner = owner_of used;
-          tag = used.tag;
-          asked = used.asked;
-          bytes = bytes_at region
-              place used.asked;
-        }) (blocks_of region records.old.items) }
-    ensures rover { (region : List ℕ) →
-        result ≡ place_after place end (blocks_of region records.new.items) }
-    ensures capacity { vec_capacity records.old ≤ vec_capacity records.new }
+    requires rest { wanted ≤ word_at region.old place }
+    ensures len { length region.new ≡ length region.old }
+    ensures parts { (a c b : List ℕ) → region.old ≡ a ++ (c ++ b) → length a ≡ place
+        → wanted + 24 ≤ length c → word_at region.old place ≡ length c → region.new ≡ a
+        ++ (first_part c wanted ++ (second_part c wanted ++ b)) }
 {
-    let index = index_from(records, place);
-    let next = take(records, index, wanted, used);
-    rover_at(next, end)
+    let rest = word_at(region, place) - wanted;
+    let next = place + wanted as usize;
+    set_word(region, place, wanted);
+    set_word(region, next, rest);
+    set_free(region, next);
 }
 
-fn rover_at(next: u32, end: u32) -> u32
-    ensures { result ≡ (if next == end then 0 else next) }
+/// Whether what is left of a block becomes a free block.
+fn is_rest(left: u32) -> bool
+    ensures { result ≡ nat_lt MIN_FRAGMENT left }
 {
-    if next == end { 0 } else { next }
+    MIN_FRAGMENT < left
 }
 
-/// Frees the block that a slot owns.
-pub fn release(records: &mut [Record], kind: u8, number: u32)
-    ensures { records.new ≡ map (free_record kind number) records.old }
+/// Gives the free block at a place to a slot, and leaves a rest of more than `MIN_FRAGMENT` bytes
+/// free. It answers the place after the new block.
+pub fn take(region: &mut [u8], place: usize, wanted: u32, used: Used) -> usize
+    requires laid { IsLaid region.old }
+    requires small { length region.old < 2 ^ 32 }
+    requires room { RoomAt place wanted (blocks_in region.old) }
+    requires large { used.asked + 24 ≤ wanted }
+    requires live { (used.owner == FREE_OWNER) ≡ false }
+    requires owner { used.owner < 2 ^ 32 }
+    requires tag { used.tag < 2 ^ 32 }
+    ensures laid { IsLaid region.new }
+    ensures len { length region.new ≡ length region.old }
+    ensures blocks { blocks_in region.new
+        ≡ take_at place wanted (used_holding used (drop (place + HEADER_SIZE) region.old))
+        (blocks_in region.old) }
+    ensures rover { ring_place result (length region.old)
+        ≡ place_after place (length region.old) (blocks_in region.new) }
+    ensures bound { result ≤ length region.old }
 {
-    for record in records.iter_mut() {
-        *record = record.free_owner(kind, number);
+    let size = word_at(region, place);
+    if is_rest(size - wanted) {
+        cut(region, place, wanted);
+        set_use(region, place, used.asked, used.owner, used.tag);
+        place + wanted as usize
+    } else {
+        set_use(region, place, used.asked, used.owner, used.tag);
+        place + size as usize
     }
 }
 
-/// Gives the block at an index another tag.
-pub fn retag(records: &mut [Record], index: usize, tag: Tag)
-    requires { index < length records.old }
-    ensures { records.new ≡ slice_set records.old index
-        (retag_at tag (get_or records.old index no_record)) }
+/// Lays out a region as one free block.
+pub fn lay_free(region: &mut [u8], size: u32)
+    requires size { length region.old ≡ size }
+    requires large { HEADER_SIZE ≤ size }
+    requires small { size < 2 ^ 32 }
+    ensures ring { IsRing region.new }
+    ensures len { length region.new ≡ size }
+    ensures blocks { blocks_in region.new ≡ free_block 0 size ∷ [] }
 {
-    let record = records[index];
-    records[index] = record.retag(tag);
-}
-
-/// Gives the block that a slot owns another tag.
-pub fn retag_slot(
-    records: &mut [Record],
-    homes: &[u32],
-    lumps: u32,
-    kind: u8,
-    number: u32,
-    tag: Tag,
-)
-    requires tiles { (region : List ℕ) → (end : ℕ) × Tiles 0 end (blocks_of region records.old) }
-    requires in_range { home_index lumps kind number < length homes.now }
-    ensures { (region : List ℕ) → KnowsAll lumps homes.now (blocks_of region records.old) →
-        Unique (blocks_of region records.old) →
-        blocks_of region records.new ≡ map
-        (retag_block (record { kind = kind; number = number }) tag) (blocks_of region records.old) }
-{
-    if let Some(index) = slot_index(records, homes, lumps, kind, number) {
-        retag(records, index, tag);
-    }
-}
-
-/// Frees the block that a slot owns, and joins it with its free neighbours.
-pub fn free(records: &mut Vec<Record>, kind: u8, number: u32)
-    requires { size_of_all records.old.items < 2 ^ 32 }
-    ensures blocks { (region : List ℕ) →
-        blocks_of region records.new.items ≡ join_free
-        (free_owner (record { kind = kind; number = number })
-        (blocks_of region records.old.items)) }
-    ensures capacity { vec_capacity records.new ≡ vec_capacity records.old }
-{
-    release(records, kind, number);
-    join(records);
+    set_word(region, 0, size);
+    set_free(region, 0);
+    link(region);
 }

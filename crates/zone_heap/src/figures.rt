@@ -1,52 +1,48 @@
 // What the blocks of each sort add up to.
-ghost use Rattle.std.specs.Prelude.{◌≡◌, ◌<◌, ◌^◌, sum_by};
-ghost use Rattle.zone_heap.specs.Records.{pinned_size, purgeable_size, free_size, pins_used};
+ghost use Rattle.std.specs.Prelude.{◌≡◌, ◌<◌, ◌≤◌, ◌^◌, length, if◌then◌else◌};
+ghost use Rattle.zone_rules.specs.Zones.{used_size, purgeable_size, free_size};
+ghost use Rattle.zone_heap.specs.Regions.{blocks_in, IsLaid};
 
-use crate::records::{Record, is_purgeable_tag};
+use crate::headers::header_at;
 
-impl Record {
-    pub fn pinned_size(&self) -> u32
-        ensures { result ≡ pinned_size self.now }
-    {
-        match self.used {
-            Some(used) if !is_purgeable_tag(used.tag) => self.size,
-            _ => 0,
-        }
-    }
-
-    pub fn purgeable_size(&self) -> u32
-        ensures { result ≡ purgeable_size self.now }
-    {
-        if self.is_purgeable() { self.size } else { 0 }
-    }
-
-    pub fn free_size(&self) -> u32
-        ensures { result ≡ free_size self.now }
-    {
-        if self.used.is_none() { self.size } else { 0 }
-    }
+/// Bytes of the pinned, of the purgeable and of the free blocks.
+#[derive(Clone, Copy)]
+pub struct Sums {
+    pub pinned: u32,
+    pub purgeable: u32,
+    pub free: u32,
 }
 
-/// Bytes of the pinned blocks.
-pub fn pinned_total(records: &[Record]) -> u32
-    requires { sum_by pinned_size records.now < 2 ^ 32 }
-    ensures { result ≡ sum_by pinned_size records.now }
+/// The size of a block that counts, or 0.
+fn size_if(counts: bool, size: u32) -> u32
+    ensures value { result ≡ (if counts then size else 0) }
+    ensures most { result ≤ size }
 {
-    records.iter().map(|record| record.pinned_size()).sum()
+    if counts { size } else { 0 }
 }
 
-/// Bytes of the purgeable blocks.
-pub fn purgeable_total(records: &[Record]) -> u32
-    requires { sum_by purgeable_size records.now < 2 ^ 32 }
-    ensures { result ≡ sum_by purgeable_size records.now }
+/// What the blocks of each sort add up to.
+pub fn add_up(region: &[u8]) -> Sums
+    requires laid { IsLaid region.now }
+    requires small { length region.now < 2 ^ 32 }
+    ensures pinned { result.pinned ≡ used_size (blocks_in region.now) }
+    ensures purgeable { result.purgeable ≡ purgeable_size (blocks_in region.now) }
+    ensures free { result.free ≡ free_size (blocks_in region.now) }
 {
-    records.iter().map(|record| record.purgeable_size()).sum()
-}
-
-/// Bytes of the free blocks.
-pub fn free_total(records: &[Record]) -> u32
-    requires { sum_by free_size records.now < 2 ^ 32 }
-    ensures { result ≡ sum_by free_size records.now }
-{
-    records.iter().map(|record| record.free_size()).sum()
+    let mut at: usize = 0;
+    let mut pinned: u32 = 0;
+    let mut purgeable: u32 = 0;
+    let mut free: u32 = 0;
+    while at < region.len() {
+        let header = header_at(region, at);
+        pinned += size_if(header.is_pinned(), header.size);
+        purgeable += size_if(header.is_purgeable(), header.size);
+        free += size_if(header.is_free(), header.size);
+        at += header.size as usize;
+    }
+    Sums {
+        pinned,
+        purgeable,
+        free,
+    }
 }

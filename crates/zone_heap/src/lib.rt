@@ -1,17 +1,21 @@
 //! The zone: one region of bytes, tiled by blocks that slots own, with a rover that looks for room.
 //!
-//! Rules: `zone_rules`. Proved: each call is its definition, which blocks a request purges and where
-//! the new block goes among them, and that every other block stays; `ZoneFull` comes exactly where no
-//! gap holds what is wanted. The body is a list of block records in order of place, over one vector
-//! of bytes; each slot keeps the place of its block, which a binary search then finds. Tested only:
-//! that memory is found. The original: z_zone.c.
+//! Rules: `zone_rules`; `specs/Headers`, `specs/Regions` and `specs/Homes` say what stands in the
+//! region, `specs/Walks` how a request goes over it. Proved: each call is its definition, which
+//! blocks a request purges and where the new block goes among them, and that every other block
+//! stays; `ZoneFull` comes exactly where no gap holds what is wanted. The body is one vector of
+//! bytes: each block begins with a header of six little-endian words (size, asked length, owner,
+//! tag, next, previous), and each slot keeps the place of its block. Tested only: that memory is
+//! found. The original: z_zone.c.
 #![tactic(auto)]
 
 mod edits;
 mod figures;
+mod headers;
 mod homes;
+mod look;
 mod pair;
-mod records;
+mod request;
 mod search;
 mod slot;
 mod zone;
@@ -36,8 +40,8 @@ mod tests {
         assert!(rt; figures.free == 4096 && figures.used == 0 && figures.purges == 0);
     }
 
-    /// What a zone answers, once blocks for 100 and for 3900 bytes were taken, to a request: the two
-    /// numbers where it is full, which of the two blocks stand, and the figures.
+    /// What a zone answers, once blocks for 100 and for 3900 bytes were taken, to a request: the
+    /// two numbers where it is full, which of the two blocks stand, and the figures.
     #[derive(Drop)]
     struct Answer {
         full: Option<(u64, u64)>,
@@ -131,6 +135,10 @@ mod tests {
         }
     }
 
+    fn fill_seven(bytes: &mut [u8]) {
+        bytes.fill(7);
+    }
+
     fn copy(from: &[u8], to: &mut [u8]) {
         if from.len() == to.len() {
             to.copy_from_slice(from);
@@ -148,7 +156,7 @@ mod tests {
         assert!(rt; !zone.is_live(composite));
         assert!(rt; zone.malloc(composite, 3, Tag::Cache).is_ok());
         assert!(rt; zone.is_live(lump) && zone.is_live(composite));
-        zone.bytes_mut(lump).fill(7);
+        zone.bytes_mut(lump, fill_seven);
         assert!(rt; zone.is_live(lump) && zone.is_live(composite));
         zone.pair(lump, composite, copy);
         assert!(rt; zone.bytes(lump) == Some(&[7, 7, 7]));

@@ -1,145 +1,177 @@
 // Where a request finds room, and which blocks it purges.
-ghost use Rattle.std.specs.Prelude.{◌≡◌, ◌<◌, ◌≤◌, ◌+◌, ◌++◌, ◌^◌, ℕ, List, length, IfSome, option_map, count_by, vec_len, vec_capacity, map, slice_range, drop};
-ghost use Rattle.std.specs.Prelude as list;
+ghost use Rattle.std.specs.Prelude.{◌≡◌, ◌<◌, ◌≤◌, ◌+◌, ◌++◌, ◌^◌, ℕ, List, length, IfSome, option_map, drop, take, map, count_by, true};
+ghost use Rattle.zone_rules.specs.Zones.{is_purgeable, Apart, has_place};
+ghost use Rattle.zone_rules.specs.Requests.{purge_block, join_free, first_room, stretches, passed_blocks, purge_among, count_among};
+ghost use Rattle.zone_heap.specs.Homes.{AreHome};
 ghost use Rattle.std.specs.List.{position_or_len};
-ghost use Rattle.zone_heap.specs.Records.{blocks_of, size_of_all, IsTiled, purge_record, is_purgeable_record};
-ghost use Rattle.zone_rules.specs.Walks.{fit_from, widest_from, SearchIs, RoomAt, starts_at};
-ghost use Rattle.zone_rules.specs.Requests.{join_free, first_room, stretches, passed_blocks, purge_among, count_among};
+ghost use Rattle.zone_heap.specs.Walks.{fit_from, widest_from, starts_at, SearchIs};
+ghost use Rattle.zone_rules.specs.Rooms.{RoomAt};
+ghost use Rattle.zone_heap.specs.Regions.{blocks_in, blocks_from, IsLaid, IsSplit};
 
 use crate::edits::join;
-use crate::records::Record;
+use crate::headers::header_at;
+use crate::homes::free_at;
 
-/// A run of blocks that holds a request: the place of its first block, and the end of its least front.
+/// A run of blocks that holds a request: the place of its first block, and how many blocks from the
+/// start of the search end with its least front.
 #[derive(Clone, Copy)]
 pub struct Fit {
-    pub place: u32,
+    pub place: usize,
     pub end: usize,
+}
+
+/// The first run of blocks without a pinned one whose sizes add up to what is wanted, from a block
+/// on.
+pub fn first_fit(region: &[u8], from: usize, wanted: u64) -> Option<Fit>
+    requires split { IsSplit region.now from }
+    requires small { length region.now < 2 ^ 32 }
+    ensures value { (s : IsSplit region.now from) → option_map (λ f. (f.place, f.end)) result
+        ≡ fit_from wanted 0 0 0 (blocks_from from s.rest) }
+{
+    let mut at = from;
+    let mut place: usize = 0;
+    let mut sum: u64 = 0;
+    let mut end: usize = 0;
+    while at < region.len() {
+        let header = header_at(region, at);
+        end += 1;
+        if header.is_pinned() {
+            sum = 0;
+        } else {
+            if sum == 0 {
+                place = at;
+            }
+            sum += u64::from(header.size);
+            if wanted <= sum {
+                return Some(Fit { place, end });
+            }
+        }
+        at += header.size as usize;
+    }
+    None
+}
+
+/// The block at which a search starts: the free block before the rover, or the rover's.
+pub fn start_place(region: &[u8], rover: usize) -> usize
+    requires laid { IsLaid region.now }
+    requires small { length region.now < 2 ^ 32 }
+    ensures split { (s : IsSplit region.now result) × (length s.front
+        ≡ position_or_len (starts_at rover) (blocks_in region.now)) }
+{
+    let mut at: usize = 0;
+    while at < region.len() {
+        let header = header_at(region, at);
+        if header.starts_search(at, rover) {
+            return at;
+        }
+        at += header.size as usize;
+    }
+    at
+}
+
+/// The size of the widest gap.
+pub fn widest_gap(region: &[u8]) -> u64
+    requires laid { IsLaid region.now }
+    requires small { length region.now < 2 ^ 32 }
+    ensures { result ≡ widest_from 0 0 (blocks_in region.now) }
+{
+    let mut at: usize = 0;
+    let mut best: u64 = 0;
+    let mut run: u64 = 0;
+    while at < region.len() {
+        let header = header_at(region, at);
+        if header.is_pinned() {
+            run = 0;
+        } else {
+            run += u64::from(header.size);
+            best = best.max(run);
+        }
+        at += header.size as usize;
+    }
+    best
+}
+
+/// Frees the purgeable blocks among so many from a block on, and says how many they were.
+pub fn purge(region: &mut [u8], homes: &mut [u32], lumps: u32, from: usize, most: usize) -> u64
+    requires split { IsSplit region.old from }
+    requires small { length region.old < 2 ^ 32 }
+    requires home { AreHome lumps homes.old (blocks_in region.old) }
+    ensures laid { IsLaid region.new }
+    ensures len { length region.new ≡ length region.old }
+    ensures homes { length homes.new ≡ length homes.old }
+    ensures home { AreHome lumps homes.new (blocks_in region.new) }
+    ensures blocks { (s : IsSplit region.old from) → blocks_in region.new
+        ≡ blocks_from 0 s.front
+        ++ (map purge_block (take most (blocks_from from s.rest))
+        ++ drop most (blocks_from from s.rest)) }
+    ensures count { (s : IsSplit region.old from) → result
+        ≡ count_by is_purgeable (take most (blocks_from from s.rest)) }
+    ensures bound { result < 2 ^ 32 }
+{
+    let mut at = from;
+    let mut passed: usize = 0;
+    let mut count: u64 = 0;
+    while at < region.len() && passed < most {
+        let header = header_at(region, at);
+        if header.is_purgeable() {
+            free_at(region, homes, lumps, at);
+            count += 1;
+        }
+        at += header.size as usize;
+        passed += 1;
+    }
+    count
 }
 
 /// What a search came to: where a run begins that holds, and how many blocks were purged.
 #[derive(Clone, Copy)]
 pub struct Room {
-    pub place: Option<u32>,
+    pub place: Option<usize>,
     pub purges: u64,
 }
 
-/// The first run of blocks without a pinned one whose sizes add up to what is wanted.
-pub fn first_fit(records: &[Record], wanted: u64) -> Option<Fit>
-    requires { size_of_all records.now < 2 ^ 32 }
-    ensures value { (region : List ℕ) →
-        option_map (λ f. (f.place, f.end)) result ≡ fit_from wanted 0 0 0
-        (blocks_of region records.now) }
-    ensures bound { IfSome result (λ f. f.end ≤ length records.now) }
-{
-    let mut place: u32 = 0;
-    let mut sum: u64 = 0;
-    for (i, record) in records.iter().enumerate() {
-        if record.is_pinned() {
-            sum = 0;
-        } else {
-            if sum == 0 {
-                place = record.place;
-            }
-            sum += u64::from(record.size);
-            if wanted <= sum {
-                return Some(Fit { place, end: i + 1 });
-            }
-        }
-    }
-    None
-}
-
-/// Frees the purgeable blocks, and says how many they were.
-pub fn purge(records: &mut [Record]) -> u64
-    ensures records { records.new ≡ map purge_record records.old }
-    ensures count { result ≡ count_by is_purgeable_record records.old }
-{
-    let mut count: u64 = 0;
-    for record in records.iter_mut() {
-        if record.is_purgeable() {
-            record.used = None;
-            count += 1;
-        }
-    }
-    count
-}
-
-/// The index of the block at which a search starts: the free block before the rover, or the rover's.
-pub fn start_index(records: &[Record], rover: u32) -> usize
-    ensures value { (region : List ℕ) →
-        result ≡ position_or_len (starts_at rover) (blocks_of region records.now) }
-    ensures bound { result ≤ length records.now }
-{
-    for (i, record) in records.iter().enumerate() {
-        if record.starts_search(rover) {
-            return i;
-        }
-    }
-    records.len()
-}
-
-/// The size of the widest gap.
-pub fn widest_gap(records: &[Record]) -> u64
-    requires { size_of_all records.now < 2 ^ 32 }
-    ensures { (region : List ℕ) → result ≡ widest_from 0 0 (blocks_of region records.now) }
-{
-    let mut best: u64 = 0;
-    let mut run: u64 = 0;
-    for record in records {
-        if record.is_pinned() {
-            run = 0;
-        } else {
-            run += u64::from(record.size);
-            best = best.max(run);
-        }
-    }
-    best
-}
-
-/// Frees the purgeable blocks from one index up to another, and says how many they were.
-pub fn purge_range(records: &mut [Record], from: usize, to: usize) -> u64
-    requires order { from ≤ to }
-    requires in_bounds { to ≤ length records.old }
-    ensures records { records.new ≡ list.take from records.old ++
-        (map purge_record (slice_range records.old from to) ++ drop to records.old) }
-    ensures count { result ≡ count_by is_purgeable_record (slice_range records.old from to) }
-    ensures bound { result ≤ length records.old }
-    ensures sizes { size_of_all records.new ≡ size_of_all records.old }
-{
-    purge(&mut records[from..to])
-}
-
-/// Looks for a run of blocks that holds what is wanted, from the rover on and then from the front, and purges what it goes over.
-pub fn clear_way(records: &mut [Record], rover: u32, wanted: u64) -> Room
-    requires small { size_of_all records.old < 2 ^ 32 }
-    requires few { length records.old < 2 ^ 32 }
+/// Looks for a run of blocks that holds what is wanted, from the rover on and then from the front,
+/// and purges what it goes over.
+pub fn clear_way(
+    region: &mut [u8],
+    homes: &mut [u32],
+    lumps: u32,
+    rover: usize,
+    wanted: u64,
+) -> Room
+    requires laid { IsLaid region.old }
+    requires some { 0 < length region.old }
+    requires small { length region.old < 2 ^ 32 }
+    requires home { AreHome lumps homes.old (blocks_in region.old) }
+    requires apart { Apart (blocks_in region.old) }
+    requires rover { has_place rover (blocks_in region.old) ≡ true }
     requires positive { 0 < wanted }
-    requires tiled { IsTiled rover records.old }
-    ensures search { (region : List ℕ) →
-        SearchIs wanted rover (blocks_of region records.old) result.place
-        (blocks_of region records.new) result.purges }
-    ensures room { (region : List ℕ) →
-        IfSome result.place (λ p. RoomAt p wanted (join_free (blocks_of region records.new))) }
-    ensures sizes { size_of_all records.new ≡ size_of_all records.old }
+    ensures laid { IsLaid region.new }
+    ensures len { length region.new ≡ length region.old }
+    ensures homes { length homes.new ≡ length homes.old }
+    ensures home { AreHome lumps homes.new (blocks_in region.new) }
+    ensures search { SearchIs wanted rover (blocks_in region.old) result.place (blocks_in region.new)
+        result.purges }
+    ensures room { IfSome result.place (λ p. RoomAt p wanted (join_free (blocks_in region.new))) }
 {
-    let start = start_index(records, rover);
-    let len = records.len();
-    if let Some(fit) = first_fit(&records[start..], wanted) {
-        let purges = purge_range(records, start, start + fit.end);
+    let start = start_place(region, rover);
+    let all = region.len();
+    if let Some(fit) = first_fit(region, start, wanted) {
+        let purges = purge(region, homes, lumps, start, fit.end);
         return Room {
             place: Some(fit.place),
             purges,
         };
     }
-    if let Some(fit) = first_fit(records, wanted) {
-        let later = purge_range(records, start, len);
-        let earlier = purge_range(records, 0, fit.end);
+    if let Some(fit) = first_fit(region, 0, wanted) {
+        let later = purge(region, homes, lumps, start, all);
+        let earlier = purge(region, homes, lumps, 0, fit.end);
         return Room {
             place: Some(fit.place),
             purges: later + earlier,
         };
     }
-    let purges = purge_range(records, 0, len);
+    let purges = purge(region, homes, lumps, 0, all);
     Room {
         place: None,
         purges,
@@ -147,26 +179,28 @@ pub fn clear_way(records: &mut [Record], rover: u32, wanted: u64) -> Room
 }
 
 /// Looks for room, purges what it goes over, and joins free neighbours.
-pub fn search(records: &mut Vec<Record>, rover: u32, wanted: u64) -> Room
-    requires small { size_of_all records.old.items < 2 ^ 32 }
-    requires few { vec_len records.old < 2 ^ 32 }
+pub fn search(region: &mut [u8], homes: &mut [u32], lumps: u32, rover: usize, wanted: u64) -> Room
+    requires laid { IsLaid region.old }
+    requires some { 0 < length region.old }
+    requires small { length region.old < 2 ^ 32 }
+    requires home { AreHome lumps homes.old (blocks_in region.old) }
+    requires apart { Apart (blocks_in region.old) }
+    requires rover { has_place rover (blocks_in region.old) ≡ true }
     requires positive { 0 < wanted }
-    requires tiled { IsTiled rover records.old.items }
-    ensures place { (region : List ℕ) →
-        first_room wanted (stretches rover (blocks_of region records.old.items)) ≡ result.place }
-    ensures blocks { (region : List ℕ) →
-        blocks_of region records.new.items ≡ join_free
-        (purge_among (passed_blocks wanted (stretches rover (blocks_of region records.old.items)))
-        (blocks_of region records.old.items)) }
-    ensures purges { (region : List ℕ) →
-        result.purges ≡ count_among
-        (passed_blocks wanted (stretches rover (blocks_of region records.old.items)))
-        (blocks_of region records.old.items) }
-    ensures room { (region : List ℕ) →
-        IfSome result.place (λ p. RoomAt p wanted (blocks_of region records.new.items)) }
-    ensures capacity { vec_capacity records.new ≡ vec_capacity records.old }
+    ensures laid { IsLaid region.new }
+    ensures len { length region.new ≡ length region.old }
+    ensures homes { length homes.new ≡ length homes.old }
+    ensures home { AreHome lumps homes.new (blocks_in region.new) }
+    ensures place { first_room wanted (stretches rover (blocks_in region.old)) ≡ result.place }
+    ensures blocks { blocks_in region.new
+        ≡ join_free (purge_among (passed_blocks wanted (stretches rover (blocks_in
+        region.old))) (blocks_in region.old)) }
+    ensures purges { result.purges
+        ≡ count_among (passed_blocks wanted (stretches rover (blocks_in region.old)))
+        (blocks_in region.old) }
+    ensures room { IfSome result.place (λ p. RoomAt p wanted (blocks_in region.new)) }
 {
-    let room = clear_way(records, rover, wanted);
-    join(records);
+    let room = clear_way(region, homes, lumps, rover, wanted);
+    join(region);
     room
 }

@@ -60,6 +60,7 @@ impl<K> Slot<K> {
     }
 
     /// The slot's number.
+    #[inline(always)]
     pub fn number(self) -> u32
         ensures { result ≡ self.number }
     {

@@ -1,16 +1,18 @@
 // The zone and its calls.
 //
-// Rules: `zone_rules`, Zones, Requests, Frees and Loans. The original: z_zone.c.
-ghost use Rattle.std.specs.Prelude.{false, ◌≡◌, ◌<◌, ◌≤◌, ◌+◌, ◌*◌, ◌%◌, ◌^◌, ◌↔◌, ◌⊎◌, ℕ, List, [], ◌∷◌, length, All, IsOk, IsErr, IfOk, OnOk, OnErr, IfErr, IsSome, IsNone, IfSome, slice_range, IsTrue, MatchOption, MatchResult, option_map, vec_len, vec_capacity, None};
+// Rules: `zone_rules`, Zones, Requests and Frees. The original: z_zone.c.
+ghost use Rattle.std.specs.Prelude.{false, ◌≡◌, ◌<◌, ◌≤◌, ◌+◌, ◌*◌, ◌%◌, ◌^◌, ◌↔◌, ◌⊎◌, ℕ, List, [], ◌∷◌, length, All, IsOk, IsErr, IfOk, OnOk, OnErr, IfErr, IsSome, IsNone, IfSome, slice_range, IsTrue, MatchOption, MatchResult, option_map, vec_len, slice_index, None};
 ghost use Rattle.std.specs.Option.{option_copied};
-ghost use Rattle.zone_heap.specs.Calls.{PairCalled};
-ghost use Rattle.std.specs.Borrow.{sem};
+ghost use Rattle.zone_heap.specs.Calls.{PairCalled, BytesChanged, BytesChangedWith};
+ghost use Rattle.zone_heap.specs.Regions.{blocks_in, IsRing};
 ghost use Rattle.zone_rules.specs.Zones.{Owner, Heap, IsLive, IsSound, block_size, slot_count, owner_at, bytes_of, free_block, holding_of, owned_block, same_owner, is_purgeable, used_size, purgeable_size, free_size, IsZoneSize, fresh_heap};
 ghost use Rattle.zone_rules.specs.Requests.{gaps, widest, total, without_room, TakesBlock, stretches, passed_blocks, block_left};
 ghost use Rattle.zone_rules.specs.Frees.{without_block, with_tag, retag_block};
 
-use crate::homes::{self, Span};
-use crate::records::{Record, Used};
+use crate::headers::{Used, owner_word, tag_code};
+use crate::homes::{NO_HOME, home_index};
+use crate::look::{Span, home_at, live_span, retag, slot_span, slot_tag};
+use crate::request::{Request, release, serve};
 use crate::slot::{CompositeKind, LumpKind, Slot, SlotKind};
 use crate::{edits, figures, pair, search};
 use std::alloc::{AllocError, Global};
@@ -24,12 +26,13 @@ pub enum ZoneMake {
     /// The size is out of range, or no multiple of a word.
     #[error("a zone has 64 to 536870912 bytes, a multiple of 4")]
     BadSize,
-    /// No memory for the bytes, the records or the homes.
+    /// No memory for the bytes or the homes.
     #[error("out of memory")]
     OutOfMemory,
 }
 
-/// No gap holds what is wanted: the size of the block with its header, and the widest gap, in bytes.
+/// No gap holds what is wanted: the size of the block with its header, and the widest gap, in
+/// bytes.
 #[derive(Debug, Drop, Error)]
 #[error("the zone is full: a block of {wanted} bytes was wanted, the widest gap has {widest}")]
 pub struct ZoneFull {
@@ -46,11 +49,11 @@ pub struct ZoneFigures {
     pub purges: u64,
 }
 
-/// One region of bytes, tiled by blocks: contracts see the list of blocks, the rover and the purges.
+/// One region of bytes, tiled by blocks: contracts see the list of blocks, the rover and the
+/// purges.
 #[derive(Drop)]
 pub struct Zone {
     region: Vec<u8>,
-    records: Vec<Record>,
     homes: Vec<u32>,
     size: u32,
     lumps: u32,
@@ -72,14 +75,13 @@ impl Model for Zone {
 }
 
 impl Zone {
-    ghost use Rattle.zone_heap.specs.Lending.{LendsBytes};
-
-    /// A zone of one free block of `size` bytes, with so many slots of each kind.
+    /// A zone of one free block of `size` bytes, with `lumps` and `composites` slots.
     ///
-    /// Takes all the memory of the zone: its bytes, room for every record, and a home for each slot.
+    /// Takes all the memory of the zone: its bytes, which hold the headers too, and a home for each
+    /// slot.
     ///
-    /// Errors: `BadSize` exactly where the size is under `MIN_ZONE_SIZE`, over `MAX_ZONE_SIZE` or no
-    /// multiple of `WORD_SIZE`; it comes first. `OutOfMemory`.
+    /// Errors: `BadSize` exactly where the size is under `MIN_ZONE_SIZE`, over `MAX_ZONE_SIZE` or
+    /// no multiple of `WORD_SIZE`; it comes first. `OutOfMemory`.
     ///
     /// The original: `Z_Init`, z_zone.c.
     pub fn new(alloc: Global, size: u32, lumps: u32, composites: u32) -> Result<Zone, ZoneMake>
@@ -95,7 +97,6 @@ impl Zone {
         match make_parts(alloc, size, lumps, composites) {
             Ok(parts) => Ok(Zone {
                 region: parts.region,
-                records: parts.records,
                 homes: parts.homes,
                 size,
                 lumps,
@@ -109,12 +110,12 @@ impl Zone {
 
     /// Gives a block of `size` bytes to an empty slot.
     ///
-    /// The search goes from the free block before the rover, or the block at it, to the region's end,
-    /// and then over all gaps. It purges the blocks that it passes where their tag lets it, and no
-    /// other. Takes no memory: `new` took it all.
+    /// The search goes from the free block before the rover, or the block at it, to the region's
+    /// end, and then over all gaps. It purges the blocks that it passes where their tag lets it,
+    /// and no other. Takes no memory: `new` took it all.
     ///
-    /// Errors: `ZoneFull` exactly where no gap holds the block with its header. Then every purgeable
-    /// block was purged, and each pinned one stands with its bytes.
+    /// Errors: `ZoneFull` exactly where no gap holds the block with its header. Then every
+    /// purgeable block was purged, and each pinned one stands with its bytes.
     ///
     /// The original: `Z_Malloc`, z_zone.c, which ends the program there.
     pub fn malloc<K: SlotKind>(
@@ -125,75 +126,69 @@ impl Zone {
     ) -> Result<(), ZoneFull>
         requires in_range { slot.number < slot_count self.old K.CODE }
         requires empty { IsNone (holding_of (owner_at K.CODE slot.number) self.old.blocks) }
-        ensures full { IsErr result ↔ All (λ g. total g < block_size size) (gaps self.old.blocks) }
-        ensures report { IfErr result (λ e. (e.wanted ≡ block_size size) ×
-            (e.widest ≡ widest (gaps self.old.blocks))) }
+        ensures full { IsErr result ↔
+            All (λ g. total g < block_size size) (gaps self.old.blocks) }
+        ensures report { IfErr result (λ e.
+            (e.wanted ≡ block_size size) × (e.widest ≡ widest (gaps self.old.blocks))) }
         ensures err { OnErr result (self.new ≡ without_room (block_size size) self.old) }
-        ensures ok { OnOk result (TakesBlock self.old self.new (owner_at K.CODE slot.number) size
-            tag) }
+        ensures ok { OnOk result
+            (TakesBlock self.old self.new (owner_at K.CODE slot.number) size tag) }
         ensures empty { OnErr result
             (owned_block (owner_at K.CODE slot.number) self.new.blocks ≡ None) }
         ensures purged { OnErr result (All (λ b. is_purgeable b ≡ false) self.new.blocks) }
         ensures others { (o : Owner) → same_owner (owner_at K.CODE slot.number) o ≡ false →
-            owned_block o self.new.blocks ≡ block_left
+            owned_block o self.new.blocks
+            ≡ block_left
             (passed_blocks (block_size size) (stretches self.old.rover self.old.blocks))
             (owned_block o self.old.blocks) }
         ensures sound { IsSound self.new }
     {
         let wanted = block_size(size);
-        let home = homes::home_index(self.lumps, K::CODE, slot.number());
-        let widest = search::widest_gap(&self.records);
-        let room = search::search(&mut self.records, self.rover, wanted);
-        self.purges = self.purges.saturating_add(room.purges);
-        match room.place {
-            None => {
-                self.rover = edits::place_in(&self.records, self.rover);
-                Err(ZoneFull { wanted, widest })
-            }
-            Some(place) => {
-                let used = Used {
-                    kind: K::CODE,
-                    number: slot.number(),
-                    tag,
-                    asked: size,
-                };
-                self.rover = edits::place_block(
-                    &mut self.records,
-                    place,
-                    wanted as u32,
-                    used,
-                    self.size,
-                );
-                self.homes[home] = place;
-                Ok(())
-            }
+        let widest = search::widest_gap(&self.region);
+        let request = Request {
+            wanted,
+            home: home_index(self.lumps, K::CODE, slot.number()),
+            used: Used {
+                asked: size,
+                owner: owner_word(K::CODE, slot.number()),
+                tag: tag_code(tag),
+            },
+        };
+        let outcome = serve(
+            &mut self.region,
+            &mut self.homes,
+            self.lumps,
+            self.rover as usize,
+            request,
+        );
+        self.purges = self.purges.saturating_add(outcome.purges);
+        self.rover = outcome.rover as u32;
+        if outcome.place.is_none() {
+            return Err(ZoneFull { wanted, widest });
         }
+        Ok(())
     }
 
-    /// Whether the slot has a block. Takes a time that grows with the logarithm of the blocks.
+    /// Whether the slot has a block. One look-up of the slot's home.
+    #[inline(always)]
     pub fn is_live<K: SlotKind>(&self, slot: Slot<K>) -> bool
         requires { slot.number < slot_count self.now K.CODE }
         ensures live { IsTrue result ↔ IsLive self.now (owner_at K.CODE slot.number) }
         ensures sound { IsSound self.now }
     {
-        homes::slot_index(
-            &self.records,
-            &self.homes,
-            self.lumps,
-            K::CODE,
-            slot.number(),
-        )
-        .is_some()
+        home_at(&self.homes, self.lumps, K::CODE, slot.number()) != NO_HOME
     }
 
     /// The tag of the slot's block, or None exactly where the slot is empty.
+    #[inline(always)]
     pub fn tag<K: SlotKind>(&self, slot: Slot<K>) -> Option<Tag>
         requires { slot.number < slot_count self.now K.CODE }
-        ensures { result ≡ option_map (λ h.
-            h.tag) (holding_of (owner_at K.CODE slot.number) self.now.blocks) }
+        ensures { result
+            ≡ option_map (λ h. h.tag)
+            (holding_of (owner_at K.CODE slot.number) self.now.blocks) }
     {
-        homes::slot_tag(
-            &self.records,
+        slot_tag(
+            &self.region,
             &self.homes,
             self.lumps,
             K::CODE,
@@ -202,12 +197,13 @@ impl Zone {
     }
 
     /// The slot's bytes, as many as were asked for, or None exactly where the slot is empty.
+    #[inline(always)]
     pub fn bytes<K: SlotKind>(&self, slot: Slot<K>) -> Option<&[u8]>
         requires { slot.number < slot_count self.now K.CODE }
         ensures { option_copied result ≡ bytes_of (owner_at K.CODE slot.number) self.now.blocks }
     {
-        let span = homes::slot_span(
-            &self.records,
+        let span = slot_span(
+            &self.region,
             &self.homes,
             self.lumps,
             K::CODE,
@@ -216,28 +212,55 @@ impl Zone {
         cut(&self.region, span)
     }
 
-    /// The bytes of a live slot, to be written. The slice keeps its length.
+    /// Calls `f` with the bytes of a live slot, to be written, and returns what it returned.
     ///
-    /// Once it is given back the block has what was written, and the zone is otherwise as before:
-    /// for that length `after_loan` is `with_bytes`.
-    pub fn bytes_mut<K: SlotKind>(&mut self, slot: Slot<K>) -> &mut [u8]
+    /// The block then has what `f` left, and the zone is otherwise as before.
+    pub fn bytes_mut<K: SlotKind, R, F: FnOnce(&mut [u8]) -> R>(&mut self, slot: Slot<K>, f: F) -> R
+        requires callable { F.IsAlwaysCallable f }
         requires in_range { slot.number < slot_count self.old K.CODE }
         requires live { IsLive self.old (owner_at K.CODE slot.number) }
-        ensures* lends { sem 𝓛 (LendsBytes self.entry (owner_at K.CODE slot.number) result) }
-        ensures value { bytes_of (owner_at K.CODE slot.number) self.old.blocks ≡ Some result.now }
+        ensures called { BytesChanged F.FnOnce f (owner_at K.CODE slot.number)
+            self.old self.new result }
     {
-        let span = homes::live_span(
-            &self.records,
+        let span = live_span(
+            &self.region,
             &self.homes,
             self.lumps,
             K::CODE,
             slot.number(),
         );
-        self.region.slice_mut(span.from..span.to)
+        pair::with_part(&mut self.region, span, f)
     }
 
-    /// Calls `f` with the bytes of a live lump's slot, and with those of a live composite's, these to
-    /// be written, and returns what it returned.
+    /// Calls `f` with the bytes of a live slot, to be written, and with `context`, which it may
+    /// change, and returns what it returned.
+    ///
+    /// What a function changed of its captures is not known to its caller, but what it left of
+    /// `context` is.
+    pub fn bytes_mut_with<K: SlotKind, C, R, F: FnOnce(&mut [u8], &mut C) -> R>(
+        &mut self,
+        slot: Slot<K>,
+        context: &mut C,
+        f: F,
+    ) -> R
+        requires callable { F.IsAlwaysCallable f }
+        requires in_range { slot.number < slot_count self.old K.CODE }
+        requires live { IsLive self.old (owner_at K.CODE slot.number) }
+        ensures called { BytesChangedWith F.FnOnce f (owner_at K.CODE slot.number)
+            self.old self.new context.old context.new result }
+    {
+        let span = live_span(
+            &self.region,
+            &self.homes,
+            self.lumps,
+            K::CODE,
+            slot.number(),
+        );
+        pair::with_part_and(&mut self.region, span, context, f)
+    }
+
+    /// Calls `f` with the bytes of a live lump's slot, and with those of a live composite's, these
+    /// to be written, and returns what it returned.
     pub fn pair<R, F: FnOnce(&[u8], &mut [u8]) -> R>(
         &mut self,
         read: Slot<LumpKind>,
@@ -252,8 +275,8 @@ impl Zone {
         ensures called { PairCalled F.FnOnce f (owner_at 0 read.number) (owner_at 1 write.number)
             self.old self.new result }
     {
-        let from = homes::live_span(&self.records, &self.homes, self.lumps, 0, read.number());
-        let to = homes::live_span(&self.records, &self.homes, self.lumps, 1, write.number());
+        let from = live_span(&self.region, &self.homes, self.lumps, 0, read.number());
+        let to = live_span(&self.region, &self.homes, self.lumps, 1, write.number());
         pair::with_parts(&mut self.region, from, to, f)
     }
 
@@ -265,10 +288,11 @@ impl Zone {
         ensures purges { result.purges ≡ self.now.purges }
         ensures sum { result.used + result.purgeable + result.free ≡ self.now.size }
     {
+        let sums = figures::add_up(&self.region);
         ZoneFigures {
-            used: figures::pinned_total(&self.records),
-            purgeable: figures::purgeable_total(&self.records),
-            free: figures::free_total(&self.records),
+            used: sums.pinned,
+            purgeable: sums.purgeable,
+            free: sums.free,
             purges: self.purges,
         }
     }
@@ -286,8 +310,14 @@ impl Zone {
             owned_block o self.new.blocks ≡ owned_block o self.old.blocks }
         ensures sound { IsSound self.new }
     {
-        edits::free(&mut self.records, K::CODE, slot.number());
-        self.rover = edits::place_in(&self.records, self.rover);
+        release(
+            &mut self.region,
+            &mut self.homes,
+            self.lumps,
+            K::CODE,
+            slot.number(),
+        );
+        self.rover = edits::place_in(&self.region, self.rover as usize) as u32;
     }
 
     /// Gives the block of a live slot another tag. The rover stays.
@@ -297,15 +327,15 @@ impl Zone {
         requires in_range { slot.number < slot_count self.old K.CODE }
         requires live { IsLive self.old (owner_at K.CODE slot.number) }
         ensures tag { self.new ≡ with_tag (owner_at K.CODE slot.number) tag self.old }
-        ensures block { owned_block (owner_at K.CODE slot.number) self.new.blocks ≡ option_map
-            (retag_block (owner_at K.CODE slot.number) tag)
+        ensures block { owned_block (owner_at K.CODE slot.number) self.new.blocks
+            ≡ option_map (retag_block (owner_at K.CODE slot.number) tag)
             (owned_block (owner_at K.CODE slot.number) self.old.blocks) }
         ensures others { (o : Owner) → same_owner (owner_at K.CODE slot.number) o ≡ false →
             owned_block o self.new.blocks ≡ owned_block o self.old.blocks }
         ensures sound { IsSound self.new }
     {
-        edits::retag_slot(
-            &mut self.records,
+        retag(
+            &mut self.region,
             &self.homes,
             self.lumps,
             K::CODE,
@@ -315,6 +345,8 @@ impl Zone {
     }
 }
 
+/// The bytes of a span, if there is one.
+#[inline(always)]
 fn cut(region: &[u8], span: Option<Span>) -> Option<&[u8]>
     requires { IfSome span (λ s. (s.from ≤ s.to) × (s.to ≤ length region.now)) }
     ensures { option_copied result ≡ option_map (λ s. slice_range region.now s.from s.to) span }
@@ -325,7 +357,7 @@ fn cut(region: &[u8], span: Option<Span>) -> Option<&[u8]>
     }
 }
 
-/// The size of a block for so many bytes, its header with it.
+/// The size of a block for `size` bytes, its header with it.
 pub fn block_size(size: u32) -> u64
     ensures value { result ≡ block_size size }
     ensures least { HEADER_SIZE ≤ result }
@@ -338,31 +370,24 @@ pub fn block_size(size: u32) -> u64
 #[derive(Drop)]
 struct Parts {
     region: Vec<u8>,
-    records: Vec<Record>,
     homes: Vec<u32>,
 }
 
+/// The bytes of a zone as one free block, and a home for each slot, all empty.
 fn make_parts(alloc: Global, size: u32, lumps: u32, composites: u32) -> Result<Parts, AllocError>
+    requires size { HEADER_SIZE ≤ size }
     requires lumps { lumps < SLOT_LIMIT }
     requires composites { composites < SLOT_LIMIT }
     ensures region { IfOk result (λ p. vec_len p.region ≡ size) }
-    ensures records { IfOk result (λ p.
-        p.records.items ≡ record { place = 0; size = size; used = None } ∷ []) }
-    ensures room { IfOk result (λ p. 2 * (lumps + composites) + 1 ≤ vec_capacity p.records) }
+    ensures ring { IfOk result (λ p. IsRing p.region.items) }
+    ensures blocks { IfOk result (λ p. blocks_in p.region.items ≡ free_block 0 size ∷ []) }
     ensures homes { IfOk result (λ p. vec_len p.homes ≡ lumps + composites) }
+    ensures empty { IfOk result (λ p.
+        (k : ℕ) → k < lumps + composites → slice_index p.homes.items k ≡ NO_HOME) }
 {
-    let region = vec![in alloc; 0u8; size as usize]?;
+    let mut region = vec![in alloc; 0u8; size as usize]?;
+    edits::lay_free(&mut region, size);
     let slots = lumps as usize + composites as usize;
-    let homes = vec![in alloc; 0u32; slots]?;
-    let mut records = Vec::with_capacity(alloc, 2 * slots + 1)?;
-    records.push_reserved(Record {
-        place: 0,
-        size,
-        used: None,
-    });
-    Ok(Parts {
-        region,
-        records,
-        homes,
-    })
+    let homes = vec![in alloc; NO_HOME; slots]?;
+    Ok(Parts { region, homes })
 }

@@ -60,7 +60,7 @@ empty_place w p z s pos e found = go (cases_lt z.size w) where
   go (inl small) =
       let t = total-cons (free_block 0 z.size) [] in
       let none = All-cons (λ g. total g < w) (free_block 0 z.size ∷ []) [] (omega (arith, t, small)) (All-nil (λ g. total g < w)) in
-      absurd (full_some w z.rover p z.size z.blocks pos s.tiles s.rover found (subst (λ bs. All (λ g. total g < w) (gaps bs)) (sym is) none))
+      absurd (full_some w z.rover p z.size z.blocks pos s.tiles found (subst (λ bs. All (λ g. total g < w) (gaps bs)) (sym is) none))
   go (inr large) =
       let k : first_room w (stretches z.rover z.blocks) ≡ Some 0 = ap (λ bs. first_room w (stretches z.rover bs)) is ∙ ap (λ r. first_room w (stretches r (free_block 0 z.size ∷ []))) rover_is ∙ rest_found w 0 z.size size large [] tt tt in
       let x : Some p ≡ Some 0 = sym found ∙ k in

@@ -1,16 +1,12 @@
 pub mod GapLemmas
 pub mod PurgeLemmas
-pub mod SearchLemmas
 pub mod JoinLemmas
-pub mod RunLemmas
 pub mod TakeLemmas
 pub mod ZoneLemmas
 pub mod SoundLemmas
 pub mod OwnerLemmas
 pub mod ChangeLemmas
-pub mod FullLemmas
 pub mod FigureLemmas
-pub mod LoanLemmas
 pub mod OrderSumLemmas
 pub mod OrderRequestLemmas
 pub mod OrderLemmas

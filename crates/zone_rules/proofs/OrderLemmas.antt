@@ -71,7 +71,7 @@ module _ (items : List Item) (z : Heap) (s : IsSound z) (ord : IsInOrder items z
   found = let k = room in ap (λ bs. first_room w (stretches z.rover bs)) r.is ∙ rest_found w z.rover r.rest (omega arith) (omega arith) r.front r.exact below
 
   pub order_has_room : All (λ g. total g < w) (gaps z.blocks) → ⊥
-  order_has_room a = full_some w z.rover z.rover z.size z.blocks (omega arith) s.tiles s.rover found a
+  order_has_room a = full_some w z.rover z.rover z.size z.blocks (omega arith) s.tiles found a
 
   searched : after_search w z ≡ r.front ++ (free_block z.rover r.rest ∷ [])
   searched = let k = room in ap (λ bs. after_search w (record z { blocks = bs })) r.is ∙ rest_searched w z.rover r.rest (omega arith) (omega arith) r.front r.exact below

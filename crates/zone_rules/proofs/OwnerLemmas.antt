@@ -1,11 +1,11 @@
 -- What an owner holds, through each change of a zone.
-use Rattle.std.proofs.Common.{◌≡◌, ℕ, ◌+◌, ◌-◌, ◌≤◌, Bool, true, false, cond, ◌&&◌, List, [], ◌∷◌, ◌++◌, map, Option, Some, None, refl, sym, subst, ap, ◌∙◌, arith, option_map}
-use Rattle.std.specs.Prelude.{is_none, nat_lt, ◌==◌}
+use Rattle.std.proofs.Common.{◌≡◌, ℕ, ◌+◌, ◌-◌, ◌≤◌, Bool, true, false, cond, ◌&&◌, List, [], ◌∷◌, ◌++◌, map, Option, Some, None, refl, sym, subst, ap, ◌∙◌, arith, option_map, inl, inr}
+use Rattle.std.specs.Prelude.{is_none, nat_lt, ◌==◌, ◌⊎◌}
 use Rattle.std.proofs.lemmas.Bool.{cond-true, cond-false, false≢true, and_parts, and_left, and_from, eq-eqb, eqb-true, ltb-false}
 use Rattle.zone_rules.specs.declared.Tag.{Tag}
 use Rattle.zone_rules.specs.Zones.{Block, Holding, Owner, Heap, IsSound, Tiles, Unique, Lacks, OwnsOnce, is_free, is_held_by, holds_for, same_owner, owned_block, free_block, is_purgeable}
 use Rattle.zone_rules.specs.Requests.{join_free, join_on, purge_among, is_among, cut_block, block_left, passed_blocks, stretches, after_search, with_block, take_at}
-use Rattle.zone_rules.specs.Walks.{RoomAt}
+use Rattle.zone_rules.specs.Rooms.{RoomAt}
 use Rattle.zone_rules.specs.Frees.{free_owner, retag_block, set_tag, write_block, write_holding}
 use Rattle.zone_rules.proofs.ZoneLemmas.{Lacks-freed, purge_frees}
 use Rattle.zone_rules.proofs.TakeLemmas.{take_at_is}
@@ -176,3 +176,40 @@ module _ (o p : Owner) where
 
   pub owned_written_others : (w : List ℕ) → same_owner p o ≡ false → (bs : List Block) → owned_block o (map (write_block p w) bs) ≡ owned_block o bs
   owned_written_others w apart bs = owned_same o p apart (write_block p w) (write_held w) (λ b e. cond-false _ _ _ e) bs
+
+-- a block of the list lies behind its first place
+low_place : (o : Owner) (p q : ℕ) (bs : List Block) (b : Block) → Tiles p q bs → owned_block o bs ≡ Some b → p ≤ b.place
+low_place o p q [] b t e = cc
+low_place o p q (c ∷ bs) b t e = go (is_held_by o c) e (λ k. low_place o (p + c.size) q bs b t.2 k) where
+  go : (u : Bool) → cond u (Some c) (owned_block o bs) ≡ Some b → (owned_block o bs ≡ Some b → p + c.size ≤ b.place) → p ≤ b.place
+  go true k rest = let x : c ≡ b = cc in let y = ap (λ (d : Block). d.place) x in let z = t.0 in omega arith
+  go false k rest = let y = rest k in omega arith
+
+-- the blocks of two owners do not meet
+beside_owner : (o q : Owner) (h : Option Holding) → same_owner o q ≡ false → holds_for o h ≡ true → holds_for q h ≡ false
+beside_owner o q None apart e = refl
+beside_owner o q (Some h) apart e = go (same_owner h.owner q) refl where
+  go : (t : Bool) → same_owner h.owner q ≡ t → t ≡ false
+  go true k = absurd (false≢true (sym apart ∙ ap (λ p. same_owner p q) (sym (owner_eq h.owner o e)) ∙ k))
+  go false k = refl
+
+pub owned_apart : (o q : Owner) (p end' : ℕ) (bs : List Block) (b c : Block) → same_owner o q ≡ false → Tiles p end' bs → owned_block o bs ≡ Some b → owned_block q bs ≡ Some c → (b.place + b.size ≤ c.place) ⊎ (c.place + c.size ≤ b.place)
+owned_apart o q p end' [] b c s t e f = cc
+owned_apart o q p end' (a ∷ bs) b c s t e f = go (is_held_by o a) (is_held_by q a) refl refl e f (λ x y. owned_apart o q (p + a.size) end' bs b c s t.2 x y) where
+  go : (u v : Bool) → is_held_by o a ≡ u → is_held_by q a ≡ v → cond u (Some a) (owned_block o bs) ≡ Some b → cond v (Some a) (owned_block q bs) ≡ Some c → (owned_block o bs ≡ Some b → owned_block q bs ≡ Some c → (b.place + b.size ≤ c.place) ⊎ (c.place + c.size ≤ b.place)) → (b.place + b.size ≤ c.place) ⊎ (c.place + c.size ≤ b.place)
+  go true true h k e f rest = absurd (false≢true (sym (beside_owner o q a.holding s h) ∙ k))
+  go true false h k e f rest =
+      let x : a ≡ b = cc in
+      let pl = ap (λ (d : Block). d.place) x in
+      let sz = ap (λ (d : Block). d.size) x in
+      let low = low_place q (p + a.size) end' bs c t.2 f in
+      let z = t.0 in
+      inl (omega arith)
+  go false true h k e f rest =
+      let x : a ≡ c = cc in
+      let pl = ap (λ (d : Block). d.place) x in
+      let sz = ap (λ (d : Block). d.size) x in
+      let low = low_place o (p + a.size) end' bs b t.2 e in
+      let z = t.0 in
+      inr (omega arith)
+  go false false h k e f rest = rest e f

@@ -2,16 +2,14 @@
 use Rattle.std.proofs.Common.{◌≡◌, ℕ, ◌+◌, ◌*◌, ◌<◌, ◌≤◌, Bool, true, false, cond, List, [], ◌∷◌, ◌++◌, length, Option, Some, None, refl, sym, subst, ap, ◌∙◌, arith}
 use Rattle.std.specs.Prelude.{◌==◌, IsNone, option_and_then, find, All}
 use Rattle.std.proofs.lemmas.Bool.{false≢true, cond-true, cond-false, eq-eqb, ne_eqb}
-use Rattle.zone_rules.specs.Zones.{Block, Holding, Owner, Heap, Tiles, Apart, Unique, AllFit, Lacks, IsSound, is_held_by, holds_for, has_place, holding_of, free_block, block_size, owner_at, slot_count}
-use Rattle.zone_rules.specs.Requests.{total, purge_among, passed_blocks, stretches, after_search, take_at, with_block, without_room, cut_block, gaps, widest, first_room, blocks_from, start_in, join_free}
-use Rattle.zone_rules.specs.Walks.{RoomAt, starts_at}
-use Rattle.zone_rules.proofs.GapLemmas.{wider_whole, none_found, some_found, widest-append, all_small, small_all}
+use Rattle.zone_rules.specs.Zones.{Block, Holding, Owner, Heap, Tiles, Apart, Unique, AllFit, Lacks, IsSound, is_held_by, holds_for, holding_of, free_block, block_size, owner_at, slot_count}
+use Rattle.zone_rules.specs.Requests.{total, purge_among, passed_blocks, stretches, after_search, take_at, with_block, without_room, cut_block, gaps, first_room, blocks_from, start_in, join_free}
+use Rattle.zone_rules.specs.Rooms.{RoomAt}
+use Rattle.zone_rules.proofs.GapLemmas.{wider_from, none_found, some_found, widest-append, all_small, small_all}
 use Rattle.zone_rules.proofs.PurgeLemmas.{tiles_le}
 use Rattle.zone_rules.proofs.JoinLemmas.{Tiles-join_free, Apart-join_free, Unique-join_free, AllFit-join_free, Lacks-join_free}
 use Rattle.zone_rules.proofs.ZoneLemmas.{Tiles-freed, Unique-freed, AllFit-freed, Lacks-freed, purge_frees, around_is_place, after_is_place, release_frees}
 use Rattle.zone_rules.proofs.TakeLemmas.{room_left, InRange, take_at_is, tiles_cut_block, apart_cut_block, fit_cut_block, unique_cut_block}
-use Rattle.std.specs.List.{position_or_len}
-use Rattle.zone_rules.proofs.SearchLemmas.{start_is}
 use Rattle.zone_rules.specs.Frees.{free_owner, without_block}
 
 pub few_tiles : (p q : ℕ) (bs : List Block) → Tiles p q bs → p + 24 * length bs ≤ q
@@ -98,12 +96,11 @@ full_none w r bs pos e =
     let a = widest-append (gaps (blocks_from (start_in r bs) bs)) (gaps bs) in
     all_small w (gaps bs) (omega arith)
 
-pub full_some : (w r p q : ℕ) (bs : List Block) → 0 < w → Tiles 0 q bs → has_place r bs ≡ true → first_room w (stretches r bs) ≡ Some p → All (λ g. total g < w) (gaps bs) → ⊥
-full_some w r p q bs pos t h e a =
+pub full_some : (w r p q : ℕ) (bs : List Block) → 0 < w → Tiles 0 q bs → first_room w (stretches r bs) ≡ Some p → All (λ g. total g < w) (gaps bs) → ⊥
+full_some w r p q bs pos t e a =
     let k = some_found w p (stretches r bs) e in
     let m = widest-append (gaps (blocks_from (start_in r bs) bs)) (gaps bs) in
-    let n = ap (λ xs. widest (gaps xs)) (start_is r 0 q bs t h) in
-    let o = wider_whole (position_or_len (starts_at r) bs) bs in
+    let o = wider_from (start_in r bs) 0 q bs t in
     let s = small_all w (gaps bs) pos a in
     omega arith
 

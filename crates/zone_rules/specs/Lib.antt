@@ -1,6 +1,5 @@
 pub mod Zones
 pub mod Requests
 pub mod Frees
-pub mod Walks
-pub mod Loans
+pub mod Rooms
 pub mod Orders

@@ -1,80 +1,199 @@
-use Rattle.std.proofs.Common.{arith, rules, ◌≡◌, ◌<◌, ◌≤◌, ◌+◌, ◌-◌, length, ap, sym, ◌∙◌, get_or}
-use Rattle.std.proofs.lemmas.List.{get_or_read}
-use Rattle.std.proofs.lemmas.Bool.{and_left, and_right}
-use Rattle.zone_heap.specs.Records.{no_record, block_of}
+use Rattle.std.proofs.Common.{arith, rules, ◌≡◌, ◌<◌, ◌≤◌, ◌+◌, ◌-◌, ◌++◌, ◌∷◌, [], ◌&&◌, ◌∙◌, ap, ap₂, sym, subst, refl, length, drop, true, false, ℕ, List}
+use Rattle.std.proofs.lemmas.Bool.{and_parts}
+use Rattle.std.proofs.lemmas.List.{append_assoc, length-append}
 use Rattle.zone_rules.specs.Zones.{is_free}
-use Rattle.zone_heap.proofs.RecordLemmas.{join_both, join_kept, join_first, size_free, size_fits, size_kept, front_kept}
-use Rattle.zone_heap.proofs.edits.join.Goals.{else-from-len-via-then-from-len+then-is_free+else-is_free-2, else-from-len-via-then-from-len+else-is_free, else-from-len-via-else-from-len}
+use Rattle.zone_rules.specs.Requests.{join_free}
+use Rattle.zone_heap.specs.Headers.{word_at, with_word, header_in, block_in, is_free_header}
+use Rattle.zone_heap.specs.Regions.{joined, blocks_from, IsSplit}
+use Rattle.zone_heap.proofs.WordLemmas.{written_within, length-with_word, word_same}
+use Rattle.zone_heap.proofs.PartLemmas.{Opened, opened_word, head_fits, nothing_left, split_first, split_laid, blocks_laid, blocks_split, blocks-append, opened_is, whole_rest, free_told}
+use Rattle.zone_heap.proofs.EditLemmas.{JoinedTo, join_absorb, join_passes, two_parts, length-two, told-two, block-two}
 use Rattle.zone_heap.proofs.edits.join.Goals as goal
 
-pub overflow_add-record : goal.overflow_add-record
-overflow_add-record c =
-    let inv = c.loop-i.invariant in
-    let j = c.loop-i.i - 1 in
-    let old = c.args.records.now.items in
-    let now = c.loop-i.records.items in
-    let len : length now ≡ length old = omega arith in
-    let read = get_or_read now j c.index.result.now (omega arith) c.index.ensures no_record in
-    let at = get_or_read now c.loop-i.from c.index-then-is_free-2.result.now (omega arith) c.index-then-is_free-2.ensures no_record in
-    let fits = size_fits old now c.loop-i.i j c.loop-i.from c.index.result.now (omega arith) (omega arith) inv.front inv.sizes read c.index-then-is_free-2.result.now (omega arith) at in
+pub word_at-next-requires : goal.word_at-next-requires
+word_at-next-requires c = let k = head_fits c.args.region.now 0 (split_first c.args.region.now c.requires.laid) c.requires.some in omega arith
+
+pub loop-next-init : goal.loop-next-init
+loop-next-init c = record {
+  split = split_first c.args.region.now c.requires.laid;
+  inside = c.requires.some;
+  size = let e = c.word_at-next.ensures in omega arith;
+  len = refl;
+  value = ap join_free (blocks_laid c.args.region.now c.requires.laid);
+}
+
+-- the block at the place, and the one behind it
+module _ (region : List ℕ) (at next : ℕ) (s : IsSplit region at) (inside : at < length region) (size : next ≡ at + word_at region at) where
+  abbrev first : Opened region at s (word_at region at)
+  first = opened_word region at s inside (word_at region at) refl
+
+  abbrev behind : IsSplit region next
+  behind = record { front = first.next.front; rest = first.next.rest; is = first.next.is; at_is = first.next.at_is ∙ sym size; front_whole = first.next.front_whole; rest_whole = first.next.rest_whole }
+
+  module _ (more : next < length region) where
+    abbrev second : Opened region next behind (word_at region next)
+    second = opened_word region next behind more (word_at region next) refl
+
+    blocks_are : blocks_from at s.rest ≡ block_in at first.part ∷ block_in next second.part ∷ blocks_from (next + word_at region next) second.next.rest
+    blocks_are = first.blocks ∙ ap (λ n. block_in at first.part ∷ blocks_from n first.next.rest) (sym size) ∙ ap (λ bs. block_in at first.part ∷ bs) second.blocks
+
+    bounds : (at + 24 ≤ length region) × (next + 24 ≤ length region) × (next + word_at region next ≤ length region) × (24 ≤ word_at region next) × (24 ≤ word_at region at)
+    bounds = let a = first.large in let b = first.fits in let d = second.large in let e = second.fits in (omega arith, omega arith, e, d, a)
+
+    tests : (is_free_header (header_in (drop at region)) && is_free_header (header_in (drop next region))) ≡ (is_free (block_in at first.part) && is_free (block_in next second.part))
+    tests = ap₂ ◌&&◌ (ap is_free_header first.header ∙ sym (free_told at first.part)) (ap is_free_header second.header ∙ sym (free_told next second.part))
+
+    -- the two blocks made one
+    module _ (n : ℕ) (n_is : n ≡ length first.part + length second.part) (small : length first.part + length second.part < 4294967296) where
+      abbrev both : List ℕ
+      both = two_parts first.part second.part
+
+      large : 24 ≤ length first.part
+      large = let k = first.len in let l = first.large in omega arith
+
+      after_is : with_word region at n ≡ joined s.front ++ (both ++ joined second.next.rest)
+      after_is =
+          let k = large in
+          let m = s.at_is in
+          let q = length-append first.part second.part in
+          let whole : region ≡ joined s.front ++ ((first.part ++ second.part) ++ joined second.next.rest) =
+          opened_is region at (word_at region at) s first ∙ ap (λ cs. joined s.front ++ (first.part ++ joined cs)) second.rest ∙ ap (λ xs. joined s.front ++ xs) (sym (append_assoc first.part second.part (joined second.next.rest))) in
+          ap₂ (λ xs k. with_word xs at k) whole n_is ∙ written_within (joined s.front) (first.part ++ second.part) (joined second.next.rest) 0 at (length first.part + length second.part) (omega arith) (omega arith)
+
+      abbrev joint : IsSplit (with_word region at n) at
+      joint = record {
+        front = s.front;
+        rest = both ∷ second.next.rest;
+        is = after_is;
+        at_is = s.at_is;
+        front_whole = s.front_whole;
+        rest_whole = (let l = length-two first.part second.part large in let k = large in omega arith, told-two first.part second.part large small ∙ sym (length-two first.part second.part large), (whole_rest region next (word_at region next) behind second).2);
+      }
+
+      joint_len : length (with_word region at n) ≡ length region
+      joint_len = length-with_word region at n (let b = bounds.0 in omega arith)
+
+      joint_word : word_at (with_word region at n) at ≡ n
+      joint_word = word_same region at n (let b = bounds.0 in omega arith) (let e = n_is in omega arith)
+
+      joint_value : is_free (block_in at first.part) ≡ true → is_free (block_in next second.part) ≡ true → join_free (blocks_from at s.rest) ≡ join_free (blocks_from at joint.rest)
+      joint_value f g =
+          let l = length-two first.part second.part large in
+          let a = first.len in
+          let b = second.len in
+          let e = size in
+          ap join_free blocks_are ∙ join_absorb (block_in at first.part) (block_in next second.part) (blocks_from (next + word_at region next) second.next.rest) f g
+          ∙ ap₂ (λ x p. join_free (x ∷ blocks_from p second.next.rest)) (sym (block-two first.part second.part large at f)) (let k : next + word_at region next ≡ at + length both = omega arith in k)
+
+    passed_value : (is_free (block_in at first.part) && is_free (block_in next second.part)) ≡ false → blocks_from 0 s.front ++ join_free (blocks_from at s.rest) ≡ blocks_from 0 behind.front ++ join_free (blocks_from next behind.rest)
+    passed_value f =
+        let k = s.at_is in
+        let rest = blocks_from (next + word_at region next) second.next.rest in
+        let one = ap join_free blocks_are ∙ join_passes (block_in at first.part) (block_in next second.part) rest f ∙ ap (λ bs. block_in at first.part ∷ join_free bs) (sym second.blocks) in
+        let front = ap (blocks_from 0) first.front ∙ blocks-append 0 s.front (first.part ∷ []) ∙ ap (λ p. blocks_from 0 s.front ++ (block_in p first.part ∷ [])) (let e : 0 + length (joined s.front) ≡ at = omega arith in e) in
+        ap (λ bs. blocks_from 0 s.front ++ bs) one ∙ sym (append_assoc (blocks_from 0 s.front) (block_in at first.part ∷ []) (join_free (blocks_from next behind.rest))) ∙ ap (λ bs. bs ++ join_free (blocks_from next behind.rest)) (sym front)
+
+  last_value : length region ≤ next → join_free (blocks_from at s.rest) ≡ blocks_from at s.rest
+  last_value le =
+      let none = nothing_left region next behind le in
+      let e = first.blocks ∙ ap (λ cs. block_in at first.part ∷ blocks_from (at + word_at region at) cs) none in
+      ap join_free e ∙ sym e
+
+pub word_at-requires : goal.word_at-requires
+word_at-requires c = let i = c.loop-next.invariant in let b = bounds c.loop-next.region c.loop-next.at c.loop-next.next i.split i.inside i.size c.loop-next-test.true in let k = b.1 in omega arith
+
+pub are_free-requires-clause-first : goal.are_free-requires-clause-first
+are_free-requires-clause-first c = let i = c.loop-next.invariant in (bounds c.loop-next.region c.loop-next.at c.loop-next.next i.split i.inside i.size c.loop-next-test.true).0
+
+pub are_free-requires-clause-second : goal.are_free-requires-clause-second
+are_free-requires-clause-second c = let i = c.loop-next.invariant in (bounds c.loop-next.region c.loop-next.at c.loop-next.next i.split i.inside i.size c.loop-next-test.true).1
+
+-- the size of the joined block
+grown : (region : List ℕ) (at next : ℕ) (s : IsSplit region at) (inside : at < length region) (size : next ≡ at + word_at region at) (more : next < length region) (n : ℕ) → n ≡ word_at region next → next + n - at ≡ length (first region at next s inside size).part + length (second region at next s inside size more).part
+grown region at next s inside size more n e =
+    let a = (first region at next s inside size).len in
+    let b = (second region at next s inside size more).len in
+    omega arith
+
+pub overflow_cast-after-then-are_free : goal.overflow_cast-after-then-are_free
+overflow_cast-after-then-are_free c =
+    let i = c.loop-next.invariant in
+    let b = bounds c.loop-next.region c.loop-next.at c.loop-next.next i.split i.inside i.size c.loop-next-test.true in
+    let f = b.2 in
+    let e = c.word_at.ensures in
+    let l = i.len in
+    let h : c.loop-next.next + c.word_at.result - c.loop-next.at < 4294967296 = omega arith in
     search rules
 
-pub loop-i-preserved-then-is_free-2 : goal.loop-i-preserved-then-is_free-2
-loop-i-preserved-then-is_free-2 c =
-    let inv = c.loop-i.invariant in
-    let j = c.loop-i.i - 1 in
-    let i = c.loop-i.i in
-    let from = c.loop-i.from in
-    let r = c.index.result.now in
-    let d = c.index-then-is_free-2.result.now in
-    let old = c.args.records.now.items in
-    let now = c.loop-i.records.items in
-    let e : i ≡ j + 1 = omega arith in
-    let l : i ≤ length old = omega arith in
-    let f : from < length now = omega arith in
-    let read = get_or_read now j r (omega arith) c.index.ensures no_record in
-    let at = get_or_read now from d f c.index-then-is_free-2.ensures no_record in
-    let first = get_or_read now from c.index-then-is_free.result.now f c.index-then-is_free.ensures no_record in
+pub set_word-requires : goal.set_word-requires
+set_word-requires c = let i = c.loop-next.invariant in let b = bounds c.loop-next.region c.loop-next.at c.loop-next.next i.split i.inside i.size c.loop-next-test.true in let k = b.0 in omega arith
+
+pub loop-next-smaller-then-are_free : goal.loop-next-smaller-then-are_free
+loop-next-smaller-then-are_free c =
+    let i = c.loop-next.invariant in
+    let b = bounds c.loop-next.region c.loop-next.at c.loop-next.next i.split i.inside i.size c.loop-next-test.true in
+    let k = b.0 in
+    let f = b.3 in
+    let e = c.word_at.ensures in
+    let l = ap length c.set_word.ensures ∙ length-with_word c.loop-next.region c.loop-next.at (c.loop-next.next + c.word_at.result - c.loop-next.at) (omega arith) in
+    omega arith
+
+pub loop-next-smaller : goal.loop-next-smaller
+loop-next-smaller c =
+    let i = c.loop-next.invariant in
+    let b = bounds c.loop-next.region c.loop-next.at c.loop-next.next i.split i.inside i.size c.loop-next-test.true in
+    let f = b.3 in
+    let e = c.word_at.ensures in
+    omega arith
+
+pub loop-next-preserved-then-are_free : goal.loop-next-preserved-then-are_free
+loop-next-preserved-then-are_free c =
+    let i = c.loop-next.invariant in
+    let region = c.loop-next.region in
+    let at = c.loop-next.at in
+    let next = c.loop-next.next in
+    let t = c.loop-next-test.true in
+    let n = next + c.word_at.result - at in
+    let b = bounds region at next i.split i.inside i.size t in
+    let b0 = b.2 in
+    let e = c.word_at.ensures in
+    let len = i.len in
+    let is = grown region at next i.split i.inside i.size t c.word_at.result e in
+    let small : length (first region at next i.split i.inside i.size).part + length (second region at next i.split i.inside i.size t).part < 4294967296 = omega arith in
+    let free = and_parts _ _ (sym (tests region at next i.split i.inside i.size t) ∙ sym c.are_free.ensures ∙ c.if-are_free.true) in
+    let l = joint_len region at next i.split i.inside i.size t n is small in
+    let w = joint_word region at next i.split i.inside i.size t n is small in
+    let s0 = i.size in
+    subst (λ xs. JoinedTo c.args.region.now xs at (next + c.word_at.result)) (sym c.set_word.ensures) (record {
+      split = joint region at next i.split i.inside i.size t n is small;
+      inside = let k = i.inside in omega arith;
+      size = omega arith;
+      len = l ∙ len;
+      value = i.value ∙ ap (λ bs. blocks_from 0 i.split.front ++ bs) (joint_value region at next i.split i.inside i.size t n is small free.0 free.1);
+    })
+
+pub loop-next-preserved : goal.loop-next-preserved
+loop-next-preserved c =
+    let i = c.loop-next.invariant in
+    let region = c.loop-next.region in
+    let at = c.loop-next.at in
+    let next = c.loop-next.next in
+    let t = c.loop-next-test.true in
     record {
-      len = inv.len;
-      capacity = inv.capacity;
-      upto = omega arith;
-      within = omega arith;
-      front = front_kept old now i j from _ e (omega arith) inv.front;
-      back = λ region. join_both region old now i j from r e l inv.front (inv.back region) read d f at (sym (c.is_free.ensures region) ∙ c.if-is_free.true) (ap (λ x. is_free (block_of region x)) (at ∙ sym first) ∙ sym (c.is_free-then-is_free.ensures region) ∙ c.if-is_free-2.true);
-      sizes = size_free old now i j from r e l inv.front inv.sizes read d f at;
+      split = behind region at next i.split i.inside i.size;
+      inside = t;
+      size = ap (λ k. next + k) c.word_at.ensures;
+      len = i.len;
+      value = i.value ∙ passed_value region at next i.split i.inside i.size t (sym (tests region at next i.split i.inside i.size t) ∙ sym c.are_free.ensures ∙ c.if-are_free.false);
     }
 
-pub loop-i-preserved : goal.loop-i-preserved
-loop-i-preserved c =
-    let inv = c.loop-i.invariant in
-    let j = c.loop-i.i - 1 in
-    let i = c.loop-i.i in
-    let from = c.loop-i.from in
-    let k = from - 1 in
-    let r = c.index.result.now in
-    let old = c.args.records.now.items in
-    let now = c.loop-i.records.items in
-    let e : i ≡ j + 1 = omega arith in
-    let g : from ≡ k + 1 = omega arith in
-    let l : i ≤ length old = omega arith in
-    let read = get_or_read now j r (omega arith) c.index.ensures no_record in
+pub returns : goal.returns
+returns c =
+    let i = c.loop-next.invariant in
+    let region = c.loop-next.region in
+    let last = last_value region c.loop-next.at c.loop-next.next i.split i.inside i.size (omega arith) in
     record {
-      len = inv.len;
-      capacity = inv.capacity;
-      upto = omega arith;
-      within = omega arith;
-      front = front_kept old now i j k r e (omega arith) inv.front;
-      back = λ region. elim c.else-from-len.branch [
-        | else-from-len-via-then-from-len+then-is_free+else-is_free-2 w ↦
-            let f : from < length now = omega arith in
-            let at = get_or_read now from w.index-then-is_free.result.now f w.index-then-is_free.ensures no_record in
-            join_kept region old now i j from r e l inv.front (inv.back region) read k w.index-then-is_free.result.now g f at (and_right _ _ (sym (w.is_free-then-is_free.ensures region) ∙ w.if-is_free-2.false))
-        | else-from-len-via-then-from-len+else-is_free w ↦
-            let f : from < length now = omega arith in
-            join_kept region old now i j from r e l inv.front (inv.back region) read k (get_or now from no_record) g f (λ _. get_or now from no_record) (and_left _ _ (sym (w.is_free.ensures region) ∙ w.if-is_free.false))
-        | else-from-len-via-else-from-len w ↦
-            join_first region old now i j from r e l inv.front (inv.back region) read k g (omega arith)
-      ];
-      sizes = size_kept old now i j from r e l inv.front inv.sizes read k g (omega arith);
+      laid = split_laid region c.loop-next.at i.split;
+      blocks = blocks_split region c.loop-next.at i.split ∙ ap (λ bs. blocks_from 0 i.split.front ++ bs) (sym last) ∙ sym i.value;
+      len = i.len;
     }

@@ -1,9 +1,41 @@
-use Rattle.std.proofs.Common.{sym, ◌∙◌}
-use Rattle.zone_heap.proofs.RecordLemmas.{place_stops, place_goes}
+use Rattle.std.proofs.Common.{arith, ◌≤◌, ap, sym, ◌∙◌, refl}
+use Rattle.std.proofs.lemmas.Bool.{cond-true, cond-false, le-leb, lt-leb}
+use Rattle.zone_heap.specs.Regions.{blocks_from}
+use Rattle.zone_rules.specs.Requests.{place_around}
+use Rattle.zone_heap.proofs.PartLemmas.{opened_word, head_fits, nothing_left, split_first, blocks_laid}
 use Rattle.zone_heap.proofs.edits.place_in.Goals as goal
 
-pub returns-then-place-record : goal.returns-then-place-record
-returns-then-place-record c = λ region. sym (c.loop-record.invariant region ∙ place_stops _ _ _ region _ c.loop-record-test.true c.if-place-record.true)
+pub loop-at-init : goal.loop-at-init
+loop-at-init c = record { split = split_first c.args.region.now c.requires.laid; low = omega arith; value = ap (place_around c.args.place 0) (blocks_laid c.args.region.now c.requires.laid) }
 
-pub loop-record-preserved : goal.loop-record-preserved
-loop-record-preserved c = λ region. c.loop-record.invariant region ∙ place_goes _ _ _ region _ c.loop-record-test.true c.if-place-record.false
+pub word_at-requires : goal.word_at-requires
+word_at-requires c = let k = head_fits c.args.region.now c.loop-at.at c.loop-at.invariant.split c.loop-at-test.true in omega arith
+
+pub loop-at-smaller : goal.loop-at-smaller
+loop-at-smaller c =
+    let o = opened_word c.args.region.now c.loop-at.at c.loop-at.invariant.split c.loop-at-test.true c.word_at.result c.word_at.ensures in
+    let l = o.large in
+    let f = o.fits in
+    omega arith
+
+pub loop-at-preserved : goal.loop-at-preserved
+loop-at-preserved c =
+    let at = c.loop-at.at in
+    let o = opened_word c.args.region.now at c.loop-at.invariant.split c.loop-at-test.true c.word_at.result c.word_at.ensures in
+    let below : at ≤ c.args.place = omega arith in
+    record { split = o.next; low = omega arith; value = c.loop-at.invariant.value ∙ ap (place_around c.args.place c.loop-at.around) o.blocks ∙ cond-true _ _ _ (le-leb _ _ below) }
+
+pub returns-then-place-at : goal.returns-then-place-at
+returns-then-place-at c =
+    let at = c.loop-at.at in
+    let o = opened_word c.args.region.now at c.loop-at.invariant.split c.loop-at-test.true _ refl in
+    record {
+      value = sym (c.loop-at.invariant.value ∙ ap (place_around c.args.place c.loop-at.around) o.blocks ∙ cond-false _ _ _ (lt-leb _ _ c.if-place-at.true));
+      bound = c.loop-at.invariant.low;
+    }
+
+pub returns : goal.returns
+returns c = record {
+  value = sym (c.loop-at.invariant.value ∙ ap (λ cs. place_around c.args.place c.loop-at.around (blocks_from c.loop-at.at cs)) (nothing_left c.args.region.now c.loop-at.at c.loop-at.invariant.split (omega arith)));
+  bound = c.loop-at.invariant.low;
+}

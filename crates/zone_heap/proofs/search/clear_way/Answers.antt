@@ -1,68 +1,137 @@
-use Rattle.std.proofs.Common.{arith, ◌≡◌, ◌+◌, ap, ap₂, sym, ◌∙◌, take, drop, subst, refl, map, ◌++◌, count_by}
-use Rattle.std.proofs.lemmas.List.{take_rest}
-use Rattle.std.proofs.lemmas.List.Sums.{sum_by-take-drop}
-use Rattle.zone_heap.specs.declared.records.Record.{Record}
-use Rattle.zone_heap.specs.Records.{blocks_of, size_of_all}
-use Rattle.zone_rules.specs.Walks.{fit_from, RoomAt}
-use Rattle.zone_heap.proofs.RecordLemmas.{blocks_after, count_after, blocks_rest, blocks_end, count_end, with_after}
-use Rattle.zone_rules.proofs.SearchLemmas.{fit_first, fit_second, fit_never}
+use Rattle.std.proofs.Common.{arith, ◌≡◌, ◌+◌, ◌++◌, ◌≤◌, [], ap, ap₂, sym, ◌∙◌, take, drop, subst, map, count_by, length, List, ℕ, Option}
+use Rattle.std.proofs.lemmas.List.{take_at, drop_at, take_all, drop_all, append-nil, length-append}
+use Rattle.zone_rules.specs.Zones.{Block, Tiles, is_purgeable}
 use Rattle.zone_rules.specs.Requests.{purge_block, join_free}
-use Rattle.zone_rules.proofs.RunLemmas.{room_first, room_second}
-use Rattle.zone_rules.specs.Zones.{is_purgeable}
+use Rattle.zone_heap.specs.Walks.{fit_from, SearchIs}
+use Rattle.zone_rules.specs.Rooms.{RoomAt}
+use Rattle.zone_heap.proofs.SearchLemmas.{fit_first, fit_second, fit_never}
+use Rattle.zone_heap.proofs.RunLemmas.{room_first, room_second}
+use Rattle.zone_rules.proofs.SoundLemmas.{few_tiles}
+use Rattle.zone_heap.specs.Regions.{blocks_in, blocks_from, IsLaid, IsSplit}
+use Rattle.zone_heap.proofs.PartLemmas.{split_first, blocks_laid, blocks_split, length-blocks, tiles_laid}
 use Rattle.zone_heap.proofs.search.clear_way.Goals as goal
 
-pub first_fit-requires : goal.first_fit-requires
-first_fit-requires c =
-    let s = c.start_index-start.result in
-    let e = ap size_of_all (take_rest c.args.records.now s) in
-    let f = sum_by-take-drop (λ (r : Record). r.size) c.args.records.now s in
-    omega arith
+with_after : (w rover : ℕ) (bs : List Block) (place : Option ℕ) (new new' : List Block) (n n' : ℕ) → SearchIs w rover bs place new n → new' ≡ new → n' ≡ n → SearchIs w rover bs place new' n'
+with_after w rover bs place new new' n n' s e f = record { place_is = s.place_is; after_is = s.after_is ∙ sym e; count_is = s.count_is ∙ sym f }
+
+pub tiles_region : (region : List ℕ) → IsLaid region → Tiles 0 (length region) (blocks_in region)
+tiles_region region l =
+    subst (Tiles 0 (length region)) (sym (blocks_laid region l)) (subst (λ n. Tiles 0 n (blocks_from 0 l.parts)) (let e = ap length l.is in omega arith) (tiles_laid 0 l.parts l.whole))
+
+module _ (region : List ℕ) (laid : IsLaid region) (start : ℕ) (s : IsSplit region start) where
+  abbrev bs : List Block
+  bs = blocks_in region
+
+  abbrev front : List Block
+  front = blocks_from 0 s.front
+
+  abbrev rest : List Block
+  rest = blocks_from start s.rest
+
+  parted : bs ≡ front ++ rest
+  parted = blocks_split region start s
+
+  front_is : take (length s.front) bs ≡ front
+  front_is = ap (take (length s.front)) parted ∙ take_at front rest (length s.front) (length-blocks 0 s.front)
+
+  rest_is : drop (length s.front) bs ≡ rest
+  rest_is = ap (drop (length s.front)) parted ∙ drop_at front rest (length s.front) (length-blocks 0 s.front)
+
+  few : length bs ≤ length region
+  few = let k = few_tiles 0 (length region) bs (tiles_region region laid) in omega arith
+
+  few_rest : length rest ≤ length region
+  few_rest = let k = few in let l = ap length parted ∙ length-append front rest in omega arith
+
+  -- the rest purged whole
+  cleared : (new : List Block) → new ≡ front ++ (map purge_block (take (length region) rest) ++ drop (length region) rest) → new ≡ take (length s.front) bs ++ map purge_block (drop (length s.front) bs)
+  cleared new e =
+      e ∙ ap₂ (λ xs ys. front ++ (map purge_block xs ++ ys)) (take_all (length region) rest few_rest) (drop_all (length region) rest few_rest) ∙ ap (λ xs. front ++ xs) (append-nil (map purge_block rest))
+      ∙ ap₂ (λ xs ys. xs ++ map purge_block ys) (sym front_is) (sym rest_is)
+
+  counted : count_by is_purgeable (take (length region) rest) ≡ count_by is_purgeable (drop (length s.front) bs)
+  counted = ap (count_by is_purgeable) (take_all (length region) rest few_rest ∙ sym rest_is)
+
+  parts_again : (new : List Block) (e : ℕ) → new ≡ front ++ (map purge_block (take e rest) ++ drop e rest) → new ≡ take (length s.front) bs ++ (map purge_block (take e (drop (length s.front) bs)) ++ drop e (drop (length s.front) bs))
+  parts_again new e k = k ∙ ap₂ (λ xs ys. xs ++ (map purge_block (take e ys) ++ drop e ys)) (sym front_is) (sym rest_is)
+
+-- a purge from the region's start
+from_first : (region : List ℕ) (laid : IsLaid region) (new : List Block) (e : ℕ) → new ≡ [] ++ (map purge_block (take e (blocks_from 0 laid.parts)) ++ drop e (blocks_from 0 laid.parts)) → new ≡ map purge_block (take e (blocks_in region)) ++ drop e (blocks_in region)
+from_first region laid new e k = k ∙ ap (λ bs. map purge_block (take e bs) ++ drop e bs) (sym (blocks_laid region laid))
+
+pub first_fit-requires-2-clause-split : goal.first_fit-requires-2-clause-split
+first_fit-requires-2-clause-split c = split_first c.args.region.now c.requires.laid
+
+pub purge-earlier-requires-clause-split : goal.purge-earlier-requires-clause-split
+purge-earlier-requires-clause-split c = split_first c.purge-later.new.region c.purge-later.ensures.laid
+
+pub purge-purges-requires-2-clause-split : goal.purge-purges-requires-2-clause-split
+purge-purges-requires-2-clause-split c = split_first c.args.region.now c.requires.laid
 
 pub returns-in-Some-clause-search : goal.returns-in-Some-clause-search
-returns-in-Some-clause-search c = λ region.
-    let rs = c.args.records.now in
-    let s = c.start_index-start.result in
+returns-in-Some-clause-search c =
+    let region = c.args.region.now in
+    let start = c.start_place-start.result in
+    let s = c.start_place-start.ensures.split.0 in
+    let at = c.start_place-start.ensures.split.1 in
     let e = c.in-Some.fit.end in
-    let here = c.in-Some.ensures.value region ∙ ap (fit_from c.args.wanted 0 0 0) (blocks_rest region rs s) in
-    let r = fit_first c.args.wanted c.args.rover 0 (size_of_all rs) (blocks_of region rs) c.requires.positive (c.requires.tiled.tiles region) (c.requires.tiled.rover_is region) s (c.start_index-start.ensures.value region) c.in-Some.fit.place e here in
-    with_after _ _ _ _ _ _ _ _ r (ap (blocks_of region) c.purge_range-purges.ensures.records ∙ blocks_after region rs s e (s + e) refl) (c.purge_range-purges.ensures.count ∙ count_after region rs s e (s + e) refl)
-
-pub returns-in-Some-first_fit-clause-search : goal.returns-in-Some-first_fit-clause-search
-returns-in-Some-first_fit-clause-search c = λ region.
-    let rs = c.args.records.now in
-    let s = c.start_index-start.result in
-    let e = c.in-Some-first_fit.fit.end in
-    let first = c.in_default.ensures.value region ∙ ap (fit_from c.args.wanted 0 0 0) (blocks_rest region rs s) in
-    let r = fit_second c.args.wanted c.args.rover 0 (size_of_all rs) (blocks_of region rs) c.requires.positive (c.requires.tiled.tiles region) (c.requires.tiled.rover_is region) s (c.start_index-start.ensures.value region) c.in-Some-first_fit.fit.place e first (c.in-Some-first_fit.ensures.value region) in
-    let later = c.purge_range-later.new.records in
-    let cleared : blocks_of region later ≡ take s (blocks_of region rs) ++ map purge_block (drop s (blocks_of region rs)) = ap (blocks_of region) c.purge_range-later.ensures.records ∙ blocks_end region rs s c.start_index-start.ensures.bound in
-    with_after _ _ _ _ _ _ _ _ r
-    (ap (blocks_of region) c.purge_range-earlier.ensures.records ∙ blocks_after region later 0 e e (omega arith) ∙ ap (λ bs. map purge_block (take e bs) ++ drop e bs) cleared)
-    (ap₂ ◌+◌ (c.purge_range-later.ensures.count ∙ count_end region rs s c.start_index-start.ensures.bound) (c.purge_range-earlier.ensures.count ∙ count_after region later 0 e e (omega arith) ∙ ap (λ bs. count_by is_purgeable (take e bs)) cleared))
-
-pub returns-clause-search : goal.returns-clause-search
-returns-clause-search c = λ region.
-    let rs = c.args.records.now in
-    let s = c.start_index-start.result in
-    let first = c.in_default.ensures.value region ∙ ap (fit_from c.args.wanted 0 0 0) (blocks_rest region rs s) in
-    let r = fit_never c.args.wanted c.args.rover 0 (size_of_all rs) (blocks_of region rs) c.requires.positive (c.requires.tiled.tiles region) (c.requires.tiled.rover_is region) s (c.start_index-start.ensures.value region) first (c.in_default-first_fit.ensures.value region) in
-    with_after _ _ _ _ _ _ _ _ r (ap (blocks_of region) c.purge_range-purges-2.ensures.records ∙ blocks_end region rs 0 (omega arith)) (c.purge_range-purges-2.ensures.count ∙ count_end region rs 0 (omega arith))
+    let here = c.in-Some.ensures.value s ∙ ap (fit_from c.args.wanted 0 0 0) (sym (rest_is region c.requires.laid start s)) in
+    let r = fit_first c.args.wanted c.args.rover 0 (length region) (blocks_in region) c.requires.positive (tiles_region region c.requires.laid) c.requires.rover (length s.front) at c.in-Some.fit.place e here in
+    with_after _ _ _ _ _ _ _ _ r (parts_again region c.requires.laid start s _ e (c.purge-purges.ensures.blocks s)) (c.purge-purges.ensures.count s ∙ ap (λ bs. count_by is_purgeable (take e bs)) (sym (rest_is region c.requires.laid start s)))
 
 pub returns-in-Some-clause-room : goal.returns-in-Some-clause-room
-returns-in-Some-clause-room c = λ region.
-    let rs = c.args.records.now in
-    let s = c.start_index-start.result in
+returns-in-Some-clause-room c =
+    let region = c.args.region.now in
+    let start = c.start_place-start.result in
+    let s = c.start_place-start.ensures.split.0 in
+    let at = c.start_place-start.ensures.split.1 in
     let e = c.in-Some.fit.end in
-    let here = c.in-Some.ensures.value region ∙ ap (fit_from c.args.wanted 0 0 0) (blocks_rest region rs s) in
-    let r = room_first c.args.wanted c.args.rover 0 (size_of_all rs) (blocks_of region rs) c.requires.positive (c.requires.tiled.tiles region) (c.requires.tiled.apart region) (c.requires.tiled.rover_is region) s (c.start_index-start.ensures.value region) c.in-Some.fit.place e here in
-    subst (λ bs. RoomAt c.in-Some.fit.place c.args.wanted (join_free bs)) (sym (ap (blocks_of region) c.purge_range-purges.ensures.records ∙ blocks_after region rs s e (s + e) refl)) r
+    let here = c.in-Some.ensures.value s ∙ ap (fit_from c.args.wanted 0 0 0) (sym (rest_is region c.requires.laid start s)) in
+    let r = room_first c.args.wanted c.args.rover 0 (length region) (blocks_in region) c.requires.positive (tiles_region region c.requires.laid) c.requires.apart c.requires.rover (length s.front) at c.in-Some.fit.place e here in
+    subst (λ bs. RoomAt c.in-Some.fit.place c.args.wanted (join_free bs)) (sym (parts_again region c.requires.laid start s _ e (c.purge-purges.ensures.blocks s))) r
+
+pub returns-in-Some-first_fit-clause-search : goal.returns-in-Some-first_fit-clause-search
+returns-in-Some-first_fit-clause-search c =
+    let region = c.args.region.now in
+    let laid = c.requires.laid in
+    let start = c.start_place-start.result in
+    let s = c.start_place-start.ensures.split.0 in
+    let at = c.start_place-start.ensures.split.1 in
+    let e = c.in-Some-first_fit.fit.end in
+    let first = c.in_default.ensures.value s ∙ ap (fit_from c.args.wanted 0 0 0) (sym (rest_is region laid start s)) in
+    let again = c.in-Some-first_fit.ensures.value (split_first region laid) ∙ ap (fit_from c.args.wanted 0 0 0) (sym (blocks_laid region laid)) in
+    let r = fit_second c.args.wanted c.args.rover 0 (length region) (blocks_in region) c.requires.positive (tiles_region region laid) c.requires.rover (length s.front) at c.in-Some-first_fit.fit.place e first again in
+    let later = c.purge-later.new.region in
+    let laid2 = c.purge-later.ensures.laid in
+    let clear = cleared region laid start s (blocks_in later) (c.purge-later.ensures.blocks s) in
+    with_after _ _ _ _ _ _ _ _ r
+    (from_first later laid2 _ e (c.purge-earlier.ensures.blocks (split_first later laid2)) ∙ ap (λ bs. map purge_block (take e bs) ++ drop e bs) clear)
+    (ap₂ ◌+◌ (c.purge-later.ensures.count s ∙ counted region laid start s) (c.purge-earlier.ensures.count (split_first later laid2) ∙ ap (λ bs. count_by is_purgeable (take e bs)) (sym (blocks_laid later laid2) ∙ clear)))
 
 pub returns-in-Some-first_fit-clause-room : goal.returns-in-Some-first_fit-clause-room
-returns-in-Some-first_fit-clause-room c = λ region.
-    let rs = c.args.records.now in
-    let s = c.start_index-start.result in
+returns-in-Some-first_fit-clause-room c =
+    let region = c.args.region.now in
+    let laid = c.requires.laid in
+    let start = c.start_place-start.result in
+    let s = c.start_place-start.ensures.split.0 in
+    let at = c.start_place-start.ensures.split.1 in
     let e = c.in-Some-first_fit.fit.end in
-    let r = room_second c.args.wanted c.args.rover 0 (size_of_all rs) (blocks_of region rs) c.requires.positive (c.requires.tiled.tiles region) (c.requires.tiled.apart region) (c.requires.tiled.rover_is region) s (c.start_index-start.ensures.value region) c.in-Some-first_fit.fit.place e (c.in-Some-first_fit.ensures.value region) in
-    let later = c.purge_range-later.new.records in
-    let cleared : blocks_of region later ≡ take s (blocks_of region rs) ++ map purge_block (drop s (blocks_of region rs)) = ap (blocks_of region) c.purge_range-later.ensures.records ∙ blocks_end region rs s c.start_index-start.ensures.bound in
-    subst (λ bs. RoomAt c.in-Some-first_fit.fit.place c.args.wanted (join_free bs)) (sym (ap (blocks_of region) c.purge_range-earlier.ensures.records ∙ blocks_after region later 0 e e (omega arith) ∙ ap (λ bs. map purge_block (take e bs) ++ drop e bs) cleared)) r
+    let again = c.in-Some-first_fit.ensures.value (split_first region laid) ∙ ap (fit_from c.args.wanted 0 0 0) (sym (blocks_laid region laid)) in
+    let r = room_second c.args.wanted c.args.rover 0 (length region) (blocks_in region) c.requires.positive (tiles_region region laid) c.requires.apart c.requires.rover (length s.front) at c.in-Some-first_fit.fit.place e again in
+    let later = c.purge-later.new.region in
+    let laid2 = c.purge-later.ensures.laid in
+    let clear = cleared region laid start s (blocks_in later) (c.purge-later.ensures.blocks s) in
+    subst (λ bs. RoomAt c.in-Some-first_fit.fit.place c.args.wanted (join_free bs)) (sym (from_first later laid2 _ e (c.purge-earlier.ensures.blocks (split_first later laid2)) ∙ ap (λ bs. map purge_block (take e bs) ++ drop e bs) clear)) r
+
+pub returns-clause-search : goal.returns-clause-search
+returns-clause-search c =
+    let region = c.args.region.now in
+    let laid = c.requires.laid in
+    let start = c.start_place-start.result in
+    let s = c.start_place-start.ensures.split.0 in
+    let at = c.start_place-start.ensures.split.1 in
+    let all = split_first region laid in
+    let first = c.in_default.ensures.value s ∙ ap (fit_from c.args.wanted 0 0 0) (sym (rest_is region laid start s)) in
+    let again = c.in_default-first_fit.ensures.value all ∙ ap (fit_from c.args.wanted 0 0 0) (sym (blocks_laid region laid)) in
+    let r = fit_never c.args.wanted c.args.rover 0 (length region) (blocks_in region) c.requires.positive (tiles_region region laid) c.requires.rover (length s.front) at first again in
+    with_after _ _ _ _ _ _ _ _ r (cleared region laid 0 all _ (c.purge-purges-2.ensures.blocks all)) (c.purge-purges-2.ensures.count all ∙ counted region laid 0 all)

@@ -1,41 +1,70 @@
-use Rattle.std.proofs.Common.{arith, ◌≡◌, ◌+◌, ◌==◌, Some, ap, sym, ◌∙◌, take, get_or}
-use Rattle.std.proofs.lemmas.List.Sums.{sum_by_more}
-use Rattle.std.proofs.lemmas.Bool.{cond-true, cond-false, eq-eqb, ne_eqb}
-use Rattle.zone_heap.specs.Records.{size_of_all, no_record}
-use Rattle.zone_rules.specs.Walks.{run_place}
-use Rattle.zone_heap.specs.declared.records.Record.{Record}
-use Rattle.zone_heap.proofs.RecordLemmas.{fit_pinned, fit_found, fit_more}
+use Rattle.std.proofs.Common.{arith, ◌≡◌, ◌+◌, ◌==◌, ◌<◌, ◌≤◌, length, Some, ap, sym, ◌∙◌}
+use Rattle.std.proofs.lemmas.Bool.{cond-true, cond-false, eq-eqb, ne_eqb, le-leb, lt-leb}
+use Rattle.zone_heap.specs.Regions.{blocks_from}
+use Rattle.zone_heap.specs.Walks.{fit_from, run_place}
+use Rattle.zone_heap.proofs.PartLemmas.{opened, head_fits, nothing_left, pinned_at, rest_same}
 use Rattle.zone_heap.proofs.search.first_fit.Goals.{then-is_pinned, else-is_pinned+else-wanted-sum, then-sum-eq0, else-sum-eq0}
 use Rattle.zone_heap.proofs.search.first_fit.Goals as goal
 
+pub loop-at-init : goal.loop-at-init
+loop-at-init c = record { split = c.requires.split; small = omega arith; few = omega arith; value = λ s. ap (λ cs. fit_from c.args.wanted 0 0 0 (blocks_from c.args.from cs)) (rest_same c.args.region.now c.args.from s c.requires.split) }
+
+pub header_at-header-requires : goal.header_at-header-requires
+header_at-header-requires c = head_fits c.args.region.now c.loop-at.at c.loop-at.invariant.split c.loop-at-test.true
+
+pub loop-at-smaller : goal.loop-at-smaller
+loop-at-smaller c =
+    let o = opened c.args.region.now c.loop-at.at c.loop-at.invariant.split c.loop-at-test.true c.header_at-header.result c.header_at-header.ensures in
+    let l = o.large in
+    let f = o.fits in
+    omega arith
+
 pub returns-then-wanted-sum : goal.returns-then-wanted-sum
 returns-then-wanted-sum c =
-    let here = (get_or c.args.records.now c.loop-i.i no_record).place in
-    let p : c.if-sum-eq0.place ≡ run_place c.loop-i.place c.loop-i.sum here = elim c.if-sum-eq0.branch [
-      | then-sum-eq0 w ↦ w.place-is ∙ sym (cond-true (c.loop-i.sum == 0) here c.loop-i.place (eq-eqb _ _ w.if-sum-eq0.true))
-      | else-sum-eq0 w ↦ w.place-is ∙ sym (cond-false (c.loop-i.sum == 0) here c.loop-i.place (ne_eqb _ _ w.if-sum-eq0.false))
+    let at = c.loop-at.at in
+    let h = c.header_at-header.result in
+    let o = opened c.args.region.now at c.loop-at.invariant.split c.loop-at-test.true h c.header_at-header.ensures in
+    let told = c.is_pinned.ensures ∙ pinned_at c.args.region.now at c.loop-at.invariant.split h.size o h c.header_at-header.ensures in
+    let grown = o.len in
+    let p : c.if-sum-eq0.place ≡ run_place c.loop-at.place c.loop-at.sum at = elim c.if-sum-eq0.branch [
+      | then-sum-eq0 w ↦ w.place-is ∙ sym (cond-true (c.loop-at.sum == 0) at c.loop-at.place (eq-eqb _ _ w.if-sum-eq0.true))
+      | else-sum-eq0 w ↦ w.place-is ∙ sym (cond-false (c.loop-at.sum == 0) at c.loop-at.place (ne_eqb _ _ w.if-sum-eq0.false))
     ] in
+    let enough : c.args.wanted ≤ c.loop-at.sum + length o.part = omega arith in
     record {
-      value = λ region. ap (λ n. Some (n, c.loop-i.i + 1)) p ∙ sym (c.loop-i.invariant.rest region ∙ fit_found _ _ _ _ region _ c.loop-i-test.true (sym (c.is_pinned.ensures region) ∙ c.if-is_pinned.false) (omega arith));
-      bound = omega arith;
+      value = λ s. ap (λ n. Some (n, c.loop-at.end + 1)) p
+          ∙ sym (c.loop-at.invariant.value s ∙ ap (fit_from c.args.wanted c.loop-at.place c.loop-at.sum c.loop-at.end) o.blocks ∙ cond-false _ _ _ (sym told ∙ c.if-is_pinned.false) ∙ cond-true _ _ _ (le-leb _ _ enough));
     }
 
-pub loop-i-preserved : goal.loop-i-preserved
-loop-i-preserved c =
-    let here = (get_or c.args.records.now c.loop-i.i no_record).place in
-    let more : size_of_all (take (c.loop-i.i + 1) c.args.records.now) ≡ size_of_all (take c.loop-i.i c.args.records.now) + (get_or c.args.records.now c.loop-i.i no_record).size = sum_by_more (λ (r : Record). r.size) c.args.records.now c.loop-i.i no_record c.loop-i-test.true in
+pub loop-at-preserved : goal.loop-at-preserved
+loop-at-preserved c =
+    let at = c.loop-at.at in
+    let h = c.header_at-header.result in
+    let o = opened c.args.region.now at c.loop-at.invariant.split c.loop-at-test.true h c.header_at-header.ensures in
+    let told = c.is_pinned.ensures ∙ pinned_at c.args.region.now at c.loop-at.invariant.split h.size o h c.header_at-header.ensures in
+    let grown = o.len in
+    let large = o.large in
+    let later = blocks_from (at + h.size) o.next.rest in
     elim c.if-is_pinned.branch [
       | then-is_pinned w ↦ record {
+        split = o.next;
         small = omega arith;
-        rest = λ region. rw (w.place-is, w.sum-is) (c.loop-i.invariant.rest region ∙ fit_pinned _ _ _ _ region _ c.loop-i-test.true (sym (c.is_pinned.ensures region) ∙ w.if-is_pinned.true));
+        few = omega arith;
+        value = λ s. rw (w.place-is, w.sum-is) (c.loop-at.invariant.value s ∙ ap (fit_from c.args.wanted c.loop-at.place c.loop-at.sum c.loop-at.end) o.blocks ∙ cond-true _ _ _ (sym told ∙ w.if-is_pinned.true));
       }
       | else-is_pinned+else-wanted-sum w ↦
-          let p : w.if-sum-eq0.place ≡ run_place c.loop-i.place c.loop-i.sum here = elim w.if-sum-eq0.branch [
-            | then-sum-eq0 v ↦ v.place-is ∙ sym (cond-true (c.loop-i.sum == 0) here c.loop-i.place (eq-eqb _ _ v.if-sum-eq0.true))
-            | else-sum-eq0 v ↦ v.place-is ∙ sym (cond-false (c.loop-i.sum == 0) here c.loop-i.place (ne_eqb _ _ v.if-sum-eq0.false))
+          let p : w.if-sum-eq0.place ≡ run_place c.loop-at.place c.loop-at.sum at = elim w.if-sum-eq0.branch [
+            | then-sum-eq0 v ↦ v.place-is ∙ sym (cond-true (c.loop-at.sum == 0) at c.loop-at.place (eq-eqb _ _ v.if-sum-eq0.true))
+            | else-sum-eq0 v ↦ v.place-is ∙ sym (cond-false (c.loop-at.sum == 0) at c.loop-at.place (ne_eqb _ _ v.if-sum-eq0.false))
           ] in
+          let short : c.loop-at.sum + length o.part < c.args.wanted = omega arith in
           record {
+            split = o.next;
             small = omega arith;
-            rest = λ region. rw (w.place-is, w.sum-is, w.from-sum.ensures, p) (c.loop-i.invariant.rest region ∙ fit_more _ _ _ _ region _ c.loop-i-test.true (sym (c.is_pinned.ensures region) ∙ w.if-is_pinned.false) (omega arith));
+            few = omega arith;
+            value = λ s. rw (w.place-is, w.sum-is, w.from-sum.ensures, p) (c.loop-at.invariant.value s ∙ ap (fit_from c.args.wanted c.loop-at.place c.loop-at.sum c.loop-at.end) o.blocks ∙ cond-false _ _ _ (sym told ∙ w.if-is_pinned.false) ∙ cond-false _ _ _ (lt-leb _ _ short) ∙ ap (λ n. fit_from c.args.wanted (run_place c.loop-at.place c.loop-at.sum at) (c.loop-at.sum + n) (c.loop-at.end + 1) later) grown);
           }
     ]
+
+pub returns : goal.returns
+returns c = record { value = λ s. sym (c.loop-at.invariant.value s ∙ ap (λ cs. fit_from c.args.wanted c.loop-at.place c.loop-at.sum c.loop-at.end (blocks_from c.loop-at.at cs)) (nothing_left c.args.region.now c.loop-at.at c.loop-at.invariant.split (omega arith))) }

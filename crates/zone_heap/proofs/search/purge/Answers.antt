@@ -1,26 +1,122 @@
-use Rattle.std.proofs.Common.{◌≡◌, ◌+◌, ap, sym, ◌∙◌, get_or, true, false}
-use Rattle.std.proofs.lemmas.List.Sums.{count_by_more_yes, count_by_more_no}
-use Rattle.zone_heap.specs.Records.{is_purgeable_record, no_record}
-use Rattle.zone_heap.proofs.RecordLemmas.{purge_yes, purge_no, purge_read}
+use Rattle.std.proofs.Common.{arith, ◌≡◌, ◌++◌, ◌≤◌, ◌∷◌, [], ◌∙◌, ap, ap₂, sym, refl, length, take, drop, map, count_by, List, ℕ, zero, suc}
+use Rattle.std.proofs.lemmas.List.{append-nil}
+use Rattle.zone_rules.specs.Zones.{Block, is_purgeable}
+use Rattle.zone_rules.specs.Requests.{purge_block}
+use Rattle.zone_heap.specs.Regions.{blocks_from}
+use Rattle.zone_heap.proofs.WordLemmas.{length-with_use}
+use Rattle.zone_heap.proofs.PartLemmas.{split_le, opened, head_fits, nothing_left, rest_same, front_same, split_laid, purgeable_at}
+use Rattle.zone_heap.proofs.PurgeLemmas.{purged_blocks, passed_step, freed_step, slot_there}
 use Rattle.zone_heap.proofs.search.purge.Goals.{then-is_purgeable, else-is_purgeable}
 use Rattle.zone_heap.proofs.search.purge.Goals as goal
 
-pub loop-record-preserved : goal.loop-record-preserved
-loop-record-preserved c =
-    let i = c.loop-record.record-index in
-    let inv = c.loop-record.invariant in
-    let same = purge_read c.args.records.now c.loop-record.records i c.loop-record-test.true inv.done in
+pub loop-at-init : goal.loop-at-init
+loop-at-init c = record {
+  purged = record {
+    split = c.requires.split;
+    len = refl;
+    homes_len = refl;
+    home = c.requires.home;
+    low = omega arith;
+    few = omega arith;
+    front = λ s. ap (blocks_from 0) (front_same c.args.region.now c.args.from c.requires.split s) ∙ sym (append-nil (blocks_from 0 s.front));
+    rest = λ s. ap (blocks_from c.args.from) (rest_same c.args.region.now c.args.from c.requires.split s);
+    count_is = λ s. refl;
+  };
+  within = omega arith;
+}
+
+pub header_at-header-requires : goal.header_at-header-requires
+header_at-header-requires c = head_fits c.loop-at.region c.loop-at.at c.loop-at.invariant.purged.split c.loop-at-test.true
+
+pub free_at-requires-clause-fits : goal.free_at-requires-clause-fits
+free_at-requires-clause-fits c = head_fits c.loop-at.region c.loop-at.at c.loop-at.invariant.purged.split c.loop-at-test.true
+
+pub free_at-requires-clause-slot : goal.free_at-requires-clause-slot
+free_at-requires-clause-slot c =
+    let p = c.loop-at.invariant.purged in
+    let h = c.header_at-header.result in
+    let o = opened c.loop-at.region c.loop-at.at p.split c.loop-at-test.true h c.header_at-header.ensures in
+    let on = sym (purgeable_at c.loop-at.region c.loop-at.at p.split h.size o h c.header_at-header.ensures) ∙ sym c.is_purgeable.ensures ∙ c.if-is_purgeable.true in
+    slot_there c.args.lumps c.args.region.now c.args.homes.now c.loop-at.region c.loop-at.homes c.args.from c.loop-at.at c.loop-at.passed c.loop-at.count p h.size o on
+
+pub loop-at-smaller : goal.loop-at-smaller
+loop-at-smaller c =
+    let p = c.loop-at.invariant.purged in
+    let h = c.header_at-header.result in
+    let o = opened c.loop-at.region c.loop-at.at p.split c.loop-at-test.true h c.header_at-header.ensures in
+    let l = o.large in
+    let f = o.fits in
     elim c.if-is_purgeable.branch [
-      | then-is_purgeable w ↦
-          let p : is_purgeable_record (get_or c.loop-record.records i no_record) ≡ true = sym c.is_purgeable.ensures ∙ w.if-is_purgeable.true in
-          record {
-            done = w.records-is ∙ purge_yes _ _ i c.loop-record-test.true inv.done p;
-            count = w.count-is ∙ ap (λ n. n + 1) inv.count ∙ sym (count_by_more_yes is_purgeable_record c.args.records.now i no_record c.loop-record-test.true (ap is_purgeable_record (sym same) ∙ p));
-          }
-      | else-is_purgeable w ↦
-          let p : is_purgeable_record (get_or c.loop-record.records i no_record) ≡ false = sym c.is_purgeable.ensures ∙ w.if-is_purgeable.false in
-          record {
-            done = w.records-is ∙ purge_no _ _ i c.loop-record-test.true inv.done p;
-            count = w.count-is ∙ inv.count ∙ sym (count_by_more_no is_purgeable_record c.args.records.now i no_record c.loop-record-test.true (ap is_purgeable_record (sym same) ∙ p));
-          }
+      | then-is_purgeable w ↦ (let e = ap length w.region-is ∙ ap length w.free_at.ensures.region ∙ length-with_use c.loop-at.region c.loop-at.at 0 4294967295 0 (omega arith) in omega arith)
+      | else-is_purgeable w ↦ (let e = ap length w.region-is in omega arith)
     ]
+
+pub loop-at-preserved : goal.loop-at-preserved
+loop-at-preserved c =
+    let p = c.loop-at.invariant.purged in
+    let at = c.loop-at.at in
+    let h = c.header_at-header.result in
+    let o = opened c.loop-at.region at p.split c.loop-at-test.true h c.header_at-header.ensures in
+    let told = c.is_purgeable.ensures ∙ purgeable_at c.loop-at.region at p.split h.size o h c.header_at-header.ensures in
+    record {
+      purged = elim c.if-is_purgeable.branch [
+        | then-is_purgeable w ↦ rw (w.region-is, w.free_at.ensures.region, w.homes-is, w.free_at.ensures.homes, w.count-is)
+            (freed_step c.args.lumps c.args.region.now c.args.homes.now c.loop-at.region c.loop-at.homes c.args.from at c.loop-at.passed c.loop-at.count p h.size o (sym told ∙ w.if-is_purgeable.true))
+        | else-is_purgeable w ↦ rw (w.region-is, w.homes-is, w.count-is)
+            (passed_step c.args.lumps c.args.region.now c.args.homes.now c.loop-at.region c.loop-at.homes c.args.from at c.loop-at.passed c.loop-at.count p h.size o (sym told ∙ w.if-is_purgeable.false))
+      ];
+      within = omega arith;
+    }
+
+-- so many blocks, or all of them
+whole : (bs : List Block) (k n : ℕ) → [] ≡ drop k bs → k ≤ n → (take n bs ≡ take k bs) × (drop n bs ≡ drop k bs)
+whole [] zero zero e h = (refl, refl)
+whole [] zero (suc n) e h = (refl, refl)
+whole [] (suc k) zero e h = absurd (omega arith)
+whole [] (suc k) (suc n) e h = (refl, refl)
+whole (b ∷ bs) zero n e h = cc
+whole (b ∷ bs) (suc k) zero e h = absurd (omega arith)
+whole (b ∷ bs) (suc k) (suc n) e h = let w = whole bs k n e (omega arith) in (ap (λ xs. b ∷ xs) w.0, w.1)
+
+pub returns-else-passed-most-clause-laid : goal.returns-else-passed-most-clause-laid
+returns-else-passed-most-clause-laid c = split_laid c.loop-at.region c.loop-at.at c.loop-at.invariant.purged.split
+
+pub returns-else-passed-most-clause-blocks : goal.returns-else-passed-most-clause-blocks
+returns-else-passed-most-clause-blocks c = λ s.
+    let p = c.loop-at.invariant.purged in
+    let w = c.loop-at.invariant.within in
+    let e : c.loop-at.passed ≡ c.args.most = omega arith in
+    let bs = blocks_from c.args.from s.rest in
+    purged_blocks c.args.lumps c.args.region.now c.args.homes.now c.loop-at.region c.loop-at.homes c.args.from c.loop-at.at c.loop-at.passed c.loop-at.count p s
+    ∙ ap (λ n. blocks_from 0 s.front ++ (map purge_block (take n bs) ++ drop n bs)) e
+
+pub returns-else-passed-most-clause-count : goal.returns-else-passed-most-clause-count
+returns-else-passed-most-clause-count c = λ s.
+    let w = c.loop-at.invariant.within in
+    let e : c.loop-at.passed ≡ c.args.most = omega arith in
+    c.loop-at.invariant.purged.count_is s ∙ ap (λ n. count_by is_purgeable (take n (blocks_from c.args.from s.rest))) e
+
+pub returns-else-passed-most-clause-bound : goal.returns-else-passed-most-clause-bound
+returns-else-passed-most-clause-bound c = let p = c.loop-at.invariant.purged in let a = p.few in let b = p.low in let l = split_le c.loop-at.region c.loop-at.at p.split in let e = p.len in omega arith
+
+pub returns-after-loop-at-clause-laid : goal.returns-after-loop-at-clause-laid
+returns-after-loop-at-clause-laid c = split_laid c.loop-at.region c.loop-at.at c.loop-at.invariant.purged.split
+
+pub returns-after-loop-at-clause-blocks : goal.returns-after-loop-at-clause-blocks
+returns-after-loop-at-clause-blocks c = λ s.
+    let p = c.loop-at.invariant.purged in
+    let none = ap (blocks_from c.loop-at.at) (nothing_left c.loop-at.region c.loop-at.at p.split (omega arith)) in
+    let bs = blocks_from c.args.from s.rest in
+    let w = whole bs c.loop-at.passed c.args.most (sym none ∙ p.rest s) c.loop-at.invariant.within in
+    purged_blocks c.args.lumps c.args.region.now c.args.homes.now c.loop-at.region c.loop-at.homes c.args.from c.loop-at.at c.loop-at.passed c.loop-at.count p s
+    ∙ ap₂ (λ xs ys. blocks_from 0 s.front ++ (map purge_block xs ++ ys)) (sym w.0) (sym w.1)
+
+pub returns-after-loop-at-clause-count : goal.returns-after-loop-at-clause-count
+returns-after-loop-at-clause-count c = λ s.
+    let p = c.loop-at.invariant.purged in
+    let none = ap (blocks_from c.loop-at.at) (nothing_left c.loop-at.region c.loop-at.at p.split (omega arith)) in
+    let w = whole (blocks_from c.args.from s.rest) c.loop-at.passed c.args.most (sym none ∙ p.rest s) c.loop-at.invariant.within in
+    p.count_is s ∙ ap (count_by is_purgeable) (sym w.0)
+
+pub returns-after-loop-at-clause-bound : goal.returns-after-loop-at-clause-bound
+returns-after-loop-at-clause-bound c = let p = c.loop-at.invariant.purged in let a = p.few in let b = p.low in let l = split_le c.loop-at.region c.loop-at.at p.split in let e = p.len in omega arith

@@ -1,9 +1,12 @@
-use Rattle.std.proofs.Common.{◌≡◌, ◌++◌, take, drop, map, count_by}
-use Rattle.zone_heap.specs.Records.{purge_record, is_purgeable_record}
+use Rattle.std.proofs.Common.{◌-◌, ◌≤◌, length}
+use Rattle.zone_heap.proofs.PurgeLemmas.{PurgedTo}
 use Rattle.zone_heap.proofs.search.purge.Given as goal
 
-abbrev pub invariant-loop-record : goal.invariant-loop-record
-invariant-loop-record l = record {
-  done : l.records ≡ map purge_record (take l.record-index l.initial.records) ++ drop l.record-index l.initial.records;
-  count : l.count ≡ count_by is_purgeable_record (take l.record-index l.initial.records);
+abbrev pub invariant-loop-at : goal.invariant-loop-at
+invariant-loop-at l = record {
+  purged : PurgedTo l.lumps l.initial.region l.initial.homes l.region l.homes l.from l.at l.passed l.count;
+  within : l.passed ≤ l.most;
 }
+
+abbrev pub decreases-loop-at : goal.decreases-loop-at
+decreases-loop-at l = length l.region - l.at

@@ -1,11 +1,8 @@
-use Rattle.std.proofs.Common.{arith, ◌∙◌, ap, sym}
-use Rattle.std.proofs.lemmas.List.{with_items_is}
-use Rattle.zone_rules.specs.Requests.{join_free, purge_among, passed_blocks, stretches}
-use Rattle.zone_heap.specs.Records.{blocks_of}
+use Rattle.std.proofs.Common.{sym, subst}
+use Rattle.zone_heap.specs.Homes.{AreHome}
+use Rattle.zone_heap.specs.Regions.{blocks_in}
+use Rattle.zone_heap.proofs.HomeLemmas.{joined_home}
 use Rattle.zone_heap.proofs.search.search.Goals as goal
 
-pub returns-clause-blocks : goal.returns-clause-blocks
-returns-clause-blocks c = λ region.
-    let s = c.clear_way-room.ensures.search region in
-    let same = with_items_is c.args.records.now c.clear_way-room.new.records (omega arith) in
-    c.join.ensures.blocks region ∙ ap (λ rs. join_free (blocks_of region rs)) same ∙ sym (ap join_free s.after_is) ∙ ap (λ rs. join_free (purge_among (passed_blocks c.args.wanted (stretches c.args.rover (blocks_of region rs))) (blocks_of region rs))) c.deref_mut.ensures.value
+pub returns-clause-home : goal.returns-clause-home
+returns-clause-home c = subst (AreHome c.args.lumps c.clear_way-room.new.homes) (sym c.join.ensures.blocks) (joined_home c.args.lumps c.clear_way-room.new.homes (blocks_in c.clear_way-room.new.region) c.clear_way-room.ensures.home)

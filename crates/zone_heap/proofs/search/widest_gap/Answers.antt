@@ -1,22 +1,47 @@
-use Rattle.std.proofs.Common.{arith, ◌≡◌, ◌+◌, sym, ◌∙◌, take, get_or}
-use Rattle.std.proofs.lemmas.List.Sums.{sum_by_more}
-use Rattle.zone_heap.specs.Records.{size_of_all, no_record}
-use Rattle.zone_heap.specs.declared.records.Record.{Record}
-use Rattle.zone_heap.proofs.RecordLemmas.{widest_pinned, widest_more}
-use Rattle.zone_heap.proofs.search.widest_gap.Goals.{then-is_pinned, else-is_pinned}
+use Rattle.std.proofs.Common.{arith, ◌+◌, ◌∙◌, ap, sym, max}
+use Rattle.std.proofs.lemmas.Bool.{cond-true, cond-false}
+use Rattle.zone_heap.specs.Regions.{blocks_from}
+use Rattle.zone_heap.specs.Walks.{widest_from}
+use Rattle.zone_heap.proofs.PartLemmas.{opened, head_fits, nothing_left, split_first, blocks_laid, pinned_at}
+use Rattle.zone_heap.proofs.search.widest_gap.Goals.{After-is_pinned, then-is_pinned, else-is_pinned}
 use Rattle.zone_heap.proofs.search.widest_gap.Goals as goal
 
-pub loop-record-preserved : goal.loop-record-preserved
-loop-record-preserved c =
-    let i = c.loop-record.record-index in
-    let more : size_of_all (take (i + 1) c.args.records.now) ≡ size_of_all (take i c.args.records.now) + (get_or c.args.records.now i no_record).size = sum_by_more (λ (r : Record). r.size) c.args.records.now i no_record c.loop-record-test.true in
+pub loop-at-init : goal.loop-at-init
+loop-at-init c = record { split = split_first c.args.region.now c.requires.laid; small = omega arith; value = ap (widest_from 0 0) (blocks_laid c.args.region.now c.requires.laid) }
+
+pub header_at-header-requires : goal.header_at-header-requires
+header_at-header-requires c = head_fits c.args.region.now c.loop-at.at c.loop-at.invariant.split c.loop-at-test.true
+
+pub loop-at-smaller : goal.loop-at-smaller
+loop-at-smaller c =
+    let o = opened c.args.region.now c.loop-at.at c.loop-at.invariant.split c.loop-at-test.true c.header_at-header.result c.header_at-header.ensures in
+    let l = o.large in
+    let f = o.fits in
+    omega arith
+
+pub loop-at-preserved : goal.loop-at-preserved
+loop-at-preserved c =
+    let at = c.loop-at.at in
+    let best = c.loop-at.best in
+    let run = c.loop-at.run in
+    let h = c.header_at-header.result in
+    let o = opened c.args.region.now at c.loop-at.invariant.split c.loop-at-test.true h c.header_at-header.ensures in
+    let told = c.is_pinned.ensures ∙ pinned_at c.args.region.now at c.loop-at.invariant.split h.size o h c.header_at-header.ensures in
+    let later = blocks_from (at + h.size) o.next.rest in
+    let step = c.loop-at.invariant.value ∙ ap (widest_from best run) o.blocks in
+    let grown = o.len in
     elim c.if-is_pinned.branch [
       | then-is_pinned w ↦ record {
+        split = o.next;
         small = omega arith;
-        rest = λ region. rw (w.best-is, w.run-is) (c.loop-record.invariant.rest region ∙ widest_pinned _ _ _ region _ c.loop-record-test.true (sym (c.is_pinned.ensures region) ∙ w.if-is_pinned.true));
+        value = rw (w.best-is, w.run-is) (step ∙ cond-true _ _ _ (sym told ∙ w.if-is_pinned.true));
       }
       | else-is_pinned w ↦ record {
+        split = o.next;
         small = omega arith;
-        rest = λ region. rw (w.best-is, w.run-is, w.max-best.ensures, w.from-run.ensures) (c.loop-record.invariant.rest region ∙ widest_more _ _ _ region _ c.loop-record-test.true (sym (c.is_pinned.ensures region) ∙ w.if-is_pinned.false));
+        value = rw (w.best-is, w.run-is, w.max-best.ensures, w.from-run.ensures) (step ∙ cond-false _ _ _ (sym told ∙ w.if-is_pinned.false) ∙ ap (λ n. widest_from (max best (run + n)) (run + n) later) grown);
       }
     ]
+
+pub returns : goal.returns
+returns c = sym (c.loop-at.invariant.value ∙ ap (λ cs. widest_from c.loop-at.best c.loop-at.run (blocks_from c.loop-at.at cs)) (nothing_left c.args.region.now c.loop-at.at c.loop-at.invariant.split (omega arith)))

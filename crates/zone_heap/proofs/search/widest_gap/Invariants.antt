@@ -1,10 +1,14 @@
-use Rattle.std.proofs.Common.{◌≡◌, ◌≤◌, ℕ, List, take, drop}
-use Rattle.zone_heap.specs.Records.{blocks_of, size_of_all}
-use Rattle.zone_rules.specs.Walks.{widest_from}
+use Rattle.std.proofs.Common.{◌≡◌, ◌≤◌, ◌-◌, length}
+use Rattle.zone_heap.specs.Regions.{blocks_in, blocks_from, IsSplit}
+use Rattle.zone_heap.specs.Walks.{widest_from}
 use Rattle.zone_heap.proofs.search.widest_gap.Given as goal
 
-abbrev pub invariant-loop-record : goal.invariant-loop-record
-invariant-loop-record l = record {
-  small : l.run ≤ size_of_all (take l.record-index l.records);
-  rest : (region : List ℕ) → widest_from 0 0 (blocks_of region l.records) ≡ widest_from l.best l.run (drop l.record-index (blocks_of region l.records));
+abbrev pub invariant-loop-at : goal.invariant-loop-at
+invariant-loop-at l = record {
+  split : IsSplit l.region l.at;
+  small : l.run ≤ l.at;
+  value : widest_from 0 0 (blocks_in l.region) ≡ widest_from l.best l.run (blocks_from l.at split.rest);
 }
+
+abbrev pub decreases-loop-at : goal.decreases-loop-at
+decreases-loop-at l = length l.region - l.at

@@ -1,60 +1,55 @@
-use Rattle.std.proofs.Common.{◌≡◌, ◌∙◌, ◌<◌, ◌≤◌, ap, ap₂, sym, subst, List, ℕ, length, arith, refl}
-use Rattle.std.specs.Prelude.{IsSome, Some, slice_range}
-use Rattle.zone_rules.specs.Loans.{bytes_place, after_loan}
-use Rattle.zone_heap.proofs.LendLemmas.{lent_zone, lent_heap, some_map, some_before}
-use Rattle.zone_rules.specs.Zones.{Block, Holding, holding_of, owned_block, Heap, Owner, owner_at, bytes_of, slot_count, Tiles, AllFit}
-use Rattle.zone_heap.specs.Records.{blocks_of, home_index, KnowsAll}
-use Rattle.zone_heap.proofs.HeapLemmas.{tiles_all, slot_there}
+use Rattle.std.proofs.Common.{◌≡◌, ◌<◌, ◌+◌, ◌∙◌, ap₂, sym, subst, arith}
+use Rattle.std.specs.Prelude.{slice_index, slice_range}
+use Rattle.zone_rules.specs.Zones.{Heap, IsLive, owner_at, slot_count}
+use Rattle.zone_heap.specs.Headers.{word_at}
+use Rattle.zone_heap.specs.Homes.{home_index}
+use Rattle.zone_heap.specs.View.{heap_of}
+use Rattle.zone_heap.specs.Calls.{BytesChanged}
+use Rattle.zone_heap.proofs.ZoneLemmas.{span_bound, span_bytes, span_len, written_heap, written_zone}
 use Rattle.zone_heap.proofs.zone.Zone.bytes_mut.Given.{Over}
-use Rattle.zone_heap.proofs.zone.Zone.bytes_mut.Goals as goal
 use Rattle.zone_heap.proofs.zone.Zone.bytes_mut.Goals.{After-live_span-span}
+use Rattle.zone_heap.proofs.zone.Zone.bytes_mut.Goals as goal
 
-pub live_span-span-requires-clause-tiles : goal.live_span-span-requires-clause-tiles
-live_span-span-requires-clause-tiles g c = rw c.deref.ensures.value (tiles_all c.self.inside c.self.invariant)
+inside : (g : Over) (c : After-live_span-span g) → c.args.slot.number < slot_count (heap_of c.self.inside) g.K.SlotKind.CODE
+inside g c = subst (λ (z : Heap). c.args.slot.number < slot_count z g.K.SlotKind.CODE) (sym c.self.view_is) c.requires.in_range
 
-pub live_span-span-requires-clause-in_range : goal.live_span-span-requires-clause-in_range
-live_span-span-requires-clause-in_range g c = subst (λ (xs : List ℕ). home_index c.self.inside.lumps c.CODE.result c.number.result < length xs) (sym c.deref-2.ensures.value) (subst (λ n. n < length c.self.inside.homes.items) (sym (ap₂ (home_index c.self.inside.lumps) c.CODE.ensures c.number.ensures)) (slot_there c.self.inside c.self.invariant g.K.SlotKind.CODE c.args.slot.number g.K.SlotKind.is_known (subst (λ (z : Heap). c.args.slot.number < slot_count z g.K.SlotKind.CODE) (sym c.self.view_is) c.requires.in_range)))
+live : (g : Over) (c : After-live_span-span g) → IsLive (heap_of c.self.inside) (owner_at g.K.SlotKind.CODE c.args.slot.number)
+live g c = subst (λ (z : Heap). IsLive z (owner_at g.K.SlotKind.CODE c.args.slot.number)) (sym c.self.view_is) c.requires.live
 
-fits : (g : Over) (c : After-live_span-span g) → (c.live_span-span.result.from ≤ c.live_span-span.result.to) × (c.live_span-span.result.to ≤ c.self.inside.size)
-fits g c =
-    let i = c.self.inside in
-    let region = i.region.items in
-    let back = sym c.deref.ensures.value in
-    c.live_span-span.ensures.bound region i.size i.lumps i.composites (subst (λ rs. Tiles 0 i.size (blocks_of region rs)) back c.self.invariant.sound.tiles) (subst (λ rs. AllFit i.lumps i.composites (blocks_of region rs)) back c.self.invariant.sound.fits)
+from_is : (g : Over) (c : After-live_span-span g) → c.live_span-span.result.from ≡ slice_index c.self.inside.homes.items (home_index c.self.inside.lumps g.K.SlotKind.CODE c.args.slot.number) + 24
+from_is g c = c.live_span-span.ensures.from ∙ ap₂ (λ hs n. slice_index hs n + 24) c.deref-2.ensures.value (ap₂ (home_index c.self.inside.lumps) c.CODE.ensures c.number.ensures)
 
-pub slice_mut-requires-clause-start_le_end : goal.slice_mut-requires-clause-start_le_end
-slice_mut-requires-clause-start_le_end g c = (fits g (goal.at.slice_mut-requires-clause-start_le_end g c).After-live_span-span).0
+to_is : (g : Over) (c : After-live_span-span g) → c.live_span-span.result.to ≡ c.live_span-span.result.from + word_at c.self.inside.region.items (slice_index c.self.inside.homes.items (home_index c.self.inside.lumps g.K.SlotKind.CODE c.args.slot.number) + 4)
+to_is g c =
+    c.live_span-span.ensures.to ∙ ap₂ (λ xs k. c.live_span-span.result.from + word_at xs (k + 4)) c.deref.ensures.value (ap₂ slice_index c.deref-2.ensures.value (ap₂ (home_index c.self.inside.lumps) c.CODE.ensures c.number.ensures))
 
-pub slice_mut-requires-clause-in_bounds : goal.slice_mut-requires-clause-in_bounds
-slice_mut-requires-clause-in_bounds g c = let k = (fits g (goal.at.slice_mut-requires-clause-in_bounds g c).After-live_span-span).1 in let r = c.self.invariant.region in omega arith
+pub with_part-requires-clause-bound : goal.with_part-requires-clause-bound
+with_part-requires-clause-bound g c =
+    let d = (goal.at.with_part-requires-clause-bound g c).After-live_span-span in
+    let k = span_bound c.self.inside c.self.invariant g.K.SlotKind.CODE c.args.slot.number g.K.SlotKind.is_known (inside g d) (live g d) c.live_span-span.result (from_is g d) (to_is g d) in
+    let e = c.self.invariant.region in
+    omega arith
 
-pub invariant_of-self-lent : goal.invariant_of-self-lent
-invariant_of-self-lent g c = λ w. let k = fits g (goal.at.invariant_of-self-lent g c).After-live_span-span in lent_zone c.self.inside c.self.invariant c.live_span-span.result.from (let a = k.0 in let b = k.1 in omega arith) w
-
-live : (g : Over) (c : After-live_span-span g) → IsSome (holding_of (owner_at g.K.SlotKind.CODE c.args.slot.number) (blocks_of c.self.inside.region.items c.self.inside.records.items))
-live g c = subst (λ (z : Heap). IsSome (holding_of (owner_at g.K.SlotKind.CODE c.args.slot.number) z.blocks)) (sym c.self.view_is) c.requires.live
-
--- what the span is of
-span_is : (g : Over) (c : After-live_span-span g)
-    → (bytes_of (owner_at g.K.SlotKind.CODE c.args.slot.number) (blocks_of c.self.inside.region.items c.self.inside.records.items) ≡ Some (slice_range c.self.inside.region.items c.live_span-span.result.from c.live_span-span.result.to)) × (c.live_span-span.result.from ≡ bytes_place (owned_block (owner_at g.K.SlotKind.CODE c.args.slot.number) (blocks_of c.self.inside.region.items c.self.inside.records.items)))
-span_is g c =
-    let i = c.self.inside in
-    let region = i.region.items in
-    let known = subst (λ xs. KnowsAll i.lumps xs (blocks_of region c.deref.result.now)) (sym c.deref-2.ensures.value) (subst (λ rs. KnowsAll i.lumps i.homes.items (blocks_of region rs)) (sym c.deref.ensures.value) c.self.invariant.known) in
-    subst (λ (q : Owner). (bytes_of q (blocks_of region i.records.items) ≡ Some (slice_range region c.live_span-span.result.from c.live_span-span.result.to)) × (c.live_span-span.result.from ≡ bytes_place (owned_block q (blocks_of region i.records.items)))) (ap₂ owner_at c.CODE.ensures c.number.ensures)
-    (subst (λ rs. (bytes_of (owner_at c.CODE.result c.number.result) (blocks_of region rs) ≡ Some (slice_range region c.live_span-span.result.from c.live_span-span.result.to)) × (c.live_span-span.result.from ≡ bytes_place (owned_block (owner_at c.CODE.result c.number.result) (blocks_of region rs)))) c.deref.ensures.value
-    (c.live_span-span.ensures.value region known
-    (subst (λ rs. IsSome (bytes_of (owner_at c.CODE.result c.number.result) (blocks_of region rs))) (sym c.deref.ensures.value)
-    (subst (λ (q : Owner). IsSome (bytes_of q (blocks_of region i.records.items))) (sym (ap₂ owner_at c.CODE.ensures c.number.ensures)) (some_map (λ (h : Holding). h.bytes) (holding_of (owner_at g.K.SlotKind.CODE c.args.slot.number) (blocks_of region i.records.items)) (live g c))))))
+pub invariant_of-self : goal.invariant_of-self
+invariant_of-self g c =
+    let d = (goal.at.invariant_of-self g c).After-live_span-span in
+    let p = c.with_part.ensures.part in
+    written_zone c.self.inside c.self.invariant g.K.SlotKind.CODE c.args.slot.number g.K.SlotKind.is_known (inside g d) (live g d) c.live_span-span.result (from_is g d) (to_is g d) p.0 p.1 c.with_part.new.region p.3 c.with_part.ensures.len
 
 pub returns : goal.returns
 returns g c =
     let d = (goal.at.returns g c).After-live_span-span in
     let i = c.self.inside in
-    let p = owner_at g.K.SlotKind.CODE c.args.slot.number in
-    let k = fits g d in
-    let s = span_is g d in
-    let owned = some_before (λ (b : Block). b.holding) (owned_block p (blocks_of i.region.items i.records.items)) (live g d) in (
-      (refl, λ w. lent_heap i c.self.invariant c.live_span-span.result.from (let a = k.0 in let b = k.1 in omega arith) w p s.1 owned ∙ ap (after_loan p w) c.self.view_is),
-      record { lends = tt; value = ap (λ (z : Heap). bytes_of p z.blocks) (sym c.self.view_is) ∙ s.0 ∙ ap Some (sym c.slice_mut.ensures.value) },
-    )
+    let zone = c.self.invariant in
+    let s = c.live_span-span.result in
+    let p = c.with_part.ensures.part in
+    record {
+      called = subst (λ (z : Heap). BytesChanged g.F.FnOnce c.args.f (owner_at g.K.SlotKind.CODE c.args.slot.number) z (heap_of (record i { region = c.with_part.new.region })) c.with_part.result) c.self.view_is (record {
+        x = slice_range i.region.items s.from s.to;
+        w = p.0;
+        x_is = span_bytes i zone g.K.SlotKind.CODE c.args.slot.number g.K.SlotKind.is_known (inside g d) (live g d) s (from_is g d) (to_is g d);
+        len = p.1 ∙ sym (span_len i zone g.K.SlotKind.CODE c.args.slot.number g.K.SlotKind.is_known (inside g d) (live g d) s (from_is g d) (to_is g d));
+        called = p.2;
+        zone = written_heap i zone g.K.SlotKind.CODE c.args.slot.number g.K.SlotKind.is_known (inside g d) (live g d) s (from_is g d) (to_is g d) p.0 p.1 c.with_part.new.region p.3 c.with_part.ensures.len;
+      });
+    }

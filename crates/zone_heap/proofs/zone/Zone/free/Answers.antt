@@ -1,52 +1,57 @@
-use Rattle.std.proofs.Common.{arith, ◌≡◌, ◌∙◌, ap, ap₂, sym, subst, refl}
+use Rattle.std.proofs.Common.{arith, ◌≡◌, ◌∙◌, ap, ap₂, sym, subst, refl, length, List, ℕ}
+use Rattle.std.specs.Vec.{with_items}
+use Rattle.std.proofs.lemmas.List.{with_items_is}
 use Rattle.zone_heap.specs.View.{heap_of}
-use Rattle.zone_rules.specs.Zones.{Heap, IsSound, owner_at, owned_block}
+use Rattle.zone_rules.specs.Zones.{Heap, Owner, IsSound, owner_at, owned_block}
 use Rattle.zone_rules.specs.Requests.{join_free, place_around}
 use Rattle.zone_rules.specs.Frees.{free_owner, without_block}
-use Rattle.zone_heap.specs.Records.{blocks_of, KnowsAll}
-use Rattle.zone_heap.proofs.HeapLemmas.{sizes_fit}
 use Rattle.zone_rules.proofs.SoundLemmas.{without_block_sound}
-use Rattle.zone_heap.proofs.HomeLemmas.{KnowsAll-free_owner}
 use Rattle.zone_rules.proofs.OwnerLemmas.{owned_freed, owned_freed_others}
+use Rattle.zone_heap.specs.Regions.{blocks_in, IsRing}
+use Rattle.zone_heap.specs.Homes.{AreExact}
 use Rattle.zone_heap.proofs.zone.Zone.free.Given.{Over}
-use Rattle.zone_heap.proofs.zone.Zone.free.Goals.{After-place_in-self-inside}
+use Rattle.zone_heap.proofs.zone.Zone.free.Goals.{After-place_in}
 use Rattle.zone_heap.proofs.zone.Zone.free.Goals as goal
 
-pub free-requires : goal.free-requires
-free-requires g c = sizes_fit c.self.inside c.self.invariant
+items_are : (g : Over) (c : After-place_in g) → (with_items c.self.inside.region c.release.new.region).items ≡ c.release.new.region
+items_are g c = let a = c.release.ensures.len in let b = ap (λ (xs : List ℕ). length xs) c.deref_mut.ensures.value in let d = c.self.inside.region.ok.0 in with_items_is c.self.inside.region c.release.new.region (omega arith)
 
-after : (g : Over) (c : After-place_in-self-inside g) → ◌≡◌ {A = Heap} (record { size = c.self.inside.size; lumps = c.self.inside.lumps; composites = c.self.inside.composites; blocks = blocks_of c.self.inside.region.items c.free.new.records.items; rover = c.place_in-self-inside.result; purges = c.self.inside.purges })
+homes_are : (g : Over) (c : After-place_in g) → (with_items c.self.inside.homes c.release.new.homes).items ≡ c.release.new.homes
+homes_are g c = let a = c.release.ensures.homes in let b = ap (λ (xs : List ℕ). length xs) c.deref_mut-2.ensures.value in let d = c.self.inside.homes.ok.0 in with_items_is c.self.inside.homes c.release.new.homes (omega arith)
+
+after : (g : Over) (c : After-place_in g) → ◌≡◌ {A = Heap} (record { size = c.self.inside.size; lumps = c.self.inside.lumps; composites = c.self.inside.composites; blocks = blocks_in (with_items c.self.inside.region c.release.new.region).items; rover = c.place_in.result; purges = c.self.inside.purges })
     (without_block (owner_at g.K.SlotKind.CODE c.args.slot.number) (heap_of c.self.inside))
 after g c =
     let i = c.self.inside in
-    let region = i.region.items in
     let o = ap₂ owner_at c.CODE.ensures c.number.ensures in
-    let b = c.free.ensures.blocks region ∙ ap (λ p. join_free (free_owner p (blocks_of region i.records.items))) o in
-    let r = c.place_in-self-inside.ensures region ∙ ap (λ xs. place_around i.rover 0 (blocks_of region xs)) c.deref.ensures.value in
+    let b = ap blocks_in (items_are g c) ∙ c.release.ensures.blocks ∙ ap (λ xs. join_free (free_owner (owner_at c.CODE.result c.number.result) (blocks_in xs))) c.deref_mut.ensures.value ∙ ap (λ (p : Owner). join_free (free_owner p (blocks_in i.region.items))) o in
+    let r = c.place_in.ensures.value ∙ ap (λ xs. place_around i.rover 0 (blocks_in xs)) c.deref.ensures.value in
     rw (r, b) refl
 
 pub invariant_of-self : goal.invariant_of-self
 invariant_of-self g c =
+    let d = (goal.at.invariant_of-self g c).After-place_in in
     let zone = c.self.invariant in
+    let i = c.self.inside in
     record {
-      sound = subst IsSound (sym (after g (goal.at.invariant_of-self g c).After-place_in-self-inside)) (without_block_sound (owner_at g.K.SlotKind.CODE c.args.slot.number) (heap_of c.self.inside) zone.sound zone.least);
+      sound = subst IsSound (sym (after g d)) (without_block_sound (owner_at g.K.SlotKind.CODE c.args.slot.number) (heap_of i) zone.sound zone.least);
+      ring = subst IsRing (sym (items_are g d)) c.release.ensures.ring;
+      exact = subst (λ xs. AreExact i.lumps (with_items i.homes c.release.new.homes).items (blocks_in xs)) (sym (items_are g d)) (subst (λ hs. AreExact i.lumps hs (blocks_in c.release.new.region)) (sym (homes_are g d)) c.release.ensures.home.exact);
       region = zone.region;
       least = zone.least;
       small = zone.small;
       lumps = zone.lumps;
       composites = zone.composites;
       homes = zone.homes;
-      known = subst (KnowsAll c.self.inside.lumps c.self.inside.homes.items) (sym (ap (λ (z : Heap). z.blocks) (after g (goal.at.invariant_of-self g c).After-place_in-self-inside))) (KnowsAll-free_owner c.self.inside.lumps c.self.inside.homes.items (owner_at g.K.SlotKind.CODE c.args.slot.number) (blocks_of c.self.inside.region.items c.self.inside.records.items) zone.known);
-      room = let k = zone.room in let e = c.free.ensures.capacity in omega arith;
     }
 
 pub returns-clause-sound : goal.returns-clause-sound
-returns-clause-sound g c = subst IsSound (sym (after g (goal.at.returns-clause-sound g c).After-place_in-self-inside)) (without_block_sound (owner_at g.K.SlotKind.CODE c.args.slot.number) (heap_of c.self.inside) c.self.invariant.sound c.self.invariant.least)
+returns-clause-sound g c = subst IsSound (sym (after g (goal.at.returns-clause-sound g c).After-place_in)) (without_block_sound (owner_at g.K.SlotKind.CODE c.args.slot.number) (heap_of c.self.inside) c.self.invariant.sound c.self.invariant.least)
 
 pub returns-clause-empty : goal.returns-clause-empty
-returns-clause-empty g c = ap (λ (z : Heap). owned_block (owner_at g.K.SlotKind.CODE c.args.slot.number) z.blocks) (after g (goal.at.returns-clause-empty g c).After-place_in-self-inside) ∙ owned_freed (owner_at g.K.SlotKind.CODE c.args.slot.number) (blocks_of c.self.inside.region.items c.self.inside.records.items)
+returns-clause-empty g c = ap (λ (z : Heap). owned_block (owner_at g.K.SlotKind.CODE c.args.slot.number) z.blocks) (after g (goal.at.returns-clause-empty g c).After-place_in) ∙ owned_freed (owner_at g.K.SlotKind.CODE c.args.slot.number) (blocks_in c.self.inside.region.items)
 
 pub returns-clause-others : goal.returns-clause-others
 returns-clause-others g c = λ o apart.
     let p = owner_at g.K.SlotKind.CODE c.args.slot.number in
-    ap (λ (z : Heap). owned_block o z.blocks) (after g (goal.at.returns-clause-others g c).After-place_in-self-inside) ∙ owned_freed_others o p apart (blocks_of c.self.inside.region.items c.self.inside.records.items) ∙ ap (λ (z : Heap). owned_block o z.blocks) c.self.view_is
+    ap (λ (z : Heap). owned_block o z.blocks) (after g (goal.at.returns-clause-others g c).After-place_in) ∙ owned_freed_others o p apart (blocks_in c.self.inside.region.items) ∙ ap (λ (z : Heap). owned_block o z.blocks) c.self.view_is

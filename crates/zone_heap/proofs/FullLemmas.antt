@@ -1,0 +1,57 @@
+-- After a request that finds no room every purgeable block is purged.
+use Rattle.std.proofs.Common.{◌≡◌, ℕ, ◌+◌, ◌<◌, Bool, true, false, cond, ◌&&◌, List, [], ◌∷◌, ◌++◌, map, Option, Some, None, refl, sym, subst, ap, ◌∙◌}
+use Rattle.std.specs.Prelude.{All}
+use Rattle.std.proofs.lemmas.List.Elements.{All-nil, All-cons, All-head, All-tail}
+use Rattle.zone_rules.specs.Zones.{Block, Heap, IsSound, Tiles, is_free, is_purgeable, free_block}
+use Rattle.zone_rules.specs.Requests.{gaps, stretches, passed_blocks, first_room, purge_among, purge_block, join_free, join_on, after_search, blocks_from, start_in}
+use Rattle.zone_heap.specs.Walks.{fit_from}
+use Rattle.zone_rules.proofs.PurgeLemmas.{unpinned, covers_after, covers_itself, purge_covered}
+use Rattle.zone_heap.proofs.SearchLemmas.{NoFit, fit_is, no_fit, found_first, found_later}
+
+no_room_first : (w : ℕ) (gs hs : List (List Block)) → first_room w (gs ++ hs) ≡ None → first_room w gs ≡ None
+no_room_first w gs hs e = go (first_room w gs) refl where
+  go : (r : Option ℕ) → first_room w gs ≡ r → r ≡ None
+  go None k = refl
+  go (Some p) k = let f = (found_first w p gs hs k).0 in cc
+
+no_fit_of : (w p q : ℕ) (bs : List Block) → 0 < w → Tiles p q bs → first_room w (gaps bs) ≡ None → NoFit w bs
+no_fit_of w p q bs pos t e = go (fit_from w 0 0 0 bs) refl where
+  go : (r : Option (ℕ × ℕ)) → fit_from w 0 0 0 bs ≡ r → NoFit w bs
+  go None k = no_fit w p q bs pos t k
+  go (Some r) k = let f = fit_is w p q bs r pos t k in let g = f.place_is in absurd (cc)
+
+pub full_purges : (w : ℕ) (z : Heap) → IsSound z → 0 < w → first_room w (stretches z.rover z.blocks) ≡ None → purge_among (passed_blocks w (stretches z.rover z.blocks)) z.blocks ≡ map purge_block z.blocks
+full_purges w z s pos e =
+    let bs = z.blocks in
+    let front = gaps (blocks_from (start_in z.rover bs) bs) in
+    let none = no_room_first w front (gaps bs) e in
+    let later = found_later w front (gaps bs) none in
+    let fit = no_fit_of w 0 z.size bs pos s.tiles (sym later.0 ∙ e) in
+    ap (λ ch. purge_among ch bs) (later.1 ∙ ap (λ xs. passed_blocks w front ++ xs) fit.passed_is) ∙ purge_covered _ bs (covers_after (passed_blocks w front) (unpinned bs) bs (covers_itself bs))
+
+abbrev pub NotPurgeable : Block → Type 0
+NotPurgeable b = is_purgeable b ≡ false
+
+purged_stays : (b : Block) → NotPurgeable (purge_block b)
+purged_stays b = go (is_purgeable b) refl where
+  go : (t : Bool) → is_purgeable b ≡ t → is_purgeable (cond t (free_block b.place b.size) b) ≡ false
+  go true e = refl
+  go false e = e
+
+all_purged : (bs : List Block) → All NotPurgeable (map purge_block bs)
+all_purged [] = All-nil NotPurgeable
+all_purged (b ∷ bs) = All-cons NotPurgeable (purge_block b) (map purge_block bs) (purged_stays b) (all_purged bs)
+
+join_on_all : (b : Block) (bs : List Block) → NotPurgeable b → All NotPurgeable bs → All NotPurgeable (join_on b bs)
+join_on_all b [] h a = All-cons NotPurgeable b [] h a
+join_on_all b (c ∷ cs) h a = go (is_free b && is_free c) where
+  go : (t : Bool) → All NotPurgeable (cond t (free_block b.place (b.size + c.size) ∷ cs) (b ∷ c ∷ cs))
+  go true = All-cons NotPurgeable (free_block b.place (b.size + c.size)) cs refl (All-tail NotPurgeable c cs a)
+  go false = All-cons NotPurgeable b (c ∷ cs) h a
+
+join_all : (bs : List Block) → All NotPurgeable bs → All NotPurgeable (join_free bs)
+join_all [] a = a
+join_all (b ∷ bs) a = join_on_all b (join_free bs) (All-head NotPurgeable b bs a) (join_all bs (All-tail NotPurgeable b bs a))
+
+pub full_all : (w : ℕ) (z : Heap) → IsSound z → 0 < w → first_room w (stretches z.rover z.blocks) ≡ None → All NotPurgeable (after_search w z)
+full_all w z s pos e = subst (λ bs. All NotPurgeable (join_free bs)) (sym (full_purges w z s pos e)) (join_all (map purge_block z.blocks) (all_purged z.blocks))

@@ -1,0 +1,159 @@
+-- A slot's block, found at the slot's home.
+use Rattle.std.proofs.Common.{◌≡◌, ℕ, ◌+◌, ◌/◌, ◌%◌, ◌<◌, ◌≤◌, Bool, true, false, cond, List, [], ◌∷◌, ◌++◌, length, set, Option, Some, None, refl, sym, subst, ap, ap₂, ◌∙◌, arith}
+use Rattle.std.specs.Prelude.{◌==◌, IsSome, option_and_then}
+use Rattle.std.proofs.lemmas.Bool.{cond-false, false≢true}
+use Rattle.std.proofs.lemmas.List.{length-append}
+use Rattle.zone_rules.specs.Zones.{Unique, free_block, Block, Owner, owned_block, holding_of, is_held_by, holds_for}
+use Rattle.zone_heap.specs.Headers.{word_at, with_use, freed, block_in, live_in}
+use Rattle.zone_heap.specs.Regions.{joined, blocks_in, blocks_from, AllWhole, IsLaid, IsSplit}
+use Rattle.zone_heap.specs.Homes.{home_index, home_of, AreHome}
+use Rattle.zone_heap.proofs.WordLemmas.{word_within, used_within, length-with_use}
+use Rattle.zone_rules.specs.Frees.{free_owner}
+use Rattle.zone_heap.proofs.PurgeLemmas.{length-freed, told-freed, block-freed}
+use Rattle.zone_heap.proofs.HomeLemmas.{freed_home, index_small, free_one}
+use Rattle.zone_heap.proofs.TakeLemmas.{among, laid_with, blocks_with}
+
+record IsOwned (o : Owner) (bs : List Block) (b : Block) : Type 0 where
+  front : List Block
+  rest : List Block
+  is : bs ≡ front ++ (b ∷ rest)
+  held : is_held_by o b ≡ true
+
+owned_parts : (o : Owner) (bs : List Block) (b : Block) → owned_block o bs ≡ Some b → IsOwned o bs b
+owned_parts o [] b e = cc
+owned_parts o (c ∷ bs) b e = go (is_held_by o c) refl e (λ k. owned_parts o bs b k) where
+  go : (t : Bool) → is_held_by o c ≡ t → cond t (Some c) (owned_block o bs) ≡ Some b → (owned_block o bs ≡ Some b → IsOwned o bs b) → IsOwned o (c ∷ bs) b
+  go true h x k = let same : c ≡ b = cc in record { front = []; rest = bs; is = ap (λ y. y ∷ bs) same; held = ap (is_held_by o) (sym same) ∙ h }
+  go false h x k = let r = k x in record { front = c ∷ r.front; rest = r.rest; is = ap (λ ys. c ∷ ys) r.is; held = r.held }
+
+-- a live slot's block, and what the bytes at its place say
+pub record IsFound (region : List ℕ) (o : Owner) (place : ℕ) : Type 0 where
+  pub block : Block
+  pub owned : owned_block o (blocks_in region) ≡ Some block
+  pub place_is : block.place ≡ place
+  pub front : List Block
+  pub rest : List Block
+  pub is : blocks_in region ≡ front ++ (block ∷ rest)
+  pub held : is_held_by o block ≡ true
+  pub part : List ℕ
+  pub others : List (List ℕ)
+  pub split : IsSplit region place
+  pub rest_is : split.rest ≡ part ∷ others
+  pub front_is : blocks_from 0 split.front ≡ front
+  pub block_is : block ≡ block_in place part
+  pub others_is : blocks_from (place + length part) others ≡ rest
+  pub holds : block.holding ≡ Some (live_in part)
+  pub large : 24 ≤ length part
+  pub fits : place + length part ≤ length region
+  pub words : (k : ℕ) → k + 4 ≤ 24 → word_at region (place + k) ≡ word_at part k
+
+some_is : (o : Option Block) → IsSome o → (b : Block) × (o ≡ Some b)
+some_is None s = cc
+some_is (Some b) s = (b, refl)
+
+held_live : (o : Owner) (c : List ℕ) (t : Bool) → holds_for o (cond t None (Some (live_in c))) ≡ true → t ≡ false
+held_live o c true e = absurd (false≢true e)
+held_live o c false e = refl
+
+pub look : (region : List ℕ) (laid : IsLaid region) (o : Owner) (place : ℕ) → IsSome (owned_block o (blocks_in region)) → place ≡ home_of (owned_block o (blocks_in region)) → IsFound region o place
+look region laid o place live at =
+    let s = some_is (owned_block o (blocks_in region)) live in
+    let b = s.0 in
+    let e = s.1 in
+    let w = owned_parts o (blocks_in region) b e in
+    let here : b.place ≡ place = sym (at ∙ ap home_of e) in
+    let m = among region laid w.front w.rest b w.is in
+    let whole = subst AllWhole m.rest_is m.split.rest_whole in
+    let is = m.split.is ∙ ap (λ cs. joined m.split.front ++ joined cs) m.rest_is in
+    let held = ap (is_held_by o) m.part_is ∙ w.held in
+    let a = ap length is ∙ length-append (joined m.split.front) (m.part ++ joined m.others) in
+    let d = length-append m.part (joined m.others) in
+    let k = m.split.at_is in
+    record {
+      block = b;
+      owned = e;
+      place_is = here;
+      front = w.front;
+      rest = w.rest;
+      is = w.is;
+      held = w.held;
+      part = m.part;
+      others = m.others;
+      split = record { front = m.split.front; rest = m.split.rest; is = m.split.is; at_is = m.split.at_is ∙ here; front_whole = m.split.front_whole; rest_whole = m.split.rest_whole };
+      rest_is = m.rest_is;
+      front_is = m.front_is;
+      block_is = sym m.part_is ∙ ap (λ p. block_in p m.part) here;
+      others_is = ap (λ p. blocks_from (p + length m.part) m.others) (sym here) ∙ m.others_is;
+      holds = sym (ap (λ (x : Block). x.holding) m.part_is) ∙ cond-false (word_at m.part 8 == 4294967295) None (Some (live_in m.part)) (held_live o m.part (word_at m.part 8 == 4294967295) held);
+      large = whole.0;
+      fits = omega arith;
+      words = λ n h. let l : place + n ≡ length (joined m.split.front) + n = omega arith in ap (λ xs. word_at xs (place + n)) is ∙ word_within (joined m.split.front) m.part (joined m.others) n (place + n) l (let q = whole.0 in omega arith);
+    }
+
+-- what a live slot holds
+pub holding_found : (region : List ℕ) (o : Owner) (place : ℕ) (f : IsFound region o place) → holding_of o (blocks_in region) ≡ Some (live_in f.part)
+holding_found region o place f = ap (option_and_then (λ (b : Block). b.holding)) f.owned ∙ f.holds
+
+-- a live slot's block freed
+module _ (l : ℕ) (homes region : List ℕ) (o : Owner) (place : ℕ) (f : IsFound region o place) (home : AreHome l homes (blocks_in region)) where
+  abbrev pub found_after : List ℕ
+  found_after = with_use region place 0 4294967295 0
+
+  abbrev pub found_index : ℕ
+  found_index = home_index l (word_at region (place + 8) / 16777216) (word_at region (place + 8) % 16777216)
+
+  index_is : found_index ≡ home_index l (live_in f.part).owner.kind (live_in f.part).owner.number
+  index_is = ap (λ w. home_index l (w / 16777216) (w % 16777216)) (f.words 8 (omega arith))
+
+  home_here : AreHome l homes (f.front ++ (f.block ∷ f.rest))
+  home_here = subst (AreHome l homes) f.is home
+
+  pub found_small : found_index < length homes
+  found_small = subst (λ k. k < length homes) (sym index_is) (index_small l homes f.front f.rest f.block (live_in f.part) f.holds home_here)
+
+  parts_are : found_after ≡ joined f.split.front ++ (freed f.part ++ joined f.others)
+  parts_are =
+      ap (λ xs. with_use xs place 0 4294967295 0) (f.split.is ∙ ap (λ cs. joined f.split.front ++ joined cs) f.rest_is)
+      ∙ used_within (joined f.split.front) f.part (joined f.others) place 0 4294967295 0 (sym f.split.at_is) (let k = f.large in omega arith)
+
+  whole : AllWhole (f.part ∷ f.others)
+  whole = subst AllWhole f.rest_is f.split.rest_whole
+
+  freed_whole : AllWhole (freed f.part ∷ f.others)
+  freed_whole = let n = length-freed f.part f.large in let k = f.large in (omega arith, told-freed f.part f.large ∙ whole.1 ∙ sym n, whole.2)
+
+  pub found_laid : IsLaid found_after
+  found_laid = laid_with found_after f.split.front (freed f.part ∷ f.others) f.split.front_whole freed_whole parts_are
+
+  pub found_len : length found_after ≡ length region
+  found_len = length-with_use region place 0 4294967295 0 (let k = f.large in let m = f.fits in omega arith)
+
+  free_is : free_block f.block.place f.block.size ≡ free_block place (length f.part)
+  free_is = ap₂ free_block (ap (λ (b : Block). b.place) f.block_is) (ap (λ (b : Block). b.size) f.block_is)
+
+  blocks_are : blocks_in found_after ≡ f.front ++ (free_block f.block.place f.block.size ∷ f.rest)
+  blocks_are =
+      blocks_with found_after place f.split.front (freed f.part ∷ f.others) f.split.front_whole freed_whole parts_are f.split.at_is
+      ∙ ap₂ ◌++◌ f.front_is (ap₂ ◌∷◌ (block-freed f.part f.large place ∙ sym free_is) (ap (λ n. blocks_from (place + n) f.others) (length-freed f.part f.large) ∙ f.others_is))
+
+  pub found_blocks : blocks_in found_after ≡ free_owner o (blocks_in region)
+  found_blocks = blocks_are ∙ sym (ap (free_owner o) f.is ∙ free_one o f.front f.rest f.block f.held (subst Unique f.is home.unique))
+
+  pub found_home : AreHome l (set homes found_index 4294967295) (blocks_in found_after)
+  found_home =
+      subst (λ i. AreHome l (set homes i 4294967295) (blocks_in found_after)) (sym index_is)
+      (subst (AreHome l (set homes (home_index l (live_in f.part).owner.kind (live_in f.part).owner.number) 4294967295)) (sym blocks_are) (freed_home l homes f.front f.rest f.block (live_in f.part) f.holds home_here))
+
+-- a slot's home says whether the slot is live
+module _ (region : List ℕ) (laid : IsLaid region) (o : Owner) (home : ℕ) (is : home ≡ home_of (owned_block o (blocks_in region))) where
+  pub live_home : (home ≡ 4294967295 → ⊥) → IsSome (owned_block o (blocks_in region))
+  live_home other = go (owned_block o (blocks_in region)) refl where
+    go : (x : Option Block) → owned_block o (blocks_in region) ≡ x → IsSome x
+    go None e = absurd (other (is ∙ ap home_of e))
+    go (Some b) e = refl
+
+  pub no_home : length region < 4294967295 → home ≡ 4294967295 → owned_block o (blocks_in region) ≡ None
+  no_home small e = go (owned_block o (blocks_in region)) refl where
+    go : (x : Option Block) → owned_block o (blocks_in region) ≡ x → owned_block o (blocks_in region) ≡ None
+    go None k = k
+    go (Some b) k = absurd (let f = look region laid o home (subst IsSome (sym k) refl) is in let a = f.fits in let l = f.large in omega arith)

@@ -1,0 +1,186 @@
+-- A pass over the region that frees purgeable blocks.
+use Rattle.std.proofs.Common.{◌≡◌, ℕ, zero, suc, ◌+◌, ◌/◌, ◌%◌, ◌<◌, ◌≤◌, Bool, true, false, cond, List, [], ◌∷◌, ◌++◌, length, take, drop, map, set, count_by, Some, None, refl, sym, subst, ap, ap₂, ◌∙◌, arith, inl}
+use Rattle.std.specs.Prelude.{◌==◌}
+use Rattle.std.proofs.lemmas.Bool.{cond-true, cond-false, false≢true}
+use Rattle.std.proofs.lemmas.List.{append_assoc, map-append, length-set}
+use Rattle.std.proofs.lemmas.List.Sums.{sum_by-append, sum_by-cons}
+use Rattle.zone_rules.specs.Zones.{Block, free_block, is_purgeable}
+use Rattle.zone_rules.specs.Requests.{purge_block}
+use Rattle.zone_heap.specs.Headers.{word_at, with_word, with_use, block_in, holding_in, live_in, freed}
+use Rattle.zone_heap.specs.Regions.{joined, blocks_in, blocks_from, IsSplit}
+use Rattle.zone_heap.specs.Homes.{home_index, AreHome}
+use Rattle.zone_heap.proofs.WordLemmas.{word_same, word_other, length-with_word, length-with_use, used_within, word_from}
+use Rattle.zone_heap.proofs.PartLemmas.{Opened, opened_is, whole_rest, split_next, blocks_next, length_after, blocks_split, blocks-append}
+use Rattle.zone_heap.proofs.HomeLemmas.{freed_home, index_small}
+
+module _ (c : List ℕ) (large : 24 ≤ length c) where
+  pub length-freed : length (freed c) ≡ length c
+  length-freed = length-with_use c 0 0 4294967295 0 (omega arith)
+
+  abbrev c1 : List ℕ
+  c1 = with_word c 4 0
+
+  abbrev c2 : List ℕ
+  c2 = with_word c1 8 4294967295
+
+  pub told-freed : word_at (freed c) 0 ≡ word_at c 0
+  told-freed =
+      let a = length-with_word c 4 0 (omega arith) in
+      let b = length-with_word c1 8 4294967295 (omega arith) in
+      word_other c2 12 0 0 (omega arith) (inl (omega arith)) ∙ word_other c1 8 4294967295 0 (omega arith) (inl (omega arith)) ∙ word_other c 4 0 0 (omega arith) (inl (omega arith))
+
+  pub block-freed : (p : ℕ) → block_in p (freed c) ≡ free_block p (length c)
+  block-freed p =
+      let a = length-with_word c 4 0 (omega arith) in
+      let b = length-with_word c1 8 4294967295 (omega arith) in
+      let owner : word_at (freed c) 8 ≡ 4294967295 = word_other c2 12 0 8 (omega arith) (inl (omega arith)) ∙ word_same c1 8 4294967295 (omega arith) (omega arith) in
+      let none = nothing (freed c) (ap (λ n. n == 4294967295) owner) in
+      let size = length-freed in
+      λ i. record { place = p; size = size i; holding = none i } where
+        nothing : (e : List ℕ) → (word_at e 8 == 4294967295) ≡ true → holding_in e ≡ None
+        nothing e t = cond-true (word_at e 8 == 4294967295) None (Some (live_in e)) t
+
+-- a block more of a list
+pub take_next : (bs : List Block) (k : ℕ) (b : Block) (rest : List Block) → drop k bs ≡ b ∷ rest → take (k + 1) bs ≡ take k bs ++ (b ∷ [])
+take_next [] zero b rest e = cc
+take_next [] (suc k) b rest e = cc
+take_next (c ∷ bs) zero b rest e = let k : c ≡ b = cc in ap (λ x. x ∷ []) k
+take_next (c ∷ bs) (suc k) b rest e = ap (λ n. take n (c ∷ bs)) (let f : suc k + 1 ≡ suc (k + 1) = omega arith in f) ∙ ap (λ xs. c ∷ xs) (take_next bs k b rest e)
+
+pub drop_next : (bs : List Block) (k : ℕ) (b : Block) (rest : List Block) → drop k bs ≡ b ∷ rest → drop (k + 1) bs ≡ rest
+drop_next [] zero b rest e = cc
+drop_next [] (suc k) b rest e = cc
+drop_next (c ∷ bs) zero b rest e = cc
+drop_next (c ∷ bs) (suc k) b rest e = ap (λ n. drop n (c ∷ bs)) (let f : suc k + 1 ≡ suc (k + 1) = omega arith in f) ∙ drop_next bs k b rest e
+
+pub record PurgedTo (lumps : ℕ) (old : List ℕ) (all : List ℕ) (region homes : List ℕ) (from at passed count : ℕ) : Type 0 where
+  pub split : IsSplit region at
+  pub len : length region ≡ length old
+  pub homes_len : length homes ≡ length all
+  pub home : AreHome lumps homes (blocks_in region)
+  pub low : passed ≤ at
+  pub few : count ≤ passed
+  pub front : (s : IsSplit old from) → blocks_from 0 split.front ≡ blocks_from 0 s.front ++ map purge_block (take passed (blocks_from from s.rest))
+  pub rest : (s : IsSplit old from) → blocks_from at split.rest ≡ drop passed (blocks_from from s.rest)
+  pub count_is : (s : IsSplit old from) → count ≡ count_by is_purgeable (take passed (blocks_from from s.rest))
+
+pub purged_blocks : (lumps : ℕ) (old all region homes : List ℕ) (from at passed count : ℕ) (p : PurgedTo lumps old all region homes from at passed count) (s : IsSplit old from)
+    → blocks_in region ≡ blocks_from 0 s.front ++ (map purge_block (take passed (blocks_from from s.rest)) ++ drop passed (blocks_from from s.rest))
+purged_blocks lumps old all region homes from at passed count p s =
+    let bs = blocks_from from s.rest in
+    blocks_split region at p.split ∙ ap₂ ◌++◌ (p.front s) (p.rest s) ∙ append_assoc (blocks_from 0 s.front) (map purge_block (take passed bs)) (drop passed bs)
+
+module _ (lumps : ℕ) (old all region homes : List ℕ) (from at passed count : ℕ) (p : PurgedTo lumps old all region homes from at passed count) (n : ℕ) (o : Opened region at p.split n) where
+  abbrev here : Block
+  here = block_in at o.part
+
+  behind_is : (s : IsSplit old from) → drop passed (blocks_from from s.rest) ≡ here ∷ blocks_from (at + n) o.next.rest
+  behind_is s = sym (p.rest s) ∙ o.blocks
+
+  counted : (s : IsSplit old from) → count_by is_purgeable (take (passed + 1) (blocks_from from s.rest)) ≡ count + cond (is_purgeable here) 1 0
+  counted s =
+      let bs = take passed (blocks_from from s.rest) in
+      let f = λ (b : Block). cond {A = ℕ} (is_purgeable b) 1 0 in
+      ap (count_by is_purgeable) (take_next (blocks_from from s.rest) passed here _ (behind_is s)) ∙ sum_by-append f bs (here ∷ []) ∙ ap₂ ◌+◌ (sym (p.count_is s)) (sum_by-cons f here [] ∙ omega arith)
+
+  fronted : (s : IsSplit old from) (b : Block) → purge_block here ≡ b → blocks_from 0 p.split.front ++ (b ∷ []) ≡ blocks_from 0 s.front ++ map purge_block (take (passed + 1) (blocks_from from s.rest))
+  fronted s b e =
+      let bs = take passed (blocks_from from s.rest) in
+      ap (λ xs. xs ++ (b ∷ [])) (p.front s) ∙ append_assoc (blocks_from 0 s.front) (map purge_block bs) (b ∷ []) ∙ ap (λ x. blocks_from 0 s.front ++ (map purge_block bs ++ (x ∷ []))) (sym e)
+      ∙ ap (λ xs. blocks_from 0 s.front ++ xs) (sym (map-append purge_block bs (here ∷ [])) ∙ ap (map purge_block) (sym (take_next (blocks_from from s.rest) passed here _ (behind_is s))))
+
+  -- a block that is no purgeable one
+  pub passed_step : is_purgeable here ≡ false → PurgedTo lumps old all region homes from (at + n) (passed + 1) count
+  passed_step off =
+      let l = o.large in
+      let k = p.low in
+      let f = p.few in
+      let q = p.split.at_is in
+      record {
+        split = o.next;
+        len = p.len;
+        homes_len = p.homes_len;
+        home = p.home;
+        low = omega arith;
+        few = omega arith;
+        front = λ s. ap (blocks_from 0) o.front ∙ blocks-append 0 p.split.front (o.part ∷ []) ∙ ap (λ x. blocks_from 0 p.split.front ++ (block_in x o.part ∷ [])) (let e : 0 + length (joined p.split.front) ≡ at = omega arith in e)
+            ∙ fronted s here (cond-false (is_purgeable here) _ _ off);
+        rest = λ s. sym (drop_next (blocks_from from s.rest) passed here _ (behind_is s));
+        count_is = λ s. let c = counted s in sym (c ∙ ap (λ t. count + cond {A = ℕ} t 1 0) off ∙ omega arith);
+      }
+
+  -- a purgeable block, freed
+  module _ (on : is_purgeable here ≡ true) where
+    abbrev part : List ℕ
+    part = freed o.part
+
+    large : 24 ≤ length o.part
+    large = let a = o.len in let b = o.large in omega arith
+
+    live : (word_at o.part 8 == 4294967295) ≡ false
+    live = go (word_at o.part 8 == 4294967295) on where
+      go : (t : Bool) → is_purgeable (record { place = at; size = length o.part; holding = cond t None (Some (live_in o.part)) }) ≡ true → t ≡ false
+      go true e = absurd (false≢true e)
+      go false e = refl
+
+    holds : here.holding ≡ Some (live_in o.part)
+    holds = cond-false (word_at o.part 8 == 4294967295) None (Some (live_in o.part)) live
+
+    word_is : word_at region (at + 8) ≡ word_at o.part 8
+    word_is = sym (word_from region at 8) ∙ ap (λ (x : Rattle.zone_heap.specs.declared.headers.Header.Header). x.owner) o.header
+
+    same : length part ≡ n
+    same = length-freed o.part large ∙ o.len
+
+    told : word_at part 0 ≡ n
+    told = told-freed o.part large ∙ (whole_rest region at n p.split o).1 ∙ o.len
+
+    abbrev after : List ℕ
+    after = with_use region at 0 4294967295 0
+
+    after_is : after ≡ joined p.split.front ++ (part ++ joined o.next.rest)
+    after_is =
+        let k = large in
+        ap (λ xs. with_use xs at 0 4294967295 0) (opened_is region at n p.split o) ∙ used_within (joined p.split.front) o.part (joined o.next.rest) at 0 4294967295 0 (sym p.split.at_is) (omega arith)
+
+    abbrev next : IsSplit after (at + n)
+    next = split_next region at n p.split o part same told after after_is
+
+    abbrev index : ℕ
+    index = home_index lumps (word_at region (at + 8) / 16777216) (word_at region (at + 8) % 16777216)
+
+    index_is : index ≡ home_index lumps (live_in o.part).owner.kind (live_in o.part).owner.number
+    index_is = ap (λ w. home_index lumps (w / 16777216) (w % 16777216)) word_is
+
+    home_here : AreHome lumps homes (blocks_from 0 p.split.front ++ (here ∷ blocks_from (at + n) o.next.rest))
+    home_here = subst (AreHome lumps homes) (blocks_split region at p.split ∙ ap (λ bs. blocks_from 0 p.split.front ++ bs) o.blocks) p.home
+
+    pub slot_there : index < length homes
+    slot_there = subst (λ k. k < length homes) (sym index_is) (index_small lumps homes (blocks_from 0 p.split.front) (blocks_from (at + n) o.next.rest) here (live_in o.part) holds home_here)
+
+    free_here : block_in at part ≡ free_block at (length o.part)
+    free_here = block-freed o.part large at
+
+    front_is : blocks_from 0 next.front ≡ blocks_from 0 p.split.front ++ (free_block at (length o.part) ∷ [])
+    front_is = blocks_next region at n p.split o part same told after after_is ∙ ap (λ b. blocks_from 0 p.split.front ++ (b ∷ [])) free_here
+
+    pub freed_step : PurgedTo lumps old all after (set homes index 4294967295) from (at + n) (passed + 1) (count + 1)
+    freed_step =
+        let l = o.large in
+        let k = p.low in
+        let f = p.few in
+        let later = blocks_from (at + n) o.next.rest in
+        record {
+          split = next;
+          len = length_after region at n p.split o part same told after after_is ∙ p.len;
+          homes_len = length-set homes index 4294967295 ∙ p.homes_len;
+          home = subst (λ i. AreHome lumps (set homes i 4294967295) (blocks_in after)) (sym index_is)
+              (subst (AreHome lumps (set homes (home_index lumps (live_in o.part).owner.kind (live_in o.part).owner.number) 4294967295))
+              (sym (blocks_split after (at + n) next ∙ ap (λ bs. bs ++ later) front_is ∙ append_assoc (blocks_from 0 p.split.front) (free_block at (length o.part) ∷ []) later))
+              (freed_home lumps homes (blocks_from 0 p.split.front) later here (live_in o.part) holds home_here));
+          low = omega arith;
+          few = omega arith;
+          front = λ s. front_is ∙ fronted s (free_block at (length o.part)) (cond-true (is_purgeable here) _ _ on);
+          rest = λ s. sym (drop_next (blocks_from from s.rest) passed here _ (behind_is s));
+          count_is = λ s. let c = counted s in sym (c ∙ ap (λ t. count + cond {A = ℕ} t 1 0) on);
+        }

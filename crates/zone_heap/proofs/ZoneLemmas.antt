@@ -1,0 +1,191 @@
+-- The zone's fields, and what its calls need and give back.
+use Rattle.std.proofs.Common.{◌≡◌, ℕ, ◌+◌, ◌-◌, ◌*◌, ◌/◌, ◌%◌, ◌<◌, ◌≤◌, Bool, true, false, cond, List, length, map, take, drop, ◌++◌, Global, Option, Some, None, refl, sym, subst, ap, ap₂, ◌∙◌, arith, option_map, inl, inr}
+use Rattle.std.specs.Prelude.{◌==◌, ◌⊎◌, slice_index, slice_range, IsSome, option_and_then, vec_len, IsNone, is_some, not}
+use Rattle.std.proofs.lemmas.Bool.{false≢true, cases_eq, eq-eqb, ne_eqb}
+use Rattle.std.proofs.lemmas.List.{length-take, length-drop}
+use Rattle.std.specs.declared.vec.Vec.{Vec}
+use Rattle.zone_rules.specs.declared.Tag.{Tag}
+use Rattle.zone_rules.specs.Zones.{Block, Holding, Owner, AllFit, IsSound, is_held_by, owner_at, owned_block, holding_of, slot_count, IsLive, bytes_of, same_owner}
+use Rattle.zone_rules.proofs.OwnerLemmas.{owned_apart}
+use Rattle.zone_rules.specs.Frees.{retag_block, write_block, with_bytes}
+use Rattle.zone_rules.proofs.ChangeLemmas.{with_bytes_sound}
+use Rattle.zone_heap.specs.declared.look.Span.{Span}
+use Rattle.zone_rules.proofs.OwnerLemmas.{owned_block-map, retag_held, write_held}
+use Rattle.zone_rules.proofs.SoundLemmas.{in_range_of}
+use Rattle.zone_heap.specs.declared.zone.Zone.TheInside.{Inside}
+use Rattle.zone_heap.specs.View.{heap_of, IsZone}
+use Rattle.zone_heap.specs.Headers.{owner_in, word_at, live_in}
+use Rattle.zone_heap.specs.Regions.{blocks_in}
+use Rattle.zone_heap.specs.Homes.{home_index, home_of, IsSlot, AreExact, AreHome}
+use Rattle.zone_heap.proofs.LookLemmas.{IsFound, look, holding_found}
+use Rattle.zone_heap.proofs.ChangeLemmas.{asked_fits, bytes_found}
+use Rattle.zone_heap.proofs.WriteLemmas.{written_ring, written_blocks}
+
+pub owner_back : (kind number : ℕ) → number < 16777216 → owner_in (kind * 16777216 + number) ≡ owner_at kind number
+owner_back kind number h =
+    let a : (kind * 16777216 + number) / 16777216 ≡ kind = omega arith in
+    let b : (kind * 16777216 + number) % 16777216 ≡ number = omega arith in
+    λ i. record { kind = a i; number = b i }
+
+-- a change of blocks that keeps their places and owners keeps homes exact
+home_map : (f : Block → Block) (places : (b : Block) → (f b).place ≡ b.place) (x : Option Block) → home_of (option_map f x) ≡ home_of x
+home_map f places None = refl
+home_map f places (Some b) = places b
+
+pub exact_map : (l : ℕ) (homes : List ℕ) (bs : List Block) (f : Block → Block) (stays : (o : Owner) (b : Block) → is_held_by o (f b) ≡ is_held_by o b) (places : (b : Block) → (f b).place ≡ b.place) → AreExact l homes bs → AreExact l homes (map f bs)
+exact_map l homes bs f stays places e = λ o s. e o s ∙ sym (ap home_of (owned_block-map o f (stays o) bs) ∙ home_map f places (owned_block o bs))
+
+retag_place : (p : Owner) (tag : Tag) (b : Block) → (retag_block p tag b).place ≡ b.place
+retag_place p tag b = go (is_held_by p b) where
+  go : (t : Bool) → (cond t (record b { holding = Rattle.zone_rules.specs.Frees.set_tag tag b.holding }) b).place ≡ b.place
+  go true = refl
+  go false = refl
+
+write_place : (p : Owner) (w : List ℕ) (b : Block) → (write_block p w b).place ≡ b.place
+write_place p w b = go (is_held_by p b) where
+  go : (t : Bool) → (cond t (record b { holding = Rattle.zone_rules.specs.Frees.write_holding w b.holding }) b).place ≡ b.place
+  go true = refl
+  go false = refl
+
+pub exact_tagged : (l : ℕ) (homes : List ℕ) (bs : List Block) (p : Owner) (tag : Tag) → AreExact l homes bs → AreExact l homes (map (retag_block p tag) bs)
+exact_tagged l homes bs p tag = exact_map l homes bs (retag_block p tag) (λ o. retag_held o p tag) (retag_place p tag)
+
+pub exact_written : (l : ℕ) (homes : List ℕ) (bs : List Block) (p : Owner) (w : List ℕ) → AreExact l homes bs → AreExact l homes (map (write_block p w) bs)
+exact_written l homes bs p w = exact_map l homes bs (write_block p w) (λ o. write_held o p w) (write_place p w)
+
+held_some : (x : Option Block) → IsSome (option_and_then (λ (b : Block). b.holding) x) → IsSome x
+held_some None k = k
+held_some (Some b) k = refl
+
+module _ (i : Inside) (zone : IsZone i) where
+  pub homes_len : length i.homes.items ≡ i.lumps + i.composites
+  homes_len = let a = zone.homes in let b = i.homes.ok.0 in omega arith
+
+  pub region_len : length i.region.items ≡ i.size
+  region_len = let a = zone.region in let b = i.region.ok.0 in omega arith
+
+  pub few : i.lumps ≤ length i.homes.items
+  few = let a = homes_len in omega arith
+
+  pub others : length i.homes.items - i.lumps ≡ i.composites
+  others = let a = homes_len in omega arith
+
+  pub home_all : AreHome i.lumps i.homes.items (blocks_in i.region.items)
+  home_all = record { few = few; unique = zone.sound.unique; fits = subst (λ m. AllFit i.lumps m (blocks_in i.region.items)) (sym others) zone.sound.fits; exact = zone.exact }
+
+  module _ (kind number : ℕ) (known : kind ≤ 1) (inside : number < slot_count (heap_of i) kind) where
+    pub slot_is : IsSlot i.lumps (length i.homes.items - i.lumps) (owner_at kind number)
+    slot_is = subst (λ m. IsSlot i.lumps m (owner_at kind number)) (sym others) (in_range_of (heap_of i) kind number known inside)
+
+    pub number_small : number < 16777216
+    number_small = go (cases_eq kind 0) (cases_eq kind 1) where
+      go : (kind ≡ 0) ⊎ (kind ≡ 0 → ⊥) → (kind ≡ 1) ⊎ (kind ≡ 1 → ⊥) → number < 16777216
+      go (inl e) x = let a = (in_range_of (heap_of i) kind number known inside).0 e in let b = zone.lumps in omega arith
+      go (inr e) (inl f) = let a = (in_range_of (heap_of i) kind number known inside).1 f in let b = zone.composites in omega arith
+      go (inr e) (inr f) = absurd (omega arith)
+
+    module _ (live : IsLive (heap_of i) (owner_at kind number)) where
+      pub owned_live : IsSome (owned_block (owner_at kind number) (blocks_in i.region.items))
+      owned_live = held_some (owned_block (owner_at kind number) (blocks_in i.region.items)) live
+
+      pub found : IsFound i.region.items (owner_at kind number) (slice_index i.homes.items (home_index i.lumps kind number))
+      found = look i.region.items zone.ring.laid (owner_at kind number) (slice_index i.homes.items (home_index i.lumps kind number)) owned_live (zone.exact (owner_at kind number) slot_is)
+
+      from_word : word_at i.region.items (slice_index i.homes.items (home_index i.lumps kind number) + 4) ≡ word_at found.part 4
+      from_word = found.words 4 (omega arith)
+
+      -- the span of a live slot
+      module _ (s : Span) (from_is : s.from ≡ slice_index i.homes.items (home_index i.lumps kind number) + 24) (to_is : s.to ≡ s.from + word_at i.region.items (slice_index i.homes.items (home_index i.lumps kind number) + 4)) where
+        fits : word_at found.part 4 + 24 ≤ length found.part
+        fits = asked_fits i.region.items (owner_at kind number) (slice_index i.homes.items (home_index i.lumps kind number)) found i.lumps i.composites zone.sound.fits
+
+        to_word : s.to ≡ slice_index i.homes.items (home_index i.lumps kind number) + 24 + word_at found.part 4
+        to_word = let a = from_word in omega arith
+
+        pub span_order : s.from ≤ s.to
+        span_order = omega arith
+
+        pub span_bound : s.to ≤ i.size
+        span_bound = let a = to_word in let b = fits in let c = found.fits in let d = region_len in omega arith
+
+        pub span_bytes : bytes_of (owner_at kind number) (blocks_in i.region.items) ≡ Some (slice_range i.region.items s.from s.to)
+        span_bytes =
+            let a = to_word in
+            let n : word_at found.part 4 ≡ s.to - s.from = omega arith in
+            bytes_found i.region.items (owner_at kind number) (slice_index i.homes.items (home_index i.lumps kind number)) found i.lumps i.composites zone.sound.fits ∙ ap₂ (λ k p. Some (take k (drop p i.region.items))) n (sym from_is)
+
+        pub span_len : length (slice_range i.region.items s.from s.to) ≡ s.to - s.from
+        span_len =
+            let a = length-take (s.to - s.from) (drop s.from i.region.items) in
+            let b = length-drop s.from i.region.items in
+            let c = span_bound in
+            let d = region_len in
+            omega arith
+
+        pub span_within : (s.from ≡ found.block.place + 24) × (s.to ≤ found.block.place + found.block.size)
+        span_within = let a = found.place_is in let b = ap (λ (x : Block). x.size) found.block_is in let c = fits in let d = to_word in (omega arith, omega arith)
+
+        -- other bytes there
+        module _ (w : List ℕ) (len : length w ≡ s.to - s.from) (v : Vec ℕ Global) (is : v.items ≡ take s.from i.region.items ++ (w ++ drop s.to i.region.items)) (same : vec_len v ≡ vec_len i.region) where
+          w_len : length w ≡ word_at found.part 4
+          w_len = let a = to_word in omega arith
+
+          items : v.items ≡ take (slice_index i.homes.items (home_index i.lumps kind number) + 24) i.region.items ++ (w ++ drop (slice_index i.homes.items (home_index i.lumps kind number) + 24 + word_at found.part 4) i.region.items)
+          items = is ∙ ap₂ (λ m n. take m i.region.items ++ (w ++ drop n i.region.items)) from_is to_word
+
+          blocks : blocks_in v.items ≡ map (write_block (owner_at kind number) w) (blocks_in i.region.items)
+          blocks = written_blocks i.region.items (owner_at kind number) (slice_index i.homes.items (home_index i.lumps kind number)) found zone.ring zone.sound.unique w v.items w_len fits items
+
+          pub written_heap : heap_of (record i { region = v }) ≡ with_bytes (owner_at kind number) w (heap_of i)
+          written_heap = λ j. record { size = i.size; lumps = i.lumps; composites = i.composites; blocks = blocks j; rover = i.rover; purges = i.purges }
+
+          right : (h : Holding) → holding_of (owner_at kind number) (blocks_in i.region.items) ≡ Some h → length w ≡ h.asked
+          right h e = let k : live_in found.part ≡ h = some_same (live_in found.part) h (sym (holding_found i.region.items (owner_at kind number) (slice_index i.homes.items (home_index i.lumps kind number)) found) ∙ e) in w_len ∙ ap (λ (x : Holding). x.asked) k where
+            some_same : (x y : Holding) → ◌≡◌ {A = Option Holding} (Some x) (Some y) → x ≡ y
+            some_same x y e = cc
+
+          pub written_zone : IsZone (record i { region = v })
+          written_zone = record {
+            sound = subst IsSound (sym written_heap) (with_bytes_sound (owner_at kind number) w (heap_of i) zone.sound right);
+            ring = written_ring i.region.items (owner_at kind number) (slice_index i.homes.items (home_index i.lumps kind number)) found zone.ring zone.sound.unique w v.items w_len fits items;
+            exact = subst (AreExact i.lumps i.homes.items) (sym blocks) (exact_written i.lumps i.homes.items (blocks_in i.region.items) (owner_at kind number) w zone.exact);
+            region = same ∙ zone.region;
+            least = zone.least;
+            small = zone.small;
+            lumps = zone.lumps;
+            composites = zone.composites;
+            homes = zone.homes;
+          }
+
+    -- whether a slot is live, by its home
+    pub live_told : (home : ℕ) → home ≡ slice_index i.homes.items (home_index i.lumps kind number) → not (home == 4294967295) ≡ is_some (holding_of (owner_at kind number) (blocks_in i.region.items))
+    live_told home e = go (owned_block (owner_at kind number) (blocks_in i.region.items)) refl where
+      at : home ≡ home_of (owned_block (owner_at kind number) (blocks_in i.region.items))
+      at = e ∙ zone.exact (owner_at kind number) slot_is
+
+      go : (x : Option Block) → owned_block (owner_at kind number) (blocks_in i.region.items) ≡ x → not (home == 4294967295) ≡ is_some (holding_of (owner_at kind number) (blocks_in i.region.items))
+      go None k = ap not (eq-eqb home 4294967295 (at ∙ ap home_of k)) ∙ sym (ap (λ (x : Option Block). is_some (option_and_then (λ (b : Block). b.holding) x)) k)
+      go (Some b) k =
+          let f = look i.region.items zone.ring.laid (owner_at kind number) home (subst IsSome (sym k) refl) at in
+          let a = f.fits in
+          let l = f.large in
+          let r = region_len in
+          let s = zone.small in
+          ap not (ne_eqb home 4294967295 (λ x. omega arith)) ∙ sym (ap is_some (holding_found i.region.items (owner_at kind number) home f))
+
+pub none_is : (x : Option ℕ) → is_some x ≡ false → (x ≡ None) × IsNone x
+none_is None e = (refl, refl)
+none_is (Some p) e = absurd (false≢true (sym e))
+
+pub some_place : (x : Option ℕ) → is_some x ≡ true → (p : ℕ) × (x ≡ Some p)
+some_place None e = absurd (false≢true e)
+some_place (Some p) e = (p, refl)
+
+-- the parts of two live slots lie apart
+pub spans_apart : (i : Inside) (zone : IsZone i) (o q : Owner) (p r : ℕ) (f : IsFound i.region.items o p) (h : IsFound i.region.items q r) (s t : Span) → same_owner o q ≡ false
+    → (s.from ≡ f.block.place + 24) × (s.to ≤ f.block.place + f.block.size) → (t.from ≡ h.block.place + 24) × (t.to ≤ h.block.place + h.block.size) → (s.to ≤ t.from) ⊎ (t.to ≤ s.from)
+spans_apart i zone o q p r f h s t apart x y =
+    elim (owned_apart o q 0 i.size (blocks_in i.region.items) f.block h.block apart zone.sound.tiles f.owned h.owned) [
+      | inl z ↦ inl (let u = x.1 in let v = y.0 in omega arith)
+      | inr z ↦ inr (let u = x.0 in let v = y.1 in omega arith)
+    ]

@@ -1,8 +1,0 @@
-use Rattle.std.proofs.Common.{sym, subst}
-use Rattle.zone_region.specs.Homes.{AreHome}
-use Rattle.zone_region.specs.Regions.{blocks_in}
-use Rattle.zone_region.proofs.HomeLemmas.{joined_home}
-use Rattle.zone_region.proofs.search.search.Goals as goal
-
-pub returns-clause-home : goal.returns-clause-home
-returns-clause-home c = subst (AreHome c.args.lumps c.clear_way-room.new.homes) (sym c.join.ensures.blocks) (joined_home c.args.lumps c.clear_way-room.new.homes (blocks_in c.clear_way-room.new.region) c.clear_way-room.ensures.home)

@@ -1,6 +1,0 @@
-pub mod Headers
-pub mod Regions
-pub mod Homes
-pub mod Asks
-pub mod View
-pub mod Calls
