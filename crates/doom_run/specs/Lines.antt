@@ -3,8 +3,8 @@ use Rattle.std.specs.Prelude.{ℕ, List, [], ◌++◌, codes}
 use Rattle.std.specs.List.{flat_map}
 use Rattle.refusals.specs.declared.refusal.Refusal.{Refusal}
 use Rattle.refusals.specs.Lines.{labelled, numbers_of, spaced}
-use Rattle.doom_run.specs.declared.status.LimitKind.{LimitKind}
-use Rattle.doom_run.specs.declared.status.LimitKind.TheVariants.{Planes, Openings}
+use Rattle.picture_rules.specs.declared.LimitKind.{LimitKind}
+use Rattle.picture_rules.specs.declared.LimitKind.TheVariants.{Planes, Openings}
 use Rattle.doom_run.specs.declared.status.Status.{Status}
 use Rattle.doom_run.specs.declared.status.Status.TheVariants.{Done, Usage, Refused, ReadFault, WriteFault, Limit, ZoneFull, OutOfMemory}
 

@@ -25,6 +25,7 @@ mod tiling;
 mod top;
 
 pub use notes::put_note;
+pub use picture_rules::LimitKind;
 pub use refusals::{ArtRefusal, Refusal, SceneRefusal};
-pub use status::{LimitKind, Status};
+pub use status::Status;
 pub use top::run;

@@ -4,8 +4,9 @@ ghost use Rattle.outside.specs.Sink.{Writes};
 ghost use Rattle.doom_run.specs.Lines.{line_of, limit_label, refusal_line, pair_line};
 
 use crate::Refusal;
-use crate::status::{LimitKind, Status};
+use crate::status::Status;
 use outside::{Failed, Sink};
+use picture_rules::LimitKind;
 use refusals::{put_labelled, put_numbers_of};
 
 /// Appends the line of a status, and nothing for `Done`. Takes no memory.

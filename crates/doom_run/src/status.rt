@@ -4,6 +4,7 @@ ghost use Rattle.doom_run.specs.Ends.{code_of, status_of};
 
 use crate::Refusal;
 use outside::Fault;
+use picture_rules::LimitKind;
 use scene_load::LoadFault;
 
 /// How a run ends.
@@ -33,15 +34,6 @@ pub enum Status {
     },
     /// Memory was not found.
     OutOfMemory,
-}
-
-/// What a limit counts.
-#[derive(Clone, Copy, Debug, PartialEq, Eq)]
-pub enum LimitKind {
-    /// Visplanes.
-    Planes,
-    /// Openings: saved clips and texture columns.
-    Openings,
 }
 
 impl Status {

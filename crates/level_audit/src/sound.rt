@@ -169,6 +169,16 @@ impl SoundScene {
         self.scene.faces.sky
     }
 
+    /// The lump of COLORMAP: the last of that name in the directory that the scene was read from
+    /// (`audit`, `colormap`), and so one of its lumps.
+    ///
+    /// The original: `colormaps`, r_main.c, which `R_InitColormaps`, r_data.c, reads.
+    pub fn colormap(&self) -> LumpNo
+        ensures { result.0 ≡ self.now.scene.base.colormap }
+    {
+        self.scene.base.colormap
+    }
+
     /// The first 768 bytes of PLAYPAL: red, green and blue of 256 colours.
     pub fn palette(&self) -> &[u8]
         ensures { result.now ≡ self.now.scene.base.palette }

@@ -139,6 +139,12 @@ mod tests {
         bytes.fill(7);
     }
 
+    // Sets each byte to 7, and the count to their number.
+    fn fill_and_count(bytes: &mut [u8], count: &mut usize) {
+        bytes.fill(7);
+        *count = bytes.len();
+    }
+
     fn copy(from: &[u8], to: &mut [u8]) {
         if from.len() == to.len() {
             to.copy_from_slice(from);
@@ -161,5 +167,19 @@ mod tests {
         zone.pair(lump, composite, copy);
         assert!(rt; zone.bytes(lump) == Some(&[7, 7, 7]));
         assert!(rt; zone.bytes(composite) == Some(&[7, 7, 7]));
+    }
+
+    #[test]
+    fn bytes_are_written_beside_a_context(rt: HostRuntime) {
+        let lump: Slot<LumpKind> = Slot::new(0);
+        let Ok(mut zone) = Zone::new(rt.alloc(), 4096, 1, 1) else {
+            panic!(rt; "no memory");
+        };
+        assert!(rt; zone.malloc(lump, 3, Tag::Cache).is_ok());
+        assert!(rt; zone.is_live(lump));
+        let mut count = 0;
+        zone.bytes_mut_with(lump, &mut count, fill_and_count);
+        assert!(rt; count == 3);
+        assert!(rt; zone.bytes(lump) == Some(&[7, 7, 7]));
     }
 }

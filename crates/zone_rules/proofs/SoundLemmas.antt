@@ -9,7 +9,7 @@ use Rattle.zone_rules.proofs.GapLemmas.{wider_from, none_found, some_found, wide
 use Rattle.zone_rules.proofs.PurgeLemmas.{tiles_le}
 use Rattle.zone_rules.proofs.JoinLemmas.{Tiles-join_free, Apart-join_free, Unique-join_free, AllFit-join_free, Lacks-join_free}
 use Rattle.zone_rules.proofs.ZoneLemmas.{Tiles-freed, Unique-freed, AllFit-freed, Lacks-freed, purge_frees, around_is_place, after_is_place, release_frees}
-use Rattle.zone_rules.proofs.TakeLemmas.{room_left, InRange, take_at_is, tiles_cut_block, apart_cut_block, fit_cut_block, unique_cut_block}
+use Rattle.zone_rules.proofs.TakeLemmas.{InRange, take_at_is, tiles_cut_block, apart_cut_block, fit_cut_block, unique_cut_block}
 use Rattle.zone_rules.specs.Frees.{free_owner, without_block}
 
 pub few_tiles : (p q : ℕ) (bs : List Block) → Tiles p q bs → p + 24 * length bs ≤ q
@@ -72,9 +72,6 @@ module _ (w p : ℕ) (z : Heap) (h : Holding) (s : IsSound z) (pos : 0 < z.size)
     fits = subst (AllFit z.lumps z.composites) (sym shape) (fit_cut_block p r.size w h z.lumps z.composites r.front r.rest w_is r.large (λ k a b. (a, b, len, in_range.0, in_range.1, in_range.2)) (subst (AllFit z.lumps z.composites) r.is (searched_fits w z s)));
     rover = after_is_place p z.size (take_at p w h (after_search w z)) new_tiles pos;
   }
-
-  pub room_for_one : length (after_search w z) + 1 ≤ 2 * (z.lumps + z.composites)
-  room_for_one = room_left z.lumps z.composites h.owner (after_search w z) in_range (searched_apart w z) (searched_unique w z s) (searched_fits w z s) (searched_lacks w z h.owner lacks)
 
 pub in_range_of : (z : Heap) (kind number : ℕ) → kind ≤ 1 → number < slot_count z kind → InRange z.lumps z.composites (owner_at kind number)
 in_range_of z kind number k n = (

@@ -1,11 +1,9 @@
--- A free block given to a slot. There is room for one more block: live blocks are at most as many as slots, and free ones stand between them.
-use Rattle.std.proofs.Common.{◌≡◌, ℕ, ◌+◌, ◌-◌, ◌≤◌, Bool, true, false, cond, ◌&&◌, List, [], ◌∷◌, ◌++◌, Option, Some, None, refl, sym, subst, ap, ◌∙◌, arith, inl, inr, suc, ◌*◌, ◌<◌, length, eqb}
-use Rattle.std.specs.Prelude.{◌==◌, nat_lt, ◌⊎◌, is_none}
-use Rattle.std.proofs.lemmas.Bool.{cond-true, cond-false, ne_eqb, eq-eqb, ltb-true, ltb-false, and_left, and_right, and_cases, false≢true, eqb-true, and_from, or_cases, cases_eq, cases_lt}
+-- A free block given to a slot, and the numbers of the slots.
+use Rattle.std.proofs.Common.{◌≡◌, ℕ, ◌+◌, ◌-◌, ◌≤◌, Bool, true, false, cond, ◌&&◌, List, [], ◌∷◌, ◌++◌, Option, Some, None, refl, sym, subst, ap, ◌∙◌, arith, inl, inr, ◌<◌}
+use Rattle.std.specs.Prelude.{◌==◌, nat_lt, ◌⊎◌}
+use Rattle.std.proofs.lemmas.Bool.{cond-true, cond-false, ne_eqb, eq-eqb, ltb-true, ltb-false, and_left, and_right, and_cases, false≢true, and_from, cases_eq, cases_lt}
 use Rattle.zone_rules.specs.Zones.{Block, Holding, Owner, Tiles, Apart, Lacks, OwnsOnce, Unique, AllFit, FitsHolding, is_free, holds_for, same_owner, starts_free, free_block, block_size}
 use Rattle.zone_rules.specs.Requests.{cut_block, take_at}
-use Rattle.std.specs.List.{IsDistinct, AllByRecursion, list_any}
-use Rattle.std.proofs.lemmas.Map.Steps.{length-le_from_distinct_below}
 
 module _ (p size wanted : ℕ) (h : Holding) where
   abbrev pub fb : Block
@@ -86,30 +84,9 @@ module _ (p size wanted : ℕ) (h : Holding) where
   unique_cut_block (y ∷ front) rest l u = (owns_cut y.holding front rest l.0 u.0, unique_cut_block front rest l.1 u.1)
 
 module _ (l m : ℕ) where
+  -- the number of an owner among all slots, those of the lumps first
   abbrev pub code : Owner → ℕ
   code o = cond (o.kind == 0) o.number (l + o.number)
-
-  abbrev pub with_code : Option Holding → List ℕ → List ℕ
-  with_code None cs = cs
-  with_code (Some h) cs = code h.owner ∷ cs
-
-  abbrev pub codes : List Block → List ℕ
-  codes [] = []
-  codes (b ∷ bs) = with_code b.holding (codes bs)
-
-  abbrev pub one_if : Bool → ℕ
-  one_if true = 1
-  one_if false = 0
-
-  few : (bs : List Block) → Apart bs → length bs ≤ 2 * length (codes bs) + one_if (starts_free bs)
-  few [] a = omega arith
-  few (b ∷ bs) a = go b.holding a.0 (few bs a.1) where
-    go : (h : Option Holding) → (is_none h && starts_free bs) ≡ false → length bs ≤ 2 * length (codes bs) + one_if (starts_free bs) → suc (length bs) ≤ 2 * length (with_code h (codes bs)) + one_if (is_none h)
-    go None e k = let z : one_if (starts_free bs) ≡ 0 = ap one_if e in omega arith
-    go (Some h) e k = at_most (starts_free bs) k where
-      at_most : (u : Bool) → length bs ≤ 2 * length (codes bs) + one_if u → suc (length bs) ≤ 2 * suc (length (codes bs)) + 0
-      at_most true k = omega arith
-      at_most false k = omega arith
 
   -- an owner that the zone has a slot for
   abbrev pub InRange : Owner → Type 0
@@ -140,40 +117,3 @@ module _ (l m : ℕ) where
     go (inl x) (inr y) = let a = lum o x in let b = comp p y in let n = r.0 x in absurd (omega arith)
     go (inr x) (inl y) = let a = comp o x in let b = lum p y in let n = s.0 y in absurd (omega arith)
     go (inr x) (inr y) = let a = comp o x in let b = comp p y in let u = one_kind o.kind x r.2 in let v = one_kind p.kind y s.2 in and_from _ _ (eq-eqb o.kind p.kind (omega arith)) (eq-eqb o.number p.number (omega arith))
-
-  range_of : (s : ℕ) (h : Holding) → FitsHolding l m s (Some h) → InRange h.owner
-  range_of s h f = (f.3, f.4, f.5)
-
-  no_code : (o : Owner) (bs : List Block) → InRange o → AllFit l m bs → Lacks o bs → AllByRecursion (λ y. eqb (code o) y ≡ false) (codes bs)
-  no_code o [] r f k = tt
-  no_code o (b ∷ bs) r f k = go b.holding f.0 k.0 (no_code o bs r f.1 k.1) where
-    go : (h : Option Holding) → FitsHolding l m b.size h → holds_for o h ≡ false → AllByRecursion (λ y. eqb (code o) y ≡ false) (codes bs) → AllByRecursion (λ y. eqb (code o) y ≡ false) (with_code h (codes bs))
-    go None f e rest = rest
-    go (Some h) f e rest = (ne_eqb (code o) (code h.owner) (λ x. false≢true (sym e ∙ code_same h.owner o (range_of b.size h f) r (sym x))), rest)
-
-  distinct : (bs : List Block) → AllFit l m bs → Unique bs → IsDistinct eqb (codes bs)
-  unfolding IsDistinct
-  distinct [] f u = tt
-  distinct (b ∷ bs) f u = go b.holding f.0 u.0 (distinct bs f.1 u.1) where
-    go : (h : Option Holding) → FitsHolding l m b.size h → OwnsOnce h bs → IsDistinct eqb (codes bs) → IsDistinct eqb (with_code h (codes bs))
-    go None x o d = d
-    go (Some h) x o d = (no_code h.owner bs (range_of b.size h x) f.1 o, d)
-
-  small : (bs : List Block) (q : ℕ) → AllFit l m bs → list_any (eqb q) (codes bs) ≡ true → q < l + m
-  small [] q f k = absurd (false≢true k)
-  small (b ∷ bs) q f k = go b.holding f.0 k (small bs q f.1) where
-    go : (h : Option Holding) → FitsHolding l m b.size h → list_any (eqb q) (with_code h (codes bs)) ≡ true → (list_any (eqb q) (codes bs) ≡ true → q < l + m) → q < l + m
-    go None x k rest = rest k
-    go (Some h) x k rest = elim (or_cases (eqb q (code h.owner)) (list_any (eqb q) (codes bs)) k) [ inl e ↦ (let c = code_small h.owner (range_of b.size h x) in let d = eqb-true q (code h.owner) e in omega arith) | inr e ↦ rest e ]
-
-  pub room_left : (o : Owner) (bs : List Block) → InRange o → Apart bs → Unique bs → AllFit l m bs → Lacks o bs → length bs + 1 ≤ 2 * (l + m)
-  unfolding IsDistinct
-  room_left o bs r a u f k =
-      let d : IsDistinct eqb (code o ∷ codes bs) = (no_code o bs r f k, distinct bs f u) in
-      let n = length-le_from_distinct_below (code o ∷ codes bs) (l + m) d (λ q e. elim (or_cases (eqb q (code o)) (list_any (eqb q) (codes bs)) e) [ inl x ↦ (let c = code_small o r in let y = eqb-true q (code o) x in omega arith) | inr x ↦ small bs q f x ]) in
-      let e = few bs a in
-      let one : one_if (starts_free bs) ≤ 1 = at_most (starts_free bs) in
-      omega arith where
-        at_most : (t : Bool) → one_if t ≤ 1
-        at_most true = omega arith
-        at_most false = omega arith

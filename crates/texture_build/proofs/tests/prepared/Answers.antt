@@ -1,4 +1,4 @@
-use Rattle.std.proofs.Common.{◌≡◌, List, [], Option, None, Some, length}
+use Rattle.std.proofs.Common.{◌≡◌, [], Option, None, Some, length}
 use Rattle.std.specs.Prelude.{IfSome, IsSome, unwrap_or}
 use Rattle.std.proofs.lemmas.List.Elements.{All-head}
 use Rattle.art_rules.specs.Textures.{Texture, texture_at}
