@@ -1,11 +1,14 @@
 -- What is told of lumps of art that are read, in the words of an audit.
-use Rattle.std.proofs.Common.{◌≡◌, ◌⊎◌, inl, inr, ℕ, ◌<◌, ◌==◌, ◌&&◌, ◌||◌, Bool, true, false, not, List, length, map, get_or, Option, Result, Ok, Err, refl, subst, ◌∙◌}
-use Rattle.std.specs.Prelude.{All, OnOk}
+use Rattle.std.proofs.Common.{◌≡◌, inl, inr, ℕ, suc, ◌<◌, ◌==◌, ◌&&◌, ◌||◌, Bool, true, false, not, List, [], ◌∷◌, length, map, get_or, Option, Some, None, Result, refl, sym, ap, subst, ◌∙◌, arith}
+use Rattle.std.specs.Prelude.{All, IfSome}
 use Rattle.std.specs.List.{list_any}
 use Rattle.std.proofs.lemmas.Bool.{cases_eq, eqb-true, eq-eqb, ne_eqb}
 use Rattle.std.proofs.lemmas.List.Folds.{Any-from_list_any, list_any_at}
+use Rattle.std.proofs.lemmas.List.Elements.{All-append, All-map}
+use Rattle.word_rules.specs.Listed.{joined_lists}
+use Rattle.word_rules.proofs.ListedLemmas.{joined_lists-cons}
 use Rattle.outside.specs.Shelf.{ShelfView}
-use Rattle.outside.specs.Faults.{fault_above, from_below, itself}
+use Rattle.outside.specs.Faults.{from_below, itself}
 use Rattle.zone_rules.specs.Zones.{Heap}
 use Rattle.lump_rules.specs.Lookups.{last_of}
 use Rattle.wad_dir.specs.DirectoryView.{DirectoryView}
@@ -19,17 +22,19 @@ use Rattle.art_rules.specs.declared.refusal.TexRefusal.{TexRefusal}
 use Rattle.art_rules.specs.declared.refusal.SpriteRefusal.{SpriteRefusal}
 use Rattle.scene_rules.specs.declared.refusal.AuditRefusal.{AuditRefusal}
 use Rattle.texture_build.specs.Asked.{IsWantedPatch}
-use Rattle.texture_build.specs.Views.{is_wanted}
+use Rattle.texture_build.specs.Views.{IsPrepared, TexturesView, is_wanted}
 use Rattle.texture_build.proofs.PrepareLemmas.{tells_wanted}
 use Rattle.art_rules.specs.declared.shapes.Frame.{Frame}
 use Rattle.art_rules.specs.declared.shapes.Need.{Need}
-use Rattle.art_rules.specs.Books.{each_of, first_needs, frame_of}
+use Rattle.art_rules.specs.declared.shapes.Shape.{Shape}
+use Rattle.art_rules.specs.Books.{book_lumps, each_of, first_needs, frame_of, shape_lumps}
 use Rattle.sprite_book.specs.Calls.{IsWanted}
 use Rattle.scene_rules.specs.declared.Placed.{Placed}
-use Rattle.scene_rules.specs.declared.refusal.AuditRefusal.TheVariants.{Sprite, Texture}
+use Rattle.scene_rules.specs.declared.refusal.AuditRefusal.TheVariants.{Texture}
 use Rattle.scene_rules.specs.Places.{need_of}
 use Rattle.scene_rules.specs.Scenes.{book_in}
-use Rattle.scene_rules.specs.Sides.{is_wanted_texture, shows_texture}
+use Rattle.scene_rules.specs.Sides.{is_sky_texture, is_wanted_texture, shows_texture}
+use Rattle.level_audit.specs.Whole.{AreSidePrepared, IsNoneOrPrepared}
 
 -- the wanted textures are those of sides and sky
 pub textures_wanted : {B : Type 0} {v w : ShelfView} {dir : DirectoryView} {a b : Heap} {value : B → List (Option PreparedTexture)} (lists : TextureLists) (sides : List SideTextures) (sky : Option ℕ) (wanted : List TexNo) (result : Result B (Fault TexRefusal)) →
@@ -53,12 +58,16 @@ unfolding book_in
 book_needed {v} {w} {dir} {a} {b} placed needs result are one =
     subst (λ (n : List Need). ReadsLumps itself v w dir a b (IsWanted dir.lumps n) (λ (book : List Frame). book) (λ bytes. each_of (frame_of bytes dir.lumps) (first_needs n)) result) are one
 
--- what follows from the wanted textures, after an Ok
-pub middles_after : {A E P Q : Type 0} (result : Result A E) → (P → Q) → OnOk result P → OnOk result Q
-middles_after (Ok x) f p = f p
-middles_after (Err e) f p = tt
+-- each of three settles it
+first_shows : (a b c : Bool) → a ≡ true → (a || b || c) ≡ true
+first_shows true b c e = refl
+first_shows false b c e = cc
 
--- the last of three settles it
+second_shows : (a b c : Bool) → b ≡ true → (a || b || c) ≡ true
+second_shows true b c e = refl
+second_shows false true c e = refl
+second_shows false false c e = cc
+
 last_shows : (a b c : Bool) → c ≡ true → (a || b || c) ≡ true
 last_shows true b c e = refl
 last_shows false true c e = refl
@@ -69,21 +78,51 @@ shown_too : (sky zero any : Bool) → zero ≡ false → any ≡ true → (sky |
 shown_too true zero any e f = refl
 shown_too false zero any e f = rw (e, f) refl
 
--- a middle texture that is not number 0 is wanted
-middle_wanted : (sides : List SideTextures) (sky : Option ℕ) (number i : ℕ) (d : SideTextures) → i < length sides → (get_or sides i d).middle ≡ number → (number == 0) ≡ false → is_wanted_texture sides sky number ≡ true
-unfolding is_wanted_texture shows_texture
-middle_wanted sides sky number i d l is some =
-    shown_too _ (number == 0) (list_any (shows_texture number) sides) some
-    (list_any_at (shows_texture number) sides i d l (last_shows ((get_or sides i d).top == number) ((get_or sides i d).bottom == number) ((get_or sides i d).middle == number) (eq-eqb _ _ is)))
+-- a texture that a side shows is wanted, where it is not number 0
+shown_wanted : (sides : List SideTextures) (sky : Option ℕ) (number i : ℕ) (d : SideTextures) → i < length sides → shows_texture number (get_or sides i d) ≡ true → (number == 0) ≡ false → is_wanted_texture sides sky number ≡ true
+unfolding is_wanted_texture
+shown_wanted sides sky number i d l shown some =
+    shown_too _ (number == 0) (list_any (shows_texture number) sides) some (list_any_at (shows_texture number) sides i d l shown)
 
--- what holds of all wanted textures holds of all middle textures that are not number 0
-pub middles_too : (sides : List SideTextures) (sky : Option ℕ) (wanted : List TexNo) (P : ℕ → Type 0) → ((number : ℕ) → is_wanted wanted number ≡ is_wanted_texture sides sky number) → All (λ (tex : TexNo). P tex.0) wanted →
-    All (λ (side : SideTextures). (side.middle ≡ 0) ⊎ P side.middle) sides
-middles_too sides sky wanted P same holds = λ i d l.
-    let number = (get_or sides i d).middle in
-    elim (cases_eq number 0) [
-      | inl none ↦ inl none
-      | inr some ↦ (
-          let found = Any-from_list_any (λ (tex : TexNo). tex.0 == number) wanted (same number ∙ middle_wanted sides sky number i d l refl (ne_eqb number 0 some)) in
-          inr (subst P (eqb-true _ _ found.4) (subst (λ (tex : TexNo). P tex.0) found.3 (holds found.0 found.1 found.2))))
-    ]
+-- so is that of the sky
+sky_wanted : (sides : List SideTextures) (number : ℕ) → is_wanted_texture sides (Some number) number ≡ true
+unfolding is_wanted_texture is_sky_texture
+sky_wanted sides number = ap (λ b. b || (not (number == 0) && list_any (shows_texture number) sides)) (eq-eqb number number refl)
+
+module _ (textures : TexturesView) (sides : List SideTextures) (sky : Option ℕ) (wanted : List TexNo) (same : (number : ℕ) → is_wanted wanted number ≡ is_wanted_texture sides sky number) (prepared : All (λ (tex : TexNo). IsPrepared textures tex.0) wanted) where
+  -- where all wanted textures are prepared, one that is wanted is
+  wanted_prepared : (number : ℕ) → is_wanted_texture sides sky number ≡ true → IsPrepared textures number
+  wanted_prepared number is =
+      let found = Any-from_list_any (λ (tex : TexNo). tex.0 == number) wanted (same number ∙ is) in
+      subst (IsPrepared textures) (eqb-true _ _ found.4) (subst (λ (tex : TexNo). IsPrepared textures tex.0) found.3 (prepared found.0 found.1 found.2))
+
+  shown_prepared : (number i : ℕ) (d : SideTextures) → i < length sides → shows_texture number (get_or sides i d) ≡ true → IsNoneOrPrepared textures number
+  shown_prepared number i d l shown = elim (cases_eq number 0) [
+    | inl none ↦ inl none
+    | inr some ↦ inr (wanted_prepared number (shown_wanted sides sky number i d l shown (ne_eqb number 0 some)))
+  ]
+
+  pub sides_prepared : All (AreSidePrepared textures) sides
+  unfolding shows_texture
+  sides_prepared = λ i d l.
+      let side = get_or sides i d in
+      record {
+        top = shown_prepared side.top i d l (first_shows (side.top == side.top) (side.bottom == side.top) (side.middle == side.top) (eq-eqb _ _ refl));
+        bottom = shown_prepared side.bottom i d l (second_shows (side.top == side.bottom) (side.bottom == side.bottom) (side.middle == side.bottom) (eq-eqb _ _ refl));
+        middle = shown_prepared side.middle i d l (last_shows (side.top == side.middle) (side.bottom == side.middle) (side.middle == side.middle) (eq-eqb _ _ refl));
+      }
+
+-- the sky's texture is prepared
+pub sky_prepared : (textures : TexturesView) (sides : List SideTextures) (sky : Option ℕ) (wanted : List TexNo) → ((number : ℕ) → is_wanted wanted number ≡ is_wanted_texture sides sky number) → All (λ (tex : TexNo). IsPrepared textures tex.0) wanted → IfSome sky (IsPrepared textures)
+sky_prepared textures sides None wanted same prepared = tt
+sky_prepared textures sides (Some number) wanted same prepared = wanted_prepared textures sides (Some number) wanted same prepared number (sky_wanted sides number)
+
+-- the pictures of a book whose shapes are of the directory
+pub pictures_there : (count : ℕ) (book : List Frame) → All (λ (frame : Frame). All (λ (shape : Shape). shape.lump.0 < count) frame.shapes) book → All (λ lump. lump < count) (book_lumps book)
+unfolding book_lumps shape_lumps joined_lists
+pictures_there count [] there = λ i d l. absurd (omega (arith, l))
+pictures_there count (frame ∷ rest) there =
+    subst (λ (lumps : List ℕ). All (λ lump. lump < count) lumps) (sym (joined_lists-cons shape_lumps frame rest))
+    (All-append (λ lump. lump < count) (shape_lumps frame) (joined_lists shape_lumps rest)
+    (All-map (λ lump. lump < count) (λ (shape : Shape). shape.lump.0) frame.shapes (there 0 frame (omega arith)))
+    (pictures_there count rest (λ i d l. there (suc i) d (omega (arith, l)))))

@@ -4,9 +4,7 @@ use Rattle.outside.specs.Faults.{and_then, from_below}
 use Rattle.lump_rules.specs.declared.wad.Lump.{Lump}
 use Rattle.zone_rules.specs.Zones.{Heap}
 use Rattle.map_rules.specs.Levels.{LevelValue}
-use Rattle.art_rules.specs.declared.TheConstants.{PNAMES, TEXTURE1, TEXTURE2}
-use Rattle.art_rules.specs.Textures.{TextureLists, texture_lists}
-use Rattle.lump_rules.specs.Contents.{named_bytes}
+use Rattle.art_rules.specs.Textures.{TextureLists}
 use Rattle.lump_cache.specs.Sizes.{StandsBeside}
 use Rattle.level_scene.specs.Asked.{IsLumpOfMap}
 use Rattle.scene_rules.specs.declared.TheConstants.{PALETTE_SIZE}

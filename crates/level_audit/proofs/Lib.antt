@@ -15,3 +15,4 @@ pub mod SceneLemmas
 pub mod SizeLemmas
 pub mod StepLemmas
 pub mod WeaponLemmas
+pub mod WholeLemmas

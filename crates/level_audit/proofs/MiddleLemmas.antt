@@ -1,9 +1,10 @@
--- Laws of `is_all_single` and `bad_middle`.
-use Rattle.std.proofs.Common.{◌≡◌, ℕ, zero, suc, ◌+◌, ◌<◌, ◌≤◌, Bool, true, false, List, length, get_or, refl, ap, sym, ◌∙◌, arith, zero-add}
-use Rattle.std.specs.Prelude.{◌&&◌}
+-- Laws of `is_all_single` and `bad_middle`, and what columns of single patches are read from.
+use Rattle.std.proofs.Common.{◌≡◌, ℕ, zero, suc, ◌+◌, ◌<◌, ◌≤◌, inl, inr, Bool, true, false, List, length, get_or, refl, ap, subst, sym, ◌∙◌, arith, zero-add}
+use Rattle.std.specs.Prelude.{◌&&◌, All, IsSome}
 use Rattle.std.specs.List.{list_all, list_any, range_with_len}
-use Rattle.std.proofs.lemmas.List.{get_or_default}
-use Rattle.std.proofs.lemmas.List.Folds.{list_all_at}
+use Rattle.std.proofs.lemmas.Bool.{cases_lt, eq-eqb}
+use Rattle.std.proofs.lemmas.List.{get_or_default, get_or_past}
+use Rattle.std.proofs.lemmas.List.Folds.{list_all_at, list_any_at}
 use Rattle.std.proofs.lemmas.List.FromFn.{get_or-range_with_len, length-range_with_len}
 use Rattle.word_rules.specs.Least.{least}
 use Rattle.level_rules.specs.declared.Seg.{Seg}
@@ -11,9 +12,12 @@ use Rattle.level_rules.specs.declared.SideTextures.{SideTextures}
 use Rattle.art_rules.specs.Wanted.{PreparedTexture}
 use Rattle.art_rules.specs.Columns.{is_single}
 use Rattle.art_rules.specs.Textures.{mask_of}
-use Rattle.texture_build.specs.Views.{is_marked}
+use Rattle.art_rules.specs.Lookups.{single_place}
+use Rattle.texture_build.specs.Sources.{own_lookup}
+use Rattle.texture_build.specs.Views.{TexturesView, is_marked}
 use Rattle.scene_rules.specs.Sides.{three_textures}
 use Rattle.scene_rules.specs.Middles.{bad_middle, is_all_single, is_bad_middle, is_bad_side, is_seen_through, middle_of}
+use Rattle.level_audit.specs.Whole.{AllColumnsSingle, IsMiddleSingle, IsNoneOrSingle}
 
 range_all : (p : ℕ → Bool) (a n : ℕ) → ((k : ℕ) → k < a + n → p k ≡ true) → list_all p (range_with_len a n) ≡ true
 range_all p a zero all = refl
@@ -52,3 +56,30 @@ pub marked_read : (texture : ℕ → PreparedTexture) (sides : List SideTextures
 marked_read texture sides marks side d marked l e =
     ap (λ b. b && is_bad_middle texture (middle_of sides side)) (sym e)
     ∙ ap (λ (one : SideTextures). marked && is_bad_middle texture one.middle) (get_or_default sides side (three_textures 0 0 0) d l)
+
+-- each column to the mask is read from one patch
+pub all_columns : (t : PreparedTexture) (last n : ℕ) → last ≡ mask_of (length t.columns) → last < n → ((x : ℕ) → x < n → IsSome (single_place (own_lookup t x))) → AllColumnsSingle t
+all_columns t last n e l all = λ x m. all x (omega (arith, e, l, m))
+
+-- one side, read in a loop, whose middle is not bad
+pub single_read : (textures : TexturesView) (sides : List SideTextures) (marks : List Bool) (side : ℕ) (d : SideTextures) (marked bad : Bool) → side < length sides → marked ≡ is_marked marks side → bad ≡ false →
+    (marked ≡ true → bad ≡ false → IsNoneOrSingle textures (get_or sides side d).middle) → is_marked marks side ≡ true → IsNoneOrSingle textures (middle_of sides side)
+single_read textures sides marks side d marked bad l e f single on =
+    subst (λ (one : SideTextures). IsNoneOrSingle textures one.middle) (sym (get_or_default sides side (three_textures 0 0 0) d l)) (single (e ∙ on) f)
+
+-- the side of a seg with a sector behind it is seen through
+seen_seg : (seg : Seg) → IsSome seg.back → is_seen_through seg.side seg ≡ true
+unfolding is_seen_through
+seen_seg seg behind = rw (eq-eqb seg.side seg.side refl) behind
+
+-- where the middles of all such sides are none or of single columns, so are those of such segs
+pub middles_single : (textures : TexturesView) (segs : List Seg) (sides : List SideTextures) →
+    ((side : ℕ) → side < length sides → list_any (is_seen_through side) segs ≡ true → IsNoneOrSingle textures (middle_of sides side)) →
+    All (IsMiddleSingle textures sides) segs
+unfolding three_textures
+middles_single textures segs sides single = λ i d l behind.
+    let seg = get_or segs i d in
+    elim (cases_lt seg.side (length sides)) [
+      | inl m ↦ single seg.side m (list_any_at (is_seen_through seg.side) segs i d l (seen_seg seg behind))
+      | inr m ↦ inl (ap (λ (side : SideTextures). side.middle) (get_or_past sides seg.side (three_textures 0 0 0) (omega (arith, m))))
+    ]

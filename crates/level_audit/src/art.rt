@@ -2,19 +2,21 @@
 //
 // Rules: `art_rules`, Wanted; `sprite_book`, Books; `scene_rules`, Scenes. The original:
 // `R_PrecacheLevel`, r_data.c.
-ghost use Rattle.std.specs.Prelude.{◌≡◌, ◌<◌, ◌≤◌, ◌⊎◌, All, length, map, option_map, IfOk, IfSome, OnOk};
+ghost use Rattle.std.specs.Prelude.{◌≡◌, ◌<◌, ◌≤◌, All, length, map, option_map, IfOk, IfSome, OnOk};
 ghost use Rattle.outside.specs.Faults.{from_below, itself};
 ghost use Rattle.lump_rules.specs.Lookups.{last_of};
 ghost use Rattle.lump_cache.specs.Calls.{ReadsLumps};
+ghost use Rattle.art_rules.specs.Books.{book_lumps};
 ghost use Rattle.art_rules.specs.Wanted.{prepared_textures};
 ghost use Rattle.texture_build.specs.Asked.{IsWantedPatch};
-ghost use Rattle.texture_build.specs.Views.{IsPrepared};
+ghost use Rattle.texture_build.specs.Views.{AllTexturesListed, AllThere, IsPrepared};
 ghost use Rattle.sprite_book.specs.Calls.{IsWanted};
 ghost use Rattle.level_scene.specs.Bounds.{AreBelow};
 ghost use Rattle.scene_rules.specs.declared.refusal.AuditRefusal.TheVariants.{Sprite, Texture};
 ghost use Rattle.scene_rules.specs.Places.{need_of};
 ghost use Rattle.scene_rules.specs.Scenes.{book_in};
 ghost use Rattle.scene_rules.specs.Sides.{is_wanted_texture};
+ghost use Rattle.level_audit.specs.Whole.{AreSidePrepared};
 
 use crate::AuditFault;
 use crate::fault::{above_sprites, above_textures};
@@ -47,8 +49,11 @@ pub(crate) fn prepare_faces<S: Shelf>(
         from_below Texture (prepared_textures (last_of dir.now.lumps) bytes textures.old.lists
         (is_wanted_texture sides.now (option_map (λ tex. tex.0) sky)))) result }
     ensures lists { textures.new.lists ≡ textures.old.lists }
-    ensures middles { OnOk result
-        (All (λ side. (side.middle ≡ 0) ⊎ IsPrepared textures.new side.middle) sides.now) }
+    ensures sides { OnOk result (All (AreSidePrepared textures.new) sides.now) }
+    ensures sky { OnOk result
+        (IfSome (option_map (λ tex. tex.0) sky) (IsPrepared textures.new)) }
+    ensures there { OnOk result (AllThere dir.now.lumps textures.new) }
+    ensures listed { OnOk result (AllTexturesListed textures.new) }
 {
     let wanted = wanted_textures(alloc, sides, sky)?;
     textures
@@ -68,6 +73,8 @@ pub(crate) fn read_book<S: Shelf>(
     ensures tells { ReadsLumps itself (S.view shelf.old) (S.view shelf.new) dir.now cache.old
         cache.new (IsWanted dir.now.lumps (map need_of placed.now)) (λ book. book) (λ bytes.
         from_below Sprite (book_in bytes dir.now.lumps placed.now)) result }
+    ensures there { IfOk result (λ book. All (λ lump. lump < length dir.now.lumps)
+        (book_lumps book)) }
 {
     let needs = placed.needs(alloc)?;
     SpriteBook::load(alloc, &needs, dir, cache, shelf).map_err(above_sprites)

@@ -51,6 +51,8 @@ use zone_heap::Tag;
 /// no other block is pinned (`rest`); its block and that of each of the other lumps of colours, of
 /// the map, and of the lists are together no larger than the zone (`fits`).
 ///
+/// After Ok over any shelf, the scene has all that drawing asks of it (`whole`).
+///
 /// The original: `P_SetupLevel`, p_setup.c, `R_InitData` and `R_PrecacheLevel`, r_data.c,
 /// `R_InitSprites`, r_things.c. This project's own: that all is checked before anything is drawn.
 pub fn audit<S: Shelf>(

@@ -1,13 +1,14 @@
 // Masked mid textures.
 //
 // Rules: `scene_rules`, Middles. The original: `R_RenderMaskedSegRange`, r_segs.c.
-ghost use Rattle.std.specs.Prelude.{◌≡◌, ◌<◌, ◌^◌, ◌&&◌, ◌⊎◌, All, length, IfOk};
+ghost use Rattle.std.specs.Prelude.{◌≡◌, ◌<◌, ◌^◌, ◌&&◌, ◌⊎◌, ℕ, true, false, All, length, IfOk};
 ghost use Rattle.std.specs.List.{list_any};
 ghost use Rattle.word_rules.specs.Least.{least};
 ghost use Rattle.texture_build.specs.Views.{IsPrepared, is_marked, prepared_texture};
 ghost use Rattle.scene_rules.specs.Middles.{bad_middle, is_all_single, is_bad_middle, is_seen_through, middle_of};
 ghost use Rattle.scene_rules.specs.Scenes.{texture_by};
 ghost use Rattle.level_audit.specs.Views.{AddsMarks};
+ghost use Rattle.level_audit.specs.Whole.{AllColumnsSingle, IsMiddleSingle, IsNoneOrSingle};
 
 use crate::marks::Marks;
 use level_rules::{Seg, SideTextures};
@@ -18,6 +19,8 @@ use texture_build::{TexNo, Textures};
 /// The least side of a seg with a sector behind it whose middle texture is not number 0 and has, among
 /// the columns that a texture column can stand for, one without exactly one patch; `None` where there
 /// is no such side.
+///
+/// Where there is none, each of those columns is read from one patch, for each such seg (`none`).
 ///
 /// Each seg is looked at once, and each side at most once. Takes a byte for each side while it runs.
 ///
@@ -35,8 +38,10 @@ pub fn find_bad_middle(
     requires few { length sides.now < 2 ^ 16 }
     requires prepared { All (λ side. (side.middle ≡ 0) ⊎
         IsPrepared textures.now side.middle) sides.now }
-    ensures { IfOk result (λ side.
+    ensures value { IfOk result (λ side.
         side ≡ bad_middle (texture_by textures.now.prepared) segs.now sides.now) }
+    ensures none { IfOk result (λ side. side ≡ None →
+        All (IsMiddleSingle textures.now sides.now) segs.now) }
 {
     let mut marks = Marks::none(alloc, sides.len())?;
     mark_sides(&mut marks, segs);
@@ -71,9 +76,11 @@ fn first_bad(textures: &Textures, marks: &Marks, sides: &[SideTextures]) -> Opti
     requires prepared { All (λ side. (side.middle ≡ 0) ⊎
         IsPrepared textures.now side.middle) sides.now }
     requires count { length marks.now ≡ length sides.now }
-    ensures { result ≡ least (λ side.
+    ensures value { result ≡ least (λ side.
         is_marked marks.now side && is_bad_middle (texture_by textures.now.prepared)
         (middle_of sides.now side)) (length sides.now) }
+    ensures none { result ≡ None → (side : ℕ) → side < length sides.now →
+        is_marked marks.now side ≡ true → IsNoneOrSingle textures.now (middle_of sides.now side) }
 {
     for (number, side) in sides.iter().enumerate() {
         if is_bad_side(textures, marks.has(number), side.middle) {
@@ -86,8 +93,10 @@ fn first_bad(textures: &Textures, marks: &Marks, sides: &[SideTextures]) -> Opti
 // Whether a side that is seen through or is not has a bad middle texture.
 fn is_bad_side(textures: &Textures, is_seen_through: bool, middle: u16) -> bool
     requires { (middle ≡ 0) ⊎ IsPrepared textures.now middle }
-    ensures { result ≡ (is_seen_through && is_bad_middle (texture_by textures.now.prepared)
+    ensures value { result ≡ (is_seen_through && is_bad_middle (texture_by textures.now.prepared)
         middle) }
+    ensures single { is_seen_through ≡ true → result ≡ false →
+        IsNoneOrSingle textures.now middle }
 {
     is_seen_through && is_bad_middle(textures, middle)
 }
@@ -96,7 +105,8 @@ fn is_bad_side(textures: &Textures, is_seen_through: bool, middle: u16) -> bool
 #[tactic(auto, unfolding(scene_rules::specs::Middles::is_bad_middle))]
 fn is_bad_middle(textures: &Textures, middle: u16) -> bool
     requires { (middle ≡ 0) ⊎ IsPrepared textures.now middle }
-    ensures { result ≡ is_bad_middle (texture_by textures.now.prepared) middle }
+    ensures value { result ≡ is_bad_middle (texture_by textures.now.prepared) middle }
+    ensures single { result ≡ false → IsNoneOrSingle textures.now middle }
 {
     if middle == 0 {
         return false;
@@ -109,7 +119,8 @@ fn is_bad_middle(textures: &Textures, middle: u16) -> bool
 #[tactic(auto, unfolding(scene_rules::specs::Middles::is_all_single))]
 fn is_all_single(textures: &Textures, tex: TexNo) -> bool
     requires { IsPrepared textures.now tex.0 }
-    ensures { result ≡ is_all_single (prepared_texture textures.now tex.0) }
+    ensures value { result ≡ is_all_single (prepared_texture textures.now tex.0) }
+    ensures columns { result ≡ true → AllColumnsSingle (prepared_texture textures.now tex.0) }
 {
     let last = textures.last_column(tex);
     for col in 0..=last {

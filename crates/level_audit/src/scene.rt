@@ -3,9 +3,10 @@
 // Rules: `scene_rules`, Scenes (`scene_on`); `specs/Scenes`. The original: `P_SetupLevel`,
 // p_setup.c, `R_PrecacheLevel`, r_data.c.
 ghost use Rattle.outside.specs.Faults.{itself};
-ghost use Rattle.std.specs.Prelude.{◌≡◌, ◌<◌, ◌≤◌, ◌⊎◌, All, length, map, IfOk, IfSome};
+ghost use Rattle.std.specs.Prelude.{◌≡◌, ◌<◌, ◌≤◌, All, length, map, IfOk, IfSome, OnOk};
 ghost use Rattle.lump_cache.specs.Calls.{ReadsLumps};
-ghost use Rattle.texture_build.specs.Views.{IsPrepared};
+ghost use Rattle.art_rules.specs.declared.TheConstants.{MAX_TEXTURES};
+ghost use Rattle.art_rules.specs.Books.{book_lumps};
 ghost use Rattle.sprite_book.specs.Calls.{IsWanted};
 ghost use Rattle.level_scene.specs.Bounds.{AreBelow};
 ghost use Rattle.scene_rules.specs.Places.{need_of};
@@ -13,6 +14,7 @@ ghost use Rattle.scene_rules.specs.Scenes.{scene_on, scene_over, scene_with};
 ghost use Rattle.level_audit.specs.Bases.{base_of};
 ghost use Rattle.level_audit.specs.Asked.{IsOfArt, IsOfScene};
 ghost use Rattle.level_audit.specs.Scenes.{faces_of, scene_value};
+ghost use Rattle.level_audit.specs.Whole.{AreSidePrepared, IsMiddleSingle, IsWholeArt, IsWholeScene};
 
 use crate::AuditFault;
 use crate::art::{prepare_faces, read_book};
@@ -60,6 +62,9 @@ pub struct MapRequest<'a> {
 /// failed. `ZoneFull` where no gap of the zone held the block of a patch or a picture.
 /// `OutOfMemory`. Whatever comes, what `ReadsLumps` says is kept of the cache.
 ///
+/// The scene has all that drawing asks of it, whatever the lumps' bytes were, if the lists have no
+/// more than `MAX_TEXTURES` textures (`whole`).
+///
 /// The original: `P_SetupLevel`, p_setup.c, `R_PrecacheLevel`, r_data.c.
 pub fn read_scene<S: Shelf>(
     alloc: Global,
@@ -79,6 +84,9 @@ pub fn read_scene<S: Shelf>(
     ensures base { IfOk result (λ scene. base_of scene.base ≡ base_of base) }
     ensures flats { IfOk result (λ scene.
         length scene.faces.flats.items ≡ length base.level.sectors) }
+    ensures whole { length base.textures.lists.textures ≤ MAX_TEXTURES → IfOk result (λ scene.
+        IsWholeScene dir.now.lumps request.now.things.now request.now.name.now
+        request.now.skill (scene_value scene)) }
 {
     let faces = match find_faces(alloc, request.name, dir, &base.level, base.textures.lists()) {
         Ok(faces) => faces,
@@ -108,6 +116,8 @@ fn read_art<S: Shelf>(
         request.now.things.now request.now.skill (base_of base) (faces_of faces)) result }
     ensures base { IfOk result (λ scene. base_of scene.base ≡ base_of base) }
     ensures faces { IfOk result (λ scene. scene.faces ≡ faces) }
+    ensures art { IfOk result (λ scene. IsWholeArt dir.now.lumps request.now.things.now
+        request.now.skill (scene_value scene)) }
 {
     let mut base = base;
     prepare_faces(
@@ -135,14 +145,18 @@ fn read_things<S: Shelf>(
 ) -> Result<ReadScene, AuditFault>
     requires slots { length dir.now.lumps ≤ cache.old.lumps }
     requires sides { length faces.sides.items ≡ length base.level.sides }
-    requires middles { All (λ side. (side.middle ≡ 0) ⊎
-        IsPrepared base.textures side.middle) faces.sides.items }
+    requires prepared { All (AreSidePrepared base.textures) faces.sides.items }
     ensures tells { ReadsLumps itself (S.view shelf.old) (S.view shelf.new) dir.now cache.old
         cache.new (IsWanted dir.now.lumps (map need_of placed)) scene_value (λ bytes.
         scene_over bytes dir.now.lumps (base_of base) (faces_of faces) placed
         base.textures.prepared) result }
     ensures base { IfOk result (λ scene. scene.base ≡ base) }
     ensures faces { IfOk result (λ scene. scene.faces ≡ faces) }
+    ensures placed { IfOk result (λ scene. scene.placed ≡ placed) }
+    ensures middles { OnOk result
+        (All (IsMiddleSingle base.textures faces.sides.items) base.level.segs) }
+    ensures pictures { IfOk result (λ scene. All (λ lump. lump < length dir.now.lumps)
+        (book_lumps scene.book)) }
 {
     let book = read_book(alloc, &placed, dir, cache, shelf)?;
     match check_scene(

@@ -1,10 +1,11 @@
 use Rattle.std.proofs.Common.{ap, ◌∙◌}
 use Rattle.std.specs.Prelude.{option_map}
+use Rattle.std.proofs.lemmas.Result.{on_ok_weaker}
 use Rattle.outside.proofs.ThroughLemmas.{done_through}
 use Rattle.texture_lists.specs.declared.number.TexNo.{TexNo}
-use Rattle.texture_build.specs.Views.{IsPrepared, is_wanted}
+use Rattle.texture_build.specs.Views.{is_wanted}
 use Rattle.scene_rules.specs.declared.refusal.AuditRefusal.TheVariants.{Texture}
-use Rattle.level_audit.proofs.ArtLemmas.{middles_after, middles_too, textures_wanted}
+use Rattle.level_audit.proofs.ArtLemmas.{sides_prepared, sky_prepared, textures_wanted}
 use Rattle.level_audit.proofs.PartLemmas.{above_reads}
 use Rattle.level_audit.proofs.art.prepare_faces.Goals as goal
 
@@ -14,8 +15,14 @@ returns-clause-tells g c =
     (textures_wanted c.args.textures.now.lists c.args.sides.now (option_map (λ (tex : TexNo). tex.0) c.args.sky) c.deref.result.now c.prepare.result
     (λ number. ap (λ wanted. is_wanted wanted number) c.deref.ensures.value ∙ c.in_ok-wanted.ensures.wanted number) c.prepare.ensures.tells)
 
-pub returns-clause-middles : goal.returns-clause-middles
-returns-clause-middles g c =
+pub returns-clause-sides : goal.returns-clause-sides
+returns-clause-sides g c =
     done_through _ _ c.prepare.result c.map_err.result c.map_err.ensures.cases
-    (middles_after c.prepare.result (λ wanted. middles_too c.args.sides.now (option_map (λ (tex : TexNo). tex.0) c.args.sky) c.deref.result.now (IsPrepared c.prepare.new.self)
-    (λ number. ap (λ wanted. is_wanted wanted number) c.deref.ensures.value ∙ c.in_ok-wanted.ensures.wanted number) wanted) c.prepare.ensures.wanted)
+    (on_ok_weaker c.prepare.result (sides_prepared c.prepare.new.self c.args.sides.now (option_map (λ (tex : TexNo). tex.0) c.args.sky) c.deref.result.now
+    (λ number. ap (λ wanted. is_wanted wanted number) c.deref.ensures.value ∙ c.in_ok-wanted.ensures.wanted number)) c.prepare.ensures.wanted)
+
+pub returns-clause-sky : goal.returns-clause-sky
+returns-clause-sky g c =
+    done_through _ _ c.prepare.result c.map_err.result c.map_err.ensures.cases
+    (on_ok_weaker c.prepare.result (sky_prepared c.prepare.new.self c.args.sides.now (option_map (λ (tex : TexNo). tex.0) c.args.sky) c.deref.result.now
+    (λ number. ap (λ wanted. is_wanted wanted number) c.deref.ensures.value ∙ c.in_ok-wanted.ensures.wanted number)) c.prepare.ensures.wanted)

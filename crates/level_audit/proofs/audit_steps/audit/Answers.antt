@@ -5,7 +5,6 @@ use Rattle.lump_rules.specs.Contents.{lump_bytes}
 use Rattle.lump_rules.specs.Lookups.{lump_at}
 use Rattle.zone_rules.specs.Zones.{block_size}
 use Rattle.zone_rules.specs.declared.TheConstants.{MIN_FRAGMENT}
-use Rattle.zone_rules.specs.declared.Tag.TheVariants.{Static}
 use Rattle.lump_cache.specs.Caches.{NoRoom}
 use Rattle.lump_cache.proofs.FetchLemmas.{fetch_first, fetch_no_room, fetch_room_first, fetch_sizes}
 use Rattle.lump_cache.proofs.SizeLemmas.{sizes_empty}

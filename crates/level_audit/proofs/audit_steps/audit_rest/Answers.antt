@@ -1,5 +1,6 @@
 use Rattle.std.proofs.Common.{◌<◌, length, sym, ap, subst}
 use Rattle.scene_rules.specs.Scenes.{LevelBase}
+use Rattle.level_audit.specs.Whole.{IsWholeScene}
 use Rattle.level_audit.proofs.AuditLemmas.{base_stopped, scene_stopped, sound_passed, sound_stopped}
 use Rattle.level_audit.proofs.SceneLemmas.{colormap_there}
 use Rattle.level_audit.proofs.audit_steps.audit_rest.Goals as goal
@@ -27,3 +28,7 @@ pub returns-clause-tells : goal.returns-clause-tells
 returns-clause-tells g c =
     sound_passed c.args.request.now.things.now c.args.request.now.name.now c.args.request.now.skill c.in_ok-base.base c.in_ok-base.ensures.tells
     c.in_ok-scene.scene c.in_ok-scene.ensures.tells c.in_ok-new.field-0 c.in_ok-new.ensures.scene
+
+pub returns-clause-whole : goal.returns-clause-whole
+returns-clause-whole g c =
+    subst (IsWholeScene c.args.dir.now.lumps c.args.request.now.things.now c.args.request.now.name.now c.args.request.now.skill) (sym c.in_ok-new.ensures.scene) (c.in_ok-scene.ensures.whole c.in_ok-base.ensures.few)

@@ -1,19 +1,30 @@
-use Rattle.std.proofs.Common.{ℕ, Bool, length, arith, sym, ◌∙◌}
+use Rattle.std.proofs.Common.{ℕ, Bool, length, arith, below_more, sym, ◌∙◌}
 use Rattle.std.specs.Prelude.{◌&&◌}
 use Rattle.word_rules.proofs.LeastLemmas.{least-none, least-some}
 use Rattle.texture_build.specs.Views.{is_marked}
 use Rattle.scene_rules.specs.Middles.{is_bad_middle, middle_of}
 use Rattle.scene_rules.specs.Scenes.{texture_by}
-use Rattle.level_audit.proofs.MiddleLemmas.{marked_read}
+use Rattle.level_audit.proofs.MiddleLemmas.{marked_read, single_read}
 use Rattle.level_audit.proofs.middles.first_bad.Goals as goal
 
-pub returns-then-is_bad_side : goal.returns-then-is_bad_side
-returns-then-is_bad_side c =
+pub loop-number-preserved : goal.loop-number-preserved
+loop-number-preserved c = record {
+  sides = below_more _ _ c.loop-number.invariant.sides
+      (marked_read (texture_by c.args.textures.now.prepared) c.args.sides.now c.args.marks.now c.loop-number.number _ c.has.result c.loop-number-test.true c.has.ensures ∙ sym c.is_bad_side.ensures.value ∙ c.if-is_bad_side.false);
+  single = below_more _ _ c.loop-number.invariant.single
+      (single_read c.args.textures.now c.args.sides.now c.args.marks.now c.loop-number.number _ c.has.result c.is_bad_side.result c.loop-number-test.true c.has.ensures c.if-is_bad_side.false c.is_bad_side.ensures.single);
+}
+
+pub returns-then-is_bad_side-clause-value : goal.returns-then-is_bad_side-clause-value
+returns-then-is_bad_side-clause-value c =
     let passes : ℕ → Bool = λ side. is_marked c.args.marks.now side && is_bad_middle (texture_by c.args.textures.now.prepared) (middle_of c.args.sides.now side) in
     sym (least-some passes (length c.args.sides.now) c.loop-number.number c.loop-number-test.true
-    (marked_read (texture_by c.args.textures.now.prepared) c.args.sides.now c.args.marks.now c.loop-number.number _ c.has.result c.loop-number-test.true c.has.ensures ∙ sym c.is_bad_side.ensures ∙ c.if-is_bad_side.true) c.loop-number.invariant)
+    (marked_read (texture_by c.args.textures.now.prepared) c.args.sides.now c.args.marks.now c.loop-number.number _ c.has.result c.loop-number-test.true c.has.ensures ∙ sym c.is_bad_side.ensures.value ∙ c.if-is_bad_side.true) c.loop-number.invariant.sides)
 
-pub returns : goal.returns
-returns c =
+pub returns-clause-value : goal.returns-clause-value
+returns-clause-value c =
     let passes : ℕ → Bool = λ side. is_marked c.args.marks.now side && is_bad_middle (texture_by c.args.textures.now.prepared) (middle_of c.args.sides.now side) in
-    sym (least-none passes (length c.args.sides.now) (λ side l. c.loop-number.invariant side (omega (arith, l, c.loop-number-test.false))))
+    sym (least-none passes (length c.args.sides.now) (λ side l. c.loop-number.invariant.sides side (omega (arith, l, c.loop-number-test.false))))
+
+pub returns-clause-none : goal.returns-clause-none
+returns-clause-none c = λ none side l. c.loop-number.invariant.single side (omega (arith, l, c.loop-number-test.false))

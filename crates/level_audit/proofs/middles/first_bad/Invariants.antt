@@ -1,11 +1,14 @@
-use Rattle.std.proofs.Common.{◌≡◌, ℕ, ◌<◌, false}
+use Rattle.std.proofs.Common.{◌≡◌, ℕ, ◌<◌, true, false}
 use Rattle.std.specs.Prelude.{◌&&◌}
 use Rattle.texture_build.specs.Views.{is_marked}
 use Rattle.scene_rules.specs.Middles.{is_bad_middle, middle_of}
 use Rattle.scene_rules.specs.Scenes.{texture_by}
+use Rattle.level_audit.specs.Whole.{IsNoneOrSingle}
 use Rattle.level_audit.proofs.middles.first_bad.Given as goal
 
--- no side so far
+-- no side so far, and the middles of those that are marked are of single columns
 abbrev pub invariant-loop-number : goal.invariant-loop-number
-invariant-loop-number l =
-    (side : ℕ) → side < l.number → (is_marked l.marks side && is_bad_middle (texture_by l.textures.prepared) (middle_of l.sides side)) ≡ false
+invariant-loop-number l = record {
+  sides : (side : ℕ) → side < l.number → (is_marked l.marks side && is_bad_middle (texture_by l.textures.prepared) (middle_of l.sides side)) ≡ false;
+  single : (side : ℕ) → side < l.number → is_marked l.marks side ≡ true → IsNoneOrSingle l.textures (middle_of l.sides side);
+}

@@ -1,8 +1,14 @@
 use Rattle.std.proofs.Common.{◌≡◌, ℕ, ◌<◌, true}
+use Rattle.std.specs.Prelude.{IsSome}
 use Rattle.art_rules.specs.Columns.{is_single}
+use Rattle.art_rules.specs.Lookups.{single_place}
+use Rattle.texture_build.specs.Sources.{own_lookup}
 use Rattle.texture_build.specs.Views.{prepared_texture}
 use Rattle.level_audit.proofs.middles.is_all_single.Given as goal
 
--- each column so far has one patch
+-- each column so far has one patch, from which it is read
 abbrev pub invariant-loop-col : goal.invariant-loop-col
-invariant-loop-col l = (x : ℕ) → x < l.col → is_single (prepared_texture l.textures l.tex.0).patches x ≡ true
+invariant-loop-col l = record {
+  patches : (x : ℕ) → x < l.col → is_single (prepared_texture l.textures l.tex.0).patches x ≡ true;
+  columns : (x : ℕ) → x < l.col → IsSome (single_place (own_lookup (prepared_texture l.textures l.tex.0) x));
+}

@@ -1,14 +1,19 @@
 use Rattle.std.proofs.Common.{List, Ok, refl, subst, inl, inr, map}
+use Rattle.std.specs.Prelude.{All}
+use Rattle.level_rules.specs.declared.SideTextures.{SideTextures}
 use Rattle.lump_cache.proofs.CallLemmas.{reads_same, reads_short, reads_stop_first, reads_then}
 use Rattle.sprite_book.specs.Calls.{IsWanted}
 use Rattle.scene_rules.specs.declared.Placed.{Placed}
 use Rattle.scene_rules.specs.Places.{need_of}
 use Rattle.outside.specs.declared.fault.Fault.TheVariants.{OutOfMemory}
 use Rattle.level_audit.specs.Bases.{base_of}
+use Rattle.level_audit.specs.declared.base.ReadBase.{ReadBase}
+use Rattle.level_audit.specs.Whole.{AreSidePrepared}
 use Rattle.level_audit.specs.Scenes.{faces_of}
 use Rattle.scene_rules.specs.Scenes.{scene_with}
 use Rattle.level_audit.proofs.ArtLemmas.{sides_told}
 use Rattle.level_audit.proofs.StepLemmas.{scene_with-more, scene_with-stop}
+use Rattle.level_audit.proofs.WholeLemmas.{art_after}
 use Rattle.level_audit.proofs.scene.read_art.Goals as goal
 
 pub returns-in_err-prepare_faces-clause-tells : goal.returns-in_err-prepare_faces-clause-tells
@@ -41,3 +46,20 @@ returns-clause-tells g c =
     c.read_things.ensures.tells (λ lump wanted. inl wanted)
     (λ lump wanted. inr (subst (λ (placed : List Placed). IsWanted lumps (map need_of placed) lump) c.in_ok-placed.ensures wanted))
     (λ bytes prepared. scene_with-more bytes lumps stands faces lines c.args.request.now.skill c.prepare_faces.new.textures.prepared c.prepare_faces.new.textures.lists c.in_ok-placed.placed prepared c.in_ok-prepare_faces.ensures.lists c.in_ok-placed.ensures)
+
+pub read_things-requires-clause-prepared : goal.read_things-requires-clause-prepared
+read_things-requires-clause-prepared g c =
+    subst (λ (sides : List SideTextures). All (AreSidePrepared c.prepare_faces.new.textures) sides) c.deref.ensures.value c.in_ok-prepare_faces.ensures.sides
+
+pub returns-clause-art : goal.returns-clause-art
+returns-clause-art g c =
+    let base : ReadBase = record c.args.base { textures = c.prepare_faces.new.textures } in
+    art_after c.args.dir.now.lumps c.args.request.now.things.now c.args.request.now.skill base c.args.faces c.in_ok-placed.placed c.read_things.result
+    c.read_things.ensures.base c.read_things.ensures.faces c.read_things.ensures.placed c.in_ok-placed.ensures
+    (record {
+      sides = subst (λ (sides : List SideTextures). All (AreSidePrepared c.prepare_faces.new.textures) sides) c.deref.ensures.value c.in_ok-prepare_faces.ensures.sides;
+      sky = c.in_ok-prepare_faces.ensures.sky;
+      patches = c.in_ok-prepare_faces.ensures.there;
+      listed = c.in_ok-prepare_faces.ensures.listed;
+    })
+    c.read_things.ensures.middles c.read_things.ensures.pictures

@@ -10,6 +10,7 @@ use Rattle.level_audit.specs.Asked.{IsOfScene}
 use Rattle.level_audit.specs.Scenes.{faces_of}
 use Rattle.level_audit.proofs.PartLemmas.{faces_told}
 use Rattle.level_audit.proofs.StepLemmas.{scene_on-more, scene_on-stop}
+use Rattle.level_audit.proofs.WholeLemmas.{faces_over, scene_after}
 use Rattle.level_audit.proofs.scene.read_scene.Goals as goal
 
 pub returns-in-Err-clause-tells : goal.returns-in-Err-clause-tells
@@ -41,3 +42,12 @@ returns-clause-tells g c =
 pub returns-clause-flats : goal.returns-clause-flats
 returns-clause-flats g c =
     IfOk-weaker c.read_art.result _ _ (λ scene same. ap (λ (f : ReadFaces). length f.flats.items) same ∙ c.in-Ok.ensures.flats) c.read_art.ensures.faces
+
+pub returns-clause-whole : goal.returns-clause-whole
+returns-clause-whole g c = λ few.
+    let lumps = c.args.dir.now.lumps in
+    let name = c.args.request.now.name.now in
+    let e = c.in-Ok.ensures in
+    scene_after lumps c.args.request.now.things.now name c.args.request.now.skill c.args.base c.in-Ok.faces c.read_art.result
+    (faces_over lumps c.args.request.now.things.now name c.args.request.now.skill c.args.base c.in-Ok.faces c.lists.result.now c.lists.ensures e.answers.ok e.sides e.flats e.there e.below few)
+    c.read_art.ensures.base c.read_art.ensures.faces c.read_art.ensures.art

@@ -8,6 +8,7 @@ use Rattle.scene_rules.specs.Scenes.{scene_over}
 use Rattle.level_audit.specs.Scenes.{faces_of}
 use Rattle.level_audit.proofs.PartLemmas.{checks_told}
 use Rattle.level_audit.proofs.StepLemmas.{scene_over-sound, scene_over-unread, scene_over-unsound}
+use Rattle.level_audit.proofs.WholeLemmas.{middles_prepared, middles_told}
 use Rattle.level_audit.proofs.scene.read_things.Goals as goal
 
 pub returns-in_err-book-clause-tells : goal.returns-in_err-book-clause-tells
@@ -22,6 +23,9 @@ returns-in_err-book-clause-tells g c =
 pub check_scene-requires-clause-few : goal.check_scene-requires-clause-few
 check_scene-requires-clause-few g c = omega (arith, c.segs.ensures.sound.counts.sides, c.requires.sides, ap length c.deref.ensures.value)
 
+pub check_scene-requires-clause-middles : goal.check_scene-requires-clause-middles
+check_scene-requires-clause-middles g c = middles_prepared c.args.base.textures c.args.faces.sides.items c.deref.result.now c.deref.ensures.value c.requires.prepared
+
 pub returns-in-Err-clause-tells : goal.returns-in-Err-clause-tells
 returns-in-Err-clause-tells g c =
     let dir = c.args.dir.now in
@@ -33,7 +37,7 @@ returns-in-Err-clause-tells g c =
     reads_same (Err c.above_scene.result) fault expected c.above_scene.ensures
     (reads_stop expected fault c.in_ok-book.ensures.tells (Err fault)
     (checks_told (g.S.Shelf.view c.read_book.new.shelf) dir c.read_book.new.cache (IsWanted dir.lumps (map need_of c.args.placed)) c.args.placed prepared stands.level.segs c.segs.result.now faces.sides c.deref.result.now (Err c.in-Err.fault)
-    c.segs.ensures.value c.deref.ensures.value c.in-Err.ensures)
+    c.segs.ensures.value c.deref.ensures.value c.in-Err.ensures.value)
     refl (λ lump wanted. wanted) (λ bytes refusal read stopped. scene_over-unsound bytes dir.lumps stands faces c.args.placed prepared c.in_ok-book.book refusal read stopped))
 
 pub returns-in-Ok-clause-tells : goal.returns-in-Ok-clause-tells
@@ -46,5 +50,8 @@ returns-in-Ok-clause-tells g c =
     (record { base = c.args.base; faces = c.args.faces; placed = c.args.placed; book = c.in_ok-book.book })
     c.in_ok-book.ensures.tells (Ok tt)
     (checks_told (g.S.Shelf.view c.read_book.new.shelf) dir c.read_book.new.cache (IsWanted dir.lumps (map need_of c.args.placed)) c.args.placed prepared stands.level.segs c.segs.result.now faces.sides c.deref.result.now (Ok tt)
-    c.segs.ensures.value c.deref.ensures.value c.in-Ok.ensures)
+    c.segs.ensures.value c.deref.ensures.value c.in-Ok.ensures.value)
     refl (λ lump wanted. wanted) (λ bytes read sound. scene_over-sound bytes dir.lumps stands faces c.args.placed prepared c.in_ok-book.book read sound)
+
+pub returns-in-Ok-clause-middles : goal.returns-in-Ok-clause-middles
+returns-in-Ok-clause-middles g c = middles_told c.args.base.textures c.args.base.level.segs c.segs.result.now c.args.faces.sides.items c.deref.result.now c.segs.ensures.value c.deref.ensures.value c.in-Ok.ensures.middles
