@@ -1,11 +1,13 @@
 -- Laws of the strips of a fragment's column, and of calls that paint some of them.
-use Rattle.std.proofs.Common.{append-nil, ◌≡◌, ◌<◌, ◌⊎◌, ◌+◌, ◌++◌, ℕ, ℤ, pos, List, [], ◌∷◌, length, Result, Ok, Err, refl, sym, ap, subst, ◌∙◌, IsErrAnd}
-use Rattle.std.specs.Prelude.{OnOk, int_lt, true, false}
+use Rattle.std.proofs.Common.{append-nil, ◌≡◌, ◌<◌, ◌+◌, ◌++◌, ℕ, ℤ, pos, List, [], ◌∷◌, length, Result, Ok, Err, refl, sym, ap, subst, ◌∙◌, IsErrAnd}
+use Rattle.std.specs.Prelude.{int_lt, true, false}
 use Rattle.std.proofs.lemmas.Result.{err_from_is_err_and}
+use Rattle.std.specs.List.{All, AllByRecursion}
+use Rattle.std.proofs.lemmas.List.Elements.{recursion_from_All}
 use Rattle.outside.specs.Shelf.{ShelfView}
 use Rattle.word_rules.specs.Words.{inverse_word}
 use Rattle.word_rules.specs.Listed.{listed_from, joined_lists}
-use Rattle.word_rules.proofs.ListedLemmas.{joined_lists-append, joined_lists-cons}
+use Rattle.word_rules.proofs.ListedLemmas.{joined_lists-append}
 use Rattle.lump_rules.specs.declared.wad.Lump.{Lump}
 use Rattle.lump_rules.specs.Contents.{lump_bytes}
 use Rattle.zone_rules.specs.Zones.{Heap}
@@ -16,7 +18,6 @@ use Rattle.wad_dir.specs.DirectoryView.{DirectoryView}
 use Rattle.lump_cache.specs.Caches.{KeepsCounts}
 use Rattle.art_rules.specs.declared.ColumnLookup.{ColumnLookup}
 use Rattle.art_rules.specs.Bytes.{byte_at}
-use Rattle.art_rules.specs.Columns.{texel}
 use Rattle.pixel_rules.specs.declared.Painter.{Painter}
 use Rattle.pixel_rules.specs.declared.TheConstants.{WALL}
 use Rattle.pixel_rules.specs.Art.{Art, painter_of}
@@ -32,14 +33,17 @@ use Rattle.texture_build.specs.Sources.{column_in}
 use Rattle.texture_build.specs.Views.{TexturesView, prepared_texture}
 use Rattle.texture_build.specs.Draws.{CanDraw, DrawsWith, FitBeside, FitsBeside, HoldsArt}
 use Rattle.texture_build.proofs.BesideLemmas.{fit_beside-none, fit_beside-append, fit_beside-as, fit_beside-column_dots}
-use Rattle.texture_build.proofs.DrawLemmas.{draws-none, draws-stop, draws-then, draws-wider, holds_art-later}
+use Rattle.texture_build.proofs.DrawLemmas.{draws-none, draws-then, draws-wider, holds_art-later}
+use Rattle.wall_rules.specs.declared.FragmentNumbers.{FragmentNumbers}
 use Rattle.wall_rules.specs.declared.Part.{Part}
 use Rattle.wall_rules.specs.declared.RowRange.{RowRange}
 use Rattle.wall_rules.specs.Strips.{WallStrip, strip_dots, wall_colour}
+use Rattle.wall_columns.specs.declared.clips.ColumnPlan.{ColumnPlan}
 use Rattle.wall_columns.specs.declared.fault.DrawFault.{DrawFault}
 use Rattle.wall_columns.specs.declared.paint.ColumnLook.{ColumnLook}
 use Rattle.wall_columns.specs.Draws.{IsNoPicture}
 use Rattle.wall_columns.specs.Faults.{draw_fault}
+use Rattle.wall_columns.specs.Plans.{HasRows, IsInRows, strips_by}
 use Rattle.wall_columns.specs.Painted.{PaintsStrips, look_colour, look_dots, strip_with, strips_dots}
 
 -- a strip that was painted with a column's texels and the colormap has the dots of its part
@@ -224,6 +228,14 @@ module _ {shape : ViewShape} {dir : DirectoryView} {textures : TexturesView} {co
         place = one.place;
       })
 
+  pub paints-stop_by : {xs ys : List WallStrip} {u v : ShelfView} {x y : Heap} {a b : CanvasView}
+      {whole : Result (Unit {0}) DrawFault} {fault : DrawFault} → IsErrAnd whole (λ e. e ≡ fault) →
+      PaintsStrips shape dir textures colormap mark look among xs u v x y a b (Err fault) →
+      PaintsStrips shape dir textures colormap mark look among ys u v x y a b whole
+  paints-stop_by {xs} {ys} {u} {v} {x} {y} {a} {b} {whole} {fault} is one =
+      let s = err_from_is_err_and whole is in
+      paints-stop {xs = xs} {ys = ys} fault refl (s.1 ∙ ap Err s.2) one
+
   -- a strip without rows
   pub paints-empty : (part : Part) (rows : RowRange) (view : ShelfView) (z : Heap)
       (canvas : CanvasView) → int_lt rows.last rows.first ≡ true →
@@ -366,15 +378,15 @@ paints-wider wider one = record {
   place = one.place;
 }
 
-pub paints-over : (mark : Painter → ℕ → ℕ) (look : ColumnLook) (among : ℕ → Type 0)
-    (xs : List WallStrip) (u v : ShelfView) (x y : Heap) (a b : CanvasView)
-    (result : Result (Unit {0}) DrawFault) {shape shape' : ViewShape}
+pub paints-over : {mark : Painter → ℕ → ℕ} {look : ColumnLook} {among : ℕ → Type 0}
+    {xs : List WallStrip} {u v : ShelfView} {x y : Heap} {a b : CanvasView}
+    {result : Result (Unit {0}) DrawFault} {shape shape' : ViewShape}
     {dir dir' : DirectoryView} {textures textures' : TexturesView} {colormap colormap' : ℕ} →
     shape ≡ shape' → dir ≡ dir' → textures ≡ textures' → colormap ≡ colormap' →
     PaintsStrips shape dir textures colormap mark look among xs u v x y a b result →
     PaintsStrips shape' dir' textures' colormap' mark look among xs u v x y a b result
-paints-over mark look among xs u v x y a b result {shape} {shape'} {dir} {dir'} {textures}
-    {textures'} {colormap} {colormap'} is_shape is_dir is_textures is_colormap k =
+paints-over {mark} {look} {among} {xs} {u} {v} {x} {y} {a} {b} {result} {shape} {shape'} {dir} {dir'}
+    {textures} {textures'} {colormap} {colormap'} is_shape is_dir is_textures is_colormap k =
     subst (λ (n : ℕ). PaintsStrips shape' dir' textures' n mark look among xs u v x y a b result)
     is_colormap
     (subst (λ (t : TexturesView). PaintsStrips shape' dir' t colormap mark look among xs u v x y a b
@@ -383,3 +395,15 @@ paints-over mark look among xs u v x y a b result {shape} {shape'} {dir} {dir'} 
     a b result) is_dir
     (subst (λ (s : ViewShape). PaintsStrips s dir textures colormap mark look among xs u v x y a b
     result) is_shape k)))
+
+-- each of the strips of a plan is in the view, and its texture may be drawn
+pub plan-rows : (height : ℕ) (n : FragmentNumbers) (plan : ColumnPlan) →
+    All (IsInRows height) (strips_by n plan) → AllByRecursion (IsInRows height) (strips_by n plan)
+plan-rows height n plan all = recursion_from_All (IsInRows height) (strips_by n plan) all
+
+pub plan-textures : (lumps : List Lump) (textures : TexturesView) (z : Heap)
+    (n : FragmentNumbers) (plan : ColumnPlan) →
+    All (λ s. HasRows s → CanDraw lumps textures z s.part.number) (strips_by n plan) →
+    AllByRecursion (λ s. HasRows s → CanDraw lumps textures z s.part.number) (strips_by n plan)
+plan-textures lumps textures z n plan all = recursion_from_All
+    (λ s. HasRows s → CanDraw lumps textures z s.part.number) (strips_by n plan) all

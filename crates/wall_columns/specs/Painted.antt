@@ -1,5 +1,5 @@
 -- The strips of a fragment in one of its columns, by what they have in common.
-use Rattle.std.specs.Prelude.{◌≡◌, ◌<◌, ℕ, List, length, OnOk, Result}
+use Rattle.std.specs.Prelude.{◌<◌, ℕ, List, length, OnOk, Result}
 use Rattle.outside.specs.Shelf.{ShelfView}
 use Rattle.word_rules.specs.Listed.{joined_lists}
 use Rattle.lump_rules.specs.Contents.{lump_bytes}

@@ -1,4 +1,4 @@
-use Rattle.std.proofs.Common.{rules, to_z-of_z, w32, ◌≡◌, ◌≤ℤ◌, ℤ, [], ◌∷◌, true, false, Ok, refl, ap, sym, subst, ◌∙◌, arith}
+use Rattle.std.proofs.Common.{rules, to_z-of_z, w32, ◌≡◌, ◌≤ℤ◌, ℤ, [], ◌∷◌, true, false, Ok, refl, ap, subst, ◌∙◌, arith}
 use Rattle.std.proofs.lemmas.Int.{ints}
 use Rattle.std.specs.Prelude.{int_lt}
 use Rattle.texture_build.specs.Sources.{column_in}
