@@ -12,6 +12,7 @@ ghost use Rattle.view_rules.specs.declared.TheConstants.{MIN_SIZE, MAX_SIZE};
 ghost use Rattle.lump_cache.specs.Caches.{IsAtRest, IsEmpty, IsFaithful, KeepsCounts};
 ghost use Rattle.lump_cache.specs.Calls.{IfFull, HoldContents, ReadsLumps};
 ghost use Rattle.command_line.specs.LevelJobs.{level_job_value};
+ghost use Rattle.level_audit.specs.Whole.{IsWholeScene};
 ghost use Rattle.refusals.specs.Groups.{of_audit};
 ghost use Rattle.scene_load.specs.Files.{files_named, value_of};
 ghost use Rattle.outside.specs.Stops.{ResultIsOrAbsent};
@@ -57,6 +58,8 @@ pub struct LoadedScene {
 /// failed; over a steady shelf only where a file is not held. `ZoneFull` only where the files are in
 /// order, and the zone is small (`full`). `OutOfMemory`. The shelf goes on to stand for what it stood
 /// for.
+///
+/// After Ok over any shelf, the scene has all that drawing asks of it (`whole`).
 ///
 /// The original: `D_DoomMain`, d_main.c, with `R_Init`, r_main.c, and `P_SetupLevel`, p_setup.c.
 pub fn load_scene<S: Shelf>(

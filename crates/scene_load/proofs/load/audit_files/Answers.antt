@@ -7,6 +7,7 @@ use Rattle.command_line.specs.LevelJobs.{level_job_value}
 use Rattle.scene_load.specs.Files.{value_of}
 use Rattle.scene_rules.specs.Scenes.{SceneValue}
 use Rattle.level_audit.specs.Sound.{SoundValue}
+use Rattle.level_audit.specs.Whole.{IsWholeScene}
 use Rattle.level_audit.proofs.FetchLemmas.{told_after}
 use Rattle.level_audit.proofs.SceneLemmas.{colormap_there}
 use Rattle.scene_load.specs.Fulls.{IsBaseWithin, IsFullOver}
@@ -100,3 +101,9 @@ returns-clause-fits g c =
     let same = ap (λ (s : SoundValue). s.scene) c.in_ok-weapons.ensures.scene ∙ scene_kept lumps c.in_ok-weapons.weapons c.in_ok-scene.scene in
     subst (λ (s : SceneValue). IsBaseWithin lumps (level_job_value c.args.level.now) s.base.colormap) (sym same)
     (λ lump asked other. rw (← c.requires.size) (c.in_ok-scene.ensures.fits c.requires.empty lump asked other))
+
+pub returns-clause-whole : goal.returns-clause-whole
+returns-clause-whole g c =
+    let lumps = c.args.files.now.dir.lumps in
+    let same = ap (λ (s : SoundValue). s.scene) c.in_ok-weapons.ensures.scene ∙ scene_kept lumps c.in_ok-weapons.weapons c.in_ok-scene.scene in
+    subst (IsWholeScene lumps c.args.files.now.things c.args.level.now.map c.args.level.now.settings.skill) (sym same) c.in_ok-scene.ensures.whole

@@ -31,3 +31,6 @@ returns-clause-causes g c = causes_above itself of_audit c.audit_files.result c.
 
 pub returns-clause-fits : goal.returns-clause-fits
 returns-clause-fits g c = ok_through _ _ c.audit_files.result c.map_err.result c.map_err.ensures.cases c.audit_files.ensures.fits
+
+pub returns-clause-whole : goal.returns-clause-whole
+returns-clause-whole g c = ok_through _ _ c.audit_files.result c.map_err.result c.map_err.ensures.cases c.audit_files.ensures.whole
