@@ -1,9 +1,10 @@
 //! The rules of the zone: one region of bytes, tiled by blocks that slots own.
 //!
 //! Zones: what contracts see of a zone. Requests: gaps, stretches, what a request passes, purges
-//! and takes, and where the rover goes. Frees: `free` and `change_tag`. Walks: the same rules as
-//! one walk over the blocks meets them. Rules only: nothing here knows how the blocks are kept.
-//! The original: z_zone.c, z_zone.h; the rules are made after it and are this project's own.
+//! and takes, and where the rover goes. Rooms: where a block may be taken. Frees: `free`,
+//! `change_tag`, and bytes that are written. Orders: when no request purges. Rules only: nothing
+//! here knows how the blocks are kept. The original: z_zone.c, z_zone.h; the rules are made after
+//! it and are this project's own.
 #![tactic(auto)]
 
 /// Bytes of a block that its header takes. The original: `sizeof(memblock_t)`.
