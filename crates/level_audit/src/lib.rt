@@ -2,8 +2,9 @@
 //! wrong with the lumps.
 //!
 //! Rules: `scene_rules`, Scenes (`scene_in`, the order of all checks) and Sizes; what contracts see
-//! of a sound scene is in `specs/Sound`, which lumps an audit reads in `specs/Reads`, weapons in
-//! `specs/Weapons`. Proved: what an audit answers over any shelf, what it keeps and leaves of the
+//! of a sound scene is in `specs/Sound`, what drawing asks of it in `specs/Whole`, which lumps an
+//! audit reads in `specs/Reads`, weapons in `specs/Weapons`. Proved: what an audit answers over any
+//! shelf, that a sound scene has what drawing asks of it, what an audit keeps and leaves of the
 //! cache, how small a zone was that had no room, and what a sound scene lends. Tested only: that
 //! memory is found. The original: `P_SetupLevel`, p_setup.c, `R_InitData` and `R_PrecacheLevel`,
 //! r_data.c, `R_InitSprites`, r_things.c, which end the program at what is refused here.

@@ -3,8 +3,9 @@
 // Rules: `scene_rules`, Scenes (`scene_on`); `specs/Scenes`. The original: `P_SetupLevel`,
 // p_setup.c, `R_PrecacheLevel`, r_data.c.
 ghost use Rattle.outside.specs.Faults.{itself};
-ghost use Rattle.std.specs.Prelude.{◌≡◌, ◌<◌, ◌≤◌, All, length, map, IfOk, IfSome, OnOk};
+ghost use Rattle.std.specs.Prelude.{◌≡◌, ◌<◌, ◌≤◌, ◌⊎◌, All, length, map, IfOk, IfSome, OnOk};
 ghost use Rattle.lump_cache.specs.Calls.{ReadsLumps};
+ghost use Rattle.texture_build.specs.Views.{IsPrepared};
 ghost use Rattle.art_rules.specs.declared.TheConstants.{MAX_TEXTURES};
 ghost use Rattle.art_rules.specs.Books.{book_lumps};
 ghost use Rattle.sprite_book.specs.Calls.{IsWanted};
@@ -14,7 +15,7 @@ ghost use Rattle.scene_rules.specs.Scenes.{scene_on, scene_over, scene_with};
 ghost use Rattle.level_audit.specs.Bases.{base_of};
 ghost use Rattle.level_audit.specs.Asked.{IsOfArt, IsOfScene};
 ghost use Rattle.level_audit.specs.Scenes.{faces_of, scene_value};
-ghost use Rattle.level_audit.specs.Whole.{AreSidePrepared, IsMiddleSingle, IsWholeArt, IsWholeScene};
+ghost use Rattle.level_audit.specs.Whole.{IsMiddleSingle, IsWholeArt, IsWholeScene};
 
 use crate::AuditFault;
 use crate::art::{prepare_faces, read_book};
@@ -145,7 +146,8 @@ fn read_things<S: Shelf>(
 ) -> Result<ReadScene, AuditFault>
     requires slots { length dir.now.lumps ≤ cache.old.lumps }
     requires sides { length faces.sides.items ≡ length base.level.sides }
-    requires prepared { All (AreSidePrepared base.textures) faces.sides.items }
+    requires middles { All (λ side. (side.middle ≡ 0) ⊎
+        IsPrepared base.textures side.middle) faces.sides.items }
     ensures tells { ReadsLumps itself (S.view shelf.old) (S.view shelf.new) dir.now cache.old
         cache.new (IsWanted dir.now.lumps (map need_of placed)) scene_value (λ bytes.
         scene_over bytes dir.now.lumps (base_of base) (faces_of faces) placed

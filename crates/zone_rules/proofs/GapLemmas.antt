@@ -22,11 +22,12 @@ wider_more b bs = go (is_pinned b) where
   go true = omega arith
   go false = in_front_wider b (opens bs) (gaps bs)
 
--- all blocks from a place on stand behind those before it
+-- from the first block's place on, or from one before it, these are all the blocks
 pub all_from : (r p q : ℕ) (bs : List Block) → Tiles p q bs → r ≤ p → blocks_from r bs ≡ bs
 all_from r p q [] t h = refl
 all_from r p q (b ∷ bs) t h = rw (le-leb r b.place (omega arith)) (ap (λ xs. b ∷ xs) (all_from r (p + b.size) q bs t.2 (omega arith)))
 
+-- the blocks from a place on have no wider gap than all
 pub wider_from : (r p q : ℕ) (bs : List Block) → Tiles p q bs → widest (gaps (blocks_from r bs)) ≤ widest (gaps bs)
 wider_from r p q [] t = omega arith
 wider_from r p q (b ∷ bs) t = pick (cases_lt b.place r) (wider_from r (p + b.size) q bs t.2) where

@@ -1,4 +1,4 @@
-use Rattle.std.proofs.Common.{List, Ok, refl, subst, inl, inr, map}
+use Rattle.std.proofs.Common.{List, Ok, refl, subst, inl, inr, map, sym}
 use Rattle.std.specs.Prelude.{All}
 use Rattle.level_rules.specs.declared.SideTextures.{SideTextures}
 use Rattle.lump_cache.proofs.CallLemmas.{reads_same, reads_short, reads_stop_first, reads_then}
@@ -13,7 +13,7 @@ use Rattle.level_audit.specs.Scenes.{faces_of}
 use Rattle.scene_rules.specs.Scenes.{scene_with}
 use Rattle.level_audit.proofs.ArtLemmas.{sides_told}
 use Rattle.level_audit.proofs.StepLemmas.{scene_with-more, scene_with-stop}
-use Rattle.level_audit.proofs.WholeLemmas.{art_after}
+use Rattle.level_audit.proofs.WholeLemmas.{art_after, middles_prepared}
 use Rattle.level_audit.proofs.scene.read_art.Goals as goal
 
 pub returns-in_err-prepare_faces-clause-tells : goal.returns-in_err-prepare_faces-clause-tells
@@ -47,9 +47,9 @@ returns-clause-tells g c =
     (λ lump wanted. inr (subst (λ (placed : List Placed). IsWanted lumps (map need_of placed) lump) c.in_ok-placed.ensures wanted))
     (λ bytes prepared. scene_with-more bytes lumps stands faces lines c.args.request.now.skill c.prepare_faces.new.textures.prepared c.prepare_faces.new.textures.lists c.in_ok-placed.placed prepared c.in_ok-prepare_faces.ensures.lists c.in_ok-placed.ensures)
 
-pub read_things-requires-clause-prepared : goal.read_things-requires-clause-prepared
-read_things-requires-clause-prepared g c =
-    subst (λ (sides : List SideTextures). All (AreSidePrepared c.prepare_faces.new.textures) sides) c.deref.ensures.value c.in_ok-prepare_faces.ensures.sides
+pub read_things-requires-clause-middles : goal.read_things-requires-clause-middles
+read_things-requires-clause-middles g c =
+    middles_prepared c.prepare_faces.new.textures c.deref.result.now c.args.faces.sides.items (sym c.deref.ensures.value) c.in_ok-prepare_faces.ensures.sides
 
 pub returns-clause-art : goal.returns-clause-art
 returns-clause-art g c =

@@ -8,7 +8,7 @@ use Rattle.scene_rules.specs.Scenes.{scene_over}
 use Rattle.level_audit.specs.Scenes.{faces_of}
 use Rattle.level_audit.proofs.PartLemmas.{checks_told}
 use Rattle.level_audit.proofs.StepLemmas.{scene_over-sound, scene_over-unread, scene_over-unsound}
-use Rattle.level_audit.proofs.WholeLemmas.{middles_prepared, middles_told}
+use Rattle.level_audit.proofs.WholeLemmas.{middles_told}
 use Rattle.level_audit.proofs.scene.read_things.Goals as goal
 
 pub returns-in_err-book-clause-tells : goal.returns-in_err-book-clause-tells
@@ -22,9 +22,6 @@ returns-in_err-book-clause-tells g c =
 
 pub check_scene-requires-clause-few : goal.check_scene-requires-clause-few
 check_scene-requires-clause-few g c = omega (arith, c.segs.ensures.sound.counts.sides, c.requires.sides, ap length c.deref.ensures.value)
-
-pub check_scene-requires-clause-middles : goal.check_scene-requires-clause-middles
-check_scene-requires-clause-middles g c = middles_prepared c.args.base.textures c.args.faces.sides.items c.deref.result.now c.deref.ensures.value c.requires.prepared
 
 pub returns-in-Err-clause-tells : goal.returns-in-Err-clause-tells
 returns-in-Err-clause-tells g c =
