@@ -1,0 +1,15 @@
+pub mod MomentLemmas
+pub mod MarkLemmas
+pub mod PassedLemmas
+pub mod RowLemmas
+pub mod DownLemmas
+pub mod StepLemmas
+pub mod SceneLemmas
+pub mod EntryLemmas
+pub mod PostLemmas
+pub mod LoopLemmas
+pub mod SpriteLemmas
+pub mod MiddleLemmas
+pub mod LiveLemmas
+pub mod PassLemmas
+pub mod PictureLemmas

@@ -1,0 +1,6 @@
+pub mod Lists
+pub mod Ready
+pub mod Scenes
+pub mod Clipped
+pub mod Marks
+pub mod Passes

@@ -1,0 +1,62 @@
+-- What the masked pass asks of the lists, the textures and the sprites, and which bytes it paints with.
+use Rattle.std.specs.Prelude.{◌≡◌, ◌<◌, ◌≤◌, ℕ, List, Contains, length, IfSome, IsSome}
+use Rattle.lump_rules.specs.declared.wad.Lump.{Lump}
+use Rattle.zone_rules.specs.Zones.{Heap}
+use Rattle.wall_rules.specs.declared.FragmentNote.{FragmentNote}
+use Rattle.art_rules.specs.Textures.{mask_of}
+use Rattle.art_rules.specs.Lookups.{single_place}
+use Rattle.art_rules.specs.Wanted.{PreparedTexture}
+use Rattle.sprite_rules.specs.declared.SpriteEntry.{SpriteEntry}
+use Rattle.texture_build.specs.Views.{TexturesView, prepared_texture}
+use Rattle.texture_build.specs.Sources.{own_lookup}
+use Rattle.texture_build.specs.Draws.{CanDraw}
+use Rattle.masked_draw.specs.Lists.{MaskedLists, note_seg, middle_by}
+
+-- exactly one patch stands in each column that a texture column can stand for
+abbrev pub IsSingle : PreparedTexture → Type 0
+IsSingle t = (x : ℕ) → x ≤ mask_of (length t.columns) → IsSome (single_place (own_lookup t x))
+
+-- the middle texture of a masked note may be drawn
+pub record CanDrawMiddle (lumps : List Lump) (textures : TexturesView) (z : Heap) (lists : MaskedLists)
+    (d : FragmentNote) : Type 0 where
+  pub back : IfSome (note_seg lists d).back (λ back. back < length lists.sectors)
+  pub some : IsSome (note_seg lists d).back
+  pub texture : CanDraw lumps textures z (middle_by lists d)
+  pub among : middle_by lists d < length textures.lists.textures
+  pub single : IsSingle (prepared_texture textures (middle_by lists d))
+
+-- the seg of a note, with its side and its sectors, is among the lists
+pub record IsListed (lumps : List Lump) (textures : TexturesView) (z : Heap) (lists : MaskedLists)
+    (d : FragmentNote) : Type 0 where
+  pub seg : d.seg_no < length lists.segs
+  pub front : (note_seg lists d).front < length lists.sectors
+  pub side : (note_seg lists d).side < length lists.sides
+  pub middle : (note_seg lists d).side < length lists.middles
+  pub masked : IsSome d.masked → CanDrawMiddle lumps textures z lists d
+
+-- the middle texture of a note, if it is masked
+pub record IsMiddleNumber (lists : MaskedLists) (d : FragmentNote) (number : ℕ) : Type 0 where
+  pub masked : IsSome d.masked
+  pub is : number ≡ middle_by lists d
+
+-- the seg of a masked note, with its side and both its sectors, is among the lists
+pub record IsSeenNote (lists : MaskedLists) (d : FragmentNote) : Type 0 where
+  pub seg : d.seg_no < length lists.segs
+  pub front : (note_seg lists d).front < length lists.sectors
+  pub side : (note_seg lists d).side < length lists.sides
+  pub middle : (note_seg lists d).side < length lists.middles
+  pub some : IsSome (note_seg lists d).back
+  pub back : IfSome (note_seg lists d).back (λ back. back < length lists.sectors)
+
+-- a texture is the middle of a masked note
+pub record IsNotedMiddle (lists : MaskedLists) (notes : List FragmentNote) (number : ℕ) : Type 0 where
+  pub note : FragmentNote
+  pub among : Contains notes note
+  pub masked : IsSome note.masked
+  pub is : number ≡ middle_by lists note
+
+-- a lump is the picture of a sprite
+pub record IsSpriteLump (sprites : List SpriteEntry) (lump : ℕ) : Type 0 where
+  pub sprite : SpriteEntry
+  pub among : Contains sprites sprite
+  pub is : lump ≡ sprite.lump

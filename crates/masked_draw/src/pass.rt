@@ -1,0 +1,327 @@
+// Sprites in drawing order, and the masked mid textures between and behind them.
+//
+// Rules: `sprite_rules`, Clips and Middles; `specs/Lists`, `specs/Ready`. The original:
+// `R_DrawMasked` and `R_DrawSprite`, r_things.c.
+ghost use Rattle.std.specs.Prelude.{◌≡◌, ◌<◌, ◌≤◌, ◌+◌, ◌^◌, ◌≤ℤ◌, ◌<ℤ◌, ℕ, pos, true, false, List, All, OnOk, Some, None, length, slice_get};
+ghost use Rattle.std.specs.List.{AllPass};
+ghost use Rattle.view_rules.specs.declared.TheConstants.{FRAME_WIDTH, FRAME_HEIGHT};
+ghost use Rattle.lump_rules.specs.Contents.{lump_bytes};
+ghost use Rattle.lump_cache.specs.Caches.{cache_fault};
+ghost use Rattle.sprite_rules.specs.declared.SpriteEntry.{SpriteEntry};
+ghost use Rattle.sprite_rules.specs.Drawsegs.{entry_has};
+ghost use Rattle.sprite_rules.specs.Order.{draw_order};
+ghost use Rattle.sprite_rules.specs.Middles.{masked_dots, middles_at, sprites_from};
+ghost use Rattle.vissprites.specs.Bounds.{lies_within, has_lump_below};
+ghost use Rattle.picture_rules.specs.Noted.{AreNoted, IsWholeNote};
+ghost use Rattle.pixel_strips.specs.Dotted.{HasDots, PlacedAlike};
+ghost use Rattle.texture_build.specs.Arts.{view_art};
+ghost use Rattle.texture_build.specs.Draws.{HoldsArt, FitBeside, DrawsWith};
+ghost use Rattle.masked_draw.specs.Clipped.{AreSpriteRows, TakesRows, row_in};
+ghost use Rattle.masked_draw.specs.Lists.{lists_of, noted_drawsegs};
+ghost use Rattle.masked_draw.specs.Marks.{MarkedTo, MarksBy, MissesColumns, is_passed, mark_in, unmarked_dots};
+ghost use Rattle.masked_draw.specs.Passes.{DrawsSprite, PassesSprite};
+ghost use Rattle.masked_draw.specs.Ready.{IsListed, IsMiddleNumber, IsNotedMiddle, IsSpriteLump};
+ghost use Rattle.masked_draw.specs.Scenes.{CanPaint, CanPass, PaintsDots, scene_drawseg, scene_drawsegs, scene_lists, state};
+
+use crate::clips::{SpriteClips, is_behind};
+use crate::middles::paint_middle;
+use crate::scene::{MaskHands, MaskScene};
+use crate::sprites::{column_of, paint_sprite};
+use crate::tools::MaskedTools;
+use lump_cache::CacheFault;
+use outside::Shelf;
+use pixel_strips::Canvas;
+use sprite_rules::SpriteEntry;
+use vissprites::Sprites;
+use wall_rules::FragmentNote;
+
+/// Draws the sprites, the least scale first, each after the masked mid textures that are behind it,
+/// and at last the masked columns that are left. Takes no memory.
+///
+/// The notes and the openings are those of the view's drawn fragments, at most 256; `marks` has an
+/// entry for each opening, and what it holds does not matter. The segs of the notes, with their
+/// sides and sectors, are among the lists; the middle texture of a masked one is prepared and has
+/// one patch in each column. The sprites' columns lie in the view, and their lumps are the
+/// directory's. The canvas stands where the view lies in the frame.
+///
+/// Errors: `ZoneFull` only if no gap of the zone held the block of a sprite's lump or of a masked
+/// column's; `ReadFault` only if the shelf's count of faults rose. After any answer, a cache that
+/// was at rest is at rest, and one that was faithful is faithful.
+///
+/// The original: `R_DrawMasked`, r_things.c.
+pub fn draw_masked<S: Shelf, C: Canvas>(
+    tools: &mut MaskedTools<'_, S, C>,
+    notes: &[FragmentNote],
+    sprites: &Sprites,
+) -> Result<(), CacheFault>
+    requires noted { AreNoted tools.old.view.now.shape notes.now tools.old.openings.now }
+    requires listed { All (IsListed tools.old.dir.now.lumps tools.old.textures.now
+        tools.old.cache.now (lists_of tools.old.segs.now tools.old.sides.now
+        tools.old.sectors.now tools.old.middles.now)) notes.now }
+    requires marks { length tools.old.openings.now ≤ length tools.old.marks.now }
+    requires columns { AllPass (lies_within tools.old.view.now.shape.width) sprites.now }
+    requires lumps { AllPass (has_lump_below (length tools.old.dir.now.lumps)) sprites.now }
+    requires slots { length tools.old.dir.now.lumps ≤ tools.old.cache.now.lumps }
+    requires colormap { tools.old.colormap.0 < length tools.old.dir.now.lumps }
+    requires left { (C.view tools.old.canvas.now).left + tools.old.view.now.shape.width
+        ≤ FRAME_WIDTH }
+    requires top { (C.view tools.old.canvas.now).top + tools.old.view.now.shape.height
+        ≤ FRAME_HEIGHT }
+    ensures same_cache { tools.new.cache.ghost_name ≡ tools.old.cache.ghost_name }
+    ensures same_shelf { tools.new.shelf.ghost_name ≡ tools.old.shelf.ghost_name }
+    ensures same_canvas { tools.new.canvas.ghost_name ≡ tools.old.canvas.ghost_name }
+    ensures same_marks { tools.new.marks.ghost_name ≡ tools.old.marks.ghost_name }
+    ensures marks { length tools.new.marks.now ≡ length tools.old.marks.now }
+    ensures painted { (contents : List (List ℕ)) (count : ℕ) →
+        HoldsArt (S.view tools.old.shelf.now) tools.old.dir.now tools.old.textures.now contents
+        tools.old.colormap.0 count tools.old.cache.now →
+        let art = view_art (lump_bytes contents tools.old.dir.now.lumps)
+        tools.old.textures.now tools.old.colormap.0 in
+        let ds = noted_drawsegs tools.old.view.now tools.old.textures.now
+        (lists_of tools.old.segs.now tools.old.sides.now
+        tools.old.sectors.now tools.old.middles.now)
+        tools.old.openings.now notes.now in
+        OnOk result (HasDots C.mark
+        (masked_dots tools.old.view.now art ds (draw_order sprites.now))
+        (C.view tools.old.canvas.now) (C.view tools.new.canvas.now)) }
+    ensures fits { (contents : List (List ℕ)) (count : ℕ) →
+        HoldsArt (S.view tools.old.shelf.now) tools.old.dir.now tools.old.textures.now contents
+        tools.old.colormap.0 count tools.old.cache.now →
+        let art = view_art (lump_bytes contents tools.old.dir.now.lumps)
+        tools.old.textures.now tools.old.colormap.0 in
+        let ds = noted_drawsegs tools.old.view.now tools.old.textures.now
+        (lists_of tools.old.segs.now tools.old.sides.now
+        tools.old.sectors.now tools.old.middles.now)
+        tools.old.openings.now notes.now in
+        OnOk result (FitBeside tools.old.dir.now.lumps tools.old.textures.now
+        tools.old.colormap.0 count tools.old.cache.now.size
+        (masked_dots tools.old.view.now art ds (draw_order sprites.now))) }
+    ensures draws { DrawsWith cache_fault
+        (IsNotedMiddle (lists_of tools.old.segs.now tools.old.sides.now
+        tools.old.sectors.now tools.old.middles.now) notes.now) (IsSpriteLump sprites.now)
+        (S.view tools.old.shelf.now) (S.view tools.new.shelf.now) tools.old.dir.now
+        tools.old.textures.now tools.old.cache.now tools.new.cache.now result }
+    ensures place { PlacedAlike (C.view tools.old.canvas.now) (C.view tools.new.canvas.now) }
+{
+    tools.marks.fill(false);
+    let scene = MaskScene {
+        view: tools.view,
+        textures: tools.textures,
+        dir: tools.dir,
+        colormap: tools.colormap,
+        openings: tools.openings,
+        segs: tools.segs,
+        sides: tools.sides,
+        sectors: tools.sectors,
+        middles: tools.middles,
+    };
+    let mut hands = MaskHands {
+        cache: &mut *tools.cache,
+        shelf: &mut *tools.shelf,
+        canvas: &mut *tools.canvas,
+        marks: &mut *tools.marks,
+    };
+    draw_sprites(&scene, &mut hands, notes, sprites)?;
+    draw_middles(&scene, &mut hands, notes)
+}
+
+// Draws the sprites, each after the masked columns behind it. No column is painted before.
+fn draw_sprites<S: Shelf, C: Canvas>(
+    scene: &MaskScene<'_>,
+    hands: &mut MaskHands<'_, S, C>,
+    notes: &[FragmentNote],
+    sprites: &Sprites,
+) -> Result<(), CacheFault>
+    requires ready { CanPass scene.now notes.now (state (S.view hands.old.shelf.now)
+        hands.old.cache.now (C.view hands.old.canvas.now)) hands.old.marks.now }
+    requires unmarked { (p : ℕ) → mark_in hands.old.marks.now p ≡ false }
+    requires columns { AllPass (lies_within scene.now.view.now.shape.width) sprites.now }
+    requires lumps { AllPass (has_lump_below (length scene.now.dir.now.lumps)) sprites.now }
+    ensures same_cache { hands.new.cache.ghost_name ≡ hands.old.cache.ghost_name }
+    ensures same_shelf { hands.new.shelf.ghost_name ≡ hands.old.shelf.ghost_name }
+    ensures same_canvas { hands.new.canvas.ghost_name ≡ hands.old.canvas.ghost_name }
+    ensures same_marks { hands.new.marks.ghost_name ≡ hands.old.marks.ghost_name }
+    ensures marks { length hands.new.marks.now ≡ length hands.old.marks.now }
+    ensures marked { OnOk result (MarkedTo (scene_drawseg scene.now) notes.now
+        (draw_order sprites.now) (length notes.now) (λ k. length (draw_order sprites.now))
+        hands.new.marks.now) }
+    ensures paints { PaintsDots C.mark scene.now (IsNotedMiddle (scene_lists scene.now) notes.now)
+        (IsSpriteLump sprites.now)
+        (λ art. sprites_from scene.now.view.now art (scene_drawsegs scene.now notes.now)
+        (draw_order sprites.now) 0 (draw_order sprites.now))
+        (state (S.view hands.old.shelf.now) hands.old.cache.now (C.view hands.old.canvas.now))
+        (state (S.view hands.new.shelf.now) hands.new.cache.now (C.view hands.new.canvas.now))
+        result }
+{
+    let mut clips = SpriteClips::new();
+    for entry in sprites.sorted() {
+        draw_sprite(scene, hands, notes, &entry, &mut clips)?;
+    }
+    Ok(())
+}
+
+// Draws the masked columns that are left, where all sprites are drawn.
+fn draw_middles<S: Shelf, C: Canvas>(
+    scene: &MaskScene<'_>,
+    hands: &mut MaskHands<'_, S, C>,
+    notes: &[FragmentNote],
+) -> Result<(), CacheFault>
+    requires ready { CanPass scene.now notes.now (state (S.view hands.old.shelf.now)
+        hands.old.cache.now (C.view hands.old.canvas.now)) hands.old.marks.now }
+    ensures same_cache { hands.new.cache.ghost_name ≡ hands.old.cache.ghost_name }
+    ensures same_shelf { hands.new.shelf.ghost_name ≡ hands.old.shelf.ghost_name }
+    ensures same_canvas { hands.new.canvas.ghost_name ≡ hands.old.canvas.ghost_name }
+    ensures same_marks { hands.new.marks.ghost_name ≡ hands.old.marks.ghost_name }
+    ensures marks { length hands.new.marks.now ≡ length hands.old.marks.now }
+    ensures paints { (es : List SpriteEntry) → MarkedTo (scene_drawseg scene.now) notes.now es
+        (length notes.now) (λ k. length es) hands.old.marks.now →
+        PaintsDots C.mark scene.now (IsNotedMiddle (scene_lists scene.now) notes.now) (λ (n : ℕ). ⊥)
+        (λ art. middles_at scene.now.view.now art (scene_drawsegs scene.now notes.now) es None
+        (length notes.now))
+        (state (S.view hands.old.shelf.now) hands.old.cache.now (C.view hands.old.canvas.now))
+        (state (S.view hands.new.shelf.now) hands.new.cache.now (C.view hands.new.canvas.now))
+        result }
+{
+    for k in (0..notes.len()).rev() {
+        let note = &notes[k];
+        paint_middle(scene, hands, note, k as u16, note.first, note.last)?;
+    }
+    Ok(())
+}
+
+// Draws a sprite, where it has a column, after the masked columns behind it. It is the next of the
+// sprites whose masked columns are painted.
+fn draw_sprite<S: Shelf, C: Canvas>(
+    scene: &MaskScene<'_>,
+    hands: &mut MaskHands<'_, S, C>,
+    notes: &[FragmentNote],
+    entry: &SpriteEntry,
+    clips: &mut SpriteClips,
+) -> Result<(), CacheFault>
+    requires ready { CanPass scene.now notes.now (state (S.view hands.old.shelf.now)
+        hands.old.cache.now (C.view hands.old.canvas.now)) hands.old.marks.now }
+    requires within { lies_within scene.now.view.now.shape.width entry.now ≡ true }
+    requires lump { entry.now.lump < length scene.now.dir.now.lumps }
+    ensures same_cache { hands.new.cache.ghost_name ≡ hands.old.cache.ghost_name }
+    ensures same_shelf { hands.new.shelf.ghost_name ≡ hands.old.shelf.ghost_name }
+    ensures same_canvas { hands.new.canvas.ghost_name ≡ hands.old.canvas.ghost_name }
+    ensures same_marks { hands.new.marks.ghost_name ≡ hands.old.marks.ghost_name }
+    ensures marks { length hands.new.marks.now ≡ length hands.old.marks.now }
+    ensures sprite { (es : List SpriteEntry) (i : ℕ) → i < length es →
+        slice_get es i ≡ Some entry.now →
+        MarkedTo (scene_drawseg scene.now) notes.now es (length notes.now) (λ k. i)
+        hands.old.marks.now →
+        DrawsSprite C.mark scene.now notes.now es i entry.now hands.new.marks.now
+        (state (S.view hands.old.shelf.now) hands.old.cache.now (C.view hands.old.canvas.now))
+        (state (S.view hands.new.shelf.now) hands.new.cache.now (C.view hands.new.canvas.now))
+        result }
+{
+    if entry.last < entry.first {
+        return Ok(());
+    }
+    let first = column_of(entry.first);
+    let last = column_of(entry.last);
+    clips.clear(first, last);
+    pass_fragments(scene, hands, notes, entry, clips)?;
+    paint_sprite(scene, hands, clips, entry, first, last)
+}
+
+// Paints the masked columns behind a sprite, and takes the clips of the fragments in front of it,
+// the last fragment first. No clip was taken in the sprite's columns.
+fn pass_fragments<S: Shelf, C: Canvas>(
+    scene: &MaskScene<'_>,
+    hands: &mut MaskHands<'_, S, C>,
+    notes: &[FragmentNote],
+    entry: &SpriteEntry,
+    clips: &mut SpriteClips,
+) -> Result<(), CacheFault>
+    requires ready { CanPass scene.now notes.now (state (S.view hands.old.shelf.now)
+        hands.old.cache.now (C.view hands.old.canvas.now)) hands.old.marks.now }
+    requires within { lies_within scene.now.view.now.shape.width entry.now ≡ true }
+    requires ordered { entry.now.first ≤ℤ entry.now.last }
+    requires tops { (x : ℕ) → entry_has entry.now x ≡ true → row_in clips.old.tops x ≡ None }
+    requires bottoms { (x : ℕ) → entry_has entry.now x ≡ true → row_in clips.old.bottoms x ≡ None }
+    ensures same_cache { hands.new.cache.ghost_name ≡ hands.old.cache.ghost_name }
+    ensures same_shelf { hands.new.shelf.ghost_name ≡ hands.old.shelf.ghost_name }
+    ensures same_canvas { hands.new.canvas.ghost_name ≡ hands.old.canvas.ghost_name }
+    ensures same_marks { hands.new.marks.ghost_name ≡ hands.old.marks.ghost_name }
+    ensures marks { length hands.new.marks.now ≡ length hands.old.marks.now }
+    ensures ready { OnOk result (CanPass scene.now notes.now (state (S.view hands.new.shelf.now)
+        hands.new.cache.now (C.view hands.new.canvas.now)) hands.new.marks.now) }
+    ensures rows { OnOk result ((x : ℕ) → entry_has entry.now x ≡ true →
+        AreSpriteRows scene.now (scene_drawsegs scene.now notes.now) entry.now clips.new x) }
+    ensures passed { (es : List SpriteEntry) (i : ℕ) → i < length es →
+        slice_get es i ≡ Some entry.now →
+        MarkedTo (scene_drawseg scene.now) notes.now es (length notes.now) (λ k. i)
+        hands.old.marks.now →
+        PassesSprite C.mark scene.now notes.now es i hands.new.marks.now
+        (state (S.view hands.old.shelf.now) hands.old.cache.now (C.view hands.old.canvas.now))
+        (state (S.view hands.new.shelf.now) hands.new.cache.now (C.view hands.new.canvas.now))
+        result }
+{
+    for k in (0..notes.len()).rev() {
+        pass_fragment(scene, hands, &notes[k], k as u16, entry, clips)?;
+    }
+    Ok(())
+}
+
+// Paints the masked columns of fragment `number` where it is behind a sprite, or else takes its
+// clips.
+fn pass_fragment<S: Shelf, C: Canvas>(
+    scene: &MaskScene<'_>,
+    hands: &mut MaskHands<'_, S, C>,
+    note: &FragmentNote,
+    number: u16,
+    entry: &SpriteEntry,
+    clips: &mut SpriteClips,
+) -> Result<(), CacheFault>
+    requires ready { CanPaint scene.now (state (S.view hands.old.shelf.now) hands.old.cache.now
+        (C.view hands.old.canvas.now)) }
+    requires whole { IsWholeNote scene.now.view.now.shape scene.now.openings.now note.now }
+    requires listed { IsListed scene.now.dir.now.lumps scene.now.textures.now hands.old.cache.now
+        (scene_lists scene.now) note.now }
+    requires marks { length scene.now.openings.now ≤ length hands.old.marks.now }
+    requires within { lies_within scene.now.view.now.shape.width entry.now ≡ true }
+    requires ordered { entry.now.first ≤ℤ entry.now.last }
+    ensures same_cache { hands.new.cache.ghost_name ≡ hands.old.cache.ghost_name }
+    ensures same_shelf { hands.new.shelf.ghost_name ≡ hands.old.shelf.ghost_name }
+    ensures same_canvas { hands.new.canvas.ghost_name ≡ hands.old.canvas.ghost_name }
+    ensures same_marks { hands.new.marks.ghost_name ≡ hands.old.marks.ghost_name }
+    ensures marks { length hands.new.marks.now ≡ length hands.old.marks.now }
+    ensures marked { OnOk result (MarksBy note.now
+        (is_passed entry.now (scene_drawseg scene.now note.now)) hands.old.marks.now
+        hands.new.marks.now) }
+    ensures rows { (x : ℕ) → entry_has entry.now x ≡ true →
+        TakesRows entry.now (scene_drawseg scene.now note.now) clips.old clips.new x }
+    ensures paints { PaintsDots C.mark scene.now (IsMiddleNumber (scene_lists scene.now) note.now)
+        (λ (n : ℕ). ⊥)
+        (λ art. unmarked_dots scene.now.view.now art hands.old.marks.now note.now
+        (is_passed entry.now (scene_drawseg scene.now note.now)) number
+        (scene_drawseg scene.now note.now))
+        (state (S.view hands.old.shelf.now) hands.old.cache.now (C.view hands.old.canvas.now))
+        (state (S.view hands.new.shelf.now) hands.new.cache.now (C.view hands.new.canvas.now))
+        result }
+{
+    let first = column_of(entry.first);
+    let last = column_of(entry.last);
+    if !counts(note, first, last) {
+        return Ok(());
+    }
+    let from = first.max(note.first);
+    let to = last.min(note.last);
+    if is_behind(note, &scene.segs[note.seg_no as usize], entry) {
+        return paint_middle(scene, hands, note, number, from, to);
+    }
+    clips.take(note, scene.openings, entry, from, to);
+    Ok(())
+}
+
+// Whether a fragment has one of the columns, and clips or is masked.
+fn counts(note: &FragmentNote, first: u16, last: u16) -> bool
+    ensures yes { result ≡ true → (note.now.first ≤ last) × (first ≤ note.now.last) }
+    ensures no { result ≡ false → MissesColumns note.now first last }
+{
+    let misses = last < note.first || note.last < first;
+    let is_plain = note.silhouette == 0 && note.masked.is_none();
+    !misses && !is_plain
+}
