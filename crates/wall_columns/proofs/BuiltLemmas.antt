@@ -1,0 +1,352 @@
+-- Laws of what is built: nothing, a leaf more, a fragment more.
+use Rattle.std.proofs.Common.{◌≡◌, ℕ, suc, ◌+◌, ◌-◌, ◌<◌, ◌≤◌, Bool, true, cond, ℤ, List, [], ◌∷◌, ◌++◌, Option, None, length, take, refl, ap, sym, ◌∙◌, subst, arith}
+use Rattle.std.specs.Prelude.{nat_le, nat_lt, ◌&&◌}
+use Rattle.std.proofs.lemmas.Bool.Decides.{nat_tests}
+use Rattle.std.proofs.lemmas.List.{length-append}
+use Rattle.std.proofs.lemmas.List.Elements.{All-nil, All-push}
+use Rattle.view_rules.specs.View.{ViewValue}
+use Rattle.view_rules.specs.declared.TheConstants.{FRAME_WIDTH}
+use Rattle.view_rules.specs.declared.ViewShape.{ViewShape}
+use Rattle.wall_rules.specs.declared.ColumnClip.{ColumnClip}
+use Rattle.wall_rules.specs.declared.FragmentNote.{FragmentNote}
+use Rattle.wall_rules.specs.declared.FragmentNumbers.{FragmentNumbers}
+use Rattle.wall_rules.specs.declared.WallFacts.{WallFacts}
+use Rattle.wall_rules.specs.Clips.{open_clip, clip_after, ceiling_rows, floor_rows}
+use Rattle.wall_rules.specs.Columns.{texture_column}
+use Rattle.wall_rules.specs.Edges.{edges_at}
+use Rattle.wall_rules.specs.Openings.{saves_top, saves_bottom}
+use Rattle.wall_rules.specs.Notes.{room_if, middle_columns, top_clips, bottom_clips, saved_by, saved_from, notes_from, openings_list, view_notes, note_at}
+use Rattle.wall_rules.specs.Numbers.{fragment_numbers}
+use Rattle.wall_rules.specs.Strips.{marked_rows, ceiling_marks, floor_marks}
+use Rattle.wall_rules.specs.Walls.{Wall, wall_of, has_column, wall_edges, past_wall, clip_before, clip_past}
+use Rattle.wall_rules.proofs.NoteLemmas.{openings_list-more, view_notes-more}
+use Rattle.wall_rules.proofs.WallLemmas.{clip_past-next, clip_before-front}
+use Rattle.plane_rules.specs.declared.PlaneKey.{PlaneKey}
+use Rattle.plane_rules.specs.Planes.{Plane}
+use Rattle.plane_rules.specs.Built.{PlaneWall, PlanesNow, no_planes, floor_found, ceiling_found, ceiling_checked, floor_checked, columns_marked, wall_marked, after_event, MarkAlike}
+use Rattle.plane_rules.specs.Built.PlaneEvent.{Finds, Draws}
+use Rattle.plane_rules.proofs.BuiltLemmas.{after_event-alike, sound-after_event}
+use Rattle.picture_rules.specs.Planes.{plane_wall, wall_step}
+use Rattle.visplanes.specs.Planes.{PlanesView}
+use Rattle.wall_edges.specs.Fragments.{FragmentValue, fragment_of}
+use Rattle.wall_columns.specs.declared.notes.SavePlaces.{SavePlaces}
+use Rattle.wall_columns.specs.declared.column_state.ColumnState.{ColumnState}
+use Rattle.wall_columns.specs.Walls.{WallsView, clip_at}
+use Rattle.wall_columns.specs.Windows.{WindowsView, window_at}
+use Rattle.wall_columns.specs.Saved.{OpeningsView, columns_saved}
+use Rattle.wall_columns.specs.Places.{places_of}
+use Rattle.wall_columns.specs.Columns.{plane_number, columns_of, column_edges, column_after, clip_along, marks_along, HasMarked, HasSaved}
+use Rattle.wall_columns.specs.Leaves.{now_of, ceiling_check, floor_check}
+use Rattle.wall_columns.specs.States.{walls_view}
+use Rattle.wall_columns.specs.Built.{IsDrawn, IsBuilt, with_wall, step_of_wall}
+use Rattle.wall_columns.proofs.SavedLemmas.{columns_saved-lists}
+
+-- what is open of a column, of the state and of its windows
+pub clip_at-window : (notes : List FragmentNote) (state : ColumnState) (x : ℕ) → clip_at (walls_view notes state) x ≡ window_at state.windows x
+unfolding clip_at window_at
+clip_at-window notes state x = refl
+
+none_noted : (v : ViewValue) → [] ≡ view_notes v []
+unfolding view_notes notes_from
+none_noted v = refl
+
+none_saved : (v : ViewValue) → [] ≡ openings_list v []
+unfolding openings_list saved_from
+none_saved v = refl
+
+none_clipped : (shape : ViewShape) (x : ℕ) → open_clip shape.height ≡ clip_before shape [] (length (let walls : List Wall = [] in walls)) x
+unfolding clip_before
+none_clipped shape x = refl
+
+-- a view is started
+pub built-start : (v : ViewValue) (notes : List FragmentNote) (state : ColumnState) (height : ℕ) → notes ≡ [] → state.openings.saved ≡ [] →
+    ((x : ℕ) → x < FRAME_WIDTH → window_at state.windows x ≡ open_clip height) → state.windows.height ≡ height → state.floor ≡ None → state.ceiling ≡ None →
+    v.shape.height ≡ height → v.shape.width ≤ FRAME_WIDTH → IsBuilt v [] no_planes (walls_view notes state) []
+built-start v notes state height no_notes no_openings windows rows floor ceiling e l = record {
+  drawn = All-nil (IsDrawn v);
+  notes = no_notes ∙ none_noted v;
+  openings = no_openings ∙ none_saved v;
+  clips = λ x i. clip_at-window notes state x ∙ windows x (omega arith) ∙ ap open_clip (sym e) ∙ none_clipped v.shape x;
+  height = rows ∙ sym e;
+  floor = ap plane_number floor;
+  ceiling = ap plane_number ceiling;
+  planes = refl;
+  sound = record { wide = All-nil (λ (p : Plane). length p.runs ≡ FRAME_WIDTH); floor = tt; ceiling = tt };
+}
+
+clips_same : (notes : List FragmentNote) (old new : ColumnState) (x : ℕ) → new.windows ≡ old.windows → clip_at (walls_view notes new) x ≡ clip_at (walls_view notes old) x
+clips_same notes old new x e = clip_at-window notes new x ∙ ap (λ (w : WindowsView). window_at w x) e ∙ sym (clip_at-window notes old x)
+
+now_is : (v : ViewValue) (walls : List Wall) (s : PlanesNow) (notes : List FragmentNote) (state : ColumnState) (planes : PlanesView) →
+    IsBuilt v walls s (walls_view notes state) planes.planes → s ≡ now_of state planes
+now_is v walls s notes state planes h =
+    ap (λ (ps : List Plane). let t : PlanesNow = record { planes = ps; floor = s.floor; ceiling = s.ceiling } in t) (sym h.planes)
+    ∙ ap (λ (o : Option ℕ). let t : PlanesNow = record { planes = planes.planes; floor = o; ceiling = s.ceiling } in t) (sym h.floor)
+    ∙ ap (λ (o : Option ℕ). let t : PlanesNow = record { planes = planes.planes; floor = plane_number state.floor; ceiling = o } in t) (sym h.ceiling)
+
+-- the planes and the current ones are those of a state that is built
+pub built-now : (v : ViewValue) (walls : List Wall) (s : PlanesNow) (notes : List FragmentNote) (state : ColumnState) (planes : PlanesView) →
+    IsBuilt v walls s (walls_view notes state) planes.planes → s ≡ now_of state planes
+built-now v walls s notes state planes h = now_is v walls s notes state planes h
+
+leaf_after : (s : PlanesNow) (floor ceiling : Option PlaneKey) → ceiling_found ceiling (floor_found floor s) ≡ after_event s (Finds floor ceiling)
+unfolding after_event
+leaf_after s floor ceiling = refl
+
+-- a leaf is entered
+pub built-leaf : (v : ViewValue) (walls : List Wall) (s : PlanesNow) (notes : List FragmentNote) (old new : ColumnState) (before later : PlanesView) (floor ceiling : Option PlaneKey) →
+    IsBuilt v walls s (walls_view notes old) before.planes → now_of new later ≡ ceiling_found ceiling (floor_found floor s) → new.windows ≡ old.windows → new.openings ≡ old.openings →
+    IsBuilt v walls (after_event s (Finds floor ceiling)) (walls_view notes new) later.planes
+built-leaf v walls s notes old new before later floor ceiling h found windows openings =
+    let e : now_of new later ≡ after_event s (Finds floor ceiling) = found ∙ leaf_after s floor ceiling in
+    record {
+      drawn = h.drawn;
+      notes = h.notes;
+      openings = ap (λ (o : OpeningsView). o.saved) openings ∙ h.openings;
+      clips = λ x l. clips_same notes old new x windows ∙ h.clips x l;
+      height = ap (λ (w : WindowsView). w.height) windows ∙ h.height;
+      floor = ap (λ (t : PlanesNow). t.floor) e;
+      ceiling = ap (λ (t : PlanesNow). t.ceiling) e;
+      planes = ap (λ (t : PlanesNow). t.planes) e;
+      sound = sound-after_event s (Finds floor ceiling) h.sound;
+    }
+
+-- the columns of a fragment
+columns_test : (first last x : ℕ) → first ≤ last → (nat_le first x && nat_lt x (first + (last + 1 - first))) ≡ (nat_le first x && nat_le x last)
+columns_test first last x o = grind (arith, nat_tests)
+
+own_column : (first last x : ℕ) → first ≤ x → x ≤ last → (nat_le first x && nat_le x last) ≡ true
+own_column first last x l h = grind (arith, nat_tests)
+
+-- the clip past a new fragment
+past_new : (shape : ViewShape) (walls : List Wall) (w : Wall) (x : ℕ) → clip_past shape (with_wall walls w) (length walls) x ≡ past_wall shape x w (clip_before shape walls (length walls) x)
+past_new shape walls w x = clip_past-next shape walls w (length walls) x refl
+
+before_more : (shape : ViewShape) (walls : List Wall) (w : Wall) (x : ℕ) → clip_past shape (with_wall walls w) (length walls) x ≡ clip_before shape (with_wall walls w) (length (with_wall walls w)) x
+unfolding clip_past
+before_more shape walls w x =
+    let n : suc (length walls) ≡ length (with_wall walls w) = (let e = length-append walls (w ∷ []) in omega arith) in
+    ap (λ (k : ℕ). clip_before shape (with_wall walls w) k x) n
+
+along_is : (v : ViewValue) (facts : WallFacts) (first last x height : ℕ) (before : ℕ → ColumnClip) (clip : ColumnClip) → first ≤ last → height ≡ v.shape.height → before x ≡ clip →
+    clip_along height (fragment_of v facts first last) before (last + 1 - first) x ≡ past_wall v.shape x (wall_of v facts first last) clip
+unfolding clip_along column_after past_wall has_column column_edges wall_edges wall_of
+along_is v facts first last x height before clip o e b =
+    ap (λ (t : Bool). cond t (clip_after height (fragment_numbers v facts first last) (before x) (edges_at v.shape (fragment_numbers v facts first last) (x - first))) (before x)) (columns_test first last x o)
+    ∙ ap (λ (m : ℕ). cond (nat_le first x && nat_le x last) (clip_after m (fragment_numbers v facts first last) (before x) (edges_at v.shape (fragment_numbers v facts first last) (x - first))) (before x)) e
+    ∙ ap (λ (c : ColumnClip). cond (nat_le first x && nat_le x last) (clip_after v.shape.height (fragment_numbers v facts first last) c (edges_at v.shape (fragment_numbers v facts first last) (x - first))) c) b
+
+after_is : (v : ViewValue) (facts : WallFacts) (first last x height : ℕ) (before : ℕ → ColumnClip) (clip : ColumnClip) → first ≤ x → x ≤ last → height ≡ v.shape.height → before x ≡ clip →
+    column_after height (fragment_of v facts first last) before x ≡ past_wall v.shape x (wall_of v facts first last) clip
+unfolding column_after past_wall has_column column_edges wall_edges wall_of
+after_is v facts first last x height before clip l h e b =
+    ap (λ (m : ℕ). clip_after m (fragment_numbers v facts first last) (before x) (edges_at v.shape (fragment_numbers v facts first last) (x - first))) e
+    ∙ ap (λ (c : ColumnClip). clip_after v.shape.height (fragment_numbers v facts first last) c (edges_at v.shape (fragment_numbers v facts first last) (x - first))) b
+    ∙ sym (ap (λ (t : Bool). cond t (clip_after v.shape.height (fragment_numbers v facts first last) clip (edges_at v.shape (fragment_numbers v facts first last) (x - first))) clip) (own_column first last x l h))
+
+-- what is known when the fragment's columns are drawn
+pub record WallDrawn (v : ViewValue) (walls : List Wall) (s : PlanesNow) (facts : WallFacts) (first last : ℕ) (notes : List FragmentNote) (old checked new : ColumnState)
+    (before between later : PlanesView) (lists : SavePlaces) (entry : FragmentNote) : Type 0 where
+  pub built : IsBuilt v walls s (walls_view notes old) before.planes
+  pub ordered : first ≤ last
+  pub within : last < v.shape.width
+  pub frame : v.shape.width ≤ FRAME_WIDTH
+  pub windows : checked.windows ≡ old.windows
+  pub planes : now_of checked between ≡ floor_check (fragment_numbers v facts first last) first last (ceiling_check (fragment_numbers v facts first last) first last s)
+  pub places : lists ≡ places_of (fragment_numbers v facts first last) (length old.openings.saved) (last + 1 - first)
+  pub front : take (length old.openings.saved) checked.openings.saved ≡ old.openings.saved
+  pub total : length checked.openings.saved ≡ lists.end
+  pub marked : HasMarked (fragment_of v facts first last) (last + 1 - first) checked new between later
+  pub saved : HasSaved v (fragment_of v facts first last) lists (last + 1 - first) checked new.openings
+  pub note : entry ≡ note_at v (wall_of v facts first last) (length old.openings.saved)
+
+-- the fragment as a wall of the view
+drawn_wall : (v : ViewValue) (facts : WallFacts) (first last : ℕ) → first ≤ last → last < v.shape.width → IsDrawn v (wall_of v facts first last)
+unfolding wall_of
+drawn_wall v facts first last o w = record { is = refl; ordered = o; within = w }
+
+-- the window of a column before the fragment
+window_before : {v : ViewValue} {walls : List Wall} {s : PlanesNow} {facts : WallFacts} {first last : ℕ} {notes : List FragmentNote} {old checked new : ColumnState} {before between later : PlanesView} {places : SavePlaces} {note : FragmentNote} →
+    WallDrawn v walls s facts first last notes old checked new before between later places note → (x : ℕ) → x < v.shape.width →
+    window_at checked.windows x ≡ clip_before v.shape walls (length walls) x
+window_before {notes = notes} {old = old} d x l =
+    ap (λ (w : WindowsView). window_at w x) d.windows ∙ sym (clip_at-window notes old x) ∙ d.built.clips x l
+
+height_before : {v : ViewValue} {walls : List Wall} {s : PlanesNow} {facts : WallFacts} {first last : ℕ} {notes : List FragmentNote} {old checked new : ColumnState} {before between later : PlanesView} {places : SavePlaces} {note : FragmentNote} →
+    WallDrawn v walls s facts first last notes old checked new before between later places note → checked.windows.height ≡ v.shape.height
+height_before d = ap (λ (w : WindowsView). w.height) d.windows ∙ d.built.height
+
+clips_after : {v : ViewValue} {walls : List Wall} {s : PlanesNow} {facts : WallFacts} {first last : ℕ} {notes : List FragmentNote} {old checked new : ColumnState} {before between later : PlanesView} {places : SavePlaces} {note : FragmentNote} →
+    WallDrawn v walls s facts first last notes old checked new before between later places note → (more : List FragmentNote) (x : ℕ) → x < v.shape.width →
+    clip_at (walls_view more new) x ≡ clip_before v.shape (with_wall walls (wall_of v facts first last)) (length (with_wall walls (wall_of v facts first last))) x
+clips_after {v} {walls} {s} {facts} {first} {last} {notes} {old} {checked} {new} d more x l =
+    let w : Wall = wall_of v facts first last in
+    let frame = d.frame in
+    clip_at-window more new x
+    ∙ d.marked.windows x (omega arith)
+    ∙ along_is v facts first last x checked.windows.height (window_at checked.windows) (clip_before v.shape walls (length walls) x) d.ordered (height_before d) (window_before d x l)
+    ∙ sym (past_new v.shape walls w x)
+    ∙ before_more v.shape walls w x
+
+-- what the fragment leaves open of one of its columns
+left_open : {v : ViewValue} {walls : List Wall} {s : PlanesNow} {facts : WallFacts} {first last : ℕ} {notes : List FragmentNote} {old checked new : ColumnState} {before between later : PlanesView} {places : SavePlaces} {note : FragmentNote} →
+    WallDrawn v walls s facts first last notes old checked new before between later places note → (x : ℕ) → first ≤ x → x ≤ last →
+    column_after checked.windows.height (fragment_of v facts first last) (window_at checked.windows) x ≡ clip_past v.shape (with_wall walls (wall_of v facts first last)) (length walls) x
+left_open {v} {walls} {s} {facts} {first} {last} {notes} {old} {checked} d x l h =
+    let within = d.within in
+    after_is v facts first last x checked.windows.height (window_at checked.windows) (clip_before v.shape walls (length walls) x) l h (height_before d) (window_before d x (omega arith))
+    ∙ sym (past_new v.shape walls (wall_of v facts first last) x)
+
+saved_lists : (v : ViewValue) (ws : List Wall) (n : ℕ) (facts : WallFacts) (first last : ℕ) (front : List ℤ) (xs : List ℤ) (after : ℕ → ColumnClip) (places : SavePlaces) →
+    places ≡ places_of (fragment_numbers v facts first last) (length front) (last + 1 - first) → take (length front) xs ≡ front → length xs ≡ places.end →
+    ((x : ℕ) → first ≤ x → x ≤ last → after x ≡ clip_past v.shape ws n x) →
+    columns_saved places (texture_column v facts) after first (last + 1 - first) xs ≡ front ++ saved_by v ws n (wall_of v facts first last)
+unfolding saved_by middle_columns top_clips bottom_clips wall_of
+saved_lists v ws n facts first last front xs after places p f t a =
+    ap (λ (q : SavePlaces). columns_saved q (texture_column v facts) after first (last + 1 - first) xs) p
+    ∙ columns_saved-lists (fragment_numbers v facts first last) first last front xs (texture_column v facts) after (texture_column v facts)
+    (λ x. (clip_past v.shape ws n x).ceiling_clip) (λ x. (clip_past v.shape ws n x).floor_clip) f (t ∙ ap (λ (q : SavePlaces). q.end) p)
+    (λ x l h. refl) (λ x l h. ap (λ (c : ColumnClip). c.ceiling_clip) (a x l h)) (λ x l h. ap (λ (c : ColumnClip). c.floor_clip) (a x l h))
+
+openings_after : {v : ViewValue} {walls : List Wall} {s : PlanesNow} {facts : WallFacts} {first last : ℕ} {notes : List FragmentNote} {old checked new : ColumnState} {before between later : PlanesView} {places : SavePlaces} {note : FragmentNote} →
+    WallDrawn v walls s facts first last notes old checked new before between later places note →
+    new.openings.saved ≡ openings_list v (with_wall walls (wall_of v facts first last))
+openings_after {v} {walls} {s} {facts} {first} {last} {notes} {old} {checked} {new} {places = places} d =
+    let w : Wall = wall_of v facts first last in
+    d.saved.saved facts first last refl
+    ∙ saved_lists v (with_wall walls w) (length walls) facts first last old.openings.saved checked.openings.saved
+    (column_after checked.windows.height (fragment_of v facts first last) (window_at checked.windows)) places d.places d.front d.total (λ x l h. left_open d x l h)
+    ∙ ap (λ (xs : List ℤ). xs ++ saved_by v (with_wall walls w) (length walls) w) d.built.openings
+    ∙ sym (openings_list-more v walls w)
+
+notes_after : {v : ViewValue} {walls : List Wall} {s : PlanesNow} {facts : WallFacts} {first last : ℕ} {notes : List FragmentNote} {old checked new : ColumnState} {before between later : PlanesView} {places : SavePlaces} {note : FragmentNote} →
+    WallDrawn v walls s facts first last notes old checked new before between later places note →
+    notes ++ note ∷ [] ≡ view_notes v (with_wall walls (wall_of v facts first last))
+notes_after {v} {walls} {s} {facts} {first} {last} {notes} {old} {note = note} d =
+    let w : Wall = wall_of v facts first last in
+    ap (λ (xs : List FragmentNote). xs ++ note ∷ []) d.built.notes
+    ∙ ap (λ (d : FragmentNote). view_notes v walls ++ d ∷ []) d.note
+    ∙ ap (λ (xs : List ℤ). view_notes v walls ++ note_at v w (length xs) ∷ []) d.built.openings
+    ∙ sym (view_notes-more v walls w)
+
+-- the fragment's marks by the windows are those of the rules
+rows_same : (v : ViewValue) (ws : List Wall) (n : ℕ) (facts : WallFacts) (first last : ℕ) (before : ℕ → ColumnClip) →
+    ((x : ℕ) → first ≤ x → x ≤ last → before x ≡ clip_before v.shape ws n x) →
+    MarkAlike (marks_along (fragment_of v facts first last) before) (plane_wall v ws n (wall_of v facts first last))
+unfolding marks_along plane_wall wall_of ceiling_marks floor_marks column_edges wall_edges
+rows_same v ws n facts first last before h = record {
+  first = refl;
+  last = refl;
+  ceiling_mark = refl;
+  floor_mark = refl;
+  ceiling_rows = λ x l m. ap (λ (c : ColumnClip). marked_rows (fragment_numbers v facts first last).ceiling_mark (ceiling_rows c (edges_at v.shape (fragment_numbers v facts first last) (x - first)))) (h x l m);
+  floor_rows = λ x l m. ap (λ (c : ColumnClip). marked_rows (fragment_numbers v facts first last).floor_mark (floor_rows c (edges_at v.shape (fragment_numbers v facts first last) (x - first)))) (h x l m);
+}
+
+-- what a fragment that is drawn does with planes, by its own marks
+drawn_event : (f : FragmentValue) (before : ℕ → ColumnClip) (s : PlanesNow) →
+    after_event s (Draws (marks_along f before))
+    ≡ wall_marked (marks_along f before) (floor_check f.numbers f.first f.last (ceiling_check f.numbers f.first f.last s))
+unfolding after_event floor_checked ceiling_checked floor_check ceiling_check marks_along
+drawn_event f before s = refl
+
+marked_event : (f : FragmentValue) (before : ℕ → ColumnClip) (t : PlanesNow) →
+    wall_marked (marks_along f before) t ≡ (let u : PlanesNow = record { planes = columns_marked (marks_along f before) t.ceiling t.floor (f.last + 1 - f.first) t.planes; floor = t.floor; ceiling = t.ceiling } in u)
+unfolding wall_marked marks_along
+marked_event f before t = refl
+
+-- equal marks do the same with planes
+event_alike : (s : PlanesNow) (a b : PlaneWall) → MarkAlike a b → (first last : ℕ) → first ≡ a.first → last ≡ a.last → first ≤ last → after_event s (Draws a) ≡ after_event s (Draws b)
+event_alike s a b h first last e f o = after_event-alike s a b h (omega arith)
+
+now_after : {v : ViewValue} {walls : List Wall} {s : PlanesNow} {facts : WallFacts} {first last : ℕ} {notes : List FragmentNote} {old checked new : ColumnState} {before between later : PlanesView} {places : SavePlaces} {note : FragmentNote} →
+    WallDrawn v walls s facts first last notes old checked new before between later places note →
+    now_of new later ≡ after_event s (step_of_wall v walls (wall_of v facts first last)).event
+unfolding wall_step marks_along
+now_after {v} {walls} {s} {facts} {first} {last} {notes} {old} {checked} {new} {before} {between} {later} d =
+    let w : Wall = wall_of v facts first last in
+    let f : FragmentValue = fragment_of v facts first last in
+    let open_at : ℕ → ColumnClip = window_at checked.windows in
+    let t : PlanesNow = now_of checked between in
+    let marked : PlanesNow = record { planes = columns_marked (marks_along f open_at) t.ceiling t.floor (last + 1 - first) t.planes; floor = t.floor; ceiling = t.ceiling } in
+    let ordered = d.ordered in
+    let within = d.within in
+    let one : now_of new later ≡ marked =
+    ap (λ (ps : List Plane). let u : PlanesNow = record { planes = ps; floor = plane_number new.floor; ceiling = plane_number new.ceiling } in u) (ap (λ (p : PlanesView). p.planes) d.marked.planes)
+    ∙ ap (λ (o : Option _). let u : PlanesNow = record { planes = marked.planes; floor = plane_number o; ceiling = plane_number new.ceiling } in u) d.marked.floor
+    ∙ ap (λ (o : Option _). let u : PlanesNow = record { planes = marked.planes; floor = plane_number checked.floor; ceiling = plane_number o } in u) d.marked.ceiling in
+    let alike : MarkAlike (marks_along f open_at) (plane_wall v (with_wall walls w) (length walls) w) =
+    rows_same v (with_wall walls w) (length walls) facts first last open_at
+    (λ x l h. window_before d x (omega arith) ∙ sym (clip_before-front v.shape walls (w ∷ []) (length walls) x (omega arith))) in
+    one
+    ∙ sym (marked_event f open_at t)
+    ∙ ap (wall_marked (marks_along f open_at)) d.planes
+    ∙ sym (drawn_event f open_at s)
+    ∙ event_alike s (marks_along f open_at) (plane_wall v (with_wall walls w) (length walls) w) alike first last refl refl ordered
+
+-- a fragment is drawn
+pub built-wall : {v : ViewValue} {walls : List Wall} {s : PlanesNow} {facts : WallFacts} {first last : ℕ} {notes : List FragmentNote} {old checked new : ColumnState} {before between later : PlanesView} {places : SavePlaces} {note : FragmentNote} →
+    WallDrawn v walls s facts first last notes old checked new before between later places note →
+    IsBuilt v (with_wall walls (wall_of v facts first last)) (after_event s (step_of_wall v walls (wall_of v facts first last)).event) (walls_view (notes ++ note ∷ []) new) later.planes
+built-wall {v} {walls} {s} {facts} {first} {last} {notes} {note = note} d =
+    let w : Wall = wall_of v facts first last in
+    let e = now_after d in
+    record {
+      drawn = All-push (IsDrawn v) walls w d.built.drawn (drawn_wall v facts first last d.ordered d.within);
+      notes = notes_after d;
+      openings = openings_after d;
+      clips = λ x l. clips_after d (notes ++ note ∷ []) x l;
+      height = d.marked.height ∙ height_before d;
+      floor = ap (λ (t : PlanesNow). t.floor) e;
+      ceiling = ap (λ (t : PlanesNow). t.ceiling) e;
+      planes = ap (λ (t : PlanesNow). t.planes) e;
+      sound = sound-after_event s (step_of_wall v walls w).event d.built.sound;
+    }
+
+-- what is drawn, by a fragment's value and its numbers
+pub wall-drawn : (v : ViewValue) (walls : List Wall) (s : PlanesNow) (facts : WallFacts) (first last : ℕ) (notes : List FragmentNote) (old checked new : ColumnState) (before between later : PlanesView) (places : SavePlaces) (note : FragmentNote)
+    (n : FragmentNumbers) (f : FragmentValue) → f ≡ fragment_of v facts first last → n ≡ f.numbers → IsBuilt v walls s (walls_view notes old) before.planes → first ≤ last → last < v.shape.width → v.shape.width ≤ FRAME_WIDTH →
+    checked.windows ≡ old.windows → now_of checked between ≡ floor_check n first last (ceiling_check n first last s) → places ≡ places_of n (length old.openings.saved) (last + 1 - first) →
+    take (length old.openings.saved) checked.openings.saved ≡ old.openings.saved → length checked.openings.saved ≡ places.end →
+    HasMarked f (columns_of f) checked new between later → HasSaved v f places (columns_of f) checked new.openings →
+    note ≡ note_at v (wall_of v facts first last) (length old.openings.saved) → WallDrawn v walls s facts first last notes old checked new before between later places note
+wall-drawn v walls s facts first last notes old checked new before between later places note n f e g built ordered within frame windows planes lists front total marked saved entry =
+    let numbers : n ≡ fragment_numbers v facts first last = g ∙ ap (λ (f : FragmentValue). f.numbers) e in
+    let P : FragmentNumbers → Type 0 = λ n. now_of checked between ≡ floor_check n first last (ceiling_check n first last s) in
+    let Q : FragmentNumbers → Type 0 = λ n. places ≡ places_of n (length old.openings.saved) (last + 1 - first) in
+    let R : FragmentValue → Type 0 = λ f. HasMarked f (columns_of f) checked new between later in
+    let S : FragmentValue → Type 0 = λ f. HasSaved v f places (columns_of f) checked new.openings in
+    record {
+      built = built;
+      ordered = ordered;
+      within = within;
+      frame = frame;
+      windows = windows;
+      planes = subst P numbers planes;
+      places = subst Q numbers lists;
+      front = front;
+      total = total;
+      marked = subst R e marked;
+      saved = subst S e saved;
+      note = entry;
+    }
+
+length_notes : (v : ViewValue) (walls : List Wall) (place : ℕ) → length (notes_from v place walls) ≡ length walls
+unfolding notes_from
+length_notes v [] place = refl
+length_notes v (w ∷ ws) place =
+    ap suc (length_notes v ws (place + room_if w.numbers.masked w + room_if (saves_top w.numbers) w + room_if (saves_bottom w.numbers) w))
+
+length_view : (v : ViewValue) (walls : List Wall) → length (view_notes v walls) ≡ length walls
+unfolding view_notes
+length_view v walls = length_notes v walls 0
+
+-- there is a note for each fragment
+pub built-count : (v : ViewValue) (walls : List Wall) (s : PlanesNow) (state : WallsView) (planes : List Plane) → IsBuilt v walls s state planes → length state.notes ≡ length walls
+built-count v walls s state planes h = ap (λ (ds : List FragmentNote). length ds) h.notes ∙ length_view v walls
+
+-- what is open of a column before the next fragment, when the windows are as they were
+pub built-window : (v : ViewValue) (walls : List Wall) (s : PlanesNow) (notes : List FragmentNote) (old : ColumnState) (checked : WindowsView) (planes : List Plane) (w : Wall) (x : ℕ) →
+    IsBuilt v walls s (walls_view notes old) planes → checked ≡ old.windows → x < v.shape.width → window_at checked x ≡ clip_before v.shape (with_wall walls w) (length walls) x
+built-window v walls s notes old checked planes w x h e l =
+    ap (λ (w : WindowsView). window_at w x) e ∙ sym (clip_at-window notes old x) ∙ h.clips x l ∙ sym (clip_before-front v.shape walls (w ∷ []) (length walls) x (omega arith))

@@ -1,0 +1,14 @@
+pub mod Walls
+pub mod Built
+pub mod Faults
+pub mod Draws
+pub mod Noted
+pub mod Plans
+pub mod Windows
+pub mod Saved
+pub mod Columns
+pub mod Leaves
+pub mod Places
+pub mod States
+pub mod Painted
+pub mod Drawn

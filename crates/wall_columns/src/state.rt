@@ -1,0 +1,322 @@
+// The walls of a view as far as they are drawn.
+//
+// Rules: `specs/Walls`, `specs/Built`. The original: r_segs.c, and `R_Subsector` of r_bsp.c.
+ghost use Rattle.std.specs.Prelude.{◌≡◌, ◌<◌, ◌≤◌, ◌+◌, ℕ, [], List, None, Some, Ok, IfOk, IfErr, OnOk, length};
+ghost use Rattle.view_rules.specs.declared.TheConstants.{FRAME_WIDTH, FRAME_HEIGHT};
+ghost use Rattle.view_rules.specs.View.{ViewValue};
+ghost use Rattle.walk_rules.specs.declared.TheConstants.{MAX_DRAWSEGS};
+ghost use Rattle.wall_rules.specs.declared.TheConstants.{MOST_OPENINGS};
+ghost use Rattle.wall_rules.specs.Walls.{Wall, wall_of};
+ghost use Rattle.wall_rules.specs.Strips.{wall_dots};
+ghost use Rattle.plane_rules.specs.Built.{PlanesNow, IsAmongPlanes, no_planes, after_event};
+ghost use Rattle.picture_rules.specs.Noted.{AreNoted};
+ghost use Rattle.texture_build.specs.Arts.{view_art};
+ghost use Rattle.texture_build.specs.Draws.{HoldsArt, FitBeside, CanDraw, DrawsWith};
+ghost use Rattle.lump_rules.specs.Contents.{lump_bytes};
+ghost use Rattle.wall_columns.specs.Walls.{WallsView};
+ghost use Rattle.wall_columns.specs.Built.{IsBuilt, with_wall, step_of_wall, step_of_leaf, limits_of, step_over};
+ghost use Rattle.wall_columns.specs.Faults.{draw_fault, limit_of_result, IsPlanesFault, IsLimitFault};
+ghost use Rattle.pixel_strips.specs.Dotted.{HasDots, PlacedAlike};
+ghost use Rattle.wall_columns.specs.Draws.{IsWallTexture, IsNoPicture, IsUntouched};
+ghost use Rattle.wall_columns.specs.Noted.{HaveBacks};
+
+use crate::column_state::ColumnState;
+use crate::fault::DrawFault;
+use crate::leaf::LeafPlanes;
+use crate::notes::note_of;
+use crate::tools::WallTools;
+use outside::Shelf;
+use pixel_strips::Canvas;
+use std::alloc::{AllocError, Global};
+use std::marker::Model;
+use view_frame::View;
+use visplanes::Planes;
+use walk_rules::MAX_DRAWSEGS;
+use wall_edges::Fragment;
+use wall_rules::{FragmentNote, WallFacts};
+
+/// The walls of a view as far as they are drawn: the notes of the drawn fragments, the openings
+/// that they saved, the clips of each column, and the planes of the leaf that is entered. Contracts
+/// see `WallsView`.
+///
+/// The original: `drawsegs`, `openings`, `ceilingclip`, `floorclip`, `floorplane` and
+/// `ceilingplane`, r_bsp.c and r_plane.c.
+#[derive(Drop)]
+pub struct WallState {
+    notes: Vec<FragmentNote>,
+    columns: ColumnState,
+}
+
+impl Model for WallState {
+    ghost use Rattle.std.specs.Prelude.{◌≤◌, length, vec_capacity};
+    ghost use Rattle.walk_rules.specs.declared.TheConstants.{MAX_DRAWSEGS};
+    ghost use Rattle.wall_columns.specs.Walls.{WallsView};
+    ghost use Rattle.wall_columns.specs.States.{walls_view};
+
+    ghost Value = { WallsView };
+
+    ghost view = { λ w. walls_view w.notes.items w.columns };
+
+    ghost invariant = { λ w. (length w.notes.items ≤ MAX_DRAWSEGS)
+        × (MAX_DRAWSEGS ≤ vec_capacity w.notes) };
+}
+
+impl WallState {
+    /// No fragment, and room for `room` openings, at most 245760. Takes all the memory of the
+    /// walls.
+    ///
+    /// Errors: `AllocError`, out of memory.
+    ///
+    /// The original: the arrays of r_bsp.c and r_plane.c. This project's own: the room.
+    pub fn new(alloc: Global, room: u32) -> Result<WallState, AllocError>
+        requires { room ≤ MOST_OPENINGS }
+        ensures notes { IfOk result (λ walls. walls.notes ≡ []) }
+        ensures openings { IfOk result (λ walls. walls.openings ≡ []) }
+        ensures room { IfOk result (λ walls. walls.room ≡ room) }
+        ensures floor { IfOk result (λ walls. walls.floor ≡ None) }
+        ensures ceiling { IfOk result (λ walls. walls.ceiling ≡ None) }
+    {
+        Ok(WallState {
+            notes: Vec::with_capacity(alloc, MAX_DRAWSEGS as usize)?,
+            columns: ColumnState::new(alloc, room)?,
+        })
+    }
+
+    /// Leaves no fragment and no leaf: each column of a view of `height` rows is open.
+    ///
+    /// The original: `R_ClearDrawSegs`, r_bsp.c, and `R_ClearPlanes`, r_plane.c.
+    pub fn start_view(&mut self, height: u16)
+        requires { height ≤ FRAME_HEIGHT }
+        ensures built { (v : ViewValue) → v.shape.height ≡ height → v.shape.width ≤ FRAME_WIDTH →
+            IsBuilt v [] no_planes self.new [] }
+        ensures room { self.new.room ≡ self.old.room }
+    {
+        self.notes.clear();
+        self.columns.start(height);
+    }
+
+    /// The notes of the drawn fragments, in order, at most 256.
+    ///
+    /// `noted` has all that the masked pass asks of them: their lists lie whole and apart among the
+    /// openings, their scales are above 0, and their clips are rows of the view.
+    ///
+    /// The original: `drawsegs`, r_bsp.c.
+    pub fn notes(&self) -> &[FragmentNote]
+        ensures value { result.now ≡ self.now.notes }
+        ensures noted { (v : ViewValue) (walls : List Wall) (s : PlanesNow) →
+            v.shape.width ≤ FRAME_WIDTH → v.shape.height ≤ FRAME_HEIGHT →
+            IsBuilt v walls s self.now s.planes →
+            AreNoted v.shape self.now.notes self.now.openings }
+        ensures backs { (v : ViewValue) (walls : List Wall) (s : PlanesNow) →
+            IsBuilt v walls s self.now s.planes → HaveBacks walls self.now.notes }
+    {
+        &self.notes
+    }
+
+    /// The openings that they saved: texture columns and clips, one for each column of a fragment.
+    ///
+    /// The original: `openings`, r_plane.c.
+    pub fn openings(&self) -> &[i32]
+        ensures value { result.now ≡ self.now.openings }
+        ensures room { length self.now.openings ≤ self.now.room }
+        ensures most { self.now.room ≤ MOST_OPENINGS }
+    {
+        self.columns.openings.list()
+    }
+
+    /// Enters a leaf: finds its floor, and then its ceiling, among the planes.
+    ///
+    /// Errors: `Planes` exactly where one of the two is a new plane past the room; the count is the
+    /// room and one. After it `start_view` comes before the next leaf or fragment.
+    ///
+    /// The original: the calls of `R_FindPlane` in `R_Subsector`, r_bsp.c.
+    pub fn start_leaf(&mut self, planes: &mut Planes, leaf: LeafPlanes) -> Result<(), DrawFault>
+        ensures built { (v : ViewValue) (walls : List Wall) (s : PlanesNow) →
+            IsBuilt v walls s self.old planes.old.planes →
+            OnOk result (IsBuilt v walls
+            (after_event s (step_of_leaf leaf.floor leaf.ceiling).event)
+            self.new planes.new.planes) }
+        ensures limit { (v : ViewValue) (walls : List Wall) (s : PlanesNow) →
+            IsBuilt v walls s self.old planes.old.planes →
+            limit_of_result result ≡ step_over (limits_of self.old planes.old) s
+            (length self.old.openings) (step_of_leaf leaf.floor leaf.ceiling) }
+        ensures faults { IfErr result IsPlanesFault }
+        ensures floor { OnOk result (IsAmongPlanes planes.new.planes self.new.floor) }
+        ensures ceiling { OnOk result (IsAmongPlanes planes.new.planes self.new.ceiling) }
+        ensures stays { self.new ≡ record self.old
+            { floor = self.new.floor; ceiling = self.new.ceiling } }
+        ensures room { planes.new.room ≡ planes.old.room }
+    {
+        self.columns.enter(planes, leaf)
+    }
+
+    /// Draws the fragment of a seg in columns `first` to `last` of the view: takes its openings,
+    /// checks the planes that it marks, first the ceiling, then marks and paints its columns from
+    /// left to right and saves their clips, and notes it. Past 256 notes it does nothing.
+    ///
+    /// The view is the one that `start_view` was called for. Each texture of the facts that is not
+    /// number 0 is prepared. The canvas stands where the view lies in the frame.
+    ///
+    /// Errors: `Openings` exactly where the openings that it takes pass the room, with their sum;
+    /// else `Planes` exactly where a check makes a new plane past the room. `ZoneFull` and
+    /// `ReadFault` as for `Textures::ready`. After any of them `start_view` comes before the next
+    /// leaf or fragment.
+    ///
+    /// The original: `R_StoreWallRange` and `R_RenderSegLoop`, r_segs.c.
+    pub fn store_range<S: Shelf, C: Canvas>(
+        &mut self,
+        tools: &mut WallTools<'_, S, C>,
+        facts: &WallFacts,
+        first: u16,
+        last: u16,
+    ) -> Result<(), DrawFault>
+        requires ordered { first ≤ last }
+        requires within { last < tools.old.view.now.shape.width }
+        requires height { self.old.height ≡ tools.old.view.now.shape.height }
+        requires columns { (C.view tools.old.canvas.now).left + tools.old.view.now.shape.width
+            ≤ FRAME_WIDTH }
+        requires rows { (C.view tools.old.canvas.now).top + tools.old.view.now.shape.height
+            ≤ FRAME_HEIGHT }
+        requires slots { length tools.old.dir.now.lumps ≤ tools.old.cache.now.lumps }
+        requires colormap { tools.old.colormap.0 < length tools.old.dir.now.lumps }
+        requires textures { (number : ℕ) → IsWallTexture facts.now number →
+            CanDraw tools.old.dir.now.lumps tools.old.textures.now tools.old.cache.now number }
+        requires floor { IsAmongPlanes tools.old.planes.now.planes self.old.floor }
+        requires ceiling { IsAmongPlanes tools.old.planes.now.planes self.old.ceiling }
+        ensures same_cache { tools.new.cache.ghost_name ≡ tools.old.cache.ghost_name }
+        ensures same_shelf { tools.new.shelf.ghost_name ≡ tools.old.shelf.ghost_name }
+        ensures same_planes { tools.new.planes.ghost_name ≡ tools.old.planes.ghost_name }
+        ensures same_canvas { tools.new.canvas.ghost_name ≡ tools.old.canvas.ghost_name }
+        ensures built { (walls : List Wall) (s : PlanesNow) →
+            IsBuilt tools.old.view.now walls s self.old tools.old.planes.now.planes →
+            length walls < MAX_DRAWSEGS →
+            let w = wall_of tools.old.view.now facts.now first last in
+            OnOk result (IsBuilt tools.old.view.now (with_wall walls w)
+            (after_event s (step_of_wall tools.old.view.now walls w).event)
+            self.new tools.new.planes.now.planes) }
+        ensures limit { (walls : List Wall) (s : PlanesNow) →
+            IsBuilt tools.old.view.now walls s self.old tools.old.planes.now.planes →
+            length walls < MAX_DRAWSEGS →
+            limit_of_result result ≡ step_over (limits_of self.old tools.old.planes.now) s
+            (length self.old.openings) (step_of_wall tools.old.view.now walls
+            (wall_of tools.old.view.now facts.now first last)) }
+        ensures painted { (walls : List Wall) (s : PlanesNow) (contents : List (List ℕ))
+            (count : ℕ) →
+            IsBuilt tools.old.view.now walls s self.old tools.old.planes.now.planes →
+            length walls < MAX_DRAWSEGS →
+            HoldsArt (S.view tools.old.shelf.now) tools.old.dir.now tools.old.textures.now contents
+            tools.old.colormap.0 count tools.old.cache.now →
+            let w = wall_of tools.old.view.now facts.now first last in
+            let art = view_art (lump_bytes contents tools.old.dir.now.lumps)
+            tools.old.textures.now tools.old.colormap.0 in
+            OnOk result (HasDots C.mark
+            (wall_dots tools.old.view.now art (with_wall walls w) (length walls) w)
+            (C.view tools.old.canvas.now) (C.view tools.new.canvas.now)) }
+        ensures fits { (walls : List Wall) (s : PlanesNow) (contents : List (List ℕ))
+            (count : ℕ) →
+            IsBuilt tools.old.view.now walls s self.old tools.old.planes.now.planes →
+            length walls < MAX_DRAWSEGS →
+            HoldsArt (S.view tools.old.shelf.now) tools.old.dir.now tools.old.textures.now contents
+            tools.old.colormap.0 count tools.old.cache.now →
+            let w = wall_of tools.old.view.now facts.now first last in
+            let art = view_art (lump_bytes contents tools.old.dir.now.lumps)
+            tools.old.textures.now tools.old.colormap.0 in
+            OnOk result (FitBeside tools.old.dir.now.lumps tools.old.textures.now
+            tools.old.colormap.0 count tools.old.cache.now.size
+            (wall_dots tools.old.view.now art (with_wall walls w) (length walls) w)) }
+        ensures paints { DrawsWith draw_fault (IsWallTexture facts.now) IsNoPicture
+            (S.view tools.old.shelf.now) (S.view tools.new.shelf.now) tools.old.dir.now
+            tools.old.textures.now tools.old.cache.now tools.new.cache.now result }
+        ensures past { length self.old.notes ≡ MAX_DRAWSEGS → result ≡ Ok tt }
+        ensures past_state { length self.old.notes ≡ MAX_DRAWSEGS → self.new ≡ self.old }
+        ensures past_tools { length self.old.notes ≡ MAX_DRAWSEGS →
+            IsUntouched tools.old.planes.now tools.new.planes.now tools.old.cache.now
+            tools.new.cache.now (S.view tools.old.shelf.now) (S.view tools.new.shelf.now)
+            (C.view tools.old.canvas.now) (C.view tools.new.canvas.now) }
+        ensures stays { self.new.height ≡ self.old.height }
+        ensures room { self.new.room ≡ self.old.room }
+        ensures planes_room { tools.new.planes.now.room ≡ tools.old.planes.now.room }
+        ensures place { PlacedAlike (C.view tools.old.canvas.now) (C.view tools.new.canvas.now) }
+    {
+        if self.notes.len() >= MAX_DRAWSEGS as usize {
+            return Ok(());
+        }
+        let shape = tools.view.shape();
+        let fragment = Fragment::new(tools.view, facts, first, last);
+        let numbers = fragment.numbers();
+        let places = self.columns.begin(tools.planes, &numbers, first, last)?;
+        let number = self.notes.len() as u16;
+        self.columns
+            .draw_columns(tools, number, &fragment, &numbers, places)?;
+        let note = note_of(
+            facts.seg_no,
+            &fragment,
+            &numbers,
+            first,
+            last,
+            places,
+            shape.height,
+        );
+        self.notes.push_reserved(note);
+        Ok(())
+    }
+
+    /// Does to the state and the planes what `store_range` does where no fault comes, without a
+    /// paint: for a count of the planes and openings of a view.
+    ///
+    /// Errors: `Openings` and `Planes`, exactly where `store_range` answers them.
+    ///
+    /// This project's own.
+    pub fn count_range(
+        &mut self,
+        view: &View<'_>,
+        planes: &mut Planes,
+        facts: &WallFacts,
+        first: u16,
+        last: u16,
+    ) -> Result<(), DrawFault>
+        requires ordered { first ≤ last }
+        requires within { last < view.now.shape.width }
+        requires height { self.old.height ≡ view.now.shape.height }
+        requires floor { IsAmongPlanes planes.old.planes self.old.floor }
+        requires ceiling { IsAmongPlanes planes.old.planes self.old.ceiling }
+        ensures built { (walls : List Wall) (s : PlanesNow) →
+            IsBuilt view.now walls s self.old planes.old.planes → length walls < MAX_DRAWSEGS →
+            let w = wall_of view.now facts.now first last in
+            OnOk result (IsBuilt view.now (with_wall walls w)
+            (after_event s (step_of_wall view.now walls w).event) self.new planes.new.planes) }
+        ensures limit { (walls : List Wall) (s : PlanesNow) →
+            IsBuilt view.now walls s self.old planes.old.planes → length walls < MAX_DRAWSEGS →
+            limit_of_result result ≡ step_over (limits_of self.old planes.old) s
+            (length self.old.openings)
+            (step_of_wall view.now walls (wall_of view.now facts.now first last)) }
+        ensures faults { IfErr result IsLimitFault }
+        ensures past { length self.old.notes ≡ MAX_DRAWSEGS → result ≡ Ok tt }
+        ensures past_state { length self.old.notes ≡ MAX_DRAWSEGS → self.new ≡ self.old }
+        ensures past_planes { length self.old.notes ≡ MAX_DRAWSEGS → planes.new ≡ planes.old }
+        ensures stays { self.new.height ≡ self.old.height }
+        ensures room { self.new.room ≡ self.old.room }
+        ensures planes_room { planes.new.room ≡ planes.old.room }
+    {
+        if self.notes.len() >= MAX_DRAWSEGS as usize {
+            return Ok(());
+        }
+        let shape = view.shape();
+        let fragment = Fragment::new(view, facts, first, last);
+        let numbers = fragment.numbers();
+        let places = self.columns.begin(planes, &numbers, first, last)?;
+        self.columns
+            .count_columns(view, planes, &fragment, &numbers, places);
+        let note = note_of(
+            facts.seg_no,
+            &fragment,
+            &numbers,
+            first,
+            last,
+            places,
+            shape.height,
+        );
+        self.notes.push_reserved(note);
+        Ok(())
+    }
+}
