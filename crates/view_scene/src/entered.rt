@@ -2,6 +2,7 @@
 //
 // Rules: `specs/Entered`. The original: `validcount` of `sector_t`, r_defs.h.
 ghost use Rattle.std.specs.Prelude.{◌≡◌, ◌<◌, ◌≤◌, ℕ, false, true, not, cond, ◌==◌, length, IfOk, slice_set};
+ghost use Rattle.view_scene.specs.declared.entered.TheConstants.{MOST_SECTORS};
 ghost use Rattle.view_scene.specs.Entered.{has_entered};
 
 use std::alloc::{AllocError, Global};
@@ -40,7 +41,7 @@ impl Entered {
         ensures { IfOk result (λ entered. (sector : ℕ) → has_entered entered sector ≡ false) }
     {
         Ok(Entered {
-            marks: vec![in alloc; false; MOST_SECTORS]?,
+            marks: unset_marks(alloc, MOST_SECTORS)?,
         })
     }
 
@@ -53,7 +54,7 @@ impl Entered {
         ensures above { (sector : ℕ) → sectors ≤ sector →
             has_entered self.new sector ≡ has_entered self.old sector }
     {
-        self.marks[..sectors].fill(false);
+        unset_all(&mut self.marks[..sectors]);
     }
 
     /// Enters a sector, and says whether it was not entered before.
@@ -69,4 +70,20 @@ impl Entered {
         self.marks[sector as usize] = true;
         is_new
     }
+}
+
+// So many marks, none of which is set.
+fn unset_marks(alloc: Global, count: usize) -> Result<Vec<bool>, AllocError>
+    ensures count { IfOk result (λ marks. length marks.items ≡ count) }
+    ensures unset { IfOk result (λ marks. (sector : ℕ) → has_entered marks.items sector ≡ false) }
+{
+    vec![in alloc; false; count]
+}
+
+// Takes all these marks away.
+fn unset_all(marks: &mut [bool])
+    ensures count { length marks.new ≡ length marks.old }
+    ensures unset { (sector : ℕ) → has_entered marks.new sector ≡ false }
+{
+    marks.fill(false);
 }

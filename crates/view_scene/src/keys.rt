@@ -7,6 +7,7 @@ use level_rules::{SKY_FLAT, Surface};
 use plane_rules::{Flat4, PlaneKey};
 
 // The key of a plane at that height; all sky has one.
+#[tactic(auto, unfolding(plane_rules::specs::Keys::key_of))]
 fn key_of(height: i32, flat: u32, light: i16) -> PlaneKey
     requires { flat ≤ SKY_FLAT }
     ensures { result ≡ key_of height flat light }
@@ -30,6 +31,7 @@ fn key_of(height: i32, flat: u32, light: i16) -> PlaneKey
 /// 16.16); None where it is not seen.
 ///
 /// The original: `R_Subsector`, r_bsp.c.
+#[tactic(auto, unfolding(plane_rules::specs::Keys::floor_key))]
 pub fn floor_key(eye_z: i32, surface: &Surface) -> Option<PlaneKey>
     requires { surface.now.floor_flat ≤ SKY_FLAT }
     ensures { result ≡ floor_key eye_z surface.now }
@@ -45,6 +47,7 @@ pub fn floor_key(eye_z: i32, surface: &Surface) -> Option<PlaneKey>
 /// 16.16) or sky; None where it is not seen.
 ///
 /// The original: `R_Subsector`, r_bsp.c.
+#[tactic(auto, unfolding(plane_rules::specs::Keys::ceiling_key))]
 pub fn ceiling_key(eye_z: i32, surface: &Surface) -> Option<PlaneKey>
     requires { surface.now.ceiling_flat ≤ SKY_FLAT }
     ensures { result ≡ ceiling_key eye_z surface.now }
