@@ -1,8 +1,7 @@
 -- What a view asks of a scene that has all that drawing asks of it.
-use Rattle.std.proofs.Common.{◌≡◌, inl, inr, ℕ, zero, suc, ◌<◌, ◌≤◌, ◌||◌, Bool, true, false, cond, List, [], ◌∷◌, length, map, get_or, Option, Some, None, Result, Ok, Err, refl, sym, ap, subst, ◌∙◌, arith}
+use Rattle.std.proofs.Common.{◌≡◌, inl, inr, ℕ, zero, suc, ◌<◌, ◌≤◌, ◌||◌, Bool, true, false, cond, List, [], ◌∷◌, length, get_or, Option, Some, None, Result, Ok, Err, refl, sym, ap, subst, ◌∙◌, arith}
 use Rattle.std.specs.Prelude.{All, IsSome, option_map, pos, ◌⊎◌}
 use Rattle.std.specs.Option.{ok_or, option_and_then}
-use Rattle.std.proofs.lemmas.Bool.{cases_eq}
 use Rattle.std.proofs.lemmas.Bool.Decides.{nat_tests}
 use Rattle.std.proofs.lemmas.List.{length-map}
 use Rattle.std.proofs.lemmas.List.Folds.{list_any_at}
@@ -15,11 +14,10 @@ use Rattle.level_rules.specs.declared.TheConstants.{SKY_FLAT}
 use Rattle.level_rules.specs.Levels.{is_sky, no_seg, no_surface, seg_at, surface_at}
 use Rattle.map_rules.specs.Levels.{LevelValue}
 use Rattle.map_rules.specs.Sound.{IsSound}
-use Rattle.art_rules.specs.Textures.{Texture, TextureLists, texture_number}
+use Rattle.art_rules.specs.Textures.{TextureLists, texture_number}
 use Rattle.scene_rules.specs.declared.Flat.{Flat}
 use Rattle.scene_rules.specs.declared.Flat.TheVariants.{Sky, Lump as LumpFlat}
 use Rattle.scene_rules.specs.declared.SectorFlats.{SectorFlats}
-use Rattle.scene_rules.specs.declared.refusal.SceneRefusal.{SceneRefusal}
 use Rattle.scene_rules.specs.Numbered.{each_from, each_or}
 use Rattle.scene_rules.specs.Scenes.{Faces, SceneValue, faces_in}
 use Rattle.scene_rules.specs.SectorFlats.{both_flats, flat_named, flat_number, flats_of, lump_flat, sector_flats, surface_of, surfaces_of}
@@ -28,7 +26,7 @@ use Rattle.scene_rules.specs.Skies.{has_sky, is_sky_name, shows_sky, sky_name}
 use Rattle.texture_build.specs.Views.{IsPrepared}
 use Rattle.level_scene.specs.Bounds.{IsNoneOrBelow, IsThere}
 use Rattle.level_audit.specs.Sound.{middles_of, textures_view}
-use Rattle.level_audit.specs.Whole.{AreSidePrepared, IsNoneOrPrepared, IsWholeScene}
+use Rattle.level_audit.specs.Whole.{IsNoneOrPrepared, IsWholeScene}
 use Rattle.wall_rules.specs.declared.WallFacts.{WallFacts}
 use Rattle.picture_rules.specs.Scene.{facts_of, no_textures, textures_at, wall_texture}
 use Rattle.view_scene.specs.Scenes.{lists_of, scene_of}
@@ -195,7 +193,7 @@ module _ (lumps : List Lump) (lines : List ThingLine) (name : List ℕ) (skill :
   pub middles_as_many : length (middles_of scene.faces.sides) ≡ length scene.base.level.sides
   middles_as_many = length-map scene.faces.sides _ ∙ whole.sides
 
-  -- the flats of a surface are there, where the lumps have numbers below that of the sky
+  -- the flats of a surface are there, where all lumps have numbers below that of the sky
   pub surface_flats : length lumps ≤ SKY_FLAT → All (AreFlatsOf (length lumps)) (surfaces_of scene.base.level.sectors scene.faces.flats)
   unfolding surface_of
   surface_flats few i d l =
@@ -204,6 +202,10 @@ module _ (lumps : List Lump) (lines : List ThingLine) (name : List ℕ) (skill :
       let there = whole.flats_there i no_flats (omega (arith, inside, whole.flats)) in
       subst (AreFlatsOf (length lumps)) (sym (surface_from scene.base.level.sectors scene.faces.flats i no_sector no_flats d whole.flats inside))
       (record { floor = flat_of_number (length lumps) flats.floor few there.floor; ceiling = flat_of_number (length lumps) flats.ceiling few there.ceiling })
+
+  pub flats_at : length lumps ≤ SKY_FLAT → (sector : ℕ) → sector < length scene.base.level.sectors → AreFlatsOf (length lumps) (surface_at (lists_of scene) sector)
+  unfolding surface_at
+  flats_at few sector l = surface_flats few sector no_surface (omega (arith, l, surfaces_as_many))
 
   sky_of_flats : length lumps ≤ SKY_FLAT → (sector : ℕ) → sector < length scene.base.level.sectors →
       (is_sky (surface_at (lists_of scene) sector).floor_flat || is_sky (surface_at (lists_of scene) sector).ceiling_flat) ≡ true →

@@ -1,5 +1,5 @@
 -- What a picture is made from: of a scene that passed its audit, and of the bytes of lumps.
-use Rattle.std.specs.Prelude.{ℕ, List, Option, option_map, unwrap_or}
+use Rattle.std.specs.Prelude.{ℕ, List, option_map, unwrap_or}
 use Rattle.level_rules.specs.Levels.{LevelLists}
 use Rattle.art_rules.specs.declared.shapes.Shape.{Shape}
 use Rattle.art_rules.specs.Books.{picked}

@@ -54,7 +54,7 @@ impl Entered {
         ensures above { (sector : ℕ) → sectors ≤ sector →
             has_entered self.new sector ≡ has_entered self.old sector }
     {
-        unset_all(&mut self.marks[..sectors]);
+        unset_first(&mut self.marks, sectors);
     }
 
     /// Enters a sector, and says whether it was not entered before.
@@ -80,10 +80,13 @@ fn unset_marks(alloc: Global, count: usize) -> Result<Vec<bool>, AllocError>
     vec![in alloc; false; count]
 }
 
-// Takes all these marks away.
-fn unset_all(marks: &mut [bool])
-    ensures count { length marks.new ≡ length marks.old }
-    ensures unset { (sector : ℕ) → has_entered marks.new sector ≡ false }
+// Takes the first `count` marks away.
+fn unset_first(marks: &mut [bool], count: usize)
+    requires { count ≤ length marks.old }
+    ensures length { length marks.new ≡ length marks.old }
+    ensures below { (sector : ℕ) → sector < count → has_entered marks.new sector ≡ false }
+    ensures above { (sector : ℕ) → count ≤ sector →
+        has_entered marks.new sector ≡ has_entered marks.old sector }
 {
-    marks.fill(false);
+    marks[..count].fill(false);
 }

@@ -70,8 +70,14 @@ fn add_thing(
 
 // A thing in a sector of that light.
 fn placed_of(thing: &PlacedThing, light: u8) -> Placed
-    ensures { result ≡ record { x = thing.now.x; y = thing.now.y; z = thing.now.z;
-        angle = thing.now.angle; bright = thing.now.bright; light = light } }
+    ensures { result ≡ record {
+      x = thing.now.x;
+      y = thing.now.y;
+      z = thing.now.z;
+      angle = thing.now.angle;
+      bright = thing.now.bright;
+      light = light;
+    } }
 {
     Placed {
         x: thing.x,
