@@ -1,7 +1,7 @@
 // The sectors that a view has entered.
 //
 // Rules: `specs/Entered`. The original: `validcount` of `sector_t`, r_defs.h.
-ghost use Rattle.std.specs.Prelude.{◌≡◌, ◌<◌, ◌≤◌, ℕ, false, true, not, cond, ◌==◌, length, IfOk, slice_set};
+ghost use Rattle.std.specs.Prelude.{◌≡◌, ◌<◌, ◌≤◌, ℕ, false, true, not, ◌==◌, length, IfOk};
 ghost use Rattle.view_scene.specs.declared.entered.TheConstants.{MOST_SECTORS};
 ghost use Rattle.view_scene.specs.Entered.{has_entered};
 

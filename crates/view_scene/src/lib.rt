@@ -2,7 +2,8 @@
 //! leaf finds, and the vissprites of a sector's things.
 //!
 //! Rules: `picture_rules`, Scene and Things; `plane_rules`, Keys; what of a scene a picture is
-//! made from in this crate's Scenes. Proved: each call is its definition. No call but
+//! made from in this crate's Scenes. Proved: each call is its definition; that a whole scene has
+//! what a view asks for (flats, sky and textures that are there) is SceneLemmas. No call but
 //! `Entered::new` takes memory. The original: r_bsp.c, r_things.c.
 #![tactic(auto)]
 
