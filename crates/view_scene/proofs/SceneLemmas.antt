@@ -1,0 +1,241 @@
+-- What a view asks of a scene that has all that drawing asks of it.
+use Rattle.std.proofs.Common.{◌≡◌, inl, inr, ℕ, zero, suc, ◌<◌, ◌≤◌, ◌||◌, Bool, true, false, cond, List, [], ◌∷◌, length, get_or, Option, Some, None, Result, Ok, Err, refl, sym, ap, subst, ◌∙◌, arith}
+use Rattle.std.specs.Prelude.{All, IsSome, option_map, pos, ◌⊎◌}
+use Rattle.std.specs.Option.{ok_or, option_and_then}
+use Rattle.std.proofs.lemmas.Bool.Decides.{nat_tests}
+use Rattle.std.proofs.lemmas.List.{length-map}
+use Rattle.std.proofs.lemmas.List.Folds.{list_any_at}
+use Rattle.outside.specs.Faults.{and_then}
+use Rattle.lump_rules.specs.declared.wad.Lump.{Lump}
+use Rattle.level_rules.specs.declared.Sector.{Sector}
+use Rattle.level_rules.specs.declared.Surface.{Surface}
+use Rattle.level_rules.specs.declared.ThingLine.{ThingLine}
+use Rattle.level_rules.specs.declared.TheConstants.{SKY_FLAT}
+use Rattle.level_rules.specs.Levels.{is_sky, no_seg, no_surface, seg_at, surface_at}
+use Rattle.map_rules.specs.Levels.{LevelValue}
+use Rattle.map_rules.specs.Sound.{IsSound}
+use Rattle.art_rules.specs.Textures.{TextureLists, texture_number}
+use Rattle.scene_rules.specs.declared.Flat.{Flat}
+use Rattle.scene_rules.specs.declared.Flat.TheVariants.{Sky, Lump as LumpFlat}
+use Rattle.scene_rules.specs.declared.SectorFlats.{SectorFlats}
+use Rattle.scene_rules.specs.Numbered.{each_from, each_or}
+use Rattle.scene_rules.specs.Scenes.{Faces, SceneValue, faces_in}
+use Rattle.scene_rules.specs.SectorFlats.{both_flats, flat_named, flat_number, flats_of, lump_flat, sector_flats, surface_of, surfaces_of}
+use Rattle.scene_rules.specs.Sides.{found_sky, side_textures, sky_texture}
+use Rattle.scene_rules.specs.Skies.{has_sky, is_sky_name, shows_sky, sky_name}
+use Rattle.texture_build.specs.Views.{IsPrepared}
+use Rattle.level_scene.specs.Bounds.{IsNoneOrBelow, IsThere}
+use Rattle.level_audit.specs.Sound.{middles_of, textures_view}
+use Rattle.level_audit.specs.Whole.{IsNoneOrPrepared, IsWholeScene}
+use Rattle.wall_rules.specs.declared.WallFacts.{WallFacts}
+use Rattle.picture_rules.specs.Scene.{facts_of, no_textures, textures_at, wall_texture}
+use Rattle.view_scene.specs.Scenes.{lists_of, scene_of}
+
+-- there are as many surfaces as sectors
+pub surface_counts : (sectors : List Sector) (flats : List SectorFlats) → length flats ≡ length sectors → length (surfaces_of sectors flats) ≡ length sectors
+unfolding surfaces_of
+surface_counts [] flats e = refl
+surface_counts (sector ∷ sectors) [] e = absurd (omega (arith, e))
+surface_counts (sector ∷ sectors) (both ∷ flats) e = ap suc (surface_counts sectors flats (omega (arith, e)))
+
+-- the surface of a sector
+pub surface_from : (sectors : List Sector) (flats : List SectorFlats) (i : ℕ) (s : Sector) (f : SectorFlats) (d : Surface) → length flats ≡ length sectors → i < length sectors →
+    get_or (surfaces_of sectors flats) i d ≡ surface_of (get_or sectors i s) (get_or flats i f)
+unfolding surfaces_of
+surface_from [] flats i s f d e l = absurd (omega (arith, l))
+surface_from (sector ∷ sectors) [] i s f d e l = absurd (omega (arith, e))
+surface_from (sector ∷ sectors) (both ∷ flats) zero s f d e l = refl
+surface_from (sector ∷ sectors) (both ∷ flats) (suc i) s f d e l = surface_from sectors flats i s f d (omega (arith, e)) (omega (arith, l))
+
+-- both steps were passed
+both_passed : {A C E : Type 0} (first : Result C E) (next : C → Result A E) (value : A) → and_then first next ≡ Ok value → (got : C) × (first ≡ Ok got) × (next got ≡ Ok value)
+both_passed (Ok got) next value e = (got, refl, e)
+both_passed (Err stop) next value e = absurd (cc)
+
+-- something was got of an item, and the rest follows it
+first_got : {Y R : Type 0} (first : Option Y) (reason : R) (rest : Result (List Y) R) (ys : List Y) → and_then (ok_or first reason) (λ y. and_then rest (λ zs. Ok (y ∷ zs))) ≡ Ok ys →
+    (y : Y) × (zs : List Y) × (first ≡ Some y) × (rest ≡ Ok zs) × (ys ≡ y ∷ zs)
+first_got None reason rest ys e = absurd (cc)
+first_got (Some y) reason (Err stop) ys e = absurd (cc)
+first_got (Some y) reason (Ok zs) ys e = let same : y ∷ zs ≡ ys = cc in (y, zs, refl, refl, sym same)
+
+-- what was got of the item of that number
+got_at : {X Y R : Type 0} (f : X → Option Y) (refuse : ℕ → R) (number : ℕ) (xs : List X) (ys : List Y) (i : ℕ) (d : X) (e : Y) → each_from f refuse number xs ≡ Ok ys → i < length xs →
+    f (get_or xs i d) ≡ Some (get_or ys i e)
+unfolding each_from
+got_at f refuse number [] ys i d e h l = absurd (omega (arith, l))
+got_at f refuse number (x ∷ xs) ys zero d e h l =
+    let first = first_got (f x) (refuse number) (each_from f refuse (suc number) xs) ys h in
+    first.2 ∙ ap (λ zs. Some (get_or zs 0 e)) (sym first.4)
+got_at f refuse number (x ∷ xs) ys (suc i) d e h l =
+    let first = first_got (f x) (refuse number) (each_from f refuse (suc number) xs) ys h in
+    got_at f refuse (suc number) xs first.1 i d e first.3 (omega (arith, l)) ∙ ap (λ zs. Some (get_or zs (suc i) e)) (sym first.4)
+
+-- the flats of a sector are those of its names
+both_named : (floor ceiling : Option Flat) (both : SectorFlats) → option_and_then (λ f. option_map (both_flats f) ceiling) floor ≡ Some both → (floor ≡ Some both.floor) × (ceiling ≡ Some both.ceiling)
+unfolding both_flats
+both_named None ceiling both e = absurd (cc)
+both_named (Some f) None both e = absurd (cc)
+both_named (Some f) (Some c) both e =
+    let same : both_flats f c ≡ both = cc in
+    (ap (λ (b : SectorFlats). Some b.floor) same, ap (λ (b : SectorFlats). Some b.ceiling) same)
+
+-- only the sky's name means the sky
+sky_meant : (is_name : Bool) (lump : Option ℕ) → cond is_name (Some Sky) (option_map lump_flat lump) ≡ Some Sky → is_name ≡ true
+unfolding lump_flat
+sky_meant true lump e = refl
+sky_meant false None e = absurd (cc)
+sky_meant false (Some lump) e = absurd (cc)
+
+-- a sky that is looked for is there
+sky_got : (is_asked : Bool) (number : Option ℕ) (sky : Option ℕ) → cond is_asked (found_sky number) (Ok None) ≡ Ok sky → is_asked ≡ true → IsSome sky
+unfolding found_sky
+sky_got true None sky e asked = absurd (cc)
+sky_got true (Some number) None e asked = absurd (cc)
+sky_got true (Some number) (Some got) e asked = refl
+sky_got false number sky e asked = absurd (cc)
+
+-- the number of a flat: at most that of the sky, and of a lump that is there where it is not sky
+pub record IsFlatOf (count flat : ℕ) : Type 0 where
+  pub number : flat ≤ SKY_FLAT
+  pub there : is_sky flat ≡ false → flat < count
+
+pub record AreFlatsOf (count : ℕ) (surface : Surface) : Type 0 where
+  pub floor : IsFlatOf count surface.floor_flat
+  pub ceiling : IsFlatOf count surface.ceiling_flat
+
+flat_of_number : (count : ℕ) (flat : Flat) → count ≤ SKY_FLAT → IsThere count flat → IsFlatOf count (flat_number flat)
+unfolding flat_number
+flat_of_number count Sky few there = record { number = omega arith; there = λ e. absurd (cc) }
+flat_of_number count (LumpFlat lump) few there = record { number = omega (arith, few, there); there = λ e. there }
+
+-- only the sky has its number
+sky_of_number : (count : ℕ) (flat : Flat) → count ≤ SKY_FLAT → IsThere count flat → is_sky (flat_number flat) ≡ true → flat ≡ Sky
+unfolding flat_number
+sky_of_number count Sky few there e = refl
+sky_of_number count (LumpFlat lump) few there e = absurd (grind (arith, nat_tests, few, there, e))
+
+either_of : (a b : Bool) → (a || b) ≡ true → (a ≡ true) ⊎ (b ≡ true)
+either_of true b e = inl refl
+either_of false b e = inr e
+
+flats_with_sky : (count : ℕ) (sector : Sector) (flats : SectorFlats) → count ≤ SKY_FLAT → IsThere count flats.floor → IsThere count flats.ceiling →
+    (is_sky (surface_of sector flats).floor_flat || is_sky (surface_of sector flats).ceiling_flat) ≡ true → (flats.floor ≡ Sky) ⊎ (flats.ceiling ≡ Sky)
+unfolding surface_of
+flats_with_sky count sector flats few floor ceiling e = elim (either_of (is_sky (flat_number flats.floor)) (is_sky (flat_number flats.ceiling)) e) [
+  | inl is ↦ inl (sky_of_number count flats.floor few floor is)
+  | inr is ↦ inr (sky_of_number count flats.ceiling few ceiling is)
+]
+
+-- entries for numbers that no sound scene has
+no_sector : Sector
+no_sector = record { floor = pos 0; ceiling = pos 0; floor_name = []; ceiling_name = []; light = pos 0 }
+
+no_flats : SectorFlats
+no_flats = record { floor = Sky; ceiling = Sky }
+
+-- the faces of a level, one part each
+record AreMeant (lumps : List Lump) (name : List ℕ) (level : LevelValue) (lists : TextureLists) (faces : Faces) : Type 0 where
+  sky : sky_texture lists.textures name level.sectors ≡ Ok faces.sky
+  flats : sector_flats lumps level.sectors ≡ Ok faces.flats
+
+are_meant : (lumps : List Lump) (name : List ℕ) (level : LevelValue) (lists : TextureLists) (faces : Faces) → faces_in lumps name level lists ≡ Ok faces → AreMeant lumps name level lists faces
+unfolding faces_in
+are_meant lumps name level lists faces e =
+    let sides = both_passed (side_textures lists.textures level.sides) _ faces e in
+    let sky = both_passed (sky_texture lists.textures name level.sectors) _ faces sides.2 in
+    let flats = both_passed (sector_flats lumps level.sectors) _ faces sky.2 in
+    let parts : Faces = record { sides = sides.0; sky = sky.0; flats = flats.0 } in
+    let same : parts ≡ faces = cc (flats.2) in
+    record { sky = sky.1 ∙ ap (λ (f : Faces). Ok f.sky) same; flats = flats.1 ∙ ap (λ (f : Faces). Ok f.flats) same }
+
+-- a sector that shows the sky has one
+sky_of_name : (lumps : List Lump) (flat : List ℕ) → flat_named lumps flat ≡ Some Sky → is_sky_name flat ≡ true
+unfolding flat_named
+sky_of_name lumps flat e = sky_meant (is_sky_name flat) _ e
+
+either_true : (a b : Bool) → (a ≡ true) ⊎ (b ≡ true) → (a || b) ≡ true
+either_true true b e = refl
+either_true false b (inl e) = absurd (cc)
+either_true false b (inr e) = e
+
+sector_shows : (lumps : List Lump) (sectors : List Sector) (flats : List SectorFlats) (i : ℕ) (s : Sector) (f : SectorFlats) → sector_flats lumps sectors ≡ Ok flats → i < length sectors →
+    ((get_or flats i f).floor ≡ Sky) ⊎ ((get_or flats i f).ceiling ≡ Sky) → has_sky sectors ≡ true
+unfolding sector_flats each_or flats_of has_sky shows_sky
+sector_shows lumps sectors flats i s f e l sky =
+    let sector = get_or sectors i s in
+    let both = both_named (flat_named lumps sector.floor_name) (flat_named lumps sector.ceiling_name) (get_or flats i f) (got_at (flats_of lumps) _ 0 sectors flats i s f e l) in
+    let shown : (is_sky_name sector.floor_name ≡ true) ⊎ (is_sky_name sector.ceiling_name ≡ true) = elim sky [
+      | inl floor ↦ inl (sky_of_name lumps sector.floor_name (both.0 ∙ ap Some floor))
+      | inr ceiling ↦ inr (sky_of_name lumps sector.ceiling_name (both.1 ∙ ap Some ceiling))
+    ] in
+    list_any_at shows_sky sectors i s l (either_true (is_sky_name sector.floor_name) (is_sky_name sector.ceiling_name) shown)
+
+-- a texture number is 0, or that of a prepared texture of the lists
+abbrev pub IsNoneOrReady : SceneValue → ℕ → Type 0
+IsNoneOrReady scene number = (number ≡ 0) ⊎ (IsPrepared (textures_view scene) number × number < length scene.base.lists.textures)
+
+pub record AreFactsReady (scene : SceneValue) (facts : WallFacts) : Type 0 where
+  pub top : IsNoneOrReady scene facts.top.number
+  pub bottom : IsNoneOrReady scene facts.bottom.number
+  pub middle : IsNoneOrReady scene facts.middle.number
+
+none_or_ready : (scene : SceneValue) (number : ℕ) → IsNoneOrPrepared (textures_view scene) number → IsNoneOrBelow (length scene.base.lists.textures) number → IsNoneOrReady scene number
+none_or_ready scene zero prepared below = inl refl
+none_or_ready scene (suc number) (inl none) below = absurd (omega (arith, none))
+none_or_ready scene (suc number) (inr prepared) below = inr (prepared, below (omega arith))
+
+module _ (lumps : List Lump) (lines : List ThingLine) (name : List ℕ) (skill : ℕ) (scene : SceneValue) (whole : IsWholeScene lumps lines name skill scene) where
+  -- there are as many surfaces as sectors, and as many middles as sides
+  pub surfaces_as_many : length (surfaces_of scene.base.level.sectors scene.faces.flats) ≡ length scene.base.level.sectors
+  surfaces_as_many = surface_counts scene.base.level.sectors scene.faces.flats whole.flats
+
+  pub middles_as_many : length (middles_of scene.faces.sides) ≡ length scene.base.level.sides
+  middles_as_many = length-map scene.faces.sides _ ∙ whole.sides
+
+  -- the flats of a surface are there, where all lumps have numbers below that of the sky
+  pub surface_flats : length lumps ≤ SKY_FLAT → All (AreFlatsOf (length lumps)) (surfaces_of scene.base.level.sectors scene.faces.flats)
+  unfolding surface_of
+  surface_flats few i d l =
+      let inside : i < length scene.base.level.sectors = omega (arith, l, surfaces_as_many) in
+      let flats = get_or scene.faces.flats i no_flats in
+      let there = whole.flats_there i no_flats (omega (arith, inside, whole.flats)) in
+      subst (AreFlatsOf (length lumps)) (sym (surface_from scene.base.level.sectors scene.faces.flats i no_sector no_flats d whole.flats inside))
+      (record { floor = flat_of_number (length lumps) flats.floor few there.floor; ceiling = flat_of_number (length lumps) flats.ceiling few there.ceiling })
+
+  pub flats_at : length lumps ≤ SKY_FLAT → (sector : ℕ) → sector < length scene.base.level.sectors → AreFlatsOf (length lumps) (surface_at (lists_of scene) sector)
+  unfolding surface_at
+  flats_at few sector l = surface_flats few sector no_surface (omega (arith, l, surfaces_as_many))
+
+  sky_of_flats : length lumps ≤ SKY_FLAT → (sector : ℕ) → sector < length scene.base.level.sectors →
+      (is_sky (surface_at (lists_of scene) sector).floor_flat || is_sky (surface_at (lists_of scene) sector).ceiling_flat) ≡ true →
+      ((get_or scene.faces.flats sector no_flats).floor ≡ Sky) ⊎ ((get_or scene.faces.flats sector no_flats).ceiling ≡ Sky)
+  unfolding surface_at
+  sky_of_flats few sector l e =
+      let there = whole.flats_there sector no_flats (omega (arith, l, whole.flats)) in
+      flats_with_sky (length lumps) (get_or scene.base.level.sectors sector no_sector) (get_or scene.faces.flats sector no_flats) few there.floor there.ceiling
+      (subst (λ (s : Surface). (is_sky s.floor_flat || is_sky s.ceiling_flat) ≡ true) (surface_from scene.base.level.sectors scene.faces.flats sector no_sector no_flats no_surface whole.flats l) e)
+
+  -- where a surface has sky, the sky has a texture
+  pub sky_of_surface : length lumps ≤ SKY_FLAT → (sector : ℕ) → sector < length scene.base.level.sectors →
+      (is_sky (surface_at (lists_of scene) sector).floor_flat || is_sky (surface_at (lists_of scene) sector).ceiling_flat) ≡ true → IsSome scene.faces.sky
+  unfolding sky_texture
+  sky_of_surface few sector l e =
+      let meant = are_meant lumps name scene.base.level scene.base.lists scene.faces whole.faces in
+      sky_got (has_sky scene.base.level.sectors) (texture_number scene.base.lists.textures (sky_name name)) scene.faces.sky meant.sky
+      (sector_shows lumps scene.base.level.sectors scene.faces.flats sector no_sector no_flats meant.flats l (sky_of_flats few sector l e))
+
+  -- the textures of the facts of a seg are none or ready to draw
+  pub facts_ready : IsSound scene.base.level → (bytes : ℕ → List ℕ) (front : Surface) (seg : ℕ) → seg < length scene.base.level.segs →
+      AreFactsReady scene (facts_of (scene_of bytes scene) front seg (seg_at (lists_of scene) seg))
+  unfolding facts_of scene_of seg_at textures_at wall_texture
+  facts_ready sound bytes front seg l =
+      let side = (seg_at (lists_of scene) seg).side in
+      let inside : side < length scene.faces.sides = omega (arith, (sound.segs seg no_seg l).side, whole.sides) in
+      let prepared = whole.art.textures side no_textures inside in
+      let below = whole.below side no_textures inside in
+      record {
+        top = none_or_ready scene _ prepared.top below.top;
+        bottom = none_or_ready scene _ prepared.bottom below.bottom;
+        middle = none_or_ready scene _ prepared.middle below.middle;
+      }

@@ -1,0 +1,17 @@
+use Rattle.std.proofs.Common.{◌≡◌, ℕ, ◌<◌, List, drop}
+use Rattle.std.specs.Prelude.{All}
+use Rattle.std.specs.List.{AllPass}
+use Rattle.art_rules.specs.Books.{book_lumps}
+use Rattle.picture_rules.specs.Things.{with_things}
+use Rattle.vissprites.specs.Bounds.{lies_within, has_lump_below}
+use Rattle.view_scene.specs.Scenes.{scene_of}
+use Rattle.view_scene.proofs.things.add_things.Given as goal
+
+-- what is left of the things gives what all of them give
+abbrev pub invariant-loop-thing : goal.invariant-loop-thing
+invariant-loop-thing l = record {
+  sprites : (bytes : ℕ → List ℕ) →
+      with_things l.view (scene_of bytes l.scene.scene) l.sector l.sprites (drop l.thing-index l.things) ≡ with_things l.view (scene_of bytes l.scene.scene) l.sector l.fn.sprites l.things;
+  columns : AllPass (lies_within l.view.shape.width) l.fn.sprites → AllPass (lies_within l.view.shape.width) l.sprites;
+  lumps : (n : ℕ) → All (λ lump. lump < n) (book_lumps l.scene.scene.book) → AllPass (has_lump_below n) l.fn.sprites → AllPass (has_lump_below n) l.sprites;
+}
