@@ -10,17 +10,21 @@ ghost use Rattle.picture_rules.specs.Planes.{planes_dots};
 ghost use Rattle.pixel_strips.specs.Dotted.{HasDots, PlacedAlike};
 ghost use Rattle.texture_build.specs.Arts.{view_art};
 ghost use Rattle.texture_build.specs.Draws.{CanDraw, HoldsArt, FitBeside, DrawsWith};
+ghost use Rattle.plane_rules.specs.Skies.{plane_dots};
+ghost use Rattle.visplanes.specs.Planes.{plane_at};
 ghost use Rattle.plane_draw.specs.Planes.{CanDrawPlane, IsSky, IsFlatOf};
+ghost use Rattle.plane_draw.specs.Scenes.{CanDrawPlanes, PaintsPlanes, first_planes, plane_state};
 
+use crate::floor::draw_floor;
+use crate::scene::{PlaneHands, PlaneScene};
 use crate::sky::draw_sky;
 use crate::tools::PlaneTools;
 use lump_cache::CacheFault;
 use outside::Shelf;
 use pixel_strips::Canvas;
 use plane_rules::Flat4;
-use visplanes::{PlaneNo, Planes, draw_plane};
+use visplanes::{PlaneNo, Planes};
 use wad_dir::LumpNo;
-use zone_heap::Tag;
 
 /// Paints all planes, in order of making: a floor or a ceiling by its flat, and the sky by its
 /// texture, column by column. Takes no memory.
@@ -75,28 +79,66 @@ pub fn draw_planes<S: Shelf, C: Canvas>(
         tools.old.textures.now tools.old.cache.now tools.new.cache.now result }
     ensures place { PlacedAlike (C.view tools.old.canvas.now) (C.view tools.new.canvas.now) }
 {
-    for number in 0..planes.count() {
-        let plane = PlaneNo(number as u16);
-        match planes.key(plane).flat {
-            Flat4::Sky => draw_sky(tools, planes, plane)?,
-            Flat4::Lump(lump) => draw_floor(tools, planes, plane, LumpNo(lump))?,
-        }
+    let scene = PlaneScene {
+        view: tools.view,
+        textures: tools.textures,
+        sky: tools.sky,
+        dir: tools.dir,
+        planes,
+        colormap: tools.colormap,
+    };
+    let mut hands = PlaneHands {
+        cache: &mut *tools.cache,
+        shelf: &mut *tools.shelf,
+        canvas: &mut *tools.canvas,
+    };
+    draw_each(&scene, &mut hands)
+}
+
+// Paints all planes, in order of making.
+fn draw_each<S: Shelf, C: Canvas>(
+    scene: &PlaneScene<'_>,
+    hands: &mut PlaneHands<'_, S, C>,
+) -> Result<(), CacheFault>
+    requires { CanDrawPlanes scene.now (plane_state (S.view hands.old.shelf.now)
+        hands.old.cache.now (C.view hands.old.canvas.now)) }
+    ensures same_cache { hands.new.cache.ghost_name ≡ hands.old.cache.ghost_name }
+    ensures same_shelf { hands.new.shelf.ghost_name ≡ hands.old.shelf.ghost_name }
+    ensures same_canvas { hands.new.canvas.ghost_name ≡ hands.old.canvas.ghost_name }
+    ensures paints { PaintsPlanes C.mark scene.now
+        (λ art sky. first_planes scene.now.view.now art sky scene.now.planes.now.planes
+        (length scene.now.planes.now.planes))
+        (plane_state (S.view hands.old.shelf.now) hands.old.cache.now (C.view hands.old.canvas.now))
+        (plane_state (S.view hands.new.shelf.now) hands.new.cache.now (C.view hands.new.canvas.now))
+        result }
+{
+    for number in 0..scene.planes.count() {
+        draw_one(scene, hands, PlaneNo(number as u16))?;
     }
     Ok(())
 }
 
-// Paints a plane that is not sky, by its flat.
-fn draw_floor<S: Shelf, C: Canvas>(
-    tools: &mut PlaneTools<'_, S, C>,
-    planes: &Planes,
+// Paints a plane.
+fn draw_one<S: Shelf, C: Canvas>(
+    scene: &PlaneScene<'_>,
+    hands: &mut PlaneHands<'_, S, C>,
     plane: PlaneNo,
-    lump: LumpNo,
-) -> Result<(), CacheFault> {
-    tools.cache.fetch(tools.shelf, tools.dir, lump, Tag::Cache)?;
-    if let Some(flat) = tools.cache.bytes(lump)
-        && let Some(shades) = tools.cache.bytes(tools.colormap)
-    {
-        draw_plane(planes, plane, tools.view, flat, shades, tools.canvas);
+) -> Result<(), CacheFault>
+    requires ready { CanDrawPlanes scene.now (plane_state (S.view hands.old.shelf.now)
+        hands.old.cache.now (C.view hands.old.canvas.now)) }
+    requires plane { plane.0 < length scene.now.planes.now.planes }
+    ensures same_cache { hands.new.cache.ghost_name ≡ hands.old.cache.ghost_name }
+    ensures same_shelf { hands.new.shelf.ghost_name ≡ hands.old.shelf.ghost_name }
+    ensures same_canvas { hands.new.canvas.ghost_name ≡ hands.old.canvas.ghost_name }
+    ensures paints { PaintsPlanes C.mark scene.now
+        (λ art sky. plane_dots scene.now.view.now art sky plane.0
+        (plane_at scene.now.planes.now.planes plane.0))
+        (plane_state (S.view hands.old.shelf.now) hands.old.cache.now (C.view hands.old.canvas.now))
+        (plane_state (S.view hands.new.shelf.now) hands.new.cache.now (C.view hands.new.canvas.now))
+        result }
+{
+    match scene.planes.key(plane).flat {
+        Flat4::Sky => draw_sky(scene, hands, plane),
+        Flat4::Lump(lump) => draw_floor(scene, hands, plane, LumpNo(lump)),
     }
-    Ok(())
 }

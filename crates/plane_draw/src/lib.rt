@@ -6,6 +6,8 @@
 #![tactic(auto)]
 
 mod draw;
+mod floor;
+mod scene;
 mod sky;
 mod tools;
 
