@@ -90,13 +90,19 @@ from_listed v scene f n (p ∷ ps) same =
     ∙ ap (λ (m : ℕ). plane_dots v scene.art scene.sky (n + (k + 1)) (plane_at (p ∷ ps) m)) up
     ∙ ap (λ (m : ℕ). plane_dots v scene.art scene.sky m (plane_at ps k)) (sym (next k))))
 
-pub planes-end : (v : ViewValue) (scene : Scene) (planes : List Plane) →
+planes_end : (v : ViewValue) (scene : Scene) (planes : List Plane) →
     first_planes v scene.art scene.sky planes (length planes) ≡ planes_dots v scene planes
 unfolding first_planes planes_dots listed
-planes-end v scene planes =
+planes_end v scene planes =
     let none : (k : ℕ) → 0 + k ≡ k = λ k. omega arith in
     from_listed v scene (λ k. plane_dots v scene.art scene.sky k (plane_at planes k)) 0 planes
     (λ k inside. ap (λ (m : ℕ). plane_dots v scene.art scene.sky (0 + k) (plane_at planes m)) (none k))
+
+-- by the art that the scene has
+pub planes-end : (v : ViewValue) (scene : Scene) (art : Art) (planes : List Plane) → scene.art ≡ art →
+    first_planes v art scene.sky planes (length planes) ≡ planes_dots v scene planes
+planes-end v scene art planes is =
+    ap (λ (art : Art). first_planes v art scene.sky planes (length planes)) (sym is) ∙ planes_end v scene planes
 
 -- a floor by its flat
 floor_by : (v : ViewValue) (art : Art) (sky n lump : ℕ) (p : Plane) → p.key.flat ≡ flat.Lump lump → plane_dots v art sky n p ≡ floor_dots v art n lump p

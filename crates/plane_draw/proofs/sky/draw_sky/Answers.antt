@@ -1,6 +1,6 @@
 -- One column after the other.
-use Rattle.std.proofs.Common.{◌≡◌, refl, sym, ap, ◌∙◌, arith}
-use Rattle.std.specs.Prelude.{Some}
+use Rattle.std.proofs.Common.{◌≡◌, refl, ap, ◌∙◌, arith}
+use Rattle.view_rules.specs.declared.ViewShape.{ViewShape}
 use Rattle.visplanes.specs.Planes.{plane_at}
 use Rattle.plane_draw.specs.Scenes.{first_columns}
 use Rattle.plane_draw.proofs.CanLemmas.{sky-number}
@@ -40,6 +40,7 @@ pub returns-clause-paints : goal.returns-clause-paints
 returns-clause-paints g c =
     let s = c.args.scene.now in
     let p = plane_at s.planes.now.planes c.args.plane.0 in
-    let end : c.loop-x.x ≡ s.view.now.shape.width = omega arith in
+    let width = ap (λ (shape : ViewShape). shape.width) c.shape-x-end.ensures.value in
+    let end : c.loop-x.x ≡ s.view.now.shape.width = omega (arith, width) in
     paints-same _ (λ art sky is. ap (first_columns s.view.now art c.args.plane.0 c.in-Some.tex.0 p) end
     ∙ columns-end s.view.now art c.args.plane.0 sky c.in-Some.tex.0 p c.requires.flat (sky-number s.sky c.in-Some.tex sky c.in-Some.is is)) c.loop-x.invariant.paints
