@@ -1,6 +1,5 @@
 -- Laws of the dots of planes: one by one, by their flats, and by the art of a scene.
-use Rattle.std.proofs.Common.{◌≡◌, ◌+◌, ◌<◌, ℕ, zero, suc, List, [], ◌∷◌, ◌++◌, length, map, Option, Some, None, refl, sym, ap, ◌∙◌, arith}
-use Rattle.std.specs.Prelude.{slice_index_or, IfSome}
+use Rattle.std.proofs.Common.{◌≡◌, ◌+◌, ◌<◌, ℕ, suc, List, [], ◌∷◌, ◌++◌, length, map, Option, Some, None, refl, sym, ap, ◌∙◌, arith}
 use Rattle.std.specs.List.{range_with_len}
 use Rattle.std.proofs.lemmas.List.{append-nil}
 use Rattle.word_rules.specs.Listed.{joined_lists, listed}
@@ -71,6 +70,25 @@ unfolding first_columns sky_run sky_dots plane_dots
 columns-end v art n sky tex p is same =
     ap (λ (t : ℕ). sky_dots v art n t p) (sym same) ∙ sym (by_flat v art sky n p p.key.flat is)
 
+-- a plane without a run
+joined_none : (f : ℕ → List Dot) (xs : List ℕ) → ((x : ℕ) → f x ≡ []) → joined_lists f xs ≡ []
+unfolding joined_lists
+joined_none f [] none = refl
+joined_none f (x ∷ xs) none = ap (λ (ys : List Dot). ys ++ joined_lists f xs) (none x) ∙ joined_none f xs none
+
+run_none : (painter : Painter) (x : ℕ) (colour : ℕ → ℕ) (run : Option (ℕ × ℕ)) → run ≡ None → run_dots painter x colour run ≡ []
+unfolding run_dots
+run_none painter x colour run is = ap (run_dots painter x colour) is
+
+empty_by : (v : ViewValue) (art : Art) (sky n : ℕ) (p : Plane) (f : Flat4) → ((x : ℕ) → column p x ≡ None) → plane_dots_by v art sky n p f ≡ []
+unfolding plane_dots_by sky_dots floor_dots
+empty_by v art sky n p flat.Sky none = joined_none _ _ (λ x. run_none _ x (sky_colour v art sky x) (column p x) (none x))
+empty_by v art sky n p (flat.Lump lump) none = joined_none _ _ (λ x. run_none _ x (floor_colour v art lump p x) (column p x) (none x))
+
+pub plane-empty : (v : ViewValue) (art : Art) (sky n : ℕ) (p : Plane) → ((x : ℕ) → column p x ≡ None) → [] ≡ plane_dots v art sky n p
+unfolding plane_dots
+plane-empty v art sky n p none = sym (empty_by v art sky n p p.key.flat none)
+
 -- all planes
 from_listed : (v : ViewValue) (scene : Scene) (f : ℕ → List Dot) (n : ℕ) (ps : List Plane) →
     ((k : ℕ) → k < length ps → f (n + k) ≡ plane_dots v scene.art scene.sky (n + k) (plane_at ps k)) →
@@ -118,8 +136,8 @@ sky-none v art n sky x first last none =
 
 -- and no run
 pub sky-no_run : (v : ViewValue) (art : Art) (n sky x : ℕ) (run : Option (ℕ × ℕ)) → run ≡ None → [] ≡ sky_run v art n sky x run
-unfolding sky_run run_dots
-sky-no_run v art n sky x run is = sym (ap (run_dots (painter_of SKY n (art.texture_source sky (sky_column v x))) x (sky_colour v art sky x)) is)
+unfolding sky_run
+sky-no_run v art n sky x run is = sym (run_none (painter_of SKY n (art.texture_source sky (sky_column v x))) x (sky_colour v art sky x) run is)
 
 -- the bytes of planes fit beside the colormap, where those of their painters do
 module _ (lumps : List Lump) (textures : TexturesView) (colormap count zone : ℕ) where

@@ -1,5 +1,5 @@
 -- Laws of a sky's column that was painted.
-use Rattle.std.proofs.Common.{◌≡◌, ◌+◌, ℕ, ℤ, List, Some, refl, ap, subst, ◌∙◌}
+use Rattle.std.proofs.Common.{◌≡◌, ◌+◌, ℕ, ℤ, List, Some, ap, subst, ◌∙◌}
 use Rattle.lump_rules.specs.declared.wad.Lump.{Lump}
 use Rattle.view_rules.specs.View.{ViewValue}
 use Rattle.art_rules.specs.declared.ColumnLookup.{ColumnLookup}

@@ -11,7 +11,6 @@ use Rattle.pixel_rules.specs.Art.{Art}
 use Rattle.pixel_strips.specs.Canvases.{CanvasView}
 use Rattle.pixel_strips.specs.Dotted.{HasDots, PlacedAlike}
 use Rattle.pixel_strips.proofs.DottedLemmas.{has_dots-none, has_dots-append, placed-none, placed-then}
-use Rattle.plane_rules.specs.Planes.{Plane}
 use Rattle.texture_lists.specs.declared.number.TexNo.{TexNo}
 use Rattle.texture_build.specs.Draws.{CanDraw, DrawsWith, HoldsArt, FitBeside}
 use Rattle.texture_build.proofs.DrawLemmas.{holds_art-later, draws-none, draws-then, draws-stop, draws-value}

@@ -1,6 +1,5 @@
 -- What drawing planes asks of them, and with whose bytes it draws.
-use Rattle.std.specs.Prelude.{◌≡◌, ◌<◌, ℕ, List, Contains, length, Option, IfSome, IsSome}
-use Rattle.lump_rules.specs.declared.wad.Lump.{Lump}
+use Rattle.std.specs.Prelude.{◌≡◌, ◌<◌, ℕ, List, Contains, Option, IfSome, IsSome}
 use Rattle.view_rules.specs.declared.ViewShape.{ViewShape}
 use Rattle.plane_rules.specs.declared.Flat4.{Flat4}
 use Rattle.plane_rules.specs.declared.Flat4.TheVariants as flat

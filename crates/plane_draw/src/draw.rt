@@ -118,7 +118,7 @@ fn draw_each<S: Shelf, C: Canvas>(
     Ok(())
 }
 
-// Paints a plane.
+// Paints a plane; one without a run asks for no flat.
 fn draw_one<S: Shelf, C: Canvas>(
     scene: &PlaneScene<'_>,
     hands: &mut PlaneHands<'_, S, C>,
@@ -137,6 +137,9 @@ fn draw_one<S: Shelf, C: Canvas>(
         (plane_state (S.view hands.new.shelf.now) hands.new.cache.now (C.view hands.new.canvas.now))
         result }
 {
+    if scene.planes.is_empty(plane) {
+        return Ok(());
+    }
     match scene.planes.key(plane).flat {
         Flat4::Sky => draw_sky(scene, hands, plane),
         Flat4::Lump(lump) => draw_floor(scene, hands, plane, LumpNo(lump)),

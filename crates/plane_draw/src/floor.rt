@@ -41,9 +41,7 @@ pub fn draw_floor<S: Shelf, C: Canvas>(
         (plane_state (S.view hands.new.shelf.now) hands.new.cache.now (C.view hands.new.canvas.now))
         result }
 {
-    hands
-        .cache
-        .fetch(hands.shelf, scene.dir, lump, Tag::Cache)?;
+    hands.cache.fetch(hands.shelf, scene.dir, lump, Tag::Cache)?;
     paint_floor(scene, hands, plane, lump);
     Ok(())
 }

@@ -1,5 +1,5 @@
 -- The flat is made live, and then painted.
-use Rattle.std.proofs.Common.{ℕ, ap}
+use Rattle.std.proofs.Common.{ap}
 use Rattle.texture_build.proofs.DrawLemmas.{draws-wider}
 use Rattle.texture_build.proofs.LiveLemmas.{draws-fetch}
 use Rattle.plane_draw.specs.Planes.{IsSky}

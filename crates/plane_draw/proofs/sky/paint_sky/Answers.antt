@@ -2,12 +2,8 @@
 use Rattle.std.proofs.Common.{◌≡◌, ◌+◌, ℕ, List, Option, Some, sym, ap, ◌∙◌}
 use Rattle.lump_rules.specs.Contents.{lump_bytes}
 use Rattle.art_rules.specs.Bytes.{byte_at}
-use Rattle.art_rules.specs.declared.ColumnLookup.{ColumnLookup}
 use Rattle.pixel_rules.specs.declared.TheConstants.{SKY}
-use Rattle.pixel_rules.specs.Art.{painter_of}
 use Rattle.plane_rules.specs.Skies.{sky_column}
-use Rattle.texture_build.specs.Arts.{lookup_source, view_art}
-use Rattle.texture_build.specs.Draws.{FitsBeside}
 use Rattle.texture_build.proofs.ColumnLemmas.{single_slot}
 use Rattle.texture_build.proofs.LentLemmas.{colormap_lent, fits-column}
 use Rattle.plane_draw.specs.Scenes.{plane_art}
