@@ -31,15 +31,15 @@ use texture_build::{Column, ColumnSource, TexNo};
 use view_frame::View;
 use visplanes::PlaneNo;
 
-/// A run of a sky plane in one of its columns: the plane's number, the sky's texture, the column,
-/// and the first and the last row.
+// A run of a sky plane in one of its columns: the plane's number, the sky's texture, the column,
+// and the first and the last row.
 #[derive(Clone, Copy)]
-pub struct SkyRows {
-    pub number: u16,
-    pub tex: TexNo,
-    pub x: u16,
-    pub first: u8,
-    pub last: u8,
+struct SkyRows {
+    number: u16,
+    tex: TexNo,
+    x: u16,
+    first: u8,
+    last: u8,
 }
 
 // Who paints a column of sky plane `number` from that source.
