@@ -1,0 +1,64 @@
+-- What each call that draws planes may take from what it asks.
+use Rattle.std.proofs.Common.{◌≡◌, ◌<◌, ◌≤◌, ℕ, true, false, List, Option, Some, length, refl, sym, ap, subst, ◌∙◌, arith}
+use Rattle.std.specs.Prelude.{nat_le, IfSome}
+use Rattle.std.proofs.lemmas.Bool.{and_from, le-leb}
+use Rattle.std.proofs.lemmas.List.Elements.{All-get_or, Contains-get_or}
+use Rattle.view_rules.specs.declared.ViewShape.{ViewShape}
+use Rattle.plane_rules.specs.declared.Flat4.{Flat4}
+use Rattle.plane_rules.specs.declared.Flat4.TheVariants as flat
+use Rattle.plane_rules.specs.Keys.{is_sky_key, same_flat}
+use Rattle.plane_rules.specs.Planes.{Plane, column}
+use Rattle.plane_rules.specs.Spans.{holds, holds_row}
+use Rattle.visplanes.specs.Planes.{no_plane, plane_at}
+use Rattle.visplanes.specs.Spans.{IsSeen}
+use Rattle.texture_lists.specs.declared.number.TexNo.{TexNo}
+use Rattle.texture_build.specs.Draws.{CanDraw}
+use Rattle.plane_draw.specs.declared.scene.PlaneScene.{PlaneScene}
+use Rattle.plane_draw.specs.Planes.{CanDrawPlane, HasFlat, IsFlatOf, IsSky}
+use Rattle.plane_draw.specs.Scenes.{CanDrawPlanes, PlaneState}
+
+-- a plane of the scene
+pub plane-can : {s : PlaneScene} {st : PlaneState} → CanDrawPlanes s st → (n : ℕ) → n < length s.planes.now.planes →
+    CanDrawPlane s.view.now.shape st.canvas.left st.canvas.top (length s.dir.now.lumps) s.sky (plane_at s.planes.now.planes n)
+plane-can {s} {st} can n inside =
+    All-get_or (CanDrawPlane s.view.now.shape st.canvas.left st.canvas.top (length s.dir.now.lumps) s.sky) s.planes.now.planes n no_plane inside can.planes
+
+-- its flat is a lump of the directory
+pub flat-there : {s : PlaneScene} {st : PlaneState} → CanDrawPlanes s st → (n lump : ℕ) → n < length s.planes.now.planes →
+    (plane_at s.planes.now.planes n).key.flat ≡ flat.Lump lump → lump < length s.dir.now.lumps
+flat-there {s} can n lump inside is = subst (HasFlat (length s.dir.now.lumps) s.sky) is (plane-can can n inside).flat
+
+-- and is the flat of one of the planes
+pub flat-among : (planes : List Plane) (n lump : ℕ) → n < length planes →
+    (plane_at planes n).key.flat ≡ flat.Lump lump → (k : ℕ) → k ≡ lump → IsFlatOf planes k
+flat-among planes n lump inside is k same = record {
+  plane = plane_at planes n;
+  among = Contains-get_or planes n no_plane inside;
+  is = is ∙ ap (λ (m : ℕ). flat.Lump m) (sym same);
+}
+
+-- which is not sky
+pub floor-key : (p : Plane) (lump : ℕ) → p.key.flat ≡ flat.Lump lump → is_sky_key p.key ≡ false
+unfolding is_sky_key same_flat
+floor-key p lump is = ap (λ (f : Flat4). same_flat f flat.Sky) is
+
+-- the texture of the sky may be drawn
+pub sky-can : {s : PlaneScene} {st : PlaneState} → CanDrawPlanes s st → (tex : TexNo) → s.sky ≡ Some tex →
+    CanDraw s.dir.now.lumps s.textures.now st.cache tex.0
+sky-can {s} {st} can tex is =
+    subst (λ (o : Option TexNo). IfSome o (λ tex. CanDraw s.dir.now.lumps s.textures.now st.cache tex.0)) is can.sky
+
+pub sky-among : (o : Option TexNo) (tex : TexNo) → o ≡ Some tex → (n : ℕ) → n ≡ tex.0 → IsSky o n
+sky-among o tex is n same = subst (λ (o : Option TexNo). IsSky o n) (sym is) (same, refl)
+
+-- a number that the sky has is that of its texture
+pub sky-number : (o : Option TexNo) (tex : TexNo) (sky : ℕ) → o ≡ Some tex → IfSome o (λ tex. sky ≡ tex.0) → sky ≡ tex.0
+sky-number o tex sky is h = subst (λ (o : Option TexNo). IfSome o (λ tex. sky ≡ tex.0)) is h
+
+-- the last row of a run is in the view
+pub seen-last : (shape : ViewShape) (left top : ℕ) (p : Plane) (x first last : ℕ) → IsSeen shape left top p → Some (first, last) ≡ column p x →
+    first ≤ last → last < shape.height
+unfolding holds holds_row
+seen-last shape left top p x first last seen run ordered =
+    let rows : holds_row (Some (first, last)) last ≡ true = and_from (nat_le first last) (nat_le last last) (le-leb first last ordered) (le-leb last last (omega arith)) in
+    seen.row x last (ap (λ (r : Option (ℕ × ℕ)). holds_row r last) (sym run) ∙ rows)

@@ -1,0 +1,5 @@
+pub mod StepLemmas
+pub mod PlaneLemmas
+pub mod SkyLemmas
+pub mod CanLemmas
+pub mod FlatLemmas

@@ -1,0 +1,40 @@
+-- The bytes that are lent are those of the flat and of the colormap.
+use Rattle.std.proofs.Common.{◌≡◌, List, ℕ, Option, Some, sym}
+use Rattle.lump_rules.specs.Contents.{lump_bytes}
+use Rattle.lump_cache.proofs.FetchLemmas.{live_faithful}
+use Rattle.pixel_rules.specs.declared.TheConstants.{PLANE}
+use Rattle.pixel_rules.specs.Art.{lump_source}
+use Rattle.visplanes.specs.Planes.{plane_at}
+use Rattle.texture_build.proofs.LentLemmas.{colormap_lent, fits-lump}
+use Rattle.plane_draw.specs.Scenes.{plane_art}
+use Rattle.plane_draw.proofs.CanLemmas.{floor-key}
+use Rattle.plane_draw.proofs.FlatLemmas.{floor-painted, floor-placed}
+use Rattle.plane_draw.proofs.PlaneLemmas.{fit-floor}
+use Rattle.plane_draw.proofs.floor.paint_floor.Goals as goal
+
+same_bytes : (x y : List ℕ) (z : Option (List ℕ)) → Some x ≡ z → z ≡ Some y → x ≡ y
+same_bytes x y z e f = cc
+
+pub draw_plane-requires-clause-floor : goal.draw_plane-requires-clause-floor
+draw_plane-requires-clause-floor g c =
+    floor-key (plane_at c.args.scene.now.planes.now.planes c.args.plane.0) c.args.lump.0 c.requires.flat
+
+pub returns-in-Some-bytes-clause-painted : goal.returns-in-Some-bytes-clause-painted
+returns-in-Some-bytes-clause-painted g c = λ view contents count sky hold.
+    let s = c.args.scene.now in
+    let own = same_bytes _ _ _ c.in-Some.ensures.value (live_faithful contents s.dir.now c.args.hands.now.cache.now c.args.lump.0 c.requires.lump hold.files.faithful c.requires.live) in
+    let shades = same_bytes _ _ _ c.in-Some-bytes.ensures.value (colormap_lent hold c.requires.ready.colormap) in
+    floor-painted g.C.Canvas.mark _ s.view.now (lump_bytes contents s.dir.now.lumps) s.textures.now s.colormap.0 c.args.plane.0 sky c.args.lump.0 (plane_at s.planes.now.planes c.args.plane.0) _ _ _ _
+    c.requires.flat own shades c.draw_plane.ensures
+
+pub returns-in-Some-bytes-clause-fits : goal.returns-in-Some-bytes-clause-fits
+unfolding lump_source
+returns-in-Some-bytes-clause-fits g c = λ view contents count sky hold.
+    let s = c.args.scene.now in
+    fit-floor s.dir.now.lumps s.textures.now s.colormap.0 count c.args.hands.now.cache.now.size s.view.now (plane_art contents s) sky c.args.plane.0 c.args.lump.0 (plane_at s.planes.now.planes c.args.plane.0)
+    c.requires.flat
+    (fits-lump hold PLANE c.args.plane.0 c.args.lump.0 c.in-Some.flat.now c.requires.lump (sym c.in-Some.ensures.value) (λ apart. c.in-Some.ensures.fits s.colormap.0 count hold.rest apart))
+
+pub returns-in-Some-bytes-clause-place : goal.returns-in-Some-bytes-clause-place
+returns-in-Some-bytes-clause-place g c =
+    floor-placed g.C.Canvas.mark _ c.args.scene.now.view.now c.args.plane.0 (plane_at c.args.scene.now.planes.now.planes c.args.plane.0) _ _ _ _ c.draw_plane.ensures

@@ -1,0 +1,46 @@
+-- One column after the other.
+use Rattle.std.proofs.Common.{◌≡◌, refl, ap, ◌∙◌, arith}
+use Rattle.view_rules.specs.declared.ViewShape.{ViewShape}
+use Rattle.visplanes.specs.Planes.{plane_at}
+use Rattle.plane_draw.specs.Scenes.{first_columns}
+use Rattle.plane_draw.proofs.CanLemmas.{sky-number}
+use Rattle.plane_draw.proofs.PlaneLemmas.{columns-end, columns-more, columns-start}
+use Rattle.plane_draw.proofs.StepLemmas.{can_draw_planes-later, paints-none, paints-same, paints-then, paints-then_stop}
+use Rattle.plane_draw.proofs.sky.draw_sky.Goals as goal
+
+pub loop-x-init : goal.loop-x-init
+loop-x-init g c =
+    let s = c.args.scene.now in
+    record {
+      same_cache = refl;
+      same_shelf = refl;
+      same_canvas = refl;
+      ready = c.requires.ready;
+      paints = paints-same _ (λ art sky is. columns-start s.view.now art c.args.plane.0 c.in-Some.tex.0 (plane_at s.planes.now.planes c.args.plane.0)) (paints-none _ _);
+    }
+
+pub returns-in_err-draw_sky_column-clause-paints : goal.returns-in_err-draw_sky_column-clause-paints
+returns-in_err-draw_sky_column-clause-paints g c =
+    paints-then_stop c.in_err-draw_sky_column.was c.from_residual.ensures.1 c.loop-x.invariant.paints c.draw_sky_column.ensures.paints
+
+pub loop-x-preserved : goal.loop-x-preserved
+loop-x-preserved g c =
+    let s = c.args.scene.now in
+    let i = c.loop-x.invariant in
+    let e = c.in_ok-draw_sky_column.ensures in
+    record {
+      same_cache = e.same_cache ∙ i.same_cache;
+      same_shelf = e.same_shelf ∙ i.same_shelf;
+      same_canvas = e.same_canvas ∙ i.same_canvas;
+      ready = can_draw_planes-later e.paints i.ready;
+      paints = paints-same _ (λ art sky is. columns-more s.view.now art c.args.plane.0 c.in-Some.tex.0 (plane_at s.planes.now.planes c.args.plane.0) c.loop-x.x) (paints-then i.paints e.paints);
+    }
+
+pub returns-clause-paints : goal.returns-clause-paints
+returns-clause-paints g c =
+    let s = c.args.scene.now in
+    let p = plane_at s.planes.now.planes c.args.plane.0 in
+    let width = ap (λ (shape : ViewShape). shape.width) c.shape-x-end.ensures.value in
+    let end : c.loop-x.x ≡ s.view.now.shape.width = omega (arith, width) in
+    paints-same _ (λ art sky is. ap (first_columns s.view.now art c.args.plane.0 c.in-Some.tex.0 p) end
+    ∙ columns-end s.view.now art c.args.plane.0 sky c.in-Some.tex.0 p c.requires.flat (sky-number s.sky c.in-Some.tex sky c.in-Some.is is)) c.loop-x.invariant.paints

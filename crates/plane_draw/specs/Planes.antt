@@ -1,0 +1,28 @@
+-- What drawing planes asks of them, and with whose bytes it draws.
+use Rattle.std.specs.Prelude.{◌≡◌, ◌<◌, ℕ, List, Contains, Option, IfSome, IsSome}
+use Rattle.view_rules.specs.declared.ViewShape.{ViewShape}
+use Rattle.plane_rules.specs.declared.Flat4.{Flat4}
+use Rattle.plane_rules.specs.declared.Flat4.TheVariants as flat
+use Rattle.plane_rules.specs.Planes.{Plane}
+use Rattle.visplanes.specs.Spans.{IsSeen}
+use Rattle.texture_lists.specs.declared.number.TexNo.{TexNo}
+
+-- the flat of a plane is a lump of the directory, and there is a texture of the sky for sky
+abbrev pub HasFlat : ℕ → Option TexNo → Flat4 → Type 0
+HasFlat lumps sky flat.Sky = IsSome sky
+HasFlat lumps sky (flat.Lump lump) = lump < lumps
+
+-- a plane may be drawn: its flat is there, and its rows are in the view and in the frame
+pub record CanDrawPlane (shape : ViewShape) (left top lumps : ℕ) (sky : Option TexNo) (p : Plane) : Type 0 where
+  pub flat : HasFlat lumps sky p.key.flat
+  pub seen : IsSeen shape left top p
+
+-- a texture is the sky's
+abbrev pub IsSky : Option TexNo → ℕ → Type 0
+IsSky sky number = IfSome sky (λ tex. number ≡ tex.0) × IsSome sky
+
+-- a lump is the flat of one of the planes
+pub record IsFlatOf (planes : List Plane) (lump : ℕ) : Type 0 where
+  pub plane : Plane
+  pub among : Contains planes plane
+  pub is : plane.key.flat ≡ flat.Lump lump

@@ -1,0 +1,79 @@
+-- What stays while planes are drawn, what each call asks, and what it paints.
+use Rattle.std.specs.Prelude.{◌≡◌, ◌≤◌, ◌<◌, ◌+◌, ℕ, List, All, IfSome, OnOk, Option, Result, length}
+use Rattle.view_rules.specs.declared.TheConstants.{FRAME_WIDTH, FRAME_HEIGHT}
+use Rattle.view_rules.specs.View.{ViewValue}
+use Rattle.outside.specs.Shelf.{ShelfView}
+use Rattle.word_rules.specs.Listed.{listed, joined_lists}
+use Rattle.lump_rules.specs.Contents.{lump_bytes}
+use Rattle.zone_rules.specs.Zones.{Heap}
+use Rattle.lump_cache.specs.declared.fault.CacheFault.{CacheFault}
+use Rattle.lump_cache.specs.Caches.{cache_fault}
+use Rattle.pixel_rules.specs.declared.Painter.{Painter}
+use Rattle.pixel_rules.specs.declared.TheConstants.{SKY}
+use Rattle.pixel_rules.specs.Dots.{Dot}
+use Rattle.pixel_rules.specs.Art.{Art, painter_of}
+use Rattle.pixel_strips.specs.Canvases.{CanvasView}
+use Rattle.pixel_strips.specs.Dotted.{HasDots, PlacedAlike}
+use Rattle.plane_rules.specs.Planes.{Plane, column}
+use Rattle.plane_rules.specs.Floors.{run_dots}
+use Rattle.plane_rules.specs.Skies.{plane_dots, sky_colour, sky_column}
+use Rattle.visplanes.specs.Planes.{plane_at}
+use Rattle.texture_build.specs.Arts.{view_art}
+use Rattle.texture_build.specs.Draws.{HoldsArt, FitBeside, DrawsWith, CanDraw}
+use Rattle.plane_draw.specs.declared.scene.PlaneScene.{PlaneScene}
+use Rattle.plane_draw.specs.Planes.{CanDrawPlane, IsSky, IsFlatOf}
+
+-- the art of the scene, where the files have these contents
+abbrev pub plane_art : List (List ℕ) → PlaneScene → Art
+plane_art contents s = view_art (lump_bytes contents s.dir.now.lumps) s.textures.now s.colormap.0
+
+-- what is written: the cache by its shelf, and the canvas
+pub record PlaneState : Type 0 where
+  pub shelf : ShelfView
+  pub cache : Heap
+  pub canvas : CanvasView
+
+abbrev pub plane_state : ShelfView → Heap → CanvasView → PlaneState
+plane_state shelf cache canvas = record { shelf = shelf; cache = cache; canvas = canvas }
+
+-- what each call asks
+pub record CanDrawPlanes (s : PlaneScene) (st : PlaneState) : Type 0 where
+  pub slots : length s.dir.now.lumps ≤ st.cache.lumps
+  pub colormap : s.colormap.0 < length s.dir.now.lumps
+  pub left : st.canvas.left + s.view.now.shape.width ≤ FRAME_WIDTH
+  pub top : st.canvas.top + s.view.now.shape.height ≤ FRAME_HEIGHT
+  pub sky : IfSome s.sky (λ tex. CanDraw s.dir.now.lumps s.textures.now st.cache tex.0)
+  pub planes : All (CanDrawPlane s.view.now.shape st.canvas.left st.canvas.top
+      (length s.dir.now.lumps) s.sky) s.planes.now.planes
+
+-- the dots of the first n planes
+unfoldable pub first_planes : ViewValue → Art → ℕ → List Plane → ℕ → List Dot
+first_planes v art sky planes n =
+    joined_lists (λ k. plane_dots v art sky k (plane_at planes k)) (listed (λ k. k) n)
+
+-- the dots of a column of sky plane number n, which has this run there
+unfoldable pub sky_run : ViewValue → Art → ℕ → ℕ → ℕ → Option (ℕ × ℕ) → List Dot
+sky_run v art n sky x run =
+    run_dots (painter_of SKY n (art.texture_source sky (sky_column v x))) x (sky_colour v art sky x) run
+
+-- the dots of its first n columns
+unfoldable pub first_columns : ViewValue → Art → ℕ → ℕ → Plane → ℕ → List Dot
+first_columns v art n sky p width =
+    joined_lists (λ x. sky_run v art n sky x (column p x)) (listed (λ x. x) width)
+
+-- A call by the dots that it gives the canvas, where the sky has that texture; it paints with the
+-- sky's texture and with the flats of planes.
+pub record PaintsPlanes {A : Type 0} (mark : Painter → ℕ → ℕ) (s : PlaneScene)
+    (dots : Art → ℕ → List Dot) (old new : PlaneState) (result : Result A CacheFault) : Type 0 where
+  pub painted : (contents : List (List ℕ)) (count sky : ℕ) →
+      HoldsArt old.shelf s.dir.now s.textures.now contents s.colormap.0 count old.cache →
+      IfSome s.sky (λ tex. sky ≡ tex.0) →
+      OnOk result (HasDots mark (dots (plane_art contents s) sky) old.canvas new.canvas)
+  pub fits : (contents : List (List ℕ)) (count sky : ℕ) →
+      HoldsArt old.shelf s.dir.now s.textures.now contents s.colormap.0 count old.cache →
+      IfSome s.sky (λ tex. sky ≡ tex.0) →
+      OnOk result (FitBeside s.dir.now.lumps s.textures.now s.colormap.0 count old.cache.size
+      (dots (plane_art contents s) sky))
+  pub draws : DrawsWith cache_fault (IsSky s.sky) (IsFlatOf s.planes.now.planes) old.shelf
+      new.shelf s.dir.now s.textures.now old.cache new.cache result
+  pub place : PlacedAlike old.canvas new.canvas

@@ -1,0 +1,147 @@
+// The planes of a view, in order of making.
+//
+// Rules: `picture_rules`, Planes; `specs/Planes`. The original: `R_DrawPlanes`, r_plane.c.
+ghost use Rattle.std.specs.Prelude.{◌≡◌, ◌<◌, ◌≤◌, ◌+◌, ℕ, List, All, IfSome, OnOk, length};
+ghost use Rattle.view_rules.specs.declared.TheConstants.{FRAME_WIDTH, FRAME_HEIGHT};
+ghost use Rattle.lump_rules.specs.Contents.{lump_bytes};
+ghost use Rattle.lump_cache.specs.Caches.{cache_fault};
+ghost use Rattle.picture_rules.specs.Scene.{Scene};
+ghost use Rattle.picture_rules.specs.Planes.{planes_dots};
+ghost use Rattle.pixel_strips.specs.Dotted.{HasDots, PlacedAlike};
+ghost use Rattle.texture_build.specs.Arts.{view_art};
+ghost use Rattle.texture_build.specs.Draws.{CanDraw, HoldsArt, FitBeside, DrawsWith};
+ghost use Rattle.plane_rules.specs.Skies.{plane_dots};
+ghost use Rattle.visplanes.specs.Planes.{plane_at};
+ghost use Rattle.plane_draw.specs.Planes.{CanDrawPlane, IsSky, IsFlatOf};
+ghost use Rattle.plane_draw.specs.Scenes.{CanDrawPlanes, PaintsPlanes, first_planes, plane_state};
+
+use crate::floor::draw_floor;
+use crate::scene::{PlaneHands, PlaneScene};
+use crate::sky::draw_sky;
+use crate::tools::PlaneTools;
+use lump_cache::CacheFault;
+use outside::Shelf;
+use pixel_strips::Canvas;
+use plane_rules::Flat4;
+use visplanes::{PlaneNo, Planes};
+use wad_dir::LumpNo;
+
+/// Paints all planes, in order of making: a floor or a ceiling by its flat, and the sky by its
+/// texture, column by column. Takes no memory.
+///
+/// The flats of the planes are lumps of the directory, and if one is sky there is a texture of the
+/// sky, which is prepared; their rows lie in the view. The canvas stands where the view lies in
+/// the frame.
+///
+/// Errors: `ZoneFull` only if no gap of the zone held the block of a flat or of the sky's column;
+/// `ReadFault` only if the shelf's count of faults rose. After any answer, a cache that was at rest
+/// is at rest, and one that was faithful is faithful.
+///
+/// The original: `R_DrawPlanes`, r_plane.c.
+pub fn draw_planes<S: Shelf, C: Canvas>(
+    tools: &mut PlaneTools<'_, S, C>,
+    planes: &Planes,
+) -> Result<(), CacheFault>
+    requires planes { All (CanDrawPlane tools.old.view.now.shape
+        (C.view tools.old.canvas.now).left (C.view tools.old.canvas.now).top
+        (length tools.old.dir.now.lumps) tools.old.sky) planes.now.planes }
+    requires sky { IfSome tools.old.sky (λ tex. CanDraw tools.old.dir.now.lumps
+        tools.old.textures.now tools.old.cache.now tex.0) }
+    requires slots { length tools.old.dir.now.lumps ≤ tools.old.cache.now.lumps }
+    requires colormap { tools.old.colormap.0 < length tools.old.dir.now.lumps }
+    requires columns { (C.view tools.old.canvas.now).left + tools.old.view.now.shape.width
+        ≤ FRAME_WIDTH }
+    requires rows { (C.view tools.old.canvas.now).top + tools.old.view.now.shape.height
+        ≤ FRAME_HEIGHT }
+    ensures same_cache { tools.new.cache.ghost_name ≡ tools.old.cache.ghost_name }
+    ensures same_shelf { tools.new.shelf.ghost_name ≡ tools.old.shelf.ghost_name }
+    ensures same_canvas { tools.new.canvas.ghost_name ≡ tools.old.canvas.ghost_name }
+    ensures painted { (scene : Scene) (contents : List (List ℕ)) (count : ℕ) →
+        HoldsArt (S.view tools.old.shelf.now) tools.old.dir.now tools.old.textures.now contents
+        tools.old.colormap.0 count tools.old.cache.now →
+        scene.art ≡ view_art (lump_bytes contents tools.old.dir.now.lumps)
+        tools.old.textures.now tools.old.colormap.0 →
+        IfSome tools.old.sky (λ tex. scene.sky ≡ tex.0) →
+        OnOk result (HasDots C.mark
+        (planes_dots tools.old.view.now scene planes.now.planes)
+        (C.view tools.old.canvas.now) (C.view tools.new.canvas.now)) }
+    ensures fits { (scene : Scene) (contents : List (List ℕ)) (count : ℕ) →
+        HoldsArt (S.view tools.old.shelf.now) tools.old.dir.now tools.old.textures.now contents
+        tools.old.colormap.0 count tools.old.cache.now →
+        scene.art ≡ view_art (lump_bytes contents tools.old.dir.now.lumps)
+        tools.old.textures.now tools.old.colormap.0 →
+        IfSome tools.old.sky (λ tex. scene.sky ≡ tex.0) →
+        OnOk result (FitBeside tools.old.dir.now.lumps tools.old.textures.now
+        tools.old.colormap.0 count tools.old.cache.now.size
+        (planes_dots tools.old.view.now scene planes.now.planes)) }
+    ensures draws { DrawsWith cache_fault (IsSky tools.old.sky) (IsFlatOf planes.now.planes)
+        (S.view tools.old.shelf.now) (S.view tools.new.shelf.now) tools.old.dir.now
+        tools.old.textures.now tools.old.cache.now tools.new.cache.now result }
+    ensures place { PlacedAlike (C.view tools.old.canvas.now) (C.view tools.new.canvas.now) }
+{
+    let scene = PlaneScene {
+        view: tools.view,
+        textures: tools.textures,
+        sky: tools.sky,
+        dir: tools.dir,
+        planes,
+        colormap: tools.colormap,
+    };
+    let mut hands = PlaneHands {
+        cache: &mut *tools.cache,
+        shelf: &mut *tools.shelf,
+        canvas: &mut *tools.canvas,
+    };
+    draw_each(&scene, &mut hands)
+}
+
+// Paints all planes, in order of making.
+fn draw_each<S: Shelf, C: Canvas>(
+    scene: &PlaneScene<'_>,
+    hands: &mut PlaneHands<'_, S, C>,
+) -> Result<(), CacheFault>
+    requires { CanDrawPlanes scene.now (plane_state (S.view hands.old.shelf.now)
+        hands.old.cache.now (C.view hands.old.canvas.now)) }
+    ensures same_cache { hands.new.cache.ghost_name ≡ hands.old.cache.ghost_name }
+    ensures same_shelf { hands.new.shelf.ghost_name ≡ hands.old.shelf.ghost_name }
+    ensures same_canvas { hands.new.canvas.ghost_name ≡ hands.old.canvas.ghost_name }
+    ensures paints { PaintsPlanes C.mark scene.now
+        (λ art sky. first_planes scene.now.view.now art sky scene.now.planes.now.planes
+        (length scene.now.planes.now.planes))
+        (plane_state (S.view hands.old.shelf.now) hands.old.cache.now (C.view hands.old.canvas.now))
+        (plane_state (S.view hands.new.shelf.now) hands.new.cache.now (C.view hands.new.canvas.now))
+        result }
+{
+    for number in 0..scene.planes.count() {
+        draw_one(scene, hands, PlaneNo(number as u16))?;
+    }
+    Ok(())
+}
+
+// Paints a plane; one without a run asks for no flat.
+fn draw_one<S: Shelf, C: Canvas>(
+    scene: &PlaneScene<'_>,
+    hands: &mut PlaneHands<'_, S, C>,
+    plane: PlaneNo,
+) -> Result<(), CacheFault>
+    requires ready { CanDrawPlanes scene.now (plane_state (S.view hands.old.shelf.now)
+        hands.old.cache.now (C.view hands.old.canvas.now)) }
+    requires plane { plane.0 < length scene.now.planes.now.planes }
+    ensures same_cache { hands.new.cache.ghost_name ≡ hands.old.cache.ghost_name }
+    ensures same_shelf { hands.new.shelf.ghost_name ≡ hands.old.shelf.ghost_name }
+    ensures same_canvas { hands.new.canvas.ghost_name ≡ hands.old.canvas.ghost_name }
+    ensures paints { PaintsPlanes C.mark scene.now
+        (λ art sky. plane_dots scene.now.view.now art sky plane.0
+        (plane_at scene.now.planes.now.planes plane.0))
+        (plane_state (S.view hands.old.shelf.now) hands.old.cache.now (C.view hands.old.canvas.now))
+        (plane_state (S.view hands.new.shelf.now) hands.new.cache.now (C.view hands.new.canvas.now))
+        result }
+{
+    if scene.planes.is_empty(plane) {
+        return Ok(());
+    }
+    match scene.planes.key(plane).flat {
+        Flat4::Sky => draw_sky(scene, hands, plane),
+        Flat4::Lump(lump) => draw_floor(scene, hands, plane, LumpNo(lump)),
+    }
+}

@@ -1,0 +1,87 @@
+// The pixels of a plane that is not sky.
+//
+// Rules: `plane_rules`, Floors. The original: `R_DrawPlanes`, r_plane.c.
+ghost use Rattle.std.specs.Prelude.{◌≡◌, ◌<◌, ℕ, List, length};
+ghost use Rattle.outside.specs.Shelf.{ShelfView};
+ghost use Rattle.zone_rules.specs.Zones.{IsLive};
+ghost use Rattle.lump_cache.specs.Caches.{lump_owner};
+ghost use Rattle.pixel_strips.specs.Dotted.{HasDots, PlacedAlike};
+ghost use Rattle.plane_rules.specs.declared.Flat4.TheVariants.{Lump};
+ghost use Rattle.plane_rules.specs.Skies.{plane_dots};
+ghost use Rattle.visplanes.specs.Planes.{plane_at};
+ghost use Rattle.texture_build.specs.Draws.{HoldsArt, FitBeside};
+ghost use Rattle.plane_draw.specs.Scenes.{CanDrawPlanes, PaintsPlanes, plane_art, plane_state};
+
+use crate::scene::{PlaneHands, PlaneScene};
+use lump_cache::CacheFault;
+use outside::Shelf;
+use pixel_strips::Canvas;
+use visplanes::{PlaneNo, draw_plane};
+use wad_dir::LumpNo;
+use zone_heap::Tag;
+
+/// Paints a plane that is not sky, by its flat.
+pub fn draw_floor<S: Shelf, C: Canvas>(
+    scene: &PlaneScene<'_>,
+    hands: &mut PlaneHands<'_, S, C>,
+    plane: PlaneNo,
+    lump: LumpNo,
+) -> Result<(), CacheFault>
+    requires ready { CanDrawPlanes scene.now (plane_state (S.view hands.old.shelf.now)
+        hands.old.cache.now (C.view hands.old.canvas.now)) }
+    requires plane { plane.0 < length scene.now.planes.now.planes }
+    requires flat { (plane_at scene.now.planes.now.planes plane.0).key.flat ≡ Lump lump.0 }
+    ensures same_cache { hands.new.cache.ghost_name ≡ hands.old.cache.ghost_name }
+    ensures same_shelf { hands.new.shelf.ghost_name ≡ hands.old.shelf.ghost_name }
+    ensures same_canvas { hands.new.canvas.ghost_name ≡ hands.old.canvas.ghost_name }
+    ensures paints { PaintsPlanes C.mark scene.now
+        (λ art sky. plane_dots scene.now.view.now art sky plane.0
+        (plane_at scene.now.planes.now.planes plane.0))
+        (plane_state (S.view hands.old.shelf.now) hands.old.cache.now (C.view hands.old.canvas.now))
+        (plane_state (S.view hands.new.shelf.now) hands.new.cache.now (C.view hands.new.canvas.now))
+        result }
+{
+    hands.cache.fetch(hands.shelf, scene.dir, lump, Tag::Cache)?;
+    paint_floor(scene, hands, plane, lump);
+    Ok(())
+}
+
+// Paints a plane whose flat is live.
+fn paint_floor<S: Shelf, C: Canvas>(
+    scene: &PlaneScene<'_>,
+    hands: &mut PlaneHands<'_, S, C>,
+    plane: PlaneNo,
+    lump: LumpNo,
+)
+    requires ready { CanDrawPlanes scene.now (plane_state (S.view hands.old.shelf.now)
+        hands.old.cache.now (C.view hands.old.canvas.now)) }
+    requires plane { plane.0 < length scene.now.planes.now.planes }
+    requires flat { (plane_at scene.now.planes.now.planes plane.0).key.flat ≡ Lump lump.0 }
+    requires lump { lump.0 < length scene.now.dir.now.lumps }
+    requires live { IsLive hands.old.cache.now (lump_owner lump.0) }
+    ensures same_cache { hands.new.cache.ghost_name ≡ hands.old.cache.ghost_name }
+    ensures same_shelf { hands.new.shelf.ghost_name ≡ hands.old.shelf.ghost_name }
+    ensures same_canvas { hands.new.canvas.ghost_name ≡ hands.old.canvas.ghost_name }
+    ensures cache { hands.new.cache.now ≡ hands.old.cache.now }
+    ensures shelf { hands.new.shelf.now ≡ hands.old.shelf.now }
+    ensures painted { (view : ShelfView) (contents : List (List ℕ)) (count sky : ℕ) →
+        HoldsArt view scene.now.dir.now scene.now.textures.now contents scene.now.colormap.0 count
+        hands.old.cache.now →
+        HasDots C.mark (plane_dots scene.now.view.now (plane_art contents scene.now) sky plane.0
+        (plane_at scene.now.planes.now.planes plane.0))
+        (C.view hands.old.canvas.now) (C.view hands.new.canvas.now) }
+    ensures fits { (view : ShelfView) (contents : List (List ℕ)) (count sky : ℕ) →
+        HoldsArt view scene.now.dir.now scene.now.textures.now contents scene.now.colormap.0 count
+        hands.old.cache.now →
+        FitBeside scene.now.dir.now.lumps scene.now.textures.now scene.now.colormap.0 count
+        hands.old.cache.now.size (plane_dots scene.now.view.now (plane_art contents scene.now) sky
+        plane.0 (plane_at scene.now.planes.now.planes plane.0)) }
+    ensures place { PlacedAlike (C.view hands.old.canvas.now) (C.view hands.new.canvas.now) }
+{
+    let cache = &*hands.cache;
+    if let Some(flat) = cache.bytes(lump)
+        && let Some(shades) = cache.bytes(scene.colormap)
+    {
+        draw_plane(scene.planes, plane, scene.view, flat, shades, hands.canvas);
+    }
+}

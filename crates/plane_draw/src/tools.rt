@@ -1,0 +1,22 @@
+// What planes are drawn with.
+
+use lump_cache::LumpCache;
+use outside::Shelf;
+use pixel_strips::Canvas;
+use texture_build::{TexNo, Textures};
+use view_frame::View;
+use wad_dir::{Directory, LumpNo};
+
+/// What planes are drawn with: the view, the textures and the sky's among them, the cache with its
+/// directory and shelf, and the canvas. `colormap` is the number of the lump COLORMAP.
+#[derive(Drop)]
+pub struct PlaneTools<'a, S: Shelf, C: Canvas> {
+    pub view: &'a View<'a>,
+    pub textures: &'a Textures,
+    pub sky: Option<TexNo>,
+    pub cache: &'a mut LumpCache,
+    pub dir: &'a Directory,
+    pub shelf: &'a mut S,
+    pub canvas: &'a mut C,
+    pub colormap: LumpNo,
+}
