@@ -5,6 +5,10 @@
 #![tactic(auto)]
 
 #[cfg(test)]
+mod constants;
+#[cfg(test)]
+mod messages;
+#[cfg(test)]
 mod tests;
 #[cfg(test)]
 mod things;
