@@ -9,14 +9,14 @@ use Rattle.node_walk.specs.Visits.{Grew, StoppedAt, StillTakes, Visits, TakesAll
 use Rattle.node_walk.proofs.PartLemmas.{behind}
 
 -- some events, and then others
-grew_more : {a b c : List ℕ → List Event → Type 0} {xs ys : List Event} (all : List Event) → Grew a b xs → Grew b c ys → xs ++ ys ≡ all → Grew a c all
+grew_more : {A : Type 0} {a b c : A → List Event → Type 0} {xs ys : List Event} (all : List Event) → Grew a b xs → Grew b c ys → xs ++ ys ≡ all → Grew a c all
 grew_more {c} {xs} {ys} all first second e = record {
   each = λ start before stood.
       subst (c start) (append_assoc before xs ys ∙ ap (λ v. before ++ v) e) (second.each start (before ++ xs) (first.each start before stood));
 }
 
 -- some events, and then a Stop at one of the others
-stopped_later : {E : Type 0} {a b : List ℕ → List Event → Type 0} {p : List ℕ → List Event → E → Type 0} {xs ys : List Event} {stop : E} (all : List Event) →
+stopped_later : {A E : Type 0} {a b : A → List Event → Type 0} {p : A → List Event → E → Type 0} {xs ys : List Event} {stop : E} (all : List Event) →
     Grew a b xs → StoppedAt b p ys stop → xs ++ ys ≡ all → StoppedAt a p all stop
 stopped_later {E} {a} {b} {p} {xs} {ys} {stop} all first second e =
     let n : length xs + length ys ≡ length all = sym (length-append xs ys) ∙ ap length e in
@@ -31,7 +31,7 @@ stopped_later {E} {a} {b} {p} {xs} {ys} {stop} all first second e =
     }
 
 -- a Stop at one of the first events, and none of the rest
-stopped_front : {E : Type 0} {a : List ℕ → List Event → Type 0} {p : List ℕ → List Event → E → Type 0} {xs : List Event} {stop : E} (rest all : List Event) →
+stopped_front : {A E : Type 0} {a : A → List Event → Type 0} {p : A → List Event → E → Type 0} {xs : List Event} {stop : E} (rest all : List Event) →
     StoppedAt a p xs stop → xs ++ rest ≡ all → StoppedAt a p all stop
 stopped_front {E} {a} {p} {xs} {stop} rest all first e =
     let n : length xs + length rest ≡ length all = sym (length-append xs rest) ∙ ap length e in
@@ -51,7 +51,7 @@ on_ok_given (Ok x) p = p
 on_ok_given (Err e) p = tt
 
 -- no event yet
-visits_none : {E : Type 0} (t : Event → Type 0) (a : List ℕ → List Event → Type 0) (p : List ℕ → List Event → E → Type 0) → Visits t t a a p [] (Ok tt)
+visits_none : {A E : Type 0} (t : Event → Type 0) (a : A → List Event → Type 0) (p : A → List Event → E → Type 0) → Visits t t a a p [] (Ok tt)
 visits_none t a p = record {
   ok = record { each = λ start before stood. subst (a start) (sym (append-nil before)) stood };
   takes_on = record { each = λ event h. h };
@@ -59,7 +59,7 @@ visits_none t a p = record {
 }
 
 -- the first part was given whole, and then the next
-visits_then : {E : Type 0} {t u v : Event → Type 0} {a b c : List ℕ → List Event → Type 0} {p q : List ℕ → List Event → E → Type 0} {xs ys : List Event} {first last : Result (Unit {0}) E} (all : List Event) →
+visits_then : {A E : Type 0} {t u v : Event → Type 0} {a b c : A → List Event → Type 0} {p q : A → List Event → E → Type 0} {xs ys : List Event} {first last : Result (Unit {0}) E} (all : List Event) →
     Visits t u a b p xs first → (unit : Unit {0}) → first ≡ Ok unit → Visits u v b c q ys last → xs ++ ys ≡ all → Visits t v a c q all last
 visits_then {E} {t} {u} {v} {a} {b} {c} {p} {q} {xs} {ys} {first} {last} all visits unit was next e =
     let g : Grew a b xs = rw was at visits.ok in
@@ -71,14 +71,14 @@ visits_then {E} {t} {u} {v} {a} {b} {c} {p} {q} {xs} {ys} {first} {last} all vis
     }
 
 -- the first part was stopped
-visits_stop : {E : Type 0} {t u : Event → Type 0} {a b : List ℕ → List Event → Type 0} {p : List ℕ → List Event → E → Type 0} {xs : List Event} {first : Result (Unit {0}) E} (result : Result (Unit {0}) E) (rest all : List Event) →
+visits_stop : {A E : Type 0} {t u : Event → Type 0} {a b : A → List Event → Type 0} {p : A → List Event → E → Type 0} {xs : List Event} {first : Result (Unit {0}) E} (result : Result (Unit {0}) E) (rest all : List Event) →
     Visits t u a b p xs first → (stop : E) → first ≡ Err stop → result ≡ Err stop → xs ++ rest ≡ all → Visits t u a b p all result
 visits_stop {E} {t} {u} {a} {b} {p} {xs} {first} result rest all visits stop was is e =
     let s : StoppedAt a p xs stop = rw was at visits.err in
     subst (Visits t u a b p all) (sym is) (record { ok = tt; takes_on = tt; err = stopped_front rest all s e })
 
 -- a visitor that takes every event still does after a part that was given whole
-pub takes_all_after : {E : Type 0} {t u : Event → Type 0} {a b : List ℕ → List Event → Type 0} {p : List ℕ → List Event → E → Type 0} {xs : List Event} {first : Result (Unit {0}) E} (leaves segs width : ℕ) →
+pub takes_all_after : {A E : Type 0} {t u : Event → Type 0} {a b : A → List Event → Type 0} {p : A → List Event → E → Type 0} {xs : List Event} {first : Result (Unit {0}) E} (leaves segs width : ℕ) →
     Visits t u a b p xs first → (unit : Unit {0}) → first ≡ Ok unit → TakesAll t leaves segs width → TakesAll u leaves segs width
 takes_all_after {E} {t} {u} leaves segs width visits unit was all =
     let k : StillTakes t u = rw was at visits.takes_on in
@@ -88,50 +88,50 @@ takes_all_after {E} {t} {u} leaves segs width visits unit was all =
     }
 
 -- the first part was given whole, and the next was stopped
-pub visits_stopped : {E : Type 0} {t u v : Event → Type 0} {a b c : List ℕ → List Event → Type 0} {p q : List ℕ → List Event → E → Type 0} {xs ys : List Event} {first last : Result (Unit {0}) E} (result : Result (Unit {0}) E) (rest all : List Event) →
+pub visits_stopped : {A E : Type 0} {t u v : Event → Type 0} {a b c : A → List Event → Type 0} {p q : A → List Event → E → Type 0} {xs ys : List Event} {first last : Result (Unit {0}) E} (result : Result (Unit {0}) E) (rest all : List Event) →
     Visits t u a b p xs first → (unit : Unit {0}) → first ≡ Ok unit → Visits u v b c q ys last → (stop : E) → last ≡ Err stop → result ≡ Err stop → xs ++ (ys ++ rest) ≡ all → Visits t v a c q all result
 visits_stopped {xs} {ys} result rest all visits unit was next stop was' is e =
     visits_stop result rest all (visits_then (xs ++ ys) visits unit was next refl) stop was' is (append_assoc xs ys rest ∙ e)
 
 -- a part that is nothing
-pub walks_none : {E : Type 0} (t : Event → Type 0) (a : List ℕ → List Event → Type 0) (p : List ℕ → List Event → E → Type 0) (state : WalkState) (columns : List Bool) → state ≡ part_start columns → Walks t t a a p state columns (Ok tt)
+pub walks_none : {A E : Type 0} (t : Event → Type 0) (a : A → List Event → Type 0) (p : A → List Event → E → Type 0) (state : WalkState) (columns : List Bool) → state ≡ part_start columns → Walks t t a a p state columns (Ok tt)
 walks_none t a p state columns e =
     subst (λ (w : WalkState). Walks t t a a p w columns (Ok tt)) (sym e) (record { visits = visits_none t a p; covered = refl })
 
 -- a part by another way to its state
-pub walks_same : {E : Type 0} {t u : Event → Type 0} {a b : List ℕ → List Event → Type 0} {p : List ℕ → List Event → E → Type 0} {other : WalkState} {columns : List Bool} {result : Result (Unit {0}) E} (state : WalkState) → Walks t u a b p other columns result → state ≡ other → Walks t u a b p state columns result
+pub walks_same : {A E : Type 0} {t u : Event → Type 0} {a b : A → List Event → Type 0} {p : A → List Event → E → Type 0} {other : WalkState} {columns : List Bool} {result : Result (Unit {0}) E} (state : WalkState) → Walks t u a b p other columns result → state ≡ other → Walks t u a b p state columns result
 walks_same {E} {t} {u} {a} {b} {p} {other} {columns} {result} state walks e = subst (λ (w : WalkState). Walks t u a b p w columns result) (sym e) walks
 
 -- a part that only gives events
-pub walks_events : {E : Type 0} {t u : Event → Type 0} {a b : List ℕ → List Event → Type 0} {p : List ℕ → List Event → E → Type 0} {xs : List Event} {result : Result (Unit {0}) E} (state : WalkState) (columns : List Bool) → Visits t u a b p xs result → state ≡ record { events = xs; covered = columns } → Walks t u a b p state columns result
+pub walks_events : {A E : Type 0} {t u : Event → Type 0} {a b : A → List Event → Type 0} {p : A → List Event → E → Type 0} {xs : List Event} {result : Result (Unit {0}) E} (state : WalkState) (columns : List Bool) → Visits t u a b p xs result → state ≡ record { events = xs; covered = columns } → Walks t u a b p state columns result
 walks_events {E} {t} {u} {a} {b} {p} {xs} {result} state columns visits e =
     subst (λ (w : WalkState). Walks t u a b p w columns result) (sym e) (record { visits = visits; covered = on_ok_given result refl })
 
 -- the same, where they were given whole
-pub walks_whole : {E : Type 0} {t u : Event → Type 0} {a b : List ℕ → List Event → Type 0} {p : List ℕ → List Event → E → Type 0} {xs : List Event} {first : Result (Unit {0}) E} (state : WalkState) (columns : List Bool) → Visits t u a b p xs first → (unit : Unit {0}) → first ≡ Ok unit → state ≡ record { events = xs; covered = columns } → Walks t u a b p state columns (Ok tt)
+pub walks_whole : {A E : Type 0} {t u : Event → Type 0} {a b : A → List Event → Type 0} {p : A → List Event → E → Type 0} {xs : List Event} {first : Result (Unit {0}) E} (state : WalkState) (columns : List Bool) → Visits t u a b p xs first → (unit : Unit {0}) → first ≡ Ok unit → state ≡ record { events = xs; covered = columns } → Walks t u a b p state columns (Ok tt)
 walks_whole {E} {t} {u} {a} {b} {p} {xs} {first} state columns visits unit was e =
     subst (Walks t u a b p state columns) was (walks_events state columns visits e)
 
 -- some events, and then a part
-pub walks_then : {E : Type 0} {t u v : Event → Type 0} {a b c : List ℕ → List Event → Type 0} {p q : List ℕ → List Event → E → Type 0} {xs : List Event} {next : WalkState} {columns : List Bool} {first last : Result (Unit {0}) E} (state : WalkState) →
+pub walks_then : {A E : Type 0} {t u v : Event → Type 0} {a b c : A → List Event → Type 0} {p q : A → List Event → E → Type 0} {xs : List Event} {next : WalkState} {columns : List Bool} {first last : Result (Unit {0}) E} (state : WalkState) →
     Visits t u a b p xs first → (unit : Unit {0}) → first ≡ Ok unit → Walks u v b c q next columns last → state ≡ behind xs next → Walks t v a c q state columns last
 walks_then {E} {t} {u} {v} {a} {b} {c} {p} {q} {xs} {next} {columns} {first} {last} state visits unit was walks e =
     record { visits = visits_then state.events visits unit was walks.visits (sym (ap (λ (w : WalkState). w.events) e)); covered = on_ok_weaker last (λ h. h ∙ sym (ap (λ (w : WalkState). w.covered) e)) walks.covered }
 
 -- the same, where the part was given whole
-pub walks_more : {E : Type 0} {t u v : Event → Type 0} {a b c : List ℕ → List Event → Type 0} {p q : List ℕ → List Event → E → Type 0} {xs : List Event} {next : WalkState} {columns : List Bool} {first last : Result (Unit {0}) E} (state : WalkState) →
+pub walks_more : {A E : Type 0} {t u v : Event → Type 0} {a b c : A → List Event → Type 0} {p q : A → List Event → E → Type 0} {xs : List Event} {next : WalkState} {columns : List Bool} {first last : Result (Unit {0}) E} (state : WalkState) →
     Visits t u a b p xs first → (unit : Unit {0}) → first ≡ Ok unit → Walks u v b c q next columns last → (unit' : Unit {0}) → last ≡ Ok unit' → state ≡ behind xs next → Walks t v a c q state columns (Ok tt)
 walks_more {E} {t} {u} {v} {a} {b} {c} {p} {q} {xs} {next} {columns} {first} {last} state visits unit was walks unit' was' e =
     subst (Walks t v a c q state columns) was' (walks_then state visits unit was walks e)
 
 -- events among which the visitor stopped, and nothing of the rest
-pub walks_stop : {E : Type 0} {t u : Event → Type 0} {a b : List ℕ → List Event → Type 0} {p : List ℕ → List Event → E → Type 0} {xs : List Event} {first : Result (Unit {0}) E} (result : Result (Unit {0}) E) (state : WalkState) (columns : List Bool) (rest : List Event) →
+pub walks_stop : {A E : Type 0} {t u : Event → Type 0} {a b : A → List Event → Type 0} {p : A → List Event → E → Type 0} {xs : List Event} {first : Result (Unit {0}) E} (result : Result (Unit {0}) E) (state : WalkState) (columns : List Bool) (rest : List Event) →
     Visits t u a b p xs first → (stop : E) → first ≡ Err stop → result ≡ Err stop → xs ++ rest ≡ state.events → Walks t u a b p state columns result
 walks_stop {E} {t} {u} {a} {b} {p} {xs} {first} result state columns rest visits stop was is e =
     record { visits = visits_stop result rest state.events visits stop was is e; covered = subst (λ (r : Result (Unit {0}) E). OnOk r (columns ≡ state.covered)) (sym is) tt }
 
 -- the same after some events
-pub walks_stopped : {E : Type 0} {t u v : Event → Type 0} {a b c : List ℕ → List Event → Type 0} {p q : List ℕ → List Event → E → Type 0} {xs ys : List Event} {first last : Result (Unit {0}) E} (result : Result (Unit {0}) E) (state : WalkState) (columns : List Bool) (rest : List Event) →
+pub walks_stopped : {A E : Type 0} {t u v : Event → Type 0} {a b c : A → List Event → Type 0} {p q : A → List Event → E → Type 0} {xs ys : List Event} {first last : Result (Unit {0}) E} (result : Result (Unit {0}) E) (state : WalkState) (columns : List Bool) (rest : List Event) →
     Visits t u a b p xs first → (unit : Unit {0}) → first ≡ Ok unit → Visits u v b c q ys last → (stop : E) → last ≡ Err stop → result ≡ Err stop → xs ++ (ys ++ rest) ≡ state.events → Walks t v a c q state columns result
 walks_stopped {xs} {ys} result state columns rest visits unit was next stop was' is e =
     walks_stop result state columns rest (visits_then (xs ++ ys) visits unit was next refl) stop was' is (append_assoc xs ys rest ∙ e)

@@ -1,25 +1,28 @@
 //! Who is given the events of a walk.
 //!
 //! Rules: `specs/Visits`.
-ghost use Rattle.std.specs.Prelude.{ℕ, List, [], ◌∷◌};
+ghost use Rattle.std.specs.Prelude.{List, [], ◌∷◌};
 ghost use Rattle.walk_rules.specs.Events.{Event};
 ghost use Rattle.walk_rules.specs.Events.Event.{LeafEvent, FragmentEvent};
 ghost use Rattle.node_walk.specs.Visits.{Visits};
 
 /// Takes the leaves that are entered and the fragments that are seen, one after the other.
 ///
-/// It stands for the lists of events that it may have been given, each with a start: a list of
-/// whole numbers, such as the cells of a canvas, on which what it makes of the events depends.
+/// It stands for the lists of events that it may have been given, each with a start: that on which
+/// what it makes of the events depends, such as a view and the cells of a canvas.
 pub trait Visitor {
     /// What it answers in place of going on.
     type Stop: Drop;
 
+    /// What it makes of the events depends on one of these.
+    ghost Start: { Type 0 } = { Unit {0} };
+
     /// For which starts and lists of events it stands.
-    ghost stands: { Self → List ℕ → List Event → Type 0 };
+    ghost stands: { Self → Start → List Event → Type 0 };
 
     /// For which starts, lists of events and Stops it has stopped; the last event of the list is
     /// the one that it answered so.
-    ghost stopped: { Self → List ℕ → List Event → Self.Stop → Type 0 };
+    ghost stopped: { Self → Start → List Event → Self.Stop → Type 0 };
 
     /// Which events it takes.
     ghost takes: { Self → Event → Type 0 };
