@@ -1,1 +1,2 @@
 pub mod PaintedLemmas
+pub mod PlannedLemmas

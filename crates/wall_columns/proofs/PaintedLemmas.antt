@@ -2,8 +2,6 @@
 use Rattle.std.proofs.Common.{append-nil, ◌≡◌, ◌<◌, ◌+◌, ◌++◌, ℕ, ℤ, pos, List, [], ◌∷◌, length, Result, Ok, Err, refl, sym, ap, subst, ◌∙◌, IsErrAnd}
 use Rattle.std.specs.Prelude.{int_lt, true, false}
 use Rattle.std.proofs.lemmas.Result.{err_from_is_err_and}
-use Rattle.std.specs.List.{All, AllByRecursion}
-use Rattle.std.proofs.lemmas.List.Elements.{recursion_from_All}
 use Rattle.outside.specs.Shelf.{ShelfView}
 use Rattle.word_rules.specs.Words.{inverse_word}
 use Rattle.word_rules.specs.Listed.{listed_from, joined_lists}
@@ -34,16 +32,13 @@ use Rattle.texture_build.specs.Views.{TexturesView, prepared_texture}
 use Rattle.texture_build.specs.Draws.{CanDraw, DrawsWith, FitBeside, FitsBeside, HoldsArt}
 use Rattle.texture_build.proofs.BesideLemmas.{fit_beside-none, fit_beside-append, fit_beside-as, fit_beside-column_dots}
 use Rattle.texture_build.proofs.DrawLemmas.{draws-none, draws-then, draws-wider, holds_art-later}
-use Rattle.wall_rules.specs.declared.FragmentNumbers.{FragmentNumbers}
 use Rattle.wall_rules.specs.declared.Part.{Part}
 use Rattle.wall_rules.specs.declared.RowRange.{RowRange}
 use Rattle.wall_rules.specs.Strips.{WallStrip, strip_dots, wall_colour}
-use Rattle.wall_columns.specs.declared.clips.ColumnPlan.{ColumnPlan}
 use Rattle.wall_columns.specs.declared.fault.DrawFault.{DrawFault}
 use Rattle.wall_columns.specs.declared.paint.ColumnLook.{ColumnLook}
 use Rattle.wall_columns.specs.Draws.{IsNoPicture}
 use Rattle.wall_columns.specs.Faults.{draw_fault}
-use Rattle.wall_columns.specs.Plans.{HasRows, IsInRows, strips_by}
 use Rattle.wall_columns.specs.Painted.{PaintsStrips, look_colour, look_dots, strip_with, strips_dots}
 
 -- a strip that was painted with a column's texels and the colormap has the dots of its part
@@ -395,15 +390,3 @@ paints-over {mark} {look} {among} {xs} {u} {v} {x} {y} {a} {b} {result} {shape} 
     a b result) is_dir
     (subst (λ (s : ViewShape). PaintsStrips s dir textures colormap mark look among xs u v x y a b
     result) is_shape k)))
-
--- each of the strips of a plan is in the view, and its texture may be drawn
-pub plan-rows : (height : ℕ) (n : FragmentNumbers) (plan : ColumnPlan) →
-    All (IsInRows height) (strips_by n plan) → AllByRecursion (IsInRows height) (strips_by n plan)
-plan-rows height n plan all = recursion_from_All (IsInRows height) (strips_by n plan) all
-
-pub plan-textures : (lumps : List Lump) (textures : TexturesView) (z : Heap)
-    (n : FragmentNumbers) (plan : ColumnPlan) →
-    All (λ s. HasRows s → CanDraw lumps textures z s.part.number) (strips_by n plan) →
-    AllByRecursion (λ s. HasRows s → CanDraw lumps textures z s.part.number) (strips_by n plan)
-plan-textures lumps textures z n plan all = recursion_from_All
-    (λ s. HasRows s → CanDraw lumps textures z s.part.number) (strips_by n plan) all

@@ -2,7 +2,8 @@ use Rattle.std.proofs.Common.{sym, ap, subst, ◌∙◌, inl, inr}
 use Rattle.view_rules.specs.View.{ViewValue}
 use Rattle.wall_columns.specs.Painted.{strip_with}
 use Rattle.wall_columns.specs.Plans.{IsInRows, IsPartTexture}
-use Rattle.wall_columns.proofs.PaintedLemmas.{can_draw-later, paints-over, paints-stop_by, paints-then, paints-wider, plan-rows, plan-textures}
+use Rattle.wall_columns.proofs.PaintedLemmas.{can_draw-later, paints-over, paints-stop_by, paints-then, paints-wider}
+use Rattle.wall_columns.proofs.PlannedLemmas.{plan-rows, plan-textures}
 use Rattle.wall_columns.proofs.paint.paint_strips.Goals as goal
 
 pub paint_part-requires-clause-rows : goal.paint_part-requires-clause-rows
