@@ -1,0 +1,4 @@
+pub mod ClipLemmas
+pub mod PlanLemmas
+pub mod SavedLemmas
+pub mod SightLemmas
