@@ -311,3 +311,6 @@ pub clip_before-in : (shape : ViewShape) (walls : List Wall) (k x : ℕ) → sha
 unfolding clip_before
 clip_before-in shape walls zero x s = open_clip-in shape.height s
 clip_before-in shape walls (suc k) x s = past_some_in shape x (slice_get walls k) (clip_before shape walls k x) s (clip_before-in shape walls k x s)
+
+-- for `search`: what a column's marks and its next window ask for
+pub ruleset column_rows = (ceiling_rows-in, floor_rows-in, clip_after-in)

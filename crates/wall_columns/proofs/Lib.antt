@@ -1,4 +1,7 @@
 pub mod ClipLemmas
+pub mod PartLemmas
 pub mod PlanLemmas
 pub mod SavedLemmas
 pub mod SightLemmas
+pub mod NoteLemmas
+pub mod LeafLemmas

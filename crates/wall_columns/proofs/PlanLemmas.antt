@@ -1,6 +1,6 @@
 -- Laws of the plan of a column: its strips are rows of the view, of parts that are there, and have
 -- the dots of the fragment's strips.
-use Rattle.std.proofs.Common.{◌≡◌, ◌≢◌, ◌⊎◌, ℕ, ◌≤◌, ◌==◌, Bool, true, false, not, cond, ℤ, pos, negsuc, ◌≤ℤ◌, ◌<ℤ◌, List, [], ◌∷◌, ◌++◌, refl, ap, sym, ◌∙◌, inl, inr, arith}
+use Rattle.std.proofs.Common.{◌≡◌, ◌≢◌, ◌⊎◌, ℕ, ◌≤◌, ◌==◌, Bool, true, false, not, cond, ℤ, pos, negsuc, ◌≤ℤ◌, ◌<ℤ◌, List, [], ◌∷◌, ◌++◌, refl, ap, sym, ◌∙◌, subst, inl, inr, arith}
 use Rattle.std.specs.List.{All}
 use Rattle.std.proofs.lemmas.Int.{ints}
 use Rattle.std.proofs.lemmas.Bool.Decides.{nat_tests}
@@ -19,11 +19,12 @@ use Rattle.wall_rules.specs.declared.FragmentNumbers.{FragmentNumbers}
 use Rattle.wall_rules.specs.declared.Part.{Part}
 use Rattle.wall_rules.specs.declared.RowRange.{RowRange}
 use Rattle.wall_rules.specs.Parts.{has_texture}
-use Rattle.wall_rules.specs.Clips.{middle_rows, top_rows, bottom_rows}
+use Rattle.wall_rules.specs.Clips.{middle_rows, top_rows, bottom_rows, ceiling_rows, floor_rows, clip_after}
 use Rattle.wall_rules.specs.Strips.{WallStrip, strip_of, wall_strips, strip_dots}
 use Rattle.wall_columns.specs.Windows.{IsClipIn}
+use Rattle.wall_columns.specs.declared.clips.ColumnPlan.{ColumnPlan}
 use Rattle.wall_columns.specs.Plans.{no_rows, rows_if, plan_of, strips_by, HasRows, AreRowsIn, IsInRows, IsPartTexture, AreEdgeWords}
-use Rattle.wall_columns.proofs.ClipLemmas.{middle_rows-in, top_rows-in, bottom_rows-in}
+use Rattle.wall_columns.proofs.ClipLemmas.{middle_rows-in, top_rows-in, bottom_rows-in, ceiling_rows-in, floor_rows-in, clip_after-in}
 
 none_in : (height : ℕ) → AreRowsIn height no_rows
 none_in height = λ h. absurd (omega (arith, ints))
@@ -125,3 +126,29 @@ plan_strips-dots v art k x light column scale height n clip e =
     (strip n.bottom_part (cond (has_texture n.middle_part) no_rows (rows_if (has_texture n.bottom_part) (bottom_rows n clip e))))
     ∙ by_middle f n.middle_part n.top_part n.bottom_part (middle_rows clip e) (top_rows clip e) (bottom_rows n clip e)
     (has_texture n.middle_part) (has_texture n.top_part) (has_texture n.bottom_part) (none_dots v art k x light column scale)
+
+-- rows of a view are rows of a frame
+wider : (height : ℕ) (rows : RowRange) → height ≤ FRAME_HEIGHT → AreRowsIn height rows → AreRowsIn FRAME_HEIGHT rows
+wider height rows s h = λ r. ((h r).0, (let l : rows.last <ℤ pos height = (h r).1 in omega (arith, ints)))
+
+-- what a plan marks lies in a frame, and what it leaves open in the view
+pub plan_ceiling-in : (height : ℕ) (n : FragmentNumbers) (clip : ColumnClip) (e : Edges) (plan : ColumnPlan) → plan ≡ plan_of height n clip e → height ≤ FRAME_HEIGHT → IsClipIn height clip → AreEdgeWords e →
+    AreRowsIn FRAME_HEIGHT plan.ceiling
+unfolding plan_of
+plan_ceiling-in height n clip e plan p s i w =
+    let P : ColumnPlan → Type 0 = λ plan. AreRowsIn FRAME_HEIGHT plan.ceiling in
+    subst P (sym p) (wider height (ceiling_rows clip e) s (ceiling_rows-in height clip e s i w))
+
+pub plan_floor-in : (height : ℕ) (n : FragmentNumbers) (clip : ColumnClip) (e : Edges) (plan : ColumnPlan) → plan ≡ plan_of height n clip e → height ≤ FRAME_HEIGHT → IsClipIn height clip → AreEdgeWords e →
+    AreRowsIn FRAME_HEIGHT plan.floor
+unfolding plan_of
+plan_floor-in height n clip e plan p s i w =
+    let P : ColumnPlan → Type 0 = λ plan. AreRowsIn FRAME_HEIGHT plan.floor in
+    subst P (sym p) (wider height (floor_rows clip e) s (floor_rows-in height clip e s i w))
+
+pub plan_after-in : (height : ℕ) (n : FragmentNumbers) (clip : ColumnClip) (e : Edges) (plan : ColumnPlan) → plan ≡ plan_of height n clip e → height ≤ FRAME_HEIGHT → IsClipIn height clip → AreEdgeWords e →
+    IsClipIn height plan.after
+unfolding plan_of
+plan_after-in height n clip e plan p s i w =
+    let P : ColumnPlan → Type 0 = λ plan. IsClipIn height plan.after in
+    subst P (sym p) (clip_after-in height n clip e s i w)
