@@ -5,3 +5,4 @@ pub mod SavedLemmas
 pub mod SightLemmas
 pub mod NoteLemmas
 pub mod LeafLemmas
+pub mod MarkLemmas
