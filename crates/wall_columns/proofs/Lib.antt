@@ -6,3 +6,4 @@ pub mod SightLemmas
 pub mod NoteLemmas
 pub mod LeafLemmas
 pub mod MarkLemmas
+pub mod BuiltLemmas

@@ -65,6 +65,9 @@ are_clips-blank = record {
 pub are_clips-new : (ceilings floors : List ℤ) → ceilings ≡ replicate FRAME_WIDTH (pos 0) → floors ≡ replicate FRAME_WIDTH (pos 0) → AreClips 0 ceilings floors
 are_clips-new ceilings floors e f = rw (e, f) are_clips-blank
 
+pub are_clips-filled : (height : ℕ) (ceilings floors : List ℤ) → height ≤ FRAME_HEIGHT → ceilings ≡ replicate FRAME_WIDTH minus_one → floors ≡ replicate FRAME_WIDTH (pos height) → AreClips height ceilings floors
+are_clips-filled height ceilings floors s e f = rw (e, f) (are_clips-open height s)
+
 -- an opening is saved among those that are used
 pub saved_in_front : (xs : List ℤ) (used i : ℕ) (y : ℤ) → i < used → take used (set xs i y) ≡ set (take used xs) i y
 saved_in_front xs used i y l = take-set-lt used xs i y l

@@ -108,8 +108,7 @@ impl ColumnState {
         first: u16,
         last: u16,
     ) -> Result<SavePlaces, DrawFault>
-        requires ordered { first ≤ last }
-        requires within { last < FRAME_WIDTH }
+        requires { first ≤ last }
         ensures ok { IfOk result (λ places. places
             ≡ places_of numbers.now (length self.old.openings.saved) (last + 1 - first)) }
         ensures within { IfOk result (λ places.
