@@ -52,13 +52,13 @@ marks_along f before = record {
 
 -- k columns are drawn: what is open of each column, and the planes that are marked
 pub record HasMarked (f : FragmentValue) (k : ℕ) (start now : ColumnState)
-    (planes planes_now : PlanesView) : Type 0 where
+    (before later : PlanesView) : Type 0 where
   pub windows : (x : ℕ) → x < FRAME_WIDTH → window_at now.windows x
       ≡ clip_along start.windows.height f (window_at start.windows) k x
   pub height : now.windows.height ≡ start.windows.height
-  pub planes : planes_now ≡ with_planes (columns_marked (marks_along f (window_at start.windows))
-      (plane_number start.ceiling) (plane_number start.floor) k planes.planes) planes
-  pub count : length planes_now.planes ≡ length planes.planes
+  pub planes : later ≡ with_planes (columns_marked (marks_along f (window_at start.windows))
+      (plane_number start.ceiling) (plane_number start.floor) k before.planes) before
+  pub count : length later.planes ≡ length before.planes
   pub floor : now.floor ≡ start.floor
   pub ceiling : now.ceiling ≡ start.ceiling
 

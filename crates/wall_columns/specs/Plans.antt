@@ -1,5 +1,6 @@
 -- What a fragment does in one of its columns: its plan, and the strips that a plan has.
-use Rattle.std.specs.Prelude.{◌≡◌, ◌⊎◌, ◌≤ℤ◌, ◌<ℤ◌, ℕ, pos, Bool, cond, List, [], ◌∷◌}
+use Rattle.std.specs.Prelude.{◌≡◌, ◌⊎◌, ◌≤ℤ◌, ◌<ℤ◌, ℕ, pos, Bool, cond, List, [], ◌∷◌, FitsSigned}
+use Rattle.std.specs.Int.{w32}
 use Rattle.word_rules.specs.Words.{minus_one}
 use Rattle.wall_rules.specs.declared.ColumnClip.{ColumnClip}
 use Rattle.wall_rules.specs.declared.Edges.{Edges}
@@ -55,3 +56,10 @@ IsInRows height s = HasRows s → (pos 0 ≤ℤ s.rows.first) × (s.rows.last <�
 -- a texture of one of the parts
 abbrev pub IsPartTexture : FragmentNumbers → ℕ → Type 0
 IsPartTexture n number = (number ≡ n.middle_part.number) ⊎ ((number ≡ n.top_part.number) ⊎ (number ≡ n.bottom_part.number))
+
+-- the four edges are words
+pub record AreEdgeWords (e : Edges) : Type 0 where
+  pub top : FitsSigned w32 e.top
+  pub bottom : FitsSigned w32 e.bottom
+  pub high : FitsSigned w32 e.high
+  pub low : FitsSigned w32 e.low

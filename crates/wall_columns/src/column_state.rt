@@ -14,7 +14,7 @@ ghost use Rattle.visplanes.specs.Planes.{with_planes};
 ghost use Rattle.wall_edges.specs.Fragments.{fragment_of};
 ghost use Rattle.wall_columns.specs.Faults.{limit_of_result, IsPlanesFault, IsLimitFault};
 ghost use Rattle.wall_columns.specs.Windows.{window_at, with_window, IsClipIn};
-ghost use Rattle.wall_columns.specs.Plans.{plan_of};
+ghost use Rattle.wall_columns.specs.Plans.{plan_of, AreEdgeWords};
 ghost use Rattle.wall_columns.specs.Saved.{column_saved};
 ghost use Rattle.wall_columns.specs.Places.{places_of};
 ghost use Rattle.wall_columns.specs.Columns.{plane_number, columns_of, HasMarked, HasSaved, ArePlacesIn};
@@ -108,8 +108,7 @@ impl ColumnState {
         first: u16,
         last: u16,
     ) -> Result<SavePlaces, DrawFault>
-        requires ordered { first ≤ last }
-        requires within { last < FRAME_WIDTH }
+        requires { first ≤ last }
         ensures ok { IfOk result (λ places. places
             ≡ places_of numbers.now (length self.old.openings.saved) (last + 1 - first)) }
         ensures within { IfOk result (λ places.
@@ -167,6 +166,7 @@ impl ColumnState {
 
     /// Marks the planes in a column of a fragment, and narrows its window.
     #[inline(always)]
+    #[tactic(auto, using(crate::proofs::ClipLemmas::column_rows), unfolding(crate::specs::Plans::plan_of))]
     pub fn pass_column(
         &mut self,
         planes: &mut Planes,
@@ -175,6 +175,7 @@ impl ColumnState {
         edges: &Edges,
     ) -> ColumnPlan
         requires column { x < FRAME_WIDTH }
+        requires edges { AreEdgeWords edges.now }
         requires floor { IsAmongPlanes planes.old.planes (plane_number self.old.floor) }
         requires ceiling { IsAmongPlanes planes.old.planes (plane_number self.old.ceiling) }
         ensures plan { result ≡ plan_of self.old.windows.height numbers.now
@@ -239,6 +240,7 @@ impl ColumnState {
 
 /// Saves what a fragment saves of its column number `k`, which is column `x` of the view.
 #[inline(always)]
+#[tactic(auto, unfolding(crate::specs::Saved::column_saved, crate::specs::Saved::with_saved))]
 pub fn save_column(
     openings: &mut Openings,
     view: &View<'_>,

@@ -1,11 +1,9 @@
 // What ends a view while its walls are drawn.
 ghost use Rattle.std.specs.Prelude.{◌≡◌};
 ghost use Rattle.wall_columns.specs.Faults.{from_cache_fault};
-ghost use Rattle.wall_columns.specs.declared.fault.DrawFault.TheVariants.{Planes};
 
 use lump_cache::CacheFault;
 use thiserror::Error;
-use visplanes::PlanesFull;
 
 /// What ends a view while its walls are drawn: planes or openings past their limit, with the count;
 /// a zone without a gap for a block of `wanted` bytes, whose widest gap has `widest`; bytes that
@@ -22,14 +20,6 @@ pub enum DrawFault {
     ZoneFull { wanted: u64, widest: u64 },
     #[error("a lump could not be read")]
     ReadFault,
-}
-
-impl From<PlanesFull> for DrawFault {
-    ghost from_gives = { λ full fault. fault ≡ Planes full.count };
-
-    fn from(full: PlanesFull) -> Self {
-        DrawFault::Planes { count: full.count }
-    }
 }
 
 impl From<CacheFault> for DrawFault {

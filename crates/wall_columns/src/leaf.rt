@@ -28,6 +28,7 @@ fn keep_within(planes: &Planes)
 /// The plane of a key, or None without one.
 ///
 /// Errors: `Planes` exactly where a new plane is wanted and the room is full, with the count.
+#[tactic(auto, using(crate::proofs::PartLemmas::counts), unfolding(crate::specs::Leaves::planes_found, crate::specs::Leaves::number_found))]
 pub fn find_plane(
     planes: &mut Planes,
     key: Option<PlaneKey>,
@@ -46,7 +47,10 @@ pub fn find_plane(
     keep_within(planes);
     match key {
         None => Ok(None),
-        Some(key) => Ok(Some(planes.find(key)?)),
+        Some(key) => match planes.find(key) {
+            Ok(plane) => Ok(Some(plane)),
+            Err(full) => Err(DrawFault::Planes { count: full.count }),
+        },
     }
 }
 
@@ -54,6 +58,7 @@ pub fn find_plane(
 /// the fragment's columns.
 ///
 /// Errors: `Planes` exactly where a new plane is wanted and the room is full, with the count.
+#[tactic(auto, using(crate::proofs::PartLemmas::counts), unfolding(crate::specs::Leaves::planes_checked, crate::specs::Leaves::number_checked, plane_rules::specs::Built::checked_plane))]
 pub fn check_plane(
     planes: &mut Planes,
     plane: Option<PlaneNo>,
@@ -85,6 +90,9 @@ pub fn check_plane(
     }
     match plane {
         None => Ok(None),
-        Some(plane) => Ok(Some(planes.check(plane, first, last)?)),
+        Some(plane) => match planes.check(plane, first, last) {
+            Ok(plane) => Ok(Some(plane)),
+            Err(full) => Err(DrawFault::Planes { count: full.count }),
+        },
     }
 }

@@ -89,6 +89,7 @@ impl Openings {
 
     /// Saves entry number `k` of the list at a place, where it is saved.
     #[inline(always)]
+    #[tactic(auto, using(crate::proofs::PartLemmas::saved_front), unfolding(crate::specs::Saved::with_saved))]
     pub fn save(&mut self, place: Option<u32>, k: u32, value: i32)
         requires { IfSome place (λ place. place + k < length self.old.saved) }
         ensures value { self.new ≡ record self.old

@@ -36,6 +36,7 @@ impl Model for Windows {
 
 impl Windows {
     /// The windows of a view without rows. Takes their memory.
+    #[tactic(auto, using(crate::proofs::PartLemmas::opened))]
     pub fn new(alloc: Global) -> Result<Windows, AllocError> {
         Ok(Windows {
             ceiling_clips: vec![in alloc; 0; FRAME_WIDTH as usize]?,
@@ -45,6 +46,7 @@ impl Windows {
     }
 
     /// Opens each column of a view of `height` rows.
+    #[tactic(auto, using(crate::proofs::PartLemmas::opened), unfolding(crate::specs::Windows::window_at, wall_rules::specs::Clips::open_clip))]
     pub fn open(&mut self, height: u16)
         requires { height ≤ FRAME_HEIGHT }
         ensures height { self.new.height ≡ height }
@@ -65,6 +67,7 @@ impl Windows {
 
     /// What is open of column `x` of the frame.
     #[inline(always)]
+    #[tactic(auto, unfolding(crate::specs::Windows::window_at))]
     pub fn clip(&self, x: u16) -> ColumnClip
         requires { x < FRAME_WIDTH }
         ensures value { result ≡ window_at self.now x }
@@ -79,6 +82,7 @@ impl Windows {
 
     /// Leaves this open of column `x` of the frame.
     #[inline(always)]
+    #[tactic(auto, using(crate::proofs::PartLemmas::narrowed), unfolding(crate::specs::Windows::window_at, crate::specs::Windows::with_window))]
     pub fn narrow(&mut self, x: u16, clip: ColumnClip)
         requires column { x < FRAME_WIDTH }
         requires rows { IsClipIn self.old.height clip }
