@@ -1,0 +1,6 @@
+pub mod MomentLemmas
+pub mod MarkLemmas
+pub mod PassedLemmas
+pub mod RowLemmas
+pub mod DownLemmas
+pub mod StepLemmas
