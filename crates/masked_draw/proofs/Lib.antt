@@ -4,3 +4,4 @@ pub mod PassedLemmas
 pub mod RowLemmas
 pub mod DownLemmas
 pub mod StepLemmas
+pub mod SceneLemmas

@@ -56,7 +56,7 @@ pub record CanPass (s : MaskScene) (notes : List FragmentNote) (st : MaskState) 
   pub paint : CanPaint s st
   pub noted : AreNoted s.view.now.shape notes s.openings.now
   pub listed : All (IsListed s.dir.now.lumps s.textures.now st.cache (scene_lists s)) notes
-  pub marks : length s.openings.now ≤ length marks
+  pub room : length s.openings.now ≤ length marks
 
 -- A call by the dots that it gives the canvas, and by the textures and the lumps that it paints
 -- with.
