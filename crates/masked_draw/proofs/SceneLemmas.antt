@@ -1,5 +1,5 @@
 -- Laws of the notes of a scene as drawn fragments, and of what the calls ask of them.
-use Rattle.std.proofs.Common.{◌≡◌, ℕ, ◌+◌, ◌<◌, ◌≤◌, ℤ, pos, ◌≤ℤ◌, ◌≢◌, Bool, true, false, List, Option, Some, None, length, map, get_or, refl, sym, ap, ◌∙◌, subst, arith, absurd}
+use Rattle.std.proofs.Common.{◌≡◌, ℕ, ◌+◌, ◌<◌, ◌≤◌, ℤ, pos, ◌≤ℤ◌, ◌≢◌, Bool, true, false, List, Option, Some, None, length, map, get_or, refl, sym, ap, ◌∙◌, subst, arith}
 use Rattle.std.specs.Prelude.{◌&&◌, ◌==◌, not, nat_le, int_lt, bit_and, IfSome, IsSome, option_map, slice_get, All, Contains, Result, slice_index_or}
 use Rattle.std.proofs.lemmas.Bool.{and_parts, leb-true}
 use Rattle.std.proofs.lemmas.Bool.Decides.{nat_tests}
@@ -37,7 +37,7 @@ scene-columns s d = record { first = refl; last = refl; masked = refl }
 
 pub scene-length : (s : MaskScene) (notes : List FragmentNote) → length (scene_drawsegs s notes) ≡ length notes
 unfolding noted_drawsegs
-scene-length s notes = length-map _ notes
+scene-length s notes = length-map notes (scene_drawseg s)
 
 pub scene-get : (s : MaskScene) (notes : List FragmentNote) (k : ℕ) (d : FragmentNote) → slice_get notes k ≡ Some d → slice_get (scene_drawsegs s notes) k ≡ Some (scene_drawseg s d)
 unfolding noted_drawsegs

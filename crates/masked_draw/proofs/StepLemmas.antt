@@ -50,7 +50,7 @@ module _ {mark : Painter → ℕ → ℕ} {s : MaskScene} {among pictures : ℕ 
         let later = holds_art-later one.draws.keeps held in
         on_ok_then (FitBeside s.dir.now.lumps s.textures.now s.colormap.0 count b.cache.size (g (scene_art contents s)))
         (FitBeside s.dir.now.lumps s.textures.now s.colormap.0 count a.cache.size (f (scene_art contents s) ++ g (scene_art contents s))) result
-        (λ h. fit_beside-append (f (scene_art contents s)) (g (scene_art contents s)) (one.fits contents count held)
+        (λ h. fit_beside-append s.dir.now.lumps s.textures.now s.colormap.0 count a.cache.size (f (scene_art contents s)) (g (scene_art contents s)) (one.fits contents count held)
           (subst (λ (n : ℕ). FitBeside s.dir.now.lumps s.textures.now s.colormap.0 count n (g (scene_art contents s))) one.draws.keeps.counts.0 h))
         (two.fits contents count later);
     draws = draws-then one.draws two.draws;
@@ -67,6 +67,18 @@ module _ {mark : Painter → ℕ → ℕ} {s : MaskScene} {among pictures : ℕ 
     draws = draws-stop was is one.draws;
     place = one.place;
   }
+
+  -- an error after a call that was Ok
+  pub paints-then_stop : {A B D : Type 0} {f g h : Art → List Dot} {a b c : MaskState} {first : D} {part : Result B CacheFault} {fault : CacheFault} {whole : Result A CacheFault} →
+      part ≡ Err fault → IsErrAnd whole (λ e. e ≡ fault) → PaintsDots mark s among pictures f a b (Ok first) →
+      PaintsDots mark s among pictures g b c part → PaintsDots mark s among pictures h a c whole
+  paints-then_stop {h = h} {a} {c = c} {fault = fault} {whole} was is one two =
+      let all = paints-then one (paints-stop {g = h} was is two) in record {
+        painted = λ contents count held. on_ok_err (HasDots mark (h (scene_art contents s)) a.canvas c.canvas) fault whole is;
+        fits = λ contents count held. on_ok_err (FitBeside s.dir.now.lumps s.textures.now s.colormap.0 count a.cache.size (h (scene_art contents s))) fault whole is;
+        draws = all.draws;
+        place = all.place;
+      }
 
   -- the same dots by other words
   pub paints-same : {A : Type 0} {f : Art → List Dot} {a b : MaskState} {result : Result A CacheFault} (g : Art → List Dot) → ((art : Art) → f art ≡ g art) →
