@@ -5,3 +5,4 @@ pub mod RowLemmas
 pub mod DownLemmas
 pub mod StepLemmas
 pub mod SceneLemmas
+pub mod EntryLemmas

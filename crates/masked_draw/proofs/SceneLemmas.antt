@@ -27,6 +27,7 @@ use Rattle.masked_draw.specs.declared.scene.MaskScene.{MaskScene}
 use Rattle.masked_draw.specs.Lists.{MaskedLists, noted_drawseg, noted_drawsegs, middle_by}
 use Rattle.masked_draw.specs.Ready.{IsListed, IsMiddleNumber, IsNotedMiddle, CanDrawMiddle}
 use Rattle.masked_draw.specs.Scenes.{MaskState, CanPaint, CanPass, PaintsDots, scene_drawseg, scene_drawsegs, scene_lists}
+use Rattle.masked_draw.proofs.EntryLemmas.{IsSegOf}
 use Rattle.masked_draw.proofs.PassedLemmas.{HasColumnsOf, ApartNotes}
 use Rattle.masked_draw.proofs.StepLemmas.{can_paint-later}
 
@@ -34,6 +35,10 @@ use Rattle.masked_draw.proofs.StepLemmas.{can_paint-later}
 pub scene-columns : (s : MaskScene) (d : FragmentNote) → HasColumnsOf d (scene_drawseg s d)
 unfolding noted_drawseg
 scene-columns s d = record { first = refl; last = refl; masked = refl }
+
+pub scene-seg : (s : MaskScene) (d : FragmentNote) → IsSegOf d (scene_drawseg s d)
+unfolding noted_drawseg
+scene-seg s d = record { first = refl; last = refl; has_bottom = refl; has_top = refl; bottom_height = refl; top_height = refl }
 
 pub scene-length : (s : MaskScene) (notes : List FragmentNote) → length (scene_drawsegs s notes) ≡ length notes
 unfolding noted_drawsegs

@@ -18,7 +18,7 @@ use Rattle.texture_build.proofs.BesideLemmas.{fit_beside-none, fit_beside-append
 use Rattle.masked_draw.specs.declared.scene.MaskScene.{MaskScene}
 use Rattle.masked_draw.specs.Scenes.{MaskState, CanPaint, PaintsDots, scene_art}
 
-on_ok_then : {A E : Type 0} (P Q : Type 0) (result : Result A E) → (P → Q) → OnOk result P → OnOk result Q
+pub on_ok_then : {A E : Type 0} (P Q : Type 0) (result : Result A E) → (P → Q) → OnOk result P → OnOk result Q
 on_ok_then P Q (Ok x) f h = f h
 on_ok_then P Q (Err e) f h = tt
 
