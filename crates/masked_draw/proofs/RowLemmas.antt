@@ -64,21 +64,21 @@ pub seen_row-top : (ds : List Drawseg) (e : SpriteEntry) (x : ℕ) → unwrap_or
 unfolding sprite_top
 seen_row-top ds e x = seen_row-number (λ d. d.top_clip x) (gives_top e x) minus_one ds
 
--- In columns first to last the rows are those of the fragments from m on, by a clip and a test of
--- each column; each lies between two bounds.
-pub record RowsFrom (clip : ℕ → Drawseg → ℤ) (test : ℕ → Drawseg → Bool) (ds : List Drawseg) (first last m : ℕ) (low high : ℤ)
+-- In some columns the rows are those of the fragments from m on, by a clip and a test of each column;
+-- each lies between two bounds.
+pub record RowsFrom (clip : ℕ → Drawseg → ℤ) (test : ℕ → Drawseg → Bool) (ds : List Drawseg) (has : ℕ → Bool) (m : ℕ) (low high : ℤ)
     (rows : List (Option ℤ)) : Type 0 where
-  pub seen : (x : ℕ) → first ≤ x → x ≤ last → or_else (row_in rows x) (seen_row (clip x) (test x) ds m) ≡ seen_row (clip x) (test x) ds (length ds)
-  pub bounds : (x : ℕ) → first ≤ x → x ≤ last → IfSome (row_in rows x) (λ r. (low ≤ℤ r) × (r ≤ℤ high))
+  pub seen : (x : ℕ) → has x ≡ true → or_else (row_in rows x) (seen_row (clip x) (test x) ds m) ≡ seen_row (clip x) (test x) ds (length ds)
+  pub bounds : (x : ℕ) → has x ≡ true → IfSome (row_in rows x) (λ r. (low ≤ℤ r) × (r ≤ℤ high))
 
 if_none : (P : ℤ → Type 0) (o : Option ℤ) → o ≡ None → IfSome o P
 if_none P o h = let Q : Option ℤ → Type 0 = λ r. IfSome r P in subst Q (sym h) tt
 
-pub rows-start : (clip : ℕ → Drawseg → ℤ) (test : ℕ → Drawseg → Bool) (ds : List Drawseg) (first last : ℕ) (low high : ℤ) (rows : List (Option ℤ)) → ((x : ℕ) → first ≤ x → x ≤ last → row_in rows x ≡ None) →
-    RowsFrom clip test ds first last (length ds) low high rows
-rows-start clip test ds first last low high rows h = record {
-  seen = λ x l m. ap (λ (o : Option ℤ). or_else o (seen_row (clip x) (test x) ds (length ds))) (h x l m);
-  bounds = λ x l m. if_none (λ r. (low ≤ℤ r) × (r ≤ℤ high)) (row_in rows x) (h x l m);
+pub rows-start : (clip : ℕ → Drawseg → ℤ) (test : ℕ → Drawseg → Bool) (ds : List Drawseg) (has : ℕ → Bool) (low high : ℤ) (rows : List (Option ℤ)) → ((x : ℕ) → has x ≡ true → row_in rows x ≡ None) →
+    RowsFrom clip test ds has (length ds) low high rows
+rows-start clip test ds has low high rows h = record {
+  seen = λ x l. ap (λ (o : Option ℤ). or_else o (seen_row (clip x) (test x) ds (length ds))) (h x l);
+  bounds = λ x l. if_none (λ r. (low ≤ℤ r) × (r ≤ℤ high)) (row_in rows x) (h x l);
 }
 
 bound_after : (low high row : ℤ) (b : Bool) (old : Option ℤ) → IfSome old (λ r. (low ≤ℤ r) × (r ≤ℤ high)) → (b ≡ true → (low ≤ℤ row) × (row ≤ℤ high)) → IfSome (row_after b row old) (λ r. (low ≤ℤ r) × (r ≤ℤ high))
@@ -86,43 +86,43 @@ bound_after low high row b (Some r) h g = h
 bound_after low high row true None h g = g refl
 bound_after low high row false None h g = tt
 
-pub rows-more : (clip : ℕ → Drawseg → ℤ) (test : ℕ → Drawseg → Bool) (ds : List Drawseg) (first last m : ℕ) (low high : ℤ) (old new : List (Option ℤ)) (d : Drawseg) → slice_get ds m ≡ Some d →
-    ((x : ℕ) → first ≤ x → x ≤ last → row_in new x ≡ row_after (test x d) (clip x d) (row_in old x)) → ((x : ℕ) → first ≤ x → x ≤ last → test x d ≡ true → (low ≤ℤ clip x d) × (clip x d ≤ℤ high)) →
-    RowsFrom clip test ds first last (m + 1) low high old → RowsFrom clip test ds first last m low high new
-rows-more clip test ds first last m low high old new d g s b h = record {
-  seen = λ x l r.
-      ap (λ (o : Option ℤ). or_else o (seen_row (clip x) (test x) ds m)) (s x l r)
-      ∙ sym (seen_row-more (clip x) (test x) ds m d (row_in old x) g) ∙ h.seen x l r;
-  bounds = λ x l r.
+pub rows-more : (clip : ℕ → Drawseg → ℤ) (test : ℕ → Drawseg → Bool) (ds : List Drawseg) (has : ℕ → Bool) (m : ℕ) (low high : ℤ) (old new : List (Option ℤ)) (d : Drawseg) → slice_get ds m ≡ Some d →
+    ((x : ℕ) → has x ≡ true → row_in new x ≡ row_after (test x d) (clip x d) (row_in old x)) → ((x : ℕ) → has x ≡ true → test x d ≡ true → (low ≤ℤ clip x d) × (clip x d ≤ℤ high)) →
+    RowsFrom clip test ds has (m + 1) low high old → RowsFrom clip test ds has m low high new
+rows-more clip test ds has m low high old new d g s b h = record {
+  seen = λ x l.
+      ap (λ (o : Option ℤ). or_else o (seen_row (clip x) (test x) ds m)) (s x l)
+      ∙ sym (seen_row-more (clip x) (test x) ds m d (row_in old x) g) ∙ h.seen x l;
+  bounds = λ x l.
       let P : Option ℤ → Type 0 = λ o. IfSome o (λ z. (low ≤ℤ z) × (z ≤ℤ high)) in
-      subst P (sym (s x l r)) (bound_after low high (clip x d) (test x d) (row_in old x) (h.bounds x l r) (b x l r));
+      subst P (sym (s x l)) (bound_after low high (clip x d) (test x d) (row_in old x) (h.bounds x l) (b x l));
 }
 
 or_else-none : (o : Option ℤ) → or_else o None ≡ o
 or_else-none None = refl
 or_else-none (Some r) = refl
 
-rows_end : (clip : ℕ → Drawseg → ℤ) (test : ℕ → Drawseg → Bool) (ds : List Drawseg) (first last : ℕ) (low high : ℤ) (rows : List (Option ℤ)) → RowsFrom clip test ds first last 0 low high rows →
-    (x : ℕ) → first ≤ x → x ≤ last → row_in rows x ≡ seen_row (clip x) (test x) ds (length ds)
-rows_end clip test ds first last low high rows h x l m =
-    sym (ap (or_else (row_in rows x)) (seen_row-none (clip x) (test x) ds) ∙ or_else-none (row_in rows x)) ∙ h.seen x l m
+rows_end : (clip : ℕ → Drawseg → ℤ) (test : ℕ → Drawseg → Bool) (ds : List Drawseg) (has : ℕ → Bool) (low high : ℤ) (rows : List (Option ℤ)) → RowsFrom clip test ds has 0 low high rows →
+    (x : ℕ) → has x ≡ true → row_in rows x ≡ seen_row (clip x) (test x) ds (length ds)
+rows_end clip test ds has low high rows h x l =
+    sym (ap (or_else (row_in rows x)) (seen_row-none (clip x) (test x) ds) ∙ or_else-none (row_in rows x)) ∙ h.seen x l
 
 -- after all fragments they are the sprite's
-pub rows-bottom : (height : ℕ) (ds : List Drawseg) (e : SpriteEntry) (first last : ℕ) (low high : ℤ) (rows : List (Option ℤ)) → RowsFrom (λ x d. d.bottom_clip x) (gives_bottom e) ds first last 0 low high rows →
-    (x : ℕ) → first ≤ x → x ≤ last → unwrap_or (row_in rows x) (pos height) ≡ sprite_bottom height ds e x
-rows-bottom height ds e first last low high rows h x l m =
-    ap (λ (o : Option ℤ). unwrap_or o (pos height)) (rows_end (λ x d. d.bottom_clip x) (gives_bottom e) ds first last low high rows h x l m) ∙ seen_row-bottom height ds e x
+pub rows-bottom : (height : ℕ) (ds : List Drawseg) (e : SpriteEntry) (has : ℕ → Bool) (low high : ℤ) (rows : List (Option ℤ)) → RowsFrom (λ x d. d.bottom_clip x) (gives_bottom e) ds has 0 low high rows →
+    (x : ℕ) → has x ≡ true → unwrap_or (row_in rows x) (pos height) ≡ sprite_bottom height ds e x
+rows-bottom height ds e has low high rows h x l =
+    ap (λ (o : Option ℤ). unwrap_or o (pos height)) (rows_end (λ x d. d.bottom_clip x) (gives_bottom e) ds has low high rows h x l) ∙ seen_row-bottom height ds e x
 
-pub rows-top : (ds : List Drawseg) (e : SpriteEntry) (first last : ℕ) (low high : ℤ) (rows : List (Option ℤ)) → RowsFrom (λ x d. d.top_clip x) (gives_top e) ds first last 0 low high rows →
-    (x : ℕ) → first ≤ x → x ≤ last → unwrap_or (row_in rows x) minus_one ≡ sprite_top ds e x
-rows-top ds e first last low high rows h x l m =
-    ap (λ (o : Option ℤ). unwrap_or o minus_one) (rows_end (λ x d. d.top_clip x) (gives_top e) ds first last low high rows h x l m) ∙ seen_row-top ds e x
+pub rows-top : (ds : List Drawseg) (e : SpriteEntry) (has : ℕ → Bool) (low high : ℤ) (rows : List (Option ℤ)) → RowsFrom (λ x d. d.top_clip x) (gives_top e) ds has 0 low high rows →
+    (x : ℕ) → has x ≡ true → unwrap_or (row_in rows x) minus_one ≡ sprite_top ds e x
+rows-top ds e has low high rows h x l =
+    ap (λ (o : Option ℤ). unwrap_or o minus_one) (rows_end (λ x d. d.top_clip x) (gives_top e) ds has low high rows h x l) ∙ seen_row-top ds e x
 
 bound_or : (low high without : ℤ) (o : Option ℤ) → low ≤ℤ without → without ≤ℤ high → IfSome o (λ r. (low ≤ℤ r) × (r ≤ℤ high)) → (low ≤ℤ unwrap_or o without) × (unwrap_or o without ≤ℤ high)
 bound_or low high without None a b h = (a, b)
 bound_or low high without (Some r) a b h = h
 
 -- and lie between the bounds, as the row without a clip does
-pub rows-bounds : (clip : ℕ → Drawseg → ℤ) (test : ℕ → Drawseg → Bool) (ds : List Drawseg) (first last m : ℕ) (low high without : ℤ) (rows : List (Option ℤ)) → low ≤ℤ without → without ≤ℤ high → RowsFrom clip test ds first last m low high rows →
-    (x : ℕ) → first ≤ x → x ≤ last → (low ≤ℤ unwrap_or (row_in rows x) without) × (unwrap_or (row_in rows x) without ≤ℤ high)
-rows-bounds clip test ds first last m low high without rows a b h x l r = bound_or low high without (row_in rows x) a b (h.bounds x l r)
+pub rows-bounds : (clip : ℕ → Drawseg → ℤ) (test : ℕ → Drawseg → Bool) (ds : List Drawseg) (has : ℕ → Bool) (m : ℕ) (low high without : ℤ) (rows : List (Option ℤ)) → low ≤ℤ without → without ≤ℤ high → RowsFrom clip test ds has m low high rows →
+    (x : ℕ) → has x ≡ true → (low ≤ℤ unwrap_or (row_in rows x) without) × (unwrap_or (row_in rows x) without ≤ℤ high)
+rows-bounds clip test ds has m low high without rows a b h x l = bound_or low high without (row_in rows x) a b (h.bounds x l)

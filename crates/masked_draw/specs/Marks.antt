@@ -1,5 +1,5 @@
 -- The marks of masked columns that are painted: one for each opening, at the place of its texture column.
-use Rattle.std.specs.Prelude.{◌≡◌, ◌≤◌, ◌<◌, ◌+◌, ◌-◌, ◌⊎◌, ◌&&◌, ◌||◌, ℕ, Bool, true, false, not, nat_le, nat_lt, List, [], Option, Some, None, slice_get, slice_index_or, filter, IfSome, ⊤}
+use Rattle.std.specs.Prelude.{◌≡◌, ◌≤◌, ◌<◌, ◌+◌, ◌-◌, ◌⊎◌, ◌&&◌, ◌||◌, ℕ, Bool, false, cond, not, nat_le, nat_lt, List, [], Option, Some, None, slice_get, slice_index_or, filter, IfSome, ⊤}
 use Rattle.word_rules.specs.Listed.{listed_from, joined_lists}
 use Rattle.view_rules.specs.View.{ViewValue}
 use Rattle.pixel_rules.specs.Dots.{Dot}
@@ -29,6 +29,10 @@ unfoldable pub unmarked_dots : ViewValue → Art → List Bool → FragmentNote 
 unmarked_dots v art marks d gives k drawseg =
     joined_lists (middle_column v art k drawseg) (unmarked_by marks d gives d.masked)
 
+-- the dots of a column, where it is not marked
+abbrev pub if_unmarked : Bool → List Dot → List Dot
+if_unmarked marked dots = cond (not marked) dots []
+
 -- the columns from first to last
 abbrev pub is_between : ℕ → ℕ → ℕ → Bool
 is_between first last x = nat_le first x && nat_lt x (last + 1)
@@ -36,6 +40,10 @@ is_between first last x = nat_le first x && nat_lt x (last + 1)
 -- the columns of a sprite, where the fragment is behind it
 abbrev pub is_passed : SpriteEntry → Drawseg → ℕ → Bool
 is_passed e d x = entry_has e x && is_behind d e
+
+-- the note has none of the columns, or neither clips nor is masked
+abbrev pub MissesColumns : FragmentNote → ℕ → ℕ → Type 0
+MissesColumns d first last = (last < d.first) ⊎ ((d.last < first) ⊎ ((d.silhouette ≡ 0) × (d.masked ≡ None)))
 
 -- a place is none of the note's texture columns
 abbrev pub IsOutside : FragmentNote → Option ℕ → ℕ → Type 0
