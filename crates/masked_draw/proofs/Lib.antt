@@ -6,3 +6,4 @@ pub mod DownLemmas
 pub mod StepLemmas
 pub mod SceneLemmas
 pub mod EntryLemmas
+pub mod LoopLemmas
