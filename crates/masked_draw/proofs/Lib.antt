@@ -7,3 +7,4 @@ pub mod StepLemmas
 pub mod SceneLemmas
 pub mod EntryLemmas
 pub mod LoopLemmas
+pub mod SpriteLemmas
