@@ -7,3 +7,5 @@ pub mod StepLemmas
 pub mod SceneLemmas
 pub mod EntryLemmas
 pub mod PostLemmas
+pub mod LoopLemmas
+pub mod SpriteLemmas

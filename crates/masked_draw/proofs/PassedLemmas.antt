@@ -216,5 +216,8 @@ marked-turn seg notes es n turn other marks e h = record {
 pub turns-start : (i n k : ℕ) → k < n → i ≡ turn_at i n k
 turns-start i n k l = sym (turn_low i n k l)
 
+pub turn-here : (i m : ℕ) → turn_at i (m + 1) m ≡ i
+turn-here i m = turn_low i (m + 1) m (omega arith)
+
 pub turns-end : (i k : ℕ) → turn_at i 0 k ≡ i + 1
 turns-end i k = turn_high i 0 k (omega arith)

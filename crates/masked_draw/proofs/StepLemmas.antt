@@ -13,7 +13,7 @@ use Rattle.pixel_strips.specs.Canvases.{CanvasView}
 use Rattle.pixel_strips.specs.Dotted.{HasDots, PlacedAlike}
 use Rattle.pixel_strips.proofs.DottedLemmas.{has_dots-none, has_dots-append, has_dots-as, placed-none, placed-then}
 use Rattle.texture_build.specs.Draws.{HoldsArt, FitBeside, DrawsWith}
-use Rattle.texture_build.proofs.DrawLemmas.{holds_art-later, draws-none, draws-then, draws-stop, draws-wider}
+use Rattle.texture_build.proofs.DrawLemmas.{holds_art-later, draws-none, draws-then, draws-stop, draws-value, draws-wider}
 use Rattle.texture_build.proofs.BesideLemmas.{fit_beside-none, fit_beside-append, fit_beside-as}
 use Rattle.masked_draw.specs.declared.scene.MaskScene.{MaskScene}
 use Rattle.masked_draw.specs.Scenes.{MaskState, CanPaint, PaintsDots, scene_art}
@@ -22,7 +22,7 @@ pub on_ok_then : {A E : Type 0} (P Q : Type 0) (result : Result A E) → (P → 
 on_ok_then P Q (Ok x) f h = f h
 on_ok_then P Q (Err e) f h = tt
 
-on_ok_err : {A E : Type 0} (P : Type 0) (fault : E) (whole : Result A E) → IsErrAnd whole (λ e. e ≡ fault) → OnOk whole P
+pub on_ok_err : {A E : Type 0} (P : Type 0) (fault : E) (whole : Result A E) → IsErrAnd whole (λ e. e ≡ fault) → OnOk whole P
 on_ok_err P fault (Ok x) is = absurd is
 on_ok_err P fault (Err e) is = tt
 
@@ -92,6 +92,11 @@ module _ {mark : Painter → ℕ → ℕ} {s : MaskScene} {among pictures : ℕ 
     place = one.place;
   }
 
+  -- an answer that was Ok is Ok with another value
+  pub paints-value : {A B : Type 0} {f : Art → List Dot} {a b : MaskState} {first : B} {answer : A} →
+      PaintsDots mark s among pictures f a b (Ok first) → PaintsDots mark s among pictures f a b (Ok answer)
+  paints-value {first = first} {answer} one = record { painted = one.painted; fits = one.fits; draws = draws-value first answer one.draws; place = one.place }
+
   -- the same answer by other words
   pub paints-as : {A : Type 0} {f : Art → List Dot} {a b : MaskState} {part whole : Result A CacheFault} → part ≡ whole →
       PaintsDots mark s among pictures f a b part → PaintsDots mark s among pictures f a b whole
@@ -112,7 +117,7 @@ can_paint-later {s = s} {a = a} {b} one can =
     let top = one.place.top in
     record {
       slots = rw counts.1 can.slots;
-      colormap = rw counts.1 can.colormap;
+      colormap = can.colormap;
       left = rw left can.left;
       top = rw top can.top;
     }

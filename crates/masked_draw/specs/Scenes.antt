@@ -47,7 +47,7 @@ state shelf cache canvas = record { shelf = shelf; cache = cache; canvas = canva
 -- what each call asks
 pub record CanPaint (s : MaskScene) (st : MaskState) : Type 0 where
   pub slots : length s.dir.now.lumps ≤ st.cache.lumps
-  pub colormap : s.colormap.0 < st.cache.lumps
+  pub colormap : s.colormap.0 < length s.dir.now.lumps
   pub left : st.canvas.left + s.view.now.shape.width ≤ FRAME_WIDTH
   pub top : st.canvas.top + s.view.now.shape.height ≤ FRAME_HEIGHT
 

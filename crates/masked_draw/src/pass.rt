@@ -270,6 +270,8 @@ fn pass_fragments<S: Shelf, C: Canvas>(
     ensures same_canvas { hands.new.canvas.ghost_name ≡ hands.old.canvas.ghost_name }
     ensures same_marks { hands.new.marks.ghost_name ≡ hands.old.marks.ghost_name }
     ensures marks { length hands.new.marks.now ≡ length hands.old.marks.now }
+    ensures ready { OnOk result (CanPass scene.now notes.now (state (S.view hands.new.shelf.now)
+        hands.new.cache.now (C.view hands.new.canvas.now)) hands.new.marks.now) }
     ensures rows { OnOk result ((x : ℕ) → entry_has entry.now x ≡ true →
         AreSpriteRows scene.now (scene_drawsegs scene.now notes.now) entry.now clips.new x) }
     ensures passed { (es : List SpriteEntry) (i : ℕ) → i < length es →
