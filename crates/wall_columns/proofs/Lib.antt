@@ -7,3 +7,4 @@ pub mod NoteLemmas
 pub mod LeafLemmas
 pub mod MarkLemmas
 pub mod BuiltLemmas
+pub mod OverLemmas
