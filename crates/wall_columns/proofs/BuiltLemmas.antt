@@ -317,3 +317,44 @@ built-wall {v} {walls} {s} {facts} {first} {last} {notes} {note = note} d =
       planes = ap (λ (t : PlanesNow). t.planes) e;
       sound = sound-after_event s (step_of_wall v walls w).event d.built.sound;
     }
+
+-- what is drawn, by a fragment's value and its numbers
+pub wall-drawn : (v : ViewValue) (walls : List Wall) (s : PlanesNow) (facts : WallFacts) (first last : ℕ) (notes : List FragmentNote) (old checked new : ColumnState) (before between later : PlanesView) (places : SavePlaces) (note : FragmentNote)
+    (n : FragmentNumbers) (f : FragmentValue) → f ≡ fragment_of v facts first last → n ≡ f.numbers → IsBuilt v walls s (walls_view notes old) before.planes → first ≤ last → last < v.shape.width → v.shape.width ≤ FRAME_WIDTH →
+    checked.windows ≡ old.windows → now_of checked between ≡ floor_check n first last (ceiling_check n first last s) → places ≡ places_of n (length old.openings.saved) (last + 1 - first) →
+    take (length old.openings.saved) checked.openings.saved ≡ old.openings.saved → length checked.openings.saved ≡ places.end →
+    HasMarked f (columns_of f) checked new between later → HasSaved v f places (columns_of f) checked new.openings →
+    note ≡ note_at v (wall_of v facts first last) (length old.openings.saved) → WallDrawn v walls s facts first last notes old checked new before between later places note
+wall-drawn v walls s facts first last notes old checked new before between later places note n f e g built ordered within frame windows planes lists front total marked saved entry =
+    let numbers : n ≡ fragment_numbers v facts first last = g ∙ ap (λ (f : FragmentValue). f.numbers) e in
+    let P : FragmentNumbers → Type 0 = λ n. now_of checked between ≡ floor_check n first last (ceiling_check n first last s) in
+    let Q : FragmentNumbers → Type 0 = λ n. places ≡ places_of n (length old.openings.saved) (last + 1 - first) in
+    let R : FragmentValue → Type 0 = λ f. HasMarked f (columns_of f) checked new between later in
+    let S : FragmentValue → Type 0 = λ f. HasSaved v f places (columns_of f) checked new.openings in
+    record {
+      built = built;
+      ordered = ordered;
+      within = within;
+      frame = frame;
+      windows = windows;
+      planes = subst P numbers planes;
+      places = subst Q numbers lists;
+      front = front;
+      total = total;
+      marked = subst R e marked;
+      saved = subst S e saved;
+      note = entry;
+    }
+
+length_notes : (v : ViewValue) (place : ℕ) (walls : List Wall) → length (notes_from v place walls) ≡ length walls
+unfolding notes_from
+length_notes v place [] = refl
+length_notes v place (w ∷ ws) = ap suc (length_notes v _ ws)
+
+length_view : (v : ViewValue) (walls : List Wall) → length (view_notes v walls) ≡ length walls
+unfolding view_notes
+length_view v walls = length_notes v 0 walls
+
+-- there is a note for each fragment
+pub built-count : (v : ViewValue) (walls : List Wall) (s : PlanesNow) (state : WallsView) (planes : List Plane) → IsBuilt v walls s state planes → length state.notes ≡ length walls
+built-count v walls s state planes h = ap (λ (ds : List FragmentNote). length ds) h.notes ∙ length_view v walls

@@ -20,7 +20,10 @@ use Rattle.wall_columns.specs.declared.fault.DrawFault.TheVariants.{Planes, Open
 use Rattle.wall_columns.specs.Walls.{WallsView}
 use Rattle.wall_columns.specs.Places.{places_of}
 use Rattle.wall_columns.specs.Faults.{limit_of_fault, limit_of_result, IsLimitFault}
-use Rattle.wall_columns.specs.Leaves.{ceiling_check, floor_check, planes_over, openings_over, leaf_over, checks_over}
+use Rattle.visplanes.specs.declared.planes.PlaneNo.{PlaneNo}
+use Rattle.wall_columns.specs.declared.column_state.ColumnState.{ColumnState}
+use Rattle.wall_columns.specs.Columns.{plane_number}
+use Rattle.wall_columns.specs.Leaves.{now_of, ceiling_check, floor_check, planes_over, openings_over, leaf_over, checks_over}
 use Rattle.wall_columns.specs.Built.{limits_of, step_over, step_of_leaf, step_of_wall, with_wall}
 
 -- what holds where a call is done
@@ -76,3 +79,9 @@ none_over false count next e = refl
 pub openings_over-next : (room count : ℕ) (next : Option OverLimit) → None ≡ openings_over room count None → next ≡ openings_over room count next
 unfolding openings_over
 openings_over-next room count next e = none_over (nat_lt room count) count next e
+
+-- a state with the same current planes
+pub same_now : (old new : ColumnState) (planes : PlanesView) → new.floor ≡ old.floor → new.ceiling ≡ old.ceiling → now_of old planes ≡ now_of new planes
+same_now old new planes e f =
+    ap (λ (o : Option PlaneNo). let t : PlanesNow = record { planes = planes.planes; floor = plane_number o; ceiling = plane_number old.ceiling } in t) (sym e)
+    ∙ ap (λ (o : Option PlaneNo). let t : PlanesNow = record { planes = planes.planes; floor = plane_number new.floor; ceiling = plane_number o } in t) (sym f)
