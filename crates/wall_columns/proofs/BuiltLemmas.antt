@@ -15,7 +15,8 @@ use Rattle.wall_rules.specs.declared.WallFacts.{WallFacts}
 use Rattle.wall_rules.specs.Clips.{open_clip, clip_after, ceiling_rows, floor_rows}
 use Rattle.wall_rules.specs.Columns.{texture_column}
 use Rattle.wall_rules.specs.Edges.{edges_at}
-use Rattle.wall_rules.specs.Notes.{middle_columns, top_clips, bottom_clips, saved_by, saved_from, notes_from, openings_list, view_notes, note_at}
+use Rattle.wall_rules.specs.Openings.{saves_top, saves_bottom}
+use Rattle.wall_rules.specs.Notes.{room_if, middle_columns, top_clips, bottom_clips, saved_by, saved_from, notes_from, openings_list, view_notes, note_at}
 use Rattle.wall_rules.specs.Numbers.{fragment_numbers}
 use Rattle.wall_rules.specs.Strips.{marked_rows, ceiling_marks, floor_marks}
 use Rattle.wall_rules.specs.Walls.{Wall, wall_of, has_column, wall_edges, past_wall, clip_before, clip_past}
@@ -346,14 +347,15 @@ wall-drawn v walls s facts first last notes old checked new before between later
       note = entry;
     }
 
-length_notes : (v : ViewValue) (place : ℕ) (walls : List Wall) → length (notes_from v place walls) ≡ length walls
+length_notes : (v : ViewValue) (walls : List Wall) (place : ℕ) → length (notes_from v place walls) ≡ length walls
 unfolding notes_from
-length_notes v place [] = refl
-length_notes v place (w ∷ ws) = ap suc (length_notes v _ ws)
+length_notes v [] place = refl
+length_notes v (w ∷ ws) place =
+    ap suc (length_notes v ws (place + room_if w.numbers.masked w + room_if (saves_top w.numbers) w + room_if (saves_bottom w.numbers) w))
 
 length_view : (v : ViewValue) (walls : List Wall) → length (view_notes v walls) ≡ length walls
 unfolding view_notes
-length_view v walls = length_notes v 0 walls
+length_view v walls = length_notes v walls 0
 
 -- there is a note for each fragment
 pub built-count : (v : ViewValue) (walls : List Wall) (s : PlanesNow) (state : WallsView) (planes : List Plane) → IsBuilt v walls s state planes → length state.notes ≡ length walls

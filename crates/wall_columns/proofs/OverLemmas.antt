@@ -22,6 +22,9 @@ use Rattle.wall_columns.specs.Places.{places_of}
 use Rattle.wall_columns.specs.Faults.{limit_of_fault, limit_of_result, IsLimitFault}
 use Rattle.visplanes.specs.declared.planes.PlaneNo.{PlaneNo}
 use Rattle.wall_columns.specs.declared.column_state.ColumnState.{ColumnState}
+use Rattle.wall_rules.specs.declared.FragmentNote.{FragmentNote}
+use Rattle.wall_edges.specs.Fragments.{FragmentValue, fragment_of}
+use Rattle.wall_columns.specs.States.{walls_view}
 use Rattle.wall_columns.specs.Columns.{plane_number}
 use Rattle.wall_columns.specs.Leaves.{now_of, ceiling_check, floor_check, planes_over, openings_over, leaf_over, checks_over}
 use Rattle.wall_columns.specs.Built.{limits_of, step_over, step_of_leaf, step_of_wall, with_wall}
@@ -85,3 +88,14 @@ pub same_now : (old new : ColumnState) (planes : PlanesView) → new.floor ≡ o
 same_now old new planes e f =
     ap (λ (o : Option PlaneNo). let t : PlanesNow = record { planes = planes.planes; floor = plane_number o; ceiling = plane_number old.ceiling } in t) (sym e)
     ∙ ap (λ (o : Option PlaneNo). let t : PlanesNow = record { planes = planes.planes; floor = plane_number new.floor; ceiling = plane_number o } in t) (sym f)
+
+-- what is told of a fragment, by its value, its numbers and the parts of a state
+pub over-range : (v : ViewValue) (walls : List Wall) (facts : WallFacts) (first last : ℕ) (n : FragmentNumbers) (f : FragmentValue) → f ≡ fragment_of v facts first last → n ≡ f.numbers →
+    (notes : List FragmentNote) (columns : ColumnState) (state : WallsView) (planes : PlanesView) (s : PlanesNow) → walls_view notes columns ≡ state →
+    openings_over columns.openings.room (places_of n (length columns.openings.saved) (last + 1 - first)).end (checks_over planes.room n first last s)
+    ≡ step_over (limits_of state planes) s (length state.openings) (step_of_wall v walls (wall_of v facts first last))
+over-range v walls facts first last n f e g notes columns state planes s view =
+    let numbers : n ≡ fragment_numbers v facts first last = g ∙ ap (λ (f : FragmentValue). f.numbers) e in
+    ap (λ (n : FragmentNumbers). openings_over columns.openings.room (places_of n (length columns.openings.saved) (last + 1 - first)).end (checks_over planes.room n first last s)) numbers
+    ∙ step_over-wall v walls facts first last (walls_view notes columns) planes s (length columns.openings.saved)
+    ∙ ap (λ (w : WallsView). step_over (limits_of w planes) s (length w.openings) (step_of_wall v walls (wall_of v facts first last))) view
