@@ -2,3 +2,5 @@ pub mod Lists
 pub mod Ready
 pub mod Scenes
 pub mod Clipped
+pub mod Marks
+pub mod Passes

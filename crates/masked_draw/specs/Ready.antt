@@ -35,6 +35,20 @@ pub record IsListed (lumps : List Lump) (textures : TexturesView) (z : Heap) (li
   pub middle : (note_seg lists d).side < length lists.middles
   pub masked : IsSome d.masked → CanDrawMiddle lumps textures z lists d
 
+-- the middle texture of a note, if it is masked
+pub record IsMiddleNumber (lists : MaskedLists) (d : FragmentNote) (number : ℕ) : Type 0 where
+  pub masked : IsSome d.masked
+  pub is : number ≡ middle_by lists d
+
+-- the seg of a masked note, with its side and both its sectors, is among the lists
+pub record IsSeenNote (lists : MaskedLists) (d : FragmentNote) : Type 0 where
+  pub seg : d.seg_no < length lists.segs
+  pub front : (note_seg lists d).front < length lists.sectors
+  pub side : (note_seg lists d).side < length lists.sides
+  pub middle : (note_seg lists d).side < length lists.middles
+  pub some : IsSome (note_seg lists d).back
+  pub back : IfSome (note_seg lists d).back (λ back. back < length lists.sectors)
+
 -- a texture is the middle of a masked note
 pub record IsNotedMiddle (lists : MaskedLists) (notes : List FragmentNote) (number : ℕ) : Type 0 where
   pub note : FragmentNote

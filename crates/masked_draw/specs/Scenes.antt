@@ -1,5 +1,5 @@
 -- What stays while the masked pass runs, what a call of it paints, and what each of its calls asks.
-use Rattle.std.specs.Prelude.{◌≡◌, ◌≤◌, ◌<◌, ◌+◌, ℕ, ℤ, List, length, Unit, OnOk, Result}
+use Rattle.std.specs.Prelude.{◌≡◌, ◌≤◌, ◌<◌, ◌+◌, ℕ, ℤ, Bool, List, All, length, OnOk, Result}
 use Rattle.view_rules.specs.declared.TheConstants.{FRAME_WIDTH, FRAME_HEIGHT}
 use Rattle.outside.specs.Shelf.{ShelfView}
 use Rattle.lump_rules.specs.Contents.{lump_bytes}
@@ -16,7 +16,9 @@ use Rattle.sprite_rules.specs.Drawsegs.{Drawseg}
 use Rattle.texture_build.specs.Arts.{view_art}
 use Rattle.texture_build.specs.Draws.{HoldsArt, FitBeside, DrawsWith}
 use Rattle.masked_draw.specs.declared.scene.MaskScene.{MaskScene}
-use Rattle.masked_draw.specs.Lists.{MaskedLists, lists_of, noted_drawseg}
+use Rattle.picture_rules.specs.Noted.{AreNoted}
+use Rattle.masked_draw.specs.Lists.{MaskedLists, lists_of, noted_drawseg, noted_drawsegs}
+use Rattle.masked_draw.specs.Ready.{IsListed}
 
 -- the lists of the level
 abbrev pub scene_lists : MaskScene → MaskedLists
@@ -25,6 +27,9 @@ scene_lists s = lists_of s.segs.now s.sides.now s.sectors.now s.middles.now
 -- a note as the drawn fragment that it stands for
 abbrev pub scene_drawseg : MaskScene → FragmentNote → Drawseg
 scene_drawseg s d = noted_drawseg s.view.now s.textures.now (scene_lists s) s.openings.now d
+
+abbrev pub scene_drawsegs : MaskScene → List FragmentNote → List Drawseg
+scene_drawsegs s notes = noted_drawsegs s.view.now s.textures.now (scene_lists s) s.openings.now notes
 
 -- the art of the scene, where the files have these contents
 abbrev pub scene_art : List (List ℕ) → MaskScene → Art
@@ -45,6 +50,13 @@ pub record CanPaint (s : MaskScene) (st : MaskState) : Type 0 where
   pub colormap : s.colormap.0 < st.cache.lumps
   pub left : st.canvas.left + s.view.now.shape.width ≤ FRAME_WIDTH
   pub top : st.canvas.top + s.view.now.shape.height ≤ FRAME_HEIGHT
+
+-- what each call that comes to the fragments asks: `marks` has an entry for each opening
+pub record CanPass (s : MaskScene) (notes : List FragmentNote) (st : MaskState) (marks : List Bool) : Type 0 where
+  pub paint : CanPaint s st
+  pub noted : AreNoted s.view.now.shape notes s.openings.now
+  pub listed : All (IsListed s.dir.now.lumps s.textures.now st.cache (scene_lists s)) notes
+  pub room : length s.openings.now ≤ length marks
 
 -- A call by the dots that it gives the canvas, and by the textures and the lumps that it paints
 -- with.

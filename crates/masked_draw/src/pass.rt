@@ -2,20 +2,26 @@
 //
 // Rules: `sprite_rules`, Clips and Middles; `specs/Lists`, `specs/Ready`. The original:
 // `R_DrawMasked` and `R_DrawSprite`, r_things.c.
-ghost use Rattle.std.specs.Prelude.{◌≡◌, ◌<◌, ◌≤◌, ◌+◌, ℕ, List, All, OnOk, length, map};
+ghost use Rattle.std.specs.Prelude.{◌≡◌, ◌<◌, ◌≤◌, ◌+◌, ◌^◌, ◌≤ℤ◌, ◌<ℤ◌, ℕ, pos, true, false, List, All, OnOk, Some, None, length, slice_get};
 ghost use Rattle.std.specs.List.{AllPass};
 ghost use Rattle.view_rules.specs.declared.TheConstants.{FRAME_WIDTH, FRAME_HEIGHT};
 ghost use Rattle.lump_rules.specs.Contents.{lump_bytes};
 ghost use Rattle.lump_cache.specs.Caches.{cache_fault};
+ghost use Rattle.sprite_rules.specs.declared.SpriteEntry.{SpriteEntry};
+ghost use Rattle.sprite_rules.specs.Drawsegs.{entry_has};
 ghost use Rattle.sprite_rules.specs.Order.{draw_order};
-ghost use Rattle.sprite_rules.specs.Middles.{masked_dots};
+ghost use Rattle.sprite_rules.specs.Middles.{masked_dots, middles_at, sprites_from};
 ghost use Rattle.vissprites.specs.Bounds.{lies_within, has_lump_below};
-ghost use Rattle.picture_rules.specs.Noted.{AreNoted};
+ghost use Rattle.picture_rules.specs.Noted.{AreNoted, IsWholeNote};
 ghost use Rattle.pixel_strips.specs.Dotted.{HasDots, PlacedAlike};
 ghost use Rattle.texture_build.specs.Arts.{view_art};
 ghost use Rattle.texture_build.specs.Draws.{HoldsArt, FitBeside, DrawsWith};
+ghost use Rattle.masked_draw.specs.Clipped.{AreSpriteRows, TakesRows, row_in};
 ghost use Rattle.masked_draw.specs.Lists.{lists_of, noted_drawsegs};
-ghost use Rattle.masked_draw.specs.Ready.{IsListed, IsNotedMiddle, IsSpriteLump};
+ghost use Rattle.masked_draw.specs.Marks.{MarkedTo, MarksBy, MissesColumns, is_passed, mark_in, unmarked_dots};
+ghost use Rattle.masked_draw.specs.Passes.{DrawsSprite, PassesSprite};
+ghost use Rattle.masked_draw.specs.Ready.{IsListed, IsMiddleNumber, IsNotedMiddle, IsSpriteLump};
+ghost use Rattle.masked_draw.specs.Scenes.{CanPaint, CanPass, PaintsDots, scene_drawseg, scene_drawsegs, scene_lists, state};
 
 use crate::clips::{SpriteClips, is_behind};
 use crate::middles::paint_middle;
@@ -110,7 +116,17 @@ pub fn draw_masked<S: Shelf, C: Canvas>(
 }
 
 // What stays of the tools.
-fn scene_of<'a, S: Shelf, C: Canvas>(tools: &MaskedTools<'a, S, C>) -> MaskScene<'a> {
+fn scene_of<'a, S: Shelf, C: Canvas>(tools: &MaskedTools<'a, S, C>) -> MaskScene<'a>
+    ensures view { result.view ≡ tools.now.view }
+    ensures textures { result.textures ≡ tools.now.textures }
+    ensures dir { result.dir ≡ tools.now.dir }
+    ensures colormap { result.colormap ≡ tools.now.colormap }
+    ensures openings { result.openings ≡ tools.now.openings }
+    ensures segs { result.segs ≡ tools.now.segs }
+    ensures sides { result.sides ≡ tools.now.sides }
+    ensures sectors { result.sectors ≡ tools.now.sectors }
+    ensures middles { result.middles ≡ tools.now.middles }
+{
     MaskScene {
         view: tools.view,
         textures: tools.textures,
@@ -124,28 +140,63 @@ fn scene_of<'a, S: Shelf, C: Canvas>(tools: &MaskedTools<'a, S, C>) -> MaskScene
     }
 }
 
-// Draws the sprites, each after the masked columns behind it.
+// Draws the sprites, each after the masked columns behind it. No column is painted before.
 fn draw_sprites<S: Shelf, C: Canvas>(
     scene: &MaskScene<'_>,
     hands: &mut MaskHands<'_, S, C>,
     notes: &[FragmentNote],
     sprites: &Sprites,
-) -> Result<(), CacheFault> {
+) -> Result<(), CacheFault>
+    requires ready { CanPass scene.now notes.now (state (S.view hands.old.shelf.now)
+        hands.old.cache.now (C.view hands.old.canvas.now)) hands.old.marks.now }
+    requires unmarked { (p : ℕ) → mark_in hands.old.marks.now p ≡ false }
+    requires columns { AllPass (lies_within scene.now.view.now.shape.width) sprites.now }
+    requires lumps { AllPass (has_lump_below (length scene.now.dir.now.lumps)) sprites.now }
+    ensures same_cache { hands.new.cache.ghost_name ≡ hands.old.cache.ghost_name }
+    ensures same_shelf { hands.new.shelf.ghost_name ≡ hands.old.shelf.ghost_name }
+    ensures same_canvas { hands.new.canvas.ghost_name ≡ hands.old.canvas.ghost_name }
+    ensures same_marks { hands.new.marks.ghost_name ≡ hands.old.marks.ghost_name }
+    ensures marks { length hands.new.marks.now ≡ length hands.old.marks.now }
+    ensures marked { OnOk result (MarkedTo (scene_drawseg scene.now) notes.now
+        (draw_order sprites.now) (length notes.now) (λ k. length (draw_order sprites.now))
+        hands.new.marks.now) }
+    ensures paints { PaintsDots C.mark scene.now (IsNotedMiddle (scene_lists scene.now) notes.now)
+        (IsSpriteLump sprites.now)
+        (λ art. sprites_from scene.now.view.now art (scene_drawsegs scene.now notes.now)
+        (draw_order sprites.now) 0 (draw_order sprites.now))
+        (state (S.view hands.old.shelf.now) hands.old.cache.now (C.view hands.old.canvas.now))
+        (state (S.view hands.new.shelf.now) hands.new.cache.now (C.view hands.new.canvas.now))
+        result }
+{
     let mut clips = SpriteClips::new();
     for entry in sprites.sorted() {
-        if entry.first <= entry.last {
-            draw_sprite(scene, hands, notes, &entry, &mut clips)?;
-        }
+        draw_sprite(scene, hands, notes, &entry, &mut clips)?;
     }
     Ok(())
 }
 
-// Draws the masked columns that are left.
+// Draws the masked columns that are left, where all sprites are drawn.
 fn draw_middles<S: Shelf, C: Canvas>(
     scene: &MaskScene<'_>,
     hands: &mut MaskHands<'_, S, C>,
     notes: &[FragmentNote],
-) -> Result<(), CacheFault> {
+) -> Result<(), CacheFault>
+    requires ready { CanPass scene.now notes.now (state (S.view hands.old.shelf.now)
+        hands.old.cache.now (C.view hands.old.canvas.now)) hands.old.marks.now }
+    ensures same_cache { hands.new.cache.ghost_name ≡ hands.old.cache.ghost_name }
+    ensures same_shelf { hands.new.shelf.ghost_name ≡ hands.old.shelf.ghost_name }
+    ensures same_canvas { hands.new.canvas.ghost_name ≡ hands.old.canvas.ghost_name }
+    ensures same_marks { hands.new.marks.ghost_name ≡ hands.old.marks.ghost_name }
+    ensures marks { length hands.new.marks.now ≡ length hands.old.marks.now }
+    ensures paints { (es : List SpriteEntry) → MarkedTo (scene_drawseg scene.now) notes.now es
+        (length notes.now) (λ k. length es) hands.old.marks.now →
+        PaintsDots C.mark scene.now (IsNotedMiddle (scene_lists scene.now) notes.now) (λ (n : ℕ). ⊥)
+        (λ art. middles_at scene.now.view.now art (scene_drawsegs scene.now notes.now) es None
+        (length notes.now))
+        (state (S.view hands.old.shelf.now) hands.old.cache.now (C.view hands.old.canvas.now))
+        (state (S.view hands.new.shelf.now) hands.new.cache.now (C.view hands.new.canvas.now))
+        result }
+{
     for k in (0..notes.len()).rev() {
         let note = &notes[k];
         paint_middle(scene, hands, note, k as u16, note.first, note.last)?;
@@ -153,24 +204,91 @@ fn draw_middles<S: Shelf, C: Canvas>(
     Ok(())
 }
 
-// Draws a sprite that has columns, after the masked columns behind it.
+// Draws a sprite, where it has a column, after the masked columns behind it. It is the next of the
+// sprites whose masked columns are painted.
 fn draw_sprite<S: Shelf, C: Canvas>(
     scene: &MaskScene<'_>,
     hands: &mut MaskHands<'_, S, C>,
     notes: &[FragmentNote],
     entry: &SpriteEntry,
     clips: &mut SpriteClips,
-) -> Result<(), CacheFault> {
-    let first = entry.first as u16;
-    let last = entry.last as u16;
-    clips.clear(first, last);
-    for k in (0..notes.len()).rev() {
-        pass_fragment(scene, hands, &notes[k], k as u16, entry, clips)?;
+) -> Result<(), CacheFault>
+    requires ready { CanPass scene.now notes.now (state (S.view hands.old.shelf.now)
+        hands.old.cache.now (C.view hands.old.canvas.now)) hands.old.marks.now }
+    requires within { lies_within scene.now.view.now.shape.width entry.now ≡ true }
+    requires lump { entry.now.lump < length scene.now.dir.now.lumps }
+    ensures same_cache { hands.new.cache.ghost_name ≡ hands.old.cache.ghost_name }
+    ensures same_shelf { hands.new.shelf.ghost_name ≡ hands.old.shelf.ghost_name }
+    ensures same_canvas { hands.new.canvas.ghost_name ≡ hands.old.canvas.ghost_name }
+    ensures same_marks { hands.new.marks.ghost_name ≡ hands.old.marks.ghost_name }
+    ensures marks { length hands.new.marks.now ≡ length hands.old.marks.now }
+    ensures sprite { (es : List SpriteEntry) (i : ℕ) → i < length es →
+        slice_get es i ≡ Some entry.now →
+        MarkedTo (scene_drawseg scene.now) notes.now es (length notes.now) (λ k. i)
+        hands.old.marks.now →
+        DrawsSprite C.mark scene.now notes.now es i entry.now hands.new.marks.now
+        (state (S.view hands.old.shelf.now) hands.old.cache.now (C.view hands.old.canvas.now))
+        (state (S.view hands.new.shelf.now) hands.new.cache.now (C.view hands.new.canvas.now))
+        result }
+{
+    if entry.last < entry.first {
+        return Ok(());
     }
+    let first = column_of(entry.first);
+    let last = column_of(entry.last);
+    clips.clear(first, last);
+    pass_fragments(scene, hands, notes, entry, clips)?;
     paint_sprite(scene, hands, clips, entry, first, last)
 }
 
-// Paints the masked columns of a fragment that is behind a sprite, or takes its clips.
+// The column of that number.
+fn column_of(x: i32) -> u16
+    requires least { pos 0 ≤ℤ x }
+    requires greatest { x <ℤ pos (2 ^ 16) }
+    ensures { x ≡ pos result }
+{
+    x as u16
+}
+
+// Paints the masked columns behind a sprite, and takes the clips of the fragments in front of it,
+// the last fragment first. No clip was taken in the sprite's columns.
+fn pass_fragments<S: Shelf, C: Canvas>(
+    scene: &MaskScene<'_>,
+    hands: &mut MaskHands<'_, S, C>,
+    notes: &[FragmentNote],
+    entry: &SpriteEntry,
+    clips: &mut SpriteClips,
+) -> Result<(), CacheFault>
+    requires ready { CanPass scene.now notes.now (state (S.view hands.old.shelf.now)
+        hands.old.cache.now (C.view hands.old.canvas.now)) hands.old.marks.now }
+    requires within { lies_within scene.now.view.now.shape.width entry.now ≡ true }
+    requires ordered { entry.now.first ≤ℤ entry.now.last }
+    requires tops { (x : ℕ) → entry_has entry.now x ≡ true → row_in clips.old.tops x ≡ None }
+    requires bottoms { (x : ℕ) → entry_has entry.now x ≡ true → row_in clips.old.bottoms x ≡ None }
+    ensures same_cache { hands.new.cache.ghost_name ≡ hands.old.cache.ghost_name }
+    ensures same_shelf { hands.new.shelf.ghost_name ≡ hands.old.shelf.ghost_name }
+    ensures same_canvas { hands.new.canvas.ghost_name ≡ hands.old.canvas.ghost_name }
+    ensures same_marks { hands.new.marks.ghost_name ≡ hands.old.marks.ghost_name }
+    ensures marks { length hands.new.marks.now ≡ length hands.old.marks.now }
+    ensures rows { OnOk result ((x : ℕ) → entry_has entry.now x ≡ true →
+        AreSpriteRows scene.now (scene_drawsegs scene.now notes.now) entry.now clips.new x) }
+    ensures passed { (es : List SpriteEntry) (i : ℕ) → i < length es →
+        slice_get es i ≡ Some entry.now →
+        MarkedTo (scene_drawseg scene.now) notes.now es (length notes.now) (λ k. i)
+        hands.old.marks.now →
+        PassesSprite C.mark scene.now notes.now es i hands.new.marks.now
+        (state (S.view hands.old.shelf.now) hands.old.cache.now (C.view hands.old.canvas.now))
+        (state (S.view hands.new.shelf.now) hands.new.cache.now (C.view hands.new.canvas.now))
+        result }
+{
+    for k in (0..notes.len()).rev() {
+        pass_fragment(scene, hands, &notes[k], k as u16, entry, clips)?;
+    }
+    Ok(())
+}
+
+// Paints the masked columns of fragment `number` where it is behind a sprite, or else takes its
+// clips.
 fn pass_fragment<S: Shelf, C: Canvas>(
     scene: &MaskScene<'_>,
     hands: &mut MaskHands<'_, S, C>,
@@ -178,21 +296,54 @@ fn pass_fragment<S: Shelf, C: Canvas>(
     number: u16,
     entry: &SpriteEntry,
     clips: &mut SpriteClips,
-) -> Result<(), CacheFault> {
-    let first = entry.first as u16;
-    let last = entry.last as u16;
-    if counts(note, first, last) {
-        let from = first.max(note.first);
-        let to = last.min(note.last);
-        if is_behind(note, &scene.segs[note.seg_no as usize], entry) {
-            return paint_middle(scene, hands, note, number, from, to);
-        }
-        clips.take(note, scene.openings, entry, from, to);
+) -> Result<(), CacheFault>
+    requires ready { CanPaint scene.now (state (S.view hands.old.shelf.now) hands.old.cache.now
+        (C.view hands.old.canvas.now)) }
+    requires whole { IsWholeNote scene.now.view.now.shape scene.now.openings.now note.now }
+    requires listed { IsListed scene.now.dir.now.lumps scene.now.textures.now hands.old.cache.now
+        (scene_lists scene.now) note.now }
+    requires marks { length scene.now.openings.now ≤ length hands.old.marks.now }
+    requires within { lies_within scene.now.view.now.shape.width entry.now ≡ true }
+    requires ordered { entry.now.first ≤ℤ entry.now.last }
+    ensures same_cache { hands.new.cache.ghost_name ≡ hands.old.cache.ghost_name }
+    ensures same_shelf { hands.new.shelf.ghost_name ≡ hands.old.shelf.ghost_name }
+    ensures same_canvas { hands.new.canvas.ghost_name ≡ hands.old.canvas.ghost_name }
+    ensures same_marks { hands.new.marks.ghost_name ≡ hands.old.marks.ghost_name }
+    ensures marks { length hands.new.marks.now ≡ length hands.old.marks.now }
+    ensures marked { OnOk result (MarksBy note.now
+        (is_passed entry.now (scene_drawseg scene.now note.now)) hands.old.marks.now
+        hands.new.marks.now) }
+    ensures rows { (x : ℕ) → entry_has entry.now x ≡ true →
+        TakesRows entry.now (scene_drawseg scene.now note.now) clips.old clips.new x }
+    ensures paints { PaintsDots C.mark scene.now (IsMiddleNumber (scene_lists scene.now) note.now)
+        (λ (n : ℕ). ⊥)
+        (λ art. unmarked_dots scene.now.view.now art hands.old.marks.now note.now
+        (is_passed entry.now (scene_drawseg scene.now note.now)) number
+        (scene_drawseg scene.now note.now))
+        (state (S.view hands.old.shelf.now) hands.old.cache.now (C.view hands.old.canvas.now))
+        (state (S.view hands.new.shelf.now) hands.new.cache.now (C.view hands.new.canvas.now))
+        result }
+{
+    let first = column_of(entry.first);
+    let last = column_of(entry.last);
+    if !counts(note, first, last) {
+        return Ok(());
     }
+    let from = first.max(note.first);
+    let to = last.min(note.last);
+    if is_behind(note, &scene.segs[note.seg_no as usize], entry) {
+        return paint_middle(scene, hands, note, number, from, to);
+    }
+    clips.take(note, scene.openings, entry, from, to);
     Ok(())
 }
 
 // Whether a fragment has one of the columns, and clips or is masked.
-fn counts(note: &FragmentNote, first: u16, last: u16) -> bool {
-    note.first <= last && first <= note.last && (note.silhouette != 0 || note.masked.is_some())
+fn counts(note: &FragmentNote, first: u16, last: u16) -> bool
+    ensures yes { result ≡ true → (note.now.first ≤ last) × (first ≤ note.now.last) }
+    ensures no { result ≡ false → MissesColumns note.now first last }
+{
+    let misses = last < note.first || note.last < first;
+    let is_plain = note.silhouette == 0 && note.masked.is_none();
+    !misses && !is_plain
 }

@@ -1,32 +1,21 @@
 -- Laws of calls that draw: none, one after another, one that ends the whole, and a layer above.
-use Rattle.std.proofs.Common.{◌≡◌, ◌<◌, ◌⊎◌, ℕ, ℤ, List, length, Bool, Result, Ok, Err, refl, sym, subst, ap, ◌∙◌, inl, inr, IsErrAnd, MatchResult}
-use Rattle.std.specs.Prelude.{IfErr, OnOk, IsTrue}
+use Rattle.std.proofs.Common.{◌≡◌, ◌⊎◌, ℕ, List, Result, Ok, Err, refl, sym, subst, ap, ◌∙◌, inl, inr, IsErrAnd, MatchResult}
+use Rattle.std.specs.Prelude.{OnOk, IsTrue}
 use Rattle.std.proofs.lemmas.Result.{err_from_is_err_and}
-use Rattle.outside.specs.Shelf.{ShelfView, IsLaterShelf, NameFiles}
+use Rattle.outside.specs.Shelf.{ShelfView}
 use Rattle.outside.specs.declared.fault.Fault.{Fault}
 use Rattle.outside.specs.declared.fault.Fault.TheVariants.{Refused, ReadFault, ZoneFull, OutOfMemory}
-use Rattle.outside.specs.Faults.{fault_above, FaultFits, HasCauseAt, HasCauses, ResultIs}
+use Rattle.outside.specs.Faults.{fault_above, HasCauseAt}
 use Rattle.outside.proofs.ShelfLemmas.{follows_none, follows_then, all_stand_later}
-use Rattle.lump_rules.specs.declared.wad.Lump.{Lump}
-use Rattle.lump_rules.specs.Contents.{AllWithin, lump_bytes}
-use Rattle.zone_rules.specs.declared.Tag.TheVariants.{Cache}
 use Rattle.zone_rules.specs.Zones.{Heap}
-use Rattle.zone_rules.specs.Orders.{Item, IsInOrder, KeepsOrder}
+use Rattle.zone_rules.specs.Orders.{Item, KeepsOrder}
 use Rattle.zone_rules.proofs.OrderLemmas.{order_none, order_then}
 use Rattle.wad_dir.specs.DirectoryView.{DirectoryView}
-use Rattle.lump_cache.specs.declared.fault.CacheFault.{CacheFault}
-use Rattle.lump_cache.specs.Caches.{IsAtRest, IsFaithful, KeepsCounts, cache_fault, composite_owner}
 use Rattle.lump_cache.specs.Calls.{HoldContents, IfFull, InOrderAt, IsFullFor}
-use Rattle.lump_cache.specs.Fetches.{FetchesLump}
 use Rattle.lump_cache.proofs.CallLemmas.{cause_later, full_at, order_at, result_above}
-use Rattle.lump_cache.proofs.FetchLemmas.{fetch_reads}
-use Rattle.art_rules.specs.declared.ColumnLookup.{ColumnLookup}
-use Rattle.texture_build.specs.Asked.{HasColumnAsked, IsFullForColumn, IsSmall, IsSmallBeside, IsPatch, size_of}
-use Rattle.texture_build.specs.Composites.{AreComposites}
-use Rattle.texture_build.specs.Sources.{column_in}
+use Rattle.texture_build.specs.Asked.{IsSmall, IsSmallBeside, IsPatch, size_of}
 use Rattle.texture_build.specs.Views.{TexturesView, prepared_texture}
 use Rattle.texture_build.specs.Draws.{KeepsArt, HoldsArt, IsNoReadFault, IsFullForTexture, DrawsWith}
-use Rattle.texture_build.proofs.ReadyLemmas.{composites_kept}
 
 -- nothing happened
 pub keeps_art-none : (view : ShelfView) (dir : DirectoryView) (textures : TexturesView) (z : Heap) →
@@ -321,106 +310,3 @@ on_ok-mapped {A} {G = G} P above (Ok x) result is p = subst (λ (r : Result A G)
 on_ok-mapped {A} {G = G} P above (Err e) result is p =
     let s = err_from_is_err_and result is in
     subst (λ (r : Result A G). OnOk r P) (sym s.1) tt
-
-no_read-fits : {A R : Type 0} (steady : Bool) (expected : Result A R) (fault : Fault R) →
-    IsTrue steady → FaultFits steady expected fault → IsNoReadFault fault
-no_read-fits steady expected (Refused reason) is k = tt
-no_read-fits steady expected ReadFault is k = k is
-no_read-fits steady expected (ZoneFull wanted widest) is k = tt
-no_read-fits steady expected OutOfMemory is k = tt
-
-no_read-answers : {A : Type 0} (steady : Bool) (expected : Result (Unit {0}) ⊥)
-    (value : A → Unit {0}) (result : Result A CacheFault) → IsTrue steady →
-    ResultIs cache_fault steady value expected result →
-    IfErr result (λ fault. IsNoReadFault (cache_fault fault))
-no_read-answers steady expected value (Ok done) is k = tt
-no_read-answers steady expected value (Err fault) is k =
-    no_read-fits steady expected (cache_fault fault) is k.err
-
-full-texture : (lumps : List Lump) (textures : TexturesView) (z : Heap) (number : ℕ) (column : ℤ)
-    (result : Result (Unit {0}) CacheFault) (Q : ℕ → ℕ → Type 0) →
-    IfErr result (λ fault. IfFull (cache_fault fault)
-    (IsFullForColumn lumps number (prepared_texture textures number)
-    (column_in (prepared_texture textures number) column) z)) →
-    IfErr result (λ fault. IfFull (cache_fault fault) (λ wanted widest.
-    IsFullForTexture (λ n. n ≡ number) lumps textures z wanted widest ⊎ Q wanted widest))
-full-texture lumps textures z number column (Ok done) Q k = tt
-full-texture lumps textures z number column (Err fault) Q k = full_at (cache_fault fault)
-    (λ wanted widest full. inl (record { number = number; column = column; is = refl; full = full })) k
-
-full-lump : (lumps : List Lump) (textures : TexturesView) (among : ℕ → Type 0)
-    (dir : DirectoryView) (z : Heap) (lump : ℕ) (result : Result (Unit {0}) CacheFault) →
-    IfErr result (λ fault. IfFull (cache_fault fault) (IsFullFor (λ number. number ≡ lump) dir z)) →
-    IfErr result (λ fault. IfFull (cache_fault fault) (λ wanted widest.
-    IsFullForTexture among lumps textures z wanted widest
-    ⊎ IsFullFor (λ number. number ≡ lump) dir z wanted widest))
-full-lump lumps textures among dir z lump (Ok done) k = tt
-full-lump lumps textures among dir z lump (Err fault) k =
-    full_at (cache_fault fault) (λ wanted widest full. inr full) k
-
-module _ {view after : ShelfView} {dir : DirectoryView} {textures : TexturesView} {old new : Heap}
-    {result : Result (Unit {0}) CacheFault} where
-  -- a texture column was made live: the clauses of `ready_at`, by a column that has that lookup
-  pub draws-ready : {pictures : ℕ → Type 0} (number : ℕ) (column : ℤ) (lookup : ColumnLookup) →
-      lookup ≡ column_in (prepared_texture textures number) column →
-      IsLaterShelf view after → HasCauses cache_fault view.faults after.faults result →
-      KeepsCounts old new →
-      ((colormap count : ℕ) → IsAtRest colormap count old → IsAtRest colormap count new) →
-      ((contents : List (List ℕ)) → NameFiles view dir.files contents →
-      IsFaithful contents dir.lumps old → IsFaithful contents dir.lumps new) →
-      ((contents : List (List ℕ)) → HoldContents view dir old contents →
-      AreComposites (lump_bytes contents dir.lumps) textures old →
-      AreComposites (lump_bytes contents dir.lumps) textures new) →
-      ((contents : List (List ℕ)) → NameFiles view dir.files contents →
-      AllWithin contents dir.lumps →
-      ResultIs cache_fault view.steady (λ (done : Unit {0}). done) (Ok tt) result) →
-      IfErr result (λ fault. IfFull (cache_fault fault)
-      (IsFullForColumn dir.lumps number (prepared_texture textures number) lookup old)) →
-      ((items : List Item) →
-      HasColumnAsked items dir.lumps number (prepared_texture textures number) lookup →
-      IsInOrder items old →
-      MatchResult result (λ _. KeepsOrder items old new view.taken after.taken)
-      (λ fault. InOrderAt (cache_fault fault)
-      (KeepsOrder items old new view.taken after.taken))) →
-      DrawsWith cache_fault (λ n. n ≡ number) pictures view after dir textures old new result
-  draws-ready {pictures} number column lookup is follows causes counts rest faithful composites
-      answers full order = record {
-        keeps = record {
-          follows = follows;
-          counts = counts;
-          rest = rest;
-          faithful = faithful;
-          composites = composites;
-        };
-        causes = causes;
-        steady = λ contents stand within steady. no_read-answers view.steady (Ok tt)
-            (λ (done : Unit {0}). done) result steady (answers contents stand within);
-        full = full-texture dir.lumps textures old number column result (IsFullFor pictures dir old)
-            (subst (λ (l : ColumnLookup). IfErr result (λ fault. IfFull (cache_fault fault)
-            (IsFullForColumn dir.lumps number (prepared_texture textures number) l old))) is full);
-        order = λ items asked all k. order items
-            (subst (λ (l : ColumnLookup).
-            HasColumnAsked items dir.lumps number (prepared_texture textures number) l) (sym is)
-            (asked number column refl)) k;
-      }
-
-  -- a lump was made live, and nothing pinned
-  pub draws-fetch : {among : ℕ → Type 0} (lump : ℕ) → lump < length dir.lumps →
-      FetchesLump dir lump Cache view after old new result →
-      DrawsWith cache_fault among (λ number. number ≡ lump) view after dir textures old new result
-  draws-fetch {among} lump there fetched =
-      let reads = fetch_reads fetched there in record {
-        keeps = record {
-          follows = reads.keeps.follows;
-          counts = reads.keeps.counts;
-          rest = reads.keeps.rest;
-          faithful = reads.keeps.faithful;
-          composites = λ contents hold k. composites_kept (lump_bytes contents dir.lumps) textures old
-              new (λ number. fetched.others (composite_owner number) refl) k;
-        };
-        causes = reads.causes;
-        steady = λ contents stand within steady. no_read-answers view.steady (Ok tt)
-            (λ (done : Unit {0}). done) result steady (fetched.answers contents stand within);
-        full = full-lump dir.lumps textures among dir old lump result reads.full;
-        order = λ items asked all k. reads.order items all k;
-      }

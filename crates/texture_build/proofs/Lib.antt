@@ -10,3 +10,5 @@ pub mod TexelLemmas
 pub mod PrepareLemmas
 pub mod DrawLemmas
 pub mod BesideLemmas
+pub mod LiveLemmas
+pub mod LentLemmas

@@ -1,3 +1,5 @@
+pub mod PaintedLemmas
+pub mod PlannedLemmas
 pub mod ClipLemmas
 pub mod PartLemmas
 pub mod PlanLemmas

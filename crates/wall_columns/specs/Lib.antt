@@ -10,3 +10,4 @@ pub mod Columns
 pub mod Leaves
 pub mod Places
 pub mod States
+pub mod Painted

@@ -41,6 +41,11 @@ strips_by n plan =
 abbrev pub HasRows : WallStrip → Type 0
 HasRows s = s.rows.first ≤ℤ s.rows.last
 
+-- no strip of a plan has rows
+abbrev pub HasNoRows : ColumnPlan → Type 0
+HasNoRows plan = (plan.middle.last <ℤ plan.middle.first)
+    × ((plan.top.last <ℤ plan.top.first) × (plan.bottom.last <ℤ plan.bottom.first))
+
 -- rows, where there are some, are in a view of that height
 abbrev pub AreRowsIn : ℕ → RowRange → Type 0
 AreRowsIn height rows = rows.first ≤ℤ rows.last → (pos 0 ≤ℤ rows.first) × (rows.last <ℤ pos height)

@@ -1,0 +1,131 @@
+-- Laws of the notes of a scene as drawn fragments, and of what the calls ask of them.
+use Rattle.std.proofs.Common.{◌≡◌, ℕ, ◌+◌, ◌<◌, ◌≤◌, ℤ, pos, ◌≤ℤ◌, ◌≢◌, Bool, true, false, List, Option, Some, None, length, map, get_or, refl, sym, ap, ◌∙◌, subst, arith}
+use Rattle.std.specs.Prelude.{◌&&◌, ◌==◌, not, nat_le, int_lt, bit_and, IfSome, IsSome, option_map, slice_get, All, Contains, Result, slice_index_or}
+use Rattle.std.proofs.lemmas.Bool.{and_parts, leb-true}
+use Rattle.std.proofs.lemmas.Bool.Decides.{nat_tests}
+use Rattle.std.proofs.lemmas.Option.{gets}
+use Rattle.std.proofs.lemmas.List.{length-map}
+use Rattle.std.proofs.lemmas.Option.{slice_get-map, slice_get_within}
+use Rattle.word_rules.specs.Words.{minus_one}
+use Rattle.lump_rules.specs.declared.wad.Lump.{Lump}
+use Rattle.zone_rules.specs.Zones.{Heap}
+use Rattle.lump_cache.specs.declared.fault.CacheFault.{CacheFault}
+use Rattle.lump_cache.specs.Caches.{KeepsCounts}
+use Rattle.view_rules.specs.declared.ViewShape.{ViewShape}
+use Rattle.pixel_rules.specs.declared.Painter.{Painter}
+use Rattle.pixel_rules.specs.Dots.{Dot}
+use Rattle.pixel_rules.specs.Art.{Art}
+use Rattle.wall_rules.specs.declared.FragmentNote.{FragmentNote}
+use Rattle.wall_rules.specs.Notes.{clip_row_at}
+use Rattle.sprite_rules.specs.declared.SpriteEntry.{SpriteEntry}
+use Rattle.sprite_rules.specs.Drawsegs.{Drawseg, drawseg_has, is_behind}
+use Rattle.sprite_rules.specs.Clips.{gives_bottom, gives_top}
+use Rattle.picture_rules.specs.Noted.{AreNoted, IsWholeNote, IsClip, least_clip, greatest_clip}
+use Rattle.texture_build.specs.Draws.{CanDraw}
+use Rattle.texture_build.specs.Views.{TexturesView}
+use Rattle.masked_draw.specs.declared.scene.MaskScene.{MaskScene}
+use Rattle.masked_draw.specs.Lists.{MaskedLists, noted_drawseg, noted_drawsegs, middle_by}
+use Rattle.masked_draw.specs.Ready.{IsListed, IsMiddleNumber, IsNotedMiddle, CanDrawMiddle}
+use Rattle.masked_draw.specs.Scenes.{MaskState, CanPaint, CanPass, PaintsDots, scene_drawseg, scene_drawsegs, scene_lists}
+use Rattle.masked_draw.proofs.EntryLemmas.{IsSegOf}
+use Rattle.masked_draw.proofs.PassedLemmas.{HasColumnsOf, ApartNotes}
+use Rattle.masked_draw.proofs.StepLemmas.{can_paint-later}
+
+-- the fragments by number
+pub scene-columns : (s : MaskScene) (d : FragmentNote) → HasColumnsOf d (scene_drawseg s d)
+unfolding noted_drawseg
+scene-columns s d = record { first = refl; last = refl; masked = refl }
+
+pub scene-seg : (s : MaskScene) (d : FragmentNote) → IsSegOf d (scene_drawseg s d)
+unfolding noted_drawseg
+scene-seg s d = record { first = refl; last = refl; has_bottom = refl; has_top = refl; bottom_height = refl; top_height = refl }
+
+pub scene-length : (s : MaskScene) (notes : List FragmentNote) → length (scene_drawsegs s notes) ≡ length notes
+unfolding noted_drawsegs
+scene-length s notes = length-map notes (scene_drawseg s)
+
+pub scene-get : (s : MaskScene) (notes : List FragmentNote) (k : ℕ) (d : FragmentNote) → slice_get notes k ≡ Some d → slice_get (scene_drawsegs s notes) k ≡ Some (scene_drawseg s d)
+unfolding noted_drawsegs
+scene-get s notes k d e = slice_get-map (scene_drawseg s) notes k ∙ ap (option_map (scene_drawseg s)) e
+
+-- what the notes are
+pub scene-apart : {shape : ViewShape} {notes : List FragmentNote} {openings : List ℤ} → AreNoted shape notes openings → ApartNotes notes
+scene-apart noted = record { at = noted.apart }
+
+pub scene-whole : {shape : ViewShape} {notes : List FragmentNote} {openings : List ℤ} (k : ℕ) (d : FragmentNote) → AreNoted shape notes openings → slice_get notes k ≡ Some d → IsWholeNote shape openings d
+scene-whole {shape} {notes} {openings} k d noted e = let P : Option FragmentNote → Type 0 = λ o. IfSome o (IsWholeNote shape openings) in subst P e (noted.whole k)
+
+get_at : {X : Type 0} (xs : List X) (k : ℕ) (x : X) → slice_get xs k ≡ Some x → get_or xs k x ≡ x
+get_at xs k x e = grind (arith, gets)
+
+pub all-get : {X : Type 0} (P : X → Type 0) (xs : List X) (k : ℕ) (x : X) → All P xs → slice_get xs k ≡ Some x → P x
+all-get P xs k x all e = subst P (get_at xs k x e) (all k x (slice_get_within xs k x e))
+
+pub scene-middle : (lists : MaskedLists) (notes : List FragmentNote) (k : ℕ) (d : FragmentNote) → slice_get notes k ≡ Some d → (n : ℕ) → IsMiddleNumber lists d n → IsNotedMiddle lists notes n
+scene-middle lists notes k d e n is = record {
+  note = d;
+  among = (k, slice_get_within notes k d e, get_at notes k d e);
+  masked = is.masked;
+  is = is.is;
+}
+
+-- the lists are asked again after a call
+listed-later : (lumps : List Lump) (textures : TexturesView) (lists : MaskedLists) (old new : Heap) (d : FragmentNote) → KeepsCounts old new → IsListed lumps textures old lists d → IsListed lumps textures new lists d
+listed-later lumps textures lists old new d counts one = record {
+  seg = one.seg;
+  front = one.front;
+  side = one.side;
+  middle = one.middle;
+  masked = λ is.
+      let m = one.masked is in
+      record {
+        back = m.back;
+        some = m.some;
+        texture = record { prepared = m.texture.prepared; slot = rw counts.2 m.texture.slot; there = m.texture.there };
+        among = m.among;
+        single = m.single;
+      };
+}
+
+pub can_pass-later : {A : Type 0} {mark : Painter → ℕ → ℕ} {s : MaskScene} {among pictures : ℕ → Type 0} {f : Art → List Dot} {a b : MaskState} {result : Result A CacheFault} {notes : List FragmentNote} (old new : List Bool) →
+    PaintsDots mark s among pictures f a b result → length new ≡ length old → CanPass s notes a old → CanPass s notes b new
+can_pass-later {s = s} {a = a} {b} {notes = notes} old new one len can = record {
+  paint = can_paint-later one can.paint;
+  noted = can.noted;
+  listed = λ k d l. listed-later s.dir.now.lumps s.textures.now (scene_lists s) a.cache b.cache (get_or notes k d) one.draws.keeps.counts (can.listed k d l);
+  room = rw len can.room;
+}
+
+pub listed_note-later : {A : Type 0} {mark : Painter → ℕ → ℕ} {s : MaskScene} {among pictures : ℕ → Type 0} {f : Art → List Dot} {a b : MaskState} {result : Result A CacheFault} {d : FragmentNote} →
+    PaintsDots mark s among pictures f a b result → IsListed s.dir.now.lumps s.textures.now a.cache (scene_lists s) d → IsListed s.dir.now.lumps s.textures.now b.cache (scene_lists s) d
+listed_note-later {s = s} {a = a} {b} {d = d} one listed = listed-later s.dir.now.lumps s.textures.now (scene_lists s) a.cache b.cache d one.draws.keeps.counts listed
+
+-- a clip that a fragment gives keeps to the view
+not_zero : (n : ℕ) → not (n == 0) ≡ true → n ≢ 0
+not_zero n h e = absurd (grind (arith, nat_tests))
+
+has_parts : (a : Drawseg) (x : ℕ) → drawseg_has a x ≡ true → (a.first ≤ x) × (x ≤ a.last)
+unfolding drawseg_has
+has_parts a x h = let p = and_parts (nat_le a.first x) (nat_le x a.last) h in (leb-true a.first x p.0, leb-true x a.last p.1)
+
+pub gives_bottom-bounds : (s : MaskScene) (d : FragmentNote) (e : SpriteEntry) (x : ℕ) → IsWholeNote s.view.now.shape s.openings.now d → gives_bottom e x (scene_drawseg s d) ≡ true →
+    (least_clip ≤ℤ (scene_drawseg s d).bottom_clip x) × ((scene_drawseg s d).bottom_clip x ≤ℤ pos s.view.now.shape.height)
+unfolding gives_bottom noted_drawseg
+gives_bottom-bounds s d e x whole g =
+    let seg = scene_drawseg s d in
+    let one = and_parts (drawseg_has seg x) (not (is_behind seg e) && (seg.has_bottom && int_lt e.gz seg.bottom_height)) g in
+    let two = and_parts (not (is_behind seg e)) (seg.has_bottom && int_lt e.gz seg.bottom_height) one.1 in
+    let three = and_parts seg.has_bottom (int_lt e.gz seg.bottom_height) two.1 in
+    let columns = has_parts seg x one.0 in
+    whole.bottom_rows x columns.0 columns.1 (whole.bottom (not_zero _ three.0))
+
+pub gives_top-bounds : (s : MaskScene) (d : FragmentNote) (e : SpriteEntry) (x : ℕ) → IsWholeNote s.view.now.shape s.openings.now d → gives_top e x (scene_drawseg s d) ≡ true →
+    (minus_one ≤ℤ (scene_drawseg s d).top_clip x) × ((scene_drawseg s d).top_clip x ≤ℤ greatest_clip)
+unfolding gives_top noted_drawseg
+gives_top-bounds s d e x whole g =
+    let seg = scene_drawseg s d in
+    let one = and_parts (drawseg_has seg x) (not (is_behind seg e) && (seg.has_top && int_lt seg.top_height e.gzt)) g in
+    let two = and_parts (not (is_behind seg e)) (seg.has_top && int_lt seg.top_height e.gzt) one.1 in
+    let three = and_parts seg.has_top (int_lt seg.top_height e.gzt) two.1 in
+    let columns = has_parts seg x one.0 in
+    whole.top_rows x columns.0 columns.1 (whole.top (not_zero _ three.0))

@@ -1,0 +1,73 @@
+-- The loop paints and marks the columns one by one.
+use Rattle.std.proofs.Common.{◌≡◌, ℕ, ◌+◌, ◌≤◌, ◌<◌, Bool, cond, List, ◌++◌, Option, None, Some, refl, sym, ap, ◌∙◌, arith, rules}
+use Rattle.std.specs.Prelude.{not, IsSome}
+use Rattle.pixel_rules.specs.Dots.{Dot}
+use Rattle.pixel_rules.specs.Art.{Art}
+use Rattle.view_rules.specs.View.{ViewValue}
+use Rattle.wall_rules.specs.declared.FragmentNote.{FragmentNote}
+use Rattle.sprite_rules.specs.Drawsegs.{Drawseg}
+use Rattle.sprite_rules.specs.Middles.{middle_column}
+use Rattle.masked_draw.specs.Marks.{MarksBy, if_unmarked, is_between, mark_of, unmarked_dots}
+use Rattle.masked_draw.specs.Scenes.{CanPaint, PaintsDots, scene_drawseg}
+use Rattle.masked_draw.proofs.MarkLemmas.{between, marks-here, marks-more, marks-start, unmarked-more, unmarked-plain, unmarked-start}
+use Rattle.masked_draw.proofs.StepLemmas.{can_paint-later, paints-none, paints-same, paints-then, paints-then_stop}
+use Rattle.masked_draw.proofs.SceneLemmas.{listed_note-later}
+use Rattle.masked_draw.proofs.middles.paint_middle.Goals as goal
+
+-- a column more, by the mark that it has now
+one_more : (v : ViewValue) (art : Art) (old now : List Bool) (d : FragmentNote) (place from x k number : ℕ) (drawseg : Drawseg) → d.masked ≡ Some place → d.first ≤ from → from ≤ x → x ≤ d.last → MarksBy d (between from x) old now → number ≡ k →
+    unmarked_dots v art old d (between from x) k drawseg ++ if_unmarked (mark_of now d place x) (middle_column v art number drawseg x) ≡ unmarked_dots v art old d (between from (x + 1)) k drawseg
+one_more v art old now d place from x k number drawseg e a b l h n =
+    ap (λ (m : Bool). unmarked_dots v art old d (between from x) k drawseg ++ if_unmarked m (middle_column v art number drawseg x)) (marks-here d place from x old now e (omega arith) l h)
+    ∙ ap (λ (j : ℕ). unmarked_dots v art old d (between from x) k drawseg ++ if_unmarked (mark_of old d place x) (middle_column v art j drawseg x)) n
+    ∙ sym (unmarked-more v art old d place from x k drawseg e a b l)
+
+pub returns-in_default-clause-paints : goal.returns-in_default-clause-paints
+returns-in_default-clause-paints g c =
+    let s = c.args.scene.now in
+    paints-same _ (λ art. sym (unmarked-plain s.view.now art c.args.hands.now.marks.now c.args.note.now (is_between c.args.first c.args.last) c.args.number (scene_drawseg s c.args.note.now) c.in_default.is)) (paints-none _ _)
+
+pub loop-x-init : goal.loop-x-init
+loop-x-init g c =
+    let s = c.args.scene.now in
+    record {
+      same_cache = refl;
+      same_shelf = refl;
+      same_canvas = refl;
+      same_marks = refl;
+      marks = refl;
+      ready = c.requires.ready;
+      listed = c.requires.listed;
+      marked = marks-start c.args.note.now c.args.first c.args.hands.now.marks.now;
+      paints = paints-same _ (λ art. sym (unmarked-start s.view.now art c.args.hands.now.marks.now c.args.note.now c.args.first c.args.number (scene_drawseg s c.args.note.now))) (paints-none _ _);
+    }
+
+pub returns-in_err-paint_unmarked-clause-paints : goal.returns-in_err-paint_unmarked-clause-paints
+returns-in_err-paint_unmarked-clause-paints g c =
+    paints-then_stop c.in_err-paint_unmarked.was c.from_residual.ensures.1 c.loop-x.invariant.paints c.paint_unmarked.ensures.paints
+
+pub loop-x-preserved : goal.loop-x-preserved
+loop-x-preserved g c =
+    let s = c.args.scene.now in
+    let d = c.args.note.now in
+    let i = c.loop-x.invariant in
+    let e = c.in_ok-paint_unmarked.ensures in
+    let masked = c.middle_of-middle.ensures.middle.place in
+    record {
+      same_cache = e.same_cache ∙ i.same_cache;
+      same_shelf = e.same_shelf ∙ i.same_shelf;
+      same_canvas = e.same_canvas ∙ i.same_canvas;
+      same_marks = e.same_marks ∙ i.same_marks;
+      marks = e.marks ∙ i.marks;
+      ready = can_paint-later e.paints i.ready;
+      listed = listed_note-later e.paints i.listed;
+      marked = marks-more d c.middle_of-middle.result.place c.args.first c.loop-x.x _ _ _ masked c.requires.begins c.loop-x.auto.x (omega arith) i.marked e.marked e.others;
+      paints = paints-same _ (λ art. one_more s.view.now art c.args.hands.now.marks.now c.loop-x.hands.marks.now d c.middle_of-middle.result.place c.args.first c.loop-x.x c.args.number c.middle_of-middle.result.number (scene_drawseg s d)
+              masked c.requires.begins c.loop-x.auto.x (omega arith) i.marked c.middle_of-middle.ensures.number) (paints-then i.paints e.paints);
+    }
+
+pub returns-clause-paints : goal.returns-clause-paints
+returns-clause-paints g c =
+    let s = c.args.scene.now in
+    let end : c.loop-x.x ≡ c.args.last + 1 = omega arith in
+    paints-same _ (λ art. ap (λ (x : ℕ). unmarked_dots s.view.now art c.args.hands.now.marks.now c.args.note.now (between c.args.first x) c.args.number (scene_drawseg s c.args.note.now)) end) c.loop-x.invariant.paints

@@ -1,0 +1,27 @@
+-- What is painted for one sprite, and which columns are marked after it.
+use Rattle.std.specs.Prelude.{◌≡◌, ◌+◌, ℕ, List, Bool, Option, Some, Result, OnOk, length}
+use Rattle.lump_cache.specs.declared.fault.CacheFault.{CacheFault}
+use Rattle.pixel_rules.specs.declared.Painter.{Painter}
+use Rattle.wall_rules.specs.declared.FragmentNote.{FragmentNote}
+use Rattle.sprite_rules.specs.declared.SpriteEntry.{SpriteEntry}
+use Rattle.sprite_rules.specs.Middles.{middles_at, sprite_step}
+use Rattle.masked_draw.specs.declared.scene.MaskScene.{MaskScene}
+use Rattle.masked_draw.specs.Marks.{MarkedTo}
+use Rattle.masked_draw.specs.Ready.{IsNotedMiddle}
+use Rattle.masked_draw.specs.Scenes.{MaskState, PaintsDots, scene_drawseg, scene_drawsegs, scene_lists}
+
+-- the masked columns just before sprite i of these are painted, and marked
+pub record PassesSprite {A : Type 0} (mark : Painter → ℕ → ℕ) (s : MaskScene) (notes : List FragmentNote)
+    (es : List SpriteEntry) (i : ℕ) (marks : List Bool) (old new : MaskState)
+    (result : Result A CacheFault) : Type 0 where
+  pub paints : PaintsDots mark s (IsNotedMiddle (scene_lists s) notes) (λ (n : ℕ). ⊥)
+      (λ art. middles_at s.view.now art (scene_drawsegs s notes) es (Some i) (length notes)) old new result
+  pub marked : OnOk result (MarkedTo (scene_drawseg s) notes es (length notes) (λ k. i + 1) marks)
+
+-- and the sprite behind them
+pub record DrawsSprite {A : Type 0} (mark : Painter → ℕ → ℕ) (s : MaskScene) (notes : List FragmentNote)
+    (es : List SpriteEntry) (i : ℕ) (e : SpriteEntry) (marks : List Bool) (old new : MaskState)
+    (result : Result A CacheFault) : Type 0 where
+  pub paints : PaintsDots mark s (IsNotedMiddle (scene_lists s) notes) (λ (n : ℕ). n ≡ e.lump)
+      (λ art. sprite_step s.view.now art (scene_drawsegs s notes) es i e) old new result
+  pub marked : OnOk result (MarkedTo (scene_drawseg s) notes es (length notes) (λ k. i + 1) marks)
