@@ -8,3 +8,4 @@ pub mod SceneLemmas
 pub mod EntryLemmas
 pub mod LoopLemmas
 pub mod SpriteLemmas
+pub mod PassLemmas
