@@ -1,7 +1,7 @@
 // The walls of a view as far as they are drawn.
 //
 // Rules: `specs/Walls`, `specs/Built`. The original: r_segs.c, and `R_Subsector` of r_bsp.c.
-ghost use Rattle.std.specs.Prelude.{◌≡◌, ◌<◌, ◌≤◌, ◌+◌, ℕ, [], List, None, Some, Ok, IfOk, IfErr, OnOk, length};
+ghost use Rattle.std.specs.Prelude.{◌≡◌, ◌<◌, ◌≤◌, ◌+◌, ◌↔◌, ℕ, [], List, None, Some, Ok, IfOk, IfErr, OnOk, IsTrue, length};
 ghost use Rattle.view_rules.specs.declared.TheConstants.{FRAME_WIDTH, FRAME_HEIGHT};
 ghost use Rattle.view_rules.specs.View.{ViewValue};
 ghost use Rattle.walk_rules.specs.declared.TheConstants.{MAX_DRAWSEGS};
@@ -88,6 +88,7 @@ impl WallState {
         requires { height ≤ FRAME_HEIGHT }
         ensures built { (v : ViewValue) → v.shape.height ≡ height → v.shape.width ≤ FRAME_WIDTH →
             IsBuilt v [] no_planes self.new [] }
+        ensures height { self.new.height ≡ height }
         ensures room { self.new.room ≡ self.old.room }
     {
         self.notes.clear();
@@ -121,6 +122,13 @@ impl WallState {
         ensures most { self.now.room ≤ MOST_OPENINGS }
     {
         self.columns.openings.list()
+    }
+
+    // Whether there is no room for a further note.
+    fn is_full(&self) -> bool
+        ensures { IsTrue result ↔ (MAX_DRAWSEGS ≤ length self.now.notes) }
+    {
+        self.notes.len() >= MAX_DRAWSEGS as usize
     }
 
     /// Enters a leaf: finds its floor, and then its ceiling, among the planes.
@@ -231,12 +239,16 @@ impl WallState {
             IsUntouched tools.old.planes.now tools.new.planes.now tools.old.cache.now
             tools.new.cache.now (S.view tools.old.shelf.now) (S.view tools.new.shelf.now)
             (C.view tools.old.canvas.now) (C.view tools.new.canvas.now) }
+        ensures floor { OnOk result
+            (IsAmongPlanes tools.new.planes.now.planes self.new.floor) }
+        ensures ceiling { OnOk result
+            (IsAmongPlanes tools.new.planes.now.planes self.new.ceiling) }
         ensures stays { self.new.height ≡ self.old.height }
         ensures room { self.new.room ≡ self.old.room }
         ensures planes_room { tools.new.planes.now.room ≡ tools.old.planes.now.room }
         ensures place { PlacedAlike (C.view tools.old.canvas.now) (C.view tools.new.canvas.now) }
     {
-        if self.notes.len() >= MAX_DRAWSEGS as usize {
+        if self.is_full() {
             return Ok(());
         }
         let shape = tools.view.shape();
@@ -283,11 +295,13 @@ impl WallState {
         ensures past { length self.old.notes ≡ MAX_DRAWSEGS → result ≡ Ok tt }
         ensures past_state { length self.old.notes ≡ MAX_DRAWSEGS → self.new ≡ self.old }
         ensures past_planes { length self.old.notes ≡ MAX_DRAWSEGS → planes.new ≡ planes.old }
+        ensures floor { OnOk result (IsAmongPlanes planes.new.planes self.new.floor) }
+        ensures ceiling { OnOk result (IsAmongPlanes planes.new.planes self.new.ceiling) }
         ensures stays { self.new.height ≡ self.old.height }
         ensures room { self.new.room ≡ self.old.room }
         ensures planes_room { planes.new.room ≡ planes.old.room }
     {
-        if self.notes.len() >= MAX_DRAWSEGS as usize {
+        if self.is_full() {
             return Ok(());
         }
         let shape = view.shape();

@@ -13,13 +13,13 @@ use Rattle.wall_columns.proofs.LeafLemmas.{limit-passed_on}
 use Rattle.wall_columns.proofs.OverLemmas.{over-range}
 use Rattle.wall_columns.proofs.state.WallState.count_range.Goals as goal
 
-pub returns-then-len-clause-built : goal.returns-then-len-clause-built
-returns-then-len-clause-built c = λ walls s h few.
+pub returns-then-is_full-clause-built : goal.returns-then-is_full-clause-built
+returns-then-is_full-clause-built c = λ walls s h few.
     let notes = ap (λ (w : WallsView). length w.notes) c.self.view_is in
     absurd (omega (arith, built-count c.args.view.now walls s c.args.self.now c.args.planes.now.planes h))
 
-pub returns-then-len-clause-limit : goal.returns-then-len-clause-limit
-returns-then-len-clause-limit c = λ walls s h few.
+pub returns-then-is_full-clause-limit : goal.returns-then-is_full-clause-limit
+returns-then-is_full-clause-limit c = λ walls s h few.
     let notes = ap (λ (w : WallsView). length w.notes) c.self.view_is in
     absurd (omega (arith, built-count c.args.view.now walls s c.args.self.now c.args.planes.now.planes h))
 
