@@ -10,3 +10,4 @@ pub mod LeafLemmas
 pub mod MarkLemmas
 pub mod BuiltLemmas
 pub mod OverLemmas
+pub mod DrawnLemmas
