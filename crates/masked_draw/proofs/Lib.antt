@@ -6,6 +6,7 @@ pub mod DownLemmas
 pub mod StepLemmas
 pub mod SceneLemmas
 pub mod EntryLemmas
+pub mod PostLemmas
 pub mod LoopLemmas
 pub mod SpriteLemmas
 pub mod PassLemmas

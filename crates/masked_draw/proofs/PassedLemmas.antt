@@ -92,7 +92,7 @@ left-middles v art seg notes es n turn marks k d a h l g t =
     let b : AreBefore seg es marks d (length es) d.masked = subst P t (note_at seg notes es n turn marks k d h l g) in
     dots_of_moment v art marks es None k d (seg d) (is_between d.first d.last) a
     (λ place x s p q. and_yes (not (mark_of marks d place x)) (is_between d.first d.last x) (between_all d.first d.last x p q)
-      ∙ ap not (before_at seg es marks d (length es) place d.masked s b x p q) ∙ sym (front-left es (seg d) x))
+    ∙ ap not (before_at seg es marks d (length es) place d.masked s b x p q) ∙ sym (front-left es (seg d) x))
 
 -- places of different notes are apart
 outside_low : (d e : FragmentNote) (other x : ℕ) (masked : Option ℕ) → d.first ≤ x → x ≤ d.last → (place : ℕ) → ListsApart d (Some place) masked → IsOutside e masked (place + (x - d.first))

@@ -51,7 +51,7 @@ module _ {mark : Painter → ℕ → ℕ} {s : MaskScene} {among pictures : ℕ 
         on_ok_then (FitBeside s.dir.now.lumps s.textures.now s.colormap.0 count b.cache.size (g (scene_art contents s)))
         (FitBeside s.dir.now.lumps s.textures.now s.colormap.0 count a.cache.size (f (scene_art contents s) ++ g (scene_art contents s))) result
         (λ h. fit_beside-append s.dir.now.lumps s.textures.now s.colormap.0 count a.cache.size (f (scene_art contents s)) (g (scene_art contents s)) (one.fits contents count held)
-          (subst (λ (n : ℕ). FitBeside s.dir.now.lumps s.textures.now s.colormap.0 count n (g (scene_art contents s))) one.draws.keeps.counts.0 h))
+        (subst (λ (n : ℕ). FitBeside s.dir.now.lumps s.textures.now s.colormap.0 count n (g (scene_art contents s))) one.draws.keeps.counts.0 h))
         (two.fits contents count later);
     draws = draws-then one.draws two.draws;
     place = placed-then one.place two.place;

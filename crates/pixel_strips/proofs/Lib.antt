@@ -2,3 +2,4 @@ pub mod CanvasLemmas
 pub mod CutLemmas
 pub mod FillLemmas
 pub mod DottedLemmas
+pub mod RowLemmas

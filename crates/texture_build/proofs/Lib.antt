@@ -11,3 +11,4 @@ pub mod PrepareLemmas
 pub mod DrawLemmas
 pub mod BesideLemmas
 pub mod LiveLemmas
+pub mod LentLemmas

@@ -1,7 +1,7 @@
 -- What a texture column is read from.
-use Rattle.std.specs.Prelude.{ℕ, ◌+◌, ◌<◌, ℤ, List, [], Option, Some, length, option_map, slice_index_or}
+use Rattle.std.specs.Prelude.{◌≡◌, ℕ, ◌+◌, ◌<◌, ◌≤◌, false, ℤ, List, [], Option, Some, length, option_map, slice_index_or}
 use Rattle.lump_rules.specs.declared.wad.Lump.{Lump}
-use Rattle.zone_rules.specs.Zones.{Heap, IsLive, bytes_of}
+use Rattle.zone_rules.specs.Zones.{Heap, IsLive, bytes_of, block_size, same_owner}
 use Rattle.lump_cache.specs.Caches.{lump_owner, composite_owner}
 use Rattle.art_rules.specs.declared.ColumnLookup.{ColumnLookup}
 use Rattle.art_rules.specs.declared.ColumnLookup.TheVariants.{Empty, Single, Composed}
@@ -61,3 +61,13 @@ column_view number z (Single lump place) =
     option_map (column_from (place + POST_BYTES_AT)) (bytes_of (lump_owner lump) z.blocks)
 column_view number z (Composed place) =
     option_map (column_from place) (bytes_of (composite_owner number) z.blocks)
+
+-- the zone holds a block for so many lent bytes beside one for the colormap's `count`, unless what
+-- is lent is the colormap
+abbrev pub IsLentBeside : ℕ → ℕ → ℕ → ColumnLookup → ℕ → Type 0
+IsLentBeside zone colormap count Empty size = Unit {0}
+IsLentBeside zone colormap count (Single lump place) size =
+    same_owner (lump_owner colormap) (lump_owner lump) ≡ false →
+    block_size count + block_size size ≤ zone
+IsLentBeside zone colormap count (Composed place) size =
+    block_size count + block_size size ≤ zone

@@ -1,11 +1,12 @@
 // The texels of a texture column.
 //
 // Rules: `specs/Sources`. The original: `R_GetColumn`, r_data.c.
-ghost use Rattle.std.specs.Prelude.{◌≡◌, ◌<◌, ◌+◌, ◌^◌, Some, IfSome, option_map};
+ghost use Rattle.std.specs.Prelude.{◌≡◌, ◌<◌, ◌+◌, ◌^◌, ℕ, Some, IfSome, length, option_map};
 ghost use Rattle.std.specs.Option.{option_copied};
 ghost use Rattle.art_rules.specs.Bytes.{byte_at};
 ghost use Rattle.art_rules.specs.Lookups.{single_place};
-ghost use Rattle.texture_build.specs.Sources.{column_from, column_view};
+ghost use Rattle.lump_cache.specs.Caches.{IsAtRest};
+ghost use Rattle.texture_build.specs.Sources.{IsLentBeside, column_from, column_view};
 
 use art_rules::{ColumnLookup, POST_BYTES_AT, byte_at};
 use lump_cache::LumpCache;
@@ -55,6 +56,9 @@ pub(crate) fn lend_lookup<'c>(
     requires composite { number < cache.now.composites }
     ensures column { result ≡ column_view number cache.now lookup }
     ensures first { IfSome result (λ column. column.first < 2 ^ 33) }
+    ensures fits { (colormap count : ℕ) → IsAtRest colormap count cache.now →
+        IfSome result (λ column.
+        IsLentBeside cache.now.size colormap count lookup (length column.bytes)) }
 {
     match lookup {
         ColumnLookup::Empty => column_from(Some(&[]), 0),

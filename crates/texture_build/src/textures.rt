@@ -21,7 +21,7 @@ ghost use Rattle.art_rules.specs.Wanted.{patch_lumps, prepared_textures};
 ghost use Rattle.texture_lists.specs.Asked.{IsListLump};
 ghost use Rattle.texture_build.specs.Asked.{HasColumnAsked, IsFullForColumn, IsWantedPatch, size_of};
 ghost use Rattle.texture_build.specs.Composites.{AreComposites};
-ghost use Rattle.texture_build.specs.Sources.{IsColumnLive, IsColumnThere, IsComposedColumn, column_in, column_view, own_lookup, source_of, column_index};
+ghost use Rattle.texture_build.specs.Sources.{IsColumnLive, IsColumnThere, IsComposedColumn, IsLentBeside, column_in, column_view, own_lookup, source_of, column_index};
 ghost use Rattle.texture_build.specs.Views.{AllTexturesListed, AllThere, AreTexturesOf, ArePatchesThere, IsPrepared, is_wanted, prepared_at, prepared_texture};
 
 use crate::column::{Column, lend_lookup};
@@ -465,7 +465,8 @@ impl Textures {
         self.column_at(cache, tex, self.lookup(tex, col))
     }
 
-    /// `column` by what the column is read from.
+    /// `column` by what the column is read from. A zone at rest holds a block for the colormap's
+    /// bytes beside that of the bytes that are lent, unless these are the colormap.
     ///
     /// The original: `R_GetColumn`, r_data.c.
     #[inline(always)]
@@ -480,6 +481,9 @@ impl Textures {
         requires prepared { IsPrepared self.now tex.0 }
         ensures column { result ≡ column_view tex.0 cache.now lookup }
         ensures first { IfSome result (λ column. column.first < 2 ^ 33) }
+        ensures fits { (colormap count : ℕ) → IsAtRest colormap count cache.now →
+            IfSome result (λ column.
+            IsLentBeside cache.now.size colormap count lookup (length column.bytes)) }
         ensures texel { (col : ℤ) (contents : List (List ℕ)) (lumps : List Lump) →
             lookup ≡ column_in (prepared_texture self.now tex.0) col →
             ArePatchesThere lumps (prepared_texture self.now tex.0) →

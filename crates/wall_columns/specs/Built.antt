@@ -23,7 +23,7 @@ pub record IsDrawn (v : ViewValue) (w : Wall) : Type 0 where
 -- The fragments are drawn: what they noted and saved is there, what they left open is open, and the
 -- planes are those of a leaf that is entered.
 pub record IsBuilt (v : ViewValue) (walls : List Wall) (s : PlanesNow) (state : WallsView)
-    (planes : List Plane) : Type 0 where
+    (list : List Plane) : Type 0 where
   pub drawn : All (IsDrawn v) walls
   pub notes : state.notes ≡ view_notes v walls
   pub openings : state.openings ≡ openings_list v walls
@@ -32,7 +32,7 @@ pub record IsBuilt (v : ViewValue) (walls : List Wall) (s : PlanesNow) (state : 
   pub height : state.height ≡ v.shape.height
   pub floor : state.floor ≡ s.floor
   pub ceiling : state.ceiling ≡ s.ceiling
-  pub planes : planes ≡ s.planes
+  pub planes : list ≡ s.planes
   pub sound : IsSoundNow s
 
 -- the fragments with one more, and the step that this one is

@@ -1,5 +1,5 @@
 -- Which textures a fragment is painted with, and what is left as it was where it is not drawn.
-use Rattle.std.specs.Prelude.{◌≡◌, ◌≢◌, ◌⊎◌, ℕ, ⊥}
+use Rattle.std.specs.Prelude.{◌≡◌, ◌≢◌, ◌⊎◌, ℕ}
 use Rattle.outside.specs.Shelf.{ShelfView}
 use Rattle.zone_rules.specs.Zones.{Heap}
 use Rattle.wall_rules.specs.declared.WallFacts.{WallFacts}

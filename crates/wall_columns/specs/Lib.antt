@@ -4,3 +4,10 @@ pub mod Faults
 pub mod Draws
 pub mod Noted
 pub mod Plans
+pub mod Windows
+pub mod Saved
+pub mod Columns
+pub mod Leaves
+pub mod Places
+pub mod States
+pub mod Painted

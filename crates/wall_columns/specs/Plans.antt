@@ -1,8 +1,34 @@
--- The strips that a plan of a column has.
-use Rattle.std.specs.Prelude.{◌≡◌, ◌⊎◌, ◌≤ℤ◌, ◌<ℤ◌, ℕ, pos, List, [], ◌∷◌}
+-- What a fragment does in one of its columns: its plan, and the strips that a plan has.
+use Rattle.std.specs.Prelude.{◌≡◌, ◌⊎◌, ◌≤ℤ◌, ◌<ℤ◌, ℕ, pos, Bool, cond, List, [], ◌∷◌, FitsSigned}
+use Rattle.std.specs.Int.{w32}
+use Rattle.word_rules.specs.Words.{minus_one}
+use Rattle.wall_rules.specs.declared.ColumnClip.{ColumnClip}
+use Rattle.wall_rules.specs.declared.Edges.{Edges}
 use Rattle.wall_rules.specs.declared.FragmentNumbers.{FragmentNumbers}
+use Rattle.wall_rules.specs.declared.RowRange.{RowRange}
+use Rattle.wall_rules.specs.Parts.{has_texture}
+use Rattle.wall_rules.specs.Clips.{ceiling_rows, floor_rows, middle_rows, top_rows, bottom_rows, clip_after}
 use Rattle.wall_rules.specs.Strips.{WallStrip}
 use Rattle.wall_columns.specs.declared.clips.ColumnPlan.{ColumnPlan}
+
+-- no row, and rows that a part has only where it is there
+abbrev pub no_rows : RowRange
+no_rows = record { first = pos 0; last = minus_one }
+
+abbrev pub rows_if : Bool → RowRange → RowRange
+rows_if is_there rows = cond is_there rows no_rows
+
+-- the plan of a fragment in a column with this clip and these edges
+unfoldable pub plan_of : ℕ → FragmentNumbers → ColumnClip → Edges → ColumnPlan
+plan_of height n clip e = record {
+  ceiling = ceiling_rows clip e;
+  floor = floor_rows clip e;
+  middle = rows_if (has_texture n.middle_part) (middle_rows clip e);
+  top = cond (has_texture n.middle_part) no_rows (rows_if (has_texture n.top_part) (top_rows clip e));
+  bottom = cond (has_texture n.middle_part) no_rows
+      (rows_if (has_texture n.bottom_part) (bottom_rows n clip e));
+  after = clip_after height n clip e;
+}
 
 -- the middle, the upper and the lower strip; one that the fragment lacks has no row
 abbrev pub strips_by : FragmentNumbers → ColumnPlan → List WallStrip
@@ -15,10 +41,25 @@ strips_by n plan =
 abbrev pub HasRows : WallStrip → Type 0
 HasRows s = s.rows.first ≤ℤ s.rows.last
 
--- the rows of a strip, where it has some, are in a view of that height
+-- no strip of a plan has rows
+abbrev pub HasNoRows : ColumnPlan → Type 0
+HasNoRows plan = (plan.middle.last <ℤ plan.middle.first)
+    × ((plan.top.last <ℤ plan.top.first) × (plan.bottom.last <ℤ plan.bottom.first))
+
+-- rows, where there are some, are in a view of that height
+abbrev pub AreRowsIn : ℕ → RowRange → Type 0
+AreRowsIn height rows = rows.first ≤ℤ rows.last → (pos 0 ≤ℤ rows.first) × (rows.last <ℤ pos height)
+
 abbrev pub IsInRows : ℕ → WallStrip → Type 0
 IsInRows height s = HasRows s → (pos 0 ≤ℤ s.rows.first) × (s.rows.last <ℤ pos height)
 
 -- a texture of one of the parts
 abbrev pub IsPartTexture : FragmentNumbers → ℕ → Type 0
 IsPartTexture n number = (number ≡ n.middle_part.number) ⊎ ((number ≡ n.top_part.number) ⊎ (number ≡ n.bottom_part.number))
+
+-- the four edges are words
+pub record AreEdgeWords (e : Edges) : Type 0 where
+  pub top : FitsSigned w32 e.top
+  pub bottom : FitsSigned w32 e.bottom
+  pub high : FitsSigned w32 e.high
+  pub low : FitsSigned w32 e.low

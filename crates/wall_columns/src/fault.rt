@@ -1,4 +1,8 @@
 // What ends a view while its walls are drawn.
+ghost use Rattle.std.specs.Prelude.{◌≡◌};
+ghost use Rattle.wall_columns.specs.Faults.{from_cache_fault};
+
+use lump_cache::CacheFault;
 use thiserror::Error;
 
 /// What ends a view while its walls are drawn: planes or openings past their limit, with the count;
@@ -16,4 +20,15 @@ pub enum DrawFault {
     ZoneFull { wanted: u64, widest: u64 },
     #[error("a lump could not be read")]
     ReadFault,
+}
+
+impl From<CacheFault> for DrawFault {
+    ghost from_gives = { λ below fault. fault ≡ from_cache_fault below };
+
+    fn from(fault: CacheFault) -> Self {
+        match fault {
+            CacheFault::ZoneFull { wanted, widest } => DrawFault::ZoneFull { wanted, widest },
+            CacheFault::ReadFault => DrawFault::ReadFault,
+        }
+    }
 }

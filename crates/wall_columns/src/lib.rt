@@ -10,14 +10,20 @@
 #![tactic(auto)]
 
 mod clips;
+mod column_state;
 mod columns;
+mod drawing;
 mod fault;
+mod leaf;
 mod notes;
+mod openings;
 mod paint;
 mod state;
 mod tools;
+mod windows;
 
 pub use fault::DrawFault;
-pub use state::{LeafPlanes, WallState};
+pub use leaf::LeafPlanes;
+pub use state::WallState;
 pub use tools::WallTools;
 pub use wall_rules::{Clip, FragmentNote, WallFacts};

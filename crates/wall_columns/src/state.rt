@@ -20,29 +20,20 @@ ghost use Rattle.pixel_strips.specs.Dotted.{HasDots, PlacedAlike};
 ghost use Rattle.wall_columns.specs.Draws.{IsWallTexture, IsNoPicture, IsUntouched};
 ghost use Rattle.wall_columns.specs.Noted.{HaveBacks};
 
-use crate::clips::{ColumnPlan, column_plan};
-use crate::columns::mark_rows;
+use crate::column_state::ColumnState;
 use crate::fault::DrawFault;
-use crate::notes::{SavePlaces, note_of, save_places};
-use crate::paint::paint_plan;
+use crate::leaf::LeafPlanes;
+use crate::notes::note_of;
 use crate::tools::WallTools;
 use outside::Shelf;
 use pixel_strips::Canvas;
-use plane_rules::PlaneKey;
 use std::alloc::{AllocError, Global};
+use std::marker::Model;
 use view_frame::View;
-use view_rules::FRAME_WIDTH;
-use visplanes::{PlaneNo, Planes};
+use visplanes::Planes;
 use walk_rules::MAX_DRAWSEGS;
-use wall_edges::{Fragment, Stepper};
-use wall_rules::{ColumnClip, Edges, FragmentNote, FragmentNumbers, WallFacts};
-
-/// The planes that a leaf finds: None where its floor or its ceiling is not seen.
-#[derive(Clone, Copy, Debug, PartialEq, Eq)]
-pub struct LeafPlanes {
-    pub floor: Option<PlaneKey>,
-    pub ceiling: Option<PlaneKey>,
-}
+use wall_edges::Fragment;
+use wall_rules::{FragmentNote, WallFacts};
 
 /// The walls of a view as far as they are drawn: the notes of the drawn fragments, the openings that
 /// they saved, the clips of each column, and the planes of the leaf that is entered. Contracts see
@@ -53,39 +44,21 @@ pub struct LeafPlanes {
 #[derive(Drop)]
 pub struct WallState {
     notes: Vec<FragmentNote>,
-    openings: Vec<i32>,
-    used: u32,
-    ceiling_clips: Vec<i32>,
-    floor_clips: Vec<i32>,
-    height: u16,
-    floor: Option<PlaneNo>,
-    ceiling: Option<PlaneNo>,
+    columns: ColumnState,
 }
 
 impl Model for WallState {
-    ghost use Rattle.std.specs.Prelude.{◌≡◌, ◌≤◌, take, length, option_map, vec_capacity};
+    ghost use Rattle.std.specs.Prelude.{◌≤◌, length, vec_capacity};
     ghost use Rattle.walk_rules.specs.declared.TheConstants.{MAX_DRAWSEGS};
-    ghost use Rattle.wall_rules.specs.declared.TheConstants.{MOST_OPENINGS};
-    ghost use Rattle.visplanes.specs.declared.planes.PlaneNo.{PlaneNo};
-    ghost use Rattle.wall_columns.specs.Walls.{WallsView, AreClips};
+    ghost use Rattle.wall_columns.specs.Walls.{WallsView};
+    ghost use Rattle.wall_columns.specs.States.{walls_view};
 
     ghost Value = { WallsView };
 
-    ghost view = { λ w. record {
-      notes = w.notes.items;
-      openings = take w.used w.openings.items;
-      room = length w.openings.items;
-      ceiling_clips = w.ceiling_clips.items;
-      floor_clips = w.floor_clips.items;
-      height = w.height;
-      floor = option_map (λ (plane : PlaneNo). plane.0) w.floor;
-      ceiling = option_map (λ (plane : PlaneNo). plane.0) w.ceiling;
-    } };
+    ghost view = { λ w. walls_view w.notes.items w.columns };
 
-    ghost invariant = { λ w. (w.used ≤ length w.openings.items)
-        × ((length w.openings.items ≤ MOST_OPENINGS)
-        × ((length w.notes.items ≤ MAX_DRAWSEGS) × ((MAX_DRAWSEGS ≤ vec_capacity w.notes)
-        × AreClips w.height w.ceiling_clips.items w.floor_clips.items))) };
+    ghost invariant = { λ w. (length w.notes.items ≤ MAX_DRAWSEGS)
+        × (MAX_DRAWSEGS ≤ vec_capacity w.notes) };
 }
 
 impl WallState {
@@ -104,13 +77,7 @@ impl WallState {
     {
         Ok(WallState {
             notes: Vec::with_capacity(alloc, MAX_DRAWSEGS as usize)?,
-            openings: vec![in alloc; 0; room as usize]?,
-            used: 0,
-            ceiling_clips: vec![in alloc; 0; FRAME_WIDTH as usize]?,
-            floor_clips: vec![in alloc; 0; FRAME_WIDTH as usize]?,
-            height: 0,
-            floor: None,
-            ceiling: None,
+            columns: ColumnState::new(alloc, room)?,
         })
     }
 
@@ -124,12 +91,7 @@ impl WallState {
         ensures room { self.new.room ≡ self.old.room }
     {
         self.notes.clear();
-        self.used = 0;
-        self.ceiling_clips.fill(-1);
-        self.floor_clips.fill(height as i32);
-        self.height = height;
-        self.floor = None;
-        self.ceiling = None;
+        self.columns.start(height);
     }
 
     /// The notes of the drawn fragments, in order, at most 256.
@@ -158,7 +120,7 @@ impl WallState {
         ensures room { length self.now.openings ≤ self.now.room }
         ensures most { self.now.room ≤ MOST_OPENINGS }
     {
-        &self.openings[..self.used as usize]
+        self.columns.openings.list()
     }
 
     /// Enters a leaf: finds its floor, and then its ceiling, among the planes.
@@ -183,9 +145,7 @@ impl WallState {
             { floor = self.new.floor; ceiling = self.new.ceiling } }
         ensures room { planes.new.room ≡ planes.old.room }
     {
-        self.floor = find_plane(planes, leaf.floor)?;
-        self.ceiling = find_plane(planes, leaf.ceiling)?;
-        Ok(())
+        self.columns.enter(planes, leaf)
     }
 
     /// Draws the fragment of a seg in columns `first` to `last` of the view: takes its openings,
@@ -279,12 +239,15 @@ impl WallState {
         if self.notes.len() >= MAX_DRAWSEGS as usize {
             return Ok(());
         }
+        let shape = tools.view.shape();
         let fragment = Fragment::new(tools.view, facts, first, last);
         let numbers = fragment.numbers();
-        let places = self.take_openings(&numbers, first, last)?;
-        self.check_planes(tools.planes, &numbers, first, last)?;
-        self.draw_columns(tools, &fragment, &numbers, places)?;
-        self.keep_note(facts.seg_no, &fragment, &numbers, first, last, places);
+        let places = self.columns.take_openings(&numbers, first, last)?;
+        self.columns.check_planes(tools.planes, &numbers, first, last)?;
+        let number = self.notes.len() as u16;
+        self.columns.draw_columns(tools, number, &fragment, &numbers, places)?;
+        let note = note_of(facts.seg_no, &fragment, &numbers, first, last, places, shape.height);
+        self.notes.push_reserved(note);
         Ok(())
     }
 
@@ -328,164 +291,14 @@ impl WallState {
         if self.notes.len() >= MAX_DRAWSEGS as usize {
             return Ok(());
         }
+        let shape = view.shape();
         let fragment = Fragment::new(view, facts, first, last);
         let numbers = fragment.numbers();
-        let places = self.take_openings(&numbers, first, last)?;
-        self.check_planes(planes, &numbers, first, last)?;
-        self.count_columns(view, planes, &fragment, &numbers, places);
-        self.keep_note(facts.seg_no, &fragment, &numbers, first, last, places);
-        Ok(())
-    }
-
-    // Where the fragment's lists are saved.
-    fn take_openings(
-        &mut self,
-        numbers: &FragmentNumbers,
-        first: u16,
-        last: u16,
-    ) -> Result<SavePlaces, DrawFault> {
-        let columns = last as u32 + 1 - first as u32;
-        let places = save_places(numbers, self.used, columns);
-        if places.end as usize > self.openings.len() {
-            return Err(DrawFault::Openings { count: places.end });
-        }
-        self.used = places.end;
-        Ok(places)
-    }
-
-    // Checks the current planes that the fragment marks, first the ceiling.
-    fn check_planes(
-        &mut self,
-        planes: &mut Planes,
-        numbers: &FragmentNumbers,
-        first: u16,
-        last: u16,
-    ) -> Result<(), DrawFault> {
-        if numbers.ceiling_mark {
-            self.ceiling = check_plane(planes, self.ceiling, first, last)?;
-        }
-        if numbers.floor_mark {
-            self.floor = check_plane(planes, self.floor, first, last)?;
-        }
-        Ok(())
-    }
-
-    fn draw_columns<S: Shelf, C: Canvas>(
-        &mut self,
-        tools: &mut WallTools<'_, S, C>,
-        fragment: &Fragment,
-        numbers: &FragmentNumbers,
-        places: SavePlaces,
-    ) -> Result<(), DrawFault> {
-        let mut stepper = Stepper::new(fragment);
-        let number = self.notes.len() as u16;
-        let mut k: u32 = 0;
-        loop {
-            let x = stepper.x;
-            let Some(edges) = stepper.next() else {
-                break;
-            };
-            let plan = self.mark_column(tools.planes, numbers, x, &edges);
-            paint_plan(tools, fragment, numbers, number, x, &edges, &plan)?;
-            self.save_column(tools.view, fragment, x, k, places, plan.after);
-            k += 1;
-        }
-        Ok(())
-    }
-
-    fn count_columns(
-        &mut self,
-        view: &View<'_>,
-        planes: &mut Planes,
-        fragment: &Fragment,
-        numbers: &FragmentNumbers,
-        places: SavePlaces,
-    ) {
-        let mut stepper = Stepper::new(fragment);
-        let mut k: u32 = 0;
-        loop {
-            let x = stepper.x;
-            let Some(edges) = stepper.next() else {
-                break;
-            };
-            let plan = self.mark_column(planes, numbers, x, &edges);
-            self.save_column(view, fragment, x, k, places, plan.after);
-            k += 1;
-        }
-    }
-
-    // Marks the planes in a column, and narrows its clip.
-    #[inline(always)]
-    fn mark_column(
-        &mut self,
-        planes: &mut Planes,
-        numbers: &FragmentNumbers,
-        x: u16,
-        edges: &Edges,
-    ) -> ColumnPlan {
-        let clip = ColumnClip {
-            ceiling_clip: self.ceiling_clips[x as usize],
-            floor_clip: self.floor_clips[x as usize],
-        };
-        let plan = column_plan(self.height, numbers, clip, edges);
-        mark_rows(planes, self.ceiling, numbers.ceiling_mark, x, plan.ceiling);
-        mark_rows(planes, self.floor, numbers.floor_mark, x, plan.floor);
-        self.ceiling_clips[x as usize] = plan.after.ceiling_clip;
-        self.floor_clips[x as usize] = plan.after.floor_clip;
-        plan
-    }
-
-    // Saves what the fragment saves of its k-th column, x.
-    #[inline(always)]
-    fn save_column(
-        &mut self,
-        view: &View<'_>,
-        fragment: &Fragment,
-        x: u16,
-        k: u32,
-        places: SavePlaces,
-        after: ColumnClip,
-    ) {
-        if let Some(place) = places.masked {
-            self.openings[(place + k) as usize] = fragment.column_at(view, x);
-        }
-        if let Some(place) = places.top {
-            self.openings[(place + k) as usize] = after.ceiling_clip;
-        }
-        if let Some(place) = places.bottom {
-            self.openings[(place + k) as usize] = after.floor_clip;
-        }
-    }
-
-    fn keep_note(
-        &mut self,
-        seg_no: u16,
-        fragment: &Fragment,
-        numbers: &FragmentNumbers,
-        first: u16,
-        last: u16,
-        places: SavePlaces,
-    ) {
-        let note = note_of(seg_no, fragment, numbers, first, last, places, self.height);
+        let places = self.columns.take_openings(&numbers, first, last)?;
+        self.columns.check_planes(planes, &numbers, first, last)?;
+        self.columns.count_columns(view, planes, &fragment, &numbers, places);
+        let note = note_of(facts.seg_no, &fragment, &numbers, first, last, places, shape.height);
         self.notes.push_reserved(note);
-    }
-}
-
-fn find_plane(planes: &mut Planes, key: Option<PlaneKey>) -> Result<Option<PlaneNo>, DrawFault> {
-    match key {
-        None => Ok(None),
-        Some(key) => Ok(Some(planes.find(key)?)),
-    }
-}
-
-fn check_plane(
-    planes: &mut Planes,
-    plane: Option<PlaneNo>,
-    first: u16,
-    last: u16,
-) -> Result<Option<PlaneNo>, DrawFault> {
-    match plane {
-        None => Ok(None),
-        Some(plane) => Ok(Some(planes.check(plane, first, last)?)),
+        Ok(())
     }
 }

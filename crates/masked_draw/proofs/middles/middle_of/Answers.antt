@@ -54,7 +54,7 @@ unfolding note_mid sector_by
 mid_of v textures lists d None back mid some is e = absurd (grind (arith, some))
 mid_of v textures lists d (Some b) back mid some is e =
     e ∙ ap (λ (r : Sector). masked_mid v.eye.z (note_seg lists d) (heights_of (slice_index_or lists.sectors (note_seg lists d).front no_sector)) (heights_of r)
-      (texture_at textures.lists.textures (middle_by lists d)).height (side_by lists (note_seg lists d).side).y_offset) is
+    (texture_at textures.lists.textures (middle_by lists d)).height (side_by lists (note_seg lists d).side).y_offset) is
 
 mid_same : (seg : Seg) (front f back : Surface) (z a : ℤ) (height h : ℕ) (y b mid : ℤ) → front ≡ f → z ≡ a → height ≡ h → y ≡ b → mid ≡ masked_mid z seg front back height y → mid ≡ masked_mid a seg f back h b
 mid_same seg front f back z a height h y b mid o p q r e = cc

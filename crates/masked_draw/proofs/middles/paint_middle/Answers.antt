@@ -63,7 +63,7 @@ loop-x-preserved g c =
       listed = listed_note-later e.paints i.listed;
       marked = marks-more d c.middle_of-middle.result.place c.args.first c.loop-x.x _ _ _ masked c.requires.begins c.loop-x.auto.x (omega arith) i.marked e.marked e.others;
       paints = paints-same _ (λ art. one_more s.view.now art c.args.hands.now.marks.now c.loop-x.hands.marks.now d c.middle_of-middle.result.place c.args.first c.loop-x.x c.args.number c.middle_of-middle.result.number (scene_drawseg s d)
-              masked c.requires.begins c.loop-x.auto.x (omega arith) i.marked c.middle_of-middle.ensures.number) (paints-then i.paints e.paints);
+          masked c.requires.begins c.loop-x.auto.x (omega arith) i.marked c.middle_of-middle.ensures.number) (paints-then i.paints e.paints);
     }
 
 pub returns-clause-paints : goal.returns-clause-paints

@@ -1,0 +1,176 @@
+-- Laws of what is built: nothing, a leaf more, a fragment more.
+use Rattle.std.proofs.Common.{◌≡◌, ◌≢◌, ℕ, zero, suc, ◌+◌, ◌-◌, ◌<◌, ◌≤◌, Bool, true, false, cond, ℤ, List, [], ◌∷◌, ◌++◌, Option, Some, None, length, take, refl, ap, sym, ◌∙◌, subst, arith}
+use Rattle.std.specs.Prelude.{nat_le, nat_lt, ◌&&◌, option_map}
+use Rattle.std.specs.List.{All}
+use Rattle.std.proofs.lemmas.Bool.Decides.{nat_tests}
+use Rattle.std.proofs.lemmas.List.{length-append}
+use Rattle.std.proofs.lemmas.List.Elements.{All-nil, All-push}
+use Rattle.view_rules.specs.View.{ViewValue}
+use Rattle.view_rules.specs.declared.TheConstants.{FRAME_WIDTH}
+use Rattle.view_rules.specs.declared.ViewShape.{ViewShape}
+use Rattle.wall_rules.specs.declared.ColumnClip.{ColumnClip}
+use Rattle.wall_rules.specs.declared.FragmentNote.{FragmentNote}
+use Rattle.wall_rules.specs.declared.FragmentNumbers.{FragmentNumbers}
+use Rattle.wall_rules.specs.declared.WallFacts.{WallFacts}
+use Rattle.wall_rules.specs.Clips.{open_clip, clip_after, ceiling_rows, floor_rows}
+use Rattle.wall_rules.specs.Columns.{texture_column}
+use Rattle.wall_rules.specs.Edges.{edges_at}
+use Rattle.wall_rules.specs.Notes.{middle_columns, top_clips, bottom_clips, saved_by, saved_from, notes_from, openings_list, view_notes, note_at}
+use Rattle.wall_rules.specs.Numbers.{fragment_numbers}
+use Rattle.wall_rules.specs.Strips.{marked_rows, ceiling_marks, floor_marks}
+use Rattle.wall_rules.specs.Walls.{Wall, wall_of, has_column, wall_edges, past_wall, clip_before, clip_past}
+use Rattle.wall_rules.proofs.NoteLemmas.{openings_list-more, view_notes-more}
+use Rattle.wall_rules.proofs.WallLemmas.{past_wall-own, past_wall-other, clip_past-next, clip_before-front}
+use Rattle.plane_rules.specs.declared.PlaneKey.{PlaneKey}
+use Rattle.plane_rules.specs.Planes.{Plane}
+use Rattle.plane_rules.specs.Built.{PlaneWall, PlaneEvent, PlanesNow, no_planes, floor_found, ceiling_found, ceiling_checked, floor_checked, columns_marked, wall_marked, after_event, MarkAlike, IsSoundNow}
+use Rattle.plane_rules.specs.Built.PlaneEvent.{Finds, Draws}
+use Rattle.plane_rules.proofs.BuiltLemmas.{after_event-alike, sound-after_event}
+use Rattle.picture_rules.specs.Planes.{plane_wall, wall_step}
+use Rattle.visplanes.specs.Planes.{PlanesView, with_planes}
+use Rattle.wall_edges.specs.Fragments.{FragmentValue, fragment_of}
+use Rattle.wall_columns.specs.declared.notes.SavePlaces.{SavePlaces}
+use Rattle.wall_columns.specs.declared.column_state.ColumnState.{ColumnState}
+use Rattle.wall_columns.specs.Walls.{WallsView, clip_at}
+use Rattle.wall_columns.specs.Windows.{WindowsView, window_at}
+use Rattle.wall_columns.specs.Saved.{OpeningsView, columns_saved}
+use Rattle.wall_columns.specs.Places.{places_of}
+use Rattle.wall_columns.specs.Columns.{plane_number, columns_of, column_edges, column_after, clip_along, marks_along, HasMarked, HasSaved}
+use Rattle.wall_columns.specs.Leaves.{now_of, ceiling_check, floor_check}
+use Rattle.wall_columns.specs.States.{walls_view}
+use Rattle.wall_columns.specs.Built.{IsDrawn, IsBuilt, with_wall, step_of_wall, step_of_leaf}
+use Rattle.wall_columns.proofs.SavedLemmas.{columns_saved-lists}
+
+-- what is open of a column, of the state and of its windows
+pub clip_at-window : (notes : List FragmentNote) (state : ColumnState) (x : ℕ) → clip_at (walls_view notes state) x ≡ window_at state.windows x
+unfolding clip_at window_at
+clip_at-window notes state x = refl
+
+none_noted : (v : ViewValue) → [] ≡ view_notes v []
+unfolding view_notes notes_from
+none_noted v = refl
+
+none_saved : (v : ViewValue) → [] ≡ openings_list v []
+unfolding openings_list saved_from
+none_saved v = refl
+
+none_clipped : (shape : ViewShape) (x : ℕ) → open_clip shape.height ≡ clip_before shape [] (length (let walls : List Wall = [] in walls)) x
+unfolding clip_before
+none_clipped shape x = refl
+
+no_number : plane_number None ≡ None
+no_number = refl
+
+-- a view is started
+pub built-start : (v : ViewValue) (notes : List FragmentNote) (state : ColumnState) (height : ℕ) → notes ≡ [] → state.openings.saved ≡ [] →
+    ((x : ℕ) → x < FRAME_WIDTH → window_at state.windows x ≡ open_clip height) → state.windows.height ≡ height → state.floor ≡ None → state.ceiling ≡ None →
+    v.shape.height ≡ height → v.shape.width ≤ FRAME_WIDTH → IsBuilt v [] no_planes (walls_view notes state) []
+built-start v notes state height no_notes no_openings windows rows floor ceiling e l = record {
+  drawn = All-nil (IsDrawn v);
+  notes = no_notes ∙ none_noted v;
+  openings = no_openings ∙ none_saved v;
+  clips = λ x i. clip_at-window notes state x ∙ windows x (omega arith) ∙ ap open_clip (sym e) ∙ none_clipped v.shape x;
+  height = rows ∙ sym e;
+  floor = ap plane_number floor;
+  ceiling = ap plane_number ceiling;
+  planes = refl;
+  sound = record { wide = All-nil (λ (p : Plane). length p.runs ≡ FRAME_WIDTH); floor = tt; ceiling = tt };
+}
+
+clips_same : (notes : List FragmentNote) (old new : ColumnState) (x : ℕ) → new.windows ≡ old.windows → clip_at (walls_view notes new) x ≡ clip_at (walls_view notes old) x
+clips_same notes old new x e = clip_at-window notes new x ∙ ap (λ (w : WindowsView). window_at w x) e ∙ sym (clip_at-window notes old x)
+
+now_is : (v : ViewValue) (walls : List Wall) (s : PlanesNow) (notes : List FragmentNote) (state : ColumnState) (planes : PlanesView) →
+    IsBuilt v walls s (walls_view notes state) planes.planes → s ≡ now_of state planes
+now_is v walls s notes state planes h =
+    ap (λ (ps : List Plane). let t : PlanesNow = record { planes = ps; floor = s.floor; ceiling = s.ceiling } in t) (sym h.planes)
+    ∙ ap (λ (o : Option ℕ). let t : PlanesNow = record { planes = planes.planes; floor = o; ceiling = s.ceiling } in t) (sym h.floor)
+    ∙ ap (λ (o : Option ℕ). let t : PlanesNow = record { planes = planes.planes; floor = plane_number state.floor; ceiling = o } in t) (sym h.ceiling)
+
+-- the planes and the current ones are those of a state that is built
+pub built-now : (v : ViewValue) (walls : List Wall) (s : PlanesNow) (notes : List FragmentNote) (state : ColumnState) (planes : PlanesView) →
+    IsBuilt v walls s (walls_view notes state) planes.planes → s ≡ now_of state planes
+built-now v walls s notes state planes h = now_is v walls s notes state planes h
+
+leaf_after : (s : PlanesNow) (floor ceiling : Option PlaneKey) → ceiling_found ceiling (floor_found floor s) ≡ after_event s (Finds floor ceiling)
+unfolding after_event
+leaf_after s floor ceiling = refl
+
+-- a leaf is entered
+pub built-leaf : (v : ViewValue) (walls : List Wall) (s : PlanesNow) (notes : List FragmentNote) (old new : ColumnState) (before later : PlanesView) (floor ceiling : Option PlaneKey) →
+    IsBuilt v walls s (walls_view notes old) before.planes → now_of new later ≡ ceiling_found ceiling (floor_found floor s) → new.windows ≡ old.windows → new.openings ≡ old.openings →
+    IsBuilt v walls (after_event s (Finds floor ceiling)) (walls_view notes new) later.planes
+built-leaf v walls s notes old new before later floor ceiling h found windows openings =
+    let e : now_of new later ≡ after_event s (Finds floor ceiling) = found ∙ leaf_after s floor ceiling in
+    record {
+      drawn = h.drawn;
+      notes = h.notes;
+      openings = ap (λ (o : OpeningsView). o.saved) openings ∙ h.openings;
+      clips = λ x l. clips_same notes old new x windows ∙ h.clips x l;
+      height = ap (λ (w : WindowsView). w.height) windows ∙ h.height;
+      floor = ap (λ (t : PlanesNow). t.floor) e;
+      ceiling = ap (λ (t : PlanesNow). t.ceiling) e;
+      planes = ap (λ (t : PlanesNow). t.planes) e;
+      sound = sound-after_event s (Finds floor ceiling) h.sound;
+    }
+
+-- the columns of a fragment
+columns_test : (first last x : ℕ) → first ≤ last → (nat_le first x && nat_lt x (first + (last + 1 - first))) ≡ (nat_le first x && nat_le x last)
+columns_test first last x o = grind (arith, nat_tests)
+
+own_column : (first last x : ℕ) → first ≤ x → x ≤ last → (nat_le first x && nat_le x last) ≡ true
+own_column first last x l h = grind (arith, nat_tests)
+
+has_own : (w : Wall) (x : ℕ) → w.first ≤ x → x ≤ w.last → has_column w x ≡ true
+unfolding has_column
+has_own w x l h = own_column w.first w.last x l h
+
+-- the clip past a new fragment
+past_new : (shape : ViewShape) (walls : List Wall) (w : Wall) (x : ℕ) → clip_past shape (with_wall walls w) (length walls) x ≡ past_wall shape x w (clip_before shape walls (length walls) x)
+past_new shape walls w x = clip_past-next shape walls w (length walls) x refl
+
+before_more : (shape : ViewShape) (walls : List Wall) (w : Wall) (x : ℕ) → clip_past shape (with_wall walls w) (length walls) x ≡ clip_before shape (with_wall walls w) (length (with_wall walls w)) x
+unfolding clip_past
+before_more shape walls w x =
+    let n : suc (length walls) ≡ length (with_wall walls w) = (let e = length-append walls (w ∷ []) in omega arith) in
+    ap (λ (k : ℕ). clip_before shape (with_wall walls w) k x) n
+
+-- a fragment's own facts, as a wall and as a fragment
+abbrev wall : ViewValue → WallFacts → ℕ → ℕ → Wall
+wall v facts first last = wall_of v facts first last
+
+edges_same : (v : ViewValue) (facts : WallFacts) (first last x : ℕ) → column_edges (fragment_of v facts first last) x ≡ wall_edges v.shape (wall_of v facts first last) x
+unfolding column_edges wall_edges wall_of
+edges_same v facts first last x = refl
+
+along_is : (v : ViewValue) (facts : WallFacts) (first last x height : ℕ) (before : ℕ → ColumnClip) (clip : ColumnClip) → first ≤ last → height ≡ v.shape.height → before x ≡ clip →
+    clip_along height (fragment_of v facts first last) before (last + 1 - first) x ≡ past_wall v.shape x (wall_of v facts first last) clip
+unfolding clip_along column_after past_wall has_column column_edges wall_edges wall_of
+along_is v facts first last x height before clip o e b =
+    ap (λ (t : Bool). cond t (clip_after height (fragment_numbers v facts first last) (before x) (edges_at v.shape (fragment_numbers v facts first last) (x - first))) (before x)) (columns_test first last x o)
+    ∙ ap (λ (m : ℕ). cond (nat_le first x && nat_le x last) (clip_after m (fragment_numbers v facts first last) (before x) (edges_at v.shape (fragment_numbers v facts first last) (x - first))) (before x)) e
+    ∙ ap (λ (c : ColumnClip). cond (nat_le first x && nat_le x last) (clip_after v.shape.height (fragment_numbers v facts first last) c (edges_at v.shape (fragment_numbers v facts first last) (x - first))) c) b
+
+after_is : (v : ViewValue) (facts : WallFacts) (first last x height : ℕ) (before : ℕ → ColumnClip) (clip : ColumnClip) → first ≤ x → x ≤ last → height ≡ v.shape.height → before x ≡ clip →
+    column_after height (fragment_of v facts first last) before x ≡ past_wall v.shape x (wall_of v facts first last) clip
+unfolding column_after past_wall has_column column_edges wall_edges wall_of
+after_is v facts first last x height before clip l h e b =
+    ap (λ (m : ℕ). clip_after m (fragment_numbers v facts first last) (before x) (edges_at v.shape (fragment_numbers v facts first last) (x - first))) e
+    ∙ ap (λ (c : ColumnClip). clip_after v.shape.height (fragment_numbers v facts first last) c (edges_at v.shape (fragment_numbers v facts first last) (x - first))) b
+    ∙ sym (ap (λ (t : Bool). cond t (clip_after v.shape.height (fragment_numbers v facts first last) clip (edges_at v.shape (fragment_numbers v facts first last) (x - first))) clip) (own_column first last x l h))
+
+-- what is known when the fragment's columns are drawn
+pub record WallDrawn (v : ViewValue) (walls : List Wall) (s : PlanesNow) (facts : WallFacts) (first last : ℕ) (notes : List FragmentNote) (old checked new : ColumnState)
+    (before between later : PlanesView) (lists : SavePlaces) (entry : FragmentNote) : Type 0 where
+  pub built : IsBuilt v walls s (walls_view notes old) before.planes
+  pub ordered : first ≤ last
+  pub within : last < v.shape.width
+  pub frame : v.shape.width ≤ FRAME_WIDTH
+  pub windows : checked.windows ≡ old.windows
+  pub planes : now_of checked between ≡ floor_check (fragment_numbers v facts first last) first last (ceiling_check (fragment_numbers v facts first last) first last s)
+  pub places : lists ≡ places_of (fragment_numbers v facts first last) (length old.openings.saved) (last + 1 - first)
+  pub front : take (length old.openings.saved) checked.openings.saved ≡ old.openings.saved
+  pub total : length checked.openings.saved ≡ lists.end
+  pub marked : HasMarked (fragment_of v facts first last) (last + 1 - first) checked new between later
+  pub saved : HasSaved v (fragment_of v facts first last) lists (last + 1 - first) checked new.openings
+  pub note : entry ≡ note_at v (wall_of v facts first last) (length old.openings.saved)

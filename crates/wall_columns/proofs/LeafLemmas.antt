@@ -1,0 +1,207 @@
+-- Laws of the planes of a leaf: what finding and checking them one after the other comes to, and what
+-- is told where one passes its room.
+use Rattle.std.proofs.Common.{◌≡◌, ℕ, ◌<◌, ◌≤◌, Bool, true, false, cond, List, Option, Some, None, Result, Ok, Err, IsErr, IsErrAnd, length, refl, ap, sym, ◌∙◌, arith}
+use Rattle.std.specs.Prelude.{nat_lt}
+use Rattle.std.proofs.lemmas.Bool.Decides.{nat_tests}
+use Rattle.plane_rules.specs.declared.PlaneKey.{PlaneKey}
+use Rattle.plane_rules.specs.Planes.{Plane, PlaneChoice, find, check}
+use Rattle.plane_rules.specs.Built.{PlanesNow, floor_found, ceiling_found, checked_plane, with_ceiling, with_floor, IsAmongPlanes}
+use Rattle.plane_rules.proofs.PlaneLemmas.{length-find}
+use Rattle.picture_rules.specs.declared.OverLimit.{OverLimit}
+use Rattle.picture_rules.specs.Counts.{planes_count, openings_count}
+use Rattle.visplanes.specs.Planes.{PlanesView, with_planes}
+use Rattle.wall_rules.specs.declared.FragmentNumbers.{FragmentNumbers}
+use Rattle.wall_columns.specs.declared.fault.DrawFault.{DrawFault}
+use Rattle.wall_columns.specs.declared.fault.DrawFault.TheVariants.{Planes, Openings}
+use Rattle.wall_columns.specs.Faults.{limit_of_fault, limit_of_result}
+use Rattle.wall_columns.specs.Leaves.{planes_found, number_found, planes_checked, number_checked, ceiling_check, floor_check, planes_over, openings_over, leaf_over, checks_over}
+
+-- tests of a room
+passed : (room count : ℕ) → room < count → nat_lt room count ≡ true
+passed room count l = grind (arith, nat_tests)
+
+within_test : (room count : ℕ) (t : Bool) → nat_lt room count ≡ t → (room < count → false ≡ true) → t ≡ false
+within_test room count true e h = let l : room < count = grind (arith, nat_tests) in sym (h l)
+within_test room count false e h = refl
+
+within : (room count : ℕ) → (room < count → false ≡ true) → nat_lt room count ≡ false
+within room count h = within_test room count (nat_lt room count) refl h
+
+-- an answer that passes on a fault tells its limit
+pub limit-passed_on : {A : Type 0} (r : Result A DrawFault) (fault : DrawFault) → IsErr r → IsErrAnd r (λ e. e ≡ fault) → limit_of_result r ≡ limit_of_fault fault
+limit-passed_on (Ok value) fault h g = absurd (let t : false ≡ true = h in cc)
+limit-passed_on (Err other) fault h g = ap limit_of_fault g
+
+-- openings past the room are told, and others not
+pub openings_over-passed : (room count : ℕ) (next : Option OverLimit) → room < count → openings_over room count next ≡ Some (openings_count count)
+unfolding openings_over
+openings_over-passed room count next l = rw (passed room count l) refl
+
+pub openings_over-within : (room count : ℕ) (next : Option OverLimit) → (room < count → false ≡ true) → openings_over room count next ≡ next
+unfolding openings_over
+openings_over-within room count next h = rw (within room count h) refl
+
+pub planes_over-passed : (room count : ℕ) (next : Option OverLimit) → room < count → planes_over room count next ≡ Some (planes_count count)
+unfolding planes_over
+planes_over-passed room count next l = rw (passed room count l) refl
+
+pub planes_over-within : (room count : ℕ) (next : Option OverLimit) → (room < count → false ≡ true) → planes_over room count next ≡ next
+unfolding planes_over
+planes_over-within room count next h = rw (within room count h) refl
+
+-- the current planes, one after the other
+abbrev now : List Plane → Option ℕ → Option ℕ → PlanesNow
+now planes floor ceiling = record { planes = planes; floor = floor; ceiling = ceiling }
+
+floor_found-is : (o : Option PlaneKey) (planes : List Plane) (floor ceiling : Option ℕ) →
+    floor_found o (now planes floor ceiling) ≡ now (planes_found planes o) (number_found planes o) ceiling
+unfolding floor_found planes_found number_found
+floor_found-is None planes floor ceiling = refl
+floor_found-is (Some key) planes floor ceiling = refl
+
+ceiling_found-is : (o : Option PlaneKey) (planes : List Plane) (floor ceiling : Option ℕ) →
+    ceiling_found o (now planes floor ceiling) ≡ now (planes_found planes o) floor (number_found planes o)
+unfolding ceiling_found planes_found number_found
+ceiling_found-is None planes floor ceiling = refl
+ceiling_found-is (Some key) planes floor ceiling = refl
+
+with_ceiling-is : (c : Option PlaneChoice) (planes : List Plane) (floor ceiling : Option ℕ) →
+    with_ceiling c (now planes floor ceiling) ≡ now (planes_checked planes c) floor (number_checked ceiling c)
+unfolding with_ceiling planes_checked number_checked
+with_ceiling-is None planes floor ceiling = refl
+with_ceiling-is (Some c) planes floor ceiling = refl
+
+with_floor-is : (c : Option PlaneChoice) (planes : List Plane) (floor ceiling : Option ℕ) →
+    with_floor c (now planes floor ceiling) ≡ now (planes_checked planes c) (number_checked floor c) ceiling
+unfolding with_floor planes_checked number_checked
+with_floor-is None planes floor ceiling = refl
+with_floor-is (Some c) planes floor ceiling = refl
+
+-- the floor is found
+pub enter-floor : (s : PlanesNow) (a b : PlanesView) (key : Option PlaneKey) (floor ceiling number : Option ℕ) → s ≡ now a.planes floor ceiling →
+    b ≡ with_planes (planes_found a.planes key) a → number ≡ number_found a.planes key → floor_found key s ≡ now b.planes number ceiling
+enter-floor s a b key floor ceiling number e f g =
+    ap (floor_found key) e ∙ floor_found-is key a.planes floor ceiling
+    ∙ ap (λ (ps : List Plane). now ps (number_found a.planes key) ceiling) (sym (ap (λ (v : PlanesView). v.planes) f))
+    ∙ ap (λ (o : Option ℕ). now b.planes o ceiling) (sym g)
+
+-- the ceiling is found
+pub enter-ceiling : (s : PlanesNow) (a b : PlanesView) (key : Option PlaneKey) (floor ceiling number : Option ℕ) → s ≡ now a.planes floor ceiling →
+    b ≡ with_planes (planes_found a.planes key) a → number ≡ number_found a.planes key → ceiling_found key s ≡ now b.planes floor number
+enter-ceiling s a b key floor ceiling number e f g =
+    ap (ceiling_found key) e ∙ ceiling_found-is key a.planes floor ceiling
+    ∙ ap (λ (ps : List Plane). now ps floor (number_found a.planes key)) (sym (ap (λ (v : PlanesView). v.planes) f))
+    ∙ ap (λ (o : Option ℕ). now b.planes floor o) (sym g)
+
+-- a plane is checked
+pub check-ceiling : (s : PlanesNow) (a b : PlanesView) (n : FragmentNumbers) (first last : ℕ) (floor ceiling number : Option ℕ) → s ≡ now a.planes floor ceiling →
+    b ≡ with_planes (planes_checked a.planes (checked_plane n.ceiling_mark a.planes ceiling first last)) a →
+    number ≡ number_checked ceiling (checked_plane n.ceiling_mark a.planes ceiling first last) → ceiling_check n first last s ≡ now b.planes floor number
+unfolding ceiling_check
+check-ceiling s a b n first last floor ceiling number e f g =
+    let c : Option PlaneChoice = checked_plane n.ceiling_mark a.planes ceiling first last in
+    ap (λ (t : PlanesNow). with_ceiling (checked_plane n.ceiling_mark t.planes t.ceiling first last) t) e ∙ with_ceiling-is c a.planes floor ceiling
+    ∙ ap (λ (ps : List Plane). now ps floor (number_checked ceiling c)) (sym (ap (λ (v : PlanesView). v.planes) f))
+    ∙ ap (λ (o : Option ℕ). now b.planes floor o) (sym g)
+
+pub check-floor : (s : PlanesNow) (a b : PlanesView) (n : FragmentNumbers) (first last : ℕ) (floor ceiling number : Option ℕ) → s ≡ now a.planes floor ceiling →
+    b ≡ with_planes (planes_checked a.planes (checked_plane n.floor_mark a.planes floor first last)) a →
+    number ≡ number_checked floor (checked_plane n.floor_mark a.planes floor first last) → floor_check n first last s ≡ now b.planes number ceiling
+unfolding floor_check
+check-floor s a b n first last floor ceiling number e f g =
+    let c : Option PlaneChoice = checked_plane n.floor_mark a.planes floor first last in
+    ap (λ (t : PlanesNow). with_floor (checked_plane n.floor_mark t.planes t.floor first last) t) e ∙ with_floor-is c a.planes floor ceiling
+    ∙ ap (λ (ps : List Plane). now ps (number_checked floor c) ceiling) (sym (ap (λ (v : PlanesView). v.planes) f))
+    ∙ ap (λ (o : Option ℕ). now b.planes o ceiling) (sym g)
+
+count_floor : (s : PlanesNow) (key : Option PlaneKey) → length (floor_found key s).planes ≡ length (planes_found s.planes key)
+unfolding floor_found planes_found
+count_floor s None = refl
+count_floor s (Some key) = refl
+
+count_ceiling : (s : PlanesNow) (key : Option PlaneKey) → length (ceiling_found key s).planes ≡ length (planes_found s.planes key)
+unfolding ceiling_found planes_found
+count_ceiling s None = refl
+count_ceiling s (Some key) = refl
+
+count_with_ceiling : (s : PlanesNow) (c : Option PlaneChoice) → length (with_ceiling c s).planes ≡ length (planes_checked s.planes c)
+unfolding with_ceiling planes_checked
+count_with_ceiling s None = refl
+count_with_ceiling s (Some c) = refl
+
+count_with_floor : (s : PlanesNow) (c : Option PlaneChoice) → length (with_floor c s).planes ≡ length (planes_checked s.planes c)
+unfolding with_floor planes_checked
+count_with_floor s None = refl
+count_with_floor s (Some c) = refl
+
+-- the counts of a leaf, by the planes before each step
+leaf_counts : (room : ℕ) (s : PlanesNow) (floor ceiling : Option PlaneKey) →
+    leaf_over room s floor ceiling ≡ planes_over room (length (planes_found s.planes floor)) (planes_over room (length (planes_found (floor_found floor s).planes ceiling)) None)
+unfolding leaf_over
+leaf_counts room s floor ceiling =
+    ap (λ (m : ℕ). planes_over room m (planes_over room (length (ceiling_found ceiling (floor_found floor s)).planes) None)) (count_floor s floor)
+    ∙ ap (λ (n : ℕ). planes_over room (length (planes_found s.planes floor)) (planes_over room n None)) (count_ceiling (floor_found floor s) ceiling)
+
+check_counts : (room : ℕ) (n : FragmentNumbers) (first last : ℕ) (s : PlanesNow) →
+    checks_over room n first last s
+    ≡ planes_over room (length (planes_checked s.planes (checked_plane n.ceiling_mark s.planes s.ceiling first last)))
+    (planes_over room (length (planes_checked (ceiling_check n first last s).planes
+    (checked_plane n.floor_mark (ceiling_check n first last s).planes (ceiling_check n first last s).floor first last))) None)
+unfolding checks_over ceiling_check floor_check
+check_counts room n first last s =
+    let t : PlanesNow = with_ceiling (checked_plane n.ceiling_mark s.planes s.ceiling first last) s in
+    ap (λ (m : ℕ). planes_over room m (planes_over room (length (with_floor (checked_plane n.floor_mark t.planes t.floor first last) t).planes) None))
+    (count_with_ceiling s (checked_plane n.ceiling_mark s.planes s.ceiling first last))
+    ∙ ap (λ (m : ℕ). planes_over room (length (planes_checked s.planes (checked_plane n.ceiling_mark s.planes s.ceiling first last))) (planes_over room m None))
+    (count_with_floor t (checked_plane n.floor_mark t.planes t.floor first last))
+
+-- two counts: the first passes the room, or the second, or neither
+pub record Counts (over : Option OverLimit) (room m n : ℕ) : Type 0 where
+  pub first : room < m → over ≡ Some (planes_count m)
+  pub second : (room < m → false ≡ true) → room < n → over ≡ Some (planes_count n)
+  pub none : (room < m → false ≡ true) → (room < n → false ≡ true) → over ≡ None
+
+two_counts : (over : Option OverLimit) (room m n : ℕ) → over ≡ planes_over room m (planes_over room n None) → Counts over room m n
+two_counts over room m n e = record {
+  first = λ l. e ∙ planes_over-passed room m (planes_over room n None) l;
+  second = λ h l. e ∙ planes_over-within room m (planes_over room n None) h ∙ planes_over-passed room n None l;
+  none = λ h i. e ∙ planes_over-within room m (planes_over room n None) h ∙ planes_over-within room n None i;
+}
+
+-- a leaf's counts, where the floor left the planes b
+pub leaf_over-counts : (room : ℕ) (s : PlanesNow) (a : PlanesView) (floor ceiling : Option PlaneKey) (f c : Option ℕ) → s ≡ now a.planes f c →
+    (b : PlanesView) → b ≡ with_planes (planes_found a.planes floor) a →
+    Counts (leaf_over room s floor ceiling) room (length (planes_found a.planes floor)) (length (planes_found b.planes ceiling))
+leaf_over-counts room s a floor ceiling f c e b g =
+    let h : (floor_found floor s).planes ≡ b.planes = ap (λ (t : PlanesNow). t.planes) (enter-floor s a b floor f c (number_found a.planes floor) e g refl) in
+    two_counts _ _ _ _
+    (leaf_counts room s floor ceiling
+    ∙ ap (λ (t : PlanesNow). planes_over room (length (planes_found t.planes floor)) (planes_over room (length (planes_found (floor_found floor s).planes ceiling)) None)) e
+    ∙ ap (λ (ps : List Plane). planes_over room (length (planes_found a.planes floor)) (planes_over room (length (planes_found ps ceiling)) None)) h)
+
+-- a fragment's counts, where the ceiling's check left the planes b
+pub checks_over-counts : (room : ℕ) (s : PlanesNow) (a : PlanesView) (n : FragmentNumbers) (first last : ℕ) (f c : Option ℕ) → s ≡ now a.planes f c →
+    (b : PlanesView) → b ≡ with_planes (planes_checked a.planes (checked_plane n.ceiling_mark a.planes c first last)) a →
+    Counts (checks_over room n first last s) room (length (planes_checked a.planes (checked_plane n.ceiling_mark a.planes c first last)))
+    (length (planes_checked b.planes (checked_plane n.floor_mark b.planes f first last)))
+checks_over-counts room s a n first last f c e b g =
+    let h = check-ceiling s a b n first last f c (number_checked c (checked_plane n.ceiling_mark a.planes c first last)) e g refl in
+    two_counts _ _ _ _
+    (check_counts room n first last s
+    ∙ ap (λ (t : PlanesNow). planes_over room (length (planes_checked t.planes (checked_plane n.ceiling_mark t.planes t.ceiling first last)))
+    (planes_over room (length (planes_checked (ceiling_check n first last s).planes (checked_plane n.floor_mark (ceiling_check n first last s).planes (ceiling_check n first last s).floor first last))) None)) e
+    ∙ ap (λ (t : PlanesNow). planes_over room (length (planes_checked a.planes (checked_plane n.ceiling_mark a.planes c first last)))
+    (planes_over room (length (planes_checked t.planes (checked_plane n.floor_mark t.planes t.floor first last))) None)) h)
+
+-- what is among the planes stays so where there are more
+pub among-longer : (o : Option ℕ) (xs ys : List Plane) → IsAmongPlanes xs o → length xs ≤ length ys → IsAmongPlanes ys o
+among-longer None xs ys h l = tt
+among-longer (Some i) xs ys h l = omega arith
+
+longer_find : (planes : List Plane) (key : PlaneKey) → length planes ≤ length (find planes key).planes
+longer_find planes key = omega (arith, length-find planes key)
+
+pub longer_found : (planes : List Plane) (o : Option PlaneKey) → length planes ≤ length (planes_found planes o)
+unfolding planes_found
+longer_found planes None = omega arith
+longer_found planes (Some key) = longer_find planes key

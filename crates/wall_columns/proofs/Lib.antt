@@ -1,0 +1,11 @@
+pub mod PaintedLemmas
+pub mod PlannedLemmas
+pub mod ClipLemmas
+pub mod PartLemmas
+pub mod PlanLemmas
+pub mod SavedLemmas
+pub mod SightLemmas
+pub mod NoteLemmas
+pub mod LeafLemmas
+pub mod MarkLemmas
+pub mod BuiltLemmas

@@ -1,0 +1,209 @@
+-- Laws of the columns of a fragment as they are drawn one by one: none, and one more.
+use Rattle.std.proofs.Common.{◌≡◌, ◌≢◌, ℕ, zero, suc, ◌+◌, ◌-◌, ◌<◌, ◌≤◌, ◌==◌, Bool, true, false, cond, ℤ, List, Option, Some, None, length, refl, ap, sym, ◌∙◌, subst, arith}
+use Rattle.std.specs.Prelude.{nat_le, nat_lt, ◌&&◌}
+use Rattle.std.proofs.lemmas.Bool.Decides.{nat_tests}
+use Rattle.view_rules.specs.View.{ViewValue}
+use Rattle.view_rules.specs.declared.TheConstants.{FRAME_WIDTH}
+use Rattle.wall_rules.specs.declared.ColumnClip.{ColumnClip}
+use Rattle.wall_rules.specs.declared.Edges.{Edges}
+use Rattle.wall_rules.specs.declared.FragmentNumbers.{FragmentNumbers}
+use Rattle.wall_rules.specs.declared.WallFacts.{WallFacts}
+use Rattle.wall_rules.specs.Clips.{clip_after, ceiling_rows, floor_rows}
+use Rattle.wall_rules.specs.Columns.{texture_column}
+use Rattle.wall_rules.specs.Edges.{edges_at}
+use Rattle.wall_rules.specs.Strips.{marked_rows}
+use Rattle.plane_rules.specs.Planes.{Plane}
+use Rattle.plane_rules.specs.Built.{set_run, column_marked, columns_marked}
+use Rattle.plane_rules.proofs.BuiltLemmas.{columns_marked-none, columns_marked-more}
+use Rattle.visplanes.specs.Planes.{PlanesView, with_planes}
+use Rattle.wall_edges.specs.Fragments.{FragmentValue, fragment_of}
+use Rattle.wall_columns.specs.declared.clips.ColumnPlan.{ColumnPlan}
+use Rattle.wall_columns.specs.declared.notes.SavePlaces.{SavePlaces}
+use Rattle.wall_columns.specs.declared.column_state.ColumnState.{ColumnState}
+use Rattle.wall_columns.specs.Windows.{WindowsView, window_at, with_window}
+use Rattle.wall_columns.specs.Plans.{plan_of}
+use Rattle.wall_columns.specs.Saved.{OpeningsView, column_saved, columns_saved}
+use Rattle.wall_columns.specs.Columns.{plane_number, column_edges, column_after, clip_along, marks_along, HasMarked, HasSaved}
+
+-- no column of a fragment stands before its first
+none_before : (first x : ℕ) → (nat_le first x && nat_lt x (first + 0)) ≡ false
+none_before first x = grind (arith, nat_tests)
+
+-- column number k is not among the first k
+not_among : (first k x : ℕ) → x ≡ first + k → (nat_le first x && nat_lt x (first + k)) ≡ false
+not_among first k x e = grind (arith, nat_tests)
+
+last_among : (first k x : ℕ) → x ≡ first + k → (nat_le first x && nat_lt x (first + (k + 1))) ≡ true
+last_among first k x e = grind (arith, nat_tests)
+
+others_among : (first k x y : ℕ) → x ≡ first + k → y ≢ x → (nat_le first y && nat_lt y (first + k)) ≡ (nat_le first y && nat_lt y (first + (k + 1)))
+others_among first k x y e h = grind (arith, nat_tests)
+
+clip_along-none : (height : ℕ) (f : FragmentValue) (before : ℕ → ColumnClip) (x : ℕ) → before x ≡ clip_along height f before 0 x
+unfolding clip_along
+clip_along-none height f before x = sym (ap (λ (b : Bool). cond b (column_after height f before x) (before x)) (none_before f.first x))
+
+clip_along-at : (height : ℕ) (f : FragmentValue) (before : ℕ → ColumnClip) (k x : ℕ) → x ≡ f.first + k → clip_along height f before k x ≡ before x
+unfolding clip_along
+clip_along-at height f before k x e = ap (λ (b : Bool). cond b (column_after height f before x) (before x)) (not_among f.first k x e)
+
+clip_along-last : (height : ℕ) (f : FragmentValue) (before : ℕ → ColumnClip) (k x : ℕ) → x ≡ f.first + k → clip_along height f before (k + 1) x ≡ column_after height f before x
+unfolding clip_along
+clip_along-last height f before k x e = ap (λ (b : Bool). cond b (column_after height f before x) (before x)) (last_among f.first k x e)
+
+clip_along-other : (height : ℕ) (f : FragmentValue) (before : ℕ → ColumnClip) (k x y : ℕ) → x ≡ f.first + k → y ≢ x → clip_along height f before k y ≡ clip_along height f before (k + 1) y
+unfolding clip_along
+clip_along-other height f before k x y e h = ap (λ (b : Bool). cond b (column_after height f before y) (before y)) (others_among f.first k x y e h)
+
+-- no column yet
+pub has_marked-none : (f : FragmentValue) (start : ColumnState) (planes : PlanesView) → HasMarked f 0 start start planes planes
+has_marked-none f start planes = record {
+  windows = λ x l. clip_along-none start.windows.height f (window_at start.windows) x;
+  height = refl;
+  planes = ap (λ (ps : List Plane). with_planes ps planes) (columns_marked-none (marks_along f (window_at start.windows)) (plane_number start.ceiling) (plane_number start.floor) 0 planes.planes refl);
+  count = refl;
+  floor = refl;
+  ceiling = refl;
+}
+
+pub has_saved-none : (v : ViewValue) (f : FragmentValue) (places : SavePlaces) (start : ColumnState) → HasSaved v f places 0 start start.openings
+unfolding columns_saved
+has_saved-none v f places start = record { saved = λ facts first last e. refl; count = refl; room = refl }
+
+-- what is told of a column that is passed
+pub record PassesColumn (n : FragmentNumbers) (x : ℕ) (e : Edges) (now next : ColumnState) (before later : PlanesView) (after : ColumnClip) : Type 0 where
+  pub left_open : after ≡ clip_after now.windows.height n (window_at now.windows x) e
+  pub own : window_at next.windows x ≡ after
+  pub other : (y : ℕ) → y ≢ x → window_at next.windows y ≡ window_at now.windows y
+  pub height : next.windows.height ≡ now.windows.height
+  pub planes : later ≡ with_planes (set_run (set_run before.planes (plane_number now.ceiling) x (marked_rows n.ceiling_mark (ceiling_rows (window_at now.windows x) e)))
+      (plane_number now.floor) x (marked_rows n.floor_mark (floor_rows (window_at now.windows x) e))) before
+  pub count : length later.planes ≡ length before.planes
+  pub floor : next.floor ≡ now.floor
+  pub ceiling : next.ceiling ≡ now.ceiling
+
+height_of : (w next : WindowsView) (x : ℕ) (clip : ColumnClip) → next ≡ with_window w x clip → next.height ≡ w.height
+unfolding with_window
+height_of w next x clip e = ap (λ (v : WindowsView). v.height) e
+
+plan_after : (height : ℕ) (n : FragmentNumbers) (clip : ColumnClip) (e : Edges) (plan : ColumnPlan) → plan ≡ plan_of height n clip e → plan.after ≡ clip_after height n clip e
+unfolding plan_of
+plan_after height n clip e plan p = ap (λ (q : ColumnPlan). q.after) p
+
+-- by the clauses of the call
+pub passes-column : (n : FragmentNumbers) (x : ℕ) (e : Edges) (now next : ColumnState) (before later : PlanesView) (plan : ColumnPlan) →
+    plan ≡ plan_of now.windows.height n (window_at now.windows x) e → next.windows ≡ with_window now.windows x plan.after → window_at next.windows x ≡ plan.after →
+    ((y : ℕ) → y ≢ x → window_at next.windows y ≡ window_at now.windows y) →
+    later ≡ with_planes (set_run (set_run before.planes (plane_number now.ceiling) x (marked_rows n.ceiling_mark (ceiling_rows (window_at now.windows x) e)))
+    (plane_number now.floor) x (marked_rows n.floor_mark (floor_rows (window_at now.windows x) e))) before →
+    length later.planes ≡ length before.planes → next.floor ≡ now.floor → next.ceiling ≡ now.ceiling → PassesColumn n x e now next before later plan.after
+passes-column n x e now next before later plan p w own other planes count floor ceiling = record {
+  left_open = plan_after now.windows.height n (window_at now.windows x) e plan p;
+  own = own;
+  other = other;
+  height = height_of now.windows next.windows x plan.after w;
+  planes = planes;
+  count = count;
+  floor = floor;
+  ceiling = ceiling;
+}
+
+-- what was open of the column before, by the windows at the start
+window_is : (f : FragmentValue) (k x : ℕ) (start now : ColumnState) (before later : PlanesView) → HasMarked f k start now before later → x ≡ f.first + k → x < FRAME_WIDTH →
+    window_at now.windows x ≡ window_at start.windows x
+window_is f k x start now before later h e l = h.windows x l ∙ clip_along-at start.windows.height f (window_at start.windows) k x e
+
+edges_are : (f : FragmentValue) (k x : ℕ) → x ≡ f.first + k → edges_at f.shape f.numbers k ≡ column_edges f x
+unfolding column_edges
+edges_are f k x e = let n : k ≡ x - f.first = omega arith in ap (edges_at f.shape f.numbers) n
+
+after_is : (f : FragmentValue) (k x : ℕ) (height : ℕ) (start now : WindowsView) (clip : ColumnClip) → x ≡ f.first + k → height ≡ start.height → window_at now x ≡ window_at start x →
+    clip ≡ clip_after height f.numbers (window_at now x) (edges_at f.shape f.numbers k) → clip ≡ column_after start.height f (window_at start) x
+unfolding column_after
+after_is f k x height start now clip e h w c =
+    c ∙ ap (λ (m : ℕ). clip_after m f.numbers (window_at now x) (edges_at f.shape f.numbers k)) h
+    ∙ ap (λ (o : ColumnClip). clip_after start.height f.numbers o (edges_at f.shape f.numbers k)) w
+    ∙ ap (clip_after start.height f.numbers (window_at start x)) (edges_are f k x e)
+
+-- the clip that a column leaves, by the windows at the start
+pub column-after : (f : FragmentValue) (k x : ℕ) (start now next : ColumnState) (before between later : PlanesView) (after : ColumnClip) → HasMarked f k start now before between →
+    x ≡ f.first + k → x < FRAME_WIDTH → PassesColumn f.numbers x (edges_at f.shape f.numbers k) now next between later after →
+    after ≡ column_after start.windows.height f (window_at start.windows) x
+column-after f k x start now next before between later after h e l p =
+    after_is f k x now.windows.height start.windows now.windows after e h.height (window_is f k x start now before between h e l) p.left_open
+
+by_test : (f : FragmentValue) (k x y : ℕ) (start now next : ColumnState) (before between later : PlanesView) (after : ColumnClip) (t : Bool) → (y == x) ≡ t → HasMarked f k start now before between →
+    x ≡ f.first + k → x < FRAME_WIDTH → y < FRAME_WIDTH → PassesColumn f.numbers x (edges_at f.shape f.numbers k) now next between later after →
+    window_at next.windows y ≡ clip_along start.windows.height f (window_at start.windows) (k + 1) y
+by_test f k x y start now next before between later after true t h e l m p =
+    let s : y ≡ x = grind (arith, nat_tests) in
+    ap (λ (z : ℕ). window_at next.windows z) s ∙ p.own ∙ column-after f k x start now next before between later after h e l p
+    ∙ sym (clip_along-last start.windows.height f (window_at start.windows) k x e) ∙ ap (clip_along start.windows.height f (window_at start.windows) (k + 1)) (sym s)
+by_test f k x y start now next before between later after false t h e l m p =
+    let s : y ≢ x = grind (arith, nat_tests) in
+    p.other y s ∙ h.windows y m ∙ clip_along-other start.windows.height f (window_at start.windows) k x y e s
+
+marked_column : (f : FragmentValue) (k x : ℕ) (start : ColumnState) (w : ColumnClip) (e : Edges) (ceiling floor : Option ℕ) (planes : List Plane) → x ≡ f.first + k →
+    w ≡ window_at start.windows x → e ≡ column_edges f x →
+    set_run (set_run planes ceiling x (marked_rows f.numbers.ceiling_mark (ceiling_rows w e))) floor x (marked_rows f.numbers.floor_mark (floor_rows w e))
+    ≡ column_marked (marks_along f (window_at start.windows)) ceiling floor (f.first + k) planes
+unfolding column_marked marks_along
+marked_column f k x start w e ceiling floor planes p q r =
+    let by : ColumnClip → Edges → ℕ → List Plane = λ w e y. set_run (set_run planes ceiling y (marked_rows f.numbers.ceiling_mark (ceiling_rows w e))) floor y (marked_rows f.numbers.floor_mark (floor_rows w e)) in
+    ap (λ (w : ColumnClip). by w e x) q ∙ ap (λ (e : Edges). by (window_at start.windows x) e x) r ∙ ap (λ (y : ℕ). by (window_at start.windows y) (column_edges f y) y) p
+
+-- one column more
+pub has_marked-more : (f : FragmentValue) (k x : ℕ) (start now next : ColumnState) (before between later : PlanesView) (after : ColumnClip) → HasMarked f k start now before between →
+    x ≡ f.first + k → x < FRAME_WIDTH → PassesColumn f.numbers x (edges_at f.shape f.numbers k) now next between later after →
+    HasMarked f (k + 1) start next before later
+unfolding marks_along
+has_marked-more f k x start now next before between later after h e l p =
+    let w = marks_along f (window_at start.windows) in
+    let ceiling : Option ℕ = plane_number start.ceiling in
+    let floor : Option ℕ = plane_number start.floor in
+    let so_far : List Plane = columns_marked w ceiling floor k before.planes in
+    let marks : ColumnClip → Option ℕ → Option ℕ → List Plane → List Plane = λ o c d planes. set_run (set_run planes c x (marked_rows f.numbers.ceiling_mark (ceiling_rows o (edges_at f.shape f.numbers k)))) d x (marked_rows f.numbers.floor_mark (floor_rows o (edges_at f.shape f.numbers k))) in
+    let planes : later ≡ with_planes (columns_marked w ceiling floor (k + 1) before.planes) before =
+    p.planes
+    ∙ ap (λ (o : Option _). with_planes (marks (window_at now.windows x) (plane_number o) (plane_number now.floor) between.planes) between) h.ceiling
+    ∙ ap (λ (o : Option _). with_planes (marks (window_at now.windows x) ceiling (plane_number o) between.planes) between) h.floor
+    ∙ ap (λ (b : PlanesView). with_planes (marks (window_at now.windows x) ceiling floor b.planes) b) h.planes
+    ∙ ap (λ (ps : List Plane). with_planes ps before)
+    (marked_column f k x start (window_at now.windows x) (edges_at f.shape f.numbers k) ceiling floor so_far e (window_is f k x start now before between h e l) (edges_are f k x e)
+    ∙ columns_marked-more w ceiling floor k (k + 1) before.planes refl) in
+    record {
+      windows = λ y m. by_test f k x y start now next before between later after (y == x) refl h e l m p;
+      height = p.height ∙ h.height;
+      planes = planes;
+      count = p.count ∙ h.count;
+      floor = p.floor ∙ h.floor;
+      ceiling = p.ceiling ∙ h.ceiling;
+    }
+
+saved_step : (places : SavePlaces) (column : ℕ → ℤ) (after : ℕ → ColumnClip) (first k x : ℕ) (clip : ColumnClip) (xs ys zs : List ℤ) → x ≡ first + k → clip ≡ after x →
+    ys ≡ columns_saved places column after first k xs → zs ≡ column_saved places k (column x) clip ys → zs ≡ columns_saved places column after first (k + 1) xs
+unfolding columns_saved
+saved_step places column after first k x clip xs ys zs e c p q =
+    let n : suc k ≡ k + 1 = omega arith in
+    q ∙ ap (λ (o : ColumnClip). column_saved places k (column x) o ys) c ∙ ap (column_saved places k (column x) (after x)) p
+    ∙ ap (λ (y : ℕ). column_saved places k (column y) (after y) (columns_saved places column after first k xs)) e
+    ∙ ap (λ (m : ℕ). columns_saved places column after first m xs) n
+
+pub has_saved-more : (v : ViewValue) (f : FragmentValue) (places : SavePlaces) (k x : ℕ) (start : ColumnState) (now next : OpeningsView) (after : ColumnClip) → HasSaved v f places k start now →
+    x ≡ f.first + k → after ≡ column_after start.windows.height f (window_at start.windows) x →
+    ((facts : WallFacts) (first last : ℕ) → f ≡ fragment_of v facts first last → next.saved ≡ column_saved places k (texture_column v facts x) after now.saved) →
+    length next.saved ≡ length now.saved → next.room ≡ now.room → HasSaved v f places (k + 1) start next
+has_saved-more v f places k x start now next after h e c s l r = record {
+  saved = λ facts first last is. saved_step places (texture_column v facts) (column_after start.windows.height f (window_at start.windows)) f.first k x after start.openings.saved now.saved next.saved e c
+      (h.saved facts first last is) (s facts first last is);
+  count = l ∙ h.count;
+  room = r ∙ h.room;
+}
+
+-- the same by equal numbers and edges
+pub passes-as : (n m : FragmentNumbers) (x : ℕ) (e g : Edges) (now next : ColumnState) (before later : PlanesView) (after : ColumnClip) → n ≡ m → e ≡ g →
+    PassesColumn n x e now next before later after → PassesColumn m x g now next before later after
+passes-as n m x e g now next before later after p q h =
+    let P : FragmentNumbers → Type 0 = λ n. PassesColumn n x e now next before later after in
+    let Q : Edges → Type 0 = λ e. PassesColumn m x e now next before later after in
+    subst Q q (subst P p h)

@@ -1,0 +1,154 @@
+-- Laws of the plan of a column: its strips are rows of the view, of parts that are there, and have
+-- the dots of the fragment's strips.
+use Rattle.std.proofs.Common.{◌≡◌, ◌≢◌, ◌⊎◌, ℕ, ◌≤◌, ◌==◌, Bool, true, false, not, cond, ℤ, pos, negsuc, ◌≤ℤ◌, ◌<ℤ◌, List, [], ◌∷◌, ◌++◌, refl, ap, sym, ◌∙◌, subst, inl, inr, arith}
+use Rattle.std.specs.List.{All}
+use Rattle.std.proofs.lemmas.Int.{ints}
+use Rattle.std.proofs.lemmas.Bool.Decides.{nat_tests}
+use Rattle.std.proofs.lemmas.List.{append-nil}
+use Rattle.std.proofs.lemmas.List.Elements.{All-nil, All-cons}
+use Rattle.word_rules.specs.Listed.{joined_lists}
+use Rattle.word_rules.proofs.ListedLemmas.{joined_lists-cons, joined_lists-append}
+use Rattle.view_rules.specs.View.{ViewValue}
+use Rattle.view_rules.specs.declared.TheConstants.{FRAME_HEIGHT}
+use Rattle.pixel_rules.specs.Dots.{Dot}
+use Rattle.pixel_rules.specs.Art.{Art}
+use Rattle.pixel_rules.specs.Strips.{rows_between, column_dots}
+use Rattle.wall_rules.specs.declared.ColumnClip.{ColumnClip}
+use Rattle.wall_rules.specs.declared.Edges.{Edges}
+use Rattle.wall_rules.specs.declared.FragmentNumbers.{FragmentNumbers}
+use Rattle.wall_rules.specs.declared.Part.{Part}
+use Rattle.wall_rules.specs.declared.RowRange.{RowRange}
+use Rattle.wall_rules.specs.Parts.{has_texture}
+use Rattle.wall_rules.specs.Clips.{middle_rows, top_rows, bottom_rows, ceiling_rows, floor_rows, clip_after}
+use Rattle.wall_rules.specs.Strips.{WallStrip, strip_of, wall_strips, strip_dots}
+use Rattle.wall_columns.specs.Windows.{IsClipIn}
+use Rattle.wall_columns.specs.declared.clips.ColumnPlan.{ColumnPlan}
+use Rattle.wall_columns.specs.Plans.{no_rows, rows_if, plan_of, strips_by, HasRows, AreRowsIn, IsInRows, IsPartTexture, AreEdgeWords}
+use Rattle.wall_columns.proofs.ClipLemmas.{middle_rows-in, top_rows-in, bottom_rows-in, ceiling_rows-in, floor_rows-in, clip_after-in}
+
+none_in : (height : ℕ) → AreRowsIn height no_rows
+none_in height = λ h. absurd (omega (arith, ints))
+
+if_in : (height : ℕ) (b : Bool) (rows : RowRange) → AreRowsIn height rows → AreRowsIn height (rows_if b rows)
+if_in height true rows h = h
+if_in height false rows h = none_in height
+
+unless_in : (height : ℕ) (b : Bool) (rows : RowRange) → AreRowsIn height rows → AreRowsIn height (cond b no_rows rows)
+unless_in height true rows h = none_in height
+unless_in height false rows h = h
+
+abbrev strip : Part → RowRange → WallStrip
+strip part rows = record { part = part; rows = rows }
+
+all_three : (P : WallStrip → Type 0) (a b c : WallStrip) → P a → P b → P c → All P (a ∷ (b ∷ (c ∷ [])))
+all_three P a b c x y z = All-cons P a (b ∷ (c ∷ [])) x (All-cons P b (c ∷ []) y (All-cons P c [] z (All-nil P)))
+
+-- each strip lies in the view
+pub plan_strips-in : (height : ℕ) (n : FragmentNumbers) (clip : ColumnClip) (e : Edges) → height ≤ FRAME_HEIGHT → IsClipIn height clip → AreEdgeWords e →
+    All (IsInRows height) (strips_by n (plan_of height n clip e))
+unfolding plan_of
+plan_strips-in height n clip e s i w =
+    all_three (IsInRows height)
+    (strip n.middle_part (rows_if (has_texture n.middle_part) (middle_rows clip e)))
+    (strip n.top_part (cond (has_texture n.middle_part) no_rows (rows_if (has_texture n.top_part) (top_rows clip e))))
+    (strip n.bottom_part (cond (has_texture n.middle_part) no_rows (rows_if (has_texture n.bottom_part) (bottom_rows n clip e))))
+    (if_in height (has_texture n.middle_part) (middle_rows clip e) (middle_rows-in height clip e s i w))
+    (unless_in height (has_texture n.middle_part) (rows_if (has_texture n.top_part) (top_rows clip e)) (if_in height (has_texture n.top_part) (top_rows clip e) (top_rows-in height clip e s i w)))
+    (unless_in height (has_texture n.middle_part) (rows_if (has_texture n.bottom_part) (bottom_rows n clip e)) (if_in height (has_texture n.bottom_part) (bottom_rows n clip e) (bottom_rows-in height n clip e s i w)))
+
+-- a strip with rows is of a part that is there
+abbrev IsThere : Part → RowRange → Type 0
+IsThere part rows = rows.first ≤ℤ rows.last → part.number ≢ 0
+
+number_there : (part : Part) → has_texture part ≡ true → part.number ≢ 0
+unfolding has_texture
+number_there part h = λ e. let t : not (part.number == 0) ≡ false = grind (arith, nat_tests) in cc
+
+there_if : (part : Part) (rows : RowRange) (b : Bool) → has_texture part ≡ b → IsThere part (rows_if b rows)
+there_if part rows true e = λ h. number_there part e
+there_if part rows false e = λ h. absurd (omega (arith, ints))
+
+there_unless : (part : Part) (rows : RowRange) (b : Bool) → IsThere part rows → IsThere part (cond b no_rows rows)
+there_unless part rows true h = λ h. absurd (omega (arith, ints))
+there_unless part rows false h = h
+
+pub plan_strips-there : (P : ℕ → Type 0) (height : ℕ) (n : FragmentNumbers) (clip : ColumnClip) (e : Edges) →
+    ((number : ℕ) → number ≢ 0 → IsPartTexture n number → P number) →
+    All (λ (s : WallStrip). HasRows s → P s.part.number) (strips_by n (plan_of height n clip e))
+unfolding plan_of
+plan_strips-there P height n clip e h =
+    all_three (λ (s : WallStrip). HasRows s → P s.part.number)
+    (strip n.middle_part (rows_if (has_texture n.middle_part) (middle_rows clip e)))
+    (strip n.top_part (cond (has_texture n.middle_part) no_rows (rows_if (has_texture n.top_part) (top_rows clip e))))
+    (strip n.bottom_part (cond (has_texture n.middle_part) no_rows (rows_if (has_texture n.bottom_part) (bottom_rows n clip e))))
+    (λ r. h n.middle_part.number (there_if n.middle_part (middle_rows clip e) (has_texture n.middle_part) refl r) (inl refl))
+    (λ r. h n.top_part.number (there_unless n.top_part (rows_if (has_texture n.top_part) (top_rows clip e)) (has_texture n.middle_part) (there_if n.top_part (top_rows clip e) (has_texture n.top_part) refl) r) (inr (inl refl)))
+    (λ r. h n.bottom_part.number (there_unless n.bottom_part (rows_if (has_texture n.bottom_part) (bottom_rows n clip e)) (has_texture n.middle_part) (there_if n.bottom_part (bottom_rows n clip e) (has_texture n.bottom_part) refl) r) (inr (inr refl)))
+
+none_dots : (v : ViewValue) (art : Art) (k x light : ℕ) (column scale : ℤ) (part : Part) →
+    strip_dots v art k x light column scale (record { part = part; rows = no_rows }) ≡ []
+unfolding strip_dots rows_between column_dots
+none_dots v art k x light column scale part = refl
+
+one_strip : (f : WallStrip → List Dot) (part : Part) (rows : RowRange) (b : Bool) → f (strip part no_rows) ≡ [] →
+    f (strip part (rows_if b rows)) ≡ joined_lists f (cond b (strip part rows ∷ []) [])
+unfolding joined_lists
+one_strip f part rows true e = sym (append-nil (f (strip part rows)))
+one_strip f part rows false e = e
+
+three_lists : (f : WallStrip → List Dot) (a b c : WallStrip) → joined_lists f (a ∷ (b ∷ (c ∷ []))) ≡ f a ++ (f b ++ f c)
+unfolding joined_lists
+three_lists f a b c = ap (λ (ds : List Dot). f a ++ (f b ++ ds)) (append-nil (f c))
+
+by_middle : (f : WallStrip → List Dot) (m t b : Part) (ms ts bs : RowRange) (has_m has_t has_b : Bool) → ((part : Part) → f (strip part no_rows) ≡ []) →
+    f (strip m (rows_if has_m ms)) ++ (f (strip t (cond has_m no_rows (rows_if has_t ts))) ++ f (strip b (cond has_m no_rows (rows_if has_b bs))))
+    ≡ joined_lists f (cond has_m (cond has_m (strip m ms ∷ []) []) (cond has_t (strip t ts ∷ []) [] ++ cond has_b (strip b bs ∷ []) []))
+by_middle f m t b ms ts bs true has_t has_b none =
+    ap (λ (ds : List Dot). f (strip m ms) ++ (ds ++ f (strip b no_rows))) (none t)
+    ∙ ap (λ (ds : List Dot). f (strip m ms) ++ ds) (none b)
+    ∙ append-nil (f (strip m ms)) ∙ one_strip f m ms true (none m)
+by_middle f m t b ms ts bs false has_t has_b none =
+    ap (λ (ds : List Dot). ds ++ (f (strip t (rows_if has_t ts)) ++ f (strip b (rows_if has_b bs)))) (none m)
+    ∙ ap (λ (ds : List Dot). ds ++ f (strip b (rows_if has_b bs))) (one_strip f t ts has_t (none t))
+    ∙ ap (λ (ds : List Dot). joined_lists f (cond has_t (strip t ts ∷ []) []) ++ ds) (one_strip f b bs has_b (none b))
+    ∙ sym (joined_lists-append f (cond has_t (strip t ts ∷ []) []) (cond has_b (strip b bs ∷ []) []))
+
+-- the dots of a plan's strips are those of the fragment's
+pub plan_strips-dots : (v : ViewValue) (art : Art) (k x light : ℕ) (column scale : ℤ) (height : ℕ) (n : FragmentNumbers) (clip : ColumnClip) (e : Edges) →
+    joined_lists (strip_dots v art k x light column scale) (strips_by n (plan_of height n clip e))
+    ≡ joined_lists (strip_dots v art k x light column scale) (wall_strips n clip e)
+unfolding plan_of wall_strips strip_of
+plan_strips-dots v art k x light column scale height n clip e =
+    let f : WallStrip → List Dot = strip_dots v art k x light column scale in
+    three_lists f
+    (strip n.middle_part (rows_if (has_texture n.middle_part) (middle_rows clip e)))
+    (strip n.top_part (cond (has_texture n.middle_part) no_rows (rows_if (has_texture n.top_part) (top_rows clip e))))
+    (strip n.bottom_part (cond (has_texture n.middle_part) no_rows (rows_if (has_texture n.bottom_part) (bottom_rows n clip e))))
+    ∙ by_middle f n.middle_part n.top_part n.bottom_part (middle_rows clip e) (top_rows clip e) (bottom_rows n clip e)
+    (has_texture n.middle_part) (has_texture n.top_part) (has_texture n.bottom_part) (none_dots v art k x light column scale)
+
+-- rows of a view are rows of a frame
+wider : (height : ℕ) (rows : RowRange) → height ≤ FRAME_HEIGHT → AreRowsIn height rows → AreRowsIn FRAME_HEIGHT rows
+wider height rows s h = λ r. ((h r).0, (let l : rows.last <ℤ pos height = (h r).1 in omega (arith, ints)))
+
+-- what a plan marks lies in a frame, and what it leaves open in the view
+pub plan_ceiling-in : (height : ℕ) (n : FragmentNumbers) (clip : ColumnClip) (e : Edges) (plan : ColumnPlan) → plan ≡ plan_of height n clip e → height ≤ FRAME_HEIGHT → IsClipIn height clip → AreEdgeWords e →
+    AreRowsIn FRAME_HEIGHT plan.ceiling
+unfolding plan_of
+plan_ceiling-in height n clip e plan p s i w =
+    let P : ColumnPlan → Type 0 = λ plan. AreRowsIn FRAME_HEIGHT plan.ceiling in
+    subst P (sym p) (wider height (ceiling_rows clip e) s (ceiling_rows-in height clip e s i w))
+
+pub plan_floor-in : (height : ℕ) (n : FragmentNumbers) (clip : ColumnClip) (e : Edges) (plan : ColumnPlan) → plan ≡ plan_of height n clip e → height ≤ FRAME_HEIGHT → IsClipIn height clip → AreEdgeWords e →
+    AreRowsIn FRAME_HEIGHT plan.floor
+unfolding plan_of
+plan_floor-in height n clip e plan p s i w =
+    let P : ColumnPlan → Type 0 = λ plan. AreRowsIn FRAME_HEIGHT plan.floor in
+    subst P (sym p) (wider height (floor_rows clip e) s (floor_rows-in height clip e s i w))
+
+pub plan_after-in : (height : ℕ) (n : FragmentNumbers) (clip : ColumnClip) (e : Edges) (plan : ColumnPlan) → plan ≡ plan_of height n clip e → height ≤ FRAME_HEIGHT → IsClipIn height clip → AreEdgeWords e →
+    IsClipIn height plan.after
+unfolding plan_of
+plan_after-in height n clip e plan p s i w =
+    let P : ColumnPlan → Type 0 = λ plan. IsClipIn height plan.after in
+    subst P (sym p) (clip_after-in height n clip e s i w)

@@ -1,0 +1,39 @@
+-- The places end where the openings end, and their count is told where it passes the room.
+use Rattle.std.proofs.Common.{◌≡◌, ◌≤◌, ◌<◌, ◌+◌, ◌-◌, ℕ, Option, Some, None, length, arith, rules, refl, ap, sym, ◌∙◌, false, true}
+use Rattle.picture_rules.specs.Counts.{openings_count}
+use Rattle.picture_rules.specs.declared.OverLimit.{OverLimit}
+use Rattle.wall_columns.specs.declared.notes.SavePlaces.{SavePlaces}
+use Rattle.wall_columns.specs.Faults.{limit_of_fault}
+use Rattle.wall_columns.specs.Places.{places_of}
+use Rattle.wall_columns.specs.Leaves.{openings_over}
+use Rattle.wall_columns.proofs.LeafLemmas.{limit-passed_on, openings_over-passed, openings_over-within}
+use Rattle.wall_columns.proofs.NoteLemmas.{places_of-end, places_of-in, places_of-within}
+use Rattle.wall_columns.proofs.column_state.ColumnState.take_openings.Goals as goal
+
+pub extend-requires : goal.extend-requires
+extend-requires c =
+    let e = ap (λ (p : SavePlaces). p.end) c.save_places-places.ensures in
+    let l = (places_of-end c.args.numbers.now c.count.result (c.args.last + 1 - c.args.first)).0 in
+    omega arith
+
+pub returns-in_err-extend-clause-limit : goal.returns-in_err-extend-clause-limit
+returns-in_err-extend-clause-limit c =
+    let room : ℕ = c.args.self.now.openings.room in
+    let e : c.save_places-places.result.end ≡ (places_of c.args.numbers.now (length c.args.self.now.openings.saved) (c.args.last + 1 - c.args.first)).end =
+    ap (λ (p : SavePlaces). p.end) c.save_places-places.ensures ∙ ap (λ (n : ℕ). (places_of c.args.numbers.now n (c.args.last + 1 - c.args.first)).end) c.count.ensures.value in
+    limit-passed_on c.from_residual.result c.in_err-extend.field-0.0 c.from_residual.ensures.0 c.from_residual.ensures.1
+    ∙ ap limit_of_fault c.in_err-extend.ensures.fault
+    ∙ ap (λ (n : ℕ). Some (openings_count n)) e
+    ∙ sym (openings_over-passed room _ None (let l : room < c.save_places-places.result.end = c.in_err-extend.ensures.full.0 refl in omega arith))
+
+pub returns-clause-within : goal.returns-clause-within
+returns-clause-within c =
+    places_of-within c.args.numbers.now c.count.result (c.args.last + 1 - c.args.first) (length c.extend.new.self.saved) c.save_places-places.result
+    c.save_places-places.ensures (let l : length c.extend.new.self.saved ≡ c.save_places-places.result.end = c.in_ok-extend.ensures.length in omega arith)
+
+pub returns-clause-limit : goal.returns-clause-limit
+returns-clause-limit c =
+    let room : ℕ = c.args.self.now.openings.room in
+    let e : c.save_places-places.result.end ≡ (places_of c.args.numbers.now (length c.args.self.now.openings.saved) (c.args.last + 1 - c.args.first)).end =
+    ap (λ (p : SavePlaces). p.end) c.save_places-places.ensures ∙ ap (λ (n : ℕ). (places_of c.args.numbers.now n (c.args.last + 1 - c.args.first)).end) c.count.ensures.value in
+    sym (openings_over-within room _ None (λ l. c.in_ok-extend.ensures.full.1 (omega arith)))

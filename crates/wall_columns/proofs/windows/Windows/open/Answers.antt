@@ -1,0 +1,13 @@
+-- Open windows are in their ranges.
+use Rattle.std.proofs.Common.{◌≡◌, replicate, pos, rules}
+use Rattle.std.proofs.lemmas.Int.{to_z_pos}
+use Rattle.word_rules.specs.Words.{minus_one}
+use Rattle.view_rules.specs.declared.TheConstants.{FRAME_WIDTH}
+use Rattle.wall_columns.proofs.PartLemmas.{are_clips-filled}
+use Rattle.wall_columns.proofs.windows.Windows.open.Goals as goal
+
+pub invariant_of-self : goal.invariant_of-self
+invariant_of-self c =
+    let e : c.fill.new.self.items ≡ replicate FRAME_WIDTH minus_one = search rules in
+    let f : c.fill-2.new.self.items ≡ replicate FRAME_WIDTH (pos c.args.height) = search (rules, to_z_pos) in
+    are_clips-filled c.args.height c.fill.new.self.items c.fill-2.new.self.items c.requires e f

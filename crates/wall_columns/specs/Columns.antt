@@ -1,0 +1,83 @@
+-- The columns of a fragment as they are drawn one by one: clips, planes and openings.
+use Rattle.std.specs.Prelude.{◌≡◌, ◌<◌, ◌≤◌, ◌+◌, ◌-◌, ◌&&◌, ℕ, ℤ, nat_le, nat_lt, cond, List, Option, Some, None, option_map, IfSome, length}
+use Rattle.view_rules.specs.View.{ViewValue}
+use Rattle.view_rules.specs.declared.TheConstants.{FRAME_WIDTH}
+use Rattle.wall_rules.specs.declared.ColumnClip.{ColumnClip}
+use Rattle.wall_rules.specs.declared.Edges.{Edges}
+use Rattle.wall_rules.specs.declared.WallFacts.{WallFacts}
+use Rattle.wall_rules.specs.Clips.{clip_after, ceiling_rows, floor_rows}
+use Rattle.wall_rules.specs.Columns.{texture_column}
+use Rattle.wall_rules.specs.Edges.{edges_at}
+use Rattle.wall_rules.specs.Strips.{marked_rows}
+use Rattle.plane_rules.specs.Built.{PlaneWall, columns_marked}
+use Rattle.visplanes.specs.Planes.{PlanesView, with_planes}
+use Rattle.visplanes.specs.declared.planes.PlaneNo.{PlaneNo}
+use Rattle.wall_edges.specs.Fragments.{FragmentValue, fragment_of}
+use Rattle.wall_columns.specs.declared.notes.SavePlaces.{SavePlaces}
+use Rattle.wall_columns.specs.declared.column_state.ColumnState.{ColumnState}
+use Rattle.wall_columns.specs.Windows.{WindowsView, window_at}
+use Rattle.wall_columns.specs.Saved.{OpeningsView, columns_saved}
+
+-- the number of a plane, where there is one
+abbrev pub plane_number : Option PlaneNo → Option ℕ
+plane_number o = option_map (λ (plane : PlaneNo). plane.0) o
+
+-- how many columns a fragment has
+abbrev pub columns_of : FragmentValue → ℕ
+columns_of f = f.last + 1 - f.first
+
+-- the edges of a fragment at a column of the view
+unfoldable pub column_edges : FragmentValue → ℕ → Edges
+column_edges f x = edges_at f.shape f.numbers (x - f.first)
+
+-- what it leaves open of one of its columns, of which this was open
+unfoldable pub column_after : ℕ → FragmentValue → (ℕ → ColumnClip) → ℕ → ColumnClip
+column_after height f before x = clip_after height f.numbers (before x) (column_edges f x)
+
+-- what is open of a column when k columns of the fragment are drawn
+unfoldable pub clip_along : ℕ → FragmentValue → (ℕ → ColumnClip) → ℕ → ℕ → ColumnClip
+clip_along height f before k x =
+    cond (nat_le f.first x && nat_lt x (f.first + k)) (column_after height f before x) (before x)
+
+-- what the fragment does with planes
+unfoldable pub marks_along : FragmentValue → (ℕ → ColumnClip) → PlaneWall
+marks_along f before = record {
+  first = f.first;
+  last = f.last;
+  ceiling_mark = f.numbers.ceiling_mark;
+  floor_mark = f.numbers.floor_mark;
+  ceiling_rows = λ x. marked_rows f.numbers.ceiling_mark (ceiling_rows (before x) (column_edges f x));
+  floor_rows = λ x. marked_rows f.numbers.floor_mark (floor_rows (before x) (column_edges f x));
+}
+
+-- k columns are drawn: what is open of each column, and the planes that are marked
+pub record HasMarked (f : FragmentValue) (k : ℕ) (start now : ColumnState)
+    (before later : PlanesView) : Type 0 where
+  pub windows : (x : ℕ) → x < FRAME_WIDTH → window_at now.windows x
+      ≡ clip_along start.windows.height f (window_at start.windows) k x
+  pub height : now.windows.height ≡ start.windows.height
+  pub planes : later ≡ with_planes (columns_marked (marks_along f (window_at start.windows))
+      (plane_number start.ceiling) (plane_number start.floor) k before.planes) before
+  pub count : length later.planes ≡ length before.planes
+  pub floor : now.floor ≡ start.floor
+  pub ceiling : now.ceiling ≡ start.ceiling
+
+-- and what is saved of them
+pub record HasSaved (v : ViewValue) (f : FragmentValue) (places : SavePlaces) (k : ℕ)
+    (start : ColumnState) (openings : OpeningsView) : Type 0 where
+  pub saved : (facts : WallFacts) (first last : ℕ) → f ≡ fragment_of v facts first last →
+      openings.saved ≡ columns_saved places (texture_column v facts)
+      (column_after start.windows.height f (window_at start.windows)) f.first k
+      start.openings.saved
+  pub count : length openings.saved ≡ length start.openings.saved
+  pub room : openings.room ≡ start.openings.room
+
+-- a list of n entries lies among the openings, where it is saved
+abbrev pub IsPlaceIn : ℕ → ℕ → Option ℕ → Type 0
+IsPlaceIn n total place = IfSome place (λ (p : ℕ). p + n ≤ total)
+
+-- so do the three lists of a fragment of n columns
+pub record ArePlacesIn (n total : ℕ) (places : SavePlaces) : Type 0 where
+  pub masked : IsPlaceIn n total places.masked
+  pub top : IsPlaceIn n total places.top
+  pub bottom : IsPlaceIn n total places.bottom

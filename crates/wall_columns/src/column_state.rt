@@ -1,0 +1,267 @@
+// What a fragment is drawn among: the windows, the openings, and the planes of the leaf.
+//
+// Rules: this crate's Columns, Leaves and Saved.
+ghost use Rattle.std.specs.Prelude.{◌≡◌, ◌≢◌, ◌<◌, ◌≤◌, ◌+◌, ◌-◌, ℕ, [], None, Some, IfOk, IfErr, IsErr, OnOk, OnErr, length, take};
+ghost use Rattle.view_rules.specs.View.{ViewValue};
+ghost use Rattle.view_rules.specs.declared.TheConstants.{FRAME_WIDTH, FRAME_HEIGHT};
+ghost use Rattle.wall_rules.specs.declared.TheConstants.{MOST_OPENINGS};
+ghost use Rattle.wall_rules.specs.declared.WallFacts.{WallFacts};
+ghost use Rattle.wall_rules.specs.Clips.{open_clip, ceiling_rows, floor_rows};
+ghost use Rattle.wall_rules.specs.Columns.{texture_column};
+ghost use Rattle.wall_rules.specs.Strips.{marked_rows};
+ghost use Rattle.plane_rules.specs.Built.{PlanesNow, IsAmongPlanes, set_run, floor_found, ceiling_found};
+ghost use Rattle.visplanes.specs.Planes.{with_planes};
+ghost use Rattle.wall_edges.specs.Fragments.{fragment_of};
+ghost use Rattle.wall_columns.specs.Faults.{limit_of_result, IsPlanesFault, IsLimitFault};
+ghost use Rattle.wall_columns.specs.Windows.{window_at, with_window, IsClipIn};
+ghost use Rattle.wall_columns.specs.Plans.{plan_of, AreEdgeWords};
+ghost use Rattle.wall_columns.specs.Saved.{column_saved};
+ghost use Rattle.wall_columns.specs.Places.{places_of};
+ghost use Rattle.wall_columns.specs.Columns.{plane_number, columns_of, HasMarked, HasSaved, ArePlacesIn};
+ghost use Rattle.wall_columns.specs.Leaves.{now_of, ceiling_check, floor_check, openings_over, leaf_over, checks_over};
+
+use crate::clips::{ColumnPlan, column_plan};
+use crate::columns::mark_rows;
+use crate::fault::DrawFault;
+use crate::leaf::{LeafPlanes, check_plane, find_plane};
+use crate::notes::{SavePlaces, save_places};
+use crate::openings::Openings;
+use crate::windows::Windows;
+use std::alloc::{AllocError, Global};
+use view_frame::View;
+use visplanes::{PlaneNo, Planes};
+use wall_edges::{Fragment, Stepper};
+use wall_rules::{ColumnClip, Edges, FragmentNumbers};
+
+/// What a fragment is drawn among: what is open of each column, the openings that are saved, and
+/// the planes of the leaf that is entered.
+#[derive(Drop)]
+pub struct ColumnState {
+    pub windows: Windows,
+    pub openings: Openings,
+    pub floor: Option<PlaneNo>,
+    pub ceiling: Option<PlaneNo>,
+}
+
+impl ColumnState {
+    /// No opening, no leaf, and room for `room` openings. Takes all the memory.
+    pub fn new(alloc: Global, room: u32) -> Result<ColumnState, AllocError>
+        requires { room ≤ MOST_OPENINGS }
+        ensures openings { IfOk result (λ state.
+            state.openings ≡ record { saved = []; room = room }) }
+        ensures floor { IfOk result (λ state. state.floor ≡ None) }
+        ensures ceiling { IfOk result (λ state. state.ceiling ≡ None) }
+    {
+        Ok(ColumnState {
+            windows: Windows::new(alloc)?,
+            openings: Openings::new(alloc, room)?,
+            floor: None,
+            ceiling: None,
+        })
+    }
+
+    /// Opens each column of a view of `height` rows, and leaves no opening and no leaf.
+    pub fn start(&mut self, height: u16)
+        requires { height ≤ FRAME_HEIGHT }
+        ensures height { self.new.windows.height ≡ height }
+        ensures windows { (x : ℕ) → x < FRAME_WIDTH →
+            window_at self.new.windows x ≡ open_clip height }
+        ensures openings { self.new.openings ≡ record self.old.openings { saved = [] } }
+        ensures floor { self.new.floor ≡ None }
+        ensures ceiling { self.new.ceiling ≡ None }
+    {
+        self.windows.open(height);
+        self.openings.clear();
+        self.floor = None;
+        self.ceiling = None;
+    }
+
+    /// Finds the planes of a leaf, first its floor's.
+    ///
+    /// Errors: `Planes` exactly where one of the two is a new plane past the room, with the count.
+    pub fn enter(&mut self, planes: &mut Planes, leaf: LeafPlanes) -> Result<(), DrawFault>
+        ensures ok { (s : PlanesNow) → s ≡ now_of self.old planes.old →
+            OnOk result (now_of self.new planes.new
+            ≡ ceiling_found leaf.ceiling (floor_found leaf.floor s)) }
+        ensures limit { (s : PlanesNow) → s ≡ now_of self.old planes.old →
+            limit_of_result result ≡ leaf_over planes.old.room s leaf.floor leaf.ceiling }
+        ensures faults { IfErr result IsPlanesFault }
+        ensures floor { OnOk result
+            (IsAmongPlanes planes.new.planes (plane_number self.new.floor)) }
+        ensures ceiling { OnOk result
+            (IsAmongPlanes planes.new.planes (plane_number self.new.ceiling)) }
+        ensures windows { self.new.windows ≡ self.old.windows }
+        ensures openings { self.new.openings ≡ self.old.openings }
+        ensures room { planes.new.room ≡ planes.old.room }
+    {
+        self.floor = find_plane(planes, leaf.floor)?;
+        self.ceiling = find_plane(planes, leaf.ceiling)?;
+        Ok(())
+    }
+
+    /// Takes the openings of a fragment's lists.
+    ///
+    /// Errors: `Openings` exactly where they pass the room, with their sum.
+    pub fn take_openings(
+        &mut self,
+        numbers: &FragmentNumbers,
+        first: u16,
+        last: u16,
+    ) -> Result<SavePlaces, DrawFault>
+        requires { first ≤ last }
+        ensures ok { IfOk result (λ places. places
+            ≡ places_of numbers.now (length self.old.openings.saved) (last + 1 - first)) }
+        ensures within { IfOk result (λ places.
+            ArePlacesIn (last + 1 - first) (length self.new.openings.saved) places) }
+        ensures length { IfOk result (λ places.
+            length self.new.openings.saved ≡ places.end) }
+        ensures front { OnOk result (take (length self.old.openings.saved)
+            self.new.openings.saved ≡ self.old.openings.saved) }
+        ensures limit { limit_of_result result ≡ openings_over self.old.openings.room
+            (places_of numbers.now (length self.old.openings.saved) (last + 1 - first)).end None }
+        ensures faults { IfErr result IsLimitFault }
+        ensures room { self.new.openings.room ≡ self.old.openings.room }
+        ensures windows { self.new.windows ≡ self.old.windows }
+        ensures floor { self.new.floor ≡ self.old.floor }
+        ensures ceiling { self.new.ceiling ≡ self.old.ceiling }
+    {
+        let columns = last as u32 + 1 - first as u32;
+        let places = save_places(numbers, self.openings.count(), columns);
+        self.openings.extend(places.end)?;
+        Ok(places)
+    }
+
+    /// Checks the planes of the leaf that the fragment marks, first the ceiling's.
+    ///
+    /// Errors: `Planes` exactly where a check makes a new plane past the room, with the count.
+    pub fn check_planes(
+        &mut self,
+        planes: &mut Planes,
+        numbers: &FragmentNumbers,
+        first: u16,
+        last: u16,
+    ) -> Result<(), DrawFault>
+        requires ordered { first ≤ last }
+        requires within { last < FRAME_WIDTH }
+        requires floor { IsAmongPlanes planes.old.planes (plane_number self.old.floor) }
+        requires ceiling { IsAmongPlanes planes.old.planes (plane_number self.old.ceiling) }
+        ensures ok { (s : PlanesNow) → s ≡ now_of self.old planes.old →
+            OnOk result (now_of self.new planes.new ≡ floor_check numbers.now first last
+            (ceiling_check numbers.now first last s)) }
+        ensures limit { (s : PlanesNow) → s ≡ now_of self.old planes.old →
+            limit_of_result result ≡ checks_over planes.old.room numbers.now first last s }
+        ensures faults { IfErr result IsPlanesFault }
+        ensures floor { OnOk result
+            (IsAmongPlanes planes.new.planes (plane_number self.new.floor)) }
+        ensures ceiling { OnOk result
+            (IsAmongPlanes planes.new.planes (plane_number self.new.ceiling)) }
+        ensures windows { self.new.windows ≡ self.old.windows }
+        ensures openings { self.new.openings ≡ self.old.openings }
+        ensures room { planes.new.room ≡ planes.old.room }
+    {
+        self.ceiling = check_plane(planes, self.ceiling, numbers.ceiling_mark, first, last)?;
+        self.floor = check_plane(planes, self.floor, numbers.floor_mark, first, last)?;
+        Ok(())
+    }
+
+    /// Marks the planes in a column of a fragment, and narrows its window.
+    #[inline(always)]
+    #[tactic(auto, using(crate::proofs::ClipLemmas::column_rows), unfolding(crate::specs::Plans::plan_of))]
+    pub fn pass_column(
+        &mut self,
+        planes: &mut Planes,
+        numbers: &FragmentNumbers,
+        x: u16,
+        edges: &Edges,
+    ) -> ColumnPlan
+        requires column { x < FRAME_WIDTH }
+        requires edges { AreEdgeWords edges.now }
+        requires floor { IsAmongPlanes planes.old.planes (plane_number self.old.floor) }
+        requires ceiling { IsAmongPlanes planes.old.planes (plane_number self.old.ceiling) }
+        ensures plan { result ≡ plan_of self.old.windows.height numbers.now
+            (window_at self.old.windows x) edges.now }
+        ensures rows { IsClipIn self.old.windows.height (window_at self.old.windows x) }
+        ensures most { self.old.windows.height ≤ FRAME_HEIGHT }
+        ensures windows { self.new.windows ≡ with_window self.old.windows x result.after }
+        ensures own { window_at self.new.windows x ≡ result.after }
+        ensures other { (y : ℕ) → y ≢ x →
+            window_at self.new.windows y ≡ window_at self.old.windows y }
+        ensures planes { planes.new ≡ with_planes (set_run (set_run planes.old.planes
+            (plane_number self.old.ceiling) x (marked_rows numbers.now.ceiling_mark
+            (ceiling_rows (window_at self.old.windows x) edges.now)))
+            (plane_number self.old.floor) x (marked_rows numbers.now.floor_mark
+            (floor_rows (window_at self.old.windows x) edges.now))) planes.old }
+        ensures count { length planes.new.planes ≡ length planes.old.planes }
+        ensures openings { self.new.openings ≡ self.old.openings }
+        ensures same_floor { self.new.floor ≡ self.old.floor }
+        ensures same_ceiling { self.new.ceiling ≡ self.old.ceiling }
+    {
+        let clip = self.windows.clip(x);
+        let plan = column_plan(self.windows.height(), numbers, clip, edges);
+        mark_rows(planes, self.ceiling, numbers.ceiling_mark, x, plan.ceiling);
+        mark_rows(planes, self.floor, numbers.floor_mark, x, plan.floor);
+        self.windows.narrow(x, plan.after);
+        plan
+    }
+
+    /// Marks and saves the columns of a fragment, from left to right.
+    pub fn count_columns(
+        &mut self,
+        view: &View<'_>,
+        planes: &mut Planes,
+        fragment: &Fragment,
+        numbers: &FragmentNumbers,
+        places: SavePlaces,
+    )
+        requires numbers { numbers.now ≡ fragment.now.numbers }
+        requires within { fragment.now.last < view.now.shape.width }
+        requires places { ArePlacesIn (columns_of fragment.now)
+            (length self.old.openings.saved) places }
+        requires floor { IsAmongPlanes planes.old.planes (plane_number self.old.floor) }
+        requires ceiling { IsAmongPlanes planes.old.planes (plane_number self.old.ceiling) }
+        ensures marked { HasMarked fragment.now (columns_of fragment.now) self.old self.new
+            planes.old planes.new }
+        ensures saved { HasSaved view.now fragment.now places (columns_of fragment.now)
+            self.old self.new.openings }
+    {
+        let mut stepper = Stepper::new(fragment);
+        let mut k: u32 = 0;
+        loop {
+            let x = stepper.x;
+            let Some(edges) = stepper.next() else {
+                break;
+            };
+            let plan = self.pass_column(planes, numbers, x, &edges);
+            save_column(&mut self.openings, view, fragment, x, k, places, plan.after);
+            k += 1;
+        }
+    }
+}
+
+/// Saves what a fragment saves of its column number `k`, which is column `x` of the view.
+#[inline(always)]
+#[tactic(auto, unfolding(crate::specs::Saved::column_saved, crate::specs::Saved::with_saved))]
+pub fn save_column(
+    openings: &mut Openings,
+    view: &View<'_>,
+    fragment: &Fragment,
+    x: u16,
+    k: u32,
+    places: SavePlaces,
+    after: ColumnClip,
+)
+    requires column { x < view.now.shape.width }
+    requires places { ArePlacesIn (k + 1) (length openings.old.saved) places }
+    ensures saved { (facts : WallFacts) (first last : ℕ) →
+        fragment.now ≡ fragment_of view.now facts first last →
+        openings.new.saved ≡ column_saved places k (texture_column view.now facts x) after
+        openings.old.saved }
+    ensures length { length openings.new.saved ≡ length openings.old.saved }
+    ensures room { openings.new.room ≡ openings.old.room }
+{
+    if places.masked.is_some() {
+        openings.save(places.masked, k, fragment.column_at(view, x));
+    }
+    openings.save(places.top, k, after.ceiling_clip);
+    openings.save(places.bottom, k, after.floor_clip);
+}

@@ -1,0 +1,98 @@
+// The planes of a leaf: found where the leaf is entered, checked where a fragment marks them.
+ghost use Rattle.std.specs.Prelude.{◌≡◌, ◌<◌, ◌≤◌, ◌↔◌, IfOk, IfErr, IsErr, OnOk, length};
+ghost use Rattle.view_rules.specs.declared.TheConstants.{FRAME_WIDTH};
+ghost use Rattle.plane_rules.specs.Built.{IsAmongPlanes, checked_plane};
+ghost use Rattle.visplanes.specs.Planes.{with_planes};
+ghost use Rattle.wall_columns.specs.Columns.{plane_number};
+ghost use Rattle.wall_columns.specs.Leaves.{planes_found, number_found, planes_checked, number_checked};
+
+use crate::fault::DrawFault;
+use plane_rules::PlaneKey;
+use visplanes::{PlaneNo, Planes};
+
+/// The planes that a leaf finds: None where its floor or its ceiling is not seen.
+#[derive(Clone, Copy, Debug, PartialEq, Eq)]
+pub struct LeafPlanes {
+    pub floor: Option<PlaneKey>,
+    pub ceiling: Option<PlaneKey>,
+}
+
+// There are no more planes than there is room for.
+#[inline(always)]
+fn keep_within(planes: &Planes)
+    ensures { length planes.now.planes ≤ planes.now.room }
+{
+    planes.count();
+}
+
+/// The plane of a key, or None without one.
+///
+/// Errors: `Planes` exactly where a new plane is wanted and the room is full, with the count.
+#[tactic(auto, using(crate::proofs::PartLemmas::counts), unfolding(crate::specs::Leaves::planes_found, crate::specs::Leaves::number_found))]
+pub fn find_plane(
+    planes: &mut Planes,
+    key: Option<PlaneKey>,
+) -> Result<Option<PlaneNo>, DrawFault>
+    ensures ok { OnOk result
+        (planes.new ≡ with_planes (planes_found planes.old.planes key) planes.old) }
+    ensures number { IfOk result (λ plane.
+        plane_number plane ≡ number_found planes.old.planes key) }
+    ensures among { IfOk result (λ plane. IsAmongPlanes planes.new.planes (plane_number plane)) }
+    ensures full { IsErr result
+        ↔ (planes.old.room < length (planes_found planes.old.planes key)) }
+    ensures fault { IfErr result (λ fault. fault
+        ≡ DrawFault.Planes (length (planes_found planes.old.planes key))) }
+    ensures room { planes.new.room ≡ planes.old.room }
+{
+    keep_within(planes);
+    match key {
+        None => Ok(None),
+        Some(key) => match planes.find(key) {
+            Ok(plane) => Ok(Some(plane)),
+            Err(full) => Err(DrawFault::Planes { count: full.count }),
+        },
+    }
+}
+
+/// The plane itself, or a new one of its key where a fragment marks it and it is marked in one of
+/// the fragment's columns.
+///
+/// Errors: `Planes` exactly where a new plane is wanted and the room is full, with the count.
+#[tactic(auto, using(crate::proofs::PartLemmas::counts), unfolding(crate::specs::Leaves::planes_checked, crate::specs::Leaves::number_checked, plane_rules::specs::Built::checked_plane))]
+pub fn check_plane(
+    planes: &mut Planes,
+    plane: Option<PlaneNo>,
+    marks: bool,
+    first: u16,
+    last: u16,
+) -> Result<Option<PlaneNo>, DrawFault>
+    requires plane { IsAmongPlanes planes.old.planes (plane_number plane) }
+    requires ordered { first ≤ last }
+    requires within { last < FRAME_WIDTH }
+    ensures ok { OnOk result (planes.new ≡ with_planes (planes_checked planes.old.planes
+        (checked_plane marks planes.old.planes (plane_number plane) first last)) planes.old) }
+    ensures number { IfOk result (λ checked. plane_number checked ≡ number_checked
+        (plane_number plane)
+        (checked_plane marks planes.old.planes (plane_number plane) first last)) }
+    ensures among { IfOk result (λ checked.
+        IsAmongPlanes planes.new.planes (plane_number checked)) }
+    ensures full { IsErr result ↔ (planes.old.room < length (planes_checked planes.old.planes
+        (checked_plane marks planes.old.planes (plane_number plane) first last))) }
+    ensures fault { IfErr result (λ fault. fault
+        ≡ DrawFault.Planes (length (planes_checked planes.old.planes
+        (checked_plane marks planes.old.planes (plane_number plane) first last)))) }
+    ensures longer { length planes.old.planes ≤ length planes.new.planes }
+    ensures room { planes.new.room ≡ planes.old.room }
+{
+    keep_within(planes);
+    if !marks {
+        return Ok(plane);
+    }
+    match plane {
+        None => Ok(None),
+        Some(plane) => match planes.check(plane, first, last) {
+            Ok(plane) => Ok(Some(plane)),
+            Err(full) => Err(DrawFault::Planes { count: full.count }),
+        },
+    }
+}

@@ -1,0 +1,103 @@
+// The openings of a view: this crate's Saved.
+ghost use Rattle.std.specs.Prelude.{◌≡◌, ◌<◌, ◌≤◌, ◌+◌, ◌↔◌, [], IfOk, IfErr, IfSome, IsErr, OnOk, OnErr, length, take};
+ghost use Rattle.wall_rules.specs.declared.TheConstants.{MOST_OPENINGS};
+ghost use Rattle.wall_columns.specs.Saved.{with_saved};
+
+use crate::fault::DrawFault;
+use std::alloc::{AllocError, Global};
+use std::marker::Model;
+
+/// The openings of a view, in the order in which they are saved. Contracts see `OpeningsView`.
+///
+/// The original: `openings` and `lastopening`, r_plane.c.
+#[derive(Drop)]
+pub struct Openings {
+    list: Vec<i32>,
+    used: u32,
+}
+
+impl Model for Openings {
+    ghost use Rattle.std.specs.Prelude.{◌≤◌, take, length};
+    ghost use Rattle.wall_rules.specs.declared.TheConstants.{MOST_OPENINGS};
+    ghost use Rattle.wall_columns.specs.Saved.{OpeningsView};
+
+    ghost Value = { OpeningsView };
+
+    ghost view = { λ o. record { saved = take o.used o.list.items; room = length o.list.items } };
+
+    ghost invariant = { λ o. (o.used ≤ length o.list.items)
+        × (length o.list.items ≤ MOST_OPENINGS) };
+}
+
+impl Openings {
+    /// No opening, and room for `room` of them. Takes their memory.
+    pub fn new(alloc: Global, room: u32) -> Result<Openings, AllocError>
+        requires { room ≤ MOST_OPENINGS }
+        ensures { IfOk result (λ openings. openings ≡ record { saved = []; room = room }) }
+    {
+        Ok(Openings {
+            list: vec![in alloc; 0; room as usize]?,
+            used: 0,
+        })
+    }
+
+    /// Leaves no opening. The room stays.
+    pub fn clear(&mut self)
+        ensures { self.new ≡ record self.old { saved = [] } }
+    {
+        self.used = 0;
+    }
+
+    /// How many there are.
+    pub fn count(&self) -> u32
+        ensures value { result ≡ length self.now.saved }
+        ensures room { length self.now.saved ≤ self.now.room }
+        ensures most { self.now.room ≤ MOST_OPENINGS }
+    {
+        self.used
+    }
+
+    /// The openings.
+    pub fn list(&self) -> &[i32]
+        ensures value { result.now ≡ self.now.saved }
+        ensures room { length self.now.saved ≤ self.now.room }
+        ensures most { self.now.room ≤ MOST_OPENINGS }
+    {
+        &self.list[..self.used as usize]
+    }
+
+    /// Takes openings up to number `end`, which holds those that there are; what the new ones hold
+    /// is not told.
+    ///
+    /// Errors: `Openings` exactly where `end` passes the room. Nothing changes then.
+    pub fn extend(&mut self, end: u32) -> Result<(), DrawFault>
+        requires { length self.old.saved ≤ end }
+        ensures full { IsErr result ↔ (self.old.room < end) }
+        ensures fault { IfErr result (λ fault. fault ≡ DrawFault.Openings end) }
+        ensures length { OnOk result (length self.new.saved ≡ end) }
+        ensures front { OnOk result
+            (take (length self.old.saved) self.new.saved ≡ self.old.saved) }
+        ensures room { self.new.room ≡ self.old.room }
+        ensures err { OnErr result (self.new ≡ self.old) }
+    {
+        if end as usize > self.list.len() {
+            return Err(DrawFault::Openings { count: end });
+        }
+        self.used = end;
+        Ok(())
+    }
+
+    /// Saves entry number `k` of the list at a place, where it is saved.
+    #[inline(always)]
+    #[tactic(auto, using(crate::proofs::PartLemmas::saved_front), unfolding(crate::specs::Saved::with_saved))]
+    pub fn save(&mut self, place: Option<u32>, k: u32, value: i32)
+        requires { IfSome place (λ place. place + k < length self.old.saved) }
+        ensures value { self.new ≡ record self.old
+            { saved = with_saved self.old.saved place k value } }
+        ensures length { length self.new.saved ≡ length self.old.saved }
+    {
+        if let Some(place) = place {
+            self.list[(place + k) as usize] = value;
+        }
+    }
+}

@@ -1,0 +1,96 @@
+// What is open of each column of a frame, and the rows of the view: this crate's Windows.
+ghost use Rattle.std.specs.Prelude.{◌≡◌, ◌≢◌, ◌<◌, ◌≤◌, ℕ};
+ghost use Rattle.view_rules.specs.declared.TheConstants.{FRAME_WIDTH, FRAME_HEIGHT};
+ghost use Rattle.wall_rules.specs.Clips.{open_clip};
+ghost use Rattle.wall_columns.specs.Windows.{window_at, with_window, IsClipIn};
+
+use std::alloc::{AllocError, Global};
+use std::marker::Model;
+use view_rules::FRAME_WIDTH;
+use wall_rules::ColumnClip;
+
+/// What is open of each column of a frame, and the rows of the view. Contracts see `WindowsView`.
+///
+/// The original: `ceilingclip` and `floorclip`, r_plane.c.
+#[derive(Drop)]
+pub struct Windows {
+    ceiling_clips: Vec<i32>,
+    floor_clips: Vec<i32>,
+    height: u16,
+}
+
+impl Model for Windows {
+    ghost use Rattle.wall_columns.specs.Windows.{WindowsView};
+    ghost use Rattle.wall_columns.specs.Walls.{AreClips};
+
+    ghost Value = { WindowsView };
+
+    ghost view = { λ w. record {
+      ceiling_clips = w.ceiling_clips.items;
+      floor_clips = w.floor_clips.items;
+      height = w.height;
+    } };
+
+    ghost invariant = { λ w. AreClips w.height w.ceiling_clips.items w.floor_clips.items };
+}
+
+impl Windows {
+    /// The windows of a view without rows. Takes their memory.
+    #[tactic(auto, using(crate::proofs::PartLemmas::opened))]
+    pub fn new(alloc: Global) -> Result<Windows, AllocError> {
+        Ok(Windows {
+            ceiling_clips: vec![in alloc; 0; FRAME_WIDTH as usize]?,
+            floor_clips: vec![in alloc; 0; FRAME_WIDTH as usize]?,
+            height: 0,
+        })
+    }
+
+    /// Opens each column of a view of `height` rows.
+    #[tactic(auto, using(crate::proofs::PartLemmas::opened), unfolding(crate::specs::Windows::window_at, wall_rules::specs::Clips::open_clip))]
+    pub fn open(&mut self, height: u16)
+        requires { height ≤ FRAME_HEIGHT }
+        ensures height { self.new.height ≡ height }
+        ensures windows { (x : ℕ) → x < FRAME_WIDTH → window_at self.new x ≡ open_clip height }
+    {
+        self.ceiling_clips.fill(-1);
+        self.floor_clips.fill(height as i32);
+        self.height = height;
+    }
+
+    /// The rows of the view.
+    pub fn height(&self) -> u16
+        ensures value { result ≡ self.now.height }
+        ensures most { self.now.height ≤ FRAME_HEIGHT }
+    {
+        self.height
+    }
+
+    /// What is open of column `x` of the frame.
+    #[inline(always)]
+    #[tactic(auto, unfolding(crate::specs::Windows::window_at))]
+    pub fn clip(&self, x: u16) -> ColumnClip
+        requires { x < FRAME_WIDTH }
+        ensures value { result ≡ window_at self.now x }
+        ensures rows { IsClipIn self.now.height result }
+        ensures most { self.now.height ≤ FRAME_HEIGHT }
+    {
+        ColumnClip {
+            ceiling_clip: self.ceiling_clips[x as usize],
+            floor_clip: self.floor_clips[x as usize],
+        }
+    }
+
+    /// Leaves this open of column `x` of the frame.
+    #[inline(always)]
+    #[tactic(auto, using(crate::proofs::PartLemmas::narrowed), unfolding(crate::specs::Windows::window_at, crate::specs::Windows::with_window))]
+    pub fn narrow(&mut self, x: u16, clip: ColumnClip)
+        requires column { x < FRAME_WIDTH }
+        requires rows { IsClipIn self.old.height clip }
+        ensures value { self.new ≡ with_window self.old x clip }
+        ensures own { window_at self.new x ≡ clip }
+        ensures other { (y : ℕ) → y ≢ x → window_at self.new y ≡ window_at self.old y }
+    {
+        self.ceiling_clips[x as usize] = clip.ceiling_clip;
+        self.floor_clips[x as usize] = clip.floor_clip;
+    }
+}
