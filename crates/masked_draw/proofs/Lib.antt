@@ -9,3 +9,4 @@ pub mod EntryLemmas
 pub mod PostLemmas
 pub mod LoopLemmas
 pub mod SpriteLemmas
+pub mod MiddleLemmas
