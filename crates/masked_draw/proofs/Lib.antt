@@ -10,3 +10,4 @@ pub mod PostLemmas
 pub mod LoopLemmas
 pub mod SpriteLemmas
 pub mod MiddleLemmas
+pub mod LiveLemmas

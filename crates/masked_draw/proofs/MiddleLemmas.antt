@@ -216,3 +216,11 @@ middle-fits lumps v bytes textures colormap count zone k d x lump place from fit
     (painter_of MIDDLE k (record { kind = LUMP; number = lump })) x (middle_masked d x)
     (byte_at (bytes lump)) (shade (bytes colormap) (scale_map v d.light (drawseg_scale d x)))
     (posts (bytes lump) place) fits)
+
+-- the texture column that was saved is the fragment's
+pub drawseg-column : (s : MaskScene) (d : FragmentNote) (middle : Middle) (x : ℕ) →
+    IsMiddleOf s d middle.number middle →
+    saved_column s.openings.now d.first (Some middle.place) x ≡ (scene_drawseg s d).column x
+unfolding noted_drawseg
+drawseg-column s d middle x is =
+    ap (λ (m : Option ℕ). saved_column s.openings.now d.first m x) (sym is.place)
