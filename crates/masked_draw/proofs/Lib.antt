@@ -11,3 +11,4 @@ pub mod LoopLemmas
 pub mod SpriteLemmas
 pub mod MiddleLemmas
 pub mod LiveLemmas
+pub mod PassLemmas
