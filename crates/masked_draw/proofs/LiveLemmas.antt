@@ -1,5 +1,5 @@
 -- A call that made live what it then painted with, by the dots that it painted.
-use Rattle.std.proofs.Common.{◌≡◌, ℕ, List, Ok, Result, sym, subst}
+use Rattle.std.proofs.Common.{◌≡◌, ℕ, List, Ok, sym, subst}
 use Rattle.outside.specs.Shelf.{ShelfView}
 use Rattle.zone_rules.specs.Zones.{Heap}
 use Rattle.lump_cache.specs.declared.fault.CacheFault.{CacheFault}

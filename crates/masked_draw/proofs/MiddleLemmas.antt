@@ -1,6 +1,6 @@
 -- Laws of the masked column of a fragment: whose bytes it has, and its dots by them.
-use Rattle.std.proofs.Common.{◌≡◌, ◌<◌, ◌≤◌, ◌+◌, ◌≤ℤ◌, ℕ, ℤ, pos, negsuc, Bool, true, false, List, [], ◌∷◌, ◌++◌, length, Option, Some, None, refl, sym, ap, subst, ◌∙◌, arith}
-use Rattle.std.specs.Prelude.{IfSome, IsSome, option_map, slice_index_or, unsigned_abs, unwrap_or}
+use Rattle.std.proofs.Common.{◌≡◌, ◌<◌, ◌≤◌, ◌≤ℤ◌, ℕ, ℤ, pos, negsuc, List, [], ◌∷◌, length, Option, Some, None, refl, sym, ap, subst, ◌∙◌, arith}
+use Rattle.std.specs.Prelude.{IfSome, IsSome, option_map, unsigned_abs, unwrap_or}
 use Rattle.std.proofs.lemmas.Int.{ints}
 use Rattle.std.proofs.lemmas.Nat.{and_le_r}
 use Rattle.outside.specs.Shelf.{ShelfView}
@@ -26,10 +26,8 @@ use Rattle.art_rules.specs.Wanted.{PreparedTexture}
 use Rattle.pixel_rules.specs.declared.MaskedColumn.{MaskedColumn}
 use Rattle.pixel_rules.specs.declared.Painter.{Painter}
 use Rattle.pixel_rules.specs.declared.Post.{Post}
-use Rattle.pixel_rules.specs.declared.Source.{Source}
 use Rattle.pixel_rules.specs.declared.TheConstants.{LUMP, MIDDLE}
 use Rattle.pixel_rules.specs.Art.{painter_of}
-use Rattle.pixel_rules.specs.Dots.{Dot}
 use Rattle.pixel_rules.specs.Posts.{post_dots, post_colour, post_rows, posts_dots}
 use Rattle.pixel_rules.specs.Strips.{shade}
 use Rattle.wall_rules.specs.Numbers.{seg_light}
@@ -37,10 +35,10 @@ use Rattle.wall_rules.specs.declared.FragmentNote.{FragmentNote}
 use Rattle.sprite_rules.specs.Drawsegs.{Drawseg}
 use Rattle.sprite_rules.specs.Middles.{drawseg_scale, middle_by as dots_by, middle_column, middle_masked}
 use Rattle.texture_build.specs.Arts.{view_art}
-use Rattle.texture_build.specs.Sources.{IsColumnThere, IsColumnLive, column_in, column_index}
+use Rattle.texture_build.specs.Sources.{column_in, column_index}
 use Rattle.texture_build.specs.Views.{TexturesView, prepared_texture}
 use Rattle.texture_build.specs.Draws.{FitsBeside, FitBeside, HoldsArt}
-use Rattle.texture_build.proofs.BesideLemmas.{fit_beside-append, fit_beside-as, fit_beside-column_dots, fit_beside-none}
+use Rattle.texture_build.proofs.BesideLemmas.{fit_beside-append, fit_beside-as, fit_beside-column_dots}
 use Rattle.texture_build.proofs.LentLemmas.{colormap_lent}
 use Rattle.pixel_strips.specs.Canvases.{CanvasView, with_dots, with_painter}
 use Rattle.pixel_strips.specs.Dotted.{HasDots}
@@ -48,7 +46,7 @@ use Rattle.pixel_strips.proofs.DottedLemmas.{has_dots-as, has_dots-painted}
 use Rattle.masked_draw.specs.declared.middles.Middle.{Middle}
 use Rattle.masked_draw.specs.declared.scene.MaskScene.{MaskScene}
 use Rattle.masked_draw.specs.Clipped.{IsMiddleOf}
-use Rattle.masked_draw.specs.Lists.{middle_by, note_seg, noted_drawseg, saved_column}
+use Rattle.masked_draw.specs.Lists.{middle_by, noted_drawseg, saved_column}
 use Rattle.masked_draw.specs.Ready.{CanDrawMiddle, IsListed, IsSingle}
 use Rattle.masked_draw.specs.Scenes.{scene_drawseg, scene_lists}
 

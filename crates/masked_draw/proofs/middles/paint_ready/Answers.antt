@@ -1,6 +1,5 @@
-use Rattle.std.proofs.Common.{to_z-of_z, ◌≡◌, ◌<◌, ℕ, ℤ, List, to_z, of_z, w32, Some, sym, ap, subst, ◌∙◌, rules, arith, length}
+use Rattle.std.proofs.Common.{to_z-of_z, ◌≡◌, ◌<◌, ℕ, ℤ, to_z, of_z, w32, Some, sym, ap, subst, ◌∙◌, rules, arith, length}
 use Rattle.view_rules.specs.declared.TheConstants.{LIGHT_LEVELS}
-use Rattle.art_rules.specs.declared.ColumnLookup.{ColumnLookup}
 use Rattle.art_rules.specs.declared.ColumnLookup.TheVariants.{Single}
 use Rattle.lump_rules.specs.Contents.{lump_bytes}
 use Rattle.zone_rules.specs.Zones.{IsLive}
