@@ -17,11 +17,11 @@ pub draw_middles-requires : goal.draw_middles-requires
 draw_middles-requires g c =
     let sprites = c.in_ok-draw_sprites.ensures in record {
       ready = can_pass-later _ _ sprites.paints sprites.marks (record {
-            paint = record { slots = c.requires.slots; colormap = c.requires.colormap; left = c.requires.left; top = c.requires.top };
-            noted = c.requires.noted;
-            listed = c.requires.listed;
-            room = rw c.fill.ensures.len c.requires.marks;
-          });
+        paint = record { slots = c.requires.slots; colormap = c.requires.colormap; left = c.requires.left; top = c.requires.top };
+        noted = c.requires.noted;
+        listed = c.requires.listed;
+        room = rw c.fill.ensures.len c.requires.marks;
+      });
     }
 
 pub returns-clause-painted : goal.returns-clause-painted
