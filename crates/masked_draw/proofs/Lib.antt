@@ -9,4 +9,7 @@ pub mod EntryLemmas
 pub mod PostLemmas
 pub mod LoopLemmas
 pub mod SpriteLemmas
+pub mod MiddleLemmas
+pub mod LiveLemmas
 pub mod PassLemmas
+pub mod PictureLemmas

@@ -58,14 +58,14 @@ module _ (s : MaskScene) (notes : List FragmentNote) (es : List SpriteEntry) whe
       PaintsDots mark s (IsMiddleNumber (scene_lists s) d) (λ (n : ℕ). ⊥) (λ art. unmarked_dots s.view.now art old d (is_between d.first d.last) number (scene_drawseg s d)) a b (Ok answer) →
       MarksBy d (is_between d.first d.last) old new → LeavesMiddles mark m new start b
   leaves-more {mark = mark} {start} {a} from m number d old new apart l g n up later call marks =
-    let before : LeavesMiddles mark (m + 1) old start a = subst (λ (k : ℕ). LeavesMiddles mark k old start a) up later in record {
-    paints = paints-value (paints-same _
-        (λ art. middles_more s.view.now art None m number d (unmarked_dots s.view.now art old d (is_between d.first d.last) number (scene_drawseg s d)) g l n
-          (ap (λ (k : ℕ). unmarked_dots s.view.now art old d (is_between d.first d.last) k (scene_drawseg s d)) n
-          ∙ left-middles s.view.now art (scene_drawseg s) notes es (m + 1) (λ k. length es) old m d (scene-columns s d) before.marked (omega arith) g refl))
-        (paints-then before.paints (paints-wider (scene-middle (scene_lists s) notes m d g) (λ n e. e) call)));
-    marked = marked-left (scene_drawseg s) notes es (λ k. length es) (is_between d.first d.last) old new m d apart g marks before.marked;
-  }
+      let before : LeavesMiddles mark (m + 1) old start a = subst (λ (k : ℕ). LeavesMiddles mark k old start a) up later in record {
+        paints = paints-value (paints-same _
+            (λ art. middles_more s.view.now art None m number d (unmarked_dots s.view.now art old d (is_between d.first d.last) number (scene_drawseg s d)) g l n
+            (ap (λ (k : ℕ). unmarked_dots s.view.now art old d (is_between d.first d.last) k (scene_drawseg s d)) n
+            ∙ left-middles s.view.now art (scene_drawseg s) notes es (m + 1) (λ k. length es) old m d (scene-columns s d) before.marked (omega arith) g refl))
+            (paints-then before.paints (paints-wider (scene-middle (scene_lists s) notes m d g) (λ n e. e) call)));
+        marked = marked-left (scene_drawseg s) notes es (λ k. length es) (is_between d.first d.last) old new m d apart g marks before.marked;
+      }
 
   pub leaves-stop : {A B : Type 0} {mark : Painter → ℕ → ℕ} {f g : Art → List Dot} {start a b : MaskState} {part : Result B CacheFault} {fault : CacheFault} {whole : Result A CacheFault} (m k : ℕ) (d : FragmentNote) (old : List Bool) → slice_get notes k ≡ Some d →
       part ≡ Err fault → IsErrAnd whole (λ e. e ≡ fault) → LeavesMiddles mark m old start a → PaintsDots mark s (IsMiddleNumber (scene_lists s) d) (λ (n : ℕ). ⊥) f a b part →
@@ -94,14 +94,14 @@ module _ (s : MaskScene) (notes : List FragmentNote) (es : List SpriteEntry) whe
       PaintsDots mark s (IsMiddleNumber (scene_lists s) d) (λ (n : ℕ). ⊥) (λ art. unmarked_dots s.view.now art old d (is_passed e (scene_drawseg s d)) number (scene_drawseg s d)) a b (Ok answer) →
       MarksBy d (is_passed e (scene_drawseg s d)) old new → PassesMiddles mark i m new start b
   passes-more {mark = mark} {start} {a} e i from m number d old new apart l g n il ig up later call marks =
-    let before : PassesMiddles mark i (m + 1) old start a = subst (λ (k : ℕ). PassesMiddles mark i k old start a) up later in record {
-    paints = paints-value (paints-same _
-        (λ art. middles_more s.view.now art (Some i) m number d (unmarked_dots s.view.now art old d (is_passed e (scene_drawseg s d)) number (scene_drawseg s d)) g l n
-          (ap (λ (k : ℕ). unmarked_dots s.view.now art old d (is_passed e (scene_drawseg s d)) k (scene_drawseg s d)) n
-          ∙ passed-middles s.view.now art (scene_drawseg s) notes es (length notes) (turn_at i (m + 1)) old m i d e (scene-columns s d) before.marked l g (turn-here i m) il ig))
-        (paints-then before.paints (paints-wider (scene-middle (scene_lists s) notes m d g) (λ n e. e) call)));
-    marked = marked-pass (scene_drawseg s) notes es (length notes) old new i m d e apart g l il ig marks before.marked;
-  }
+      let before : PassesMiddles mark i (m + 1) old start a = subst (λ (k : ℕ). PassesMiddles mark i k old start a) up later in record {
+        paints = paints-value (paints-same _
+            (λ art. middles_more s.view.now art (Some i) m number d (unmarked_dots s.view.now art old d (is_passed e (scene_drawseg s d)) number (scene_drawseg s d)) g l n
+            (ap (λ (k : ℕ). unmarked_dots s.view.now art old d (is_passed e (scene_drawseg s d)) k (scene_drawseg s d)) n
+            ∙ passed-middles s.view.now art (scene_drawseg s) notes es (length notes) (turn_at i (m + 1)) old m i d e (scene-columns s d) before.marked l g (turn-here i m) il ig))
+            (paints-then before.paints (paints-wider (scene-middle (scene_lists s) notes m d g) (λ n e. e) call)));
+        marked = marked-pass (scene_drawseg s) notes es (length notes) old new i m d e apart g l il ig marks before.marked;
+      }
 
   pub passes-stop : {A B : Type 0} {mark : Painter → ℕ → ℕ} {f : Art → List Dot} {start a b : MaskState} {part : Result B CacheFault} {fault : CacheFault} {whole : Result A CacheFault} (i m k : ℕ) (d : FragmentNote) (old new : List Bool) → slice_get notes k ≡ Some d →
       part ≡ Err fault → IsErrAnd whole (λ e. e ≡ fault) → PassesMiddles mark i m old start a → PaintsDots mark s (IsMiddleNumber (scene_lists s) d) (λ (n : ℕ). ⊥) f a b part →

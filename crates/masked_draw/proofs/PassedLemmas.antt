@@ -1,13 +1,11 @@
 -- Laws of a fragment that a sprite, or the end of the pass, comes to: the unmarked columns are those of the moment, and what is marked after it.
-use Rattle.std.proofs.Common.{◌≡◌, ℕ, zero, suc, ◌+◌, ◌-◌, ◌<◌, ◌≤◌, ◌≢◌, Bool, true, false, cond, List, [], ◌∷◌, ◌++◌, Option, Some, None, length, map, refl, ap, sym, ◌∙◌, arith, inl, inr, subst, is_some}
-use Rattle.std.specs.Prelude.{◌&&◌, ◌||◌, not, nat_lt, nat_le, slice_get, IfSome, ◌⊎◌}
-use Rattle.std.specs.List.{range_with_len, filter}
+use Rattle.std.proofs.Common.{◌≡◌, ℕ, ◌+◌, ◌-◌, ◌<◌, ◌≤◌, ◌≢◌, Bool, true, false, cond, List, Option, Some, None, length, refl, ap, sym, ◌∙◌, arith, inl, inr, subst, is_some}
+use Rattle.std.specs.Prelude.{◌&&◌, ◌||◌, not, nat_lt, slice_get, IfSome, ◌⊎◌}
+use Rattle.std.specs.List.{filter}
 use Rattle.std.proofs.lemmas.Bool.{cases_lt}
 use Rattle.std.proofs.lemmas.Bool.Decides.{nat_tests}
 use Rattle.word_rules.specs.Listed.{listed_from, joined_lists}
 use Rattle.view_rules.specs.View.{ViewValue}
-use Rattle.view_rules.specs.declared.ViewShape.{ViewShape}
-use Rattle.pixel_rules.specs.Dots.{Dot}
 use Rattle.pixel_rules.specs.Art.{Art}
 use Rattle.wall_rules.specs.declared.FragmentNote.{FragmentNote}
 use Rattle.sprite_rules.specs.declared.SpriteEntry.{SpriteEntry}
@@ -15,9 +13,9 @@ use Rattle.sprite_rules.specs.Drawsegs.{Drawseg}
 use Rattle.sprite_rules.specs.Clips.{sprite_in_front}
 use Rattle.sprite_rules.specs.Middles.{middle_column, columns_at, middles_of, same_number}
 use Rattle.picture_rules.specs.Noted.{ListsApart}
-use Rattle.masked_draw.specs.Marks.{mark_in, mark_of, unmarked_by, unmarked_dots, is_between, is_passed, is_before, IsOutside, AreOwnMarked, MarksBy, AreBefore, MarkedTo}
+use Rattle.masked_draw.specs.Marks.{mark_of, unmarked_by, unmarked_dots, is_between, is_passed, is_before, IsOutside, MarksBy, AreBefore, MarkedTo}
 use Rattle.masked_draw.proofs.MomentLemmas.{front-now, front-more, front-left}
-use Rattle.masked_draw.proofs.MarkLemmas.{range_agree, range_none, own_at, outside_not}
+use Rattle.masked_draw.proofs.MarkLemmas.{range_agree, range_none, own_at}
 
 -- a drawn fragment has the columns of its note
 pub record HasColumnsOf (d : FragmentNote) (drawseg : Drawseg) : Type 0 where

@@ -1,20 +1,15 @@
 -- Laws of what a call of the masked pass paints: nothing, one after the other, an error, and the same dots by other words.
-use Rattle.std.proofs.Common.{◌≡◌, ℕ, ◌≤◌, ◌<◌, List, ◌++◌, [], Result, Ok, Err, IsErrAnd, OnOk, refl, sym, ap, ◌∙◌, subst, arith}
-use Rattle.std.proofs.lemmas.Result.{err_from_is_err_and}
-use Rattle.outside.specs.Shelf.{ShelfView}
-use Rattle.lump_rules.specs.Contents.{lump_bytes}
-use Rattle.zone_rules.specs.Zones.{Heap}
+use Rattle.std.proofs.Common.{◌≡◌, ℕ, List, ◌++◌, [], Result, Ok, Err, IsErrAnd, OnOk, subst}
 use Rattle.lump_cache.specs.declared.fault.CacheFault.{CacheFault}
-use Rattle.lump_cache.specs.Caches.{cache_fault, KeepsCounts}
+use Rattle.lump_cache.specs.Caches.{KeepsCounts}
 use Rattle.pixel_rules.specs.declared.Painter.{Painter}
 use Rattle.pixel_rules.specs.Dots.{Dot}
 use Rattle.pixel_rules.specs.Art.{Art}
-use Rattle.pixel_strips.specs.Canvases.{CanvasView}
-use Rattle.pixel_strips.specs.Dotted.{HasDots, PlacedAlike}
-use Rattle.pixel_strips.proofs.DottedLemmas.{has_dots-none, has_dots-append, has_dots-as, placed-none, placed-then}
-use Rattle.texture_build.specs.Draws.{HoldsArt, FitBeside, DrawsWith}
+use Rattle.pixel_strips.specs.Dotted.{HasDots}
+use Rattle.pixel_strips.proofs.DottedLemmas.{has_dots-none, has_dots-append, placed-none, placed-then}
+use Rattle.texture_build.specs.Draws.{FitBeside}
 use Rattle.texture_build.proofs.DrawLemmas.{holds_art-later, draws-none, draws-then, draws-stop, draws-value, draws-wider}
-use Rattle.texture_build.proofs.BesideLemmas.{fit_beside-none, fit_beside-append, fit_beside-as}
+use Rattle.texture_build.proofs.BesideLemmas.{fit_beside-append}
 use Rattle.masked_draw.specs.declared.scene.MaskScene.{MaskScene}
 use Rattle.masked_draw.specs.Scenes.{MaskState, CanPaint, PaintsDots, scene_art}
 

@@ -1,5 +1,5 @@
 -- The entries of the lists that the code reads are those of the rule.
-use Rattle.std.proofs.Common.{◌≡◌, ℕ, ◌<◌, ℤ, List, length, w16, w32, to_z, of_z, rules, sym, ap, ◌∙◌, refl, subst, arith, Option, Some, None}
+use Rattle.std.proofs.Common.{◌≡◌, ℕ, ℤ, w16, w32, to_z, of_z, rules, ap, ◌∙◌, refl, arith, Option, Some, None}
 use Rattle.std.specs.Prelude.{IfSome, IsSome, slice_index_or}
 use Rattle.std.proofs.lemmas.Int.{to_z-of_z}
 use Rattle.std.proofs.lemmas.List.{get_or_default}
@@ -16,8 +16,6 @@ use Rattle.sprite_rules.specs.Middles.{masked_mid}
 use Rattle.art_rules.specs.Textures.{texture_at}
 use Rattle.texture_build.specs.Views.{TexturesView}
 use Rattle.masked_draw.specs.Lists.{MaskedLists, heights_of, middle_by, no_sector, note_mid, note_seg, noted_drawseg, sector_by, side_by}
-use Rattle.masked_draw.specs.Clipped.{IsMiddleOf}
-use Rattle.masked_draw.specs.Ready.{IsSeenNote}
 use Rattle.masked_draw.specs.Scenes.{scene_lists}
 use Rattle.masked_draw.proofs.middles.middle_of.Goals as goal
 
