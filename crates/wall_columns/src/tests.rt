@@ -1,8 +1,10 @@
 // Values from outside: a room from -256 to 256 map units both ways, seen from its middle, 41 map
 // units up, through the made tables, with texture WALL1 of the made WAD on its walls.
-ghost use Rattle.std.specs.Prelude.{◌≡◌, ◌<◌, ◌≤◌, IfOk, length};
+ghost use Rattle.std.specs.Prelude.{◌≡◌, ◌<◌, ◌≤◌, ◌+◌, ℕ, IfOk, OnOk, length};
 ghost use Rattle.view_rules.specs.declared.TheConstants.{FRAME_WIDTH, FRAME_HEIGHT};
+ghost use Rattle.plane_rules.specs.Built.{IsAmongPlanes};
 ghost use Rattle.texture_build.specs.Draws.{CanDraw};
+ghost use Rattle.wall_columns.specs.Draws.{IsWallTexture};
 
 use crate::{DrawFault, LeafPlanes, WallFacts, WallState, WallTools};
 use angle_tables::Tables;
@@ -17,7 +19,7 @@ use std::alloc::Global;
 use std::test::Fail;
 use texture_build::{TexNo, Textures};
 use view_frame::View;
-use view_rules::Eye;
+use view_rules::{Eye, FRAME_WIDTH};
 use visplanes::{PlaneNo, Planes};
 use wad_dir::{Directory, LumpNo};
 use wall_rules::{MAX_OPENINGS, WallTexture};
@@ -77,7 +79,9 @@ const BARE: WallTexture = WallTexture {
 };
 
 // The east wall of a sector, with this middle texture, and with this sector behind it.
-fn east_wall(front: Surface, middle: WallTexture, back: Option<Surface>) -> WallFacts {
+fn east_wall(front: Surface, middle: WallTexture, back: Option<Surface>) -> WallFacts
+    ensures { (number : ℕ) → IsWallTexture result number → number ≡ middle.number }
+{
     WallFacts {
         seg_no: 0,
         seg: EAST,
@@ -91,6 +95,8 @@ fn east_wall(front: Surface, middle: WallTexture, back: Option<Surface>) -> Wall
     }
 }
 
+const WALL1: u16 = 1;
+
 // The made WAD's directory and textures, with WALL1 prepared.
 #[derive(Drop)]
 struct Assets {
@@ -101,9 +107,11 @@ struct Assets {
     colormap: LumpNo,
 }
 
-const WALL1: u16 = 1;
-
-fn assets(alloc: Global) -> Result<Assets, Fail> {
+fn load_assets(alloc: Global) -> Result<Assets, Fail>
+    ensures slots { IfOk result (λ a. length a.dir.lumps ≤ a.cache.lumps) }
+    ensures colormap { IfOk result (λ a. a.colormap.0 < a.cache.lumps) }
+    ensures brick { IfOk result (λ a. CanDraw a.dir.lumps a.textures a.cache WALL1) }
+{
     let name = "made.wad".to_string(alloc)?;
     let bytes = make_wad(alloc, 1)?;
     let files = vec![in alloc; MemoryFile { name, bytes }]?;
@@ -137,34 +145,83 @@ struct Drawn {
     frame: Frame,
 }
 
-fn nothing_drawn(alloc: Global) -> Result<Drawn, Fail> {
+// The leaf is entered, and nothing drawn.
+#[tactic(auto, unfolding(pixel_strips::specs::Canvases::blank))]
+fn in_leaf(alloc: Global, view: &View<'_>, leaf: LeafPlanes) -> Result<Drawn, Fail>
+    ensures wide { OnOk result (view.now.shape.width ≡ FRAME_WIDTH) }
+    ensures height { IfOk result (λ d. d.walls.height ≡ view.now.shape.height) }
+    ensures left { IfOk result (λ d. d.frame.left + view.now.shape.width ≤ FRAME_WIDTH) }
+    ensures top { IfOk result (λ d. d.frame.top + view.now.shape.height ≤ FRAME_HEIGHT) }
+    ensures floor { IfOk result (λ d. IsAmongPlanes d.planes.planes d.walls.floor) }
+    ensures ceiling { IfOk result (λ d. IsAmongPlanes d.planes.planes d.walls.ceiling) }
+{
+    let shape = view.shape();
+    if shape.width != FRAME_WIDTH {
+        return Err("a view as wide as the frame".into());
+    }
+    let mut walls = WallState::new(alloc, MAX_OPENINGS)?;
+    let mut planes = Planes::new(alloc, 128)?;
+    walls.start_view(shape.height);
+    walls.start_leaf(&mut planes, leaf)?;
+    let frame = Frame::new(alloc)?;
     Ok(Drawn {
-        walls: WallState::new(alloc, MAX_OPENINGS)?,
-        planes: Planes::new(alloc, 128)?,
-        frame: Frame::new(alloc)?,
+        walls,
+        planes,
+        frame,
     })
 }
 
-// Draws a fragment of columns `first` to `last` on the frame.
+// Draws a fragment from column `first` to the last of the frame.
 fn store(
     drawn: &mut Drawn,
-    made: &mut Assets,
+    assets: &mut Assets,
     view: &View<'_>,
     facts: &WallFacts,
     first: u16,
-    last: u16,
-) -> Result<(), DrawFault> {
+) -> Result<(), DrawFault>
+    requires first { first < FRAME_WIDTH }
+    requires wide { view.now.shape.width ≡ FRAME_WIDTH }
+    requires height { drawn.old.walls.height ≡ view.now.shape.height }
+    requires left { drawn.old.frame.left + view.now.shape.width ≤ FRAME_WIDTH }
+    requires top { drawn.old.frame.top + view.now.shape.height ≤ FRAME_HEIGHT }
+    requires slots { length assets.old.dir.lumps ≤ assets.old.cache.lumps }
+    requires colormap { assets.old.colormap.0 < assets.old.cache.lumps }
+    requires textures { (number : ℕ) → IsWallTexture facts.now number →
+        CanDraw assets.old.dir.lumps assets.old.textures assets.old.cache number }
+    requires floor { IsAmongPlanes drawn.old.planes.planes drawn.old.walls.floor }
+    requires ceiling { IsAmongPlanes drawn.old.planes.planes drawn.old.walls.ceiling }
+    ensures height { drawn.new.walls.height ≡ drawn.old.walls.height }
+    ensures left { drawn.new.frame.left ≡ drawn.old.frame.left }
+    ensures top { drawn.new.frame.top ≡ drawn.old.frame.top }
+    ensures slots { length assets.new.dir.lumps ≤ assets.new.cache.lumps }
+    ensures colormap { assets.new.colormap.0 < assets.new.cache.lumps }
+    ensures floor { OnOk result
+        (IsAmongPlanes drawn.new.planes.planes drawn.new.walls.floor) }
+    ensures ceiling { OnOk result
+        (IsAmongPlanes drawn.new.planes.planes drawn.new.walls.ceiling) }
+{
     let mut tools = WallTools {
         view,
-        textures: &made.textures,
-        cache: &mut made.cache,
-        dir: &made.dir,
-        shelf: &mut made.shelf,
+        textures: &assets.textures,
+        cache: &mut assets.cache,
+        dir: &assets.dir,
+        shelf: &mut assets.shelf,
         planes: &mut drawn.planes,
         canvas: &mut drawn.frame,
-        colormap: made.colormap,
+        colormap: assets.colormap,
     };
-    drawn.walls.store_range(&mut tools, facts, first, last)
+    drawn.walls.store_range(&mut tools, facts, first, FRAME_WIDTH - 1)
+}
+
+// The run of a plane in column `x`.
+fn run_at(planes: &Planes, plane: u32, x: u16) -> Option<(u8, u8)>
+    requires { x < FRAME_WIDTH }
+{
+    if plane < planes.count() {
+        planes.column(PlaneNo(plane as u16), x)
+    } else {
+        None
+    }
 }
 
 // The pixel of column `x` and row `y`.
@@ -189,26 +246,24 @@ fn a_wall_stands_between_its_planes(rt: HostRuntime) -> Result<(), Fail> {
     let bytes = make_tables(alloc)?;
     let tables = Tables::from_bytes(alloc, &bytes, 11)?;
     let view = View::new(&tables, EYE);
-    let mut made = assets(alloc)?;
-    let mut drawn = nothing_drawn(alloc)?;
-    drawn.walls.start_view(view.shape().height);
     let leaf = LeafPlanes {
         floor: Some(key_of(0, Flat4::Lump(1), 160)),
         ceiling: Some(key_of(128 << 16, Flat4::Lump(2), 160)),
     };
-    drawn.walls.start_leaf(&mut drawn.planes, leaf)?;
+    let mut assets = load_assets(alloc)?;
+    let mut drawn = in_leaf(alloc, &view, leaf)?;
     let brick = WallTexture {
         number: WALL1,
         height: 128,
     };
     let wall = east_wall(ROOM, brick, None);
-    store(&mut drawn, &mut made, &view, &wall, 1, 319)?;
+    store(&mut drawn, &mut assets, &view, &wall, 1)?;
     assert_eq!(rt; drawn.planes.count(), 2);
-    assert_eq!(rt; drawn.planes.column(PlaneNo(0), 160), Some((126, 199)));
-    assert_eq!(rt; drawn.planes.column(PlaneNo(1), 160), Some((0, 45)));
+    assert_eq!(rt; run_at(&drawn.planes, 0, 160), Some((126, 199)));
+    assert_eq!(rt; run_at(&drawn.planes, 1, 160), Some((0, 45)));
+    assert_eq!(rt; pixel(&drawn.frame, 160, 45), Some(0));
     assert_eq!(rt; pixel(&drawn.frame, 160, 46), Some(128));
     assert_eq!(rt; pixel(&drawn.frame, 160, 125), Some(45));
-    assert_eq!(rt; pixel(&drawn.frame, 160, 45), Some(0));
     assert_eq!(rt; pixel(&drawn.frame, 160, 126), Some(0));
     assert_eq!(rt; drawn.walls.notes().len(), 1);
     assert_eq!(rt; drawn.walls.openings().len(), 0);
@@ -221,21 +276,19 @@ fn a_floor_and_a_ceiling_of_sky_are_one_plane(rt: HostRuntime) -> Result<(), Fai
     let bytes = make_tables(alloc)?;
     let tables = Tables::from_bytes(alloc, &bytes, 11)?;
     let view = View::new(&tables, EYE);
-    let mut made = assets(alloc)?;
-    let mut drawn = nothing_drawn(alloc)?;
-    drawn.walls.start_view(view.shape().height);
     let sky = Some(key_of(0, Flat4::Sky, 0));
     let leaf = LeafPlanes {
         floor: sky,
         ceiling: sky,
     };
-    drawn.walls.start_leaf(&mut drawn.planes, leaf)?;
+    let mut assets = load_assets(alloc)?;
+    let mut drawn = in_leaf(alloc, &view, leaf)?;
     let wall = east_wall(OPEN_AIR, BARE, None);
-    store(&mut drawn, &mut made, &view, &wall, 1, 319)?;
+    store(&mut drawn, &mut assets, &view, &wall, 1)?;
     assert_eq!(rt; drawn.planes.count(), 1);
-    assert_eq!(rt; drawn.planes.column(PlaneNo(0), 1), Some((126, 199)));
-    assert_eq!(rt; drawn.planes.column(PlaneNo(0), 319), Some((126, 199)));
-    assert_eq!(rt; drawn.planes.column(PlaneNo(0), 0), None);
+    assert_eq!(rt; run_at(&drawn.planes, 0, 0), None);
+    assert_eq!(rt; run_at(&drawn.planes, 0, 1), Some((126, 199)));
+    assert_eq!(rt; run_at(&drawn.planes, 0, 319), Some((126, 199)));
     Ok(())
 }
 
@@ -245,21 +298,21 @@ fn openings_past_the_room_are_told_with_their_sum(rt: HostRuntime) -> Result<(),
     let bytes = make_tables(alloc)?;
     let tables = Tables::from_bytes(alloc, &bytes, 11)?;
     let view = View::new(&tables, HIGH_EYE);
-    let mut made = assets(alloc)?;
-    let mut drawn = nothing_drawn(alloc)?;
-    drawn.walls.start_view(view.shape().height);
+    let leaf = LeafPlanes {
+        floor: None,
+        ceiling: None,
+    };
+    let mut assets = load_assets(alloc)?;
+    let mut drawn = in_leaf(alloc, &view, leaf)?;
     let window = east_wall(ROOM, BARE, Some(ROOM));
     for _ in 0..64 {
-        assert_eq!(rt;
-            store(&mut drawn, &mut made, &view, &window, 0, 319),
-            Ok(())
-        );
+        store(&mut drawn, &mut assets, &view, &window, 0)?;
     }
     assert_eq!(rt; drawn.walls.openings().len(), 20480);
     assert_eq!(rt; drawn.planes.count(), 0);
     let full = DrawFault::Openings { count: 20800 };
     assert_eq!(rt;
-        store(&mut drawn, &mut made, &view, &window, 0, 319),
+        store(&mut drawn, &mut assets, &view, &window, 0),
         Err(full)
     );
     let message = format!(in alloc; "{full}")?;
