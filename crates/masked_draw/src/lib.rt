@@ -12,6 +12,8 @@ mod pass;
 mod posts;
 mod scene;
 mod sprites;
+#[cfg(test)]
+mod tests;
 mod tools;
 
 pub use pass::draw_masked;
