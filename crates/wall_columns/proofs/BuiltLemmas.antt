@@ -360,3 +360,9 @@ length_view v walls = length_notes v walls 0
 -- there is a note for each fragment
 pub built-count : (v : ViewValue) (walls : List Wall) (s : PlanesNow) (state : WallsView) (planes : List Plane) → IsBuilt v walls s state planes → length state.notes ≡ length walls
 built-count v walls s state planes h = ap (λ (ds : List FragmentNote). length ds) h.notes ∙ length_view v walls
+
+-- what is open of a column before the next fragment, when the windows are as they were
+pub built-window : (v : ViewValue) (walls : List Wall) (s : PlanesNow) (notes : List FragmentNote) (old : ColumnState) (checked : WindowsView) (planes : List Plane) (w : Wall) (x : ℕ) →
+    IsBuilt v walls s (walls_view notes old) planes → checked ≡ old.windows → x < v.shape.width → window_at checked x ≡ clip_before v.shape (with_wall walls w) (length walls) x
+built-window v walls s notes old checked planes w x h e l =
+    ap (λ (w : WindowsView). window_at w x) e ∙ sym (clip_at-window notes old x) ∙ h.clips x l ∙ sym (clip_before-front v.shape walls (w ∷ []) (length walls) x (omega arith))
