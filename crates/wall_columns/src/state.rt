@@ -36,8 +36,8 @@ use wall_edges::Fragment;
 use wall_rules::{FragmentNote, WallFacts};
 
 /// The walls of a view as far as they are drawn: the notes of the drawn fragments, the openings
-/// that they saved, the clips of each column, and the planes of the leaf that is entered. Contracts see
-/// `WallsView`.
+/// that they saved, the clips of each column, and the planes of the leaf that is entered. Contracts
+/// see `WallsView`.
 ///
 /// The original: `drawsegs`, `openings`, `ceilingclip`, `floorclip`, `floorplane` and
 /// `ceilingplane`, r_bsp.c and r_plane.c.
