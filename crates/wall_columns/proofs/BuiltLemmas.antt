@@ -1,7 +1,6 @@
 -- Laws of what is built: nothing, a leaf more, a fragment more.
-use Rattle.std.proofs.Common.{◌≡◌, ◌≢◌, ℕ, zero, suc, ◌+◌, ◌-◌, ◌<◌, ◌≤◌, Bool, true, false, cond, ℤ, List, [], ◌∷◌, ◌++◌, Option, Some, None, length, take, refl, ap, sym, ◌∙◌, subst, arith}
-use Rattle.std.specs.Prelude.{nat_le, nat_lt, ◌&&◌, option_map}
-use Rattle.std.specs.List.{All}
+use Rattle.std.proofs.Common.{◌≡◌, ℕ, suc, ◌+◌, ◌-◌, ◌<◌, ◌≤◌, Bool, true, cond, ℤ, List, [], ◌∷◌, ◌++◌, Option, None, length, take, refl, ap, sym, ◌∙◌, subst, arith}
+use Rattle.std.specs.Prelude.{nat_le, nat_lt, ◌&&◌}
 use Rattle.std.proofs.lemmas.Bool.Decides.{nat_tests}
 use Rattle.std.proofs.lemmas.List.{length-append}
 use Rattle.std.proofs.lemmas.List.Elements.{All-nil, All-push}
@@ -21,14 +20,14 @@ use Rattle.wall_rules.specs.Numbers.{fragment_numbers}
 use Rattle.wall_rules.specs.Strips.{marked_rows, ceiling_marks, floor_marks}
 use Rattle.wall_rules.specs.Walls.{Wall, wall_of, has_column, wall_edges, past_wall, clip_before, clip_past}
 use Rattle.wall_rules.proofs.NoteLemmas.{openings_list-more, view_notes-more}
-use Rattle.wall_rules.proofs.WallLemmas.{past_wall-own, past_wall-other, clip_past-next, clip_before-front}
+use Rattle.wall_rules.proofs.WallLemmas.{clip_past-next, clip_before-front}
 use Rattle.plane_rules.specs.declared.PlaneKey.{PlaneKey}
 use Rattle.plane_rules.specs.Planes.{Plane}
-use Rattle.plane_rules.specs.Built.{PlaneWall, PlaneEvent, PlanesNow, no_planes, floor_found, ceiling_found, ceiling_checked, floor_checked, columns_marked, wall_marked, after_event, MarkAlike, IsSoundNow}
+use Rattle.plane_rules.specs.Built.{PlaneWall, PlanesNow, no_planes, floor_found, ceiling_found, ceiling_checked, floor_checked, columns_marked, wall_marked, after_event, MarkAlike}
 use Rattle.plane_rules.specs.Built.PlaneEvent.{Finds, Draws}
 use Rattle.plane_rules.proofs.BuiltLemmas.{after_event-alike, sound-after_event}
 use Rattle.picture_rules.specs.Planes.{plane_wall, wall_step}
-use Rattle.visplanes.specs.Planes.{PlanesView, with_planes}
+use Rattle.visplanes.specs.Planes.{PlanesView}
 use Rattle.wall_edges.specs.Fragments.{FragmentValue, fragment_of}
 use Rattle.wall_columns.specs.declared.notes.SavePlaces.{SavePlaces}
 use Rattle.wall_columns.specs.declared.column_state.ColumnState.{ColumnState}
@@ -39,7 +38,7 @@ use Rattle.wall_columns.specs.Places.{places_of}
 use Rattle.wall_columns.specs.Columns.{plane_number, columns_of, column_edges, column_after, clip_along, marks_along, HasMarked, HasSaved}
 use Rattle.wall_columns.specs.Leaves.{now_of, ceiling_check, floor_check}
 use Rattle.wall_columns.specs.States.{walls_view}
-use Rattle.wall_columns.specs.Built.{IsDrawn, IsBuilt, with_wall, step_of_wall, step_of_leaf}
+use Rattle.wall_columns.specs.Built.{IsDrawn, IsBuilt, with_wall, step_of_wall}
 use Rattle.wall_columns.proofs.SavedLemmas.{columns_saved-lists}
 
 -- what is open of a column, of the state and of its windows
@@ -58,9 +57,6 @@ none_saved v = refl
 none_clipped : (shape : ViewShape) (x : ℕ) → open_clip shape.height ≡ clip_before shape [] (length (let walls : List Wall = [] in walls)) x
 unfolding clip_before
 none_clipped shape x = refl
-
-no_number : plane_number None ≡ None
-no_number = refl
 
 -- a view is started
 pub built-start : (v : ViewValue) (notes : List FragmentNote) (state : ColumnState) (height : ℕ) → notes ≡ [] → state.openings.saved ≡ [] →
@@ -122,10 +118,6 @@ columns_test first last x o = grind (arith, nat_tests)
 own_column : (first last x : ℕ) → first ≤ x → x ≤ last → (nat_le first x && nat_le x last) ≡ true
 own_column first last x l h = grind (arith, nat_tests)
 
-has_own : (w : Wall) (x : ℕ) → w.first ≤ x → x ≤ w.last → has_column w x ≡ true
-unfolding has_column
-has_own w x l h = own_column w.first w.last x l h
-
 -- the clip past a new fragment
 past_new : (shape : ViewShape) (walls : List Wall) (w : Wall) (x : ℕ) → clip_past shape (with_wall walls w) (length walls) x ≡ past_wall shape x w (clip_before shape walls (length walls) x)
 past_new shape walls w x = clip_past-next shape walls w (length walls) x refl
@@ -135,14 +127,6 @@ unfolding clip_past
 before_more shape walls w x =
     let n : suc (length walls) ≡ length (with_wall walls w) = (let e = length-append walls (w ∷ []) in omega arith) in
     ap (λ (k : ℕ). clip_before shape (with_wall walls w) k x) n
-
--- a fragment's own facts, as a wall and as a fragment
-abbrev wall : ViewValue → WallFacts → ℕ → ℕ → Wall
-wall v facts first last = wall_of v facts first last
-
-edges_same : (v : ViewValue) (facts : WallFacts) (first last x : ℕ) → column_edges (fragment_of v facts first last) x ≡ wall_edges v.shape (wall_of v facts first last) x
-unfolding column_edges wall_edges wall_of
-edges_same v facts first last x = refl
 
 along_is : (v : ViewValue) (facts : WallFacts) (first last x height : ℕ) (before : ℕ → ColumnClip) (clip : ColumnClip) → first ≤ last → height ≡ v.shape.height → before x ≡ clip →
     clip_along height (fragment_of v facts first last) before (last + 1 - first) x ≡ past_wall v.shape x (wall_of v facts first last) clip
@@ -360,3 +344,9 @@ length_view v walls = length_notes v walls 0
 -- there is a note for each fragment
 pub built-count : (v : ViewValue) (walls : List Wall) (s : PlanesNow) (state : WallsView) (planes : List Plane) → IsBuilt v walls s state planes → length state.notes ≡ length walls
 built-count v walls s state planes h = ap (λ (ds : List FragmentNote). length ds) h.notes ∙ length_view v walls
+
+-- what is open of a column before the next fragment, when the windows are as they were
+pub built-window : (v : ViewValue) (walls : List Wall) (s : PlanesNow) (notes : List FragmentNote) (old : ColumnState) (checked : WindowsView) (planes : List Plane) (w : Wall) (x : ℕ) →
+    IsBuilt v walls s (walls_view notes old) planes → checked ≡ old.windows → x < v.shape.width → window_at checked x ≡ clip_before v.shape (with_wall walls w) (length walls) x
+built-window v walls s notes old checked planes w x h e l =
+    ap (λ (w : WindowsView). window_at w x) e ∙ sym (clip_at-window notes old x) ∙ h.clips x l ∙ sym (clip_before-front v.shape walls (w ∷ []) (length walls) x (omega arith))

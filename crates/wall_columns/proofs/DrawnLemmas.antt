@@ -9,11 +9,11 @@ use Rattle.std.proofs.lemmas.Int.{ints}
 use Rattle.std.proofs.lemmas.Result.{err_from_is_err_and}
 use Rattle.outside.specs.Shelf.{ShelfView}
 use Rattle.word_rules.specs.Listed.{listed_from, joined_lists}
-use Rattle.word_rules.proofs.ListedLemmas.{listed_from-none, listed_from-more, joined_lists-append, joined_lists-cons}
+use Rattle.word_rules.proofs.ListedLemmas.{joined_lists-append}
 use Rattle.lump_rules.specs.Contents.{lump_bytes}
 use Rattle.zone_rules.specs.Zones.{Heap}
 use Rattle.view_rules.specs.View.{ViewValue}
-use Rattle.view_rules.specs.declared.TheConstants.{FRAME_WIDTH, FRAME_HEIGHT, LIGHT_LEVELS}
+use Rattle.view_rules.specs.declared.TheConstants.{FRAME_WIDTH, FRAME_HEIGHT}
 use Rattle.wad_dir.specs.DirectoryView.{DirectoryView}
 use Rattle.lump_cache.specs.Caches.{KeepsCounts}
 use Rattle.pixel_rules.specs.declared.Painter.{Painter}
@@ -25,7 +25,9 @@ use Rattle.wall_rules.specs.declared.FragmentNumbers.{FragmentNumbers}
 use Rattle.wall_rules.specs.declared.WallFacts.{WallFacts}
 use Rattle.wall_rules.specs.Columns.{texture_column}
 use Rattle.wall_rules.specs.Edges.{edges_at}
-use Rattle.wall_rules.specs.Strips.{WallStrip, strip_dots, wall_strips}
+use Rattle.wall_rules.specs.Numbers.{fragment_numbers}
+use Rattle.wall_rules.specs.Walls.{Wall, wall_of, wall_edges, clip_before}
+use Rattle.wall_rules.specs.Strips.{WallStrip, strip_dots, wall_strips, wall_column_by, wall_column, wall_dots}
 use Rattle.wall_edges.specs.Fragments.{FragmentValue, fragment_of}
 use Rattle.pixel_strips.specs.Canvases.{CanvasView}
 use Rattle.pixel_strips.specs.Dotted.{HasDots, PlacedAlike}
@@ -37,13 +39,14 @@ use Rattle.texture_build.proofs.BesideLemmas.{fit_beside-none, fit_beside-append
 use Rattle.texture_build.proofs.DrawLemmas.{draws-none, draws-then, draws-wider, holds_art-later}
 use Rattle.wall_columns.specs.declared.clips.ColumnPlan.{ColumnPlan}
 use Rattle.wall_columns.specs.declared.fault.DrawFault.{DrawFault}
-use Rattle.wall_columns.specs.Draws.{IsNoPicture}
+use Rattle.wall_columns.specs.Draws.{IsNoPicture, IsWallTexture}
 use Rattle.wall_columns.specs.Faults.{draw_fault}
 use Rattle.wall_columns.specs.Plans.{IsPartTexture, IsPlanTexture, plan_of, strips_by, HasRows, IsInRows, AreEdgeWords}
-use Rattle.wall_columns.specs.Windows.{WindowsView, window_at, IsClipIn}
-use Rattle.wall_columns.specs.Columns.{column_edges}
+use Rattle.wall_columns.specs.Windows.{IsClipIn}
+use Rattle.wall_columns.specs.Columns.{column_edges, columns_of}
 use Rattle.wall_columns.specs.Drawn.{IsDrawnTexture, column_painted, dots_along, CanPaint, PaintsColumns}
 use Rattle.wall_columns.proofs.PlanLemmas.{plan_strips-in, plan_strips-there, plan_strips-dots}
+use Rattle.wall_columns.proofs.SightLemmas.{numbers-scale, numbers-light, numbers-texture}
 use Rattle.wall_columns.proofs.PaintedLemmas.{can_draw-later}
 
 -- what may be painted may be painted later
@@ -247,3 +250,59 @@ pub along-joined : (f g : ℕ → List Dot) (first last : ℕ) → ((x : ℕ) �
     dots_along f first (last + 1 - first) ≡ joined_lists g (listed_from (λ (x : ℕ). x) first last)
 unfolding listed_from
 along-joined f g first last h = along_range f g first (last + 1 - first) (λ k l. h (first + k) (omega arith) (omega arith))
+
+-- the columns of a fragment, as those of a wall
+column_wall : (v : ViewValue) (art : Art) (ws : List Wall) (k number : ℕ) (facts : WallFacts) (first last : ℕ) (before : ℕ → ColumnClip) (x : ℕ) → number ≡ k → before x ≡ clip_before v.shape ws k x →
+    column_painted v art number (fragment_of v facts first last) facts before x ≡ wall_column v art ws k (wall_of v facts first last) x
+unfolding column_painted wall_column wall_column_by wall_edges column_edges wall_of
+column_wall v art ws k number facts first last before x e h =
+    let n : FragmentNumbers = fragment_numbers v facts first last in
+    let edges : Edges = edges_at v.shape n (x - first) in
+    ap (λ (m : ℕ). joined_lists (strip_dots v art m x n.light (texture_column v facts x) edges.scale) (wall_strips n (before x) edges)) e
+    ∙ ap (λ (c : ColumnClip). joined_lists (strip_dots v art k x n.light (texture_column v facts x) edges.scale) (wall_strips n c edges)) h
+
+wall_is : (v : ViewValue) (art : Art) (ws : List Wall) (k number : ℕ) (facts : WallFacts) (first last : ℕ) (before : ℕ → ColumnClip) → number ≡ k →
+    ((x : ℕ) → first ≤ x → x ≤ last → before x ≡ clip_before v.shape ws k x) →
+    dots_along (column_painted v art number (fragment_of v facts first last) facts before) first (last + 1 - first) ≡ wall_dots v art ws k (wall_of v facts first last)
+unfolding wall_dots wall_of
+wall_is v art ws k number facts first last before e h =
+    along-joined (column_painted v art number (fragment_of v facts first last) facts before) (wall_column v art ws k (wall_of v facts first last)) first last
+    (λ x l m. column_wall v art ws k number facts first last before x e (h x l m))
+
+-- the dots of a fragment
+pub along-wall : (v : ViewValue) (art : Art) (ws : List Wall) (k number : ℕ) (facts : WallFacts) (first last : ℕ) (f : FragmentValue) (before : ℕ → ColumnClip) → f ≡ fragment_of v facts first last → number ≡ k →
+    ((x : ℕ) → first ≤ x → x ≤ last → before x ≡ clip_before v.shape ws k x) →
+    dots_along (column_painted v art number f facts before) f.first (columns_of f) ≡ wall_dots v art ws k (wall_of v facts first last)
+along-wall v art ws k number facts first last f before is e h =
+    ap (λ (f : FragmentValue). dots_along (column_painted v art number f facts before) f.first (columns_of f)) is ∙ wall_is v art ws k number facts first last before e h
+
+scale_least : (z : ℤ) → pos 0 <ℤ z → pos 0 ≤ℤ z
+scale_least z h = omega (arith, ints)
+
+own_scale : (v : ViewValue) (facts : WallFacts) (first last k : ℕ) → k ≤ last - first → pos 0 ≤ℤ (edges_at v.shape (fragment_numbers v facts first last) k).scale
+unfolding edges_at
+own_scale v facts first last k l = scale_least _ (numbers-scale v facts first last k l)
+
+-- the fragment of a seg may be painted where its textures may be drawn
+pub can_paint-of : (v : ViewValue) (facts : WallFacts) (first last : ℕ) (dir : DirectoryView) (art : TexturesView) (colormap : ℕ) (z : Heap) (canvas : CanvasView) (f : FragmentValue) → f ≡ fragment_of v facts first last →
+    last < v.shape.width → canvas.left + v.shape.width ≤ FRAME_WIDTH → canvas.top + v.shape.height ≤ FRAME_HEIGHT → length dir.lumps ≤ z.lumps → colormap < z.lumps →
+    ((number : ℕ) → IsWallTexture facts number → CanDraw dir.lumps art z number) → CanPaint v dir art colormap z canvas f
+can_paint-of v facts first last dir art colormap z canvas f is within columns rows slots shades textures =
+    let P : FragmentValue → Type 0 = λ f. CanPaint v dir art colormap z canvas f in
+    subst P (sym is) (record {
+      within = within;
+      columns = columns;
+      rows = rows;
+      slots = slots;
+      shades = shades;
+      textures = λ number some part. textures number (some, numbers-texture v facts first last number some part);
+      scales = λ k l. own_scale v facts first last k l;
+      light = numbers-light v facts first last;
+    })
+
+-- a texture that is drawn is one of the seg's
+pub drawn-textures : (v : ViewValue) (facts : WallFacts) (first last : ℕ) (f : FragmentValue) → f ≡ fragment_of v facts first last → (number : ℕ) → IsDrawnTexture f.numbers number → IsWallTexture facts number
+drawn-textures v facts first last f is number h =
+    let P : FragmentValue → Type 0 = λ f. IsDrawnTexture f.numbers number in
+    let own : IsDrawnTexture (fragment_numbers v facts first last) number = subst P is h in
+    (own.0, numbers-texture v facts first last number own.0 own.1)

@@ -11,3 +11,4 @@ pub mod MarkLemmas
 pub mod BuiltLemmas
 pub mod OverLemmas
 pub mod DrawnLemmas
+pub mod NotedLemmas

@@ -1,8 +1,8 @@
 -- The planes of a leaf, one at a time: found where it is entered, checked where a fragment marks.
-use Rattle.std.specs.Prelude.{◌≡◌, ℕ, nat_lt, cond, List, [], Option, Some, None, length}
+use Rattle.std.specs.Prelude.{ℕ, nat_lt, cond, List, Option, Some, None, length}
 use Rattle.plane_rules.specs.declared.PlaneKey.{PlaneKey}
 use Rattle.plane_rules.specs.Planes.{Plane, PlaneChoice, find}
-use Rattle.plane_rules.specs.Built.{PlaneWall, PlanesNow, floor_found, ceiling_found, checked_plane, with_ceiling, with_floor}
+use Rattle.plane_rules.specs.Built.{PlanesNow, floor_found, ceiling_found, checked_plane, with_ceiling, with_floor}
 use Rattle.picture_rules.specs.declared.OverLimit.{OverLimit}
 use Rattle.picture_rules.specs.Counts.{planes_count, openings_count}
 use Rattle.visplanes.specs.Planes.{PlanesView}
@@ -38,10 +38,12 @@ now_of state planes = record {
 
 -- a fragment's checks, the ceiling's and then the floor's
 unfoldable pub ceiling_check : FragmentNumbers → ℕ → ℕ → PlanesNow → PlanesNow
-ceiling_check n first last s = with_ceiling (checked_plane n.ceiling_mark s.planes s.ceiling first last) s
+ceiling_check n first last s =
+    with_ceiling (checked_plane n.ceiling_mark s.planes s.ceiling first last) s
 
 unfoldable pub floor_check : FragmentNumbers → ℕ → ℕ → PlanesNow → PlanesNow
-floor_check n first last s = with_floor (checked_plane n.floor_mark s.planes s.floor first last) s
+floor_check n first last s =
+    with_floor (checked_plane n.floor_mark s.planes s.floor first last) s
 
 -- a count of planes, or else of openings, that passes its room
 unfoldable pub planes_over : ℕ → ℕ → Option OverLimit → Option OverLimit
@@ -59,4 +61,5 @@ leaf_over room s floor ceiling =
 unfoldable pub checks_over : ℕ → FragmentNumbers → ℕ → ℕ → PlanesNow → Option OverLimit
 checks_over room n first last s =
     planes_over room (length (ceiling_check n first last s).planes)
-    (planes_over room (length (floor_check n first last (ceiling_check n first last s)).planes) None)
+    (planes_over room (length (floor_check n first last (ceiling_check n first last s)).planes)
+    None)

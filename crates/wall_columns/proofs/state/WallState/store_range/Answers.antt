@@ -1,0 +1,149 @@
+-- A fragment is drawn: what is built, what is told, and what is painted.
+use Rattle.std.proofs.Common.{◌≡◌, ◌≤◌, ◌++◌, ◌∷◌, [], ℕ, List, length, ap, sym, refl, subst, ◌∙◌, arith}
+use Rattle.lump_rules.specs.Contents.{lump_bytes}
+use Rattle.view_rules.specs.declared.TheConstants.{FRAME_WIDTH}
+use Rattle.view_rules.specs.declared.ViewShape.{ViewShape}
+use Rattle.wall_rules.specs.declared.FragmentNote.{FragmentNote}
+use Rattle.wall_rules.specs.Walls.{wall_of}
+use Rattle.plane_rules.specs.Built.{after_event}
+use Rattle.pixel_strips.proofs.DottedLemmas.{has_dots-as}
+use Rattle.texture_build.specs.Arts.{view_art}
+use Rattle.texture_build.proofs.BesideLemmas.{fit_beside-as}
+use Rattle.texture_build.proofs.DrawLemmas.{draws-stop, draws-wider}
+use Rattle.wall_columns.specs.Built.{IsBuilt, with_wall, step_of_wall}
+use Rattle.wall_columns.specs.States.{walls_view}
+use Rattle.wall_columns.specs.Walls.{WallsView}
+use Rattle.wall_columns.specs.Windows.{window_at}
+use Rattle.wall_columns.proofs.BuiltLemmas.{built-now, built-wall, built-count, built-window, wall-drawn}
+use Rattle.wall_columns.proofs.DrawnLemmas.{along-wall, can_paint-of, drawn-textures}
+use Rattle.wall_columns.proofs.LeafLemmas.{limit-passed_on}
+use Rattle.wall_columns.proofs.OverLemmas.{over-range}
+use Rattle.wall_columns.proofs.state.WallState.store_range.Goals as goal
+
+pub returns-then-len-clause-built : goal.returns-then-len-clause-built
+returns-then-len-clause-built g c = λ walls s h few.
+    let notes = ap (λ (w : WallsView). length w.notes) c.self.view_is in
+    absurd (omega (arith, built-count c.args.tools.now.view.now walls s c.args.self.now c.args.tools.now.planes.now.planes h))
+
+pub returns-then-len-clause-limit : goal.returns-then-len-clause-limit
+returns-then-len-clause-limit g c = λ walls s h few.
+    let notes = ap (λ (w : WallsView). length w.notes) c.self.view_is in
+    absurd (omega (arith, built-count c.args.tools.now.view.now walls s c.args.self.now c.args.tools.now.planes.now.planes h))
+
+pub returns-then-len-clause-painted : goal.returns-then-len-clause-painted
+returns-then-len-clause-painted g c = λ walls s contents count h few hold.
+    let notes = ap (λ (w : WallsView). length w.notes) c.self.view_is in
+    absurd (omega (arith, built-count c.args.tools.now.view.now walls s c.args.self.now c.args.tools.now.planes.now.planes h))
+
+pub returns-then-len-clause-fits : goal.returns-then-len-clause-fits
+returns-then-len-clause-fits g c = λ walls s contents count h few hold.
+    let notes = ap (λ (w : WallsView). length w.notes) c.self.view_is in
+    absurd (omega (arith, built-count c.args.tools.now.view.now walls s c.args.self.now c.args.tools.now.planes.now.planes h))
+
+pub returns-in_err-places-clause-limit : goal.returns-in_err-places-clause-limit
+returns-in_err-places-clause-limit g c = λ walls s h few.
+    let v = c.args.tools.now.view.now in
+    let planes = c.args.tools.now.planes.now in
+    let P : WallsView → Type 0 = λ w. IsBuilt v walls s w planes.planes in
+    let columns = c.self.inside.columns in
+    let b : IsBuilt v walls s (walls_view c.self.inside.notes.items columns) planes.planes = subst P (sym c.self.view_is) h in
+    limit-passed_on c.from_residual.result c.in_err-places.field-0.0 c.from_residual.ensures.0 c.from_residual.ensures.1
+    ∙ c.in_err-places.ensures.limit s (built-now v walls s c.self.inside.notes.items columns planes b)
+    ∙ over-range v walls c.args.facts.now c.args.first c.args.last c.numbers-numbers.result c.new-fragment.result c.new-fragment.ensures c.numbers-numbers.ensures
+    c.self.inside.notes.items columns c.args.self.now planes s c.self.view_is
+
+pub draw_columns-requires-clause-paints : goal.draw_columns-requires-clause-paints
+draw_columns-requires-clause-paints g c =
+    let tools = c.args.tools.now in
+    can_paint-of tools.view.now c.args.facts.now c.args.first c.args.last tools.dir.now tools.textures.now tools.colormap.0 tools.cache.now (g.C.Canvas.view tools.canvas.now) c.new-fragment.result c.new-fragment.ensures
+    c.requires.within c.requires.columns c.requires.rows c.requires.slots c.requires.colormap c.requires.textures
+
+pub returns-in_err-draw_columns-clause-limit : goal.returns-in_err-draw_columns-clause-limit
+returns-in_err-draw_columns-clause-limit g c = λ walls s h few.
+    let v = c.args.tools.now.view.now in
+    let planes = c.args.tools.now.planes.now in
+    let P : WallsView → Type 0 = λ w. IsBuilt v walls s w planes.planes in
+    let columns = c.self.inside.columns in
+    let b : IsBuilt v walls s (walls_view c.self.inside.notes.items columns) planes.planes = subst P (sym c.self.view_is) h in
+    limit-passed_on c.from_residual-in_err-draw_columns.result c.in_err-draw_columns.field-0.0 c.from_residual-in_err-draw_columns.ensures.0 c.from_residual-in_err-draw_columns.ensures.1
+    ∙ c.in_err-draw_columns.ensures.limit
+    ∙ c.in_ok-places.ensures.limit s (built-now v walls s c.self.inside.notes.items columns planes b)
+    ∙ over-range v walls c.args.facts.now c.args.first c.args.last c.numbers-numbers.result c.new-fragment.result c.new-fragment.ensures c.numbers-numbers.ensures
+    c.self.inside.notes.items columns c.args.self.now planes s c.self.view_is
+
+pub returns-in_err-draw_columns-clause-paints : goal.returns-in_err-draw_columns-clause-paints
+returns-in_err-draw_columns-clause-paints g c =
+    draws-stop refl c.from_residual-in_err-draw_columns.ensures.1
+    (draws-wider (drawn-textures c.args.tools.now.view.now c.args.facts.now c.args.first c.args.last c.new-fragment.result c.new-fragment.ensures) (λ (lump : ℕ) h. h) c.in_err-draw_columns.ensures.paints.draws)
+
+pub returns-clause-limit : goal.returns-clause-limit
+returns-clause-limit g c = λ walls s h few.
+    let v = c.args.tools.now.view.now in
+    let planes = c.args.tools.now.planes.now in
+    let P : WallsView → Type 0 = λ w. IsBuilt v walls s w planes.planes in
+    let columns = c.self.inside.columns in
+    let b : IsBuilt v walls s (walls_view c.self.inside.notes.items columns) planes.planes = subst P (sym c.self.view_is) h in
+    c.in_ok-places.ensures.limit s (built-now v walls s c.self.inside.notes.items columns planes b)
+    ∙ over-range v walls c.args.facts.now c.args.first c.args.last c.numbers-numbers.result c.new-fragment.result c.new-fragment.ensures c.numbers-numbers.ensures
+    c.self.inside.notes.items columns c.args.self.now planes s c.self.view_is
+
+pub returns-clause-paints : goal.returns-clause-paints
+returns-clause-paints g c =
+    draws-wider (drawn-textures c.args.tools.now.view.now c.args.facts.now c.args.first c.args.last c.new-fragment.result c.new-fragment.ensures) (λ (lump : ℕ) h. h) c.in_ok-draw_columns.ensures.paints.draws
+
+pub returns-clause-built : goal.returns-clause-built
+returns-clause-built g c = λ walls s h few.
+    let v = c.args.tools.now.view.now in
+    let facts = c.args.facts.now in
+    let planes = c.args.tools.now.planes.now in
+    let P : WallsView → Type 0 = λ w. IsBuilt v walls s w planes.planes in
+    let columns = c.self.inside.columns in
+    let old : List FragmentNote = c.self.inside.notes.items in
+    let b : IsBuilt v walls s (walls_view old columns) planes.planes = subst P (sym c.self.view_is) h in
+    let shape = ap (λ (s : ViewShape). s.width) c.shape-shape.ensures.value in
+    let wide = c.shape-shape.ensures.frame.width in
+    let frame : v.shape.width ≤ FRAME_WIDTH = omega arith in
+    let drawn = wall-drawn v walls s facts c.args.first c.args.last old columns c.begin.new.self c.draw_columns.new.self planes c.begin.new.planes c.draw_columns.new.tools.planes.now
+    c.in_ok-places.places c.note_of-note.result c.numbers-numbers.result c.new-fragment.result c.new-fragment.ensures c.numbers-numbers.ensures b c.requires.ordered c.requires.within frame
+    c.in_ok-places.ensures.windows (c.in_ok-places.ensures.ok s (built-now v walls s old columns planes b)) c.in_ok-places.ensures.places c.in_ok-places.ensures.front
+    c.in_ok-places.ensures.length c.in_ok-draw_columns.ensures.marked c.in_ok-draw_columns.ensures.saved
+    (c.note_of-note.ensures v facts (length columns.openings.saved) c.new-fragment.ensures c.numbers-numbers.ensures refl (ap (λ (s : ViewShape). s.height) c.shape-shape.ensures.value) c.in_ok-places.ensures.places) in
+    let Q : List FragmentNote → Type 0 = λ notes. IsBuilt v (with_wall walls (wall_of v facts c.args.first c.args.last)) (after_event s (step_of_wall v walls (wall_of v facts c.args.first c.args.last)).event)
+    (walls_view notes c.draw_columns.new.self) c.draw_columns.new.tools.planes.now.planes in
+    let items : c.push_reserved.new.self.items ≡ old ++ c.note_of-note.result ∷ [] = c.push_reserved.ensures.items in
+    subst Q (sym items) (built-wall drawn)
+
+pub returns-clause-painted : goal.returns-clause-painted
+returns-clause-painted g c = λ walls s contents count h few hold.
+    let v = c.args.tools.now.view.now in
+    let facts = c.args.facts.now in
+    let planes = c.args.tools.now.planes.now in
+    let P : WallsView → Type 0 = λ w. IsBuilt v walls s w planes.planes in
+    let columns = c.self.inside.columns in
+    let old : List FragmentNote = c.self.inside.notes.items in
+    let b : IsBuilt v walls s (walls_view old columns) planes.planes = subst P (sym c.self.view_is) h in
+    let art = view_art (lump_bytes contents c.args.tools.now.dir.now.lumps) c.args.tools.now.textures.now c.args.tools.now.colormap.0 in
+    let w = wall_of v facts c.args.first c.args.last in
+    let within = c.requires.within in
+    let number : c.len-number.result ≡ length walls = omega (arith, built-count v walls s (walls_view old columns) planes.planes b) in
+    has_dots-as (along-wall v art (with_wall walls w) (length walls) c.len-number.result facts c.args.first c.args.last c.new-fragment.result (window_at c.begin.new.self.windows) c.new-fragment.ensures number
+    (λ x l m. built-window v walls s old columns c.begin.new.self.windows planes.planes w x b c.in_ok-places.ensures.windows (omega arith)))
+    (c.in_ok-draw_columns.ensures.paints.painted facts c.args.first c.args.last contents count c.new-fragment.ensures hold)
+
+pub returns-clause-fits : goal.returns-clause-fits
+returns-clause-fits g c = λ walls s contents count h few hold.
+    let v = c.args.tools.now.view.now in
+    let facts = c.args.facts.now in
+    let planes = c.args.tools.now.planes.now in
+    let P : WallsView → Type 0 = λ w. IsBuilt v walls s w planes.planes in
+    let columns = c.self.inside.columns in
+    let old : List FragmentNote = c.self.inside.notes.items in
+    let b : IsBuilt v walls s (walls_view old columns) planes.planes = subst P (sym c.self.view_is) h in
+    let art = view_art (lump_bytes contents c.args.tools.now.dir.now.lumps) c.args.tools.now.textures.now c.args.tools.now.colormap.0 in
+    let w = wall_of v facts c.args.first c.args.last in
+    let within = c.requires.within in
+    let number : c.len-number.result ≡ length walls = omega (arith, built-count v walls s (walls_view old columns) planes.planes b) in
+    fit_beside-as c.args.tools.now.dir.now.lumps c.args.tools.now.textures.now c.args.tools.now.colormap.0 count c.args.tools.now.cache.now.size
+    (along-wall v art (with_wall walls w) (length walls) c.len-number.result facts c.args.first c.args.last c.new-fragment.result (window_at c.begin.new.self.windows) c.new-fragment.ensures number
+    (λ x l m. built-window v walls s old columns c.begin.new.self.windows planes.planes w x b c.in_ok-places.ensures.windows (omega arith)))
+    (c.in_ok-draw_columns.ensures.paints.fits facts c.args.first c.args.last contents count c.new-fragment.ensures hold)
