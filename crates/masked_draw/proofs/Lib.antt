@@ -12,3 +12,4 @@ pub mod SpriteLemmas
 pub mod MiddleLemmas
 pub mod LiveLemmas
 pub mod PassLemmas
+pub mod PictureLemmas

@@ -26,7 +26,7 @@ ghost use Rattle.masked_draw.specs.Scenes.{CanPaint, CanPass, PaintsDots, scene_
 use crate::clips::{SpriteClips, is_behind};
 use crate::middles::paint_middle;
 use crate::scene::{MaskHands, MaskScene};
-use crate::sprites::paint_sprite;
+use crate::sprites::{column_of, paint_sprite};
 use crate::tools::MaskedTools;
 use lump_cache::CacheFault;
 use outside::Shelf;
@@ -224,15 +224,6 @@ fn draw_sprite<S: Shelf, C: Canvas>(
     clips.clear(first, last);
     pass_fragments(scene, hands, notes, entry, clips)?;
     paint_sprite(scene, hands, clips, entry, first, last)
-}
-
-// The column of that number.
-fn column_of(x: i32) -> u16
-    requires least { pos 0 ≤ℤ x }
-    requires greatest { x <ℤ pos (2 ^ 16) }
-    ensures { x ≡ pos result }
-{
-    x as u16
 }
 
 // Paints the masked columns behind a sprite, and takes the clips of the fragments in front of it,
