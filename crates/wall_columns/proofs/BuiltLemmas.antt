@@ -15,7 +15,8 @@ use Rattle.wall_rules.specs.declared.WallFacts.{WallFacts}
 use Rattle.wall_rules.specs.Clips.{open_clip, clip_after, ceiling_rows, floor_rows}
 use Rattle.wall_rules.specs.Columns.{texture_column}
 use Rattle.wall_rules.specs.Edges.{edges_at}
-use Rattle.wall_rules.specs.Notes.{middle_columns, top_clips, bottom_clips, saved_by, saved_from, notes_from, openings_list, view_notes, note_at}
+use Rattle.wall_rules.specs.Openings.{saves_top, saves_bottom}
+use Rattle.wall_rules.specs.Notes.{room_if, middle_columns, top_clips, bottom_clips, saved_by, saved_from, notes_from, openings_list, view_notes, note_at}
 use Rattle.wall_rules.specs.Numbers.{fragment_numbers}
 use Rattle.wall_rules.specs.Strips.{marked_rows, ceiling_marks, floor_marks}
 use Rattle.wall_rules.specs.Walls.{Wall, wall_of, has_column, wall_edges, past_wall, clip_before, clip_past}
@@ -174,3 +175,188 @@ pub record WallDrawn (v : ViewValue) (walls : List Wall) (s : PlanesNow) (facts 
   pub marked : HasMarked (fragment_of v facts first last) (last + 1 - first) checked new between later
   pub saved : HasSaved v (fragment_of v facts first last) lists (last + 1 - first) checked new.openings
   pub note : entry ≡ note_at v (wall_of v facts first last) (length old.openings.saved)
+
+-- the fragment as a wall of the view
+drawn_wall : (v : ViewValue) (facts : WallFacts) (first last : ℕ) → first ≤ last → last < v.shape.width → IsDrawn v (wall_of v facts first last)
+unfolding wall_of
+drawn_wall v facts first last o w = record { is = refl; ordered = o; within = w }
+
+-- the window of a column before the fragment
+window_before : {v : ViewValue} {walls : List Wall} {s : PlanesNow} {facts : WallFacts} {first last : ℕ} {notes : List FragmentNote} {old checked new : ColumnState} {before between later : PlanesView} {places : SavePlaces} {note : FragmentNote} →
+    WallDrawn v walls s facts first last notes old checked new before between later places note → (x : ℕ) → x < v.shape.width →
+    window_at checked.windows x ≡ clip_before v.shape walls (length walls) x
+window_before {notes = notes} {old = old} d x l =
+    ap (λ (w : WindowsView). window_at w x) d.windows ∙ sym (clip_at-window notes old x) ∙ d.built.clips x l
+
+height_before : {v : ViewValue} {walls : List Wall} {s : PlanesNow} {facts : WallFacts} {first last : ℕ} {notes : List FragmentNote} {old checked new : ColumnState} {before between later : PlanesView} {places : SavePlaces} {note : FragmentNote} →
+    WallDrawn v walls s facts first last notes old checked new before between later places note → checked.windows.height ≡ v.shape.height
+height_before d = ap (λ (w : WindowsView). w.height) d.windows ∙ d.built.height
+
+clips_after : {v : ViewValue} {walls : List Wall} {s : PlanesNow} {facts : WallFacts} {first last : ℕ} {notes : List FragmentNote} {old checked new : ColumnState} {before between later : PlanesView} {places : SavePlaces} {note : FragmentNote} →
+    WallDrawn v walls s facts first last notes old checked new before between later places note → (more : List FragmentNote) (x : ℕ) → x < v.shape.width →
+    clip_at (walls_view more new) x ≡ clip_before v.shape (with_wall walls (wall_of v facts first last)) (length (with_wall walls (wall_of v facts first last))) x
+clips_after {v} {walls} {s} {facts} {first} {last} {notes} {old} {checked} {new} d more x l =
+    let w : Wall = wall_of v facts first last in
+    let frame = d.frame in
+    clip_at-window more new x
+    ∙ d.marked.windows x (omega arith)
+    ∙ along_is v facts first last x checked.windows.height (window_at checked.windows) (clip_before v.shape walls (length walls) x) d.ordered (height_before d) (window_before d x l)
+    ∙ sym (past_new v.shape walls w x)
+    ∙ before_more v.shape walls w x
+
+-- what the fragment leaves open of one of its columns
+left_open : {v : ViewValue} {walls : List Wall} {s : PlanesNow} {facts : WallFacts} {first last : ℕ} {notes : List FragmentNote} {old checked new : ColumnState} {before between later : PlanesView} {places : SavePlaces} {note : FragmentNote} →
+    WallDrawn v walls s facts first last notes old checked new before between later places note → (x : ℕ) → first ≤ x → x ≤ last →
+    column_after checked.windows.height (fragment_of v facts first last) (window_at checked.windows) x ≡ clip_past v.shape (with_wall walls (wall_of v facts first last)) (length walls) x
+left_open {v} {walls} {s} {facts} {first} {last} {notes} {old} {checked} d x l h =
+    let within = d.within in
+    after_is v facts first last x checked.windows.height (window_at checked.windows) (clip_before v.shape walls (length walls) x) l h (height_before d) (window_before d x (omega arith))
+    ∙ sym (past_new v.shape walls (wall_of v facts first last) x)
+
+saved_lists : (v : ViewValue) (ws : List Wall) (n : ℕ) (facts : WallFacts) (first last : ℕ) (front : List ℤ) (xs : List ℤ) (after : ℕ → ColumnClip) (places : SavePlaces) →
+    places ≡ places_of (fragment_numbers v facts first last) (length front) (last + 1 - first) → take (length front) xs ≡ front → length xs ≡ places.end →
+    ((x : ℕ) → first ≤ x → x ≤ last → after x ≡ clip_past v.shape ws n x) →
+    columns_saved places (texture_column v facts) after first (last + 1 - first) xs ≡ front ++ saved_by v ws n (wall_of v facts first last)
+unfolding saved_by middle_columns top_clips bottom_clips wall_of
+saved_lists v ws n facts first last front xs after places p f t a =
+    ap (λ (q : SavePlaces). columns_saved q (texture_column v facts) after first (last + 1 - first) xs) p
+    ∙ columns_saved-lists (fragment_numbers v facts first last) first last front xs (texture_column v facts) after (texture_column v facts)
+    (λ x. (clip_past v.shape ws n x).ceiling_clip) (λ x. (clip_past v.shape ws n x).floor_clip) f (t ∙ ap (λ (q : SavePlaces). q.end) p)
+    (λ x l h. refl) (λ x l h. ap (λ (c : ColumnClip). c.ceiling_clip) (a x l h)) (λ x l h. ap (λ (c : ColumnClip). c.floor_clip) (a x l h))
+
+openings_after : {v : ViewValue} {walls : List Wall} {s : PlanesNow} {facts : WallFacts} {first last : ℕ} {notes : List FragmentNote} {old checked new : ColumnState} {before between later : PlanesView} {places : SavePlaces} {note : FragmentNote} →
+    WallDrawn v walls s facts first last notes old checked new before between later places note →
+    new.openings.saved ≡ openings_list v (with_wall walls (wall_of v facts first last))
+openings_after {v} {walls} {s} {facts} {first} {last} {notes} {old} {checked} {new} {places = places} d =
+    let w : Wall = wall_of v facts first last in
+    d.saved.saved facts first last refl
+    ∙ saved_lists v (with_wall walls w) (length walls) facts first last old.openings.saved checked.openings.saved
+    (column_after checked.windows.height (fragment_of v facts first last) (window_at checked.windows)) places d.places d.front d.total (λ x l h. left_open d x l h)
+    ∙ ap (λ (xs : List ℤ). xs ++ saved_by v (with_wall walls w) (length walls) w) d.built.openings
+    ∙ sym (openings_list-more v walls w)
+
+notes_after : {v : ViewValue} {walls : List Wall} {s : PlanesNow} {facts : WallFacts} {first last : ℕ} {notes : List FragmentNote} {old checked new : ColumnState} {before between later : PlanesView} {places : SavePlaces} {note : FragmentNote} →
+    WallDrawn v walls s facts first last notes old checked new before between later places note →
+    notes ++ note ∷ [] ≡ view_notes v (with_wall walls (wall_of v facts first last))
+notes_after {v} {walls} {s} {facts} {first} {last} {notes} {old} {note = note} d =
+    let w : Wall = wall_of v facts first last in
+    ap (λ (xs : List FragmentNote). xs ++ note ∷ []) d.built.notes
+    ∙ ap (λ (d : FragmentNote). view_notes v walls ++ d ∷ []) d.note
+    ∙ ap (λ (xs : List ℤ). view_notes v walls ++ note_at v w (length xs) ∷ []) d.built.openings
+    ∙ sym (view_notes-more v walls w)
+
+-- the fragment's marks by the windows are those of the rules
+rows_same : (v : ViewValue) (ws : List Wall) (n : ℕ) (facts : WallFacts) (first last : ℕ) (before : ℕ → ColumnClip) →
+    ((x : ℕ) → first ≤ x → x ≤ last → before x ≡ clip_before v.shape ws n x) →
+    MarkAlike (marks_along (fragment_of v facts first last) before) (plane_wall v ws n (wall_of v facts first last))
+unfolding marks_along plane_wall wall_of ceiling_marks floor_marks column_edges wall_edges
+rows_same v ws n facts first last before h = record {
+  first = refl;
+  last = refl;
+  ceiling_mark = refl;
+  floor_mark = refl;
+  ceiling_rows = λ x l m. ap (λ (c : ColumnClip). marked_rows (fragment_numbers v facts first last).ceiling_mark (ceiling_rows c (edges_at v.shape (fragment_numbers v facts first last) (x - first)))) (h x l m);
+  floor_rows = λ x l m. ap (λ (c : ColumnClip). marked_rows (fragment_numbers v facts first last).floor_mark (floor_rows c (edges_at v.shape (fragment_numbers v facts first last) (x - first)))) (h x l m);
+}
+
+-- what a fragment that is drawn does with planes, by its own marks
+drawn_event : (f : FragmentValue) (before : ℕ → ColumnClip) (s : PlanesNow) →
+    after_event s (Draws (marks_along f before))
+    ≡ wall_marked (marks_along f before) (floor_check f.numbers f.first f.last (ceiling_check f.numbers f.first f.last s))
+unfolding after_event floor_checked ceiling_checked floor_check ceiling_check marks_along
+drawn_event f before s = refl
+
+marked_event : (f : FragmentValue) (before : ℕ → ColumnClip) (t : PlanesNow) →
+    wall_marked (marks_along f before) t ≡ (let u : PlanesNow = record { planes = columns_marked (marks_along f before) t.ceiling t.floor (f.last + 1 - f.first) t.planes; floor = t.floor; ceiling = t.ceiling } in u)
+unfolding wall_marked marks_along
+marked_event f before t = refl
+
+-- equal marks do the same with planes
+event_alike : (s : PlanesNow) (a b : PlaneWall) → MarkAlike a b → (first last : ℕ) → first ≡ a.first → last ≡ a.last → first ≤ last → after_event s (Draws a) ≡ after_event s (Draws b)
+event_alike s a b h first last e f o = after_event-alike s a b h (omega arith)
+
+now_after : {v : ViewValue} {walls : List Wall} {s : PlanesNow} {facts : WallFacts} {first last : ℕ} {notes : List FragmentNote} {old checked new : ColumnState} {before between later : PlanesView} {places : SavePlaces} {note : FragmentNote} →
+    WallDrawn v walls s facts first last notes old checked new before between later places note →
+    now_of new later ≡ after_event s (step_of_wall v walls (wall_of v facts first last)).event
+unfolding wall_step marks_along
+now_after {v} {walls} {s} {facts} {first} {last} {notes} {old} {checked} {new} {before} {between} {later} d =
+    let w : Wall = wall_of v facts first last in
+    let f : FragmentValue = fragment_of v facts first last in
+    let open_at : ℕ → ColumnClip = window_at checked.windows in
+    let t : PlanesNow = now_of checked between in
+    let marked : PlanesNow = record { planes = columns_marked (marks_along f open_at) t.ceiling t.floor (last + 1 - first) t.planes; floor = t.floor; ceiling = t.ceiling } in
+    let ordered = d.ordered in
+    let within = d.within in
+    let one : now_of new later ≡ marked =
+    ap (λ (ps : List Plane). let u : PlanesNow = record { planes = ps; floor = plane_number new.floor; ceiling = plane_number new.ceiling } in u) (ap (λ (p : PlanesView). p.planes) d.marked.planes)
+    ∙ ap (λ (o : Option _). let u : PlanesNow = record { planes = marked.planes; floor = plane_number o; ceiling = plane_number new.ceiling } in u) d.marked.floor
+    ∙ ap (λ (o : Option _). let u : PlanesNow = record { planes = marked.planes; floor = plane_number checked.floor; ceiling = plane_number o } in u) d.marked.ceiling in
+    let alike : MarkAlike (marks_along f open_at) (plane_wall v (with_wall walls w) (length walls) w) =
+    rows_same v (with_wall walls w) (length walls) facts first last open_at
+    (λ x l h. window_before d x (omega arith) ∙ sym (clip_before-front v.shape walls (w ∷ []) (length walls) x (omega arith))) in
+    one
+    ∙ sym (marked_event f open_at t)
+    ∙ ap (wall_marked (marks_along f open_at)) d.planes
+    ∙ sym (drawn_event f open_at s)
+    ∙ event_alike s (marks_along f open_at) (plane_wall v (with_wall walls w) (length walls) w) alike first last refl refl ordered
+
+-- a fragment is drawn
+pub built-wall : {v : ViewValue} {walls : List Wall} {s : PlanesNow} {facts : WallFacts} {first last : ℕ} {notes : List FragmentNote} {old checked new : ColumnState} {before between later : PlanesView} {places : SavePlaces} {note : FragmentNote} →
+    WallDrawn v walls s facts first last notes old checked new before between later places note →
+    IsBuilt v (with_wall walls (wall_of v facts first last)) (after_event s (step_of_wall v walls (wall_of v facts first last)).event) (walls_view (notes ++ note ∷ []) new) later.planes
+built-wall {v} {walls} {s} {facts} {first} {last} {notes} {note = note} d =
+    let w : Wall = wall_of v facts first last in
+    let e = now_after d in
+    record {
+      drawn = All-push (IsDrawn v) walls w d.built.drawn (drawn_wall v facts first last d.ordered d.within);
+      notes = notes_after d;
+      openings = openings_after d;
+      clips = λ x l. clips_after d (notes ++ note ∷ []) x l;
+      height = d.marked.height ∙ height_before d;
+      floor = ap (λ (t : PlanesNow). t.floor) e;
+      ceiling = ap (λ (t : PlanesNow). t.ceiling) e;
+      planes = ap (λ (t : PlanesNow). t.planes) e;
+      sound = sound-after_event s (step_of_wall v walls w).event d.built.sound;
+    }
+
+-- what is drawn, by a fragment's value and its numbers
+pub wall-drawn : (v : ViewValue) (walls : List Wall) (s : PlanesNow) (facts : WallFacts) (first last : ℕ) (notes : List FragmentNote) (old checked new : ColumnState) (before between later : PlanesView) (places : SavePlaces) (note : FragmentNote)
+    (n : FragmentNumbers) (f : FragmentValue) → f ≡ fragment_of v facts first last → n ≡ f.numbers → IsBuilt v walls s (walls_view notes old) before.planes → first ≤ last → last < v.shape.width → v.shape.width ≤ FRAME_WIDTH →
+    checked.windows ≡ old.windows → now_of checked between ≡ floor_check n first last (ceiling_check n first last s) → places ≡ places_of n (length old.openings.saved) (last + 1 - first) →
+    take (length old.openings.saved) checked.openings.saved ≡ old.openings.saved → length checked.openings.saved ≡ places.end →
+    HasMarked f (columns_of f) checked new between later → HasSaved v f places (columns_of f) checked new.openings →
+    note ≡ note_at v (wall_of v facts first last) (length old.openings.saved) → WallDrawn v walls s facts first last notes old checked new before between later places note
+wall-drawn v walls s facts first last notes old checked new before between later places note n f e g built ordered within frame windows planes lists front total marked saved entry =
+    let numbers : n ≡ fragment_numbers v facts first last = g ∙ ap (λ (f : FragmentValue). f.numbers) e in
+    let P : FragmentNumbers → Type 0 = λ n. now_of checked between ≡ floor_check n first last (ceiling_check n first last s) in
+    let Q : FragmentNumbers → Type 0 = λ n. places ≡ places_of n (length old.openings.saved) (last + 1 - first) in
+    let R : FragmentValue → Type 0 = λ f. HasMarked f (columns_of f) checked new between later in
+    let S : FragmentValue → Type 0 = λ f. HasSaved v f places (columns_of f) checked new.openings in
+    record {
+      built = built;
+      ordered = ordered;
+      within = within;
+      frame = frame;
+      windows = windows;
+      planes = subst P numbers planes;
+      places = subst Q numbers lists;
+      front = front;
+      total = total;
+      marked = subst R e marked;
+      saved = subst S e saved;
+      note = entry;
+    }
+
+length_notes : (v : ViewValue) (walls : List Wall) (place : ℕ) → length (notes_from v place walls) ≡ length walls
+unfolding notes_from
+length_notes v [] place = refl
+length_notes v (w ∷ ws) place =
+    ap suc (length_notes v ws (place + room_if w.numbers.masked w + room_if (saves_top w.numbers) w + room_if (saves_bottom w.numbers) w))
+
+length_view : (v : ViewValue) (walls : List Wall) → length (view_notes v walls) ≡ length walls
+unfolding view_notes
+length_view v walls = length_notes v walls 0
+
+-- there is a note for each fragment
+pub built-count : (v : ViewValue) (walls : List Wall) (s : PlanesNow) (state : WallsView) (planes : List Plane) → IsBuilt v walls s state planes → length state.notes ≡ length walls
+built-count v walls s state planes h = ap (λ (ds : List FragmentNote). length ds) h.notes ∙ length_view v walls

@@ -13,7 +13,9 @@ use Rattle.visplanes.specs.Planes.{PlanesView, with_planes}
 use Rattle.wall_rules.specs.declared.FragmentNumbers.{FragmentNumbers}
 use Rattle.wall_columns.specs.declared.fault.DrawFault.{DrawFault}
 use Rattle.wall_columns.specs.declared.fault.DrawFault.TheVariants.{Planes, Openings}
-use Rattle.wall_columns.specs.Faults.{limit_of_fault, limit_of_result}
+use Rattle.lump_cache.specs.declared.fault.CacheFault.{CacheFault}
+use Rattle.lump_cache.specs.declared.fault.CacheFault.TheVariants as cache
+use Rattle.wall_columns.specs.Faults.{from_cache_fault, limit_of_fault, limit_of_result}
 use Rattle.wall_columns.specs.Leaves.{planes_found, number_found, planes_checked, number_checked, ceiling_check, floor_check, planes_over, openings_over, leaf_over, checks_over}
 
 -- tests of a room
@@ -205,3 +207,11 @@ pub longer_found : (planes : List Plane) (o : Option PlaneKey) → length planes
 unfolding planes_found
 longer_found planes None = omega arith
 longer_found planes (Some key) = longer_find planes key
+
+cache_limit : (below : CacheFault) → limit_of_fault (from_cache_fault below) ≡ None
+cache_limit (cache.ZoneFull wanted widest) = refl
+cache_limit cache.ReadFault = refl
+
+-- a fault of the cache tells no limit
+pub limit-cache : {A : Type 0} (r : Result A DrawFault) (below : CacheFault) → IsErr r → IsErrAnd r (λ e. e ≡ from_cache_fault below) → limit_of_result r ≡ None
+limit-cache r below h g = limit-passed_on r (from_cache_fault below) h g ∙ cache_limit below

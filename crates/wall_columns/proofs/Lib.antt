@@ -9,3 +9,5 @@ pub mod NoteLemmas
 pub mod LeafLemmas
 pub mod MarkLemmas
 pub mod BuiltLemmas
+pub mod OverLemmas
+pub mod DrawnLemmas

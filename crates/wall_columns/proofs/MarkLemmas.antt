@@ -82,7 +82,7 @@ pub record PassesColumn (n : FragmentNumbers) (x : ℕ) (e : Edges) (now next : 
   pub floor : next.floor ≡ now.floor
   pub ceiling : next.ceiling ≡ now.ceiling
 
-height_of : (w next : WindowsView) (x : ℕ) (clip : ColumnClip) → next ≡ with_window w x clip → next.height ≡ w.height
+pub height_of : (w next : WindowsView) (x : ℕ) (clip : ColumnClip) → next ≡ with_window w x clip → next.height ≡ w.height
 unfolding with_window
 height_of w next x clip e = ap (λ (v : WindowsView). v.height) e
 
@@ -109,11 +109,11 @@ passes-column n x e now next before later plan p w own other planes count floor 
 }
 
 -- what was open of the column before, by the windows at the start
-window_is : (f : FragmentValue) (k x : ℕ) (start now : ColumnState) (before later : PlanesView) → HasMarked f k start now before later → x ≡ f.first + k → x < FRAME_WIDTH →
+pub window_is : (f : FragmentValue) (k x : ℕ) (start now : ColumnState) (before later : PlanesView) → HasMarked f k start now before later → x ≡ f.first + k → x < FRAME_WIDTH →
     window_at now.windows x ≡ window_at start.windows x
 window_is f k x start now before later h e l = h.windows x l ∙ clip_along-at start.windows.height f (window_at start.windows) k x e
 
-edges_are : (f : FragmentValue) (k x : ℕ) → x ≡ f.first + k → edges_at f.shape f.numbers k ≡ column_edges f x
+pub edges_are : (f : FragmentValue) (k x : ℕ) → x ≡ f.first + k → edges_at f.shape f.numbers k ≡ column_edges f x
 unfolding column_edges
 edges_are f k x e = let n : k ≡ x - f.first = omega arith in ap (edges_at f.shape f.numbers) n
 

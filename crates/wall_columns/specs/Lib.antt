@@ -11,3 +11,4 @@ pub mod Leaves
 pub mod Places
 pub mod States
 pub mod Painted
+pub mod Drawn

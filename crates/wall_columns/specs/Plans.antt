@@ -53,6 +53,17 @@ AreRowsIn height rows = rows.first ≤ℤ rows.last → (pos 0 ≤ℤ rows.first
 abbrev pub IsInRows : ℕ → WallStrip → Type 0
 IsInRows height s = HasRows s → (pos 0 ≤ℤ s.rows.first) × (s.rows.last <ℤ pos height)
 
+-- the texture of a strip that has rows
+abbrev pub IsStripTexture : WallStrip → ℕ → Type 0
+IsStripTexture s number = HasRows s × (number ≡ s.part.number)
+
+-- a texture of one of the strips of a plan
+abbrev pub IsPlanTexture : FragmentNumbers → ColumnPlan → ℕ → Type 0
+IsPlanTexture n plan number =
+    IsStripTexture (record { part = n.middle_part; rows = plan.middle }) number
+    ⊎ (IsStripTexture (record { part = n.top_part; rows = plan.top }) number
+    ⊎ IsStripTexture (record { part = n.bottom_part; rows = plan.bottom }) number)
+
 -- a texture of one of the parts
 abbrev pub IsPartTexture : FragmentNumbers → ℕ → Type 0
 IsPartTexture n number = (number ≡ n.middle_part.number) ⊎ ((number ≡ n.top_part.number) ⊎ (number ≡ n.bottom_part.number))

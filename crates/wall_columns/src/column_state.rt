@@ -164,6 +164,49 @@ impl ColumnState {
         Ok(())
     }
 
+    /// Takes the openings of a fragment's lists, and then checks the planes of the leaf.
+    ///
+    /// Errors: `Openings` and else `Planes`, as for the two.
+    pub fn begin(
+        &mut self,
+        planes: &mut Planes,
+        numbers: &FragmentNumbers,
+        first: u16,
+        last: u16,
+    ) -> Result<SavePlaces, DrawFault>
+        requires ordered { first ≤ last }
+        requires within { last < FRAME_WIDTH }
+        requires floor { IsAmongPlanes planes.old.planes (plane_number self.old.floor) }
+        requires ceiling { IsAmongPlanes planes.old.planes (plane_number self.old.ceiling) }
+        ensures ok { (s : PlanesNow) → s ≡ now_of self.old planes.old →
+            OnOk result (now_of self.new planes.new ≡ floor_check numbers.now first last
+            (ceiling_check numbers.now first last s)) }
+        ensures places { IfOk result (λ places. places
+            ≡ places_of numbers.now (length self.old.openings.saved) (last + 1 - first)) }
+        ensures within { IfOk result (λ places.
+            ArePlacesIn (last + 1 - first) (length self.new.openings.saved) places) }
+        ensures length { IfOk result (λ places.
+            length self.new.openings.saved ≡ places.end) }
+        ensures front { OnOk result (take (length self.old.openings.saved)
+            self.new.openings.saved ≡ self.old.openings.saved) }
+        ensures limit { (s : PlanesNow) → s ≡ now_of self.old planes.old →
+            limit_of_result result ≡ openings_over self.old.openings.room
+            (places_of numbers.now (length self.old.openings.saved) (last + 1 - first)).end
+            (checks_over planes.old.room numbers.now first last s) }
+        ensures faults { IfErr result IsLimitFault }
+        ensures floor { OnOk result
+            (IsAmongPlanes planes.new.planes (plane_number self.new.floor)) }
+        ensures ceiling { OnOk result
+            (IsAmongPlanes planes.new.planes (plane_number self.new.ceiling)) }
+        ensures windows { self.new.windows ≡ self.old.windows }
+        ensures openings_room { self.new.openings.room ≡ self.old.openings.room }
+        ensures room { planes.new.room ≡ planes.old.room }
+    {
+        let places = self.take_openings(numbers, first, last)?;
+        self.check_planes(planes, numbers, first, last)?;
+        Ok(places)
+    }
+
     /// Marks the planes in a column of a fragment, and narrows its window.
     #[inline(always)]
     #[tactic(auto, using(crate::proofs::ClipLemmas::column_rows), unfolding(crate::specs::Plans::plan_of))]

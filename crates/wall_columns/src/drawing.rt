@@ -1,4 +1,11 @@
-// The columns of a fragment, drawn from left to right.
+// The columns of a fragment, drawn from left to right: this crate's Columns and Drawn.
+ghost use Rattle.std.specs.Prelude.{◌≡◌, None, OnOk, length};
+ghost use Rattle.plane_rules.specs.Built.{IsAmongPlanes};
+ghost use Rattle.wall_columns.specs.Faults.{limit_of_result};
+ghost use Rattle.wall_columns.specs.Windows.{window_at};
+ghost use Rattle.wall_columns.specs.Columns.{plane_number, columns_of, HasMarked, HasSaved, ArePlacesIn};
+ghost use Rattle.wall_columns.specs.Drawn.{CanPaint, PaintsColumns};
+
 use crate::column_state::{ColumnState, save_column};
 use crate::fault::DrawFault;
 use crate::notes::SavePlaces;
@@ -18,7 +25,34 @@ impl ColumnState {
         fragment: &Fragment,
         numbers: &FragmentNumbers,
         places: SavePlaces,
-    ) -> Result<(), DrawFault> {
+    ) -> Result<(), DrawFault>
+        requires numbers { numbers.now ≡ fragment.now.numbers }
+        requires height { self.old.windows.height ≡ tools.old.view.now.shape.height }
+        requires paints { CanPaint tools.old.view.now tools.old.dir.now tools.old.textures.now
+            tools.old.colormap.0 tools.old.cache.now (C.view tools.old.canvas.now) fragment.now }
+        requires places { ArePlacesIn (columns_of fragment.now)
+            (length self.old.openings.saved) places }
+        requires floor { IsAmongPlanes tools.old.planes.now.planes (plane_number self.old.floor) }
+        requires ceiling { IsAmongPlanes tools.old.planes.now.planes
+            (plane_number self.old.ceiling) }
+        ensures same_cache { tools.new.cache.ghost_name ≡ tools.old.cache.ghost_name }
+        ensures same_shelf { tools.new.shelf.ghost_name ≡ tools.old.shelf.ghost_name }
+        ensures same_planes { tools.new.planes.ghost_name ≡ tools.old.planes.ghost_name }
+        ensures same_canvas { tools.new.canvas.ghost_name ≡ tools.old.canvas.ghost_name }
+        ensures limit { limit_of_result result ≡ None }
+        ensures marked { OnOk result (HasMarked fragment.now (columns_of fragment.now) self.old
+            self.new tools.old.planes.now tools.new.planes.now) }
+        ensures saved { OnOk result (HasSaved tools.old.view.now fragment.now places
+            (columns_of fragment.now) self.old self.new.openings) }
+        ensures paints { PaintsColumns tools.old.view.now tools.old.dir.now tools.old.textures.now
+            tools.old.colormap.0 C.mark number fragment.now (window_at self.old.windows)
+            (columns_of fragment.now) (S.view tools.old.shelf.now) (S.view tools.new.shelf.now)
+            tools.old.cache.now tools.new.cache.now (C.view tools.old.canvas.now)
+            (C.view tools.new.canvas.now) result }
+        ensures height { self.new.windows.height ≡ self.old.windows.height }
+        ensures room { self.new.openings.room ≡ self.old.openings.room }
+        ensures planes_room { tools.new.planes.now.room ≡ tools.old.planes.now.room }
+    {
         let mut stepper = Stepper::new(fragment);
         let mut k: u32 = 0;
         loop {

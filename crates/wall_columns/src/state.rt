@@ -176,7 +176,7 @@ impl WallState {
         requires rows { (C.view tools.old.canvas.now).top + tools.old.view.now.shape.height
             ≤ FRAME_HEIGHT }
         requires slots { length tools.old.dir.now.lumps ≤ tools.old.cache.now.lumps }
-        requires colormap { tools.old.colormap.0 < tools.old.cache.now.lumps }
+        requires colormap { tools.old.colormap.0 < length tools.old.dir.now.lumps }
         requires textures { (number : ℕ) → IsWallTexture facts.now number →
             CanDraw tools.old.dir.now.lumps tools.old.textures.now tools.old.cache.now number }
         requires floor { IsAmongPlanes tools.old.planes.now.planes self.old.floor }
@@ -242,8 +242,7 @@ impl WallState {
         let shape = tools.view.shape();
         let fragment = Fragment::new(tools.view, facts, first, last);
         let numbers = fragment.numbers();
-        let places = self.columns.take_openings(&numbers, first, last)?;
-        self.columns.check_planes(tools.planes, &numbers, first, last)?;
+        let places = self.columns.begin(tools.planes, &numbers, first, last)?;
         let number = self.notes.len() as u16;
         self.columns.draw_columns(tools, number, &fragment, &numbers, places)?;
         let note = note_of(facts.seg_no, &fragment, &numbers, first, last, places, shape.height);
@@ -294,8 +293,7 @@ impl WallState {
         let shape = view.shape();
         let fragment = Fragment::new(view, facts, first, last);
         let numbers = fragment.numbers();
-        let places = self.columns.take_openings(&numbers, first, last)?;
-        self.columns.check_planes(planes, &numbers, first, last)?;
+        let places = self.columns.begin(planes, &numbers, first, last)?;
         self.columns.count_columns(view, planes, &fragment, &numbers, places);
         let note = note_of(facts.seg_no, &fragment, &numbers, first, last, places, shape.height);
         self.notes.push_reserved(note);

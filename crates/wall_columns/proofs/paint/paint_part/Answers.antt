@@ -4,7 +4,8 @@ use Rattle.std.specs.Prelude.{int_lt}
 use Rattle.texture_build.specs.Sources.{column_in}
 use Rattle.texture_build.specs.Views.{prepared_texture}
 use Rattle.wall_columns.specs.Painted.{PaintsStrips, strip_with}
-use Rattle.wall_columns.proofs.PaintedLemmas.{PaintsLive, can_draw-later, live-over, paints-empty, paints-failed, paints-live}
+use Rattle.wall_columns.specs.Plans.{IsStripTexture}
+use Rattle.wall_columns.proofs.PaintedLemmas.{PaintsLive, can_draw-later, live-over, paints-empty, paints-failed, paints-live, paints-wider}
 use Rattle.wall_columns.proofs.paint.paint_part.Goals as goal
 
 in_order : (first last : ℤ) → int_lt last first ≡ false → first ≤ℤ last
@@ -28,11 +29,13 @@ paint_live-requires-clause-texture g c =
 
 pub returns-in_err-ready_part-clause-paints : goal.returns-in_err-ready_part-clause-paints
 returns-in_err-ready_part-clause-paints g c =
-    paints-failed c.in_err-ready_part.field-0.0 refl c.from_residual.ensures.1
+    let ordered : c.args.rows.first ≤ℤ c.args.rows.last = grind (arith, ints) in
+    paints-wider {among = IsStripTexture (strip_with c.args.part c.args.rows)} (λ n e. (ordered, e))
+    (paints-failed c.in_err-ready_part.field-0.0 refl c.from_residual.ensures.1
     (c.in_err-ready_part.ensures.draws c.args.look.now.column (c.lookup-lookup.ensures.value
     ∙ ap (column_in (prepared_texture c.args.tools.now.textures.now c.args.part.number))
     (to_z-of_z {w = w32} {z = c.args.look.now.column} (search rules))))
-    (ap g.C.Canvas.view c.in_err-ready_part.ensures.canvas)
+    (ap g.C.Canvas.view c.in_err-ready_part.ensures.canvas))
 
 pub returns-clause-paints : goal.returns-clause-paints
 returns-clause-paints g c =
@@ -57,7 +60,9 @@ returns-clause-paints g c =
     c.lookup-lookup.ensures.value
     ∙ ap (column_in (prepared_texture c.args.tools.now.textures.now c.args.part.number))
     (to_z-of_z {w = w32} {z = c.args.look.now.column} (search rules)) in
-    subst (λ canvas. PaintsStrips c.args.tools.now.view.now.shape c.args.tools.now.dir.now
+    let ordered : c.args.rows.first ≤ℤ c.args.rows.last = grind (arith, ints) in
+    paints-wider {among = IsStripTexture (strip_with c.args.part c.args.rows)} (λ n e. (ordered, e))
+    (subst (λ canvas. PaintsStrips c.args.tools.now.view.now.shape c.args.tools.now.dir.now
     c.args.tools.now.textures.now c.args.tools.now.colormap.0 g.C.Canvas.mark c.args.look.now
     (λ n. n ≡ c.args.part.number) (strip_with c.args.part c.args.rows ∷ [])
     (g.S.Shelf.view c.args.tools.now.shelf.now) (g.S.Shelf.view c.paint_live.new.tools.shelf.now)
@@ -65,4 +70,4 @@ returns-clause-paints g c =
     (g.C.Canvas.view c.paint_live.new.tools.canvas.now) (Ok tt)) c.in_ok-ready_part.ensures.canvas
     (paints-live c.lookup-lookup.result is_lookup
     (c.in_ok-ready_part.ensures.draws c.args.look.now.column is_lookup) live
-    (ap g.S.Shelf.view c.paint_live.ensures.shelf) c.paint_live.ensures.cache)
+    (ap g.S.Shelf.view c.paint_live.ensures.shelf) c.paint_live.ensures.cache))

@@ -1,7 +1,7 @@
 use Rattle.std.proofs.Common.{sym, ap, subst, ◌∙◌, inl, inr}
 use Rattle.view_rules.specs.View.{ViewValue}
 use Rattle.wall_columns.specs.Painted.{strip_with}
-use Rattle.wall_columns.specs.Plans.{IsInRows, IsPartTexture}
+use Rattle.wall_columns.specs.Plans.{IsInRows, IsPlanTexture}
 use Rattle.wall_columns.proofs.PaintedLemmas.{can_draw-later, paints-over, paints-stop_by, paints-then, paints-wider}
 use Rattle.wall_columns.proofs.PlannedLemmas.{plan-rows, plan-textures}
 use Rattle.wall_columns.proofs.paint.paint_strips.Goals as goal
@@ -56,39 +56,39 @@ paint_part-requires-3-clause-texture g c = λ some.
 pub returns-in_err-paint_part-clause-paints : goal.returns-in_err-paint_part-clause-paints
 returns-in_err-paint_part-clause-paints g c =
     paints-stop_by c.from_residual.ensures.1
-    (paints-wider {among = IsPartTexture c.args.numbers.now} (λ n e. inl e)
+    (paints-wider {among = IsPlanTexture c.args.numbers.now c.args.plan.now} (λ n e. inl e)
     c.in_err-paint_part.ensures.paints)
 
 pub returns-in_err-paint_part-2-clause-paints : goal.returns-in_err-paint_part-2-clause-paints
 returns-in_err-paint_part-2-clause-paints g c =
     paints-stop_by c.from_residual-in_err-paint_part-2.ensures.1
     (paints-then
-    (paints-wider {among = IsPartTexture c.args.numbers.now} (λ n e. inl e)
+    (paints-wider {among = IsPlanTexture c.args.numbers.now c.args.plan.now} (λ n e. inl e)
     c.in_ok-paint_part.ensures.paints)
     (paints-over
     (ap (λ r. r.now.shape) c.in_ok-paint_part.ensures.same_view)
     (ap (λ r. r.now) c.in_ok-paint_part.ensures.same_dir)
     (ap (λ r. r.now) c.in_ok-paint_part.ensures.same_textures)
     (ap (λ r. r.0) c.in_ok-paint_part.ensures.same_colormap)
-    (paints-wider {among = IsPartTexture c.args.numbers.now} (λ n e. inr (inl e))
+    (paints-wider {among = IsPlanTexture c.args.numbers.now c.args.plan.now} (λ n e. inr (inl e))
     c.in_err-paint_part-2.ensures.paints)))
 
 pub returns-clause-paints : goal.returns-clause-paints
 returns-clause-paints g c =
     paints-then
-    (paints-wider {among = IsPartTexture c.args.numbers.now} (λ n e. inl e)
+    (paints-wider {among = IsPlanTexture c.args.numbers.now c.args.plan.now} (λ n e. inl e)
     c.in_ok-paint_part.ensures.paints)
     (paints-then (paints-over
     (ap (λ r. r.now.shape) c.in_ok-paint_part.ensures.same_view)
     (ap (λ r. r.now) c.in_ok-paint_part.ensures.same_dir)
     (ap (λ r. r.now) c.in_ok-paint_part.ensures.same_textures)
     (ap (λ r. r.0) c.in_ok-paint_part.ensures.same_colormap)
-    (paints-wider {among = IsPartTexture c.args.numbers.now} (λ n e. inr (inl e))
+    (paints-wider {among = IsPlanTexture c.args.numbers.now c.args.plan.now} (λ n e. inr (inl e))
     c.in_ok-paint_part-2.ensures.paints))
     (paints-over
     (ap (λ r. r.now.shape) c.in_ok-paint_part-2.ensures.same_view ∙ ap (λ r. r.now.shape) c.in_ok-paint_part.ensures.same_view)
     (ap (λ r. r.now) c.in_ok-paint_part-2.ensures.same_dir ∙ ap (λ r. r.now) c.in_ok-paint_part.ensures.same_dir)
     (ap (λ r. r.now) c.in_ok-paint_part-2.ensures.same_textures ∙ ap (λ r. r.now) c.in_ok-paint_part.ensures.same_textures)
     (ap (λ r. r.0) c.in_ok-paint_part-2.ensures.same_colormap ∙ ap (λ r. r.0) c.in_ok-paint_part.ensures.same_colormap)
-    (paints-wider {among = IsPartTexture c.args.numbers.now} (λ n e. inr (inr e))
+    (paints-wider {among = IsPlanTexture c.args.numbers.now c.args.plan.now} (λ n e. inr (inr e))
     c.paint_part-3.ensures.paints)))

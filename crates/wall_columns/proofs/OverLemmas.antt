@@ -1,0 +1,101 @@
+-- Laws of the first count of a step that passes its limit.
+use Rattle.std.proofs.Common.{◌≡◌, ℕ, ◌+◌, ◌-◌, ◌<◌, ◌≤◌, Bool, true, false, cond, List, [], ◌∷◌, ◌++◌, Option, Some, None, Result, Ok, Err, OnOk, length, refl, ap, sym, ◌∙◌, arith}
+use Rattle.std.specs.Prelude.{nat_lt, find, map}
+use Rattle.view_rules.specs.View.{ViewValue}
+use Rattle.wall_rules.specs.declared.FragmentNumbers.{FragmentNumbers}
+use Rattle.wall_rules.specs.declared.WallFacts.{WallFacts}
+use Rattle.wall_rules.specs.Numbers.{fragment_numbers}
+use Rattle.wall_rules.specs.Notes.{room_if}
+use Rattle.wall_rules.specs.Openings.{openings_of, saves_top, saves_bottom}
+use Rattle.wall_rules.specs.Walls.{Wall, wall_of}
+use Rattle.wall_rules.proofs.NoteLemmas.{length-saved_by, length-saved_openings}
+use Rattle.plane_rules.specs.declared.PlaneKey.{PlaneKey}
+use Rattle.plane_rules.specs.Built.{PlanesNow, ceiling_checked, floor_checked, plane_counts}
+use Rattle.picture_rules.specs.declared.OverLimit.{OverLimit}
+use Rattle.picture_rules.specs.Counts.{openings_counts, planes_count, openings_count, passes_limit, limit_of}
+use Rattle.picture_rules.specs.Planes.{plane_wall, wall_step}
+use Rattle.visplanes.specs.Planes.{PlanesView}
+use Rattle.wall_columns.specs.declared.fault.DrawFault.{DrawFault}
+use Rattle.wall_columns.specs.declared.fault.DrawFault.TheVariants.{Planes, Openings, ZoneFull, ReadFault}
+use Rattle.wall_columns.specs.Walls.{WallsView}
+use Rattle.wall_columns.specs.Places.{places_of}
+use Rattle.wall_columns.specs.Faults.{limit_of_fault, limit_of_result, IsLimitFault}
+use Rattle.visplanes.specs.declared.planes.PlaneNo.{PlaneNo}
+use Rattle.wall_columns.specs.declared.column_state.ColumnState.{ColumnState}
+use Rattle.wall_rules.specs.declared.FragmentNote.{FragmentNote}
+use Rattle.wall_edges.specs.Fragments.{FragmentValue, fragment_of}
+use Rattle.wall_columns.specs.States.{walls_view}
+use Rattle.wall_columns.specs.Columns.{plane_number}
+use Rattle.wall_columns.specs.Leaves.{now_of, ceiling_check, floor_check, planes_over, openings_over, leaf_over, checks_over}
+use Rattle.wall_columns.specs.Built.{limits_of, step_over, step_of_leaf, step_of_wall, with_wall}
+
+-- what holds where a call is done
+pub on_ok : {A E : Type 0} {P Q : Type 0} (r : Result A E) → (P → Q) → OnOk r P → OnOk r Q
+on_ok (Ok value) f h = f h
+on_ok (Err fault) f h = tt
+
+-- a leaf's counts
+pub step_over-leaf : (state : WallsView) (planes : PlanesView) (s : PlanesNow) (n : ℕ) (floor ceiling : Option PlaneKey) →
+    leaf_over planes.room s floor ceiling ≡ step_over (limits_of state planes) s n (step_of_leaf floor ceiling)
+unfolding leaf_over planes_over passes_limit limit_of openings_counts plane_counts planes_count
+step_over-leaf state planes s n floor ceiling = refl
+
+-- a fragment's counts
+ends_at : (v : ViewValue) (walls : List Wall) (k : ℕ) (facts : WallFacts) (first last place : ℕ) →
+    (places_of (fragment_numbers v facts first last) place (last + 1 - first)).end ≡ place + openings_of (wall_of v facts first last)
+unfolding places_of room_if wall_of
+ends_at v walls k facts first last place =
+    let a = length-saved_by v walls k (wall_of v facts first last) in
+    let b = length-saved_openings v walls k (wall_of v facts first last) in
+    omega arith
+
+wall_over : (v : ViewValue) (walls : List Wall) (facts : WallFacts) (first last : ℕ) (state : WallsView) (planes : PlanesView) (s : PlanesNow) (place : ℕ) →
+    openings_over state.room (place + openings_of (wall_of v facts first last)) (checks_over planes.room (fragment_numbers v facts first last) first last s)
+    ≡ step_over (limits_of state planes) s place (step_of_wall v walls (wall_of v facts first last))
+unfolding openings_over planes_over checks_over passes_limit limit_of openings_counts plane_counts planes_count openings_count ceiling_checked floor_checked ceiling_check floor_check wall_step plane_wall wall_of
+wall_over v walls facts first last state planes s place = refl
+
+pub step_over-wall : (v : ViewValue) (walls : List Wall) (facts : WallFacts) (first last : ℕ) (state : WallsView) (planes : PlanesView) (s : PlanesNow) (place : ℕ) →
+    openings_over state.room (places_of (fragment_numbers v facts first last) place (last + 1 - first)).end (checks_over planes.room (fragment_numbers v facts first last) first last s)
+    ≡ step_over (limits_of state planes) s place (step_of_wall v walls (wall_of v facts first last))
+step_over-wall v walls facts first last state planes s place =
+    ap (λ (m : ℕ). openings_over state.room m (checks_over planes.room (fragment_numbers v facts first last) first last s)) (ends_at v walls 0 facts first last place)
+    ∙ wall_over v walls facts first last state planes s place
+
+-- openings that pass the room are what is told, whatever follows
+some_over : (t : Bool) (o : OverLimit) (count : ℕ) (next : Option OverLimit) → Some o ≡ cond t (Some (openings_count count)) None → Some o ≡ cond t (Some (openings_count count)) next
+some_over true o count next e = e
+some_over false o count next e = cc
+
+pub openings_over-stop : (fault : DrawFault) (room count : ℕ) (next : Option OverLimit) → IsLimitFault fault → limit_of_fault fault ≡ openings_over room count None →
+    limit_of_fault fault ≡ openings_over room count next
+unfolding openings_over
+openings_over-stop (Planes n) room count next h e = some_over (nat_lt room count) (planes_count n) count next e
+openings_over-stop (Openings n) room count next h e = some_over (nat_lt room count) (openings_count n) count next e
+openings_over-stop (ZoneFull wanted widest) room count next h e = absurd h
+openings_over-stop ReadFault room count next h e = absurd h
+
+none_over : (t : Bool) (count : ℕ) (next : Option OverLimit) → None ≡ cond t (Some (openings_count count)) None → next ≡ cond t (Some (openings_count count)) next
+none_over true count next e = cc
+none_over false count next e = refl
+
+pub openings_over-next : (room count : ℕ) (next : Option OverLimit) → None ≡ openings_over room count None → next ≡ openings_over room count next
+unfolding openings_over
+openings_over-next room count next e = none_over (nat_lt room count) count next e
+
+-- a state with the same current planes
+pub same_now : (old new : ColumnState) (planes : PlanesView) → new.floor ≡ old.floor → new.ceiling ≡ old.ceiling → now_of old planes ≡ now_of new planes
+same_now old new planes e f =
+    ap (λ (o : Option PlaneNo). let t : PlanesNow = record { planes = planes.planes; floor = plane_number o; ceiling = plane_number old.ceiling } in t) (sym e)
+    ∙ ap (λ (o : Option PlaneNo). let t : PlanesNow = record { planes = planes.planes; floor = plane_number new.floor; ceiling = plane_number o } in t) (sym f)
+
+-- what is told of a fragment, by its value, its numbers and the parts of a state
+pub over-range : (v : ViewValue) (walls : List Wall) (facts : WallFacts) (first last : ℕ) (n : FragmentNumbers) (f : FragmentValue) → f ≡ fragment_of v facts first last → n ≡ f.numbers →
+    (notes : List FragmentNote) (columns : ColumnState) (state : WallsView) (planes : PlanesView) (s : PlanesNow) → walls_view notes columns ≡ state →
+    openings_over columns.openings.room (places_of n (length columns.openings.saved) (last + 1 - first)).end (checks_over planes.room n first last s)
+    ≡ step_over (limits_of state planes) s (length state.openings) (step_of_wall v walls (wall_of v facts first last))
+over-range v walls facts first last n f e g notes columns state planes s view =
+    let numbers : n ≡ fragment_numbers v facts first last = g ∙ ap (λ (f : FragmentValue). f.numbers) e in
+    ap (λ (n : FragmentNumbers). openings_over columns.openings.room (places_of n (length columns.openings.saved) (last + 1 - first)).end (checks_over planes.room n first last s)) numbers
+    ∙ step_over-wall v walls facts first last (walls_view notes columns) planes s (length columns.openings.saved)
+    ∙ ap (λ (w : WallsView). step_over (limits_of w planes) s (length w.openings) (step_of_wall v walls (wall_of v facts first last))) view

@@ -1,0 +1,24 @@
+-- A leaf is entered.
+use Rattle.std.proofs.Common.{◌≡◌, List, length, sym, subst, ◌∙◌}
+use Rattle.plane_rules.specs.Planes.{Plane}
+use Rattle.wall_columns.specs.Built.{IsBuilt}
+use Rattle.wall_columns.specs.States.{walls_view}
+use Rattle.wall_columns.specs.Walls.{WallsView}
+use Rattle.wall_columns.proofs.BuiltLemmas.{built-leaf, built-now}
+use Rattle.wall_columns.proofs.OverLemmas.{on_ok, step_over-leaf}
+use Rattle.wall_columns.proofs.state.WallState.start_leaf.Goals as goal
+
+pub returns-clause-built : goal.returns-clause-built
+returns-clause-built c = λ v walls s h.
+    let P : WallsView → Type 0 = λ w. IsBuilt v walls s w c.args.planes.now.planes in
+    let b : IsBuilt v walls s (walls_view c.self.inside.notes.items c.self.inside.columns) c.args.planes.now.planes = subst P (sym c.self.view_is) h in
+    on_ok c.enter.result (λ e. built-leaf v walls s c.self.inside.notes.items c.self.inside.columns c.enter.new.self c.args.planes.now c.enter.new.planes c.args.leaf.floor c.args.leaf.ceiling b e
+    c.enter.ensures.windows c.enter.ensures.openings)
+    (c.enter.ensures.ok s (built-now v walls s c.self.inside.notes.items c.self.inside.columns c.args.planes.now b))
+
+pub returns-clause-limit : goal.returns-clause-limit
+returns-clause-limit c = λ v walls s h.
+    let P : WallsView → Type 0 = λ w. IsBuilt v walls s w c.args.planes.now.planes in
+    let b : IsBuilt v walls s (walls_view c.self.inside.notes.items c.self.inside.columns) c.args.planes.now.planes = subst P (sym c.self.view_is) h in
+    c.enter.ensures.limit s (built-now v walls s c.self.inside.notes.items c.self.inside.columns c.args.planes.now b)
+    ∙ step_over-leaf c.args.self.now c.args.planes.now s (length c.args.self.now.openings) c.args.leaf.floor c.args.leaf.ceiling
