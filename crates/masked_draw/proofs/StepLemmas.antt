@@ -92,11 +92,6 @@ module _ {mark : Painter → ℕ → ℕ} {s : MaskScene} {among pictures : ℕ 
       PaintsDots mark s among pictures f a b (Ok first) → PaintsDots mark s among pictures f a b (Ok answer)
   paints-value {first = first} {answer} one = record { painted = one.painted; fits = one.fits; draws = draws-value first answer one.draws; place = one.place }
 
-  -- the same answer by other words
-  pub paints-as : {A : Type 0} {f : Art → List Dot} {a b : MaskState} {part whole : Result A CacheFault} → part ≡ whole →
-      PaintsDots mark s among pictures f a b part → PaintsDots mark s among pictures f a b whole
-  paints-as {f = f} {a} {b} e one = subst (λ r. PaintsDots mark s among pictures f a b r) e one
-
 -- with more textures and more lumps
 pub paints-wider : {A : Type 0} {mark : Painter → ℕ → ℕ} {s : MaskScene} {some among lumps pictures : ℕ → Type 0} {f : Art → List Dot} {a b : MaskState} {result : Result A CacheFault} →
     ((number : ℕ) → some number → among number) → ((lump : ℕ) → lumps lump → pictures lump) →
