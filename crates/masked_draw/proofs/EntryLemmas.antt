@@ -7,15 +7,12 @@ use Rattle.std.proofs.lemmas.Int.{ints}
 use Rattle.view_rules.specs.View.{ViewValue}
 use Rattle.pixel_rules.specs.Art.{Art}
 use Rattle.wall_rules.specs.declared.TheConstants.{SIL_BOTTOM, SIL_TOP}
-use Rattle.wall_rules.specs.declared.Clip.{Clip}
-use Rattle.wall_rules.specs.declared.Clip.TheVariants.{Absent, Constant, Saved}
 use Rattle.wall_rules.specs.declared.FragmentNote.{FragmentNote}
 use Rattle.sprite_rules.specs.declared.SpriteEntry.{SpriteEntry}
 use Rattle.sprite_rules.specs.Drawsegs.{Drawseg, drawseg_has, entry_has, is_behind}
 use Rattle.sprite_rules.specs.Clips.{gives_bottom, gives_top}
 use Rattle.vissprites.specs.Bounds.{lies_within}
-use Rattle.picture_rules.specs.Noted.{IsClipAmong}
-use Rattle.masked_draw.specs.Clipped.{HasRow, clips_bottom, clips_top, row_after}
+use Rattle.masked_draw.specs.Clipped.{clips_bottom, clips_top, row_after}
 use Rattle.masked_draw.specs.Marks.{AreOwnMarked, MarksBy, MissesColumns, is_between, is_passed, unmarked_dots}
 use Rattle.masked_draw.proofs.MarkLemmas.{marks-none, marks-same, unmarked-none, unmarked-plain, unmarked-same}
 
@@ -230,9 +227,3 @@ front-bottom e d drawseg first last x row old new s f l t b h = h ∙ ap (λ (c 
 pub front-top : (e : SpriteEntry) (d : FragmentNote) (drawseg : Drawseg) (first last x : ℕ) (row : ℤ) (old new : Option ℤ) → IsSegOf d drawseg → e.first ≡ pos first → e.last ≡ pos last → entry_has e x ≡ true → is_behind drawseg e ≡ false →
     new ≡ row_after (is_between (max first d.first) (min last d.last) x && clips_top d e) row old → new ≡ row_after (gives_top e x drawseg) row old
 front-top e d drawseg first last x row old new s f l t b h = h ∙ ap (λ (c : Bool). row_after c row old) (front_top e d drawseg first last x s f l t b)
-
--- the rows of a whole clip
-pub row-among : (openings : List ℤ) (d : FragmentNote) (clip : Clip) (x : ℕ) → IsClipAmong openings d clip → d.first ≤ x → x ≤ d.last → HasRow openings d.first clip x
-row-among openings d Absent x h l m = tt
-row-among openings d (Constant row) x h l m = tt
-row-among openings d (Saved place) x h l m = omega (arith, h)

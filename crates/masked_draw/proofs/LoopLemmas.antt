@@ -1,5 +1,5 @@
 -- What the loops of the masked pass have painted and marked, and how one fragment more changes it.
-use Rattle.std.proofs.Common.{◌≡◌, ℕ, ◌+◌, ◌-◌, ◌<◌, ◌≤◌, ℤ, pos, Bool, true, List, [], ◌++◌, Option, Some, None, Result, Ok, Err, IsErrAnd, length, get_or, refl, sym, ap, ◌∙◌, subst, arith}
+use Rattle.std.proofs.Common.{◌≡◌, ℕ, ◌+◌, ◌-◌, ◌<◌, ℤ, pos, Bool, true, List, ◌++◌, Option, Some, None, Result, Ok, Err, IsErrAnd, length, get_or, refl, sym, ap, ◌∙◌, subst, arith}
 use Rattle.std.specs.Prelude.{slice_get, ◌≤ℤ◌}
 use Rattle.std.proofs.lemmas.Int.{ints}
 use Rattle.std.proofs.lemmas.Option.{gets}
@@ -11,7 +11,7 @@ use Rattle.pixel_rules.specs.Dots.{Dot}
 use Rattle.pixel_rules.specs.Art.{Art}
 use Rattle.wall_rules.specs.declared.FragmentNote.{FragmentNote}
 use Rattle.sprite_rules.specs.declared.SpriteEntry.{SpriteEntry}
-use Rattle.sprite_rules.specs.Drawsegs.{Drawseg, entry_has}
+use Rattle.sprite_rules.specs.Drawsegs.{entry_has}
 use Rattle.sprite_rules.specs.Clips.{gives_bottom, gives_top}
 use Rattle.sprite_rules.specs.Middles.{middles_at, middles_of}
 use Rattle.picture_rules.specs.Noted.{IsWholeNote, greatest_clip, least_clip}

@@ -1,6 +1,6 @@
 -- Laws of the sprites of a pass, one after the other in drawing order.
-use Rattle.std.proofs.Common.{◌≡◌, ℕ, ◌+◌, ◌-◌, ◌<◌, Bool, true, false, List, [], ◌∷◌, ◌++◌, Option, None, Some, Result, Ok, Err, IsErrAnd, OnOk, length, get_or, refl, sym, ap, ◌∙◌, subst, arith}
-use Rattle.std.specs.Prelude.{nat_lt, slice_get, All, Contains, IfSome}
+use Rattle.std.proofs.Common.{◌≡◌, ℕ, ◌+◌, ◌-◌, ◌<◌, Bool, true, false, List, [], ◌∷◌, ◌++◌, Option, None, Some, Result, Ok, Err, IsErrAnd, length, get_or, refl, sym, ap, ◌∙◌, subst, arith}
+use Rattle.std.specs.Prelude.{slice_get, All, Contains, IfSome}
 use Rattle.std.specs.List.{AllPass}
 use Rattle.std.proofs.lemmas.Bool.{ltb-true}
 use Rattle.std.proofs.lemmas.Option.{gets}
@@ -13,7 +13,6 @@ use Rattle.pixel_rules.specs.Art.{Art}
 use Rattle.wall_rules.specs.declared.FragmentNote.{FragmentNote}
 use Rattle.sprite_rules.specs.declared.SpriteEntry.{SpriteEntry}
 use Rattle.sprite_rules.specs.Drawsegs.{Drawseg}
-use Rattle.sprite_rules.specs.Clips.{sprite_in_front}
 use Rattle.sprite_rules.specs.Order.{draw_order}
 use Rattle.sprite_rules.specs.Middles.{masked_dots, middles_at, sprites_from}
 use Rattle.sprite_rules.proofs.MaskedLemmas.{sprites_from-more}
@@ -23,7 +22,7 @@ use Rattle.masked_draw.specs.declared.scene.MaskScene.{MaskScene}
 use Rattle.masked_draw.specs.Marks.{AreBefore, MarkedTo, mark_in}
 use Rattle.masked_draw.specs.Passes.{DrawsSprite}
 use Rattle.masked_draw.specs.Ready.{IsNotedMiddle, IsSpriteLump}
-use Rattle.masked_draw.specs.Scenes.{MaskState, PaintsDots, scene_drawseg, scene_drawsegs, scene_lists}
+use Rattle.masked_draw.specs.Scenes.{MaskState, PaintsDots, scene_drawsegs, scene_lists}
 use Rattle.masked_draw.proofs.MomentLemmas.{front-first}
 use Rattle.masked_draw.proofs.SceneLemmas.{scene-length}
 use Rattle.masked_draw.proofs.StepLemmas.{paints-none, paints-same, paints-then, paints-then_stop, paints-value, paints-wider}

@@ -1,5 +1,5 @@
 -- Laws of the columns of a picture, by its bytes and those of the colormap.
-use Rattle.std.proofs.Common.{◌≡◌, ℕ, zero, suc, ◌+◌, ◌-◌, ◌<◌, ◌≤◌, ℤ, pos, Bool, true, false, cond, List, [], ◌∷◌, ◌++◌, Option, Some, Result, Ok, Err, IsErrAnd, map, refl, sym, ap, ◌∙◌, subst, arith}
+use Rattle.std.proofs.Common.{◌≡◌, ℕ, ◌+◌, ◌-◌, ◌≤◌, ℤ, pos, Bool, true, false, cond, List, [], ◌∷◌, ◌++◌, Option, Some, map, refl, sym, ap, ◌∙◌, arith}
 use Rattle.std.specs.Prelude.{◌&&◌, int_le, int_lt}
 use Rattle.std.specs.List.{range_with_len}
 use Rattle.std.proofs.lemmas.Int.{ints}
@@ -18,30 +18,22 @@ use Rattle.pixel_rules.specs.declared.TheConstants.{LUMP, SPRITE}
 use Rattle.pixel_rules.specs.Dots.{Dot}
 use Rattle.pixel_rules.specs.Art.{lump_source, painter_of}
 use Rattle.pixel_rules.specs.Strips.{rows_between, shade}
-use Rattle.pixel_rules.specs.Posts.{post_colour, post_dots, post_rows, posts_dots}
+use Rattle.pixel_rules.specs.Posts.{posts_dots}
 use Rattle.pixel_rules.proofs.DotLemmas.{put_dots-append}
 use Rattle.art_rules.specs.Bytes.{byte_at, half_at}
 use Rattle.art_rules.specs.Patches.{column_place, posts}
 use Rattle.pixel_strips.specs.Canvases.{CanvasView, with_dots, with_painter}
-use Rattle.pixel_strips.specs.Dotted.{HasDots, PlacedAlike}
+use Rattle.pixel_strips.specs.Dotted.{HasDots}
 use Rattle.pixel_strips.proofs.CanvasLemmas.{dots_none}
-use Rattle.pixel_strips.proofs.DottedLemmas.{has_dots-as, has_dots-painted, placed-none}
+use Rattle.pixel_strips.proofs.DottedLemmas.{has_dots-as, has_dots-painted}
 use Rattle.sprite_rules.specs.declared.SpriteEntry.{SpriteEntry}
 use Rattle.sprite_rules.specs.Sprites.{picture_column}
 use Rattle.texture_build.specs.Arts.{own_posts, view_art}
-use Rattle.outside.specs.Shelf.{ShelfView}
-use Rattle.zone_rules.specs.Zones.{Heap}
-use Rattle.lump_cache.specs.declared.fault.CacheFault.{CacheFault}
-use Rattle.lump_cache.specs.Caches.{cache_fault}
-use Rattle.pixel_rules.specs.Art.{Art}
-use Rattle.texture_build.specs.Draws.{DrawsWith, FitBeside, FitsBeside, HoldsArt}
-use Rattle.texture_build.proofs.DrawLemmas.{draws-stop, draws-value, holds_art-later}
+use Rattle.texture_build.specs.Draws.{FitBeside, FitsBeside}
 use Rattle.texture_build.specs.Views.{TexturesView}
-use Rattle.texture_build.proofs.BesideLemmas.{fit_beside-append, fit_beside-as, fit_beside-column_dots}
+use Rattle.texture_build.proofs.BesideLemmas.{fit_beside-append, fit_beside-as}
 use Rattle.masked_draw.specs.declared.clips.SpriteClips.{SpriteClips}
-use Rattle.masked_draw.specs.declared.scene.MaskScene.{MaskScene}
-use Rattle.masked_draw.specs.Scenes.{PaintsDots, scene_art, state}
-use Rattle.masked_draw.proofs.StepLemmas.{on_ok_err}
+use Rattle.masked_draw.proofs.MiddleLemmas.{fit_beside-posts}
 use Rattle.masked_draw.specs.Clipped.{clipped_column, clipped_dots, clipped_masked, read_column, read_columns}
 
 -- a column that the picture does not have
@@ -55,7 +47,7 @@ unfolding read_column
 column-outside mark shape bytes colormap clips e x own canvas is out =
     let column = clipped_masked shape.height clips e x in
     let none : own_posts bytes (picture_column e.flip e.width e.a1 e.iscale x) ≡ [] =
-        sym (ap (own_posts bytes) is) ∙ ap (λ (b : Bool). cond b (posts bytes (column_place bytes (natural own))) []) out in
+    sym (ap (own_posts bytes) is) ∙ ap (λ (b : Bool). cond b (posts bytes (column_place bytes (natural own))) []) out in
     dots_none mark canvas
     ∙ ap (λ (dots : List Dot). with_dots mark dots canvas) (sym (ap (posts_dots shape canvas.painter x column (byte_at bytes) (shade colormap e.map)) none ∙ no_posts shape canvas.painter x column (byte_at bytes) (shade colormap e.map)))
 
@@ -70,8 +62,8 @@ pub column-inside : (mark : Painter → ℕ → ℕ) (shape : ViewShape) (bytes 
 unfolding read_column
 column-inside mark shape bytes colormap map place n clips e column x own old new is inside here at c m h =
     let same : posts bytes place ≡ own_posts bytes (picture_column e.flip e.width e.a1 e.iscale x) =
-        ap (posts bytes) (at ∙ ap (column_place bytes) (sym (natural_of own n here)))
-        ∙ sym (ap (λ (b : Bool). cond b (posts bytes (column_place bytes (natural own))) []) inside) ∙ ap (own_posts bytes) is in
+    ap (posts bytes) (at ∙ ap (column_place bytes) (sym (natural_of own n here)))
+    ∙ sym (ap (λ (b : Bool). cond b (posts bytes (column_place bytes (natural own))) []) inside) ∙ ap (own_posts bytes) is in
     h
     ∙ ap (λ (ps : List Post). with_dots mark (posts_dots shape old.painter x column (byte_at bytes) (shade colormap map) ps) old) same
     ∙ ap (λ (k : MaskedColumn). with_dots mark (posts_dots shape old.painter x k (byte_at bytes) (shade colormap map) (own_posts bytes (picture_column e.flip e.width e.a1 e.iscale x))) old) c
@@ -141,7 +133,7 @@ unfolding read_columns clipped_dots
 columns-read v bytes textures colormap clips e first last p q l =
     sym (ap (joined_lists (clipped_column v (view_art bytes textures colormap) clips e)) (rows_whole e.first e.last first last p q l)
     ∙ lists_same (clipped_column v (view_art bytes textures colormap) clips e) (read_column v.shape (painter_of SPRITE e.number (lump_source e.lump)) (bytes e.lump) (bytes colormap) clips e) (map (λ x. x) (range_with_len first (last + 1 - first)))
-      (λ x. column_read v bytes textures colormap clips e x))
+    (λ x. column_read v bytes textures colormap clips e x))
 
 pub sprite-painter : (number lump : ℕ) → record { kind = SPRITE; number = number; source_kind = LUMP; source = lump } ≡ painter_of SPRITE number (lump_source lump)
 unfolding painter_of lump_source
@@ -149,16 +141,9 @@ sprite-painter number lump = refl
 
 -- their bytes fit beside the colormap, where the painter's do
 module _ (lumps : List Lump) (textures : TexturesView) (colormap count zone : ℕ) where
-  fit_posts : (shape : ViewShape) (painter : Painter) (x : ℕ) (c : MaskedColumn) (byte shade_of : ℕ → ℕ) (ps : List Post) → FitsBeside lumps textures colormap count zone painter → FitBeside lumps textures colormap count zone (posts_dots shape painter x c byte shade_of ps)
-  unfolding posts_dots joined_lists post_dots
-  fit_posts shape painter x c byte shade_of [] fits = tt
-  fit_posts shape painter x c byte shade_of (p ∷ ps) fits =
-      fit_beside-append lumps textures colormap count zone (post_dots shape painter x c byte shade_of p) (joined_lists (post_dots shape painter x c byte shade_of) ps)
-      (fit_beside-column_dots lumps textures colormap count zone painter x (post_colour shape c byte shade_of p) (post_rows shape c p) fits) (fit_posts shape painter x c byte shade_of ps fits)
-
   fit_column : (shape : ViewShape) (painter : Painter) (bytes shades : List ℕ) (clips : SpriteClips) (e : SpriteEntry) (x : ℕ) → FitsBeside lumps textures colormap count zone painter → FitBeside lumps textures colormap count zone (read_column shape painter bytes shades clips e x)
   unfolding read_column
-  fit_column shape painter bytes shades clips e x fits = fit_posts shape painter x (clipped_masked shape.height clips e x) (byte_at bytes) (shade shades e.map) (own_posts bytes (picture_column e.flip e.width e.a1 e.iscale x)) fits
+  fit_column shape painter bytes shades clips e x fits = fit_beside-posts lumps textures colormap count zone shape painter x (clipped_masked shape.height clips e x) (byte_at bytes) (shade shades e.map) (own_posts bytes (picture_column e.flip e.width e.a1 e.iscale x)) fits
 
   fit_list : (shape : ViewShape) (painter : Painter) (bytes shades : List ℕ) (clips : SpriteClips) (e : SpriteEntry) (xs : List ℕ) → FitsBeside lumps textures colormap count zone painter → FitBeside lumps textures colormap count zone (joined_lists (read_column shape painter bytes shades clips e) xs)
   unfolding joined_lists
@@ -189,28 +174,3 @@ picture-painted {mark} v bytes textures colormap clips e first last shape own sh
 
 pub some-same : (a b : List ℕ) (o : Option (List ℕ)) → Some a ≡ o → o ≡ Some b → a ≡ b
 some-same a b o p q = cc
-
--- the bytes were made live, and then painted
-pub paints-live : {A B : Type 0} {mark : Painter → ℕ → ℕ} {s : MaskScene} {among pictures : ℕ → Type 0} (f : Art → List Dot) (view live after : ShelfView) (x y z : Heap) (a b : CanvasView) (first : A) (answer : B) →
-    DrawsWith cache_fault among pictures view live s.dir.now s.textures.now x y (Ok first) → after ≡ live → z ≡ y →
-    ((contents : List (List ℕ)) (count : ℕ) → HoldsArt live s.dir.now s.textures.now contents s.colormap.0 count y → HasDots mark (f (scene_art contents s)) a b) →
-    ((contents : List (List ℕ)) (count : ℕ) → HoldsArt live s.dir.now s.textures.now contents s.colormap.0 count y → FitBeside s.dir.now.lumps s.textures.now s.colormap.0 count y.size (f (scene_art contents s))) →
-    PlacedAlike a b → PaintsDots mark s among pictures f (state view x a) (state after z b) (Ok answer)
-paints-live {s = s} {among} {pictures} f view live after x y z a b first answer draws p q painted fits place = record {
-  painted = λ contents count held. painted contents count (holds_art-later draws.keeps held);
-  fits = λ contents count held.
-      subst (λ (n : ℕ). FitBeside s.dir.now.lumps s.textures.now s.colormap.0 count n (f (scene_art contents s))) draws.keeps.counts.0 (fits contents count (holds_art-later draws.keeps held));
-  draws = subst (λ (w : ShelfView). DrawsWith cache_fault among pictures view w s.dir.now s.textures.now x z (Ok answer)) (sym p)
-      (subst (λ (u : Heap). DrawsWith cache_fault among pictures view live s.dir.now s.textures.now x u (Ok answer)) (sym q) (draws-value first answer draws));
-  place = place;
-}
-
--- they were not made live
-pub paints-missed : {A B : Type 0} {mark : Painter → ℕ → ℕ} {s : MaskScene} {among pictures : ℕ → Type 0} {f : Art → List Dot} (view after : ShelfView) (x y : Heap) (a : CanvasView) {part : Result B CacheFault} {fault : CacheFault} {whole : Result A CacheFault} →
-    part ≡ Err fault → IsErrAnd whole (λ e. e ≡ fault) → DrawsWith cache_fault among pictures view after s.dir.now s.textures.now x y part → PaintsDots mark s among pictures f (state view x a) (state after y a) whole
-paints-missed {mark = mark} {s = s} {f = f} view after x y a {fault = fault} {whole} was is draws = record {
-  painted = λ contents count held. on_ok_err (HasDots mark (f (scene_art contents s)) a a) fault whole is;
-  fits = λ contents count held. on_ok_err (FitBeside s.dir.now.lumps s.textures.now s.colormap.0 count x.size (f (scene_art contents s))) fault whole is;
-  draws = draws-stop was is draws;
-  place = placed-none a;
-}

@@ -1,6 +1,6 @@
 -- Laws of the clips that a sprite takes from the fragments, the last first: the first that is taken stays.
-use Rattle.std.proofs.Common.{◌≡◌, ℕ, zero, suc, ◌+◌, ◌<◌, ◌≤◌, ℤ, pos, ◌≤ℤ◌, Bool, true, false, cond, List, [], ◌∷◌, Option, Some, None, length, refl, ap, sym, ◌∙◌, arith, subst}
-use Rattle.std.specs.Prelude.{slice_get, slice_index_or, IfSome, unwrap_or, option_map}
+use Rattle.std.proofs.Common.{◌≡◌, ℕ, ◌+◌, ℤ, pos, ◌≤ℤ◌, Bool, true, false, cond, List, Option, Some, None, length, refl, ap, sym, ◌∙◌, subst}
+use Rattle.std.specs.Prelude.{slice_get, IfSome, unwrap_or, option_map}
 use Rattle.word_rules.specs.Words.{minus_one}
 use Rattle.word_rules.specs.Least.{greatest, or_else}
 use Rattle.word_rules.proofs.LeastLemmas.{greatest-more}

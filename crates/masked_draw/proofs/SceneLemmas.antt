@@ -1,6 +1,6 @@
 -- Laws of the notes of a scene as drawn fragments, and of what the calls ask of them.
 use Rattle.std.proofs.Common.{◌≡◌, ℕ, ◌≤◌, ℤ, pos, ◌≤ℤ◌, ◌≢◌, Bool, true, List, Option, Some, length, get_or, refl, ap, ◌∙◌, subst, arith}
-use Rattle.std.specs.Prelude.{◌&&◌, ◌==◌, not, nat_le, int_lt, IfSome, option_map, slice_get, All, Result}
+use Rattle.std.specs.Prelude.{◌&&◌, ◌==◌, not, nat_le, int_lt, IfSome, option_map, slice_get, Result}
 use Rattle.std.proofs.lemmas.Bool.{and_parts, leb-true}
 use Rattle.std.proofs.lemmas.Bool.Decides.{nat_tests}
 use Rattle.std.proofs.lemmas.Option.{gets}
@@ -55,9 +55,6 @@ scene-whole {shape} {notes} {openings} k d noted e = let P : Option FragmentNote
 
 get_at : {X : Type 0} (xs : List X) (k : ℕ) (x : X) → slice_get xs k ≡ Some x → get_or xs k x ≡ x
 get_at xs k x e = grind (arith, gets)
-
-pub all-get : {X : Type 0} (P : X → Type 0) (xs : List X) (k : ℕ) (x : X) → All P xs → slice_get xs k ≡ Some x → P x
-all-get P xs k x all e = subst P (get_at xs k x e) (all k x (slice_get_within xs k x e))
 
 pub scene-middle : (lists : MaskedLists) (notes : List FragmentNote) (k : ℕ) (d : FragmentNote) → slice_get notes k ≡ Some d → (n : ℕ) → IsMiddleNumber lists d n → IsNotedMiddle lists notes n
 scene-middle lists notes k d e n is = record {

@@ -1,12 +1,10 @@
 -- Laws of a sprite that is painted by the clips that were taken.
-use Rattle.std.proofs.Common.{◌≡◌, ℕ, zero, suc, ◌+◌, ◌-◌, ◌<◌, ◌≤◌, ℤ, pos, Bool, true, false, cond, List, [], ◌∷◌, ◌++◌, Option, Some, Result, Ok, Err, IsErrAnd, OnOk, length, map, refl, sym, ap, ◌∙◌, subst, arith}
+use Rattle.std.proofs.Common.{◌≡◌, ℕ, zero, suc, ◌+◌, ◌-◌, ◌<◌, ◌≤◌, ℤ, pos, Bool, true, false, cond, List, [], ◌++◌, Some, Result, Ok, Err, OnOk, length, map, refl, sym, ap, ◌∙◌, subst, arith}
 use Rattle.std.specs.Prelude.{◌&&◌, int_lt, nat_le, nat_lt, slice_get}
 use Rattle.std.proofs.lemmas.Bool.Decides.{nat_tests}
 use Rattle.std.specs.List.{range_with_len}
-use Rattle.std.proofs.lemmas.Int.{ints}
 use Rattle.word_rules.specs.Words.{natural}
 use Rattle.word_rules.specs.Listed.{joined_lists, listed_from}
-use Rattle.view_rules.specs.View.{ViewValue}
 use Rattle.lump_cache.specs.declared.fault.CacheFault.{CacheFault}
 use Rattle.pixel_rules.specs.declared.Painter.{Painter}
 use Rattle.pixel_rules.specs.Dots.{Dot}
@@ -14,21 +12,19 @@ use Rattle.pixel_rules.specs.Art.{Art}
 use Rattle.pixel_rules.specs.Strips.{rows_between}
 use Rattle.wall_rules.specs.declared.FragmentNote.{FragmentNote}
 use Rattle.sprite_rules.specs.declared.SpriteEntry.{SpriteEntry}
-use Rattle.sprite_rules.specs.Drawsegs.{Drawseg, entry_has}
-use Rattle.sprite_rules.specs.Clips.{sprite_bottom, sprite_top}
+use Rattle.sprite_rules.specs.Drawsegs.{entry_has}
 use Rattle.sprite_rules.specs.Sprites.{sprite_column, sprite_dots, sprite_masked}
 use Rattle.sprite_rules.specs.Middles.{middles_at, sprite_step}
 use Rattle.masked_draw.specs.declared.clips.SpriteClips.{SpriteClips}
 use Rattle.masked_draw.specs.declared.scene.MaskScene.{MaskScene}
-use Rattle.masked_draw.specs.Clipped.{AreSpriteRows, bottom_at, clipped_column, clipped_dots, clipped_masked, top_at}
+use Rattle.masked_draw.specs.Clipped.{AreSpriteRows, clipped_column, clipped_dots, clipped_masked}
 use Rattle.masked_draw.specs.Marks.{MarkedTo}
 use Rattle.masked_draw.specs.Passes.{DrawsSprite, PassesSprite}
-use Rattle.masked_draw.specs.Ready.{IsNotedMiddle}
-use Rattle.masked_draw.specs.Scenes.{MaskState, PaintsDots, scene_drawseg, scene_drawsegs, scene_lists}
+use Rattle.masked_draw.specs.Scenes.{MaskState, PaintsDots, scene_drawseg, scene_drawsegs}
 use Rattle.masked_draw.proofs.DownLemmas.{marked-skip, step-none}
 use Rattle.masked_draw.proofs.EntryLemmas.{entry-between}
 use Rattle.masked_draw.proofs.SceneLemmas.{scene-length}
-use Rattle.masked_draw.proofs.StepLemmas.{on_ok_err, paints-none, paints-same, paints-stop, paints-then, paints-wider}
+use Rattle.masked_draw.proofs.StepLemmas.{paints-none, paints-same, paints-then, paints-wider}
 
 -- lists that agree over a range
 joined_range : (f g : ℕ → List Dot) (a n : ℕ) → ((x : ℕ) → a ≤ x → x < a + n → f x ≡ g x) → joined_lists f (map (λ y. y) (range_with_len a n)) ≡ joined_lists g (map (λ y. y) (range_with_len a n))
@@ -104,12 +100,4 @@ module _ (s : MaskScene) (notes : List FragmentNote) (es : List SpriteEntry) (i 
         (paints-then (paints-wider (λ n k. k) (λ n k. absurd k) passed.paints) (paints-wider (λ n k. absurd k) (λ n k. k) sprite));
     marked = on_ok_of (MarkedTo (scene_drawseg s) notes es (length notes) (λ k. i + 1) new) result
         (subst (MarkedTo (scene_drawseg s) notes es (length notes) (λ k. i + 1)) (sym same) passed.marked);
-  }
-
-  -- an error behind it
-  pub sprite-stop : {A B : Type 0} {a b : MaskState} {part : Result B CacheFault} {fault : CacheFault} {whole : Result A CacheFault} (now new : List Bool) → part ≡ Err fault → IsErrAnd whole (λ e. e ≡ fault) →
-      PassesSprite mark s notes es i now a b part → DrawsSprite mark s notes es i e new a b whole
-  sprite-stop {fault = fault} {whole} now new was is passed = record {
-    paints = paints-stop was is (paints-wider (λ n k. k) (λ n k. absurd k) passed.paints);
-    marked = on_ok_err (MarkedTo (scene_drawseg s) notes es (length notes) (λ k. i + 1) new) fault whole is;
   }

@@ -26,8 +26,8 @@ module _ {mark : Painter → ℕ → ℕ} {s : MaskScene} {among pictures : ℕ 
   pub paints-none : {A : Type 0} (st : MaskState) (answer : A) →
       PaintsDots mark s among pictures (λ art. []) st st (Ok answer)
   paints-none st answer = record {
-    painted = λ contents count held. has_dots-none mark st.canvas;
-    fits = λ contents count held. tt;
+    painted = λ contents count hold. has_dots-none mark st.canvas;
+    fits = λ contents count hold. tt;
     draws = draws-none st.shelf s.dir.now s.textures.now st.cache answer;
     place = placed-none st.canvas;
   }
@@ -37,15 +37,15 @@ module _ {mark : Painter → ℕ → ℕ} {s : MaskScene} {among pictures : ℕ 
       PaintsDots mark s among pictures f a b (Ok first) → PaintsDots mark s among pictures g b c result →
       PaintsDots mark s among pictures (λ art. f art ++ g art) a c result
   paints-then {f = f} {g} {a} {b} {c} {first} {result} one two = record {
-    painted = λ contents count held.
-        let later = holds_art-later one.draws.keeps held in
+    painted = λ contents count hold.
+        let later = holds_art-later one.draws.keeps hold in
         on_ok_then (HasDots mark (g (scene_art contents s)) b.canvas c.canvas) (HasDots mark (f (scene_art contents s) ++ g (scene_art contents s)) a.canvas c.canvas) result
-        (λ h. has_dots-append (one.painted contents count held) h) (two.painted contents count later);
-    fits = λ contents count held.
-        let later = holds_art-later one.draws.keeps held in
+        (λ h. has_dots-append (one.painted contents count hold) h) (two.painted contents count later);
+    fits = λ contents count hold.
+        let later = holds_art-later one.draws.keeps hold in
         on_ok_then (FitBeside s.dir.now.lumps s.textures.now s.colormap.0 count b.cache.size (g (scene_art contents s)))
         (FitBeside s.dir.now.lumps s.textures.now s.colormap.0 count a.cache.size (f (scene_art contents s) ++ g (scene_art contents s))) result
-        (λ h. fit_beside-append s.dir.now.lumps s.textures.now s.colormap.0 count a.cache.size (f (scene_art contents s)) (g (scene_art contents s)) (one.fits contents count held)
+        (λ h. fit_beside-append s.dir.now.lumps s.textures.now s.colormap.0 count a.cache.size (f (scene_art contents s)) (g (scene_art contents s)) (one.fits contents count hold)
         (subst (λ (n : ℕ). FitBeside s.dir.now.lumps s.textures.now s.colormap.0 count n (g (scene_art contents s))) one.draws.keeps.counts.0 h))
         (two.fits contents count later);
     draws = draws-then one.draws two.draws;
@@ -57,8 +57,8 @@ module _ {mark : Painter → ℕ → ℕ} {s : MaskScene} {among pictures : ℕ 
       part ≡ Err fault → IsErrAnd whole (λ e. e ≡ fault) → PaintsDots mark s among pictures f a b part →
       PaintsDots mark s among pictures g a b whole
   paints-stop {g = g} {a} {b} {fault = fault} {whole} was is one = record {
-    painted = λ contents count held. on_ok_err (HasDots mark (g (scene_art contents s)) a.canvas b.canvas) fault whole is;
-    fits = λ contents count held. on_ok_err (FitBeside s.dir.now.lumps s.textures.now s.colormap.0 count a.cache.size (g (scene_art contents s))) fault whole is;
+    painted = λ contents count hold. on_ok_err (HasDots mark (g (scene_art contents s)) a.canvas b.canvas) fault whole is;
+    fits = λ contents count hold. on_ok_err (FitBeside s.dir.now.lumps s.textures.now s.colormap.0 count a.cache.size (g (scene_art contents s))) fault whole is;
     draws = draws-stop was is one.draws;
     place = one.place;
   }
@@ -69,8 +69,8 @@ module _ {mark : Painter → ℕ → ℕ} {s : MaskScene} {among pictures : ℕ 
       PaintsDots mark s among pictures g b c part → PaintsDots mark s among pictures h a c whole
   paints-then_stop {h = h} {a} {c = c} {fault = fault} {whole} was is one two =
       let all = paints-then one (paints-stop {g = h} was is two) in record {
-        painted = λ contents count held. on_ok_err (HasDots mark (h (scene_art contents s)) a.canvas c.canvas) fault whole is;
-        fits = λ contents count held. on_ok_err (FitBeside s.dir.now.lumps s.textures.now s.colormap.0 count a.cache.size (h (scene_art contents s))) fault whole is;
+        painted = λ contents count hold. on_ok_err (HasDots mark (h (scene_art contents s)) a.canvas c.canvas) fault whole is;
+        fits = λ contents count hold. on_ok_err (FitBeside s.dir.now.lumps s.textures.now s.colormap.0 count a.cache.size (h (scene_art contents s))) fault whole is;
         draws = all.draws;
         place = all.place;
       }
@@ -79,10 +79,10 @@ module _ {mark : Painter → ℕ → ℕ} {s : MaskScene} {among pictures : ℕ 
   pub paints-same : {A : Type 0} {f : Art → List Dot} {a b : MaskState} {result : Result A CacheFault} (g : Art → List Dot) → ((art : Art) → f art ≡ g art) →
       PaintsDots mark s among pictures f a b result → PaintsDots mark s among pictures g a b result
   paints-same {f = f} {a} {b} {result} g same one = record {
-    painted = λ contents count held.
-        subst (λ (dots : List Dot). OnOk result (HasDots mark dots a.canvas b.canvas)) (same (scene_art contents s)) (one.painted contents count held);
-    fits = λ contents count held.
-        subst (λ (dots : List Dot). OnOk result (FitBeside s.dir.now.lumps s.textures.now s.colormap.0 count a.cache.size dots)) (same (scene_art contents s)) (one.fits contents count held);
+    painted = λ contents count hold.
+        subst (λ (dots : List Dot). OnOk result (HasDots mark dots a.canvas b.canvas)) (same (scene_art contents s)) (one.painted contents count hold);
+    fits = λ contents count hold.
+        subst (λ (dots : List Dot). OnOk result (FitBeside s.dir.now.lumps s.textures.now s.colormap.0 count a.cache.size dots)) (same (scene_art contents s)) (one.fits contents count hold);
     draws = one.draws;
     place = one.place;
   }
@@ -91,11 +91,6 @@ module _ {mark : Painter → ℕ → ℕ} {s : MaskScene} {among pictures : ℕ 
   pub paints-value : {A B : Type 0} {f : Art → List Dot} {a b : MaskState} {first : B} {answer : A} →
       PaintsDots mark s among pictures f a b (Ok first) → PaintsDots mark s among pictures f a b (Ok answer)
   paints-value {first = first} {answer} one = record { painted = one.painted; fits = one.fits; draws = draws-value first answer one.draws; place = one.place }
-
-  -- the same answer by other words
-  pub paints-as : {A : Type 0} {f : Art → List Dot} {a b : MaskState} {part whole : Result A CacheFault} → part ≡ whole →
-      PaintsDots mark s among pictures f a b part → PaintsDots mark s among pictures f a b whole
-  paints-as {f = f} {a} {b} e one = subst (λ r. PaintsDots mark s among pictures f a b r) e one
 
 -- with more textures and more lumps
 pub paints-wider : {A : Type 0} {mark : Painter → ℕ → ℕ} {s : MaskScene} {some among lumps pictures : ℕ → Type 0} {f : Art → List Dot} {a b : MaskState} {result : Result A CacheFault} →

@@ -1,5 +1,5 @@
 -- What is painted for one sprite, and which columns are marked after it.
-use Rattle.std.specs.Prelude.{◌≡◌, ◌+◌, ℕ, List, Bool, Option, Some, Result, OnOk, length}
+use Rattle.std.specs.Prelude.{◌≡◌, ◌+◌, ℕ, List, Bool, Some, Result, OnOk, length}
 use Rattle.lump_cache.specs.declared.fault.CacheFault.{CacheFault}
 use Rattle.pixel_rules.specs.declared.Painter.{Painter}
 use Rattle.wall_rules.specs.declared.FragmentNote.{FragmentNote}

@@ -62,7 +62,7 @@ pub fn draw_masked<S: Shelf, C: Canvas>(
     requires columns { AllPass (lies_within tools.old.view.now.shape.width) sprites.now }
     requires lumps { AllPass (has_lump_below (length tools.old.dir.now.lumps)) sprites.now }
     requires slots { length tools.old.dir.now.lumps ≤ tools.old.cache.now.lumps }
-    requires colormap { tools.old.colormap.0 < tools.old.cache.now.lumps }
+    requires colormap { tools.old.colormap.0 < length tools.old.dir.now.lumps }
     requires left { (C.view tools.old.canvas.now).left + tools.old.view.now.shape.width
         ≤ FRAME_WIDTH }
     requires top { (C.view tools.old.canvas.now).top + tools.old.view.now.shape.height

@@ -1,5 +1,4 @@
 -- The sprites, and then the columns that are left.
-use Rattle.std.proofs.Common.{◌≡◌, ◌≤◌, ℕ, List, length, OnOk, refl, sym, ap, ◌∙◌, arith}
 use Rattle.sprite_rules.specs.Order.{draw_order}
 use Rattle.masked_draw.proofs.PassLemmas.{pass-end}
 use Rattle.masked_draw.proofs.SceneLemmas.{can_pass-later}

@@ -1,9 +1,6 @@
 -- One fragment after the other, from the last down.
-use Rattle.std.proofs.Common.{◌≡◌, ◌+◌, ◌-◌, ◌<◌, ℕ, List, length, refl, sym, ap, ◌∙◌, subst, arith}
-use Rattle.std.specs.Prelude.{Some, slice_get, slice_index_or}
-use Rattle.sprite_rules.specs.declared.SpriteEntry.{SpriteEntry}
-use Rattle.wall_rules.specs.declared.FragmentNote.{FragmentNote}
-use Rattle.masked_draw.proofs.LoopLemmas.{LeavesMiddles, leaves-end, leaves-more, leaves-start, leaves-stop, note-get}
+use Rattle.std.proofs.Common.{◌≡◌, ◌+◌, ◌-◌, ◌<◌, length, refl, ◌∙◌, arith}
+use Rattle.masked_draw.proofs.LoopLemmas.{leaves-end, leaves-more, leaves-start, leaves-stop, note-get}
 use Rattle.masked_draw.proofs.SceneLemmas.{can_pass-later, scene-apart, scene-whole}
 use Rattle.masked_draw.proofs.pass.draw_middles.Goals as goal
 

@@ -1,5 +1,5 @@
 -- The fragments from k on are done.
-use Rattle.std.proofs.Common.{◌≡◌, ℕ, length, List}
+use Rattle.std.proofs.Common.{◌≡◌, length, List}
 use Rattle.sprite_rules.specs.declared.SpriteEntry.{SpriteEntry}
 use Rattle.masked_draw.specs.Marks.{MarkedTo}
 use Rattle.masked_draw.specs.Scenes.{CanPass, scene_drawseg, state}

@@ -1,12 +1,12 @@
 -- A sprite without a column, and one behind which the masked columns come first.
-use Rattle.std.proofs.Common.{◌≡◌, ◌+◌, ◌^◌, ◌<◌, ◌≤◌, ℕ, ℤ, pos, ◌≤ℤ◌, ◌<ℤ◌, Bool, true, false, List, Option, w32, to_z, of_z, refl, sym, ap, ◌∙◌, subst, arith, rules}
-use Rattle.std.specs.Prelude.{◌&&◌, None, int_lt, nat_le, nat_lt}
+use Rattle.std.proofs.Common.{◌≡◌, ◌+◌, ◌^◌, ◌<◌, ◌≤◌, ℕ, ℤ, pos, ◌≤ℤ◌, ◌<ℤ◌, true, false, List, Option, w32, sym, ap, ◌∙◌, subst, arith, rules}
+use Rattle.std.specs.Prelude.{None, int_lt, nat_le, nat_lt}
 use Rattle.std.proofs.lemmas.Bool.{and_parts, leb-true, ltb-true}
 use Rattle.std.proofs.lemmas.Int.{ints, to_z-of_z}
 use Rattle.sprite_rules.specs.declared.SpriteEntry.{SpriteEntry}
 use Rattle.sprite_rules.specs.Drawsegs.{entry_has}
 use Rattle.masked_draw.specs.Clipped.{row_in}
-use Rattle.masked_draw.proofs.EntryLemmas.{HasColumnNumbers, entry-between, entry-numbers, entry-within}
+use Rattle.masked_draw.proofs.EntryLemmas.{entry-between, entry-numbers, entry-within}
 use Rattle.masked_draw.proofs.SpriteLemmas.{has-column, sprite-none, sprite-then}
 use Rattle.masked_draw.proofs.pass.draw_sprite.Goals as goal
 

@@ -1,5 +1,5 @@
 -- The sprites that the loop came to are drawn.
-use Rattle.std.proofs.Common.{◌≡◌, ℕ, length}
+use Rattle.std.proofs.Common.{◌≡◌, length}
 use Rattle.std.specs.Prelude.{Ok}
 use Rattle.sprite_rules.specs.Order.{draw_order}
 use Rattle.sprite_rules.specs.Middles.{sprites_from}

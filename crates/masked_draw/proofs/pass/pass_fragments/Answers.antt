@@ -1,5 +1,5 @@
 -- One fragment after the other, from the last down.
-use Rattle.std.proofs.Common.{◌≡◌, ◌+◌, ◌-◌, ◌<◌, ℕ, List, length, refl, sym, ap, ◌∙◌, arith}
+use Rattle.std.proofs.Common.{◌≡◌, ◌+◌, ◌-◌, ◌<◌, length, refl, ◌∙◌, arith}
 use Rattle.masked_draw.proofs.LoopLemmas.{clips-end, clips-more, clips-start, note-get, passes-end, passes-more, passes-start, passes-stop}
 use Rattle.masked_draw.proofs.SceneLemmas.{can_pass-later, scene-apart, scene-whole}
 use Rattle.masked_draw.proofs.pass.pass_fragments.Goals as goal

@@ -1,5 +1,5 @@
 -- A column that the picture has, and one that it has not.
-use Rattle.std.proofs.Common.{◌≡◌, ℤ, pos, ◌≤ℤ◌, w32, to_z, of_z, refl, sym, ap, ◌∙◌, subst, rules}
+use Rattle.std.proofs.Common.{pos, ◌≤ℤ◌, w32, sym, ◌∙◌, subst, rules}
 use Rattle.std.proofs.lemmas.Int.{to_z-of_z}
 use Rattle.word_rules.specs.Words.{minus_one}
 use Rattle.pixel_rules.specs.declared.MaskedColumn.{MaskedColumn}

@@ -1,5 +1,5 @@
 -- The bytes that are lent are those of the picture and of the colormap.
-use Rattle.std.proofs.Common.{◌≡◌, sym, refl, ap, ◌∙◌}
+use Rattle.std.proofs.Common.{sym}
 use Rattle.lump_rules.specs.Contents.{lump_bytes}
 use Rattle.lump_cache.proofs.FetchLemmas.{live_faithful}
 use Rattle.pixel_rules.specs.declared.TheConstants.{SPRITE}
