@@ -1,12 +1,12 @@
-// Trees and a grate of the made WAD before one another. What a view with all of them shows is told
-// by the views with one of them alone.
-ghost use Rattle.std.specs.Prelude.{◌≡◌, ◌<◌, ◌≤◌, ◌+◌, ◌<ℤ◌, ℕ, ℤ, pos, List, All, IfOk, IfSome, IsTrue, length};
+// Trees and a grate of the made WAD before one another. What is painted of all of them is told by
+// what is painted of each of them alone.
+ghost use Rattle.std.specs.Prelude.{◌≡◌, ◌<◌, ◌≤◌, ◌+◌, ◌<ℤ◌, ℕ, ℤ, pos, List, All, IfOk, IsTrue, length};
 ghost use Rattle.std.specs.List.{AllPass};
 ghost use Rattle.view_rules.specs.declared.TheConstants.{FRAME_WIDTH, FRAME_HEIGHT};
 ghost use Rattle.view_rules.specs.declared.ViewShape.{ViewShape};
 ghost use Rattle.pixel_strips.specs.Canvases.{CanvasView, blank, marked_by_colour};
 ghost use Rattle.vissprites.specs.Bounds.{lies_within, has_lump_below};
-ghost use Rattle.picture_rules.specs.Noted.{AreNoted};
+ghost use Rattle.picture_rules.specs.Noted.{AreNoted, IsWholeNote};
 ghost use Rattle.texture_build.specs.Views.{IsPrepared, prepared_texture};
 ghost use Rattle.texture_build.specs.Draws.{CanDraw};
 ghost use Rattle.masked_draw.specs.Ready.{IsSingle};
@@ -156,27 +156,32 @@ impl Canvas for Counted {
     }
 }
 
-// A tree that stands so many map units ahead, in full light or in that of its sector.
+// A tree that stands so many map units ahead and to the left, in full light or in that of its
+// sector.
 #[derive(Clone, Copy)]
 struct Tree {
     ahead: i32,
+    left: i32,
     bright: bool,
 }
 
 // Of 2.5 pixels a map unit.
 const NEAR: Tree = Tree {
     ahead: 64,
+    left: 16,
     bright: false,
 };
 
 const BRIGHT: Tree = Tree {
     ahead: 64,
+    left: 16,
     bright: true,
 };
 
 // Of 0.83 pixels a map unit.
 const FAR: Tree = Tree {
     ahead: 192,
+    left: 0,
     bright: false,
 };
 
@@ -185,7 +190,7 @@ fn thing_of(tree: Tree) -> Placed
 {
     Placed {
         x: tree.ahead << 16,
-        y: 0,
+        y: tree.left << 16,
         z: 0,
         angle: 0,
         bright: tree.bright,
@@ -230,7 +235,12 @@ fn sprites_of(
 }
 
 // A grate whose scale is this in each of its columns, in a view of `height` rows.
-fn grate_note(scale: i32, height: u16) -> FragmentNote {
+fn grate_note(scale: i32, height: u16) -> FragmentNote
+    requires { pos 0 <ℤ scale }
+    ensures whole { (shape : ViewShape) (openings : List ℤ) → LAST < shape.width →
+        shape.height ≡ height → COLUMNS ≤ length openings → IsWholeNote shape openings result }
+    ensures seg { result.seg_no ≡ 0 }
+{
     FragmentNote {
         seg_no: 0,
         first: FIRST,
@@ -247,21 +257,21 @@ fn grate_note(scale: i32, height: u16) -> FragmentNote {
     }
 }
 
-// The notes of a view of `height` rows with or without a grate.
+// The notes of a view of `height` rows with a grate of this scale, which is above 0, or without.
 fn notes_of(
     alloc: Global,
     grate: Option<i32>,
     height: u16,
-) -> Result<Vec<FragmentNote>, AllocError>
-    requires { IfSome grate (λ scale. pos 0 <ℤ scale) }
+) -> Result<Vec<FragmentNote>, Fail>
     ensures noted { (shape : ViewShape) (openings : List ℤ) → LAST < shape.width →
         shape.height ≡ height → COLUMNS ≤ length openings →
         IfOk result (λ notes. AreNoted shape notes.items openings) }
     ensures seg { IfOk result (λ notes. All (λ d. d.seg_no ≡ 0) notes.items) }
 {
     match grate {
-        Some(scale) => vec![in alloc; grate_note(scale, height)],
         None => Ok(Vec::new(alloc)),
+        Some(scale) if scale > 0 => Ok(vec![in alloc; grate_note(scale, height)]?),
+        Some(_) => Err("a scale above 0".into()),
     }
 }
 
@@ -300,6 +310,8 @@ fn draw(
     requires seg { All (λ d. d.seg_no ≡ 0) notes.now }
     requires left { canvas.old.frame.left + view.now.shape.width ≤ FRAME_WIDTH }
     requires top { canvas.old.frame.top + view.now.shape.height ≤ FRAME_HEIGHT }
+    ensures left { canvas.new.frame.left ≡ canvas.old.frame.left }
+    ensures top { canvas.new.frame.top ≡ canvas.old.frame.top }
 {
     let name = Name8::from_bytes([0; 8]);
     let side = Side {
@@ -335,71 +347,93 @@ fn draw(
     draw_masked(&mut tools, notes, sprites)
 }
 
-// The trees in order of making, and a grate if its scale is there.
-fn paint(alloc: Global, trees: &[Tree], grate: Option<i32>) -> Result<Counted, Fail>
-    requires { IfSome grate (λ scale. pos 0 <ℤ scale) }
+// Paints the trees, in order of making, and a grate if its scale is there.
+fn paint(
+    alloc: Global,
+    view: &View<'_>,
+    canvas: &mut Counted,
+    trees: &[Tree],
+    grate: Option<i32>,
+) -> Result<(), Fail>
+    requires left { canvas.old.frame.left ≡ 0 }
+    requires top { canvas.old.frame.top ≡ 0 }
+    ensures left { canvas.new.frame.left ≡ 0 }
+    ensures top { canvas.new.frame.top ≡ 0 }
 {
-    let bytes = make_tables(alloc)?;
-    let tables = Tables::from_bytes(alloc, &bytes, 11)?;
-    let view = View::new(&tables, EYE);
     let shape = view.shape();
     if shape.width <= LAST {
         return Err("a view with the grate's columns".into());
     }
     let mut assets = load_assets(alloc)?;
-    let sprites = sprites_of(alloc, &view, trees, assets.tree)?;
+    let sprites = sprites_of(alloc, view, trees, assets.tree)?;
     let notes = notes_of(alloc, grate, shape.height)?;
-    let mut canvas = Counted::new(alloc)?;
-    draw(&mut assets, &view, &sprites, &notes, &mut canvas)?;
-    Ok(canvas)
+    draw(&mut assets, view, &sprites, &notes, canvas)?;
+    Ok(())
 }
 
-// What three frames show of which each stands over those before it. No colour painted is 0.
-fn layers(alloc: Global, frames: [&Counted; 3]) -> Result<Vec<u8>, AllocError> {
-    let mut cells = Vec::new(alloc);
-    let [low, middle, high] = frames.map(|counted| counted.frame.bytes());
-    for ((low, middle), high) in low.iter().zip(middle).zip(high) {
-        let over = if *middle == 0 { *low } else { *middle };
-        cells.push(if *high == 0 { over } else { *high })?;
-    }
-    Ok(cells)
+// What is painted of trees without a grate.
+fn painted(alloc: Global, view: &View<'_>, trees: &[Tree]) -> Result<Counted, Fail> {
+    let mut canvas = Counted::new(alloc)?;
+    paint(alloc, view, &mut canvas, trees, None)?;
+    Ok(canvas)
 }
 
 #[test]
 fn the_later_of_two_trees_at_one_place_is_seen(rt: HostRuntime) -> Result<(), Fail> {
     let alloc = rt.alloc();
-    let dim = paint(alloc, &[NEAR], None)?;
-    let bright = paint(alloc, &[BRIGHT], None)?;
+    let bytes = make_tables(alloc)?;
+    let tables = Tables::from_bytes(alloc, &bytes, 11)?;
+    let view = View::new(&tables, EYE);
+    let dim = painted(alloc, &view, &[NEAR])?;
+    let bright = painted(alloc, &view, &[BRIGHT])?;
     assert_ne!(rt; dim.frame.bytes(), bright.frame.bytes());
-    let bright_later = paint(alloc, &[NEAR, BRIGHT], None)?;
+    let bright_later = painted(alloc, &view, &[NEAR, BRIGHT])?;
     assert_eq!(rt; bright_later.frame.bytes(), bright.frame.bytes());
-    let dim_later = paint(alloc, &[BRIGHT, NEAR], None)?;
+    let dim_later = painted(alloc, &view, &[BRIGHT, NEAR])?;
     assert_eq!(rt; dim_later.frame.bytes(), dim.frame.bytes());
     Ok(())
 }
 
-// Whether a grate of this scale, with a near and a far tree, is seen over the far one and over the
-// near one as told, and each of its columns is painted once.
-fn is_seen(alloc: Global, scale: i32, over_far: bool, over_near: bool) -> Result<bool, Fail>
-    requires { pos 0 <ℤ scale }
-{
-    let far = paint(alloc, &[FAR], None)?;
-    let near = paint(alloc, &[NEAR], None)?;
-    let grate = paint(alloc, &[], Some(scale))?;
-    let all = paint(alloc, &[NEAR, FAR], Some(scale))?;
-    let expected = match (over_far, over_near) {
-        (false, _) => layers(alloc, [&grate, &far, &near])?,
-        (true, false) => layers(alloc, [&far, &grate, &near])?,
-        (true, true) => layers(alloc, [&far, &near, &grate])?,
-    };
-    let dots = far.dots.wrapping_add(near.dots).wrapping_add(grate.dots);
-    Ok(all.frame.bytes() == expected.as_slice() && all.dots == dots)
+#[derive(Clone, Copy)]
+enum Part {
+    Grate,
+    Far,
+    Near,
+}
+
+// Whether a grate of this scale, with a far and a near tree, is painted as these parts are, one by
+// one, each of their pixels once.
+fn is_painted_as(
+    alloc: Global,
+    view: &View<'_>,
+    scale: i32,
+    parts: [Part; 3],
+) -> Result<bool, Fail> {
+    let mut all = Counted::new(alloc)?;
+    paint(alloc, view, &mut all, &[NEAR, FAR], Some(scale))?;
+    let mut each = Counted::new(alloc)?;
+    for part in parts {
+        match part {
+            Part::Grate => paint(alloc, view, &mut each, &[], Some(scale))?,
+            Part::Far => paint(alloc, view, &mut each, &[FAR], None)?,
+            Part::Near => paint(alloc, view, &mut each, &[NEAR], None)?,
+        }
+    }
+    Ok(all.frame.bytes() == each.frame.bytes() && all.dots == each.dots)
 }
 
 #[test]
 fn a_grate_is_painted_before_the_trees_in_front_of_it(rt: HostRuntime) -> Result<(), Fail> {
-    assert!(rt; is_seen(rt.alloc(), 40960, false, false)?);
-    assert!(rt; is_seen(rt.alloc(), 81920, true, false)?);
-    assert!(rt; is_seen(rt.alloc(), 196608, true, true)?);
+    let alloc = rt.alloc();
+    let bytes = make_tables(alloc)?;
+    let tables = Tables::from_bytes(alloc, &bytes, 11)?;
+    let view = View::new(&tables, EYE);
+    for (scale, parts) in [
+        (40960, [Part::Grate, Part::Far, Part::Near]),
+        (81920, [Part::Far, Part::Grate, Part::Near]),
+        (196608, [Part::Far, Part::Near, Part::Grate]),
+    ] {
+        assert!(rt; is_painted_as(alloc, &view, scale, parts)?, "at {scale}");
+    }
     Ok(())
 }

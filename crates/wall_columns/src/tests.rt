@@ -109,7 +109,7 @@ struct Assets {
 
 fn load_assets(alloc: Global) -> Result<Assets, Fail>
     ensures slots { IfOk result (λ a. length a.dir.lumps ≤ a.cache.lumps) }
-    ensures colormap { IfOk result (λ a. a.colormap.0 < a.cache.lumps) }
+    ensures colormap { IfOk result (λ a. a.colormap.0 < length a.dir.lumps) }
     ensures brick { IfOk result (λ a. CanDraw a.dir.lumps a.textures a.cache WALL1) }
 {
     let name = "made.wad".to_string(alloc)?;
@@ -185,7 +185,7 @@ fn store(
     requires left { drawn.old.frame.left + view.now.shape.width ≤ FRAME_WIDTH }
     requires top { drawn.old.frame.top + view.now.shape.height ≤ FRAME_HEIGHT }
     requires slots { length assets.old.dir.lumps ≤ assets.old.cache.lumps }
-    requires colormap { assets.old.colormap.0 < assets.old.cache.lumps }
+    requires colormap { assets.old.colormap.0 < length assets.old.dir.lumps }
     requires textures { (number : ℕ) → IsWallTexture facts.now number →
         CanDraw assets.old.dir.lumps assets.old.textures assets.old.cache number }
     requires floor { IsAmongPlanes drawn.old.planes.planes drawn.old.walls.floor }
@@ -194,7 +194,7 @@ fn store(
     ensures left { drawn.new.frame.left ≡ drawn.old.frame.left }
     ensures top { drawn.new.frame.top ≡ drawn.old.frame.top }
     ensures slots { length assets.new.dir.lumps ≤ assets.new.cache.lumps }
-    ensures colormap { assets.new.colormap.0 < assets.new.cache.lumps }
+    ensures colormap { assets.new.colormap.0 < length assets.new.dir.lumps }
     ensures floor { OnOk result
         (IsAmongPlanes drawn.new.planes.planes drawn.new.walls.floor) }
     ensures ceiling { OnOk result
