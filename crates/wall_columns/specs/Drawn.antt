@@ -51,7 +51,7 @@ pub record CanPaint (v : ViewValue) (dir : DirectoryView) (art : TexturesView) (
   pub columns : canvas.left + v.shape.width ≤ FRAME_WIDTH
   pub rows : canvas.top + v.shape.height ≤ FRAME_HEIGHT
   pub slots : length dir.lumps ≤ z.lumps
-  pub shades : colormap < z.lumps
+  pub shades : colormap < length dir.lumps
   pub textures : (number : ℕ) → number ≢ 0 → IsPartTexture f.numbers number →
       CanDraw dir.lumps art z number
   pub scales : (k : ℕ) → k ≤ f.last - f.first →

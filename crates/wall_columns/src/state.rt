@@ -176,7 +176,7 @@ impl WallState {
         requires rows { (C.view tools.old.canvas.now).top + tools.old.view.now.shape.height
             ≤ FRAME_HEIGHT }
         requires slots { length tools.old.dir.now.lumps ≤ tools.old.cache.now.lumps }
-        requires colormap { tools.old.colormap.0 < tools.old.cache.now.lumps }
+        requires colormap { tools.old.colormap.0 < length tools.old.dir.now.lumps }
         requires textures { (number : ℕ) → IsWallTexture facts.now number →
             CanDraw tools.old.dir.now.lumps tools.old.textures.now tools.old.cache.now number }
         requires floor { IsAmongPlanes tools.old.planes.now.planes self.old.floor }
