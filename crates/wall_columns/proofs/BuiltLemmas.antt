@@ -1,7 +1,6 @@
 -- Laws of what is built: nothing, a leaf more, a fragment more.
-use Rattle.std.proofs.Common.{◌≡◌, ◌≢◌, ℕ, zero, suc, ◌+◌, ◌-◌, ◌<◌, ◌≤◌, Bool, true, false, cond, ℤ, List, [], ◌∷◌, ◌++◌, Option, Some, None, length, take, refl, ap, sym, ◌∙◌, subst, arith}
-use Rattle.std.specs.Prelude.{nat_le, nat_lt, ◌&&◌, option_map}
-use Rattle.std.specs.List.{All}
+use Rattle.std.proofs.Common.{◌≡◌, ℕ, suc, ◌+◌, ◌-◌, ◌<◌, ◌≤◌, Bool, true, cond, ℤ, List, [], ◌∷◌, ◌++◌, Option, None, length, take, refl, ap, sym, ◌∙◌, subst, arith}
+use Rattle.std.specs.Prelude.{nat_le, nat_lt, ◌&&◌}
 use Rattle.std.proofs.lemmas.Bool.Decides.{nat_tests}
 use Rattle.std.proofs.lemmas.List.{length-append}
 use Rattle.std.proofs.lemmas.List.Elements.{All-nil, All-push}
@@ -21,14 +20,14 @@ use Rattle.wall_rules.specs.Numbers.{fragment_numbers}
 use Rattle.wall_rules.specs.Strips.{marked_rows, ceiling_marks, floor_marks}
 use Rattle.wall_rules.specs.Walls.{Wall, wall_of, has_column, wall_edges, past_wall, clip_before, clip_past}
 use Rattle.wall_rules.proofs.NoteLemmas.{openings_list-more, view_notes-more}
-use Rattle.wall_rules.proofs.WallLemmas.{past_wall-own, past_wall-other, clip_past-next, clip_before-front}
+use Rattle.wall_rules.proofs.WallLemmas.{clip_past-next, clip_before-front}
 use Rattle.plane_rules.specs.declared.PlaneKey.{PlaneKey}
 use Rattle.plane_rules.specs.Planes.{Plane}
-use Rattle.plane_rules.specs.Built.{PlaneWall, PlaneEvent, PlanesNow, no_planes, floor_found, ceiling_found, ceiling_checked, floor_checked, columns_marked, wall_marked, after_event, MarkAlike, IsSoundNow}
+use Rattle.plane_rules.specs.Built.{PlaneWall, PlanesNow, no_planes, floor_found, ceiling_found, ceiling_checked, floor_checked, columns_marked, wall_marked, after_event, MarkAlike}
 use Rattle.plane_rules.specs.Built.PlaneEvent.{Finds, Draws}
 use Rattle.plane_rules.proofs.BuiltLemmas.{after_event-alike, sound-after_event}
 use Rattle.picture_rules.specs.Planes.{plane_wall, wall_step}
-use Rattle.visplanes.specs.Planes.{PlanesView, with_planes}
+use Rattle.visplanes.specs.Planes.{PlanesView}
 use Rattle.wall_edges.specs.Fragments.{FragmentValue, fragment_of}
 use Rattle.wall_columns.specs.declared.notes.SavePlaces.{SavePlaces}
 use Rattle.wall_columns.specs.declared.column_state.ColumnState.{ColumnState}
@@ -39,7 +38,7 @@ use Rattle.wall_columns.specs.Places.{places_of}
 use Rattle.wall_columns.specs.Columns.{plane_number, columns_of, column_edges, column_after, clip_along, marks_along, HasMarked, HasSaved}
 use Rattle.wall_columns.specs.Leaves.{now_of, ceiling_check, floor_check}
 use Rattle.wall_columns.specs.States.{walls_view}
-use Rattle.wall_columns.specs.Built.{IsDrawn, IsBuilt, with_wall, step_of_wall, step_of_leaf}
+use Rattle.wall_columns.specs.Built.{IsDrawn, IsBuilt, with_wall, step_of_wall}
 use Rattle.wall_columns.proofs.SavedLemmas.{columns_saved-lists}
 
 -- what is open of a column, of the state and of its windows

@@ -1,9 +1,9 @@
 -- Laws of the clips of a column: they stay in their ranges, and so do the rows between them.
-use Rattle.std.proofs.Common.{◌≡◌, ℕ, zero, suc, ◌≤◌, Bool, true, false, cond, ℤ, pos, negsuc, ◌+ℤ◌, ◌-ℤ◌, ◌≤ℤ◌, ◌<ℤ◌, FitsSigned, List, [], ◌∷◌, refl, ap, sym, ◌∙◌, subst, arith}
+use Rattle.std.proofs.Common.{◌≡◌, ℕ, zero, suc, ◌≤◌, Bool, true, false, cond, ℤ, pos, negsuc, ◌+ℤ◌, ◌-ℤ◌, ◌≤ℤ◌, ◌<ℤ◌, FitsSigned, List, refl, sym, subst, arith}
 use Rattle.std.specs.Prelude.{int_le, slice_get, Option, Some, None, ◌-◌}
 use Rattle.std.specs.Int.{w32, int_wrap, int_shr}
 use Rattle.std.proofs.lemmas.Int.{ints, clamps, int_wrap_fits, SFits-int_wrap}
-use Rattle.word_rules.specs.Words.{plus, minus, shr_word, greater_word, lesser_word, minus_one, times}
+use Rattle.word_rules.specs.Words.{plus, minus, shr_word, greater_word, lesser_word, minus_one}
 use Rattle.word_rules.specs.Steps.{step_at}
 use Rattle.view_rules.specs.declared.TheConstants.{FRAME_HEIGHT}
 use Rattle.view_rules.specs.declared.ViewShape.{ViewShape}

@@ -9,11 +9,11 @@ use Rattle.std.proofs.lemmas.Int.{ints}
 use Rattle.std.proofs.lemmas.Result.{err_from_is_err_and}
 use Rattle.outside.specs.Shelf.{ShelfView}
 use Rattle.word_rules.specs.Listed.{listed_from, joined_lists}
-use Rattle.word_rules.proofs.ListedLemmas.{listed_from-none, listed_from-more, joined_lists-append, joined_lists-cons}
+use Rattle.word_rules.proofs.ListedLemmas.{joined_lists-append}
 use Rattle.lump_rules.specs.Contents.{lump_bytes}
 use Rattle.zone_rules.specs.Zones.{Heap}
 use Rattle.view_rules.specs.View.{ViewValue}
-use Rattle.view_rules.specs.declared.TheConstants.{FRAME_WIDTH, FRAME_HEIGHT, LIGHT_LEVELS}
+use Rattle.view_rules.specs.declared.TheConstants.{FRAME_WIDTH, FRAME_HEIGHT}
 use Rattle.wad_dir.specs.DirectoryView.{DirectoryView}
 use Rattle.lump_cache.specs.Caches.{KeepsCounts}
 use Rattle.pixel_rules.specs.declared.Painter.{Painter}
@@ -42,7 +42,7 @@ use Rattle.wall_columns.specs.declared.fault.DrawFault.{DrawFault}
 use Rattle.wall_columns.specs.Draws.{IsNoPicture, IsWallTexture}
 use Rattle.wall_columns.specs.Faults.{draw_fault}
 use Rattle.wall_columns.specs.Plans.{IsPartTexture, IsPlanTexture, plan_of, strips_by, HasRows, IsInRows, AreEdgeWords}
-use Rattle.wall_columns.specs.Windows.{WindowsView, window_at, IsClipIn}
+use Rattle.wall_columns.specs.Windows.{IsClipIn}
 use Rattle.wall_columns.specs.Columns.{column_edges, columns_of}
 use Rattle.wall_columns.specs.Drawn.{IsDrawnTexture, column_painted, dots_along, CanPaint, PaintsColumns}
 use Rattle.wall_columns.proofs.PlanLemmas.{plan_strips-in, plan_strips-there, plan_strips-dots}

@@ -1,10 +1,10 @@
 -- Laws of the planes of a leaf: what finding and checking them one after the other comes to, and what
 -- is told where one passes its room.
-use Rattle.std.proofs.Common.{◌≡◌, ℕ, ◌<◌, ◌≤◌, Bool, true, false, cond, List, Option, Some, None, Result, Ok, Err, IsErr, IsErrAnd, length, refl, ap, sym, ◌∙◌, arith}
+use Rattle.std.proofs.Common.{◌≡◌, ℕ, ◌<◌, ◌≤◌, Bool, true, false, List, Option, Some, None, Result, Ok, Err, IsErr, IsErrAnd, length, refl, ap, sym, ◌∙◌, arith}
 use Rattle.std.specs.Prelude.{nat_lt}
 use Rattle.std.proofs.lemmas.Bool.Decides.{nat_tests}
 use Rattle.plane_rules.specs.declared.PlaneKey.{PlaneKey}
-use Rattle.plane_rules.specs.Planes.{Plane, PlaneChoice, find, check}
+use Rattle.plane_rules.specs.Planes.{Plane, PlaneChoice, find}
 use Rattle.plane_rules.specs.Built.{PlanesNow, floor_found, ceiling_found, checked_plane, with_ceiling, with_floor, IsAmongPlanes}
 use Rattle.plane_rules.proofs.PlaneLemmas.{length-find}
 use Rattle.picture_rules.specs.declared.OverLimit.{OverLimit}
@@ -12,7 +12,6 @@ use Rattle.picture_rules.specs.Counts.{planes_count, openings_count}
 use Rattle.visplanes.specs.Planes.{PlanesView, with_planes}
 use Rattle.wall_rules.specs.declared.FragmentNumbers.{FragmentNumbers}
 use Rattle.wall_columns.specs.declared.fault.DrawFault.{DrawFault}
-use Rattle.wall_columns.specs.declared.fault.DrawFault.TheVariants.{Planes, Openings}
 use Rattle.lump_cache.specs.declared.fault.CacheFault.{CacheFault}
 use Rattle.lump_cache.specs.declared.fault.CacheFault.TheVariants as cache
 use Rattle.wall_columns.specs.Faults.{from_cache_fault, limit_of_fault, limit_of_result}

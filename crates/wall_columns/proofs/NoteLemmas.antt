@@ -1,6 +1,5 @@
 -- Laws of a fragment's note and of the places of its lists.
-use Rattle.std.proofs.Common.{◌≡◌, ℕ, ◌+◌, ◌-◌, ◌≤◌, Bool, true, false, cond, ℤ, pos, Option, Some, None, refl, ap, sym, subst, ◌∙◌, arith}
-use Rattle.std.specs.Prelude.{IfSome}
+use Rattle.std.proofs.Common.{◌≡◌, ℕ, ◌+◌, ◌-◌, ◌≤◌, Bool, true, false, ℤ, pos, Option, refl, ap, sym, subst, ◌∙◌, arith}
 use Rattle.word_rules.specs.Words.{minus_one}
 use Rattle.view_rules.specs.View.{ViewValue}
 use Rattle.wall_rules.specs.declared.Clip.{Clip}
@@ -12,7 +11,7 @@ use Rattle.wall_rules.specs.Numbers.{fragment_numbers}
 use Rattle.wall_rules.specs.Notes.{silhouette_of, clip_note, place_if, note_at, room_if}
 use Rattle.wall_rules.specs.Walls.{wall_of}
 use Rattle.wall_columns.specs.declared.notes.SavePlaces.{SavePlaces}
-use Rattle.wall_columns.specs.Places.{room_of, places_of, saved_clip, clip_noted}
+use Rattle.wall_columns.specs.Places.{room_of, places_of, clip_noted}
 use Rattle.wall_columns.specs.Columns.{IsPlaceIn, ArePlacesIn}
 
 -- the note by a fragment's numbers
@@ -45,8 +44,18 @@ clip_noted-is false row false place = refl
 
 abbrev note_from : ℕ → ℕ → ℕ → ℤ → ℤ → ℤ → ℕ → ℤ → ℤ → Option ℕ → Clip → Clip → FragmentNote
 note_from seg_no first last scale1 scale2 step silhouette bottom_height top_height masked top_clip bottom_clip = record {
-  seg_no = seg_no; first = first; last = last; scale1 = scale1; scale2 = scale2; step = step; silhouette = silhouette;
-  bottom_height = bottom_height; top_height = top_height; masked = masked; top_clip = top_clip; bottom_clip = bottom_clip;
+  seg_no = seg_no;
+  first = first;
+  last = last;
+  scale1 = scale1;
+  scale2 = scale2;
+  step = step;
+  silhouette = silhouette;
+  bottom_height = bottom_height;
+  top_height = top_height;
+  masked = masked;
+  top_clip = top_clip;
+  bottom_clip = bottom_clip;
 }
 
 by_numbers : (v : ViewValue) (facts : WallFacts) (first last place : ℕ) (n : FragmentNumbers) (places : SavePlaces) (seg_no silhouette height : ℕ) (scale1 scale2 step bottom_height top_height row low : ℤ) (top_clip bottom_clip : Clip) →

@@ -1,6 +1,6 @@
 -- Laws of the notes of a view: their lists are whole and apart, their scales above 0, their clips
 -- rows of the view, and behind the seg of a masked one there is a sector.
-use Rattle.std.proofs.Common.{◌≡◌, ◌≢◌, ℕ, zero, suc, ◌+◌, ◌-◌, ◌*◌, ◌<◌, ◌≤◌, Bool, true, false, not, cond, ℤ, pos, negsuc, ◌≤ℤ◌, ◌<ℤ◌, List, [], ◌∷◌, ◌++◌, Option, Some, None, IfSome, IsSome, length, refl, ap, sym, ◌∙◌, subst, bit_and, arith}
+use Rattle.std.proofs.Common.{◌≡◌, ◌≢◌, ℕ, zero, suc, ◌+◌, ◌-◌, ◌*◌, ◌<◌, ◌≤◌, Bool, true, false, not, cond, ℤ, pos, ◌≤ℤ◌, ◌<ℤ◌, List, [], ◌∷◌, ◌++◌, Option, Some, None, IfSome, IsSome, length, refl, ap, sym, ◌∙◌, subst, bit_and, arith}
 use Rattle.std.specs.Prelude.{◌||◌, ◌&&◌, slice_get}
 use Rattle.std.specs.List.{All, AllByRecursion}
 use Rattle.std.specs.Int.{from_bool}
@@ -14,8 +14,6 @@ use Rattle.view_rules.specs.declared.TheConstants.{FRAME_HEIGHT}
 use Rattle.view_rules.specs.declared.ViewShape.{ViewShape}
 use Rattle.level_rules.specs.declared.Surface.{Surface}
 use Rattle.wall_rules.specs.declared.TheConstants.{SIL_BOTTOM, SIL_TOP}
-use Rattle.wall_rules.specs.declared.Clip.{Clip}
-use Rattle.wall_rules.specs.declared.Clip.TheVariants.{Absent, Constant, Saved}
 use Rattle.wall_rules.specs.declared.ColumnClip.{ColumnClip}
 use Rattle.wall_rules.specs.declared.FragmentNote.{FragmentNote}
 use Rattle.wall_rules.specs.declared.FragmentNumbers.{FragmentNumbers}
@@ -23,8 +21,8 @@ use Rattle.wall_rules.specs.declared.WallFacts.{WallFacts}
 use Rattle.wall_rules.specs.Numbers.{numbers_by, fragment_numbers}
 use Rattle.wall_rules.specs.Parts.{is_masked}
 use Rattle.wall_rules.specs.Openings.{saves_top, saves_bottom, top_clip, bottom_clip}
-use Rattle.wall_rules.specs.Notes.{silhouette_of, saved_by, saved_from, openings_list, room_if, clip_note, place_if, note_at, notes_from, view_notes, clip_row_at}
-use Rattle.wall_rules.specs.Walls.{Wall, wall_of, clip_before, clip_past}
+use Rattle.wall_rules.specs.Notes.{silhouette_of, saved_by, saved_from, openings_list, room_if, clip_note, place_if, note_at, notes_from, view_notes}
+use Rattle.wall_rules.specs.Walls.{Wall, wall_of, clip_past}
 use Rattle.wall_rules.proofs.NoteLemmas.{length-saved_by, note-top_clip, note-bottom_clip}
 use Rattle.picture_rules.specs.Noted.{greatest_clip, least_clip, IsListAt, IsClipAmong, IsClip, IsWholeNote, ListsApart, AreNoted}
 use Rattle.walk_rules.specs.declared.TheConstants.{MAX_DRAWSEGS}

@@ -1,12 +1,12 @@
 -- Laws of the first count of a step that passes its limit.
-use Rattle.std.proofs.Common.{◌≡◌, ℕ, ◌+◌, ◌-◌, ◌<◌, ◌≤◌, Bool, true, false, cond, List, [], ◌∷◌, ◌++◌, Option, Some, None, Result, Ok, Err, OnOk, length, refl, ap, sym, ◌∙◌, arith}
-use Rattle.std.specs.Prelude.{nat_lt, find, map}
+use Rattle.std.proofs.Common.{◌≡◌, ℕ, ◌+◌, ◌-◌, Bool, true, false, cond, List, Option, Some, None, Result, Ok, Err, OnOk, length, refl, ap, sym, ◌∙◌, arith}
+use Rattle.std.specs.Prelude.{nat_lt}
 use Rattle.view_rules.specs.View.{ViewValue}
 use Rattle.wall_rules.specs.declared.FragmentNumbers.{FragmentNumbers}
 use Rattle.wall_rules.specs.declared.WallFacts.{WallFacts}
 use Rattle.wall_rules.specs.Numbers.{fragment_numbers}
 use Rattle.wall_rules.specs.Notes.{room_if}
-use Rattle.wall_rules.specs.Openings.{openings_of, saves_top, saves_bottom}
+use Rattle.wall_rules.specs.Openings.{openings_of}
 use Rattle.wall_rules.specs.Walls.{Wall, wall_of}
 use Rattle.wall_rules.proofs.NoteLemmas.{length-saved_by, length-saved_openings}
 use Rattle.plane_rules.specs.declared.PlaneKey.{PlaneKey}
@@ -19,7 +19,7 @@ use Rattle.wall_columns.specs.declared.fault.DrawFault.{DrawFault}
 use Rattle.wall_columns.specs.declared.fault.DrawFault.TheVariants.{Planes, Openings, ZoneFull, ReadFault}
 use Rattle.wall_columns.specs.Walls.{WallsView}
 use Rattle.wall_columns.specs.Places.{places_of}
-use Rattle.wall_columns.specs.Faults.{limit_of_fault, limit_of_result, IsLimitFault}
+use Rattle.wall_columns.specs.Faults.{limit_of_fault, IsLimitFault}
 use Rattle.visplanes.specs.declared.planes.PlaneNo.{PlaneNo}
 use Rattle.wall_columns.specs.declared.column_state.ColumnState.{ColumnState}
 use Rattle.wall_rules.specs.declared.FragmentNote.{FragmentNote}
@@ -27,7 +27,7 @@ use Rattle.wall_edges.specs.Fragments.{FragmentValue, fragment_of}
 use Rattle.wall_columns.specs.States.{walls_view}
 use Rattle.wall_columns.specs.Columns.{plane_number}
 use Rattle.wall_columns.specs.Leaves.{now_of, ceiling_check, floor_check, planes_over, openings_over, leaf_over, checks_over}
-use Rattle.wall_columns.specs.Built.{limits_of, step_over, step_of_leaf, step_of_wall, with_wall}
+use Rattle.wall_columns.specs.Built.{limits_of, step_over, step_of_leaf, step_of_wall}
 
 -- what holds where a call is done
 pub on_ok : {A E : Type 0} {P Q : Type 0} (r : Result A E) → (P → Q) → OnOk r P → OnOk r Q

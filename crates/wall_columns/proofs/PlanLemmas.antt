@@ -1,13 +1,13 @@
 -- Laws of the plan of a column: its strips are rows of the view, of parts that are there, and have
 -- the dots of the fragment's strips.
-use Rattle.std.proofs.Common.{◌≡◌, ◌≢◌, ◌⊎◌, ℕ, ◌≤◌, ◌==◌, Bool, true, false, not, cond, ℤ, pos, negsuc, ◌≤ℤ◌, ◌<ℤ◌, List, [], ◌∷◌, ◌++◌, refl, ap, sym, ◌∙◌, subst, inl, inr, arith}
+use Rattle.std.proofs.Common.{◌≡◌, ◌≢◌, ℕ, ◌≤◌, ◌==◌, Bool, true, false, not, cond, ℤ, pos, ◌≤ℤ◌, ◌<ℤ◌, List, [], ◌∷◌, ◌++◌, refl, ap, sym, ◌∙◌, subst, inl, inr, arith}
 use Rattle.std.specs.List.{All}
 use Rattle.std.proofs.lemmas.Int.{ints}
 use Rattle.std.proofs.lemmas.Bool.Decides.{nat_tests}
 use Rattle.std.proofs.lemmas.List.{append-nil}
 use Rattle.std.proofs.lemmas.List.Elements.{All-nil, All-cons}
 use Rattle.word_rules.specs.Listed.{joined_lists}
-use Rattle.word_rules.proofs.ListedLemmas.{joined_lists-cons, joined_lists-append}
+use Rattle.word_rules.proofs.ListedLemmas.{joined_lists-append}
 use Rattle.view_rules.specs.View.{ViewValue}
 use Rattle.view_rules.specs.declared.TheConstants.{FRAME_HEIGHT}
 use Rattle.pixel_rules.specs.Dots.{Dot}
@@ -19,7 +19,7 @@ use Rattle.wall_rules.specs.declared.FragmentNumbers.{FragmentNumbers}
 use Rattle.wall_rules.specs.declared.Part.{Part}
 use Rattle.wall_rules.specs.declared.RowRange.{RowRange}
 use Rattle.wall_rules.specs.Parts.{has_texture}
-use Rattle.wall_rules.specs.Clips.{middle_rows, top_rows, bottom_rows, ceiling_rows, floor_rows, clip_after}
+use Rattle.wall_rules.specs.Clips.{middle_rows, top_rows, bottom_rows, ceiling_rows, floor_rows}
 use Rattle.wall_rules.specs.Strips.{WallStrip, strip_of, wall_strips, strip_dots}
 use Rattle.wall_columns.specs.Windows.{IsClipIn}
 use Rattle.wall_columns.specs.declared.clips.ColumnPlan.{ColumnPlan}

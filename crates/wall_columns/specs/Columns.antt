@@ -1,5 +1,5 @@
 -- The columns of a fragment as they are drawn one by one: clips, planes and openings.
-use Rattle.std.specs.Prelude.{◌≡◌, ◌<◌, ◌≤◌, ◌+◌, ◌-◌, ◌&&◌, ℕ, ℤ, nat_le, nat_lt, cond, List, Option, Some, None, option_map, IfSome, length}
+use Rattle.std.specs.Prelude.{◌≡◌, ◌<◌, ◌≤◌, ◌+◌, ◌-◌, ◌&&◌, ℕ, nat_le, nat_lt, cond, Option, option_map, IfSome, length}
 use Rattle.view_rules.specs.View.{ViewValue}
 use Rattle.view_rules.specs.declared.TheConstants.{FRAME_WIDTH}
 use Rattle.wall_rules.specs.declared.ColumnClip.{ColumnClip}
@@ -15,7 +15,7 @@ use Rattle.visplanes.specs.declared.planes.PlaneNo.{PlaneNo}
 use Rattle.wall_edges.specs.Fragments.{FragmentValue, fragment_of}
 use Rattle.wall_columns.specs.declared.notes.SavePlaces.{SavePlaces}
 use Rattle.wall_columns.specs.declared.column_state.ColumnState.{ColumnState}
-use Rattle.wall_columns.specs.Windows.{WindowsView, window_at}
+use Rattle.wall_columns.specs.Windows.{window_at}
 use Rattle.wall_columns.specs.Saved.{OpeningsView, columns_saved}
 
 -- the number of a plane, where there is one

@@ -1,8 +1,8 @@
 -- The planes of a leaf, one at a time: found where it is entered, checked where a fragment marks.
-use Rattle.std.specs.Prelude.{◌≡◌, ℕ, nat_lt, cond, List, [], Option, Some, None, length}
+use Rattle.std.specs.Prelude.{ℕ, nat_lt, cond, List, Option, Some, None, length}
 use Rattle.plane_rules.specs.declared.PlaneKey.{PlaneKey}
 use Rattle.plane_rules.specs.Planes.{Plane, PlaneChoice, find}
-use Rattle.plane_rules.specs.Built.{PlaneWall, PlanesNow, floor_found, ceiling_found, checked_plane, with_ceiling, with_floor}
+use Rattle.plane_rules.specs.Built.{PlanesNow, floor_found, ceiling_found, checked_plane, with_ceiling, with_floor}
 use Rattle.picture_rules.specs.declared.OverLimit.{OverLimit}
 use Rattle.picture_rules.specs.Counts.{planes_count, openings_count}
 use Rattle.visplanes.specs.Planes.{PlanesView}

@@ -62,7 +62,15 @@ impl ColumnState {
             };
             let plan = self.pass_column(tools.planes, numbers, x, &edges);
             paint_plan(tools, fragment, numbers, number, x, &edges, &plan)?;
-            save_column(&mut self.openings, tools.view, fragment, x, k, places, plan.after);
+            save_column(
+                &mut self.openings,
+                tools.view,
+                fragment,
+                x,
+                k,
+                places,
+                plan.after,
+            );
             k += 1;
         }
         Ok(())

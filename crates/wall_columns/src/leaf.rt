@@ -29,10 +29,7 @@ fn keep_within(planes: &Planes)
 ///
 /// Errors: `Planes` exactly where a new plane is wanted and the room is full, with the count.
 #[tactic(auto, using(crate::proofs::PartLemmas::counts), unfolding(crate::specs::Leaves::planes_found, crate::specs::Leaves::number_found))]
-pub fn find_plane(
-    planes: &mut Planes,
-    key: Option<PlaneKey>,
-) -> Result<Option<PlaneNo>, DrawFault>
+pub fn find_plane(planes: &mut Planes, key: Option<PlaneKey>) -> Result<Option<PlaneNo>, DrawFault>
     ensures ok { OnOk result
         (planes.new ≡ with_planes (planes_found planes.old.planes key) planes.old) }
     ensures number { IfOk result (λ plane.

@@ -244,8 +244,17 @@ impl WallState {
         let numbers = fragment.numbers();
         let places = self.columns.begin(tools.planes, &numbers, first, last)?;
         let number = self.notes.len() as u16;
-        self.columns.draw_columns(tools, number, &fragment, &numbers, places)?;
-        let note = note_of(facts.seg_no, &fragment, &numbers, first, last, places, shape.height);
+        self.columns
+            .draw_columns(tools, number, &fragment, &numbers, places)?;
+        let note = note_of(
+            facts.seg_no,
+            &fragment,
+            &numbers,
+            first,
+            last,
+            places,
+            shape.height,
+        );
         self.notes.push_reserved(note);
         Ok(())
     }
@@ -294,8 +303,17 @@ impl WallState {
         let fragment = Fragment::new(view, facts, first, last);
         let numbers = fragment.numbers();
         let places = self.columns.begin(planes, &numbers, first, last)?;
-        self.columns.count_columns(view, planes, &fragment, &numbers, places);
-        let note = note_of(facts.seg_no, &fragment, &numbers, first, last, places, shape.height);
+        self.columns
+            .count_columns(view, planes, &fragment, &numbers, places);
+        let note = note_of(
+            facts.seg_no,
+            &fragment,
+            &numbers,
+            first,
+            last,
+            places,
+            shape.height,
+        );
         self.notes.push_reserved(note);
         Ok(())
     }

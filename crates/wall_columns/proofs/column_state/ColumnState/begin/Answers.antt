@@ -1,10 +1,6 @@
 -- The openings are taken, and then the planes are checked: the first count past its room is told.
-use Rattle.std.proofs.Common.{◌≡◌, ℕ, ◌+◌, ◌-◌, None, Option, length, ap, sym, refl, ◌∙◌}
-use Rattle.plane_rules.specs.Built.{PlanesNow}
-use Rattle.visplanes.specs.declared.planes.PlaneNo.{PlaneNo}
-use Rattle.wall_columns.specs.Columns.{plane_number}
-use Rattle.wall_columns.specs.Faults.{limit_of_fault}
-use Rattle.wall_columns.specs.Leaves.{now_of, openings_over, checks_over}
+use Rattle.std.proofs.Common.{ℕ, ◌+◌, ◌-◌, length, ◌∙◌}
+use Rattle.wall_columns.specs.Leaves.{checks_over}
 use Rattle.wall_columns.specs.Places.{places_of}
 use Rattle.wall_columns.proofs.LeafLemmas.{limit-passed_on}
 use Rattle.wall_columns.proofs.OverLemmas.{openings_over-stop, openings_over-next, same_now}

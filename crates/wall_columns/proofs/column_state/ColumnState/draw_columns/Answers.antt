@@ -116,7 +116,7 @@ loop-edges-preserved g c =
     let view = q.same_view ∙ i.view in
     let M : PlanesView → Type 0 = λ planes. HasMarked f (k + 1) c.args.self.now next before planes in
     let S : ViewValue → Type 0 = λ v. (facts : WallFacts) (first last : ℕ) → f ≡ fragment_of v facts first last →
-        c.save_column.new.openings.saved ≡ column_saved c.args.places k (texture_column v facts x) c.pass_column-plan.result.after passed.openings.saved in
+    c.save_column.new.openings.saved ≡ column_saved c.args.places k (texture_column v facts x) c.pass_column-plan.result.after passed.openings.saved in
     let saved : S start.view.now = subst S (ap (λ r. r.now) view) c.save_column.ensures.saved in
     record {
       at = later;

@@ -1,5 +1,5 @@
 -- The two planes are found one after the other, and the first count past the room is told.
-use Rattle.std.proofs.Common.{◌≡◌, ◌<◌, ◌∙◌, length, ap, sym, refl, arith}
+use Rattle.std.proofs.Common.{◌<◌, ◌∙◌, length, ap, sym, refl, arith}
 use Rattle.visplanes.specs.Planes.{PlanesView, with_planes}
 use Rattle.wall_columns.specs.Columns.{plane_number}
 use Rattle.wall_columns.specs.Faults.{limit_of_fault}

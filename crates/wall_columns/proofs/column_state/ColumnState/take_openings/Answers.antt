@@ -1,13 +1,11 @@
 -- The places end where the openings end, and their count is told where it passes the room.
-use Rattle.std.proofs.Common.{◌≡◌, ◌≤◌, ◌<◌, ◌+◌, ◌-◌, ℕ, Option, Some, None, length, arith, rules, refl, ap, sym, ◌∙◌, false, true}
+use Rattle.std.proofs.Common.{◌≡◌, ◌<◌, ◌+◌, ◌-◌, ℕ, Some, None, length, arith, refl, ap, sym, ◌∙◌}
 use Rattle.picture_rules.specs.Counts.{openings_count}
-use Rattle.picture_rules.specs.declared.OverLimit.{OverLimit}
 use Rattle.wall_columns.specs.declared.notes.SavePlaces.{SavePlaces}
 use Rattle.wall_columns.specs.Faults.{limit_of_fault}
 use Rattle.wall_columns.specs.Places.{places_of}
-use Rattle.wall_columns.specs.Leaves.{openings_over}
 use Rattle.wall_columns.proofs.LeafLemmas.{limit-passed_on, openings_over-passed, openings_over-within}
-use Rattle.wall_columns.proofs.NoteLemmas.{places_of-end, places_of-in, places_of-within}
+use Rattle.wall_columns.proofs.NoteLemmas.{places_of-end, places_of-within}
 use Rattle.wall_columns.proofs.column_state.ColumnState.take_openings.Goals as goal
 
 pub extend-requires : goal.extend-requires

@@ -1,5 +1,5 @@
 -- A fragment is counted: what is built, and what is told.
-use Rattle.std.proofs.Common.{◌≡◌, ◌≤◌, ◌<◌, ◌+◌, ◌++◌, ◌∷◌, [], ℕ, List, length, ap, sym, refl, subst, ◌∙◌, arith}
+use Rattle.std.proofs.Common.{◌≡◌, ◌≤◌, ◌++◌, ◌∷◌, [], List, length, ap, sym, refl, subst, ◌∙◌, arith}
 use Rattle.view_rules.specs.declared.TheConstants.{FRAME_WIDTH}
 use Rattle.view_rules.specs.declared.ViewShape.{ViewShape}
 use Rattle.wall_rules.specs.declared.FragmentNote.{FragmentNote}

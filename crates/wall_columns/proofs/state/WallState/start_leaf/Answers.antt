@@ -1,6 +1,5 @@
 -- A leaf is entered.
-use Rattle.std.proofs.Common.{◌≡◌, List, length, sym, subst, ◌∙◌}
-use Rattle.plane_rules.specs.Planes.{Plane}
+use Rattle.std.proofs.Common.{length, sym, subst, ◌∙◌}
 use Rattle.wall_columns.specs.Built.{IsBuilt}
 use Rattle.wall_columns.specs.States.{walls_view}
 use Rattle.wall_columns.specs.Walls.{WallsView}

@@ -1,5 +1,5 @@
 -- A fragment is drawn: what is built, what is told, and what is painted.
-use Rattle.std.proofs.Common.{◌≡◌, ◌≤◌, ◌<◌, ◌+◌, ◌++◌, ◌∷◌, [], ℕ, List, length, ap, sym, refl, subst, ◌∙◌, arith}
+use Rattle.std.proofs.Common.{◌≡◌, ◌≤◌, ◌++◌, ◌∷◌, [], ℕ, List, length, ap, sym, refl, subst, ◌∙◌, arith}
 use Rattle.lump_rules.specs.Contents.{lump_bytes}
 use Rattle.view_rules.specs.declared.TheConstants.{FRAME_WIDTH}
 use Rattle.view_rules.specs.declared.ViewShape.{ViewShape}
