@@ -58,9 +58,6 @@ none_clipped : (shape : ViewShape) (x : ℕ) → open_clip shape.height ≡ clip
 unfolding clip_before
 none_clipped shape x = refl
 
-no_number : plane_number None ≡ None
-no_number = refl
-
 -- a view is started
 pub built-start : (v : ViewValue) (notes : List FragmentNote) (state : ColumnState) (height : ℕ) → notes ≡ [] → state.openings.saved ≡ [] →
     ((x : ℕ) → x < FRAME_WIDTH → window_at state.windows x ≡ open_clip height) → state.windows.height ≡ height → state.floor ≡ None → state.ceiling ≡ None →
@@ -121,10 +118,6 @@ columns_test first last x o = grind (arith, nat_tests)
 own_column : (first last x : ℕ) → first ≤ x → x ≤ last → (nat_le first x && nat_le x last) ≡ true
 own_column first last x l h = grind (arith, nat_tests)
 
-has_own : (w : Wall) (x : ℕ) → w.first ≤ x → x ≤ w.last → has_column w x ≡ true
-unfolding has_column
-has_own w x l h = own_column w.first w.last x l h
-
 -- the clip past a new fragment
 past_new : (shape : ViewShape) (walls : List Wall) (w : Wall) (x : ℕ) → clip_past shape (with_wall walls w) (length walls) x ≡ past_wall shape x w (clip_before shape walls (length walls) x)
 past_new shape walls w x = clip_past-next shape walls w (length walls) x refl
@@ -134,14 +127,6 @@ unfolding clip_past
 before_more shape walls w x =
     let n : suc (length walls) ≡ length (with_wall walls w) = (let e = length-append walls (w ∷ []) in omega arith) in
     ap (λ (k : ℕ). clip_before shape (with_wall walls w) k x) n
-
--- a fragment's own facts, as a wall and as a fragment
-abbrev wall : ViewValue → WallFacts → ℕ → ℕ → Wall
-wall v facts first last = wall_of v facts first last
-
-edges_same : (v : ViewValue) (facts : WallFacts) (first last x : ℕ) → column_edges (fragment_of v facts first last) x ≡ wall_edges v.shape (wall_of v facts first last) x
-unfolding column_edges wall_edges wall_of
-edges_same v facts first last x = refl
 
 along_is : (v : ViewValue) (facts : WallFacts) (first last x height : ℕ) (before : ℕ → ColumnClip) (clip : ColumnClip) → first ≤ last → height ≡ v.shape.height → before x ≡ clip →
     clip_along height (fragment_of v facts first last) before (last + 1 - first) x ≡ past_wall v.shape x (wall_of v facts first last) clip

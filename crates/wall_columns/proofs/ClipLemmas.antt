@@ -42,10 +42,6 @@ shifted_high : (z : ℤ) → FitsSigned w32 z → int_shr z 12 ≤ℤ pos 524287
 shifted_high (pos n) f = let h = f.sfits in omega (arith, ints)
 shifted_high (negsuc n) f = omega (arith, ints)
 
-row_from-low : (edge : ℤ) → negsuc 524287 ≤ℤ row_from edge
-unfolding row_from shr_word plus
-row_from-low edge = shifted_low (int_wrap w32 (edge +ℤ MAX_EDGE_FRACTION)) (SFits-int_wrap w32 (edge +ℤ MAX_EDGE_FRACTION))
-
 row_from-high : (edge : ℤ) → row_from edge ≤ℤ pos 524287
 unfolding row_from shr_word plus
 row_from-high edge = shifted_high (int_wrap w32 (edge +ℤ MAX_EDGE_FRACTION)) (SFits-int_wrap w32 (edge +ℤ MAX_EDGE_FRACTION))
@@ -53,10 +49,6 @@ row_from-high edge = shifted_high (int_wrap w32 (edge +ℤ MAX_EDGE_FRACTION)) (
 row_to-low : (edge : ℤ) → FitsSigned w32 edge → negsuc 524287 ≤ℤ row_to edge
 unfolding row_to shr_word
 row_to-low edge f = shifted_low edge f
-
-row_to-high : (edge : ℤ) → FitsSigned w32 edge → row_to edge ≤ℤ pos 524287
-unfolding row_to shr_word
-row_to-high edge f = shifted_high edge f
 
 greater-first : (a b : ℤ) → a ≤ℤ greater_word a b
 unfolding greater_word

@@ -206,11 +206,3 @@ pub longer_found : (planes : List Plane) (o : Option PlaneKey) → length planes
 unfolding planes_found
 longer_found planes None = omega arith
 longer_found planes (Some key) = longer_find planes key
-
-cache_limit : (below : CacheFault) → limit_of_fault (from_cache_fault below) ≡ None
-cache_limit (cache.ZoneFull wanted widest) = refl
-cache_limit cache.ReadFault = refl
-
--- a fault of the cache tells no limit
-pub limit-cache : {A : Type 0} (r : Result A DrawFault) (below : CacheFault) → IsErr r → IsErrAnd r (λ e. e ≡ from_cache_fault below) → limit_of_result r ≡ None
-limit-cache r below h g = limit-passed_on r (from_cache_fault below) h g ∙ cache_limit below

@@ -46,8 +46,10 @@ marks_along f before = record {
   last = f.last;
   ceiling_mark = f.numbers.ceiling_mark;
   floor_mark = f.numbers.floor_mark;
-  ceiling_rows = λ x. marked_rows f.numbers.ceiling_mark (ceiling_rows (before x) (column_edges f x));
-  floor_rows = λ x. marked_rows f.numbers.floor_mark (floor_rows (before x) (column_edges f x));
+  ceiling_rows = λ x. marked_rows f.numbers.ceiling_mark
+      (ceiling_rows (before x) (column_edges f x));
+  floor_rows = λ x. marked_rows f.numbers.floor_mark
+      (floor_rows (before x) (column_edges f x));
 }
 
 -- k columns are drawn: what is open of each column, and the planes that are marked

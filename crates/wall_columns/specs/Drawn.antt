@@ -72,8 +72,9 @@ pub record PaintsColumns (v : ViewValue) (dir : DirectoryView) (textures : Textu
   pub fits : (facts : WallFacts) (first last : ℕ) (contents : List (List ℕ)) (count : ℕ) →
       f ≡ fragment_of v facts first last →
       HoldsArt view dir textures contents colormap count old →
-      OnOk result (FitBeside dir.lumps textures colormap count old.size (dots_along (column_painted v
-      (view_art (lump_bytes contents dir.lumps) textures colormap) k f facts before) f.first n))
+      OnOk result (FitBeside dir.lumps textures colormap count old.size
+      (dots_along (column_painted v (view_art (lump_bytes contents dir.lumps) textures colormap)
+      k f facts before) f.first n))
   pub draws : DrawsWith draw_fault (IsDrawnTexture f.numbers) IsNoPicture view after dir textures
       old new result
   pub place : PlacedAlike canvas next

@@ -9,7 +9,8 @@ use Rattle.visplanes.specs.Planes.{PlanesView}
 -- one of the textures of a fragment's facts, number 0 is none
 abbrev pub IsWallTexture : WallFacts → ℕ → Type 0
 IsWallTexture facts number =
-    (number ≢ 0) × ((number ≡ facts.top.number) ⊎ ((number ≡ facts.bottom.number) ⊎ (number ≡ facts.middle.number)))
+    (number ≢ 0) × ((number ≡ facts.top.number)
+    ⊎ ((number ≡ facts.bottom.number) ⊎ (number ≡ facts.middle.number)))
 
 -- no lump is painted by itself
 abbrev pub IsNoPicture : ℕ → Type 0

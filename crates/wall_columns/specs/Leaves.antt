@@ -38,10 +38,12 @@ now_of state planes = record {
 
 -- a fragment's checks, the ceiling's and then the floor's
 unfoldable pub ceiling_check : FragmentNumbers → ℕ → ℕ → PlanesNow → PlanesNow
-ceiling_check n first last s = with_ceiling (checked_plane n.ceiling_mark s.planes s.ceiling first last) s
+ceiling_check n first last s =
+    with_ceiling (checked_plane n.ceiling_mark s.planes s.ceiling first last) s
 
 unfoldable pub floor_check : FragmentNumbers → ℕ → ℕ → PlanesNow → PlanesNow
-floor_check n first last s = with_floor (checked_plane n.floor_mark s.planes s.floor first last) s
+floor_check n first last s =
+    with_floor (checked_plane n.floor_mark s.planes s.floor first last) s
 
 -- a count of planes, or else of openings, that passes its room
 unfoldable pub planes_over : ℕ → ℕ → Option OverLimit → Option OverLimit
@@ -59,4 +61,5 @@ leaf_over room s floor ceiling =
 unfoldable pub checks_over : ℕ → FragmentNumbers → ℕ → ℕ → PlanesNow → Option OverLimit
 checks_over room n first last s =
     planes_over room (length (ceiling_check n first last s).planes)
-    (planes_over room (length (floor_check n first last (ceiling_check n first last s)).planes) None)
+    (planes_over room (length (floor_check n first last (ceiling_check n first last s)).planes)
+    None)

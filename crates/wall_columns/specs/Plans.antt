@@ -24,7 +24,8 @@ plan_of height n clip e = record {
   ceiling = ceiling_rows clip e;
   floor = floor_rows clip e;
   middle = rows_if (has_texture n.middle_part) (middle_rows clip e);
-  top = cond (has_texture n.middle_part) no_rows (rows_if (has_texture n.top_part) (top_rows clip e));
+  top = cond (has_texture n.middle_part) no_rows
+      (rows_if (has_texture n.top_part) (top_rows clip e));
   bottom = cond (has_texture n.middle_part) no_rows
       (rows_if (has_texture n.bottom_part) (bottom_rows n clip e));
   after = clip_after height n clip e;
@@ -66,7 +67,8 @@ IsPlanTexture n plan number =
 
 -- a texture of one of the parts
 abbrev pub IsPartTexture : FragmentNumbers → ℕ → Type 0
-IsPartTexture n number = (number ≡ n.middle_part.number) ⊎ ((number ≡ n.top_part.number) ⊎ (number ≡ n.bottom_part.number))
+IsPartTexture n number = (number ≡ n.middle_part.number)
+    ⊎ ((number ≡ n.top_part.number) ⊎ (number ≡ n.bottom_part.number))
 
 -- the four edges are words
 pub record AreEdgeWords (e : Edges) : Type 0 where

@@ -35,9 +35,9 @@ use walk_rules::MAX_DRAWSEGS;
 use wall_edges::Fragment;
 use wall_rules::{FragmentNote, WallFacts};
 
-/// The walls of a view as far as they are drawn: the notes of the drawn fragments, the openings that
-/// they saved, the clips of each column, and the planes of the leaf that is entered. Contracts see
-/// `WallsView`.
+/// The walls of a view as far as they are drawn: the notes of the drawn fragments, the openings
+/// that they saved, the clips of each column, and the planes of the leaf that is entered. Contracts
+/// see `WallsView`.
 ///
 /// The original: `drawsegs`, `openings`, `ceilingclip`, `floorclip`, `floorplane` and
 /// `ceilingplane`, r_bsp.c and r_plane.c.
@@ -62,7 +62,8 @@ impl Model for WallState {
 }
 
 impl WallState {
-    /// No fragment, and room for `room` openings, at most 245760. Takes all the memory of the walls.
+    /// No fragment, and room for `room` openings, at most 245760. Takes all the memory of the
+    /// walls.
     ///
     /// Errors: `AllocError`, out of memory.
     ///
@@ -132,7 +133,8 @@ impl WallState {
     pub fn start_leaf(&mut self, planes: &mut Planes, leaf: LeafPlanes) -> Result<(), DrawFault>
         ensures built { (v : ViewValue) (walls : List Wall) (s : PlanesNow) →
             IsBuilt v walls s self.old planes.old.planes →
-            OnOk result (IsBuilt v walls (after_event s (step_of_leaf leaf.floor leaf.ceiling).event)
+            OnOk result (IsBuilt v walls
+            (after_event s (step_of_leaf leaf.floor leaf.ceiling).event)
             self.new planes.new.planes) }
         ensures limit { (v : ViewValue) (walls : List Wall) (s : PlanesNow) →
             IsBuilt v walls s self.old planes.old.planes →
@@ -223,8 +225,8 @@ impl WallState {
             tools.old.colormap.0 count tools.old.cache.now.size
             (wall_dots tools.old.view.now art (with_wall walls w) (length walls) w)) }
         ensures paints { DrawsWith draw_fault (IsWallTexture facts.now) IsNoPicture
-            (S.view tools.old.shelf.now) (S.view tools.new.shelf.now) tools.old.dir.now tools.old.textures.now
-            tools.old.cache.now tools.new.cache.now result }
+            (S.view tools.old.shelf.now) (S.view tools.new.shelf.now) tools.old.dir.now
+            tools.old.textures.now tools.old.cache.now tools.new.cache.now result }
         ensures past { length self.old.notes ≡ MAX_DRAWSEGS → result ≡ Ok tt }
         ensures past_state { length self.old.notes ≡ MAX_DRAWSEGS → self.new ≡ self.old }
         ensures past_tools { length self.old.notes ≡ MAX_DRAWSEGS →
