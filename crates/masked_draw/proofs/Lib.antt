@@ -6,3 +6,10 @@ pub mod DownLemmas
 pub mod StepLemmas
 pub mod SceneLemmas
 pub mod EntryLemmas
+pub mod PostLemmas
+pub mod LoopLemmas
+pub mod SpriteLemmas
+pub mod MiddleLemmas
+pub mod LiveLemmas
+pub mod PassLemmas
+pub mod PictureLemmas

@@ -1,19 +1,19 @@
 -- Laws of the marks of masked columns, and of the columns that are not marked.
-use Rattle.std.proofs.Common.{◌≡◌, ℕ, zero, suc, ◌+◌, ◌-◌, ◌<◌, ◌≤◌, Bool, true, false, cond, List, [], ◌∷◌, ◌++◌, Option, Some, None, length, map, get_or, refl, ap, sym, ◌∙◌, arith, inl, inr, subst, ◌≢◌}
-use Rattle.std.specs.Prelude.{◌&&◌, ◌||◌, not, nat_lt, nat_le, slice_get, IfSome, ◌⊎◌}
+use Rattle.std.proofs.Common.{◌≡◌, ℕ, zero, suc, ◌+◌, ◌-◌, ◌<◌, ◌≤◌, Bool, true, false, cond, List, [], ◌∷◌, ◌++◌, Option, Some, None, map, refl, ap, sym, ◌∙◌, arith, inl, inr, subst, ◌≢◌}
+use Rattle.std.specs.Prelude.{◌&&◌, ◌||◌, not, nat_lt, nat_le, ◌⊎◌}
 use Rattle.std.specs.List.{range_with_len, filter}
 use Rattle.std.proofs.lemmas.Bool.{cases_lt}
 use Rattle.std.proofs.lemmas.Bool.Decides.{nat_tests}
 use Rattle.std.proofs.lemmas.List.{append-nil}
 use Rattle.word_rules.specs.Listed.{listed_from, joined_lists}
-use Rattle.word_rules.proofs.ListedLemmas.{joined_lists-append, joined_lists-cons}
+use Rattle.word_rules.proofs.ListedLemmas.{joined_lists-append}
 use Rattle.view_rules.specs.View.{ViewValue}
 use Rattle.pixel_rules.specs.Dots.{Dot}
 use Rattle.pixel_rules.specs.Art.{Art}
 use Rattle.wall_rules.specs.declared.FragmentNote.{FragmentNote}
 use Rattle.sprite_rules.specs.Drawsegs.{Drawseg}
 use Rattle.sprite_rules.specs.Middles.{middle_column}
-use Rattle.masked_draw.specs.Marks.{mark_in, mark_of, unmarked_by, unmarked_dots, is_between, IsOutside, AreOwnMarked, MarksBy}
+use Rattle.masked_draw.specs.Marks.{mark_in, mark_of, unmarked_by, unmarked_dots, IsOutside, AreOwnMarked, MarksBy}
 
 -- filters over a range
 pub range_agree : (p q : ℕ → Bool) (a n : ℕ) → ((x : ℕ) → a ≤ x → x < a + n → p x ≡ q x) → filter p (map (λ x. x) (range_with_len a n)) ≡ filter q (map (λ x. x) (range_with_len a n))

@@ -1,13 +1,11 @@
 -- Laws of a fragment that a sprite, or the end of the pass, comes to: the unmarked columns are those of the moment, and what is marked after it.
-use Rattle.std.proofs.Common.{◌≡◌, ℕ, zero, suc, ◌+◌, ◌-◌, ◌<◌, ◌≤◌, ◌≢◌, Bool, true, false, cond, List, [], ◌∷◌, ◌++◌, Option, Some, None, length, map, refl, ap, sym, ◌∙◌, arith, inl, inr, subst, is_some}
-use Rattle.std.specs.Prelude.{◌&&◌, ◌||◌, not, nat_lt, nat_le, slice_get, IfSome, ◌⊎◌}
-use Rattle.std.specs.List.{range_with_len, filter}
+use Rattle.std.proofs.Common.{◌≡◌, ℕ, ◌+◌, ◌-◌, ◌<◌, ◌≤◌, ◌≢◌, Bool, true, false, cond, List, Option, Some, None, length, refl, ap, sym, ◌∙◌, arith, inl, inr, subst, is_some}
+use Rattle.std.specs.Prelude.{◌&&◌, ◌||◌, not, nat_lt, slice_get, IfSome, ◌⊎◌}
+use Rattle.std.specs.List.{filter}
 use Rattle.std.proofs.lemmas.Bool.{cases_lt}
 use Rattle.std.proofs.lemmas.Bool.Decides.{nat_tests}
 use Rattle.word_rules.specs.Listed.{listed_from, joined_lists}
 use Rattle.view_rules.specs.View.{ViewValue}
-use Rattle.view_rules.specs.declared.ViewShape.{ViewShape}
-use Rattle.pixel_rules.specs.Dots.{Dot}
 use Rattle.pixel_rules.specs.Art.{Art}
 use Rattle.wall_rules.specs.declared.FragmentNote.{FragmentNote}
 use Rattle.sprite_rules.specs.declared.SpriteEntry.{SpriteEntry}
@@ -15,9 +13,9 @@ use Rattle.sprite_rules.specs.Drawsegs.{Drawseg}
 use Rattle.sprite_rules.specs.Clips.{sprite_in_front}
 use Rattle.sprite_rules.specs.Middles.{middle_column, columns_at, middles_of, same_number}
 use Rattle.picture_rules.specs.Noted.{ListsApart}
-use Rattle.masked_draw.specs.Marks.{mark_in, mark_of, unmarked_by, unmarked_dots, is_between, is_passed, is_before, IsOutside, AreOwnMarked, MarksBy, AreBefore, MarkedTo}
+use Rattle.masked_draw.specs.Marks.{mark_of, unmarked_by, unmarked_dots, is_between, is_passed, is_before, IsOutside, MarksBy, AreBefore, MarkedTo}
 use Rattle.masked_draw.proofs.MomentLemmas.{front-now, front-more, front-left}
-use Rattle.masked_draw.proofs.MarkLemmas.{range_agree, range_none, own_at, outside_not}
+use Rattle.masked_draw.proofs.MarkLemmas.{range_agree, range_none, own_at}
 
 -- a drawn fragment has the columns of its note
 pub record HasColumnsOf (d : FragmentNote) (drawseg : Drawseg) : Type 0 where
@@ -92,7 +90,7 @@ left-middles v art seg notes es n turn marks k d a h l g t =
     let b : AreBefore seg es marks d (length es) d.masked = subst P t (note_at seg notes es n turn marks k d h l g) in
     dots_of_moment v art marks es None k d (seg d) (is_between d.first d.last) a
     (λ place x s p q. and_yes (not (mark_of marks d place x)) (is_between d.first d.last x) (between_all d.first d.last x p q)
-      ∙ ap not (before_at seg es marks d (length es) place d.masked s b x p q) ∙ sym (front-left es (seg d) x))
+    ∙ ap not (before_at seg es marks d (length es) place d.masked s b x p q) ∙ sym (front-left es (seg d) x))
 
 -- places of different notes are apart
 outside_low : (d e : FragmentNote) (other x : ℕ) (masked : Option ℕ) → d.first ≤ x → x ≤ d.last → (place : ℕ) → ListsApart d (Some place) masked → IsOutside e masked (place + (x - d.first))
@@ -215,6 +213,9 @@ marked-turn seg notes es n turn other marks e h = record {
 
 pub turns-start : (i n k : ℕ) → k < n → i ≡ turn_at i n k
 turns-start i n k l = sym (turn_low i n k l)
+
+pub turn-here : (i m : ℕ) → turn_at i (m + 1) m ≡ i
+turn-here i m = turn_low i (m + 1) m (omega arith)
 
 pub turns-end : (i k : ℕ) → turn_at i 0 k ≡ i + 1
 turns-end i k = turn_high i 0 k (omega arith)

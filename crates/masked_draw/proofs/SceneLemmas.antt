@@ -1,6 +1,6 @@
 -- Laws of the notes of a scene as drawn fragments, and of what the calls ask of them.
-use Rattle.std.proofs.Common.{◌≡◌, ℕ, ◌+◌, ◌<◌, ◌≤◌, ℤ, pos, ◌≤ℤ◌, ◌≢◌, Bool, true, false, List, Option, Some, None, length, map, get_or, refl, sym, ap, ◌∙◌, subst, arith}
-use Rattle.std.specs.Prelude.{◌&&◌, ◌==◌, not, nat_le, int_lt, bit_and, IfSome, IsSome, option_map, slice_get, All, Contains, Result, slice_index_or}
+use Rattle.std.proofs.Common.{◌≡◌, ℕ, ◌≤◌, ℤ, pos, ◌≤ℤ◌, ◌≢◌, Bool, true, List, Option, Some, length, get_or, refl, ap, ◌∙◌, subst, arith}
+use Rattle.std.specs.Prelude.{◌&&◌, ◌==◌, not, nat_le, int_lt, IfSome, option_map, slice_get, All, Result}
 use Rattle.std.proofs.lemmas.Bool.{and_parts, leb-true}
 use Rattle.std.proofs.lemmas.Bool.Decides.{nat_tests}
 use Rattle.std.proofs.lemmas.Option.{gets}
@@ -16,17 +16,15 @@ use Rattle.pixel_rules.specs.declared.Painter.{Painter}
 use Rattle.pixel_rules.specs.Dots.{Dot}
 use Rattle.pixel_rules.specs.Art.{Art}
 use Rattle.wall_rules.specs.declared.FragmentNote.{FragmentNote}
-use Rattle.wall_rules.specs.Notes.{clip_row_at}
 use Rattle.sprite_rules.specs.declared.SpriteEntry.{SpriteEntry}
 use Rattle.sprite_rules.specs.Drawsegs.{Drawseg, drawseg_has, is_behind}
 use Rattle.sprite_rules.specs.Clips.{gives_bottom, gives_top}
-use Rattle.picture_rules.specs.Noted.{AreNoted, IsWholeNote, IsClip, least_clip, greatest_clip}
-use Rattle.texture_build.specs.Draws.{CanDraw}
+use Rattle.picture_rules.specs.Noted.{AreNoted, IsWholeNote, least_clip, greatest_clip}
 use Rattle.texture_build.specs.Views.{TexturesView}
 use Rattle.masked_draw.specs.declared.scene.MaskScene.{MaskScene}
-use Rattle.masked_draw.specs.Lists.{MaskedLists, noted_drawseg, noted_drawsegs, middle_by}
-use Rattle.masked_draw.specs.Ready.{IsListed, IsMiddleNumber, IsNotedMiddle, CanDrawMiddle}
-use Rattle.masked_draw.specs.Scenes.{MaskState, CanPaint, CanPass, PaintsDots, scene_drawseg, scene_drawsegs, scene_lists}
+use Rattle.masked_draw.specs.Lists.{MaskedLists, noted_drawseg, noted_drawsegs}
+use Rattle.masked_draw.specs.Ready.{IsListed, IsMiddleNumber, IsNotedMiddle}
+use Rattle.masked_draw.specs.Scenes.{MaskState, CanPass, PaintsDots, scene_drawseg, scene_drawsegs, scene_lists}
 use Rattle.masked_draw.proofs.EntryLemmas.{IsSegOf}
 use Rattle.masked_draw.proofs.PassedLemmas.{HasColumnsOf, ApartNotes}
 use Rattle.masked_draw.proofs.StepLemmas.{can_paint-later}

@@ -1,20 +1,15 @@
 -- Laws of what a call of the masked pass paints: nothing, one after the other, an error, and the same dots by other words.
-use Rattle.std.proofs.Common.{◌≡◌, ℕ, ◌≤◌, ◌<◌, List, ◌++◌, [], Result, Ok, Err, IsErrAnd, OnOk, refl, sym, ap, ◌∙◌, subst, arith}
-use Rattle.std.proofs.lemmas.Result.{err_from_is_err_and}
-use Rattle.outside.specs.Shelf.{ShelfView}
-use Rattle.lump_rules.specs.Contents.{lump_bytes}
-use Rattle.zone_rules.specs.Zones.{Heap}
+use Rattle.std.proofs.Common.{◌≡◌, ℕ, List, ◌++◌, [], Result, Ok, Err, IsErrAnd, OnOk, subst}
 use Rattle.lump_cache.specs.declared.fault.CacheFault.{CacheFault}
-use Rattle.lump_cache.specs.Caches.{cache_fault, KeepsCounts}
+use Rattle.lump_cache.specs.Caches.{KeepsCounts}
 use Rattle.pixel_rules.specs.declared.Painter.{Painter}
 use Rattle.pixel_rules.specs.Dots.{Dot}
 use Rattle.pixel_rules.specs.Art.{Art}
-use Rattle.pixel_strips.specs.Canvases.{CanvasView}
-use Rattle.pixel_strips.specs.Dotted.{HasDots, PlacedAlike}
-use Rattle.pixel_strips.proofs.DottedLemmas.{has_dots-none, has_dots-append, has_dots-as, placed-none, placed-then}
-use Rattle.texture_build.specs.Draws.{HoldsArt, FitBeside, DrawsWith}
-use Rattle.texture_build.proofs.DrawLemmas.{holds_art-later, draws-none, draws-then, draws-stop, draws-wider}
-use Rattle.texture_build.proofs.BesideLemmas.{fit_beside-none, fit_beside-append, fit_beside-as}
+use Rattle.pixel_strips.specs.Dotted.{HasDots}
+use Rattle.pixel_strips.proofs.DottedLemmas.{has_dots-none, has_dots-append, placed-none, placed-then}
+use Rattle.texture_build.specs.Draws.{FitBeside}
+use Rattle.texture_build.proofs.DrawLemmas.{holds_art-later, draws-none, draws-then, draws-stop, draws-value, draws-wider}
+use Rattle.texture_build.proofs.BesideLemmas.{fit_beside-append}
 use Rattle.masked_draw.specs.declared.scene.MaskScene.{MaskScene}
 use Rattle.masked_draw.specs.Scenes.{MaskState, CanPaint, PaintsDots, scene_art}
 
@@ -22,7 +17,7 @@ pub on_ok_then : {A E : Type 0} (P Q : Type 0) (result : Result A E) → (P → 
 on_ok_then P Q (Ok x) f h = f h
 on_ok_then P Q (Err e) f h = tt
 
-on_ok_err : {A E : Type 0} (P : Type 0) (fault : E) (whole : Result A E) → IsErrAnd whole (λ e. e ≡ fault) → OnOk whole P
+pub on_ok_err : {A E : Type 0} (P : Type 0) (fault : E) (whole : Result A E) → IsErrAnd whole (λ e. e ≡ fault) → OnOk whole P
 on_ok_err P fault (Ok x) is = absurd is
 on_ok_err P fault (Err e) is = tt
 
@@ -51,7 +46,7 @@ module _ {mark : Painter → ℕ → ℕ} {s : MaskScene} {among pictures : ℕ 
         on_ok_then (FitBeside s.dir.now.lumps s.textures.now s.colormap.0 count b.cache.size (g (scene_art contents s)))
         (FitBeside s.dir.now.lumps s.textures.now s.colormap.0 count a.cache.size (f (scene_art contents s) ++ g (scene_art contents s))) result
         (λ h. fit_beside-append s.dir.now.lumps s.textures.now s.colormap.0 count a.cache.size (f (scene_art contents s)) (g (scene_art contents s)) (one.fits contents count held)
-          (subst (λ (n : ℕ). FitBeside s.dir.now.lumps s.textures.now s.colormap.0 count n (g (scene_art contents s))) one.draws.keeps.counts.0 h))
+        (subst (λ (n : ℕ). FitBeside s.dir.now.lumps s.textures.now s.colormap.0 count n (g (scene_art contents s))) one.draws.keeps.counts.0 h))
         (two.fits contents count later);
     draws = draws-then one.draws two.draws;
     place = placed-then one.place two.place;
@@ -92,6 +87,11 @@ module _ {mark : Painter → ℕ → ℕ} {s : MaskScene} {among pictures : ℕ 
     place = one.place;
   }
 
+  -- an answer that was Ok is Ok with another value
+  pub paints-value : {A B : Type 0} {f : Art → List Dot} {a b : MaskState} {first : B} {answer : A} →
+      PaintsDots mark s among pictures f a b (Ok first) → PaintsDots mark s among pictures f a b (Ok answer)
+  paints-value {first = first} {answer} one = record { painted = one.painted; fits = one.fits; draws = draws-value first answer one.draws; place = one.place }
+
   -- the same answer by other words
   pub paints-as : {A : Type 0} {f : Art → List Dot} {a b : MaskState} {part whole : Result A CacheFault} → part ≡ whole →
       PaintsDots mark s among pictures f a b part → PaintsDots mark s among pictures f a b whole
@@ -112,7 +112,7 @@ can_paint-later {s = s} {a = a} {b} one can =
     let top = one.place.top in
     record {
       slots = rw counts.1 can.slots;
-      colormap = rw counts.1 can.colormap;
+      colormap = can.colormap;
       left = rw left can.left;
       top = rw top can.top;
     }

@@ -1,14 +1,19 @@
 -- How far a sprite is seen by the clips that were taken, and what is painted of it and of a masked column.
-use Rattle.std.specs.Prelude.{◌≡◌, ◌<◌, ◌+◌, ◌-◌, ◌≤ℤ◌, ◌==◌, ◌&&◌, ℕ, ℤ, pos, bit_and, int_lt, not, Bool, cond, List, length, ⊤, Option, Some, None, unwrap_or, slice_index_or}
+use Rattle.std.specs.Prelude.{◌≡◌, ◌<◌, ◌+◌, ◌-◌, ◌≤ℤ◌, ◌==◌, ◌&&◌, ℕ, ℤ, pos, bit_and, int_lt, not, Bool, cond, List, length, map, ⊤, Option, Some, None, unwrap_or, slice_index_or}
 use Rattle.word_rules.specs.Words.{minus_one}
 use Rattle.word_rules.specs.Listed.{joined_lists}
+use Rattle.std.specs.List.{range_with_len}
 use Rattle.view_rules.specs.View.{ViewValue}
+use Rattle.view_rules.specs.declared.ViewShape.{ViewShape}
 use Rattle.pixel_rules.specs.Dots.{Dot}
 use Rattle.pixel_rules.specs.declared.TheConstants.{SPRITE}
 use Rattle.pixel_rules.specs.declared.MaskedColumn.{MaskedColumn}
+use Rattle.pixel_rules.specs.declared.Painter.{Painter}
 use Rattle.pixel_rules.specs.Art.{Art, lump_source, painter_of}
-use Rattle.pixel_rules.specs.Strips.{rows_between}
+use Rattle.pixel_rules.specs.Strips.{rows_between, shade}
 use Rattle.pixel_rules.specs.Posts.{posts_dots}
+use Rattle.art_rules.specs.Bytes.{byte_at}
+use Rattle.texture_build.specs.Arts.{own_posts}
 use Rattle.wall_rules.specs.declared.TheConstants.{SIL_BOTTOM, SIL_TOP}
 use Rattle.wall_rules.specs.declared.Clip.{Clip}
 use Rattle.wall_rules.specs.declared.Clip.TheVariants.{Absent, Constant, Saved}
@@ -89,6 +94,17 @@ clipped_column v art clips e x =
 
 unfoldable pub clipped_dots : ViewValue → Art → SpriteClips → SpriteEntry → List Dot
 clipped_dots v art clips e = joined_lists (clipped_column v art clips e) (rows_between e.first e.last)
+
+-- a column by the bytes of its picture and of the colormap
+unfoldable pub read_column : ViewShape → Painter → List ℕ → List ℕ → SpriteClips → SpriteEntry → ℕ → List Dot
+read_column shape painter bytes colormap clips e x =
+    posts_dots shape painter x (clipped_masked shape.height clips e x) (byte_at bytes)
+    (shade colormap e.map) (own_posts bytes (picture_column e.flip e.width e.a1 e.iscale x))
+
+-- the columns from first on, those before end
+unfoldable pub read_columns : ViewShape → Painter → List ℕ → List ℕ → SpriteClips → SpriteEntry → ℕ → ℕ → List Dot
+read_columns shape painter bytes colormap clips e first end =
+    joined_lists (read_column shape painter bytes colormap clips e) (map (λ x. x) (range_with_len first (end - first)))
 
 -- what the masked columns of fragment `number` have in common
 pub record IsMiddleOf (s : MaskScene) (d : FragmentNote) (number : ℕ) (middle : Middle) : Type 0 where

@@ -2,7 +2,6 @@
 use Rattle.std.specs.Prelude.{◌≡◌, ◌<◌, ◌≤◌, ℕ, List, Contains, length, IfSome, IsSome}
 use Rattle.lump_rules.specs.declared.wad.Lump.{Lump}
 use Rattle.zone_rules.specs.Zones.{Heap}
-use Rattle.level_rules.specs.declared.Seg.{Seg}
 use Rattle.wall_rules.specs.declared.FragmentNote.{FragmentNote}
 use Rattle.art_rules.specs.Textures.{mask_of}
 use Rattle.art_rules.specs.Lookups.{single_place}

@@ -1,5 +1,5 @@
 -- What stays while the masked pass runs, what a call of it paints, and what each of its calls asks.
-use Rattle.std.specs.Prelude.{◌≡◌, ◌≤◌, ◌<◌, ◌+◌, ℕ, ℤ, Bool, List, All, length, OnOk, Result}
+use Rattle.std.specs.Prelude.{◌≤◌, ◌<◌, ◌+◌, ℕ, Bool, List, All, length, OnOk, Result}
 use Rattle.view_rules.specs.declared.TheConstants.{FRAME_WIDTH, FRAME_HEIGHT}
 use Rattle.outside.specs.Shelf.{ShelfView}
 use Rattle.lump_rules.specs.Contents.{lump_bytes}
@@ -47,7 +47,7 @@ state shelf cache canvas = record { shelf = shelf; cache = cache; canvas = canva
 -- what each call asks
 pub record CanPaint (s : MaskScene) (st : MaskState) : Type 0 where
   pub slots : length s.dir.now.lumps ≤ st.cache.lumps
-  pub colormap : s.colormap.0 < st.cache.lumps
+  pub colormap : s.colormap.0 < length s.dir.now.lumps
   pub left : st.canvas.left + s.view.now.shape.width ≤ FRAME_WIDTH
   pub top : st.canvas.top + s.view.now.shape.height ≤ FRAME_HEIGHT
 

@@ -26,7 +26,7 @@ ghost use Rattle.masked_draw.specs.Scenes.{CanPaint, CanPass, PaintsDots, scene_
 use crate::clips::{SpriteClips, is_behind};
 use crate::middles::paint_middle;
 use crate::scene::{MaskHands, MaskScene};
-use crate::sprites::paint_sprite;
+use crate::sprites::{column_of, paint_sprite};
 use crate::tools::MaskedTools;
 use lump_cache::CacheFault;
 use outside::Shelf;
@@ -62,7 +62,7 @@ pub fn draw_masked<S: Shelf, C: Canvas>(
     requires columns { AllPass (lies_within tools.old.view.now.shape.width) sprites.now }
     requires lumps { AllPass (has_lump_below (length tools.old.dir.now.lumps)) sprites.now }
     requires slots { length tools.old.dir.now.lumps ≤ tools.old.cache.now.lumps }
-    requires colormap { tools.old.colormap.0 < tools.old.cache.now.lumps }
+    requires colormap { tools.old.colormap.0 < length tools.old.dir.now.lumps }
     requires left { (C.view tools.old.canvas.now).left + tools.old.view.now.shape.width
         ≤ FRAME_WIDTH }
     requires top { (C.view tools.old.canvas.now).top + tools.old.view.now.shape.height
@@ -104,30 +104,7 @@ pub fn draw_masked<S: Shelf, C: Canvas>(
     ensures place { PlacedAlike (C.view tools.old.canvas.now) (C.view tools.new.canvas.now) }
 {
     tools.marks.fill(false);
-    let scene = scene_of(tools);
-    let mut hands = MaskHands {
-        cache: &mut *tools.cache,
-        shelf: &mut *tools.shelf,
-        canvas: &mut *tools.canvas,
-        marks: &mut *tools.marks,
-    };
-    draw_sprites(&scene, &mut hands, notes, sprites)?;
-    draw_middles(&scene, &mut hands, notes)
-}
-
-// What stays of the tools.
-fn scene_of<'a, S: Shelf, C: Canvas>(tools: &MaskedTools<'a, S, C>) -> MaskScene<'a>
-    ensures view { result.view ≡ tools.now.view }
-    ensures textures { result.textures ≡ tools.now.textures }
-    ensures dir { result.dir ≡ tools.now.dir }
-    ensures colormap { result.colormap ≡ tools.now.colormap }
-    ensures openings { result.openings ≡ tools.now.openings }
-    ensures segs { result.segs ≡ tools.now.segs }
-    ensures sides { result.sides ≡ tools.now.sides }
-    ensures sectors { result.sectors ≡ tools.now.sectors }
-    ensures middles { result.middles ≡ tools.now.middles }
-{
-    MaskScene {
+    let scene = MaskScene {
         view: tools.view,
         textures: tools.textures,
         dir: tools.dir,
@@ -137,7 +114,15 @@ fn scene_of<'a, S: Shelf, C: Canvas>(tools: &MaskedTools<'a, S, C>) -> MaskScene
         sides: tools.sides,
         sectors: tools.sectors,
         middles: tools.middles,
-    }
+    };
+    let mut hands = MaskHands {
+        cache: &mut *tools.cache,
+        shelf: &mut *tools.shelf,
+        canvas: &mut *tools.canvas,
+        marks: &mut *tools.marks,
+    };
+    draw_sprites(&scene, &mut hands, notes, sprites)?;
+    draw_middles(&scene, &mut hands, notes)
 }
 
 // Draws the sprites, each after the masked columns behind it. No column is painted before.
@@ -241,15 +226,6 @@ fn draw_sprite<S: Shelf, C: Canvas>(
     paint_sprite(scene, hands, clips, entry, first, last)
 }
 
-// The column of that number.
-fn column_of(x: i32) -> u16
-    requires least { pos 0 ≤ℤ x }
-    requires greatest { x <ℤ pos (2 ^ 16) }
-    ensures { x ≡ pos result }
-{
-    x as u16
-}
-
 // Paints the masked columns behind a sprite, and takes the clips of the fragments in front of it,
 // the last fragment first. No clip was taken in the sprite's columns.
 fn pass_fragments<S: Shelf, C: Canvas>(
@@ -270,6 +246,8 @@ fn pass_fragments<S: Shelf, C: Canvas>(
     ensures same_canvas { hands.new.canvas.ghost_name ≡ hands.old.canvas.ghost_name }
     ensures same_marks { hands.new.marks.ghost_name ≡ hands.old.marks.ghost_name }
     ensures marks { length hands.new.marks.now ≡ length hands.old.marks.now }
+    ensures ready { OnOk result (CanPass scene.now notes.now (state (S.view hands.new.shelf.now)
+        hands.new.cache.now (C.view hands.new.canvas.now)) hands.new.marks.now) }
     ensures rows { OnOk result ((x : ℕ) → entry_has entry.now x ≡ true →
         AreSpriteRows scene.now (scene_drawsegs scene.now notes.now) entry.now clips.new x) }
     ensures passed { (es : List SpriteEntry) (i : ℕ) → i < length es →

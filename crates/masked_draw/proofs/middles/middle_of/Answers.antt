@@ -1,5 +1,5 @@
 -- The entries of the lists that the code reads are those of the rule.
-use Rattle.std.proofs.Common.{◌≡◌, ℕ, ◌<◌, ℤ, List, length, w16, w32, to_z, of_z, rules, sym, ap, ◌∙◌, refl, subst, arith, Option, Some, None}
+use Rattle.std.proofs.Common.{◌≡◌, ℕ, ℤ, w16, w32, to_z, of_z, rules, ap, ◌∙◌, refl, arith, Option, Some, None}
 use Rattle.std.specs.Prelude.{IfSome, IsSome, slice_index_or}
 use Rattle.std.proofs.lemmas.Int.{to_z-of_z}
 use Rattle.std.proofs.lemmas.List.{get_or_default}
@@ -16,8 +16,6 @@ use Rattle.sprite_rules.specs.Middles.{masked_mid}
 use Rattle.art_rules.specs.Textures.{texture_at}
 use Rattle.texture_build.specs.Views.{TexturesView}
 use Rattle.masked_draw.specs.Lists.{MaskedLists, heights_of, middle_by, no_sector, note_mid, note_seg, noted_drawseg, sector_by, side_by}
-use Rattle.masked_draw.specs.Clipped.{IsMiddleOf}
-use Rattle.masked_draw.specs.Ready.{IsSeenNote}
 use Rattle.masked_draw.specs.Scenes.{scene_lists}
 use Rattle.masked_draw.proofs.middles.middle_of.Goals as goal
 
@@ -54,7 +52,7 @@ unfolding note_mid sector_by
 mid_of v textures lists d None back mid some is e = absurd (grind (arith, some))
 mid_of v textures lists d (Some b) back mid some is e =
     e ∙ ap (λ (r : Sector). masked_mid v.eye.z (note_seg lists d) (heights_of (slice_index_or lists.sectors (note_seg lists d).front no_sector)) (heights_of r)
-      (texture_at textures.lists.textures (middle_by lists d)).height (side_by lists (note_seg lists d).side).y_offset) is
+    (texture_at textures.lists.textures (middle_by lists d)).height (side_by lists (note_seg lists d).side).y_offset) is
 
 mid_same : (seg : Seg) (front f back : Surface) (z a : ℤ) (height h : ℕ) (y b mid : ℤ) → front ≡ f → z ≡ a → height ≡ h → y ≡ b → mid ≡ masked_mid z seg front back height y → mid ≡ masked_mid a seg f back h b
 mid_same seg front f back z a height h y b mid o p q r e = cc

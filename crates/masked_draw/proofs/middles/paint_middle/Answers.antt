@@ -1,14 +1,12 @@
 -- The loop paints and marks the columns one by one.
-use Rattle.std.proofs.Common.{◌≡◌, ℕ, ◌+◌, ◌≤◌, ◌<◌, Bool, cond, List, ◌++◌, Option, None, Some, refl, sym, ap, ◌∙◌, arith, rules}
-use Rattle.std.specs.Prelude.{not, IsSome}
-use Rattle.pixel_rules.specs.Dots.{Dot}
+use Rattle.std.proofs.Common.{◌≡◌, ℕ, ◌+◌, ◌≤◌, Bool, List, ◌++◌, Some, refl, sym, ap, ◌∙◌, arith}
 use Rattle.pixel_rules.specs.Art.{Art}
 use Rattle.view_rules.specs.View.{ViewValue}
 use Rattle.wall_rules.specs.declared.FragmentNote.{FragmentNote}
 use Rattle.sprite_rules.specs.Drawsegs.{Drawseg}
 use Rattle.sprite_rules.specs.Middles.{middle_column}
 use Rattle.masked_draw.specs.Marks.{MarksBy, if_unmarked, is_between, mark_of, unmarked_dots}
-use Rattle.masked_draw.specs.Scenes.{CanPaint, PaintsDots, scene_drawseg}
+use Rattle.masked_draw.specs.Scenes.{scene_drawseg}
 use Rattle.masked_draw.proofs.MarkLemmas.{between, marks-here, marks-more, marks-start, unmarked-more, unmarked-plain, unmarked-start}
 use Rattle.masked_draw.proofs.StepLemmas.{can_paint-later, paints-none, paints-same, paints-then, paints-then_stop}
 use Rattle.masked_draw.proofs.SceneLemmas.{listed_note-later}
@@ -63,7 +61,7 @@ loop-x-preserved g c =
       listed = listed_note-later e.paints i.listed;
       marked = marks-more d c.middle_of-middle.result.place c.args.first c.loop-x.x _ _ _ masked c.requires.begins c.loop-x.auto.x (omega arith) i.marked e.marked e.others;
       paints = paints-same _ (λ art. one_more s.view.now art c.args.hands.now.marks.now c.loop-x.hands.marks.now d c.middle_of-middle.result.place c.args.first c.loop-x.x c.args.number c.middle_of-middle.result.number (scene_drawseg s d)
-              masked c.requires.begins c.loop-x.auto.x (omega arith) i.marked c.middle_of-middle.ensures.number) (paints-then i.paints e.paints);
+          masked c.requires.begins c.loop-x.auto.x (omega arith) i.marked c.middle_of-middle.ensures.number) (paints-then i.paints e.paints);
     }
 
 pub returns-clause-paints : goal.returns-clause-paints

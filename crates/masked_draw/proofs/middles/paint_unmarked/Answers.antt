@@ -1,6 +1,5 @@
 -- A column that is marked gets no dots, and another one those of the call.
-use Rattle.std.proofs.Common.{◌≡◌, Bool, true, false, cond, List, [], is_some, refl, sym, ap}
-use Rattle.std.specs.Prelude.{not}
+use Rattle.std.proofs.Common.{◌≡◌, Bool, true, false, List, [], is_some, sym, ap}
 use Rattle.pixel_rules.specs.Dots.{Dot}
 use Rattle.sprite_rules.specs.Middles.{middle_column}
 use Rattle.masked_draw.specs.Marks.{if_unmarked, mark_of}

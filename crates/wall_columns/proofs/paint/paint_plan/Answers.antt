@@ -40,6 +40,45 @@ returns-then-not-paints-clause-fits g c = λ facts first last contents count is 
     (fit_beside-none c.args.tools.now.dir.now.lumps c.args.tools.now.textures.now
     c.args.tools.now.colormap.0 count c.args.tools.now.cache.now.size)
 
+pub returns-clause-painted : goal.returns-clause-painted
+returns-clause-painted g c = λ facts first last contents count is hold.
+    let scale : to_z w32 (of_z w32 c.args.edges.now.scale) ≡ c.args.edges.now.scale =
+    to_z-of_z {w = w32} {z = c.args.edges.now.scale} (search rules) in
+    let step : to_z w32 (of_z w32 c.inverse_word.result) ≡ c.inverse_word.result =
+    to_z-of_z {w = w32} {z = c.inverse_word.result} (search rules) in
+    let column : to_z w32 (of_z w32 c.column_at.result) ≡ c.column_at.result =
+    to_z-of_z {w = w32} {z = c.column_at.result} (search rules) in
+    let look : ColumnLook = record {
+      number = c.args.number;
+      x = c.args.x;
+      column = to_z w32 (of_z w32 c.column_at.result);
+      step = to_z w32 (of_z w32 c.inverse_word.result);
+      map = c.scale_map.result;
+    } in
+    let same : strips_dots c.args.tools.now.view.now.shape
+    (lump_bytes contents c.args.tools.now.dir.now.lumps) c.args.tools.now.textures.now
+    c.args.tools.now.colormap.0 look (strips_by c.args.numbers.now c.args.plan.now)
+    ≡ joined_lists (strip_dots c.args.tools.now.view.now
+    (view_art (lump_bytes contents c.args.tools.now.dir.now.lumps)
+    c.args.tools.now.textures.now c.args.tools.now.colormap.0) c.args.number c.args.x
+    c.args.numbers.now.light (texture_column c.args.tools.now.view.now facts c.args.x)
+    c.args.edges.now.scale) (strips_by c.args.numbers.now c.args.plan.now) =
+    strips-by_look c.args.tools.now.view.now
+    (lump_bytes contents c.args.tools.now.dir.now.lumps) c.args.tools.now.textures.now
+    c.args.tools.now.colormap.0 look c.args.numbers.now.light c.args.edges.now.scale
+    (strips_by c.args.numbers.now c.args.plan.now)
+    (step ∙ c.inverse_word.ensures ∙ ap inverse_word scale)
+    (c.scale_map.ensures ∙ ap (scale_map c.args.tools.now.view.now c.args.numbers.now.light) scale)
+    ∙ ap (λ (column : ℤ). joined_lists (strip_dots c.args.tools.now.view.now
+    (view_art (lump_bytes contents c.args.tools.now.dir.now.lumps)
+    c.args.tools.now.textures.now c.args.tools.now.colormap.0) c.args.number c.args.x
+    c.args.numbers.now.light column c.args.edges.now.scale)
+    (strips_by c.args.numbers.now c.args.plan.now)) (column ∙ c.column_at.ensures facts first last is) in
+    subst (λ (dots : List Dot). OnOk c.paint_strips.result (HasDots g.C.Canvas.mark dots
+    (g.C.Canvas.view c.args.tools.now.canvas.now)
+    (g.C.Canvas.view c.paint_strips.new.tools.canvas.now))) same
+    (c.paint_strips.ensures.paints.painted contents count c.requires.colormap hold)
+
 pub returns-clause-fits : goal.returns-clause-fits
 returns-clause-fits g c = λ facts first last contents count is hold.
     let scale : to_z w32 (of_z w32 c.args.edges.now.scale) ≡ c.args.edges.now.scale =

@@ -1,0 +1,224 @@
+-- Laws of the masked column of a fragment: whose bytes it has, and its dots by them.
+use Rattle.std.proofs.Common.{◌≡◌, ◌<◌, ◌≤◌, ◌≤ℤ◌, ℕ, ℤ, pos, negsuc, List, [], ◌∷◌, length, Option, Some, None, refl, sym, ap, subst, ◌∙◌, arith}
+use Rattle.std.specs.Prelude.{IfSome, IsSome, option_map, unsigned_abs, unwrap_or}
+use Rattle.std.proofs.lemmas.Int.{ints}
+use Rattle.std.proofs.lemmas.Nat.{and_le_r}
+use Rattle.outside.specs.Shelf.{ShelfView}
+use Rattle.word_rules.specs.Words.{bits_of}
+use Rattle.word_rules.proofs.WordLemmas.{clamp_word-low, clamp_word-high}
+use Rattle.word_rules.specs.Listed.{joined_lists}
+use Rattle.view_rules.specs.declared.TheConstants.{LIGHT_LEVELS}
+use Rattle.view_rules.specs.declared.ViewShape.{ViewShape}
+use Rattle.view_rules.specs.View.{ViewValue}
+use Rattle.view_rules.specs.Lights.{light_number, scale_map}
+use Rattle.lump_rules.specs.declared.wad.Lump.{Lump}
+use Rattle.lump_rules.specs.Contents.{lump_bytes}
+use Rattle.zone_rules.specs.Zones.{Heap, Holding, IsLive, Owner, bytes_of, holding_of}
+use Rattle.wad_dir.specs.DirectoryView.{DirectoryView}
+use Rattle.lump_cache.specs.Caches.{IsFaithful, lump_owner}
+use Rattle.art_rules.specs.declared.ColumnLookup.{ColumnLookup}
+use Rattle.art_rules.specs.declared.ColumnLookup.TheVariants.{Empty, Single, Composed}
+use Rattle.art_rules.specs.Bytes.{byte_at}
+use Rattle.art_rules.specs.Patches.{posts}
+use Rattle.art_rules.specs.Lookups.{masked_column, single_place}
+use Rattle.art_rules.specs.Textures.{mask_of}
+use Rattle.art_rules.specs.Wanted.{PreparedTexture}
+use Rattle.pixel_rules.specs.declared.MaskedColumn.{MaskedColumn}
+use Rattle.pixel_rules.specs.declared.Painter.{Painter}
+use Rattle.pixel_rules.specs.declared.Post.{Post}
+use Rattle.pixel_rules.specs.declared.TheConstants.{LUMP, MIDDLE}
+use Rattle.pixel_rules.specs.Art.{painter_of}
+use Rattle.pixel_rules.specs.Posts.{post_dots, post_colour, post_rows, posts_dots}
+use Rattle.pixel_rules.specs.Strips.{shade}
+use Rattle.wall_rules.specs.Numbers.{seg_light}
+use Rattle.wall_rules.specs.declared.FragmentNote.{FragmentNote}
+use Rattle.sprite_rules.specs.Drawsegs.{Drawseg}
+use Rattle.sprite_rules.specs.Middles.{drawseg_scale, middle_by as dots_by, middle_column, middle_masked}
+use Rattle.texture_build.specs.Arts.{view_art}
+use Rattle.texture_build.specs.Sources.{column_in, column_index}
+use Rattle.texture_build.specs.Views.{TexturesView, prepared_texture}
+use Rattle.texture_build.specs.Draws.{FitsBeside, FitBeside, HoldsArt}
+use Rattle.texture_build.proofs.BesideLemmas.{fit_beside-append, fit_beside-as, fit_beside-column_dots}
+use Rattle.texture_build.proofs.LentLemmas.{colormap_lent}
+use Rattle.pixel_strips.specs.Canvases.{CanvasView, with_dots, with_painter}
+use Rattle.pixel_strips.specs.Dotted.{HasDots}
+use Rattle.pixel_strips.proofs.DottedLemmas.{has_dots-as, has_dots-painted}
+use Rattle.masked_draw.specs.declared.middles.Middle.{Middle}
+use Rattle.masked_draw.specs.declared.scene.MaskScene.{MaskScene}
+use Rattle.masked_draw.specs.Clipped.{IsMiddleOf}
+use Rattle.masked_draw.specs.Lists.{middle_by, noted_drawseg, saved_column}
+use Rattle.masked_draw.specs.Ready.{CanDrawMiddle, IsListed, IsSingle}
+use Rattle.masked_draw.specs.Scenes.{scene_drawseg, scene_lists}
+
+small_number : (z : ℤ) → pos 0 ≤ℤ z → z ≤ℤ pos 15 → unsigned_abs z < 16
+small_number (pos n) l h = omega (arith, ints)
+small_number (negsuc n) l h = absurd (omega (arith, ints))
+
+level_is : (v : ViewValue) (light change : ℤ) → light_number v light change < LIGHT_LEVELS
+unfolding light_number
+level_is v light change = small_number _ (clamp_word-low (pos 0) (pos 15) _ (omega (arith, ints)))
+    (clamp_word-high (pos 0) (pos 15) _ (omega (arith, ints)))
+
+-- the light of a fragment is one of the levels
+pub middle-light : (s : MaskScene) (d : FragmentNote) → (scene_drawseg s d).light < LIGHT_LEVELS
+unfolding noted_drawseg seg_light
+middle-light s d = level_is _ _ _
+
+-- a texture column stands for one of the columns up to the mask
+column-within : (t : PreparedTexture) (col : ℤ) → column_index t col ≤ mask_of (length t.columns)
+unfolding masked_column
+column-within t col = and_le_r (bits_of col) (mask_of (length t.columns))
+
+pub single-column : (t : PreparedTexture) (col : ℤ) → IsSingle t →
+    IsSome (single_place (column_in t col))
+single-column t col single = single (column_index t col) (column-within t col)
+
+-- the middle texture of a masked fragment may be drawn
+pub middle-draw : {lumps : List Lump} {textures : TexturesView} {z : Heap} (s : MaskScene)
+    (d : FragmentNote) (middle : Middle) → IsMiddleOf s d middle.number middle →
+    IsListed lumps textures z (scene_lists s) d →
+    CanDrawMiddle lumps textures z (scene_lists s) d
+middle-draw s d middle is listed = listed.masked (subst IsSome (sym is.place) refl)
+
+-- what is read from one lump
+pub single-lookup : (lookup : ColumnLookup) (lump place : ℕ) →
+    single_place lookup ≡ Some (lump, place) → lookup ≡ Single lump place
+unfolding single_place
+single-lookup Empty lump place e = cc
+single-lookup (Single l p) lump place e =
+    ap (λ (o : Option (ℕ × ℕ)). Single (unwrap_or o (0, 0)).0 (unwrap_or o (0, 0)).1) e
+single-lookup (Composed p) lump place e = cc
+
+-- the dots of a masked column by the lump that it is read from
+pub middle-dots : (v : ViewValue) (bytes : ℕ → List ℕ) (textures : TexturesView) (colormap : ℕ)
+    (k : ℕ) (d : Drawseg) (x lump place : ℕ) →
+    column_in (prepared_texture textures d.middle) (d.column x) ≡ Single lump place →
+    posts_dots v.shape (painter_of MIDDLE k (record { kind = LUMP; number = lump })) x
+    (middle_masked d x) (byte_at (bytes lump))
+    (shade (bytes colormap) (scale_map v d.light (drawseg_scale d x))) (posts (bytes lump) place)
+    ≡ middle_column v (view_art bytes textures colormap) k d x
+unfolding middle_column dots_by view_art
+middle-dots v bytes textures colormap k d x lump place e = rw e refl
+
+-- all dots of posts have one painter
+pub fit_beside-posts : (lumps : List Lump) (textures : TexturesView) (colormap count zone : ℕ)
+    (shape : ViewShape) (painter : Painter) (x : ℕ) (c : MaskedColumn) (byte shade_of : ℕ → ℕ)
+    (ps : List Post) → FitsBeside lumps textures colormap count zone painter →
+    FitBeside lumps textures colormap count zone (posts_dots shape painter x c byte shade_of ps)
+unfolding posts_dots joined_lists post_dots
+fit_beside-posts lumps textures colormap count zone shape painter x c byte shade_of [] fits = tt
+fit_beside-posts lumps textures colormap count zone shape painter x c byte shade_of (p ∷ ps) fits =
+    fit_beside-append lumps textures colormap count zone
+    (post_dots shape painter x c byte shade_of p)
+    (posts_dots shape painter x c byte shade_of ps)
+    (fit_beside-column_dots lumps textures colormap count zone painter x
+    (post_colour shape c byte shade_of p) (post_rows shape c p) fits)
+    (fit_beside-posts lumps textures colormap count zone shape painter x c byte shade_of ps fits)
+
+-- a lump that a faithful cache lends
+pub lent_lump : (contents : List (List ℕ)) (lumps : List Lump) (z : Heap) (lump : ℕ)
+    (bytes : List ℕ) → IsFaithful contents lumps z → lump < length lumps →
+    Some bytes ≡ bytes_of (lump_owner lump) z.blocks → bytes ≡ lump_bytes contents lumps lump
+lent_lump contents lumps z lump bytes faithful there is =
+    subst (λ (x : Option (List ℕ)). IfSome x (λ xs. xs ≡ lump_bytes contents lumps lump)) (sym is)
+    (faithful.at lump there)
+
+-- a block whose bytes are lent is live
+lent_live : (o : Owner) (z : Heap) (bytes : List ℕ) → bytes_of o z.blocks ≡ Some bytes → IsLive z o
+lent_live o z bytes is = go (holding_of o z.blocks) is where
+  go : (h : Option Holding) → option_map (λ (x : Holding). x.bytes) h ≡ Some bytes → IsSome h
+  go None e = cc
+  go (Some h) e = refl
+
+-- so the art of a live lump is lent
+pub art-lent : {A : Type 0} {view : ShelfView} {dir : DirectoryView} {textures : TexturesView}
+    {contents : List (List ℕ)} {colormap count : ℕ} {z : Heap} (P : Type 0) (lump : ℕ)
+    (result : Option A) → HoldsArt view dir textures contents colormap count z →
+    colormap < length dir.lumps → IsLive z (lump_owner lump) → result ≡ None →
+    (IsLive z (lump_owner lump) → IsLive z (lump_owner colormap) → IsSome result) → P
+art-lent {A} {dir = dir} {contents = contents} {colormap} {z = z} P lump result hold there live none some =
+    let is : IsSome result = some live (lent_live (lump_owner colormap) z
+    (lump_bytes contents dir.lumps colormap) (colormap_lent hold there)) in
+    absurd (go result none is) where
+      go : (o : Option A) → o ≡ None → IsSome o → ⊥
+      go None e k = cc
+      go (Some v) e k = cc
+
+pub drawseg-middle : (s : MaskScene) (d : FragmentNote) →
+    (scene_drawseg s d).middle ≡ middle_by (scene_lists s) d
+unfolding noted_drawseg
+drawseg-middle s d = refl
+
+-- the masked column at column x is read from this lump, and its posts begin at this byte
+pub record IsReadFrom (textures : TexturesView) (d : Drawseg) (x lump place : ℕ) : Type 0 where
+  pub is : column_in (prepared_texture textures d.middle) (d.column x) ≡ Single lump place
+
+pub read-from : (s : MaskScene) (note : FragmentNote) (middle : Middle) (x lump place : ℕ)
+    (col : ℤ) → IsMiddleOf s note middle.number middle → col ≡ (scene_drawseg s note).column x →
+    single_place (column_in (prepared_texture s.textures.now middle.tex.0) col) ≡ Some (lump, place) →
+    IsReadFrom s.textures.now (scene_drawseg s note) x lump place
+read-from s note middle x lump place col is column single = record {
+  is = ap (λ (n : ℕ). column_in (prepared_texture s.textures.now n) ((scene_drawseg s note).column x))
+      (drawseg-middle s note ∙ sym is.tex)
+      ∙ ap (column_in (prepared_texture s.textures.now middle.tex.0)) (sym column)
+      ∙ single-lookup _ lump place single;
+}
+
+-- a canvas on which its painter began, and its posts were painted
+pub middle-painted : (mark : Painter → ℕ → ℕ) (v : ViewValue) (bytes : ℕ → List ℕ)
+    (textures : TexturesView) (colormap k : ℕ) (d : Drawseg) (x lump place : ℕ)
+    (shape : ViewShape) (column : MaskedColumn) (own shades : List ℕ) (m light : ℕ)
+    (a b c : CanvasView) →
+    b ≡ with_painter (record { kind = MIDDLE; number = k; source_kind = LUMP; source = lump }) a →
+    c ≡ with_dots mark (posts_dots shape b.painter x column (byte_at own) (shade shades m)
+    (posts own place)) b →
+    shape ≡ v.shape → column ≡ middle_masked d x → own ≡ bytes lump → shades ≡ bytes colormap →
+    m ≡ scale_map v light column.scale → light ≡ d.light →
+    IsReadFrom textures d x lump place →
+    HasDots mark (middle_column v (view_art bytes textures colormap) k d x) a c
+unfolding painter_of middle_masked
+middle-painted mark v bytes textures colormap k d x lump place shape column own shades m light a b c
+    began painted is_shape is_column is_own is_shades is_map is_light from =
+    let painter : Painter = painter_of MIDDLE k (record { kind = LUMP; number = lump }) in
+    let map : m ≡ scale_map v d.light (drawseg_scale d x) =
+    is_map ∙ ap (λ (n : ℕ). scale_map v n column.scale) is_light
+    ∙ ap (λ (c : MaskedColumn). scale_map v d.light c.scale) is_column in
+    has_dots-as
+    (ap (λ (canvas : CanvasView). posts_dots shape canvas.painter x column (byte_at own)
+    (shade shades m) (posts own place)) began
+    ∙ ap (λ (s : ViewShape). posts_dots s painter x column (byte_at own) (shade shades m)
+    (posts own place)) is_shape
+    ∙ ap (λ (c : MaskedColumn). posts_dots v.shape painter x c (byte_at own) (shade shades m)
+    (posts own place)) is_column
+    ∙ ap (λ (xs : List ℕ). posts_dots v.shape painter x (middle_masked d x) (byte_at xs)
+    (shade shades m) (posts xs place)) is_own
+    ∙ ap (λ (xs : List ℕ). posts_dots v.shape painter x (middle_masked d x) (byte_at (bytes lump))
+    (shade xs m) (posts (bytes lump) place)) is_shades
+    ∙ ap (λ (n : ℕ). posts_dots v.shape painter x (middle_masked d x) (byte_at (bytes lump))
+    (shade (bytes colormap) n) (posts (bytes lump) place)) map
+    ∙ middle-dots v bytes textures colormap k d x lump place from.is)
+    (has_dots-painted began painted)
+
+-- and they fit beside the colormap where the lump does
+pub middle-fits : (lumps : List Lump) (v : ViewValue) (bytes : ℕ → List ℕ) (textures : TexturesView)
+    (colormap count zone k : ℕ) (d : Drawseg) (x lump place : ℕ) →
+    IsReadFrom textures d x lump place →
+    FitsBeside lumps textures colormap count zone
+    (painter_of MIDDLE k (record { kind = LUMP; number = lump })) →
+    FitBeside lumps textures colormap count zone
+    (middle_column v (view_art bytes textures colormap) k d x)
+middle-fits lumps v bytes textures colormap count zone k d x lump place from fits =
+    fit_beside-as lumps textures colormap count zone
+    (middle-dots v bytes textures colormap k d x lump place from.is)
+    (fit_beside-posts lumps textures colormap count zone v.shape
+    (painter_of MIDDLE k (record { kind = LUMP; number = lump })) x (middle_masked d x)
+    (byte_at (bytes lump)) (shade (bytes colormap) (scale_map v d.light (drawseg_scale d x)))
+    (posts (bytes lump) place) fits)
+
+-- the texture column that was saved is the fragment's
+pub drawseg-column : (s : MaskScene) (d : FragmentNote) (middle : Middle) (x : ℕ) →
+    IsMiddleOf s d middle.number middle →
+    saved_column s.openings.now d.first (Some middle.place) x ≡ (scene_drawseg s d).column x
+unfolding noted_drawseg
+drawseg-column s d middle x is =
+    ap (λ (m : Option ℕ). saved_column s.openings.now d.first m x) (sym is.place)

@@ -1,0 +1,104 @@
+-- Laws of the sprites of a pass, one after the other in drawing order.
+use Rattle.std.proofs.Common.{◌≡◌, ℕ, ◌+◌, ◌-◌, ◌<◌, Bool, true, false, List, [], ◌∷◌, ◌++◌, Option, None, Some, Result, Ok, Err, IsErrAnd, OnOk, length, get_or, refl, sym, ap, ◌∙◌, subst, arith}
+use Rattle.std.specs.Prelude.{nat_lt, slice_get, All, Contains, IfSome}
+use Rattle.std.specs.List.{AllPass}
+use Rattle.std.proofs.lemmas.Bool.{ltb-true}
+use Rattle.std.proofs.lemmas.Option.{gets}
+use Rattle.std.proofs.lemmas.List.Elements.{All-contains_itself}
+use Rattle.std.proofs.lemmas.List.Sorted.{All-permutation}
+use Rattle.lump_cache.specs.declared.fault.CacheFault.{CacheFault}
+use Rattle.pixel_rules.specs.declared.Painter.{Painter}
+use Rattle.pixel_rules.specs.Dots.{Dot}
+use Rattle.pixel_rules.specs.Art.{Art}
+use Rattle.wall_rules.specs.declared.FragmentNote.{FragmentNote}
+use Rattle.sprite_rules.specs.declared.SpriteEntry.{SpriteEntry}
+use Rattle.sprite_rules.specs.Drawsegs.{Drawseg}
+use Rattle.sprite_rules.specs.Clips.{sprite_in_front}
+use Rattle.sprite_rules.specs.Order.{draw_order}
+use Rattle.sprite_rules.specs.Middles.{masked_dots, middles_at, sprites_from}
+use Rattle.sprite_rules.proofs.MaskedLemmas.{sprites_from-more}
+use Rattle.sprite_rules.proofs.OrderLemmas.{draw_order-permutation}
+use Rattle.vissprites.specs.Bounds.{has_lump_below, lies_within}
+use Rattle.masked_draw.specs.declared.scene.MaskScene.{MaskScene}
+use Rattle.masked_draw.specs.Marks.{AreBefore, MarkedTo, mark_in}
+use Rattle.masked_draw.specs.Passes.{DrawsSprite}
+use Rattle.masked_draw.specs.Ready.{IsNotedMiddle, IsSpriteLump}
+use Rattle.masked_draw.specs.Scenes.{MaskState, PaintsDots, scene_drawseg, scene_drawsegs, scene_lists}
+use Rattle.masked_draw.proofs.MomentLemmas.{front-first}
+use Rattle.masked_draw.proofs.SceneLemmas.{scene-length}
+use Rattle.masked_draw.proofs.StepLemmas.{paints-none, paints-same, paints-then, paints-then_stop, paints-value, paints-wider}
+
+-- no column is marked before the first sprite
+before_first : (seg : FragmentNote → Drawseg) (es : List SpriteEntry) (marks : List Bool) (d : FragmentNote) (masked : Option ℕ) → ((p : ℕ) → mark_in marks p ≡ false) → AreBefore seg es marks d 0 masked
+before_first seg es marks d None h = tt
+before_first seg es marks d (Some place) h = λ x l m. h (place + (x - d.first)) ∙ sym (front-first es (seg d) x)
+
+first_some : (seg : FragmentNote → Drawseg) (es : List SpriteEntry) (marks : List Bool) (o : Option FragmentNote) → ((p : ℕ) → mark_in marks p ≡ false) → IfSome o (λ d. AreBefore seg es marks d 0 d.masked)
+first_some seg es marks None h = tt
+first_some seg es marks (Some d) h = before_first seg es marks d d.masked h
+
+pub marked-first : (seg : FragmentNote → Drawseg) (notes : List FragmentNote) (es : List SpriteEntry) (n : ℕ) (marks : List Bool) → ((p : ℕ) → mark_in marks p ≡ false) → MarkedTo seg notes es n (λ k. 0) marks
+marked-first seg notes es n marks h = record { at = λ k l. first_some seg es marks (slice_get notes k) h }
+
+get_here : (es : List SpriteEntry) (k : ℕ) (e : SpriteEntry) → k < length es → slice_get es k ≡ Some (get_or es k e)
+get_here es k e l = grind (arith, gets)
+
+zero_add : (n : ℕ) → 0 + n ≡ n
+zero_add n = omega arith
+
+-- where a sprite stands in drawing order, by the turn of the loop
+pub sprite-get : (es : List SpriteEntry) (k : ℕ) (e : SpriteEntry) → (k < length es) × (e ≡ get_or es k e) → slice_get es k ≡ Some e
+sprite-get es k e t = let l = t.0 in let h = t.1 in get_here es k e l ∙ ap Some (sym h)
+
+all_drawn : (P : SpriteEntry → Type 0) (sprites : List SpriteEntry) (k : ℕ) (e : SpriteEntry) → All P sprites → (k < length (draw_order sprites)) × (e ≡ get_or (draw_order sprites) k e) → P e
+all_drawn P sprites k e all t = subst P (sym t.1) (All-permutation P sprites (draw_order sprites) (draw_order-permutation sprites) all k e t.0)
+
+pub sprite-lies : (width : ℕ) (sprites : List SpriteEntry) (k : ℕ) (e : SpriteEntry) → AllPass (lies_within width) sprites → (k < length (draw_order sprites)) × (e ≡ get_or (draw_order sprites) k e) → lies_within width e ≡ true
+sprite-lies width sprites k e all t = all_drawn (λ e. lies_within width e ≡ true) sprites k e all t
+
+lump_below : (lumps : ℕ) (e : SpriteEntry) → has_lump_below lumps e ≡ true → e.lump < lumps
+unfolding has_lump_below
+lump_below lumps e h = ltb-true e.lump lumps h
+
+pub sprite-lump : (lumps : ℕ) (sprites : List SpriteEntry) (k : ℕ) (e : SpriteEntry) → AllPass (has_lump_below lumps) sprites → (k < length (draw_order sprites)) × (e ≡ get_or (draw_order sprites) k e) → e.lump < lumps
+sprite-lump lumps sprites k e all t = lump_below lumps e (all_drawn (λ e. has_lump_below lumps e ≡ true) sprites k e all t)
+
+sprite_among : (sprites : List SpriteEntry) (k : ℕ) (e : SpriteEntry) → (k < length (draw_order sprites)) × (e ≡ get_or (draw_order sprites) k e) → (lump : ℕ) → lump ≡ e.lump → IsSpriteLump sprites lump
+sprite_among sprites k e t lump is = record { sprite = e; among = all_drawn (Contains sprites) sprites k e (All-contains_itself sprites) t; is = is }
+
+from_none : (s : MaskScene) (notes : List FragmentNote) (es : List SpriteEntry) (art : Art) → [] ≡ sprites_from s.view.now art (scene_drawsegs s notes) es 0 []
+unfolding sprites_from
+from_none s notes es art = refl
+
+all_dots : (s : MaskScene) (notes : List FragmentNote) (sprites : List SpriteEntry) (art : Art) → sprites_from s.view.now art (scene_drawsegs s notes) (draw_order sprites) 0 (draw_order sprites) ++ middles_at s.view.now art (scene_drawsegs s notes) (draw_order sprites) None (length notes)
+    ≡ masked_dots s.view.now art (scene_drawsegs s notes) (draw_order sprites)
+unfolding masked_dots
+all_dots s notes sprites art = ap (λ (n : ℕ). sprites_from s.view.now art (scene_drawsegs s notes) (draw_order sprites) 0 (draw_order sprites) ++ middles_at s.view.now art (scene_drawsegs s notes) (draw_order sprites) None n) (sym (scene-length s notes))
+
+module _ (s : MaskScene) (notes : List FragmentNote) (sprites : List SpriteEntry) {mark : Painter → ℕ → ℕ} where
+  -- no sprite is drawn
+  pub sprites-start : (st : MaskState) → PaintsDots mark s (IsNotedMiddle (scene_lists s) notes) (IsSpriteLump sprites) (λ art. sprites_from s.view.now art (scene_drawsegs s notes) (draw_order sprites) 0 []) st st (Ok (tt {0}))
+  sprites-start st = paints-same _ (λ art. from_none s notes (draw_order sprites) art) (paints-none st (tt {0}))
+
+  -- one sprite more
+  pub sprites-more : {A : Type 0} {start a b : MaskState} {answer : A} (so_far : List SpriteEntry) (e : SpriteEntry) (new : List Bool) → (length so_far < length (draw_order sprites)) × (e ≡ get_or (draw_order sprites) (length so_far) e) →
+      PaintsDots mark s (IsNotedMiddle (scene_lists s) notes) (IsSpriteLump sprites) (λ art. sprites_from s.view.now art (scene_drawsegs s notes) (draw_order sprites) 0 so_far) start a (Ok (tt {0})) →
+      DrawsSprite mark s notes (draw_order sprites) (length so_far) e new a b (Ok answer) →
+      PaintsDots mark s (IsNotedMiddle (scene_lists s) notes) (IsSpriteLump sprites) (λ art. sprites_from s.view.now art (scene_drawsegs s notes) (draw_order sprites) 0 (so_far ++ e ∷ [])) start b (Ok (tt {0}))
+  sprites-more so_far e new t before sprite =
+      paints-value (paints-same _ (λ art. sym (sprites_from-more s.view.now art (scene_drawsegs s notes) (draw_order sprites) 0 (length so_far) so_far e (zero_add (length so_far))))
+      (paints-then before (paints-wider (λ n k. k) (sprite_among sprites (length so_far) e t) sprite.paints)))
+
+  pub sprites-stop : {A B : Type 0} {start a b : MaskState} {f : Art → List Dot} {part : Result B CacheFault} {fault : CacheFault} {whole : Result A CacheFault} (so_far : List SpriteEntry) (e : SpriteEntry) (new : List Bool) → (length so_far < length (draw_order sprites)) × (e ≡ get_or (draw_order sprites) (length so_far) e) →
+      part ≡ Err fault → IsErrAnd whole (λ e. e ≡ fault) →
+      PaintsDots mark s (IsNotedMiddle (scene_lists s) notes) (IsSpriteLump sprites) (λ art. sprites_from s.view.now art (scene_drawsegs s notes) (draw_order sprites) 0 so_far) start a (Ok (tt {0})) →
+      DrawsSprite mark s notes (draw_order sprites) (length so_far) e new a b part →
+      PaintsDots mark s (IsNotedMiddle (scene_lists s) notes) (IsSpriteLump sprites) f start b whole
+  sprites-stop so_far e new t was is before sprite = paints-then_stop was is before (paints-wider (λ n k. k) (sprite_among sprites (length so_far) e t) sprite.paints)
+
+  -- the sprites, and the columns that are left
+  pub pass-end : {A B : Type 0} {start a b : MaskState} {answer : B} {result : Result A CacheFault} →
+      PaintsDots mark s (IsNotedMiddle (scene_lists s) notes) (IsSpriteLump sprites) (λ art. sprites_from s.view.now art (scene_drawsegs s notes) (draw_order sprites) 0 (draw_order sprites)) start a (Ok answer) →
+      PaintsDots mark s (IsNotedMiddle (scene_lists s) notes) (λ (n : ℕ). ⊥) (λ art. middles_at s.view.now art (scene_drawsegs s notes) (draw_order sprites) None (length notes)) a b result →
+      PaintsDots mark s (IsNotedMiddle (scene_lists s) notes) (IsSpriteLump sprites) (λ art. masked_dots s.view.now art (scene_drawsegs s notes) (draw_order sprites)) start b result
+  pass-end one two = paints-same _ (all_dots s notes sprites) (paints-then one (paints-wider (λ n k. k) (λ n k. absurd k) two))

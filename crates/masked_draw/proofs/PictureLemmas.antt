@@ -1,0 +1,216 @@
+-- Laws of the columns of a picture, by its bytes and those of the colormap.
+use Rattle.std.proofs.Common.{◌≡◌, ℕ, zero, suc, ◌+◌, ◌-◌, ◌<◌, ◌≤◌, ℤ, pos, Bool, true, false, cond, List, [], ◌∷◌, ◌++◌, Option, Some, Result, Ok, Err, IsErrAnd, map, refl, sym, ap, ◌∙◌, subst, arith}
+use Rattle.std.specs.Prelude.{◌&&◌, int_le, int_lt}
+use Rattle.std.specs.List.{range_with_len}
+use Rattle.std.proofs.lemmas.Int.{ints}
+use Rattle.std.proofs.lemmas.List.{append-nil}
+use Rattle.std.proofs.lemmas.List.FromFn.{map-range_with_len_more}
+use Rattle.word_rules.specs.Words.{natural}
+use Rattle.word_rules.specs.Listed.{joined_lists, listed_from}
+use Rattle.word_rules.proofs.ListedLemmas.{joined_lists-append}
+use Rattle.lump_rules.specs.declared.wad.Lump.{Lump}
+use Rattle.view_rules.specs.View.{ViewValue}
+use Rattle.view_rules.specs.declared.ViewShape.{ViewShape}
+use Rattle.pixel_rules.specs.declared.Painter.{Painter}
+use Rattle.pixel_rules.specs.declared.Post.{Post}
+use Rattle.pixel_rules.specs.declared.MaskedColumn.{MaskedColumn}
+use Rattle.pixel_rules.specs.declared.TheConstants.{LUMP, SPRITE}
+use Rattle.pixel_rules.specs.Dots.{Dot}
+use Rattle.pixel_rules.specs.Art.{lump_source, painter_of}
+use Rattle.pixel_rules.specs.Strips.{rows_between, shade}
+use Rattle.pixel_rules.specs.Posts.{post_colour, post_dots, post_rows, posts_dots}
+use Rattle.pixel_rules.proofs.DotLemmas.{put_dots-append}
+use Rattle.art_rules.specs.Bytes.{byte_at, half_at}
+use Rattle.art_rules.specs.Patches.{column_place, posts}
+use Rattle.pixel_strips.specs.Canvases.{CanvasView, with_dots, with_painter}
+use Rattle.pixel_strips.specs.Dotted.{HasDots, PlacedAlike}
+use Rattle.pixel_strips.proofs.CanvasLemmas.{dots_none}
+use Rattle.pixel_strips.proofs.DottedLemmas.{has_dots-as, has_dots-painted, placed-none}
+use Rattle.sprite_rules.specs.declared.SpriteEntry.{SpriteEntry}
+use Rattle.sprite_rules.specs.Sprites.{picture_column}
+use Rattle.texture_build.specs.Arts.{own_posts, view_art}
+use Rattle.outside.specs.Shelf.{ShelfView}
+use Rattle.zone_rules.specs.Zones.{Heap}
+use Rattle.lump_cache.specs.declared.fault.CacheFault.{CacheFault}
+use Rattle.lump_cache.specs.Caches.{cache_fault}
+use Rattle.pixel_rules.specs.Art.{Art}
+use Rattle.texture_build.specs.Draws.{DrawsWith, FitBeside, FitsBeside, HoldsArt}
+use Rattle.texture_build.proofs.DrawLemmas.{draws-stop, draws-value, holds_art-later}
+use Rattle.texture_build.specs.Views.{TexturesView}
+use Rattle.texture_build.proofs.BesideLemmas.{fit_beside-append, fit_beside-as, fit_beside-column_dots}
+use Rattle.masked_draw.specs.declared.clips.SpriteClips.{SpriteClips}
+use Rattle.masked_draw.specs.declared.scene.MaskScene.{MaskScene}
+use Rattle.masked_draw.specs.Scenes.{PaintsDots, scene_art, state}
+use Rattle.masked_draw.proofs.StepLemmas.{on_ok_err}
+use Rattle.masked_draw.specs.Clipped.{clipped_column, clipped_dots, clipped_masked, read_column, read_columns}
+
+-- a column that the picture does not have
+no_posts : (shape : ViewShape) (painter : Painter) (x : ℕ) (c : MaskedColumn) (byte shade_of : ℕ → ℕ) → posts_dots shape painter x c byte shade_of [] ≡ []
+unfolding posts_dots joined_lists
+no_posts shape painter x c byte shade_of = refl
+
+pub column-outside : (mark : Painter → ℕ → ℕ) (shape : ViewShape) (bytes colormap : List ℕ) (clips : SpriteClips) (e : SpriteEntry) (x : ℕ) (own : ℤ) (canvas : CanvasView) → own ≡ picture_column e.flip e.width e.a1 e.iscale x →
+    (int_le (pos 0) own && int_lt own (pos (half_at bytes 0))) ≡ false → canvas ≡ with_dots mark (read_column shape canvas.painter bytes colormap clips e x) canvas
+unfolding read_column
+column-outside mark shape bytes colormap clips e x own canvas is out =
+    let column = clipped_masked shape.height clips e x in
+    let none : own_posts bytes (picture_column e.flip e.width e.a1 e.iscale x) ≡ [] =
+        sym (ap (own_posts bytes) is) ∙ ap (λ (b : Bool). cond b (posts bytes (column_place bytes (natural own))) []) out in
+    dots_none mark canvas
+    ∙ ap (λ (dots : List Dot). with_dots mark dots canvas) (sym (ap (posts_dots shape canvas.painter x column (byte_at bytes) (shade colormap e.map)) none ∙ no_posts shape canvas.painter x column (byte_at bytes) (shade colormap e.map)))
+
+natural_of : (z : ℤ) (n : ℕ) → z ≡ pos n → natural z ≡ n
+unfolding natural
+natural_of z n e = ap natural e
+
+-- one that it has
+pub column-inside : (mark : Painter → ℕ → ℕ) (shape : ViewShape) (bytes colormap : List ℕ) (map place n : ℕ) (clips : SpriteClips) (e : SpriteEntry) (column : MaskedColumn) (x : ℕ) (own : ℤ) (old new : CanvasView) → own ≡ picture_column e.flip e.width e.a1 e.iscale x →
+    (int_le (pos 0) own && int_lt own (pos (half_at bytes 0))) ≡ true → own ≡ pos n → place ≡ column_place bytes n → column ≡ clipped_masked shape.height clips e x → map ≡ e.map →
+    new ≡ with_dots mark (posts_dots shape old.painter x column (byte_at bytes) (shade colormap map) (posts bytes place)) old → new ≡ with_dots mark (read_column shape old.painter bytes colormap clips e x) old
+unfolding read_column
+column-inside mark shape bytes colormap map place n clips e column x own old new is inside here at c m h =
+    let same : posts bytes place ≡ own_posts bytes (picture_column e.flip e.width e.a1 e.iscale x) =
+        ap (posts bytes) (at ∙ ap (column_place bytes) (sym (natural_of own n here)))
+        ∙ sym (ap (λ (b : Bool). cond b (posts bytes (column_place bytes (natural own))) []) inside) ∙ ap (own_posts bytes) is in
+    h
+    ∙ ap (λ (ps : List Post). with_dots mark (posts_dots shape old.painter x column (byte_at bytes) (shade colormap map) ps) old) same
+    ∙ ap (λ (k : MaskedColumn). with_dots mark (posts_dots shape old.painter x k (byte_at bytes) (shade colormap map) (own_posts bytes (picture_column e.flip e.width e.a1 e.iscale x))) old) c
+    ∙ ap (λ (k : ℕ). with_dots mark (posts_dots shape old.painter x (clipped_masked shape.height clips e x) (byte_at bytes) (shade colormap k) (own_posts bytes (picture_column e.flip e.width e.a1 e.iscale x))) old) m
+
+-- the columns, one after the other
+pub columns-none : (mark : Painter → ℕ → ℕ) (shape : ViewShape) (bytes colormap : List ℕ) (clips : SpriteClips) (e : SpriteEntry) (first : ℕ) (canvas : CanvasView) → canvas ≡ with_dots mark (read_columns shape canvas.painter bytes colormap clips e first first) canvas
+unfolding read_columns joined_lists
+columns-none mark shape bytes colormap clips e first canvas =
+    let z : first - first ≡ 0 = omega arith in
+    dots_none mark canvas
+    ∙ ap (λ (n : ℕ). with_dots mark (joined_lists (read_column shape canvas.painter bytes colormap clips e) (map (λ x. x) (range_with_len first n))) canvas) (sym z)
+
+joined_one : (f : ℕ → List Dot) (x : ℕ) → joined_lists f (x ∷ []) ≡ f x
+unfolding joined_lists
+joined_one f x = append-nil (f x)
+
+columns_more : (shape : ViewShape) (painter : Painter) (bytes colormap : List ℕ) (clips : SpriteClips) (e : SpriteEntry) (first x : ℕ) → first ≤ x →
+    read_columns shape painter bytes colormap clips e first (x + 1) ≡ read_columns shape painter bytes colormap clips e first x ++ read_column shape painter bytes colormap clips e x
+unfolding read_columns
+columns_more shape painter bytes colormap clips e first x l =
+    let f = read_column shape painter bytes colormap clips e in
+    let n : x + 1 - first ≡ x - first + 1 = omega arith in
+    let m : first + (x - first) ≡ x = omega arith in
+    ap (λ (k : ℕ). joined_lists f (map (λ x. x) (range_with_len first k))) n
+    ∙ ap (joined_lists f) (map-range_with_len_more (λ x. x) first (x - first) x m)
+    ∙ joined_lists-append f (map (λ x. x) (range_with_len first (x - first))) (x ∷ [])
+    ∙ ap (λ (ys : List Dot). joined_lists f (map (λ x. x) (range_with_len first (x - first))) ++ ys) (joined_one f x)
+
+dots_append : (mark : Painter → ℕ → ℕ) (xs ys : List Dot) (canvas : CanvasView) → with_dots mark ys (with_dots mark xs canvas) ≡ with_dots mark (xs ++ ys) canvas
+dots_append mark xs ys canvas = ap (λ (cells : List ℕ). record canvas { cells = cells }) (sym (put_dots-append mark canvas.left canvas.top xs ys canvas.cells))
+
+pub columns-more : (mark : Painter → ℕ → ℕ) (shape : ViewShape) (bytes colormap : List ℕ) (clips : SpriteClips) (e : SpriteEntry) (first x : ℕ) (start now new : CanvasView) → first ≤ x →
+    now ≡ with_dots mark (read_columns shape start.painter bytes colormap clips e first x) start → new ≡ with_dots mark (read_column shape now.painter bytes colormap clips e x) now →
+    new ≡ with_dots mark (read_columns shape start.painter bytes colormap clips e first (x + 1)) start
+columns-more mark shape bytes colormap clips e first x start now new l before one =
+    one
+    ∙ ap (λ (c : CanvasView). with_dots mark (read_column shape c.painter bytes colormap clips e x) c) before
+    ∙ dots_append mark (read_columns shape start.painter bytes colormap clips e first x) (read_column shape start.painter bytes colormap clips e x) start
+    ∙ ap (λ (dots : List Dot). with_dots mark dots start) (sym (columns_more shape start.painter bytes colormap clips e first x l))
+
+-- the columns of a sprite by its picture's bytes
+lists_same : (f g : ℕ → List Dot) (xs : List ℕ) → ((x : ℕ) → f x ≡ g x) → joined_lists f xs ≡ joined_lists g xs
+unfolding joined_lists
+lists_same f g [] h = refl
+lists_same f g (x ∷ xs) h = ap (λ (ys : List Dot). ys ++ joined_lists f xs) (h x) ∙ ap (λ (ys : List Dot). g x ++ ys) (lists_same f g xs h)
+
+not_less : (a b : ℤ) (first last : ℕ) → a ≡ pos first → b ≡ pos last → first ≤ last → int_lt b a ≡ false
+not_less a b first last p q l = grind (arith, ints)
+
+rows_whole : (a b : ℤ) (first last : ℕ) → a ≡ pos first → b ≡ pos last → first ≤ last → rows_between a b ≡ map (λ x. x) (range_with_len first (last + 1 - first))
+unfolding rows_between listed_from
+rows_whole a b first last p q l =
+    let none : int_lt b a ≡ false = not_less a b first last p q l in
+    ap (λ (c : Bool). cond c [] (map (λ x. x) (range_with_len (natural a) (natural b + 1 - natural a)))) none
+    ∙ ap (λ (n : ℕ). map (λ x. x) (range_with_len n (natural b + 1 - n))) (natural_of a first p)
+    ∙ ap (λ (n : ℕ). map (λ x. x) (range_with_len first (n + 1 - first))) (natural_of b last q)
+
+column_read : (v : ViewValue) (bytes : ℕ → List ℕ) (textures : TexturesView) (colormap : ℕ) (clips : SpriteClips) (e : SpriteEntry) (x : ℕ) →
+    clipped_column v (view_art bytes textures colormap) clips e x ≡ read_column v.shape (painter_of SPRITE e.number (lump_source e.lump)) (bytes e.lump) (bytes colormap) clips e x
+unfolding clipped_column read_column view_art
+column_read v bytes textures colormap clips e x = refl
+
+pub columns-read : (v : ViewValue) (bytes : ℕ → List ℕ) (textures : TexturesView) (colormap : ℕ) (clips : SpriteClips) (e : SpriteEntry) (first last : ℕ) → e.first ≡ pos first → e.last ≡ pos last → first ≤ last →
+    read_columns v.shape (painter_of SPRITE e.number (lump_source e.lump)) (bytes e.lump) (bytes colormap) clips e first (last + 1) ≡ clipped_dots v (view_art bytes textures colormap) clips e
+unfolding read_columns clipped_dots
+columns-read v bytes textures colormap clips e first last p q l =
+    sym (ap (joined_lists (clipped_column v (view_art bytes textures colormap) clips e)) (rows_whole e.first e.last first last p q l)
+    ∙ lists_same (clipped_column v (view_art bytes textures colormap) clips e) (read_column v.shape (painter_of SPRITE e.number (lump_source e.lump)) (bytes e.lump) (bytes colormap) clips e) (map (λ x. x) (range_with_len first (last + 1 - first)))
+      (λ x. column_read v bytes textures colormap clips e x))
+
+pub sprite-painter : (number lump : ℕ) → record { kind = SPRITE; number = number; source_kind = LUMP; source = lump } ≡ painter_of SPRITE number (lump_source lump)
+unfolding painter_of lump_source
+sprite-painter number lump = refl
+
+-- their bytes fit beside the colormap, where the painter's do
+module _ (lumps : List Lump) (textures : TexturesView) (colormap count zone : ℕ) where
+  fit_posts : (shape : ViewShape) (painter : Painter) (x : ℕ) (c : MaskedColumn) (byte shade_of : ℕ → ℕ) (ps : List Post) → FitsBeside lumps textures colormap count zone painter → FitBeside lumps textures colormap count zone (posts_dots shape painter x c byte shade_of ps)
+  unfolding posts_dots joined_lists post_dots
+  fit_posts shape painter x c byte shade_of [] fits = tt
+  fit_posts shape painter x c byte shade_of (p ∷ ps) fits =
+      fit_beside-append lumps textures colormap count zone (post_dots shape painter x c byte shade_of p) (joined_lists (post_dots shape painter x c byte shade_of) ps)
+      (fit_beside-column_dots lumps textures colormap count zone painter x (post_colour shape c byte shade_of p) (post_rows shape c p) fits) (fit_posts shape painter x c byte shade_of ps fits)
+
+  fit_column : (shape : ViewShape) (painter : Painter) (bytes shades : List ℕ) (clips : SpriteClips) (e : SpriteEntry) (x : ℕ) → FitsBeside lumps textures colormap count zone painter → FitBeside lumps textures colormap count zone (read_column shape painter bytes shades clips e x)
+  unfolding read_column
+  fit_column shape painter bytes shades clips e x fits = fit_posts shape painter x (clipped_masked shape.height clips e x) (byte_at bytes) (shade shades e.map) (own_posts bytes (picture_column e.flip e.width e.a1 e.iscale x)) fits
+
+  fit_list : (shape : ViewShape) (painter : Painter) (bytes shades : List ℕ) (clips : SpriteClips) (e : SpriteEntry) (xs : List ℕ) → FitsBeside lumps textures colormap count zone painter → FitBeside lumps textures colormap count zone (joined_lists (read_column shape painter bytes shades clips e) xs)
+  unfolding joined_lists
+  fit_list shape painter bytes shades clips e [] fits = tt
+  fit_list shape painter bytes shades clips e (x ∷ xs) fits =
+      fit_beside-append lumps textures colormap count zone (read_column shape painter bytes shades clips e x) (joined_lists (read_column shape painter bytes shades clips e) xs) (fit_column shape painter bytes shades clips e x fits) (fit_list shape painter bytes shades clips e xs fits)
+
+  pub fit-columns : (v : ViewValue) (bytes : ℕ → List ℕ) (clips : SpriteClips) (e : SpriteEntry) (first last : ℕ) → e.first ≡ pos first → e.last ≡ pos last → first ≤ last →
+      FitsBeside lumps textures colormap count zone (painter_of SPRITE e.number (lump_source e.lump)) → FitBeside lumps textures colormap count zone (clipped_dots v (view_art bytes textures colormap) clips e)
+  unfolding read_columns
+  fit-columns v bytes clips e first last p q l fits =
+      fit_beside-as lumps textures colormap count zone (columns-read v bytes textures colormap clips e first last p q l)
+      (fit_list v.shape (painter_of SPRITE e.number (lump_source e.lump)) (bytes e.lump) (bytes colormap) clips e (map (λ x. x) (range_with_len first (last + 1 - first))) fits)
+
+-- a picture that was painted by its bytes
+pub picture-painted : {mark : Painter → ℕ → ℕ} (v : ViewValue) (bytes : ℕ → List ℕ) (textures : TexturesView) (colormap : ℕ) (clips : SpriteClips) (e : SpriteEntry) (first last : ℕ) (shape : ViewShape) (own shades : List ℕ) (start began new : CanvasView) →
+    e.first ≡ pos first → e.last ≡ pos last → first ≤ last → shape ≡ v.shape → own ≡ bytes e.lump → shades ≡ bytes colormap → began ≡ with_painter (record { kind = SPRITE; number = e.number; source_kind = LUMP; source = e.lump }) start →
+    new ≡ with_dots mark (read_columns shape began.painter own shades clips e first (last + 1)) began → HasDots mark (clipped_dots v (view_art bytes textures colormap) clips e) start new
+picture-painted {mark} v bytes textures colormap clips e first last shape own shades start began new p q l s b m w h =
+    let painter = ap (λ (c : CanvasView). c.painter) w ∙ sprite-painter e.number e.lump in
+    has_dots-as
+    (ap (λ (z : ViewShape). read_columns z began.painter own shades clips e first (last + 1)) s
+    ∙ ap (λ (z : Painter). read_columns v.shape z own shades clips e first (last + 1)) painter
+    ∙ ap (λ (z : List ℕ). read_columns v.shape (painter_of SPRITE e.number (lump_source e.lump)) z shades clips e first (last + 1)) b
+    ∙ ap (λ (z : List ℕ). read_columns v.shape (painter_of SPRITE e.number (lump_source e.lump)) (bytes e.lump) z clips e first (last + 1)) m
+    ∙ columns-read v bytes textures colormap clips e first last p q l)
+    (has_dots-painted w h)
+
+pub some-same : (a b : List ℕ) (o : Option (List ℕ)) → Some a ≡ o → o ≡ Some b → a ≡ b
+some-same a b o p q = cc
+
+-- the bytes were made live, and then painted
+pub paints-live : {A B : Type 0} {mark : Painter → ℕ → ℕ} {s : MaskScene} {among pictures : ℕ → Type 0} (f : Art → List Dot) (view live after : ShelfView) (x y z : Heap) (a b : CanvasView) (first : A) (answer : B) →
+    DrawsWith cache_fault among pictures view live s.dir.now s.textures.now x y (Ok first) → after ≡ live → z ≡ y →
+    ((contents : List (List ℕ)) (count : ℕ) → HoldsArt live s.dir.now s.textures.now contents s.colormap.0 count y → HasDots mark (f (scene_art contents s)) a b) →
+    ((contents : List (List ℕ)) (count : ℕ) → HoldsArt live s.dir.now s.textures.now contents s.colormap.0 count y → FitBeside s.dir.now.lumps s.textures.now s.colormap.0 count y.size (f (scene_art contents s))) →
+    PlacedAlike a b → PaintsDots mark s among pictures f (state view x a) (state after z b) (Ok answer)
+paints-live {s = s} {among} {pictures} f view live after x y z a b first answer draws p q painted fits place = record {
+  painted = λ contents count held. painted contents count (holds_art-later draws.keeps held);
+  fits = λ contents count held.
+      subst (λ (n : ℕ). FitBeside s.dir.now.lumps s.textures.now s.colormap.0 count n (f (scene_art contents s))) draws.keeps.counts.0 (fits contents count (holds_art-later draws.keeps held));
+  draws = subst (λ (w : ShelfView). DrawsWith cache_fault among pictures view w s.dir.now s.textures.now x z (Ok answer)) (sym p)
+      (subst (λ (u : Heap). DrawsWith cache_fault among pictures view live s.dir.now s.textures.now x u (Ok answer)) (sym q) (draws-value first answer draws));
+  place = place;
+}
+
+-- they were not made live
+pub paints-missed : {A B : Type 0} {mark : Painter → ℕ → ℕ} {s : MaskScene} {among pictures : ℕ → Type 0} {f : Art → List Dot} (view after : ShelfView) (x y : Heap) (a : CanvasView) {part : Result B CacheFault} {fault : CacheFault} {whole : Result A CacheFault} →
+    part ≡ Err fault → IsErrAnd whole (λ e. e ≡ fault) → DrawsWith cache_fault among pictures view after s.dir.now s.textures.now x y part → PaintsDots mark s among pictures f (state view x a) (state after y a) whole
+paints-missed {mark = mark} {s = s} {f = f} view after x y a {fault = fault} {whole} was is draws = record {
+  painted = λ contents count held. on_ok_err (HasDots mark (f (scene_art contents s)) a a) fault whole is;
+  fits = λ contents count held. on_ok_err (FitBeside s.dir.now.lumps s.textures.now s.colormap.0 count x.size (f (scene_art contents s))) fault whole is;
+  draws = draws-stop was is draws;
+  place = placed-none a;
+}

@@ -1,0 +1,233 @@
+-- Laws of the posts of a masked column: which rows they have, and their dots one post after the other.
+use Rattle.std.proofs.Common.{◌≡◌, ◌+◌, ◌^◌, ◌≤◌, ◌<◌, ◌⊎◌, ℕ, ℤ, pos, negsuc, ◌+ℤ◌, ◌-ℤ◌, ◌≤ℤ◌, ◌<ℤ◌, FitsSigned, Bool, true, false, List, [], ◌∷◌, ◌++◌, length, Some, None, refl, sym, ap, subst, ◌∙◌, arith, inl, inr}
+use Rattle.std.specs.Prelude.{int_lt, slice_index, min, if◌then◌else◌}
+use Rattle.std.specs.Int.{w32}
+use Rattle.std.proofs.lemmas.Bool.{cases_lt}
+use Rattle.std.proofs.lemmas.Int.{ints, clamps, int_wrap_fits}
+use Rattle.std.proofs.lemmas.List.{get_or_past}
+use Rattle.word_rules.specs.Words.{plus, minus, fixed, greater_word, lesser_word, minus_one}
+use Rattle.word_rules.specs.Listed.{listed_from, joined_lists}
+use Rattle.word_rules.proofs.ListedLemmas.{joined_lists-cons}
+use Rattle.view_rules.specs.declared.ViewShape.{ViewShape}
+use Rattle.art_rules.specs.Bytes.{byte_at}
+use Rattle.art_rules.specs.Patches.{is_post, next_place, post_at, post_in, posts}
+use Rattle.art_rules.proofs.PostLemmas.{is_post-within, posts-none, posts-some}
+use Rattle.pixel_rules.specs.declared.MaskedColumn.{MaskedColumn}
+use Rattle.pixel_rules.specs.declared.Painter.{Painter}
+use Rattle.pixel_rules.specs.declared.Post.{Post}
+use Rattle.pixel_rules.specs.Dots.{Dot}
+use Rattle.pixel_rules.specs.Posts.{picture_top, post_bottom, post_colour, post_dots, post_first, post_last, post_rows, post_texel, post_top, posts_dots}
+use Rattle.pixel_rules.specs.Strips.{column_dots, row_fraction, rows_between, shade, texel_row}
+use Rattle.pixel_rules.proofs.DotLemmas.{put_dots-append}
+use Rattle.pixel_strips.specs.Canvases.{CanvasView, with_dots}
+use Rattle.pixel_strips.specs.Strips.{column_strip_dots, strip_colour}
+use Rattle.pixel_strips.proofs.CanvasLemmas.{dots_none}
+use Rattle.pixel_strips.proofs.RowLemmas.{row_shade, rows-between, strip-rows}
+use Rattle.picture_rules.specs.Noted.{least_clip, greatest_clip}
+
+-- what lies between two words is a word
+fits_between : (z : ℤ) → negsuc 2147483647 ≤ℤ z → z ≤ℤ pos 2147483647 → FitsSigned w32 z
+fits_between (pos n) l h = record { sfits = omega (arith, ints) }
+fits_between (negsuc n) l h = record { sfits = omega (arith, ints) }
+
+greater-first : (a b : ℤ) → a ≤ℤ greater_word a b
+unfolding greater_word
+greater-first a b = omega (arith, ints, clamps)
+
+lesser-first : (a b : ℤ) → lesser_word a b ≤ℤ a
+unfolding lesser_word
+lesser-first a b = omega (arith, ints, clamps)
+
+-- the rows of a post are in the view
+pub post_first-low : (clip begin : ℤ) → minus_one ≤ℤ clip → clip ≤ℤ greatest_clip →
+    pos 0 ≤ℤ post_first clip begin
+unfolding post_first plus greatest_clip
+post_first-low clip begin l h =
+    let e : plus clip (pos 1) ≡ clip +ℤ pos 1 = int_wrap_fits w32 (clip +ℤ pos 1)
+    (fits_between _ (omega (arith, ints)) (omega (arith, ints))) in
+    let least : pos 0 ≤ℤ (clip +ℤ pos 1) = omega (arith, ints) in
+    above (plus clip (pos 1)) _ (subst (λ (z : ℤ). pos 0 ≤ℤ z) (sym e) least) where
+      above : (a b : ℤ) → pos 0 ≤ℤ a → pos 0 ≤ℤ greater_word a b
+      above a b k = let g = greater-first a b in omega (arith, ints)
+
+pub post_last-high : (clip end : ℤ) (height : ℕ) → height < 2 ^ 16 → least_clip ≤ℤ clip →
+    clip ≤ℤ pos height → post_last clip end <ℤ pos height
+unfolding post_last minus least_clip
+post_last-high clip end height few l h =
+    let e : minus clip (pos 1) ≡ clip -ℤ pos 1 = int_wrap_fits w32 (clip -ℤ pos 1)
+    (fits_between _ (omega (arith, ints)) (omega (arith, ints))) in
+    let most : (clip -ℤ pos 1) <ℤ pos height = omega (arith, ints) in
+    below (minus clip (pos 1)) _ (subst (λ (z : ℤ). z <ℤ pos height) (sym e) most) where
+      below : (a b : ℤ) → a <ℤ pos height → lesser_word a b <ℤ pos height
+      below a b k = let g = lesser-first a b in omega (arith, ints)
+
+-- no row, no dot
+pub post-none : (shape : ViewShape) (painter : Painter) (x : ℕ) (c : MaskedColumn)
+    (byte shade_of : ℕ → ℕ) (post : Post) (top : ℤ) →
+    top ≡ post_top (picture_top shape c.mid c.scale) c.scale post.topdelta →
+    int_lt (post_last c.bottom_clip (post_bottom top c.scale post.length))
+    (post_first c.top_clip top) ≡ true →
+    [] ≡ post_dots shape painter x c byte shade_of post
+unfolding post_dots post_rows rows_between column_dots
+post-none shape painter x c byte shade_of post top is none = rw (← is) (rw none refl)
+
+-- past the end of the bytes each one is 0
+past_end : (bytes : List ℕ) (place r : ℕ) →
+    slice_index bytes (min place (length bytes) + r) ≡ slice_index bytes (place + r)
+past_end bytes place r = go (cases_lt (length bytes) place) where
+  go : (length bytes < place) ⊎ (place ≤ length bytes) →
+      slice_index bytes (min place (length bytes) + r) ≡ slice_index bytes (place + r)
+  go (inl l) = get_or_past bytes (min place (length bytes) + r) 0 (omega arith)
+      ∙ sym (get_or_past bytes (place + r) 0 (omega arith))
+  go (inr l) = let e : min place (length bytes) ≡ place = omega arith in
+      ap (λ (n : ℕ). slice_index bytes (n + r)) e
+
+-- a strip that was painted with a post's bytes has the post's dots
+pub post-strip : (shape : ViewShape) (painter : Painter) (x : ℕ) (c : MaskedColumn)
+    (source colormap : List ℕ) (m : ℕ) (post : Post) (top : ℤ) (first last base : ℕ)
+    (fraction step : ℤ) →
+    top ≡ post_top (picture_top shape c.mid c.scale) c.scale post.topdelta →
+    base ≡ min post.first (length source) → step ≡ c.iscale →
+    fraction ≡ row_fraction shape.centre_y (minus c.mid (fixed (pos post.topdelta))) c.iscale first →
+    pos first ≡ post_first c.top_clip top →
+    pos last ≡ post_last c.bottom_clip (post_bottom top c.scale post.length) →
+    int_lt (post_last c.bottom_clip (post_bottom top c.scale post.length))
+    (post_first c.top_clip top) ≡ false →
+    column_strip_dots painter x (strip_colour source base colormap m fraction step first) first last
+    ≡ post_dots shape painter x c (byte_at source) (shade colormap m) post
+unfolding post_dots post_colour post_texel post_rows byte_at
+post-strip shape painter x c source colormap m post top first last base fraction step is_top is_base
+    is_step is_fraction is_first is_last ordered =
+    let mid : ℤ = minus c.mid (fixed (pos post.topdelta)) in
+    let colour : (y : ℕ) →
+    row_shade source base colormap m shape.centre_y mid c.iscale y
+    ≡ shade colormap m (slice_index source (post.first
+    + texel_row (row_fraction shape.centre_y mid c.iscale y))) =
+    λ y. ap (λ (n : ℕ). row_shade source n colormap m shape.centre_y mid c.iscale y) is_base
+    ∙ ap (shade colormap m) (past_end source post.first
+    (texel_row (row_fraction shape.centre_y mid c.iscale y))) in
+    ap (λ (z : ℤ). column_strip_dots painter x
+    (strip_colour source base colormap m fraction z first) first last) is_step
+    ∙ strip-rows painter x source base colormap m shape.centre_y mid c.iscale fraction first last
+    is_fraction
+    ∙ ap (λ (f : ℕ → ℕ). column_dots painter x f (listed_from (λ y. y) first last))
+    (λ i y. colour y i)
+    ∙ ap (column_dots painter x _) (rows-between (post_first c.top_clip top)
+    (post_last c.bottom_clip (post_bottom top c.scale post.length)) first last is_first is_last ordered)
+    ∙ ap (λ (z : ℤ). column_dots painter x
+    (λ y. shade colormap m (slice_index source (post.first
+    + texel_row (row_fraction shape.centre_y mid c.iscale y))))
+    (rows_between (post_first c.top_clip z)
+    (post_last c.bottom_clip (post_bottom z c.scale post.length)))) is_top
+
+-- first the one list, then the other
+with_dots-append : (mark : Painter → ℕ → ℕ) (xs ys : List Dot) (canvas : CanvasView) →
+    with_dots mark (xs ++ ys) canvas ≡ with_dots mark ys (with_dots mark xs canvas)
+with_dots-append mark xs ys canvas = ap (λ (cells : List ℕ). record canvas { cells = cells })
+    (put_dots-append mark canvas.left canvas.top xs ys canvas.cells)
+
+posts-cons : (shape : ViewShape) (painter : Painter) (x : ℕ) (c : MaskedColumn)
+    (byte shade_of : ℕ → ℕ) (p : Post) (ps : List Post) →
+    posts_dots shape painter x c byte shade_of (p ∷ ps)
+    ≡ post_dots shape painter x c byte shade_of p ++ posts_dots shape painter x c byte shade_of ps
+unfolding posts_dots
+posts-cons shape painter x c byte shade_of p ps =
+    joined_lists-cons (post_dots shape painter x c byte shade_of) p ps
+
+posts-nil : (shape : ViewShape) (painter : Painter) (x : ℕ) (c : MaskedColumn)
+    (byte shade_of : ℕ → ℕ) → posts_dots shape painter x c byte shade_of [] ≡ []
+unfolding posts_dots joined_lists
+posts-nil shape painter x c byte shade_of = refl
+
+-- a post that begins at a place, and none
+pub record IsPostAt (bytes : List ℕ) (place : ℕ) (post : Post) : Type 0 where
+  pub on : is_post bytes place ≡ true
+  pub is : post ≡ post_in bytes place
+  pub first : post.first ≡ place + 3
+
+pub post_at-some : (bytes : List ℕ) (place : ℕ) (post : Post) →
+    Some post ≡ post_at bytes place → IsPostAt bytes place post
+unfolding post_at post_in
+post_at-some bytes place post e = go (is_post bytes place) refl e where
+  go : (b : Bool) → is_post bytes place ≡ b →
+      Some post ≡ (if b then Some (post_in bytes place) else None) → IsPostAt bytes place post
+  go true on same = let is : post ≡ post_in bytes place = cc in
+      record { on = on; is = is; first = ap (λ (p : Post). p.first) is }
+  go false off same = cc
+
+pub post_at-none : (bytes : List ℕ) (place : ℕ) → None ≡ post_at bytes place →
+    is_post bytes place ≡ false
+unfolding post_at
+post_at-none bytes place e = go (is_post bytes place) refl e where
+  go : (b : Bool) → is_post bytes place ≡ b →
+      None ≡ (if b then Some (post_in bytes place) else None) → is_post bytes place ≡ false
+  go true on same = cc
+  go false off same = off
+
+pub is_post-past : (bytes : List ℕ) (place : ℕ) → length bytes ≤ place →
+    is_post bytes place ≡ false
+is_post-past bytes place l = go (is_post bytes place) refl where
+  go : (b : Bool) → is_post bytes place ≡ b → is_post bytes place ≡ false
+  go true on = let w = is_post-within bytes place on in absurd (omega arith)
+  go false off = off
+
+-- the post after one does not begin before its first texel
+pub next_place-from : (post : Post) → post.first ≤ next_place post
+unfolding next_place
+next_place-from post = omega arith
+
+-- What is left to paint, from a place on, with what was painted of the posts from another place on.
+pub record ArePostsLeft (mark : Painter → ℕ → ℕ) (shape : ViewShape) (x : ℕ) (c : MaskedColumn)
+    (bytes colormap : List ℕ) (m start place : ℕ) (first now : CanvasView) : Type 0 where
+  pub same : with_dots mark (posts_dots shape now.painter x c (byte_at bytes) (shade colormap m)
+      (posts bytes place)) now
+      ≡ with_dots mark (posts_dots shape first.painter x c (byte_at bytes) (shade colormap m)
+      (posts bytes start)) first
+  pub left : now.left ≡ first.left
+  pub top : now.top ≡ first.top
+
+module _ {mark : Painter → ℕ → ℕ} {shape : ViewShape} {x : ℕ} {c : MaskedColumn}
+    {bytes colormap : List ℕ} {m start : ℕ} {first : CanvasView} where
+  pub left-none : ArePostsLeft mark shape x c bytes colormap m start start first first
+  left-none = record { same = refl; left = refl; top = refl }
+
+  -- a post was painted
+  pub left-more : (place next : ℕ) (now after : CanvasView) (post : Post) →
+      ArePostsLeft mark shape x c bytes colormap m start place first now →
+      IsPostAt bytes place post → next ≡ next_place post →
+      after ≡ with_dots mark (post_dots shape now.painter x c (byte_at bytes) (shade colormap m) post)
+      now →
+      ArePostsLeft mark shape x c bytes colormap m start next first after
+  left-more place next now after post left at is_next painted =
+      let rest : Painter → List Dot = λ painter. posts_dots shape painter x c (byte_at bytes)
+      (shade colormap m) (posts bytes next) in
+      let one : List Dot = post_dots shape now.painter x c (byte_at bytes) (shade colormap m) post in
+      let all : posts bytes place ≡ post ∷ posts bytes next =
+      posts-some bytes place at.on
+      ∙ ap (λ (p : Post). p ∷ posts bytes (next_place p)) (sym at.is)
+      ∙ ap (λ (n : ℕ). post ∷ posts bytes n) (sym is_next) in
+      record {
+        same = ap (λ (canvas : CanvasView). with_dots mark (rest canvas.painter) canvas) painted
+            ∙ sym (with_dots-append mark one (rest now.painter) now)
+            ∙ ap (λ (dots : List Dot). with_dots mark dots now)
+            (sym (ap (posts_dots shape now.painter x c (byte_at bytes) (shade colormap m)) all
+            ∙ posts-cons shape now.painter x c (byte_at bytes) (shade colormap m) post
+            (posts bytes next)))
+            ∙ left.same;
+        left = ap (λ (canvas : CanvasView). canvas.left) painted ∙ left.left;
+        top = ap (λ (canvas : CanvasView). canvas.top) painted ∙ left.top;
+      }
+
+  -- no post begins there
+  pub left-end : (place : ℕ) (now : CanvasView) →
+      ArePostsLeft mark shape x c bytes colormap m start place first now →
+      is_post bytes place ≡ false →
+      now ≡ with_dots mark (posts_dots shape first.painter x c (byte_at bytes) (shade colormap m)
+      (posts bytes start)) first
+  left-end place now left off =
+      dots_none mark now
+      ∙ ap (λ (dots : List Dot). with_dots mark dots now)
+      (sym (ap (posts_dots shape now.painter x c (byte_at bytes) (shade colormap m))
+      (posts-none bytes place off)
+      ∙ posts-nil shape now.painter x c (byte_at bytes) (shade colormap m)))
+      ∙ left.same

@@ -1,0 +1,49 @@
+-- One fragment after the other, from the last down.
+use Rattle.std.proofs.Common.{◌≡◌, ◌+◌, ◌-◌, ◌<◌, ℕ, List, length, refl, sym, ap, ◌∙◌, subst, arith}
+use Rattle.std.specs.Prelude.{Some, slice_get, slice_index_or}
+use Rattle.sprite_rules.specs.declared.SpriteEntry.{SpriteEntry}
+use Rattle.wall_rules.specs.declared.FragmentNote.{FragmentNote}
+use Rattle.masked_draw.proofs.LoopLemmas.{LeavesMiddles, leaves-end, leaves-more, leaves-start, leaves-stop, note-get}
+use Rattle.masked_draw.proofs.SceneLemmas.{can_pass-later, scene-apart, scene-whole}
+use Rattle.masked_draw.proofs.pass.draw_middles.Goals as goal
+
+pub loop-k-init : goal.loop-k-init
+loop-k-init g c = record {
+  same_cache = refl;
+  same_shelf = refl;
+  same_canvas = refl;
+  same_marks = refl;
+  marks = refl;
+  ready = c.requires.ready;
+  leaves = λ es h. leaves-start c.args.scene.now c.args.notes.now es g.C.Canvas.mark _ _ h;
+}
+
+pub paint_middle-requires-clause-whole : goal.paint_middle-requires-clause-whole
+paint_middle-requires-clause-whole g c = scene-whole (c.loop-k.k - 1) _ c.requires.ready.noted (note-get c.args.notes.now (c.loop-k.k - 1) _ (omega arith))
+
+pub paint_middle-requires-clause-ordered : goal.paint_middle-requires-clause-ordered
+paint_middle-requires-clause-ordered g c = (scene-whole (c.loop-k.k - 1) _ c.requires.ready.noted (note-get c.args.notes.now (c.loop-k.k - 1) _ (omega arith))).ordered
+
+pub loop-k-preserved : goal.loop-k-preserved
+loop-k-preserved g c =
+    let i = c.loop-k.invariant in
+    let e = c.in_ok-paint_middle.ensures in
+    record {
+      same_cache = e.same_cache ∙ i.same_cache;
+      same_shelf = e.same_shelf ∙ i.same_shelf;
+      same_canvas = e.same_canvas ∙ i.same_canvas;
+      same_marks = e.same_marks ∙ i.same_marks;
+      marks = e.marks ∙ i.marks;
+      ready = can_pass-later _ _ e.paints e.marks i.ready;
+      leaves = λ es h.
+          let up : c.loop-k.k ≡ c.loop-k.k - 1 + 1 = omega arith in
+          let below : c.loop-k.k - 1 < length c.args.notes.now = omega arith in
+          leaves-more c.args.scene.now c.args.notes.now es c.loop-k.k (c.loop-k.k - 1) _ _ _ _ (scene-apart i.ready.noted) below (note-get c.args.notes.now (c.loop-k.k - 1) _ below) refl up (i.leaves es h) e.paints e.marked;
+    }
+
+pub returns-in_err-paint_middle-clause-paints : goal.returns-in_err-paint_middle-clause-paints
+returns-in_err-paint_middle-clause-paints g c = λ es h.
+    leaves-stop c.args.scene.now c.args.notes.now es c.loop-k.k (c.loop-k.k - 1) _ _ (note-get c.args.notes.now (c.loop-k.k - 1) _ (omega arith)) c.in_err-paint_middle.was c.from_residual.ensures.1 (c.loop-k.invariant.leaves es h) c.paint_middle.ensures.paints
+
+pub returns-clause-paints : goal.returns-clause-paints
+returns-clause-paints g c = λ es h. leaves-end c.args.scene.now c.args.notes.now es c.loop-k.k _ (omega arith) (c.loop-k.invariant.leaves es h)

@@ -1,0 +1,69 @@
+-- One sprite after the other, in drawing order.
+use Rattle.std.proofs.Common.{◌≡◌, ◌+◌, ◌<◌, ◌++◌, ◌∷◌, [], ℕ, List, length, get_or, refl, sym, ap, ◌∙◌, subst, arith, rules}
+use Rattle.std.proofs.lemmas.List.{length_push, map-id}
+use Rattle.std.proofs.lemmas.Iterator.Consumers.{YieldsList-end, YieldsList-from_first, YieldsList-turn}
+use Rattle.sprite_rules.specs.declared.SpriteEntry.{SpriteEntry}
+use Rattle.sprite_rules.specs.Order.{draw_order}
+use Rattle.sprite_rules.specs.Middles.{sprites_from}
+use Rattle.masked_draw.specs.Marks.{MarkedTo}
+use Rattle.masked_draw.specs.Scenes.{scene_drawseg, scene_drawsegs}
+use Rattle.masked_draw.proofs.PassLemmas.{marked-first, sprite-get, sprite-lies, sprite-lump, sprites-more, sprites-start, sprites-stop}
+use Rattle.masked_draw.proofs.SceneLemmas.{can_pass-later}
+use Rattle.masked_draw.proofs.StepLemmas.{paints-same}
+use Rattle.masked_draw.proofs.pass.draw_sprites.Goals as goal
+
+pub loop-entry-init : goal.loop-entry-init
+loop-entry-init g c = record {
+  same_cache = refl;
+  same_shelf = refl;
+  same_canvas = refl;
+  same_marks = refl;
+  marks = refl;
+  ready = c.requires.ready;
+  marked = marked-first (scene_drawseg c.args.scene.now) c.args.notes.now (draw_order c.args.sprites.now) _ _ c.requires.unmarked;
+  paints = sprites-start c.args.scene.now c.args.notes.now c.args.sprites.now _;
+}
+
+pub draw_sprite-requires-clause-within : goal.draw_sprite-requires-clause-within
+draw_sprite-requires-clause-within g c =
+    let t = YieldsList-turn (YieldsList-from_first (λ (x : SpriteEntry). x) (λ (es : List SpriteEntry). es) (draw_order c.args.sprites.now) cc) c.loop-entry.yielded _ c.loop-entry.yielded_by _ _ c.in-Some.entry c.in-Some.is c.next.ensures.steps in
+    sprite-lies _ c.args.sprites.now (length c.loop-entry.yielded) c.in-Some.entry c.requires.columns t
+
+pub draw_sprite-requires-clause-lump : goal.draw_sprite-requires-clause-lump
+draw_sprite-requires-clause-lump g c =
+    let t = YieldsList-turn (YieldsList-from_first (λ (x : SpriteEntry). x) (λ (es : List SpriteEntry). es) (draw_order c.args.sprites.now) cc) c.loop-entry.yielded _ c.loop-entry.yielded_by _ _ c.in-Some.entry c.in-Some.is c.next.ensures.steps in
+    sprite-lump _ c.args.sprites.now (length c.loop-entry.yielded) c.in-Some.entry c.requires.lumps t
+
+pub loop-entry-preserved : goal.loop-entry-preserved
+loop-entry-preserved g c =
+    let t = YieldsList-turn (YieldsList-from_first (λ (x : SpriteEntry). x) (λ (es : List SpriteEntry). es) (draw_order c.args.sprites.now) cc) c.loop-entry.yielded _ c.loop-entry.yielded_by _ _ c.in-Some.entry c.in-Some.is c.next.ensures.steps in
+    let s = c.args.scene.now in
+    let es = draw_order c.args.sprites.now in
+    let i = c.loop-entry.invariant in
+    let e = c.in_ok-draw_sprite.ensures in
+    let sprite = e.sprite es (length c.loop-entry.yielded) t.0 (sprite-get es (length c.loop-entry.yielded) c.in-Some.entry t) i.marked in
+    record {
+      same_cache = e.same_cache ∙ i.same_cache;
+      same_shelf = e.same_shelf ∙ i.same_shelf;
+      same_canvas = e.same_canvas ∙ i.same_canvas;
+      same_marks = e.same_marks ∙ i.same_marks;
+      marks = e.marks ∙ i.marks;
+      ready = can_pass-later _ _ sprite.paints e.marks i.ready;
+      marked = subst (λ (n : ℕ). MarkedTo (scene_drawseg s) c.args.notes.now es (length c.args.notes.now) (λ k. n) c.draw_sprite.new.hands.marks.now) (sym (length_push c.loop-entry.yielded c.in-Some.entry)) sprite.marked;
+      paints = sprites-more s c.args.notes.now c.args.sprites.now c.loop-entry.yielded c.in-Some.entry _ t i.paints sprite;
+    }
+
+pub returns-in_err-draw_sprite-clause-paints : goal.returns-in_err-draw_sprite-clause-paints
+returns-in_err-draw_sprite-clause-paints g c =
+    let t = YieldsList-turn (YieldsList-from_first (λ (x : SpriteEntry). x) (λ (es : List SpriteEntry). es) (draw_order c.args.sprites.now) cc) c.loop-entry.yielded _ c.loop-entry.yielded_by _ _ c.in-Some.entry c.in-Some.is c.next.ensures.steps in
+    let es = draw_order c.args.sprites.now in
+    let i = c.loop-entry.invariant in
+    sprites-stop c.args.scene.now c.args.notes.now c.args.sprites.now c.loop-entry.yielded c.in-Some.entry _ t c.in_err-draw_sprite.was c.from_residual.ensures.1 i.paints
+    (c.draw_sprite.ensures.sprite es (length c.loop-entry.yielded) t.0 (sprite-get es (length c.loop-entry.yielded) c.in-Some.entry t) i.marked)
+
+pub returns-clause-paints : goal.returns-clause-paints
+returns-clause-paints g c =
+    let t = YieldsList-end (YieldsList-from_first (λ (x : SpriteEntry). x) (λ (es : List SpriteEntry). es) (draw_order c.args.sprites.now) cc) c.loop-entry.yielded _ c.loop-entry.yielded_by _ _ c.in-None.is c.next.ensures.steps in
+    let s = c.args.scene.now in
+    let all : c.loop-entry.yielded ≡ draw_order c.args.sprites.now = sym (map-id c.loop-entry.yielded) ∙ t.0 in
+    paints-same _ (λ art. ap (λ (es : List SpriteEntry). sprites_from s.view.now art (scene_drawsegs s c.args.notes.now) (draw_order c.args.sprites.now) 0 es) all) c.loop-entry.invariant.paints

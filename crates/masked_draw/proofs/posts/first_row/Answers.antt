@@ -1,0 +1,12 @@
+use Rattle.std.proofs.Common.{◌≤ℤ◌, pos, rules}
+use Rattle.std.proofs.lemmas.Int.{to_z-of_z}
+use Rattle.pixel_rules.specs.Posts.{post_first}
+use Rattle.masked_draw.proofs.PostLemmas.{post_first-low}
+use Rattle.masked_draw.proofs.posts.first_row.Goals as goal
+
+pub returns-clause-from : goal.returns-clause-from
+unfolding post_first
+returns-clause-from c =
+    let low : pos 0 ≤ℤ post_first c.args.clip c.args.begin =
+    post_first-low c.args.clip c.args.begin c.requires.least c.requires.greatest in
+    search (rules, to_z-of_z, low)

@@ -1,0 +1,14 @@
+use Rattle.std.proofs.Common.{◌<ℤ◌, pos, rules, arith}
+use Rattle.std.proofs.lemmas.Int.{to_z-of_z}
+use Rattle.pixel_rules.specs.Posts.{post_last}
+use Rattle.masked_draw.proofs.PostLemmas.{post_last-high}
+use Rattle.masked_draw.proofs.posts.last_row.Goals as goal
+
+pub returns-clause-to : goal.returns-clause-to
+unfolding post_last
+returns-clause-to c =
+    let few = c.ranges.height in
+    let high : post_last c.args.clip c.args.end <ℤ pos c.args.height =
+    post_last-high c.args.clip c.args.end c.args.height (omega arith) c.requires.least
+    c.requires.greatest in
+    search (rules, to_z-of_z, high)
