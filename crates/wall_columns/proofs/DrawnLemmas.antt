@@ -59,13 +59,12 @@ can_paint-later v dir art colormap x y canvas next f counts place can =
     let a = can.columns in
     let b = can.rows in
     let d = can.slots in
-    let e = can.shades in
     record {
       within = can.within;
       columns = omega arith;
       rows = omega arith;
       slots = omega arith;
-      shades = omega arith;
+      shades = can.shades;
       textures = λ number some part. can_draw-later refl refl counts (can.textures number some part);
       scales = can.scales;
       light = can.light;
@@ -285,7 +284,7 @@ own_scale v facts first last k l = scale_least _ (numbers-scale v facts first la
 
 -- the fragment of a seg may be painted where its textures may be drawn
 pub can_paint-of : (v : ViewValue) (facts : WallFacts) (first last : ℕ) (dir : DirectoryView) (art : TexturesView) (colormap : ℕ) (z : Heap) (canvas : CanvasView) (f : FragmentValue) → f ≡ fragment_of v facts first last →
-    last < v.shape.width → canvas.left + v.shape.width ≤ FRAME_WIDTH → canvas.top + v.shape.height ≤ FRAME_HEIGHT → length dir.lumps ≤ z.lumps → colormap < z.lumps →
+    last < v.shape.width → canvas.left + v.shape.width ≤ FRAME_WIDTH → canvas.top + v.shape.height ≤ FRAME_HEIGHT → length dir.lumps ≤ z.lumps → colormap < length dir.lumps →
     ((number : ℕ) → IsWallTexture facts number → CanDraw dir.lumps art z number) → CanPaint v dir art colormap z canvas f
 can_paint-of v facts first last dir art colormap z canvas f is within columns rows slots shades textures =
     let P : FragmentValue → Type 0 = λ f. CanPaint v dir art colormap z canvas f in

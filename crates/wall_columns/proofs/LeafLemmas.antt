@@ -12,9 +12,7 @@ use Rattle.picture_rules.specs.Counts.{planes_count, openings_count}
 use Rattle.visplanes.specs.Planes.{PlanesView, with_planes}
 use Rattle.wall_rules.specs.declared.FragmentNumbers.{FragmentNumbers}
 use Rattle.wall_columns.specs.declared.fault.DrawFault.{DrawFault}
-use Rattle.lump_cache.specs.declared.fault.CacheFault.{CacheFault}
-use Rattle.lump_cache.specs.declared.fault.CacheFault.TheVariants as cache
-use Rattle.wall_columns.specs.Faults.{from_cache_fault, limit_of_fault, limit_of_result}
+use Rattle.wall_columns.specs.Faults.{limit_of_fault, limit_of_result}
 use Rattle.wall_columns.specs.Leaves.{planes_found, number_found, planes_checked, number_checked, ceiling_check, floor_check, planes_over, openings_over, leaf_over, checks_over}
 
 -- tests of a room
