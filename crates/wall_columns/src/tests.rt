@@ -1,6 +1,6 @@
 // Values from outside: a room from -256 to 256 map units both ways, seen from its middle, 41 map
 // units up, through the made tables, with texture WALL1 of the made WAD on its walls.
-ghost use Rattle.std.specs.Prelude.{◌≡◌, ◌<◌, ◌≤◌, ◌+◌, ℕ, IfOk, OnOk, length};
+ghost use Rattle.std.specs.Prelude.{◌≡◌, ◌<◌, ◌≤◌, ◌+◌, ℕ, IfOk, OnOk, length, ⊥};
 ghost use Rattle.view_rules.specs.declared.TheConstants.{FRAME_WIDTH, FRAME_HEIGHT};
 ghost use Rattle.plane_rules.specs.Built.{IsAmongPlanes};
 ghost use Rattle.texture_build.specs.Draws.{CanDraw};
@@ -93,6 +93,13 @@ fn east_wall(front: Surface, middle: WallTexture, back: Option<Surface>) -> Wall
         bottom: BARE,
         middle,
     }
+}
+
+// The same without a texture.
+fn bare_wall(front: Surface, back: Option<Surface>) -> WallFacts
+    ensures { (number : ℕ) → IsWallTexture result number → ⊥ }
+{
+    east_wall(front, BARE, back)
 }
 
 const WALL1: u16 = 1;
@@ -213,6 +220,38 @@ fn store(
     drawn.walls.store_range(&mut tools, facts, first, FRAME_WIDTH - 1)
 }
 
+// Draws a fragment without a texture in each column of the frame, 64 times.
+fn store_64(
+    drawn: &mut Drawn,
+    assets: &mut Assets,
+    view: &View<'_>,
+    facts: &WallFacts,
+) -> Result<(), DrawFault>
+    requires wide { view.now.shape.width ≡ FRAME_WIDTH }
+    requires height { drawn.old.walls.height ≡ view.now.shape.height }
+    requires left { drawn.old.frame.left + view.now.shape.width ≤ FRAME_WIDTH }
+    requires top { drawn.old.frame.top + view.now.shape.height ≤ FRAME_HEIGHT }
+    requires slots { length assets.old.dir.lumps ≤ assets.old.cache.lumps }
+    requires colormap { assets.old.colormap.0 < length assets.old.dir.lumps }
+    requires textures { (number : ℕ) → IsWallTexture facts.now number → ⊥ }
+    requires floor { IsAmongPlanes drawn.old.planes.planes drawn.old.walls.floor }
+    requires ceiling { IsAmongPlanes drawn.old.planes.planes drawn.old.walls.ceiling }
+    ensures height { drawn.new.walls.height ≡ drawn.old.walls.height }
+    ensures left { drawn.new.frame.left ≡ drawn.old.frame.left }
+    ensures top { drawn.new.frame.top ≡ drawn.old.frame.top }
+    ensures slots { length assets.new.dir.lumps ≤ assets.new.cache.lumps }
+    ensures colormap { assets.new.colormap.0 < length assets.new.dir.lumps }
+    ensures floor { OnOk result
+        (IsAmongPlanes drawn.new.planes.planes drawn.new.walls.floor) }
+    ensures ceiling { OnOk result
+        (IsAmongPlanes drawn.new.planes.planes drawn.new.walls.ceiling) }
+{
+    for _ in 0..64 {
+        store(drawn, assets, view, facts, 0)?;
+    }
+    Ok(())
+}
+
 // The run of a plane in column `x`.
 fn run_at(planes: &Planes, plane: u32, x: u16) -> Option<(u8, u8)>
     requires { x < FRAME_WIDTH }
@@ -283,7 +322,7 @@ fn a_floor_and_a_ceiling_of_sky_are_one_plane(rt: HostRuntime) -> Result<(), Fai
     };
     let mut assets = load_assets(alloc)?;
     let mut drawn = in_leaf(alloc, &view, leaf)?;
-    let wall = east_wall(OPEN_AIR, BARE, None);
+    let wall = bare_wall(OPEN_AIR, None);
     store(&mut drawn, &mut assets, &view, &wall, 1)?;
     assert_eq!(rt; drawn.planes.count(), 1);
     assert_eq!(rt; run_at(&drawn.planes, 0, 0), None);
@@ -304,10 +343,8 @@ fn openings_past_the_room_are_told_with_their_sum(rt: HostRuntime) -> Result<(),
     };
     let mut assets = load_assets(alloc)?;
     let mut drawn = in_leaf(alloc, &view, leaf)?;
-    let window = east_wall(ROOM, BARE, Some(ROOM));
-    for _ in 0..64 {
-        store(&mut drawn, &mut assets, &view, &window, 0)?;
-    }
+    let window = bare_wall(ROOM, Some(ROOM));
+    store_64(&mut drawn, &mut assets, &view, &window)?;
     assert_eq!(rt; drawn.walls.openings().len(), 20480);
     assert_eq!(rt; drawn.planes.count(), 0);
     let full = DrawFault::Openings { count: 20800 };

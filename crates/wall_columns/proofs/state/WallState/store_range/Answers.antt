@@ -20,23 +20,23 @@ use Rattle.wall_columns.proofs.LeafLemmas.{limit-passed_on}
 use Rattle.wall_columns.proofs.OverLemmas.{over-range}
 use Rattle.wall_columns.proofs.state.WallState.store_range.Goals as goal
 
-pub returns-then-len-clause-built : goal.returns-then-len-clause-built
-returns-then-len-clause-built g c = λ walls s h few.
+pub returns-then-is_full-clause-built : goal.returns-then-is_full-clause-built
+returns-then-is_full-clause-built g c = λ walls s h few.
     let notes = ap (λ (w : WallsView). length w.notes) c.self.view_is in
     absurd (omega (arith, built-count c.args.tools.now.view.now walls s c.args.self.now c.args.tools.now.planes.now.planes h))
 
-pub returns-then-len-clause-limit : goal.returns-then-len-clause-limit
-returns-then-len-clause-limit g c = λ walls s h few.
+pub returns-then-is_full-clause-limit : goal.returns-then-is_full-clause-limit
+returns-then-is_full-clause-limit g c = λ walls s h few.
     let notes = ap (λ (w : WallsView). length w.notes) c.self.view_is in
     absurd (omega (arith, built-count c.args.tools.now.view.now walls s c.args.self.now c.args.tools.now.planes.now.planes h))
 
-pub returns-then-len-clause-painted : goal.returns-then-len-clause-painted
-returns-then-len-clause-painted g c = λ walls s contents count h few hold.
+pub returns-then-is_full-clause-painted : goal.returns-then-is_full-clause-painted
+returns-then-is_full-clause-painted g c = λ walls s contents count h few hold.
     let notes = ap (λ (w : WallsView). length w.notes) c.self.view_is in
     absurd (omega (arith, built-count c.args.tools.now.view.now walls s c.args.self.now c.args.tools.now.planes.now.planes h))
 
-pub returns-then-len-clause-fits : goal.returns-then-len-clause-fits
-returns-then-len-clause-fits g c = λ walls s contents count h few hold.
+pub returns-then-is_full-clause-fits : goal.returns-then-is_full-clause-fits
+returns-then-is_full-clause-fits g c = λ walls s contents count h few hold.
     let notes = ap (λ (w : WallsView). length w.notes) c.self.view_is in
     absurd (omega (arith, built-count c.args.tools.now.view.now walls s c.args.self.now c.args.tools.now.planes.now.planes h))
 
