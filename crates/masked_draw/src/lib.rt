@@ -7,6 +7,8 @@
 #![tactic(auto)]
 
 mod clips;
+#[cfg(test)]
+mod counted;
 mod middles;
 mod pass;
 mod posts;

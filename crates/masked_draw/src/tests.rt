@@ -4,13 +4,13 @@ ghost use Rattle.std.specs.Prelude.{◌≡◌, ◌<◌, ◌≤◌, ◌+◌, ◌<
 ghost use Rattle.std.specs.List.{AllPass};
 ghost use Rattle.view_rules.specs.declared.TheConstants.{FRAME_WIDTH, FRAME_HEIGHT};
 ghost use Rattle.view_rules.specs.declared.ViewShape.{ViewShape};
-ghost use Rattle.pixel_strips.specs.Canvases.{CanvasView, blank, marked_by_colour};
 ghost use Rattle.vissprites.specs.Bounds.{lies_within, has_lump_below};
 ghost use Rattle.picture_rules.specs.Noted.{AreNoted, IsWholeNote};
 ghost use Rattle.texture_build.specs.Views.{IsPrepared, prepared_texture};
 ghost use Rattle.texture_build.specs.Draws.{CanDraw};
 ghost use Rattle.masked_draw.specs.Ready.{IsSingle};
 
+use crate::counted::Counted;
 use crate::{Clip, FragmentNote, MaskedTools, draw_masked};
 use angle_tables::Tables;
 use level_maker::{make_tables, make_wad};
@@ -18,7 +18,6 @@ use level_rules::{Sector, Seg, Side};
 use lump_cache::{CacheFault, LumpCache};
 use lump_rules::Name8;
 use outside::{MemoryFile, MemoryShelf, Shelf};
-use pixel_strips::{Canvas, Frame, Painter};
 use sprite_rules::{Placed, Shape5};
 use std::alloc::{AllocError, Global};
 use std::test::Fail;
@@ -62,8 +61,7 @@ fn lump_of(dir: &Directory, name: &str) -> Result<LumpNo, Fail>
     ensures { IfOk result (λ lump. lump.0 < length dir.now.lumps) }
 {
     let name = Name8::from_text(name).ok_or("a name")?;
-    let lump = dir.last(&name).ok_or("a lump")?;
-    Ok(lump)
+    Ok(dir.last(&name).ok_or("a lump")?)
 }
 
 // Whether each column of a texture has one patch.
@@ -117,43 +115,6 @@ fn load_assets(alloc: Global) -> Result<Assets, Fail>
         colormap,
         tree,
     })
-}
-
-// A frame that counts the pixels that it is given.
-#[derive(Drop)]
-struct Counted {
-    frame: Frame,
-    dots: u64,
-}
-
-impl Counted {
-    fn new(alloc: Global) -> Result<Counted, AllocError>
-        ensures { IfOk result (λ counted. counted.frame ≡ blank) }
-    {
-        Ok(Counted {
-            frame: Frame::new(alloc)?,
-            dots: 0,
-        })
-    }
-}
-
-impl Canvas for Counted {
-    ghost view = { λ counted. counted.frame };
-
-    ghost mark = { marked_by_colour };
-
-    fn begin(&mut self, painter: Painter) {
-        self.frame.begin(painter);
-    }
-
-    fn place(&mut self, left: u16, top: u16) {
-        self.frame.place(left, top);
-    }
-
-    fn dot(&mut self, x: u16, y: u16, colour: u8) {
-        self.frame.dot(x, y, colour);
-        self.dots = self.dots.wrapping_add(1);
-    }
 }
 
 // A tree that stands so many map units ahead and to the left, in full light or in that of its
@@ -258,11 +219,7 @@ fn grate_note(scale: i32, height: u16) -> FragmentNote
 }
 
 // The notes of a view of `height` rows with a grate of this scale, which is above 0, or without.
-fn notes_of(
-    alloc: Global,
-    grate: Option<i32>,
-    height: u16,
-) -> Result<Vec<FragmentNote>, Fail>
+fn notes_of(alloc: Global, grate: Option<i32>, height: u16) -> Result<Vec<FragmentNote>, Fail>
     ensures noted { (shape : ViewShape) (openings : List ℤ) → LAST < shape.width →
         shape.height ≡ height → COLUMNS ≤ length openings →
         IfOk result (λ notes. AreNoted shape notes.items openings) }

@@ -1,6 +1,6 @@
 // Values from outside: a room from -256 to 256 map units both ways, seen from its middle, 41 map
 // units up, through the made tables, with texture WALL1 of the made WAD on its walls.
-ghost use Rattle.std.specs.Prelude.{◌≡◌, ◌<◌, ◌≤◌, ◌+◌, ℕ, IfOk, OnOk, length, ⊥};
+ghost use Rattle.std.specs.Prelude.{◌≡◌, ◌<◌, ◌≤◌, ◌+◌, ℕ, IfOk, OnOk, length};
 ghost use Rattle.view_rules.specs.declared.TheConstants.{FRAME_WIDTH, FRAME_HEIGHT};
 ghost use Rattle.plane_rules.specs.Built.{IsAmongPlanes};
 ghost use Rattle.texture_build.specs.Draws.{CanDraw};

@@ -3,7 +3,7 @@ use Rattle.std.proofs.Common.{◌≡◌, ℕ, ◌-◌, ℤ, pos, FitsSigned, ap,
 use Rattle.std.specs.Prelude.{◌<ℤ◌}
 use Rattle.std.specs.Int.{w32, int_wrap}
 use Rattle.std.proofs.Math.IntN.{◌+ℤ◌, ◌*ℤ◌, *ℤ-zero, +ℤ_idr}
-use Rattle.std.proofs.lemmas.Int.{ints, int_wrap-add_right, int_wrap_fits}
+use Rattle.std.proofs.lemmas.Int.{ints, to_z-of_z, int_wrap-add_right, int_wrap_fits}
 use Rattle.word_rules.specs.Words.{plus, times}
 use Rattle.word_rules.specs.Steps.{step_at}
 use Rattle.wall_rules.specs.Notes.{clip_row_at}
@@ -22,7 +22,9 @@ unfolding clip_row_at greatest_clip least_clip
 returns-clause-whole c = λ shape openings wide high room. record {
     ordered = omega arith;
     within = omega arith;
-    scale = λ x first last. subst (λ (z : ℤ). pos 0 <ℤ z) (steady c.args.scale _ (search rules)) c.requires;
+    scale = λ x first last.
+        subst (λ (z : ℤ). pos 0 <ℤ step_at z (pos 0) (x - 144)) (sym (to_z-of_z w32 c.args.scale (search rules)))
+        (subst (λ (z : ℤ). pos 0 <ℤ z) (steady c.args.scale (x - 144) (search rules)) c.requires);
     columns = omega arith;
     top_list = tt;
     bottom_list = tt;

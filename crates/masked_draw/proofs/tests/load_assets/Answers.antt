@@ -20,6 +20,10 @@ there_or_none : (lumps : List Lump) (o : Option PreparedTexture) → IfSome o (A
 there_or_none lumps None there = All-nil (λ (patch : PlacedPatch). patch.lump < length lumps)
 there_or_none lumps (Some t) there = there
 
+pub has_single_columns-requires : goal.has_single_columns-requires
+has_single_columns-requires c =
+    All-head (λ (tex : TexNo). IsSome (prepared_at c.prepare.new.self.prepared tex.0)) c.in_ok-grate.grate [] c.in_ok-prepare.ensures.wanted
+
 pub returns-clause-grate : goal.returns-clause-grate
 returns-clause-grate c =
     let textures = c.prepare.new.self in

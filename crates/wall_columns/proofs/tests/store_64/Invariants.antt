@@ -4,8 +4,8 @@ use Rattle.plane_rules.specs.Built.{IsAmongPlanes}
 use Rattle.wall_columns.proofs.tests.store_64.Given as goal
 
 -- the next fragment may be drawn
-abbrev pub invariant-loop-1 : goal.invariant-loop-1
-invariant-loop-1 l = record {
+abbrev pub invariant-loop : goal.invariant-loop
+invariant-loop l = record {
   height : l.drawn.walls.height ≡ l.initial.drawn.walls.height;
   left : l.drawn.frame.left ≡ l.initial.drawn.frame.left;
   top : l.drawn.frame.top ≡ l.initial.drawn.frame.top;
