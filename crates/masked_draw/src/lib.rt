@@ -7,11 +7,15 @@
 #![tactic(auto)]
 
 mod clips;
+#[cfg(test)]
+mod counted;
 mod middles;
 mod pass;
 mod posts;
 mod scene;
 mod sprites;
+#[cfg(test)]
+mod tests;
 mod tools;
 
 pub use pass::draw_masked;

@@ -19,6 +19,8 @@ mod notes;
 mod openings;
 mod paint;
 mod state;
+#[cfg(test)]
+mod tests;
 mod tools;
 mod windows;
 
