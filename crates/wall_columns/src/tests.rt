@@ -217,7 +217,9 @@ fn store(
         canvas: &mut drawn.frame,
         colormap: assets.colormap,
     };
-    drawn.walls.store_range(&mut tools, facts, first, FRAME_WIDTH - 1)
+    drawn
+        .walls
+        .store_range(&mut tools, facts, first, FRAME_WIDTH - 1)
 }
 
 // Draws a fragment without a texture in each column of the frame, 64 times.

@@ -20,18 +20,18 @@ steady first k fits =
 pub returns-clause-whole : goal.returns-clause-whole
 unfolding clip_row_at greatest_clip least_clip
 returns-clause-whole c = λ shape openings wide high room. record {
-    ordered = omega arith;
-    within = omega arith;
-    scale = λ x first last.
-        subst (λ (z : ℤ). pos 0 <ℤ step_at z (pos 0) (x - 144)) (sym (to_z-of_z w32 c.args.scale (search rules)))
-        (subst (λ (z : ℤ). pos 0 <ℤ z) (steady c.args.scale (x - 144) (search rules)) c.requires);
-    columns = omega arith;
-    top_list = tt;
-    bottom_list = tt;
-    top = λ _. tt;
-    bottom = λ _. tt;
-    masked_top = λ _. tt;
-    masked_bottom = λ _. tt;
-    top_rows = λ x first last clip. (omega (arith, ints), omega (arith, ints));
-    bottom_rows = λ x first last clip. (omega (arith, ints), omega (arith, ints));
-  }
+  ordered = omega arith;
+  within = omega arith;
+  scale = λ x first last.
+      subst (λ (z : ℤ). pos 0 <ℤ step_at z (pos 0) (x - 144)) (sym (to_z-of_z w32 c.args.scale (search rules)))
+      (subst (λ (z : ℤ). pos 0 <ℤ z) (steady c.args.scale (x - 144) (search rules)) c.requires);
+  columns = omega arith;
+  top_list = tt;
+  bottom_list = tt;
+  top = λ _. tt;
+  bottom = λ _. tt;
+  masked_top = λ _. tt;
+  masked_bottom = λ _. tt;
+  top_rows = λ x first last clip. (omega (arith, ints), omega (arith, ints));
+  bottom_rows = λ x first last clip. (omega (arith, ints), omega (arith, ints));
+}

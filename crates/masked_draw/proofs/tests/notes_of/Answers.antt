@@ -11,6 +11,7 @@ one_noted shape openings d whole = record { few = omega arith; whole = only; apa
   only : (k : ℕ) → IfSome (slice_get (d ∷ []) k) (IsWholeNote shape openings)
   only zero = whole
   only (suc k) = tt
+
   alone : (i k : ℕ) → i < k → IfSome (slice_get (d ∷ []) i) (λ (a : FragmentNote). IfSome (slice_get (d ∷ []) k) (λ (b : FragmentNote). ListsApart a a.masked b.masked))
   alone i zero l = absurd (omega arith)
   alone zero (suc k) l = tt
