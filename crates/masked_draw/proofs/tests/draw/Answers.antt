@@ -1,5 +1,5 @@
 -- The seg of each note, with its side and its sectors, is among the lists.
-use Rattle.std.proofs.Common.{◌≡◌, ℕ, ◌<◌, pos, List, [], ◌∷◌, Some, length, refl, ap, sym, subst, ◌∙◌, arith}
+use Rattle.std.proofs.Common.{◌≡◌, ℕ, ◌<◌, pos, List, [], ◌∷◌, length, refl, ap, sym, subst, arith}
 use Rattle.std.specs.Prelude.{IfSome, IsSome, slice_index_or}
 use Rattle.std.proofs.lemmas.List.Elements.{All-weaker}
 use Rattle.lump_rules.specs.declared.wad.Lump.{Lump}

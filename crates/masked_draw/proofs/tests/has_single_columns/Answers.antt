@@ -1,4 +1,4 @@
-use Rattle.std.proofs.Common.{◌+◌, arith, below_more, sym, ◌∙◌}
+use Rattle.std.proofs.Common.{arith, below_more, sym, ◌∙◌}
 use Rattle.masked_draw.proofs.tests.has_single_columns.Goals as goal
 
 -- the last column is the mask

@@ -1,4 +1,4 @@
-use Rattle.std.proofs.Common.{◌≡◌, ℕ}
+use Rattle.std.proofs.Common.{◌≡◌}
 use Rattle.masked_draw.proofs.tests.is_painted_as.Given as goal
 
 -- the canvas stands at the frame's corner

@@ -1,5 +1,5 @@
 -- WALL1 is prepared, and has a slot.
-use Rattle.std.proofs.Common.{ℕ, ◌<◌, length, zero, suc, List, [], ◌∷◌, Option, Some, None, arith, rules}
+use Rattle.std.proofs.Common.{ℕ, ◌<◌, length, zero, suc, List, [], ◌∷◌, Option, Some, None, rules}
 use Rattle.std.specs.Prelude.{All, IfSome, IsSome, unwrap_or}
 use Rattle.std.proofs.lemmas.List.Elements.{All-head, All-tail, All-nil}
 use Rattle.lump_rules.specs.declared.wad.Lump.{Lump}
