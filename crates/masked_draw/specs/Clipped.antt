@@ -1,5 +1,5 @@
 -- How far a sprite is seen by the clips that were taken, and what is painted of it and of a masked column.
-use Rattle.std.specs.Prelude.{◌≡◌, ◌<◌, ◌+◌, ◌-◌, ◌≤ℤ◌, ◌==◌, ◌&&◌, ℕ, ℤ, pos, bit_and, int_lt, not, Bool, cond, List, length, map, ⊤, Option, Some, None, unwrap_or, slice_index_or}
+use Rattle.std.specs.Prelude.{◌≡◌, ◌<◌, ◌⊎◌, ◌+◌, ◌-◌, ◌≤ℤ◌, ◌==◌, ◌&&◌, ℕ, ℤ, pos, bit_and, int_lt, not, Bool, cond, List, length, map, ⊤, Option, Some, None, unwrap_or, slice_index_or}
 use Rattle.word_rules.specs.Words.{minus_one}
 use Rattle.word_rules.specs.Listed.{joined_lists}
 use Rattle.std.specs.List.{range_with_len}
@@ -45,6 +45,10 @@ clips_top d e = not (bit_and d.silhouette SIL_TOP == 0) && int_lt d.top_height e
 -- the row that was taken in column x, if any
 abbrev pub row_in : List (Option ℤ) → ℕ → Option ℤ
 row_in rows x = slice_index_or rows x None
+
+-- a column to the left of these, or to the right
+abbrev pub IsBeside : ℕ → ℕ → ℕ → Type 0
+IsBeside first last x = (x < first) ⊎ (last < x)
 
 -- a row is taken where none was and the test holds
 abbrev pub row_after : Bool → ℤ → Option ℤ → Option ℤ
