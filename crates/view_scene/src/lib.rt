@@ -10,6 +10,8 @@
 mod entered;
 mod facts;
 mod keys;
+#[cfg(test)]
+mod tests;
 mod things;
 
 pub use entered::Entered;
