@@ -10,7 +10,7 @@ ghost use Rattle.sprite_rules.specs.Projection.{project};
 ghost use Rattle.picture_rules.specs.Things.{with_seen, with_thing, with_things};
 ghost use Rattle.vissprites.specs.declared.seen.TheConstants.{ROTATIONS};
 ghost use Rattle.vissprites.specs.Bounds.{lies_within, has_lump_below};
-ghost use Rattle.view_scene.specs.Scenes.{drawn_shape, lists_of, scene_of};
+ghost use Rattle.frame_core.specs.Scenes.{drawn_shape, lists_of, scene_of};
 
 use crate::facts::surface_at;
 use level_audit::SoundScene;

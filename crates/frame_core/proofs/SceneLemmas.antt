@@ -29,7 +29,7 @@ use Rattle.level_audit.specs.Sound.{middles_of, textures_view}
 use Rattle.level_audit.specs.Whole.{IsNoneOrPrepared, IsWholeScene}
 use Rattle.wall_rules.specs.declared.WallFacts.{WallFacts}
 use Rattle.picture_rules.specs.Scene.{facts_of, no_textures, textures_at, wall_texture}
-use Rattle.view_scene.specs.Scenes.{lists_of, scene_of}
+use Rattle.frame_core.specs.Scenes.{lists_of, scene_of}
 
 -- there are as many surfaces as sectors
 pub surface_counts : (sectors : List Sector) (flats : List SectorFlats) → length flats ≡ length sectors → length (surfaces_of sectors flats) ≡ length sectors

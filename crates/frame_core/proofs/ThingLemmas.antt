@@ -24,7 +24,7 @@ use Rattle.sprite_rules.specs.Entries.{add_entry}
 use Rattle.scene_rules.specs.Scenes.{SceneValue}
 use Rattle.picture_rules.specs.Scene.{Scene}
 use Rattle.picture_rules.specs.Things.{placed_of, with_seen, with_shape, with_thing, with_things}
-use Rattle.view_scene.specs.Scenes.{drawn_shape, lists_of, scene_of}
+use Rattle.frame_core.specs.Scenes.{drawn_shape, lists_of, scene_of}
 
 -- what is below n
 abbrev AllBelow : ℕ → List ℕ → Type 0

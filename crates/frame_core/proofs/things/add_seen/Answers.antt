@@ -1,8 +1,8 @@
 use Rattle.std.proofs.Common.{List, ap, ◌∙◌}
 use Rattle.art_rules.specs.declared.shapes.Frame.{Frame}
 use Rattle.art_rules.specs.Books.{picked}
-use Rattle.view_scene.proofs.ThingLemmas.{drawn_below, seen_with, seen_without}
-use Rattle.view_scene.proofs.things.add_seen.Goals as goal
+use Rattle.frame_core.proofs.ThingLemmas.{drawn_below, seen_with, seen_without}
+use Rattle.frame_core.proofs.things.add_seen.Goals as goal
 
 pub returns-in-Some-clause-sprites : goal.returns-in-Some-clause-sprites
 returns-in-Some-clause-sprites c = λ bytes.

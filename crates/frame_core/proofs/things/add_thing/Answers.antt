@@ -1,6 +1,6 @@
-use Rattle.view_scene.specs.Scenes.{scene_of}
-use Rattle.view_scene.proofs.ThingLemmas.{placed_with, thing_with, thing_without}
-use Rattle.view_scene.proofs.things.add_thing.Goals as goal
+use Rattle.frame_core.specs.Scenes.{scene_of}
+use Rattle.frame_core.proofs.ThingLemmas.{placed_with, thing_with, thing_without}
+use Rattle.frame_core.proofs.things.add_thing.Goals as goal
 
 pub returns-in-Some-clause-sprites : goal.returns-in-Some-clause-sprites
 returns-in-Some-clause-sprites c = λ bytes sector lit.

@@ -1,6 +1,6 @@
 // The marks of sectors in two views, one after the other.
 
-use crate::Entered;
+use crate::entered::Entered;
 use std::test::Fail;
 
 #[test]

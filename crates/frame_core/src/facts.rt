@@ -4,7 +4,7 @@ ghost use Rattle.level_rules.specs.Levels.{seg_at, surface_at};
 ghost use Rattle.map_rules.specs.Sound.{IsSegIn};
 ghost use Rattle.walk_rules.specs.Segs.{back_of};
 ghost use Rattle.picture_rules.specs.Scene.{facts_of, side_at, textures_at, wall_texture};
-ghost use Rattle.view_scene.specs.Scenes.{lists_of, scene_of};
+ghost use Rattle.frame_core.specs.Scenes.{lists_of, scene_of};
 
 use level_audit::SoundScene;
 use level_rules::{Seg, Side, SideTextures, Surface};

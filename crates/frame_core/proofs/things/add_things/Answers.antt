@@ -4,9 +4,9 @@ use Rattle.view_rules.specs.Lights.{light_number}
 use Rattle.level_rules.specs.declared.PlacedThing.{PlacedThing}
 use Rattle.level_rules.specs.declared.Surface.{Surface}
 use Rattle.picture_rules.specs.Things.{with_things}
-use Rattle.view_scene.specs.Scenes.{scene_of}
-use Rattle.view_scene.proofs.ThingLemmas.{things_end, things_more}
-use Rattle.view_scene.proofs.things.add_things.Goals as goal
+use Rattle.frame_core.specs.Scenes.{scene_of}
+use Rattle.frame_core.proofs.ThingLemmas.{things_end, things_more}
+use Rattle.frame_core.proofs.things.add_things.Goals as goal
 
 pub loop-thing-preserved : goal.loop-thing-preserved
 loop-thing-preserved c =

@@ -2,8 +2,8 @@
 //
 // Rules: `specs/Entered`. The original: `validcount` of `sector_t`, r_defs.h.
 ghost use Rattle.std.specs.Prelude.{◌≡◌, ◌<◌, ◌≤◌, ℕ, false, true, not, ◌==◌, length, IfOk};
-ghost use Rattle.view_scene.specs.declared.entered.TheConstants.{MOST_SECTORS};
-ghost use Rattle.view_scene.specs.Entered.{has_entered};
+ghost use Rattle.frame_core.specs.declared.entered.TheConstants.{MOST_SECTORS};
+ghost use Rattle.frame_core.specs.Entered.{has_entered};
 
 use std::alloc::{AllocError, Global};
 use std::marker::Model;
@@ -18,13 +18,13 @@ pub const MOST_SECTORS: usize = 65536;
 ///
 /// The original: `validcount` of `sector_t`, r_defs.h.
 #[derive(Drop)]
-pub struct Entered {
+pub(crate) struct Entered {
     marks: Vec<bool>,
 }
 
 impl Model for Entered {
     ghost use Rattle.std.specs.Prelude.{◌≡◌, Bool, List, length};
-    ghost use Rattle.view_scene.specs.declared.entered.TheConstants.{MOST_SECTORS};
+    ghost use Rattle.frame_core.specs.declared.entered.TheConstants.{MOST_SECTORS};
 
     ghost Value = { List Bool };
 

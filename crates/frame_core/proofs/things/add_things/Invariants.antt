@@ -4,8 +4,8 @@ use Rattle.std.specs.List.{AllPass}
 use Rattle.art_rules.specs.Books.{book_lumps}
 use Rattle.picture_rules.specs.Things.{with_things}
 use Rattle.vissprites.specs.Bounds.{lies_within, has_lump_below}
-use Rattle.view_scene.specs.Scenes.{scene_of}
-use Rattle.view_scene.proofs.things.add_things.Given as goal
+use Rattle.frame_core.specs.Scenes.{scene_of}
+use Rattle.frame_core.proofs.things.add_things.Given as goal
 
 -- what is left of the things gives what all of them give
 abbrev pub invariant-loop-thing : goal.invariant-loop-thing

@@ -1,0 +1,108 @@
+-- Who is given the walk of a view: the painter and the counter by their values, and what they have made of the events.
+use Rattle.std.specs.Prelude.{◌≡◌, ◌≤◌, ◌+◌, ◌×◌, ℕ, List, length, Option, Some, None, IfSome, IfErr, OnOk, Result}
+use Rattle.view_rules.specs.View.{ViewValue}
+use Rattle.view_rules.specs.declared.TheConstants.{FRAME_WIDTH, FRAME_HEIGHT}
+use Rattle.walk_rules.specs.Events.{Event}
+use Rattle.walk_rules.specs.Walk.{view_events}
+use Rattle.pixel_rules.specs.declared.Painter.{Painter}
+use Rattle.pixel_rules.specs.Dots.{Dot}
+use Rattle.scene_rules.specs.Scenes.{SceneValue}
+use Rattle.picture_rules.specs.declared.Limits.{Limits}
+use Rattle.picture_rules.specs.declared.OverLimit.{OverLimit}
+use Rattle.picture_rules.specs.Scene.{Scene}
+use Rattle.picture_rules.specs.Walls.{walls_of, walls_dots}
+use Rattle.picture_rules.specs.Counts.{steps_over, view_steps}
+use Rattle.pixel_strips.specs.Canvases.{CanvasView}
+use Rattle.wall_columns.specs.Built.{limits_of}
+use Rattle.frame_core.specs.declared.bench.Bench.{Bench}
+use Rattle.frame_core.specs.declared.fault.ViewFault.{ViewFault}
+use Rattle.frame_core.specs.Faults.{limit_of_view}
+use Rattle.frame_core.specs.Scenes.{lists_of, scene_of}
+use Rattle.frame_core.specs.Views.{CanCount, CanDrawView, PaintsView, ViewScene, ViewState}
+use Rattle.frame_core.specs.Walked.{CanTake, HasWalked, IsEventIn}
+
+-- how much a bench has room for
+abbrev pub limits_in : Bench → Limits
+limits_in b = limits_of b.walls b.planes
+
+-- a painter: what stays, what is built, what is written, and the names of its references
+pub record PainterNames : Type 0 where
+  pub bench : ℕ
+  pub cache : ℕ
+  pub shelf : ℕ
+  pub canvas : ℕ
+
+pub record PainterValue : Type 0 where
+  pub scene : ViewScene
+  pub bench : Bench
+  pub state : ViewState
+  pub names : PainterNames
+
+abbrev pub painter_names : ℕ → ℕ → ℕ → ℕ → PainterNames
+painter_names bench cache shelf canvas =
+    record { bench = bench; cache = cache; shelf = shelf; canvas = canvas }
+
+abbrev pub painter_value : ViewScene → Bench → ViewState → PainterNames → PainterValue
+painter_value scene bench state names =
+    record { scene = scene; bench = bench; state = state; names = names }
+
+-- the view stands in the frame where the canvas has it
+pub record IsPlacedIn (v : ViewValue) (canvas : CanvasView) : Type 0 where
+  pub columns : canvas.left + v.shape.width ≤ FRAME_WIDTH
+  pub rows : canvas.top + v.shape.height ≤ FRAME_HEIGHT
+
+-- what a painter asks before an event
+pub record CanPaintNext (p : PainterValue) (e : Event) : Type 0 where
+  pub drawable : CanDrawView p.scene.dir.lumps p.scene.scene p.state.cache
+  pub takes : CanTake p.scene.view p.scene.scene p.bench
+  pub placed : IsPlacedIn p.scene.view p.state.canvas
+  pub there : IsEventIn p.scene.view p.scene.scene e
+
+-- the dots of the walls of a list of events
+abbrev pub drawn_walls : ViewValue → List Event → Scene → List Dot
+drawn_walls v events scene = walls_dots v scene (walls_of v scene events)
+
+-- From that start on a painter was given the events, and answered the last of them so.
+pub record HasPainted (mark : Painter → ℕ → ℕ) (start now : PainterValue) (events : List Event)
+    (result : Result (Unit {0}) ViewFault) : Type 0 where
+  pub scene : now.scene ≡ start.scene
+  pub names : now.names ≡ start.names
+  pub limits : limits_in now.bench ≡ limits_in start.bench
+  pub walked : OnOk result ((bytes : ℕ → List ℕ) →
+      HasWalked start.scene.view bytes start.scene.scene (limits_in start.bench) events now.bench)
+  pub over : IfErr result (λ fault. IfSome (limit_of_view fault) (λ over. (bytes : ℕ → List ℕ) →
+      steps_over (limits_in start.bench)
+      (view_steps start.scene.view (scene_of bytes start.scene.scene) events) ≡ Some over))
+  pub paints : PaintsView mark start.scene (drawn_walls start.scene.view events) start.state now.state result
+
+-- a counter likewise
+pub record CounterValue : Type 0 where
+  pub view : ViewValue
+  pub scene : SceneValue
+  pub bench : Bench
+  pub name : ℕ
+
+abbrev pub counter_value : ViewValue → SceneValue → Bench → ℕ → CounterValue
+counter_value view scene bench name =
+    record { view = view; scene = scene; bench = bench; name = name }
+
+pub record CanCountNext (p : CounterValue) (e : Event) : Type 0 where
+  pub scene : CanCount p.scene
+  pub takes : CanTake p.view p.scene p.bench
+  pub there : IsEventIn p.view p.scene e
+
+pub record HasCounted (start now : CounterValue) (events : List Event)
+    (result : Result (Unit {0}) OverLimit) : Type 0 where
+  pub view : now.view ≡ start.view
+  pub scene : now.scene ≡ start.scene
+  pub name : now.name ≡ start.name
+  pub limits : limits_in now.bench ≡ limits_in start.bench
+  pub walked : OnOk result ((bytes : ℕ → List ℕ) →
+      HasWalked start.view bytes start.scene (limits_in start.bench) events now.bench)
+  pub over : IfErr result (λ over. (bytes : ℕ → List ℕ) →
+      steps_over (limits_in start.bench) (view_steps start.view (scene_of bytes start.scene) events) ≡ Some over)
+
+-- the whole walk of a view is in the bench
+abbrev pub HasWalkedView : ViewValue → SceneValue → Bench → Type 0
+HasWalkedView v scene b =
+    (bytes : ℕ → List ℕ) → HasWalked v bytes scene (limits_in b) (view_events v (lists_of scene)) b

@@ -1,0 +1,95 @@
+-- What is drawn in a view, what it is drawn with, and what a part of it paints.
+use Rattle.std.specs.Prelude.{◌≡◌, ◌≤◌, ◌<◌, ◌×◌, ◌||◌, ◌==◌, ℕ, true, List, All, OnOk, Result, length}
+use Rattle.std.specs.List.{list_any}
+use Rattle.outside.specs.Shelf.{ShelfView}
+use Rattle.lump_rules.specs.declared.wad.Lump.{Lump}
+use Rattle.lump_rules.specs.Contents.{lump_bytes}
+use Rattle.zone_rules.specs.Zones.{Heap}
+use Rattle.view_rules.specs.View.{ViewValue}
+use Rattle.level_rules.specs.declared.Surface.{Surface}
+use Rattle.level_rules.specs.declared.ThingLine.{ThingLine}
+use Rattle.level_rules.specs.declared.TheConstants.{SKY_FLAT}
+use Rattle.wad_dir.specs.DirectoryView.{DirectoryView}
+use Rattle.art_rules.specs.Books.{book_lumps}
+use Rattle.pixel_rules.specs.declared.Painter.{Painter}
+use Rattle.pixel_rules.specs.Dots.{Dot}
+use Rattle.scene_rules.specs.Scenes.{SceneValue}
+use Rattle.scene_rules.specs.SectorFlats.{surfaces_of}
+use Rattle.scene_rules.specs.Sizes.{has_flat}
+use Rattle.picture_rules.specs.Scene.{Scene}
+use Rattle.pixel_strips.specs.Canvases.{CanvasView}
+use Rattle.pixel_strips.specs.Dotted.{HasDots, PlacedAlike}
+use Rattle.texture_build.specs.Views.{IsPrepared}
+use Rattle.texture_build.specs.Draws.{HoldsArt, FitBeside, DrawsWith}
+use Rattle.level_audit.specs.Sound.{textures_view}
+use Rattle.level_audit.specs.Whole.{IsWholeScene}
+use Rattle.frame_core.specs.declared.fault.ViewFault.{ViewFault}
+use Rattle.frame_core.specs.Faults.{view_fault}
+use Rattle.frame_core.specs.Scenes.{scene_of}
+
+-- a flat is that of a lump that may be there, or the sky
+pub record AreFlatNumbers (surface : Surface) : Type 0 where
+  pub floor : surface.floor_flat ≤ SKY_FLAT
+  pub ceiling : surface.ceiling_flat ≤ SKY_FLAT
+
+-- what of a scene a view is counted by is there: so it is of one that passed its audit
+pub record CanCount (scene : SceneValue) : Type 0 where
+  pub sides : length scene.faces.sides ≡ length scene.base.level.sides
+  pub flats : length scene.faces.flats ≡ length scene.base.level.sectors
+  pub numbers : All AreFlatNumbers (surfaces_of scene.base.level.sectors scene.faces.flats)
+
+-- a scene that passed its audit over a directory, and a cache that has a slot for each of its lumps
+-- and its textures
+pub record CanDrawView (lumps : List Lump) (scene : SceneValue) (z : Heap) : Type 0 where
+  pub lines : List ThingLine
+  pub name : List ℕ
+  pub skill : ℕ
+  pub whole : IsWholeScene lumps lines name skill scene
+  pub few : length lumps ≤ SKY_FLAT
+  pub colormap : scene.base.colormap < length lumps
+  pub slots : length lumps ≤ z.lumps
+  pub composites : length scene.base.lists.textures ≤ z.composites
+
+-- the textures of sides and sky, and the lumps of flats and of pictures of things
+abbrev pub IsViewTexture : SceneValue → ℕ → Type 0
+IsViewTexture scene number = IsPrepared (textures_view scene) number
+
+abbrev pub IsViewLump : SceneValue → ℕ → Type 0
+IsViewLump scene lump =
+    (list_any (has_flat lump) scene.faces.flats || list_any (λ n. n == lump) (book_lumps scene.book)) ≡ true
+
+-- what stays while a view is drawn
+pub record ViewScene : Type 0 where
+  pub view : ViewValue
+  pub scene : SceneValue
+  pub dir : DirectoryView
+
+-- what is written: the cache by its shelf, and the canvas
+pub record ViewState : Type 0 where
+  pub shelf : ShelfView
+  pub cache : Heap
+  pub canvas : CanvasView
+
+abbrev pub view_scene : ViewValue → SceneValue → DirectoryView → ViewScene
+view_scene view scene dir = record { view = view; scene = scene; dir = dir }
+
+abbrev pub view_state : ShelfView → Heap → CanvasView → ViewState
+view_state shelf cache canvas = record { shelf = shelf; cache = cache; canvas = canvas }
+
+-- the picture's scene, where the files have these contents
+abbrev pub held_scene : List (List ℕ) → ViewScene → Scene
+held_scene contents s = scene_of (lump_bytes contents s.dir.lumps) s.scene
+
+-- A call by the dots that it gives the canvas; it paints with the scene's textures, flats and pictures.
+pub record PaintsView {A : Type 0} (mark : Painter → ℕ → ℕ) (s : ViewScene) (dots : Scene → List Dot)
+    (old new : ViewState) (result : Result A ViewFault) : Type 0 where
+  pub painted : (contents : List (List ℕ)) (count : ℕ) →
+      HoldsArt old.shelf s.dir (textures_view s.scene) contents s.scene.base.colormap count old.cache →
+      OnOk result (HasDots mark (dots (held_scene contents s)) old.canvas new.canvas)
+  pub fits : (contents : List (List ℕ)) (count : ℕ) →
+      HoldsArt old.shelf s.dir (textures_view s.scene) contents s.scene.base.colormap count old.cache →
+      OnOk result (FitBeside s.dir.lumps (textures_view s.scene) s.scene.base.colormap count old.cache.size
+      (dots (held_scene contents s)))
+  pub draws : DrawsWith view_fault (IsViewTexture s.scene) (IsViewLump s.scene) old.shelf new.shelf s.dir
+      (textures_view s.scene) old.cache new.cache result
+  pub place : PlacedAlike old.canvas new.canvas

@@ -1,0 +1,288 @@
+// What a view is built in: its walls, planes and vissprites, the sectors that are entered, and the
+// sector of the leaf.
+//
+// Rules: `specs/Walked`; `picture_rules`, Walls, Planes, Things and Counts. The original:
+// `R_Subsector`, r_bsp.c.
+ghost use Rattle.std.specs.Prelude.{◌≡◌, ◌≤◌, ◌<◌, ◌+◌, ◌++◌, ◌∷◌, ◌==◌, ℕ, true, false, List, [], All, IfOk, IfErr, IfSome, OnOk, length, Some};
+ghost use Rattle.std.specs.List.{AllPass};
+ghost use Rattle.view_rules.specs.declared.TheConstants.{FRAME_WIDTH, FRAME_HEIGHT};
+ghost use Rattle.level_rules.specs.Levels.{leaf_at, surface_at};
+ghost use Rattle.art_rules.specs.Books.{book_lumps};
+ghost use Rattle.plane_rules.specs.declared.TheConstants.{MOST_VISPLANES};
+ghost use Rattle.plane_rules.specs.Keys.{ceiling_key, floor_key};
+ghost use Rattle.walk_rules.specs.Events.{Event};
+ghost use Rattle.walk_rules.specs.Events.Event.{LeafEvent, FragmentEvent};
+ghost use Rattle.picture_rules.specs.declared.Limits.{Limits};
+ghost use Rattle.picture_rules.specs.Counts.{steps_over, view_steps};
+ghost use Rattle.vissprites.specs.Bounds.{lies_within, has_lump_below};
+ghost use Rattle.wall_rules.specs.declared.TheConstants.{MOST_OPENINGS};
+ghost use Rattle.wall_columns.specs.Built.{limits_of};
+ghost use Rattle.wall_columns.specs.Faults.{limit_of_result, IsLimitFault};
+ghost use Rattle.frame_core.specs.Entered.{has_entered};
+ghost use Rattle.frame_core.specs.Scenes.{lists_of, scene_of};
+ghost use Rattle.frame_core.specs.Faults.{limit_of_view};
+ghost use Rattle.frame_core.specs.Views.{CanCount, CanDrawView, PaintsView, view_scene, view_state};
+ghost use Rattle.frame_core.specs.Walked.{CanTake, HasWalked, IsEventIn, next_dots, with_sector};
+
+use crate::entered::Entered;
+use crate::facts::{facts_of, surface_at};
+use crate::fault::ViewFault;
+use crate::keys::{ceiling_key, floor_key};
+use crate::things::add_things;
+use crate::tools::ViewTools;
+use level_audit::SoundScene;
+use outside::Shelf;
+use picture_rules::Limits;
+use pixel_strips::Canvas;
+use std::alloc::{AllocError, Global};
+use view_frame::View;
+use visplanes::Planes;
+use vissprites::Sprites;
+use wall_columns::{DrawFault, LeafPlanes, WallState, WallTools};
+
+/// What a view is built in. `sector` is that of the leaf that was entered last.
+#[derive(Drop)]
+pub(crate) struct Bench {
+    pub planes: Planes,
+    pub walls: WallState,
+    pub sprites: Sprites,
+    pub entered: Entered,
+    pub sector: u16,
+}
+
+impl Bench {
+    /// All the memory of walls, planes and vissprites, for these limits.
+    pub fn new(alloc: Global, limits: Limits) -> Result<Bench, AllocError>
+        requires planes { limits.planes ≤ MOST_VISPLANES }
+        requires openings { limits.openings ≤ MOST_OPENINGS }
+        ensures { IfOk result (λ bench. limits_of bench.walls bench.planes ≡ limits) }
+    {
+        Ok(Bench {
+            planes: Planes::new(alloc, limits.planes)?,
+            walls: WallState::new(alloc, limits.openings)?,
+            sprites: Sprites::new(alloc)?,
+            entered: Entered::new(alloc)?,
+            sector: 0,
+        })
+    }
+
+    /// Leaves nothing of the last view: no event has come.
+    ///
+    /// The original: `R_RenderPlayerView`, r_main.c.
+    pub fn start(&mut self, scene: &SoundScene, view: &View<'_>)
+        requires { CanCount scene.now.scene }
+        ensures walked { (bytes : ℕ → List ℕ) → HasWalked view.now bytes scene.now.scene
+            (limits_of self.old.walls self.old.planes) [] self.new }
+        ensures takes { CanTake view.now scene.now.scene self.new }
+        ensures limits { limits_of self.new.walls self.new.planes
+            ≡ limits_of self.old.walls self.old.planes }
+    {
+        self.planes.clear();
+        self.walls.start_view(view.shape().height);
+        self.sprites.clear();
+        self.entered.clear(scene.surfaces().len());
+        self.sector = first_sector(scene);
+    }
+
+    /// Enters a leaf: its floor and its ceiling are found among the planes, and where its sector is
+    /// entered for the first time its things become vissprites.
+    ///
+    /// Errors: `Planes` exactly where the floor or the ceiling is a plane past the limit.
+    ///
+    /// The original: `R_Subsector`, r_bsp.c.
+    pub fn enter_leaf(
+        &mut self,
+        scene: &SoundScene,
+        view: &View<'_>,
+        leaf: u16,
+    ) -> Result<(), DrawFault>
+        requires scene { CanCount scene.now.scene }
+        requires there { leaf < length scene.now.scene.base.level.leaves }
+        requires takes { CanTake view.now scene.now.scene self.old }
+        ensures walked { (bytes : ℕ → List ℕ) (limits : Limits) (events : List Event) →
+            HasWalked view.now bytes scene.now.scene limits events self.old →
+            OnOk result (HasWalked view.now bytes scene.now.scene limits
+            (events ++ LeafEvent leaf ∷ []) self.new) }
+        ensures over { (bytes : ℕ → List ℕ) (limits : Limits) (events : List Event) →
+            HasWalked view.now bytes scene.now.scene limits events self.old →
+            limit_of_result result ≡ steps_over limits
+            (view_steps view.now (scene_of bytes scene.now.scene) (events ++ LeafEvent leaf ∷ [])) }
+        ensures faults { IfErr result IsLimitFault }
+        ensures takes { OnOk result (CanTake view.now scene.now.scene self.new) }
+        ensures limits { limits_of self.new.walls self.new.planes
+            ≡ limits_of self.old.walls self.old.planes }
+    {
+        let sector = sector_of(scene, leaf);
+        self.sector = sector;
+        let planes = planes_of(scene, view, sector);
+        self.walls.start_leaf(&mut self.planes, planes)?;
+        self.enter_sector(scene, view, sector);
+        Ok(())
+    }
+
+    // Adds the things of a sector that is entered for the first time.
+    fn enter_sector(&mut self, scene: &SoundScene, view: &View<'_>, sector: u16)
+        requires flats { length scene.now.scene.faces.flats
+            ≡ length scene.now.scene.base.level.sectors }
+        requires sector { sector < length scene.now.scene.base.level.sectors }
+        ensures sprites { (bytes : ℕ → List ℕ) → self.new.sprites
+            ≡ with_sector view.now (scene_of bytes scene.now.scene)
+            (has_entered self.old.entered sector) sector self.old.sprites }
+        ensures columns { AllPass (lies_within view.now.shape.width) self.old.sprites →
+            AllPass (lies_within view.now.shape.width) self.new.sprites }
+        ensures lumps { (n : ℕ) → All (λ lump. lump < n) (book_lumps scene.now.scene.book) →
+            AllPass (has_lump_below n) self.old.sprites →
+            AllPass (has_lump_below n) self.new.sprites }
+        ensures own { has_entered self.new.entered sector ≡ true }
+        ensures others { (other : ℕ) → (sector == other) ≡ false →
+            has_entered self.new.entered other ≡ has_entered self.old.entered other }
+        ensures walls { self.new.walls ≡ self.old.walls }
+        ensures planes { self.new.planes ≡ self.old.planes }
+        ensures sector { self.new.sector ≡ self.old.sector }
+    {
+        if self.entered.enter(sector) {
+            add_things(scene, view, &mut self.sprites, sector);
+        }
+    }
+
+    /// Counts the fragment of a seg in columns `first` to `last` of the view: what `store_fragment`
+    /// does, without a paint.
+    ///
+    /// Errors: `Openings` and `Planes`, exactly where the fragment passes a limit.
+    ///
+    /// This project's own.
+    pub fn count_fragment(
+        &mut self,
+        scene: &SoundScene,
+        view: &View<'_>,
+        seg: u16,
+        first: u16,
+        last: u16,
+    ) -> Result<(), DrawFault>
+        requires scene { CanCount scene.now.scene }
+        requires there { IsEventIn view.now scene.now.scene (FragmentEvent seg first last) }
+        requires takes { CanTake view.now scene.now.scene self.old }
+        ensures walked { (bytes : ℕ → List ℕ) (limits : Limits) (events : List Event) →
+            HasWalked view.now bytes scene.now.scene limits events self.old →
+            OnOk result (HasWalked view.now bytes scene.now.scene limits
+            (events ++ FragmentEvent seg first last ∷ []) self.new) }
+        ensures over { (bytes : ℕ → List ℕ) (limits : Limits) (events : List Event) →
+            HasWalked view.now bytes scene.now.scene limits events self.old →
+            limit_of_result result ≡ steps_over limits
+            (view_steps view.now (scene_of bytes scene.now.scene)
+            (events ++ FragmentEvent seg first last ∷ [])) }
+        ensures faults { IfErr result IsLimitFault }
+        ensures takes { OnOk result (CanTake view.now scene.now.scene self.new) }
+        ensures limits { limits_of self.new.walls self.new.planes
+            ≡ limits_of self.old.walls self.old.planes }
+    {
+        let facts = facts_of(scene, self.sector, seg);
+        self.walls
+            .count_range(view, &mut self.planes, &facts, first, last)
+    }
+
+    /// Draws the fragment of a seg in columns `first` to `last` of the view, and keeps what planes
+    /// and the masked pass need of it. Past 256 fragments it does nothing.
+    ///
+    /// Errors: `Limit` exactly where the fragment's openings or planes pass a limit, and no other
+    /// fault came before; `ZoneFull` and `ReadFault` as for `Textures::ready`.
+    ///
+    /// The original: `R_StoreWallRange`, r_segs.c.
+    pub fn store_fragment<S: Shelf, C: Canvas>(
+        &mut self,
+        tools: &mut ViewTools<'_, S, C>,
+        seg: u16,
+        first: u16,
+        last: u16,
+    ) -> Result<(), ViewFault>
+        requires drawable { CanDrawView tools.old.dir.now.lumps tools.old.scene.now.scene
+            tools.old.cache.now }
+        requires there { IsEventIn tools.old.view.now tools.old.scene.now.scene
+            (FragmentEvent seg first last) }
+        requires takes { CanTake tools.old.view.now tools.old.scene.now.scene self.old }
+        requires columns { (C.view tools.old.canvas.now).left + tools.old.view.now.shape.width
+            ≤ FRAME_WIDTH }
+        requires rows { (C.view tools.old.canvas.now).top + tools.old.view.now.shape.height
+            ≤ FRAME_HEIGHT }
+        ensures same_cache { tools.new.cache.ghost_name ≡ tools.old.cache.ghost_name }
+        ensures same_shelf { tools.new.shelf.ghost_name ≡ tools.old.shelf.ghost_name }
+        ensures same_canvas { tools.new.canvas.ghost_name ≡ tools.old.canvas.ghost_name }
+        ensures walked { (bytes : ℕ → List ℕ) (limits : Limits) (events : List Event) →
+            HasWalked tools.old.view.now bytes tools.old.scene.now.scene limits events self.old →
+            OnOk result (HasWalked tools.old.view.now bytes tools.old.scene.now.scene limits
+            (events ++ FragmentEvent seg first last ∷ []) self.new) }
+        ensures over { (bytes : ℕ → List ℕ) (limits : Limits) (events : List Event) →
+            HasWalked tools.old.view.now bytes tools.old.scene.now.scene limits events self.old →
+            IfErr result (λ fault. IfSome (limit_of_view fault) (λ over. steps_over limits
+            (view_steps tools.old.view.now (scene_of bytes tools.old.scene.now.scene)
+            (events ++ FragmentEvent seg first last ∷ [])) ≡ Some over)) }
+        ensures paints { (limits : Limits) (events : List Event) →
+            ((bytes : ℕ → List ℕ) → HasWalked tools.old.view.now bytes tools.old.scene.now.scene
+            limits events self.old) →
+            PaintsView C.mark
+            (view_scene tools.old.view.now tools.old.scene.now.scene tools.old.dir.now)
+            (λ scene. next_dots tools.old.view.now scene events seg first last)
+            (view_state (S.view tools.old.shelf.now) tools.old.cache.now
+            (C.view tools.old.canvas.now))
+            (view_state (S.view tools.new.shelf.now) tools.new.cache.now
+            (C.view tools.new.canvas.now)) result }
+        ensures takes { OnOk result
+            (CanTake tools.old.view.now tools.old.scene.now.scene self.new) }
+        ensures limits { limits_of self.new.walls self.new.planes
+            ≡ limits_of self.old.walls self.old.planes }
+    {
+        let facts = facts_of(tools.scene, self.sector, seg);
+        let mut walls = WallTools {
+            view: tools.view,
+            textures: tools.scene.textures(),
+            cache: &mut *tools.cache,
+            dir: tools.dir,
+            shelf: &mut *tools.shelf,
+            planes: &mut self.planes,
+            canvas: &mut *tools.canvas,
+            colormap: tools.scene.colormap(),
+        };
+        self.walls.store_range(&mut walls, &facts, first, last)?;
+        Ok(())
+    }
+}
+
+// The sector of a leaf.
+#[tactic(auto, unfolding(level_rules::specs::Levels::leaf_at))]
+fn sector_of(scene: &SoundScene, leaf: u16) -> u16
+    requires { leaf < length scene.now.scene.base.level.leaves }
+    ensures value { result ≡ (leaf_at (lists_of scene.now.scene) leaf).sector }
+    ensures there { result < length scene.now.scene.base.level.sectors }
+{
+    scene.level().leaves()[leaf as usize].sector
+}
+
+// The sector of the first leaf.
+#[tactic(auto, unfolding(level_rules::specs::Levels::leaf_at))]
+fn first_sector(scene: &SoundScene) -> u16
+    ensures value { result ≡ (leaf_at (lists_of scene.now.scene) 0).sector }
+    ensures there { 0 < length scene.now.scene.base.level.segs →
+        result < length scene.now.scene.base.level.sectors }
+{
+    match scene.level().leaves().first() {
+        Some(leaf) => leaf.sector,
+        None => 0,
+    }
+}
+
+// The planes that a leaf of a sector finds.
+fn planes_of(scene: &SoundScene, view: &View<'_>, sector: u16) -> LeafPlanes
+    requires scene { CanCount scene.now.scene }
+    requires sector { sector < length scene.now.scene.base.level.sectors }
+    ensures floor { result.floor
+        ≡ floor_key view.now.eye.z (surface_at (lists_of scene.now.scene) sector) }
+    ensures ceiling { result.ceiling
+        ≡ ceiling_key view.now.eye.z (surface_at (lists_of scene.now.scene) sector) }
+{
+    let surface = surface_at(scene, sector);
+    let height = view.eye().z;
+    LeafPlanes {
+        floor: floor_key(height, &surface),
+        ceiling: ceiling_key(height, &surface),
+    }
+}

@@ -1,0 +1,108 @@
+// The walls of a view, counted as they are walked.
+//
+// Rules: `picture_rules`, Counts; `specs/Painters`. This project's own.
+ghost use Rattle.std.specs.Prelude.{◌≡◌, ℕ, List, [], IfErr, OnOk, Some};
+ghost use Rattle.picture_rules.specs.Counts.{view_over};
+ghost use Rattle.frame_core.specs.Scenes.{scene_of};
+ghost use Rattle.frame_core.specs.Views.{CanCount};
+ghost use Rattle.frame_core.specs.Walked.{CanTake, HasWalked};
+ghost use Rattle.frame_core.specs.Painters.{HasWalkedView, limits_in};
+
+use crate::bench::Bench;
+use crate::fault::over_limit;
+use level_audit::SoundScene;
+use node_walk::{Visitor, WalkScene, walk};
+use picture_rules::OverLimit;
+use solid_segs::Cover;
+use view_frame::View;
+
+/// Counts each leaf and fragment of a view as it comes.
+#[derive(Drop)]
+pub(crate) struct ViewCounter<'a> {
+    pub bench: &'a mut Bench,
+    pub scene: &'a SoundScene,
+    pub view: &'a View<'a>,
+}
+
+impl<'a> Visitor for ViewCounter<'a> {
+    ghost use Rattle.std.specs.Prelude.{Ok, Err};
+    ghost use Rattle.frame_core.specs.Painters.{CanCountNext, CounterValue, HasCounted, counter_value};
+
+    ghost Start = { CounterValue };
+
+    ghost stands = { λ p start events. HasCounted start
+      (counter_value p.view.now p.scene.now.scene p.bench.now p.bench.ghost_name) events (Ok tt) };
+
+    ghost stopped = { λ p start events stop. HasCounted start
+      (counter_value p.view.now p.scene.now.scene p.bench.now p.bench.ghost_name) events
+      (Err stop) };
+
+    ghost takes = { λ p event. CanCountNext
+      (counter_value p.view.now p.scene.now.scene p.bench.now p.bench.ghost_name) event };
+
+    type Stop = OverLimit;
+
+    fn leaf(&mut self, leaf: u16) -> Result<(), OverLimit> {
+        match self.bench.enter_leaf(self.scene, self.view, leaf) {
+            Ok(()) => Ok(()),
+            Err(fault) => Err(over_limit(fault)),
+        }
+    }
+
+    fn fragment(&mut self, seg: u16, first: u16, last: u16) -> Result<(), OverLimit> {
+        match self
+            .bench
+            .count_fragment(self.scene, self.view, seg, first, last)
+        {
+            Ok(()) => Ok(()),
+            Err(fault) => Err(over_limit(fault)),
+        }
+    }
+}
+
+// Walks the level of the scene for a counter that no event was given.
+fn walk_counter(counter: &mut ViewCounter<'_>) -> Result<(), OverLimit>
+    requires scene { CanCount counter.old.scene.now.scene }
+    requires takes { CanTake counter.old.view.now counter.old.scene.now.scene
+        counter.old.bench.now }
+    requires walked { (bytes : ℕ → List ℕ) → HasWalked counter.old.view.now bytes
+        counter.old.scene.now.scene (limits_in counter.old.bench.now) []
+        counter.old.bench.now }
+    ensures same_bench { counter.new.bench.ghost_name ≡ counter.old.bench.ghost_name }
+    ensures walked { OnOk result (HasWalkedView counter.old.view.now
+        counter.old.scene.now.scene counter.new.bench.now) }
+    ensures over { (bytes : ℕ → List ℕ) → IfErr result (λ over.
+        view_over counter.old.view.now (scene_of bytes counter.old.scene.now.scene)
+        (limits_in counter.old.bench.now) ≡ Some over) }
+    ensures limits { limits_in counter.new.bench.now ≡ limits_in counter.old.bench.now }
+{
+    let walked = WalkScene {
+        level: counter.scene.level(),
+        surfaces: counter.scene.surfaces(),
+        middles: counter.scene.middles(),
+    };
+    let view = counter.view;
+    let mut cover = Cover::new(view.shape().width);
+    walk(&walked, view, &mut cover, counter)
+}
+
+/// Counts the walls of a view, in a bench that was started for it.
+///
+/// Errors: the first count of the view that passes its limit.
+pub(crate) fn count_walls(
+    scene: &SoundScene,
+    view: &View<'_>,
+    bench: &mut Bench,
+) -> Result<(), OverLimit>
+    requires scene { CanCount scene.now.scene }
+    requires takes { CanTake view.now scene.now.scene bench.old }
+    requires walked { (bytes : ℕ → List ℕ) → HasWalked view.now bytes scene.now.scene
+        (limits_in bench.old) [] bench.old }
+    ensures walked { OnOk result (HasWalkedView view.now scene.now.scene bench.new) }
+    ensures over { (bytes : ℕ → List ℕ) → IfErr result (λ over.
+        view_over view.now (scene_of bytes scene.now.scene) (limits_in bench.old) ≡ Some over) }
+    ensures limits { limits_in bench.new ≡ limits_in bench.old }
+{
+    let mut counter = ViewCounter { bench, scene, view };
+    walk_counter(&mut counter)
+}

@@ -1,0 +1,28 @@
+//! One view of a scene: its walls, planes and masked pass on a canvas, and what it counts.
+//!
+//! Rules: `picture_rules`; what of a scene a picture is made from in this crate's Scenes. Proved: the
+//! frame is the picture of the view, byte for byte; a count that passes its limit ends the view, and
+//! only that one; what a call keeps of the cache, and when the zone is full. Only `Workshop::new`
+//! takes memory. The original: R_RenderPlayerView, r_main.c.
+#![tactic(auto)]
+
+mod bench;
+mod counter;
+mod entered;
+mod facts;
+mod fault;
+mod floors;
+mod keys;
+mod masks;
+mod painter;
+#[cfg(test)]
+mod tests;
+mod things;
+mod tools;
+mod view;
+mod workshop;
+
+pub use fault::ViewFault;
+pub use picture_rules::{Counts, LimitKind, Limits, OverLimit};
+pub use view::{count_view, draw_view, draw_view_on};
+pub use workshop::Workshop;

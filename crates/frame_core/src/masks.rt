@@ -1,0 +1,70 @@
+// The masked pass of a view, drawn at last.
+//
+// Rules: `picture_rules`, Masked and Paints. The original: `R_DrawMasked`, r_things.c.
+ghost use Rattle.std.specs.Prelude.{◌≡◌, ◌≤◌, length};
+ghost use Rattle.walk_rules.specs.Walk.{view_events};
+ghost use Rattle.sprite_rules.specs.Middles.{masked_dots};
+ghost use Rattle.sprite_rules.specs.Order.{draw_order};
+ghost use Rattle.picture_rules.specs.Masked.{view_drawsegs};
+ghost use Rattle.picture_rules.specs.Things.{view_entries};
+ghost use Rattle.picture_rules.specs.Walls.{walls_of};
+ghost use Rattle.frame_core.specs.Scenes.{lists_of};
+ghost use Rattle.frame_core.specs.Views.{CanDrawView, PaintsView, view_scene, view_state};
+ghost use Rattle.frame_core.specs.Painters.{HasWalkedView, IsPlacedIn};
+
+use crate::bench::Bench;
+use crate::fault::ViewFault;
+use crate::tools::ViewTools;
+use masked_draw::{MaskedTools, draw_masked};
+use outside::Shelf;
+use pixel_strips::Canvas;
+
+/// Draws the vissprites and the masked mid textures of a view, where the walk is in the bench.
+/// `marks` has an entry for each opening that there may be, and what it holds does not matter.
+///
+/// Errors: `ZoneFull` and `ReadFault` as for `draw_masked`.
+pub(crate) fn draw_masks<S: Shelf, C: Canvas>(
+    tools: &mut ViewTools<'_, S, C>,
+    bench: &Bench,
+    marks: &mut [bool],
+) -> Result<(), ViewFault>
+    requires drawable { CanDrawView tools.old.dir.now.lumps tools.old.scene.now.scene
+        tools.old.cache.now }
+    requires placed { IsPlacedIn tools.old.view.now (C.view tools.old.canvas.now) }
+    requires walked { HasWalkedView tools.old.view.now tools.old.scene.now.scene bench.now }
+    requires marks { bench.now.walls.room ≤ length marks.old }
+    ensures same_cache { tools.new.cache.ghost_name ≡ tools.old.cache.ghost_name }
+    ensures same_shelf { tools.new.shelf.ghost_name ≡ tools.old.shelf.ghost_name }
+    ensures same_canvas { tools.new.canvas.ghost_name ≡ tools.old.canvas.ghost_name }
+    ensures marks { length marks.new ≡ length marks.old }
+    ensures paints { let v = tools.old.view.now in PaintsView C.mark
+        (view_scene v tools.old.scene.now.scene tools.old.dir.now)
+        (λ scene. let events = view_events v (lists_of tools.old.scene.now.scene) in
+        masked_dots v scene.art (view_drawsegs v scene (walls_of v scene events))
+        (draw_order (view_entries v scene events)))
+        (view_state (S.view tools.old.shelf.now) tools.old.cache.now
+        (C.view tools.old.canvas.now))
+        (view_state (S.view tools.new.shelf.now) tools.new.cache.now
+        (C.view tools.new.canvas.now)) result }
+{
+    let level = tools.scene.level();
+    let openings = bench.walls.openings();
+    let (marks, _) = marks.split_at_mut(openings.len());
+    let mut masks = MaskedTools {
+        view: tools.view,
+        textures: tools.scene.textures(),
+        cache: &mut *tools.cache,
+        dir: tools.dir,
+        shelf: &mut *tools.shelf,
+        colormap: tools.scene.colormap(),
+        canvas: &mut *tools.canvas,
+        openings,
+        segs: level.segs(),
+        sides: level.sides(),
+        sectors: level.sectors(),
+        middles: tools.scene.middles(),
+        marks,
+    };
+    draw_masked(&mut masks, bench.walls.notes(), &bench.sprites)?;
+    Ok(())
+}

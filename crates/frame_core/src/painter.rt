@@ -1,0 +1,154 @@
+// The walls of a view, drawn as they are walked.
+//
+// Rules: `picture_rules`, Walls; `specs/Painters`. The original: `R_RenderBSPNode`, r_bsp.c.
+ghost use Rattle.std.specs.Prelude.{◌≡◌, ℕ, List, [], IfErr, IfSome, OnOk, Some};
+ghost use Rattle.walk_rules.specs.Walk.{view_events};
+ghost use Rattle.picture_rules.specs.Counts.{view_over};
+ghost use Rattle.frame_core.specs.Faults.{limit_of_view};
+ghost use Rattle.frame_core.specs.Scenes.{lists_of, scene_of};
+ghost use Rattle.frame_core.specs.Views.{CanDrawView, PaintsView, view_scene, view_state};
+ghost use Rattle.frame_core.specs.Walked.{CanTake, HasWalked};
+ghost use Rattle.frame_core.specs.Painters.{HasWalkedView, IsPlacedIn, drawn_walls, limits_in};
+
+use crate::bench::Bench;
+use crate::fault::ViewFault;
+use crate::tools::ViewTools;
+use node_walk::{Visitor, WalkScene, walk};
+use outside::Shelf;
+use pixel_strips::Canvas;
+use solid_segs::Cover;
+
+/// Draws each fragment of a view as it comes, in what the view is built in.
+#[derive(Drop)]
+pub(crate) struct ViewPainter<'a, S: Shelf, C: Canvas> {
+    pub bench: &'a mut Bench,
+    pub tools: ViewTools<'a, S, C>,
+}
+
+impl<'a, S: Shelf, C: Canvas> Visitor for ViewPainter<'a, S, C> {
+    ghost use Rattle.std.specs.Prelude.{Ok, Err};
+    ghost use Rattle.frame_core.specs.Views.{view_scene, view_state};
+    ghost use Rattle.frame_core.specs.Painters.{CanPaintNext, HasPainted, PainterValue, painter_names, painter_value};
+
+    ghost Start = { PainterValue };
+
+    ghost stands = { λ p start events. HasPainted C.mark start (painter_value
+      (view_scene p.tools.view.now p.tools.scene.now.scene p.tools.dir.now) p.bench.now
+      (view_state (S.view p.tools.shelf.now) p.tools.cache.now (C.view p.tools.canvas.now))
+      (painter_names p.bench.ghost_name p.tools.cache.ghost_name p.tools.shelf.ghost_name
+      p.tools.canvas.ghost_name)) events (Ok tt) };
+
+    ghost stopped = { λ p start events stop. HasPainted C.mark start (painter_value
+      (view_scene p.tools.view.now p.tools.scene.now.scene p.tools.dir.now) p.bench.now
+      (view_state (S.view p.tools.shelf.now) p.tools.cache.now (C.view p.tools.canvas.now))
+      (painter_names p.bench.ghost_name p.tools.cache.ghost_name p.tools.shelf.ghost_name
+      p.tools.canvas.ghost_name)) events (Err stop) };
+
+    ghost takes = { λ p event. CanPaintNext (painter_value
+      (view_scene p.tools.view.now p.tools.scene.now.scene p.tools.dir.now) p.bench.now
+      (view_state (S.view p.tools.shelf.now) p.tools.cache.now (C.view p.tools.canvas.now))
+      (painter_names p.bench.ghost_name p.tools.cache.ghost_name p.tools.shelf.ghost_name
+      p.tools.canvas.ghost_name)) event };
+
+    type Stop = ViewFault;
+
+    fn leaf(&mut self, leaf: u16) -> Result<(), ViewFault> {
+        self.bench
+            .enter_leaf(self.tools.scene, self.tools.view, leaf)?;
+        Ok(())
+    }
+
+    fn fragment(&mut self, seg: u16, first: u16, last: u16) -> Result<(), ViewFault> {
+        self.bench.store_fragment(&mut self.tools, seg, first, last)
+    }
+}
+
+// Walks the level of the scene for a painter that no event was given.
+fn walk_painter<S: Shelf, C: Canvas>(painter: &mut ViewPainter<'_, S, C>) -> Result<(), ViewFault>
+    requires drawable { CanDrawView painter.old.tools.dir.now.lumps
+        painter.old.tools.scene.now.scene painter.old.tools.cache.now }
+    requires placed { IsPlacedIn painter.old.tools.view.now
+        (C.view painter.old.tools.canvas.now) }
+    requires takes { CanTake painter.old.tools.view.now painter.old.tools.scene.now.scene
+        painter.old.bench.now }
+    requires walked { (bytes : ℕ → List ℕ) → HasWalked painter.old.tools.view.now bytes
+        painter.old.tools.scene.now.scene (limits_in painter.old.bench.now) []
+        painter.old.bench.now }
+    ensures same_bench { painter.new.bench.ghost_name ≡ painter.old.bench.ghost_name }
+    ensures same_cache { painter.new.tools.cache.ghost_name ≡ painter.old.tools.cache.ghost_name }
+    ensures same_shelf { painter.new.tools.shelf.ghost_name ≡ painter.old.tools.shelf.ghost_name }
+    ensures same_canvas { painter.new.tools.canvas.ghost_name
+        ≡ painter.old.tools.canvas.ghost_name }
+    ensures walked { OnOk result (HasWalkedView painter.old.tools.view.now
+        painter.old.tools.scene.now.scene painter.new.bench.now) }
+    ensures over { (bytes : ℕ → List ℕ) → IfErr result (λ fault.
+        IfSome (limit_of_view fault) (λ over. view_over painter.old.tools.view.now
+        (scene_of bytes painter.old.tools.scene.now.scene) (limits_in painter.old.bench.now)
+        ≡ Some over)) }
+    ensures paints { PaintsView C.mark
+        (view_scene painter.old.tools.view.now painter.old.tools.scene.now.scene
+        painter.old.tools.dir.now)
+        (drawn_walls painter.old.tools.view.now (view_events painter.old.tools.view.now
+        (lists_of painter.old.tools.scene.now.scene)))
+        (view_state (S.view painter.old.tools.shelf.now) painter.old.tools.cache.now
+        (C.view painter.old.tools.canvas.now))
+        (view_state (S.view painter.new.tools.shelf.now) painter.new.tools.cache.now
+        (C.view painter.new.tools.canvas.now)) result }
+    ensures limits { limits_in painter.new.bench.now ≡ limits_in painter.old.bench.now }
+{
+    let scene = painter.tools.scene;
+    let view = painter.tools.view;
+    let walked = WalkScene {
+        level: scene.level(),
+        surfaces: scene.surfaces(),
+        middles: scene.middles(),
+    };
+    let mut cover = Cover::new(view.shape().width);
+    walk(&walked, view, &mut cover, painter)
+}
+
+/// Draws the walls of a view, in a bench that was started for it.
+///
+/// Errors: `Limit` exactly where a count of the view passes its limit before another fault comes;
+/// `ZoneFull` and `ReadFault` as for `Textures::ready`.
+pub(crate) fn draw_walls<S: Shelf, C: Canvas>(
+    tools: &mut ViewTools<'_, S, C>,
+    bench: &mut Bench,
+) -> Result<(), ViewFault>
+    requires drawable { CanDrawView tools.old.dir.now.lumps tools.old.scene.now.scene
+        tools.old.cache.now }
+    requires placed { IsPlacedIn tools.old.view.now (C.view tools.old.canvas.now) }
+    requires takes { CanTake tools.old.view.now tools.old.scene.now.scene bench.old }
+    requires walked { (bytes : ℕ → List ℕ) → HasWalked tools.old.view.now bytes
+        tools.old.scene.now.scene (limits_in bench.old) [] bench.old }
+    ensures same_cache { tools.new.cache.ghost_name ≡ tools.old.cache.ghost_name }
+    ensures same_shelf { tools.new.shelf.ghost_name ≡ tools.old.shelf.ghost_name }
+    ensures same_canvas { tools.new.canvas.ghost_name ≡ tools.old.canvas.ghost_name }
+    ensures walked { OnOk result
+        (HasWalkedView tools.old.view.now tools.old.scene.now.scene bench.new) }
+    ensures over { (bytes : ℕ → List ℕ) → IfErr result (λ fault.
+        IfSome (limit_of_view fault) (λ over. view_over tools.old.view.now
+        (scene_of bytes tools.old.scene.now.scene) (limits_in bench.old) ≡ Some over)) }
+    ensures paints { PaintsView C.mark
+        (view_scene tools.old.view.now tools.old.scene.now.scene tools.old.dir.now)
+        (drawn_walls tools.old.view.now (view_events tools.old.view.now
+        (lists_of tools.old.scene.now.scene)))
+        (view_state (S.view tools.old.shelf.now) tools.old.cache.now
+        (C.view tools.old.canvas.now))
+        (view_state (S.view tools.new.shelf.now) tools.new.cache.now
+        (C.view tools.new.canvas.now)) result }
+    ensures limits { limits_in bench.new ≡ limits_in bench.old }
+{
+    let mut painter = ViewPainter {
+        bench,
+        tools: ViewTools {
+            scene: tools.scene,
+            view: tools.view,
+            dir: tools.dir,
+            cache: &mut *tools.cache,
+            shelf: &mut *tools.shelf,
+            canvas: &mut *tools.canvas,
+        },
+    };
+    walk_painter(&mut painter)
+}

@@ -1,0 +1,210 @@
+// One view, drawn and counted.
+//
+// Rules: `picture_rules`, Paints, Picture and Counts. The original: `R_RenderPlayerView`, r_main.c.
+ghost use Rattle.std.specs.Prelude.{◌≡◌, ◌≤◌, ℕ, List, None, Some, IfErr, IfOk, IfSome, OnOk, length};
+ghost use Rattle.lump_rules.specs.Contents.{lump_bytes};
+ghost use Rattle.view_rules.specs.View.{view_of};
+ghost use Rattle.picture_rules.specs.Counts.{view_counts, view_over};
+ghost use Rattle.picture_rules.specs.Paints.{view_paints};
+ghost use Rattle.picture_rules.specs.Picture.{picture};
+ghost use Rattle.pixel_strips.specs.Canvases.{placed_at};
+ghost use Rattle.texture_build.specs.Draws.{DrawsWith, FitBeside, HoldsArt};
+ghost use Rattle.level_audit.specs.Sound.{textures_view};
+ghost use Rattle.frame_core.specs.Faults.{limit_of_view, view_fault};
+ghost use Rattle.frame_core.specs.Scenes.{scene_of};
+ghost use Rattle.frame_core.specs.Views.{CanCount, CanDrawView, IsViewLump, IsViewTexture, PaintsView, view_scene, view_state};
+ghost use Rattle.frame_core.specs.Painters.{limits_in};
+
+use crate::bench::Bench;
+use crate::counter::count_walls;
+use crate::fault::ViewFault;
+use crate::floors::draw_floors;
+use crate::masks::draw_masks;
+use crate::painter::draw_walls;
+use crate::tools::ViewTools;
+use crate::workshop::Workshop;
+use angle_tables::Tables;
+use level_audit::SoundScene;
+use lump_cache::LumpCache;
+use outside::Shelf;
+use picture_rules::{Counts, OverLimit};
+use pixel_strips::Canvas;
+use view_frame::View;
+use view_rules::Eye;
+use wad_dir::Directory;
+
+/// Draws the view of `eye` on the workshop's frame, which is cleared before: after Ok its bytes are
+/// the picture of the view (`picture`). Takes no memory.
+///
+/// The scene passed its audit over this directory, and the cache has a slot for each of its lumps
+/// and each of the scene's textures. The cache is at rest, and where the shelf tells its files it
+/// holds their bytes.
+///
+/// Errors: `Limit` only where a count of the view passes its limit, with the first count that does;
+/// where one does, never Ok. `ZoneFull` only if no gap of the zone held the block of a lump or a
+/// texture of the scene; `ReadFault` only if the shelf's count of faults rose. After any of them the
+/// frame's bytes are not told, and the next call is as a first one: after any answer a cache that
+/// was at rest is at rest, and one that was faithful is faithful.
+///
+/// The original: `R_RenderPlayerView`, r_main.c.
+pub fn draw_view<S: Shelf>(
+    scene: &SoundScene,
+    tables: &Tables,
+    shop: &mut Workshop,
+    cache: &mut LumpCache,
+    dir: &Directory,
+    shelf: &mut S,
+    eye: Eye,
+) -> Result<(), ViewFault>
+    requires { CanDrawView dir.now.lumps scene.now.scene cache.old }
+    ensures picture { (contents : List (List ℕ)) (count : ℕ) →
+        HoldsArt (S.view shelf.old) dir.now (textures_view scene.now.scene) contents
+        scene.now.scene.base.colormap count cache.old →
+        OnOk result (shop.new.frame.cells ≡ picture (view_of tables.now eye)
+        (scene_of (lump_bytes contents dir.now.lumps) scene.now.scene)) }
+    ensures within { (bytes : ℕ → List ℕ) → OnOk result
+        (view_over (view_of tables.now eye) (scene_of bytes scene.now.scene) shop.old.limits
+        ≡ None) }
+    ensures over { (bytes : ℕ → List ℕ) → IfErr result (λ fault.
+        IfSome (limit_of_view fault) (λ over. view_over (view_of tables.now eye)
+        (scene_of bytes scene.now.scene) shop.old.limits ≡ Some over)) }
+    ensures fits { (contents : List (List ℕ)) (count : ℕ) →
+        HoldsArt (S.view shelf.old) dir.now (textures_view scene.now.scene) contents
+        scene.now.scene.base.colormap count cache.old →
+        OnOk result (FitBeside dir.now.lumps (textures_view scene.now.scene)
+        scene.now.scene.base.colormap count cache.old.size
+        (view_paints (view_of tables.now eye)
+        (scene_of (lump_bytes contents dir.now.lumps) scene.now.scene))) }
+    ensures draws { DrawsWith view_fault (IsViewTexture scene.now.scene)
+        (IsViewLump scene.now.scene) (S.view shelf.old) (S.view shelf.new) dir.now
+        (textures_view scene.now.scene) cache.old cache.new result }
+    ensures limits { shop.new.limits ≡ shop.old.limits }
+{
+    shop.frame.clear();
+    let view = View::new(tables, eye);
+    let mut tools = ViewTools {
+        scene,
+        view: &view,
+        dir,
+        cache,
+        shelf,
+        canvas: &mut shop.frame,
+    };
+    draw_parts(&mut tools, &mut shop.bench, &mut shop.marks)
+}
+
+/// Draws the view of `eye` on a canvas, which is placed where the view lies in the frame: after Ok
+/// it was given the dots of the view in order (`painted`). Takes no memory.
+///
+/// The conditions, the errors and what is told after them are those of `draw_view`; the workshop's
+/// frame stays as it is.
+///
+/// The original: `R_RenderPlayerView`, r_main.c, and `R_ExecuteSetViewSize` for the place.
+pub fn draw_view_on<S: Shelf, C: Canvas>(
+    scene: &SoundScene,
+    tables: &Tables,
+    shop: &mut Workshop,
+    cache: &mut LumpCache,
+    dir: &Directory,
+    shelf: &mut S,
+    eye: Eye,
+    canvas: &mut C,
+) -> Result<(), ViewFault>
+    requires { CanDrawView dir.now.lumps scene.now.scene cache.old }
+    ensures within { (bytes : ℕ → List ℕ) → OnOk result
+        (view_over (view_of tables.now eye) (scene_of bytes scene.now.scene) shop.old.limits
+        ≡ None) }
+    ensures over { (bytes : ℕ → List ℕ) → IfErr result (λ fault.
+        IfSome (limit_of_view fault) (λ over. view_over (view_of tables.now eye)
+        (scene_of bytes scene.now.scene) shop.old.limits ≡ Some over)) }
+    ensures paints { let v = view_of tables.now eye in
+        PaintsView C.mark (view_scene v scene.now.scene dir.now) (view_paints v)
+        (view_state (S.view shelf.old) cache.old
+        (placed_at v.shape.left v.shape.top (C.view canvas.old)))
+        (view_state (S.view shelf.new) cache.new (C.view canvas.new)) result }
+    ensures limits { shop.new.limits ≡ shop.old.limits }
+    ensures frame { shop.new.frame ≡ shop.old.frame }
+{
+    let view = View::new(tables, eye);
+    let mut tools = ViewTools {
+        scene,
+        view: &view,
+        dir,
+        cache,
+        shelf,
+        canvas,
+    };
+    draw_parts(&mut tools, &mut shop.bench, &mut shop.marks)
+}
+
+/// What the view of `eye` counts: its planes, its openings, its drawn fragments (at most 256) and
+/// its vissprites (at most 128). Draws nothing, and takes no memory.
+///
+/// Errors: the first count of the view that passes its limit, exactly where one does.
+///
+/// This project's own.
+pub fn count_view(
+    scene: &SoundScene,
+    tables: &Tables,
+    shop: &mut Workshop,
+    eye: Eye,
+) -> Result<Counts, OverLimit>
+    requires { CanCount scene.now.scene }
+    ensures counts { (bytes : ℕ → List ℕ) → IfOk result (λ counts. counts
+        ≡ view_counts (view_of tables.now eye) (scene_of bytes scene.now.scene)) }
+    ensures within { (bytes : ℕ → List ℕ) → OnOk result
+        (view_over (view_of tables.now eye) (scene_of bytes scene.now.scene) shop.old.limits
+        ≡ None) }
+    ensures over { (bytes : ℕ → List ℕ) → IfErr result (λ over.
+        view_over (view_of tables.now eye) (scene_of bytes scene.now.scene) shop.old.limits
+        ≡ Some over) }
+    ensures limits { shop.new.limits ≡ shop.old.limits }
+    ensures frame { shop.new.frame ≡ shop.old.frame }
+{
+    let view = View::new(tables, eye);
+    let bench = &mut shop.bench;
+    bench.start(scene, &view);
+    count_walls(scene, &view, bench)?;
+    Ok(Counts {
+        planes: bench.planes.count(),
+        openings: bench.walls.openings().len() as u32,
+        fragments: bench.walls.notes().len() as u32,
+        sprites: bench.sprites.count(),
+    })
+}
+
+// The three parts of a view: walls as they are walked, planes, the masked pass.
+fn draw_parts<S: Shelf, C: Canvas>(
+    tools: &mut ViewTools<'_, S, C>,
+    bench: &mut Bench,
+    marks: &mut [bool],
+) -> Result<(), ViewFault>
+    requires drawable { CanDrawView tools.old.dir.now.lumps tools.old.scene.now.scene
+        tools.old.cache.now }
+    requires marks { bench.old.walls.room ≤ length marks.old }
+    ensures same_cache { tools.new.cache.ghost_name ≡ tools.old.cache.ghost_name }
+    ensures same_shelf { tools.new.shelf.ghost_name ≡ tools.old.shelf.ghost_name }
+    ensures same_canvas { tools.new.canvas.ghost_name ≡ tools.old.canvas.ghost_name }
+    ensures marks { length marks.new ≡ length marks.old }
+    ensures within { (bytes : ℕ → List ℕ) → OnOk result
+        (view_over tools.old.view.now (scene_of bytes tools.old.scene.now.scene)
+        (limits_in bench.old) ≡ None) }
+    ensures over { (bytes : ℕ → List ℕ) → IfErr result (λ fault.
+        IfSome (limit_of_view fault) (λ over. view_over tools.old.view.now
+        (scene_of bytes tools.old.scene.now.scene) (limits_in bench.old) ≡ Some over)) }
+    ensures paints { let v = tools.old.view.now in
+        PaintsView C.mark (view_scene v tools.old.scene.now.scene tools.old.dir.now)
+        (view_paints v)
+        (view_state (S.view tools.old.shelf.now) tools.old.cache.now
+        (placed_at v.shape.left v.shape.top (C.view tools.old.canvas.now)))
+        (view_state (S.view tools.new.shelf.now) tools.new.cache.now
+        (C.view tools.new.canvas.now)) result }
+    ensures limits { limits_in bench.new ≡ limits_in bench.old }
+{
+    let shape = tools.view.shape();
+    tools.canvas.place(shape.left, shape.top);
+    bench.start(tools.scene, tools.view);
+    draw_walls(tools, bench)?;
+    draw_floors(tools, bench)?;
+    draw_masks(tools, bench, marks)
+}
