@@ -1,3 +1,4 @@
 pub mod SceneLemmas
 pub mod ThingLemmas
 pub mod PaintLemmas
+pub mod ViewDotLemmas
