@@ -13,6 +13,7 @@ use Rattle.view_rules.specs.View.{ViewValue}
 use Rattle.view_rules.specs.declared.ViewShape.{ViewShape}
 use Rattle.view_rules.specs.declared.TheConstants.{FRAME_HEIGHT}
 use Rattle.walk_rules.specs.Events.{Event}
+use Rattle.walk_rules.specs.Walk.{view_events}
 use Rattle.pixel_rules.specs.declared.MaskedColumn.{MaskedColumn}
 use Rattle.pixel_rules.specs.declared.Painter.{Painter}
 use Rattle.pixel_rules.specs.declared.Post.{Post}
@@ -41,15 +42,20 @@ use Rattle.sprite_rules.specs.declared.SpriteEntry.{SpriteEntry}
 use Rattle.sprite_rules.specs.Clips.{gives_bottom, gives_top, greatest_that, clip_of_some, clip_of_number, sprite_bottom, sprite_top}
 use Rattle.sprite_rules.specs.Drawsegs.{Drawseg}
 use Rattle.sprite_rules.specs.Middles.{middle_masked, middle_by, middle_column, columns_at, middles_of, middles_at, sprite_step, sprites_from, masked_dots}
+use Rattle.sprite_rules.specs.Order.{draw_order}
 use Rattle.sprite_rules.specs.Sprites.{sprite_masked, sprite_column, sprite_dots}
+use Rattle.picture_rules.specs.Counts.{view_steps}
 use Rattle.picture_rules.specs.Masked.{drawseg_of, drawsegs_from, view_drawsegs}
 use Rattle.picture_rules.specs.Noted.{least_clip, greatest_clip}
+use Rattle.picture_rules.specs.Paints.{view_paints, paints_of, paints_by}
 use Rattle.picture_rules.specs.Picture.{AreInView}
-use Rattle.picture_rules.specs.Planes.{planes_from, planes_dots}
+use Rattle.picture_rules.specs.Planes.{steps_of, view_planes, planes_from, planes_dots}
 use Rattle.picture_rules.specs.Scene.{Scene}
+use Rattle.picture_rules.specs.Things.{view_entries}
 use Rattle.picture_rules.specs.Walls.{walls_of, walls_from, walls_dots}
 use Rattle.picture_rules.proofs.FrameLemmas.{in_view-append}
 use Rattle.vissprites.specs.Bounds.{lies_within}
+use Rattle.vissprites.proofs.BoundLemmas.{draw_order-all}
 use Rattle.wall_columns.specs.Built.{IsDrawn}
 use Rattle.wall_columns.specs.Plans.{AreEdgeWords, AreRowsIn}
 use Rattle.wall_columns.specs.Windows.{IsClipIn}
@@ -384,3 +390,21 @@ drawsegs_from-in v scene walls k (w ∷ ws) s a = (drawseg-in v scene walls k w 
 pub drawsegs-in_view : (v : ViewValue) (scene : Scene) (walls : List Wall) → v.shape.height ≤ FRAME_HEIGHT → All (IsDrawn v) walls → All (IsDrawsegIn v.shape) (view_drawsegs v scene walls)
 unfolding view_drawsegs
 drawsegs-in_view v scene walls s d = All-from_recursion (IsDrawsegIn v.shape) (view_drawsegs v scene walls) (drawsegs_from-in v scene walls 0 walls s (recursion_from_All (IsDrawn v) walls d))
+
+-- all that a view draws lies in it
+paints_of-in : (v : ViewValue) (scene : Scene) (events : List Event) → v.shape.height ≤ FRAME_HEIGHT → All (IsDrawn v) (walls_of v scene events) → All (LiesInView v.shape) (view_planes (view_steps v scene events)) →
+    AllPass (lies_within v.shape.width) (view_entries v scene events) → AreInView v.shape (paints_of v scene events)
+unfolding paints_of paints_by view_steps
+paints_of-in v scene events s drawn planes sprites =
+    let walls = walls_of v scene events in
+    let ds = view_drawsegs v scene walls in
+    let order = draw_order (view_entries v scene events) in
+    in_view-append v.shape (walls_dots v scene walls) (planes_dots v scene (view_planes (steps_of v scene walls events)) ++ masked_dots v scene.art ds order)
+    (drawn_walls-in_view v scene walls s drawn)
+    (in_view-append v.shape (planes_dots v scene (view_planes (steps_of v scene walls events))) (masked_dots v scene.art ds order) (planes-in_view v scene (view_planes (steps_of v scene walls events)) planes)
+    (masked-in_view v scene.art ds order s (drawsegs-in_view v scene walls s drawn) (draw_order-all (lies_within v.shape.width) (view_entries v scene events) sprites)))
+
+pub paints-in_view : (v : ViewValue) (scene : Scene) → v.shape.height ≤ FRAME_HEIGHT → All (IsDrawn v) (walls_of v scene (view_events v scene.level)) →
+    All (LiesInView v.shape) (view_planes (view_steps v scene (view_events v scene.level))) → AllPass (lies_within v.shape.width) (view_entries v scene (view_events v scene.level)) → AreInView v.shape (view_paints v scene)
+unfolding view_paints
+paints-in_view v scene s drawn planes sprites = paints_of-in v scene (view_events v scene.level) s drawn planes sprites
