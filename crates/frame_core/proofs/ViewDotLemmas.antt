@@ -1,13 +1,12 @@
 -- Laws of where the dots of a view are: those of its walls, its planes and its masked pass lie in it.
-use Rattle.std.proofs.Common.{◌≡◌, ℕ, zero, suc, ◌+◌, ◌-◌, ◌<◌, ◌≤◌, ◌^◌, Bool, true, false, cond, ℤ, pos, negsuc, ◌≤ℤ◌, ◌<ℤ◌, List, [], ◌∷◌, ◌++◌, Option, Some, None, length, map, get_or, refl, sym, subst, arith}
-use Rattle.std.specs.Prelude.{All, int_le, int_lt, nat_le, slice_get, filter, ◌&&◌, ◌||◌}
-use Rattle.std.specs.List.{AllByRecursion, AllPass, flat_map, range_with_len}
+use Rattle.std.proofs.Common.{◌≡◌, ℕ, zero, suc, ◌+◌, ◌-◌, ◌<◌, ◌≤◌, Bool, true, false, cond, ℤ, pos, negsuc, ◌≤ℤ◌, ◌<ℤ◌, List, [], ◌∷◌, ◌++◌, Option, Some, None, length, map, refl, subst, arith}
+use Rattle.std.specs.Prelude.{All, int_le, int_lt, nat_le, slice_get, filter, ◌&&◌}
+use Rattle.std.specs.List.{AllByRecursion, AllPass, range_with_len}
 use Rattle.std.proofs.lemmas.Bool.{and_from, le-leb}
 use Rattle.std.proofs.lemmas.Int.{ints}
 use Rattle.std.proofs.lemmas.List.Elements.{All-from_recursion, recursion_from_All}
 use Rattle.std.proofs.lemmas.Option.{slice_get_within, get_or_from_slice_get}
 use Rattle.word_rules.specs.Words.{minus_one, natural}
-use Rattle.word_rules.specs.Least.{greatest}
 use Rattle.word_rules.specs.Listed.{listed, listed_from, joined_lists}
 use Rattle.view_rules.specs.View.{ViewValue}
 use Rattle.view_rules.specs.declared.ViewShape.{ViewShape}
@@ -17,14 +16,13 @@ use Rattle.walk_rules.specs.Walk.{view_events}
 use Rattle.pixel_rules.specs.declared.MaskedColumn.{MaskedColumn}
 use Rattle.pixel_rules.specs.declared.Painter.{Painter}
 use Rattle.pixel_rules.specs.declared.Post.{Post}
-use Rattle.pixel_rules.specs.declared.Source.{Source}
 use Rattle.pixel_rules.specs.Art.{Art}
 use Rattle.pixel_rules.specs.Dots.{Dot}
 use Rattle.pixel_rules.specs.Posts.{picture_top, post_top, post_bottom, post_first, post_last, post_rows, post_colour, post_dots, posts_dots}
 use Rattle.pixel_rules.specs.Strips.{column_dots, rows_between}
 use Rattle.plane_rules.specs.declared.Flat4.{Flat4}
 use Rattle.plane_rules.specs.declared.Flat4.TheVariants.{Sky, Lump}
-use Rattle.plane_rules.specs.Floors.{run_dots, floor_dots, floor_colour}
+use Rattle.plane_rules.specs.Floors.{run_dots, floor_dots}
 use Rattle.plane_rules.specs.Planes.{Plane, column}
 use Rattle.plane_rules.specs.Skies.{sky_dots, plane_dots_by, plane_dots}
 use Rattle.plane_rules.specs.Spans.{holds_row, holds}
