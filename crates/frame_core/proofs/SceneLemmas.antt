@@ -128,18 +128,18 @@ flats_with_sky count sector flats few floor ceiling e = elim (either_of (is_sky 
 ]
 
 -- entries for numbers that no sound scene has
-no_sector : Sector
+pub no_sector : Sector
 no_sector = record { floor = pos 0; ceiling = pos 0; floor_name = []; ceiling_name = []; light = pos 0 }
 
-no_flats : SectorFlats
+pub no_flats : SectorFlats
 no_flats = record { floor = Sky; ceiling = Sky }
 
 -- the faces of a level, one part each
-record AreMeant (lumps : List Lump) (name : List ℕ) (level : LevelValue) (lists : TextureLists) (faces : Faces) : Type 0 where
-  sky : sky_texture lists.textures name level.sectors ≡ Ok faces.sky
-  flats : sector_flats lumps level.sectors ≡ Ok faces.flats
+pub record AreMeant (lumps : List Lump) (name : List ℕ) (level : LevelValue) (lists : TextureLists) (faces : Faces) : Type 0 where
+  pub sky : sky_texture lists.textures name level.sectors ≡ Ok faces.sky
+  pub flats : sector_flats lumps level.sectors ≡ Ok faces.flats
 
-are_meant : (lumps : List Lump) (name : List ℕ) (level : LevelValue) (lists : TextureLists) (faces : Faces) → faces_in lumps name level lists ≡ Ok faces → AreMeant lumps name level lists faces
+pub are_meant : (lumps : List Lump) (name : List ℕ) (level : LevelValue) (lists : TextureLists) (faces : Faces) → faces_in lumps name level lists ≡ Ok faces → AreMeant lumps name level lists faces
 unfolding faces_in
 are_meant lumps name level lists faces e =
     let sides = both_passed (side_textures lists.textures level.sides) _ faces e in

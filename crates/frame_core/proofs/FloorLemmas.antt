@@ -1,0 +1,249 @@
+-- Laws of the planes of a view: what drawing them asks is there, and what it paints is the view's.
+use Rattle.std.proofs.Common.{◌≡◌, inl, inr, ℕ, zero, suc, ◌<◌, ◌||◌, ◌==◌, Bool, true, false, cond, List, [], ◌∷◌, length, get_or, Option, Some, None, Result, Ok, Err, IsErrAnd, eq-eqb, refl, sym, ap, subst, ◌∙◌, arith}
+use Rattle.std.specs.Prelude.{All, IfSome, IsSome, OnOk, option_map, unwrap_or}
+use Rattle.std.specs.List.{list_any}
+use Rattle.std.proofs.lemmas.List.Elements.{All-contains, All-head, All-nil, All-tail}
+use Rattle.std.proofs.lemmas.List.Folds.{list_any_at}
+use Rattle.outside.specs.Faults.{fault_above}
+use Rattle.lump_rules.specs.declared.wad.Lump.{Lump}
+use Rattle.lump_rules.specs.Contents.{lump_bytes}
+use Rattle.zone_rules.specs.Zones.{Heap}
+use Rattle.lump_cache.specs.Caches.{cache_fault}
+use Rattle.lump_cache.specs.declared.fault.CacheFault.{CacheFault}
+use Rattle.lump_cache.specs.declared.fault.CacheFault.TheVariants as cache
+use Rattle.lump_cache.proofs.CallLemmas.{result_above}
+use Rattle.wad_dir.specs.DirectoryView.{DirectoryView}
+use Rattle.view_rules.specs.View.{ViewValue}
+use Rattle.view_rules.specs.declared.ViewShape.{ViewShape}
+use Rattle.level_rules.specs.declared.Sector.{Sector}
+use Rattle.level_rules.specs.declared.Surface.{Surface}
+use Rattle.level_rules.specs.Levels.{no_surface, surface_at}
+use Rattle.walk_rules.specs.Events.{Event}
+use Rattle.walk_rules.specs.Walk.{view_events}
+use Rattle.art_rules.specs.Books.{book_lumps}
+use Rattle.art_rules.specs.Textures.{Texture, texture_number}
+use Rattle.art_rules.specs.declared.PlacedPatch.{PlacedPatch}
+use Rattle.art_rules.specs.Wanted.{PreparedTexture}
+use Rattle.pixel_rules.specs.declared.Painter.{Painter}
+use Rattle.pixel_rules.specs.Dots.{Dot}
+use Rattle.pixel_strips.specs.Canvases.{CanvasView}
+use Rattle.pixel_strips.specs.Dotted.{HasDots, PlacedAlike}
+use Rattle.plane_rules.specs.declared.Flat4.{Flat4}
+use Rattle.plane_rules.specs.declared.Flat4.TheVariants as flat
+use Rattle.plane_rules.specs.Built.{planes_of}
+use Rattle.plane_rules.specs.Planes.{Plane}
+use Rattle.scene_rules.specs.declared.SectorFlats.{SectorFlats}
+use Rattle.scene_rules.specs.Scenes.{SceneValue}
+use Rattle.scene_rules.specs.SectorFlats.{flat_number, surface_of}
+use Rattle.scene_rules.specs.Sides.{found_sky, sky_texture}
+use Rattle.scene_rules.specs.Sizes.{has_flat}
+use Rattle.scene_rules.specs.Skies.{has_sky, sky_name}
+use Rattle.scene_rules.proofs.SkyLemmas.{sky_is_listed}
+use Rattle.picture_rules.specs.declared.Limits.{Limits}
+use Rattle.picture_rules.specs.Counts.{view_steps}
+use Rattle.picture_rules.specs.Planes.{planes_dots, view_planes}
+use Rattle.picture_rules.specs.Scene.{Scene}
+use Rattle.texture_lists.specs.declared.number.TexNo.{TexNo}
+use Rattle.texture_build.specs.Arts.{view_art}
+use Rattle.texture_build.specs.Draws.{CanDraw, DrawsWith, FitBeside, HoldsArt}
+use Rattle.texture_build.specs.Views.{ArePatchesThere, IsPrepared, TexturesView, prepared_at, unprepared}
+use Rattle.texture_build.proofs.DrawLemmas.{draws-above, draws-wider}
+use Rattle.plane_draw.specs.Planes.{CanDrawPlane, HasFlat, IsFlatOf, IsSky}
+use Rattle.level_audit.specs.Sound.{textures_view}
+use Rattle.frame_core.specs.declared.bench.Bench.{Bench}
+use Rattle.frame_core.specs.declared.fault.ViewFault.{ViewFault}
+use Rattle.frame_core.specs.Faults.{from_cache, view_fault}
+use Rattle.frame_core.specs.Scenes.{lists_of, scene_of}
+use Rattle.frame_core.specs.Views.{CanDrawView, IsViewLump, IsViewTexture, PaintsView, ViewScene, ViewState, held_scene}
+use Rattle.frame_core.specs.Walked.{HasWalked, IsFlatOf as IsFlatIn, IsFlatShown, IsPlaneIn, planes_after}
+use Rattle.frame_core.specs.Painters.{HasWalkedView, IsPlacedIn, limits_in}
+use Rattle.frame_core.proofs.PaintLemmas.{paints-stop, paints-value}
+use Rattle.frame_core.proofs.SceneLemmas.{are_meant, flats_at, no_flats, no_sector, sky_of_surface, surface_from}
+
+-- the sky's texture of a scene, as drawing has it
+abbrev pub IsSkyOf : SceneValue → Option TexNo → Type 0
+IsSkyOf scene sky = option_map (λ (tex : TexNo). tex.0) sky ≡ scene.faces.sky
+
+some_sky : (sky : Option TexNo) → IsSome (option_map (λ (tex : TexNo). tex.0) sky) → IsSome sky
+some_sky None h = absurd (let t : false ≡ true = h in cc)
+some_sky (Some tex) h = refl
+
+module _ (lumps : List Lump) (scene : SceneValue) (z : Heap) (sky : Option TexNo) (can : CanDrawView lumps scene z) (is : IsSkyOf scene sky) where
+  -- the flat of a plane of the view is there
+  flat_there : (flat : Flat4) → IsFlatShown scene flat → HasFlat (length lumps) sky flat
+  flat_there flat.Sky shown =
+      some_sky sky (subst (λ (o : Option ℕ). IsSome o) (sym is) (sky_of_surface lumps can.lines can.name can.skill scene can.whole can.few shown.sector shown.there shown.is))
+  flat_there (flat.Lump n) shown =
+      let flats = flats_at lumps can.lines can.name can.skill scene can.whole can.few shown.sector shown.there in
+      elim shown.is [
+        | inl floor ↦ subst (λ (k : ℕ). k < length lumps) (sym floor.0) (flats.floor.there floor.1)
+        | inr ceiling ↦ subst (λ (k : ℕ). k < length lumps) (sym ceiling.0) (flats.ceiling.there ceiling.1)
+      ]
+
+  -- the planes of a view may be drawn
+  pub planes_can : (v : ViewValue) (canvas : CanvasView) (b : Bench) → IsPlacedIn v canvas → HasWalkedView v scene b →
+      All (CanDrawPlane v.shape canvas.left canvas.top (length lumps) sky) b.planes.planes
+  planes_can v canvas b placed walked = λ i d l.
+      let p = (walked (λ lump. [])).planes i d l in
+      record {
+        flat = flat_there _ p.flat;
+        seen = record {
+          column = p.column;
+          row = p.row;
+          frame_column = λ x y h. omega (arith, p.column x y h, placed.columns);
+          frame_row = λ x y h. omega (arith, p.row x y h, placed.rows);
+        };
+      }
+
+-- the number of the sky's texture is one of the list
+sky_number : (textures : List Texture) (name : List ℕ) (o sky : Option ℕ) (n : ℕ) → texture_number textures (sky_name name) ≡ o → found_sky o ≡ Ok sky → sky ≡ Some n → n < length textures
+unfolding found_sky
+sky_number textures name None sky n e f g = absurd (cc)
+sky_number textures name (Some k) sky n e f g = let same : k ≡ n = cc in subst (λ (m : ℕ). m < length textures) same (sky_is_listed textures name k e)
+
+sky_by : (asked : Bool) (textures : List Texture) (name : List ℕ) (sky : Option ℕ) (n : ℕ) → cond asked (found_sky (texture_number textures (sky_name name))) (Ok None) ≡ Ok sky → sky ≡ Some n → n < length textures
+sky_by true textures name sky n e f = sky_number textures name (texture_number textures (sky_name name)) sky n refl e f
+sky_by false textures name sky n e f = absurd (cc)
+
+sky_listed : (lumps : List Lump) (scene : SceneValue) (z : Heap) (n : ℕ) → CanDrawView lumps scene z → scene.faces.sky ≡ Some n → n < length scene.base.lists.textures
+unfolding sky_texture
+sky_listed lumps scene z n can e =
+    sky_by (has_sky scene.base.level.sectors) scene.base.lists.textures can.name scene.faces.sky n
+    (are_meant lumps can.name scene.base.level scene.base.lists scene.faces can.whole.faces).sky e
+
+-- what holds of each prepared texture holds of the one of a number
+prepared_has : (P : PreparedTexture → Type 0) (ts : List (Option PreparedTexture)) (number : ℕ) → All (λ (t : Option PreparedTexture). IfSome t P) ts → IfSome (prepared_at ts number) P
+prepared_has P [] number all = tt
+prepared_has P (t ∷ ts) zero all = All-head (λ (t : Option PreparedTexture). IfSome t P) t ts all
+prepared_has P (t ∷ ts) (suc number) all = prepared_has P ts number (All-tail (λ (t : Option PreparedTexture). IfSome t P) t ts all)
+
+-- a texture that is not prepared has no patch
+there_or_none : (lumps : List Lump) (o : Option PreparedTexture) → IfSome o (ArePatchesThere lumps) → ArePatchesThere lumps (unwrap_or o unprepared)
+there_or_none lumps None there = All-nil (λ (patch : PlacedPatch). patch.lump < length lumps)
+there_or_none lumps (Some t) there = there
+
+-- the sky's texture may be drawn
+pub sky_can : (lumps : List Lump) (scene : SceneValue) (z : Heap) (sky : Option TexNo) → CanDrawView lumps scene z → IsSkyOf scene sky → IfSome sky (λ (tex : TexNo). CanDraw lumps (textures_view scene) z tex.0)
+sky_can lumps scene z None can is = tt
+sky_can lumps scene z (Some tex) can is =
+    let art = can.whole.art in
+    let listed : tex.0 < length scene.base.lists.textures = sky_listed lumps scene z tex.0 can (sym is) in
+    record {
+      prepared = subst (λ (o : Option ℕ). IfSome o (IsPrepared (textures_view scene))) (sym is) art.sky;
+      slot = omega (arith, listed, can.composites);
+      there = there_or_none lumps (prepared_at (textures_view scene).prepared tex.0) (prepared_has (ArePatchesThere lumps) (textures_view scene).prepared tex.0 art.patches);
+    }
+
+-- the planes of the bench are those of the events
+pub planes_are : (v : ViewValue) (bytes : ℕ → List ℕ) (scene : SceneValue) (limits : Limits) (events : List Event) (b : Bench) → HasWalked v bytes scene limits events b →
+    b.planes.planes ≡ view_planes (view_steps v (scene_of bytes scene) events)
+unfolding planes_after view_planes planes_of
+planes_are v bytes scene limits events b walked = walked.built.planes
+
+-- the art and the sky of the picture's scene
+held_art : (bytes : ℕ → List ℕ) (scene : SceneValue) → (scene_of bytes scene).art ≡ view_art bytes (textures_view scene) scene.base.colormap
+unfolding scene_of
+held_art bytes scene = refl
+
+held_sky : (bytes : ℕ → List ℕ) (scene : SceneValue) (sky : Option TexNo) → IsSkyOf scene sky → IfSome sky (λ (tex : TexNo). (scene_of bytes scene).sky ≡ tex.0)
+unfolding scene_of
+held_sky bytes scene None is = tt
+held_sky bytes scene (Some tex) is = ap (λ (o : Option ℕ). unwrap_or o 0) (sym is)
+
+-- the sky's texture is one that a view draws with
+sky_prepared : (scene : SceneValue) (sky : Option TexNo) (number : ℕ) → IfSome scene.faces.sky (IsPrepared (textures_view scene)) → IsSkyOf scene sky → IsSky sky number → IsViewTexture scene number
+sky_prepared scene None number prepared is asked = absurd (let t : false ≡ true = asked.1 in cc)
+sky_prepared scene (Some tex) number prepared is asked =
+    subst (IsPrepared (textures_view scene)) (sym asked.0) (subst (λ (o : Option ℕ). IfSome o (IsPrepared (textures_view scene))) (sym is) prepared)
+
+or_left : (a b : Bool) → a ≡ true → (a || b) ≡ true
+or_left true b e = refl
+or_left false b e = absurd (cc)
+
+or_right : (a b : Bool) → b ≡ true → (a || b) ≡ true
+or_right true b e = refl
+or_right false b e = e
+
+flat_by : (lump : ℕ) (s : Surface) (sector : Sector) (flats : SectorFlats) → s ≡ surface_of sector flats → IsFlatIn s (flat.Lump lump) → has_flat lump flats ≡ true
+unfolding surface_of has_flat
+flat_by lump s sector flats e (inl floor) =
+    or_left (flat_number flats.floor == lump) (flat_number flats.ceiling == lump) (eq-eqb (flat_number flats.floor) lump (sym (floor.0 ∙ ap (λ (t : Surface). t.floor_flat) e)))
+flat_by lump s sector flats e (inr ceiling) =
+    or_right (flat_number flats.floor == lump) (flat_number flats.ceiling == lump) (eq-eqb (flat_number flats.ceiling) lump (sym (ceiling.0 ∙ ap (λ (t : Surface). t.ceiling_flat) e)))
+
+-- so are the flats of its planes among its lumps
+flat_shown : (scene : SceneValue) (lump : ℕ) → length scene.faces.flats ≡ length scene.base.level.sectors → IsFlatShown scene (flat.Lump lump) → list_any (has_flat lump) scene.faces.flats ≡ true
+unfolding surface_at
+flat_shown scene lump long shown =
+    let sectors = scene.base.level.sectors in
+    let flats = scene.faces.flats in
+    list_any_at (has_flat lump) flats shown.sector no_flats (omega (arith, shown.there, long))
+    (flat_by lump _ (get_or sectors shown.sector no_sector) (get_or flats shown.sector no_flats) (surface_from sectors flats shown.sector no_sector no_flats no_surface long shown.there) shown.is)
+
+flat_lump : (shape : ViewShape) (scene : SceneValue) (planes : List Plane) (lump : ℕ) → length scene.faces.flats ≡ length scene.base.level.sectors → All (IsPlaneIn shape scene) planes → IsFlatOf planes lump → IsViewLump scene lump
+flat_lump shape scene planes lump long all asked =
+    let shown : IsFlatShown scene (flat.Lump lump) = subst (IsFlatShown scene) asked.is (All-contains (IsPlaneIn shape scene) planes asked.plane all asked.among).flat in
+    or_left (list_any (has_flat lump) scene.faces.flats) (list_any (λ n. n == lump) (book_lumps scene.book)) (flat_shown scene lump long shown)
+
+-- a fault of the cache is the same fault of a view
+cache_above : (e : CacheFault) → view_fault (from_cache e) ≡ fault_above (λ (never : ⊥). absurd never) (cache_fault e)
+cache_above (cache.ZoneFull wanted widest) = refl
+cache_above cache.ReadFault = refl
+
+on_above : {A E G : Type 0} (P : Type 0) (above : E → G) (part : Result A E) → OnOk part P → OnOk (result_above above part) P
+on_above P above (Ok x) p = p
+on_above P above (Err e) p = tt
+
+-- what the call that draws planes tells, where the art is that of these textures and that colormap
+pub record HasDrawnPlanes (mark : Painter → ℕ → ℕ) (v : ViewValue) (dir : DirectoryView) (textures : TexturesView) (colormap : ℕ) (planes : List Plane) (sky : Option TexNo) (old new : ViewState)
+    (part : Result (Unit {0}) CacheFault) : Type 0 where
+  pub painted : (scene : Scene) (contents : List (List ℕ)) (count : ℕ) → HoldsArt old.shelf dir textures contents colormap count old.cache →
+      scene.art ≡ view_art (lump_bytes contents dir.lumps) textures colormap → IfSome sky (λ (tex : TexNo). scene.sky ≡ tex.0) → OnOk part (HasDots mark (planes_dots v scene planes) old.canvas new.canvas)
+  pub fits : (scene : Scene) (contents : List (List ℕ)) (count : ℕ) → HoldsArt old.shelf dir textures contents colormap count old.cache →
+      scene.art ≡ view_art (lump_bytes contents dir.lumps) textures colormap → IfSome sky (λ (tex : TexNo). scene.sky ≡ tex.0) → OnOk part (FitBeside dir.lumps textures colormap count old.cache.size (planes_dots v scene planes))
+  pub draws : DrawsWith cache_fault (IsSky sky) (IsFlatOf planes) old.shelf new.shelf dir textures old.cache new.cache part
+  pub place : PlacedAlike old.canvas new.canvas
+
+-- the dots of the planes of a view
+abbrev pub floors_of : ViewValue → SceneValue → Scene → List Dot
+floors_of v scene picture = planes_dots v picture (view_planes (view_steps v picture (view_events v (lists_of scene))))
+
+module _ {mark : Painter → ℕ → ℕ} {s : ViewScene} where
+  floors_above : (b : Bench) (sky : Option TexNo) (old new : ViewState) (part : Result (Unit {0}) CacheFault) → CanDrawView s.dir.lumps s.scene old.cache → HasWalkedView s.view s.scene b → IsSkyOf s.scene sky →
+      HasDrawnPlanes mark s.view s.dir (textures_view s.scene) s.scene.base.colormap b.planes.planes sky old new part → PaintsView mark s (floors_of s.view s.scene) old new (result_above from_cache part)
+  floors_above b sky old new part can walked is drawn =
+      let events = view_events s.view (lists_of s.scene) in
+      let same : (contents : List (List ℕ)) → b.planes.planes ≡ view_planes (view_steps s.view (held_scene contents s) events) =
+      λ contents. planes_are s.view (lump_bytes contents s.dir.lumps) s.scene (limits_in b) events b (walked (lump_bytes contents s.dir.lumps)) in
+      let all : All (IsPlaneIn s.view.shape s.scene) b.planes.planes = (walked (λ lump. [])).planes in
+      record {
+        painted = λ contents count hold.
+            on_above (HasDots mark (floors_of s.view s.scene (held_scene contents s)) old.canvas new.canvas) from_cache part
+            (subst (λ (ps : List Plane). OnOk part (HasDots mark (planes_dots s.view (held_scene contents s) ps) old.canvas new.canvas)) (same contents)
+            (drawn.painted (held_scene contents s) contents count hold (held_art (lump_bytes contents s.dir.lumps) s.scene) (held_sky (lump_bytes contents s.dir.lumps) s.scene sky is)));
+        fits = λ contents count hold.
+            on_above (FitBeside s.dir.lumps (textures_view s.scene) s.scene.base.colormap count old.cache.size (floors_of s.view s.scene (held_scene contents s))) from_cache part
+            (subst (λ (ps : List Plane). OnOk part (FitBeside s.dir.lumps (textures_view s.scene) s.scene.base.colormap count old.cache.size (planes_dots s.view (held_scene contents s) ps))) (same contents)
+            (drawn.fits (held_scene contents s) contents count hold (held_art (lump_bytes contents s.dir.lumps) s.scene) (held_sky (lump_bytes contents s.dir.lumps) s.scene sky is)));
+        draws = draws-above (λ (never : ⊥). absurd never) from_cache cache_above part
+            (draws-wider (λ number asked. sky_prepared s.scene sky number can.whole.art.sky is asked) (λ lump asked. flat_lump s.view.shape s.scene b.planes.planes lump can.whole.flats all asked) drawn.draws);
+        place = drawn.place;
+      }
+
+  -- the planes of a view were drawn, or the fault is that of the call
+  pub floors-drawn : (b : Bench) (sky : Option TexNo) (old new : ViewState) (textures : TexturesView) (colormap : ℕ) (part : Result (Unit {0}) CacheFault) → CanDrawView s.dir.lumps s.scene old.cache →
+      HasWalkedView s.view s.scene b → IsSkyOf s.scene sky → textures ≡ textures_view s.scene → colormap ≡ s.scene.base.colormap → HasDrawnPlanes mark s.view s.dir textures colormap b.planes.planes sky old new part →
+      PaintsView mark s (floors_of s.view s.scene) old new (result_above from_cache part)
+  floors-drawn b sky old new textures colormap part can walked is e f drawn =
+      floors_above b sky old new part can walked is
+      (subst (λ (n : ℕ). HasDrawnPlanes mark s.view s.dir (textures_view s.scene) n b.planes.planes sky old new part) f
+      (subst (λ (t : TexturesView). HasDrawnPlanes mark s.view s.dir t colormap b.planes.planes sky old new part) e drawn))
+
+  pub floors-ok : {f : Scene → List Dot} {old new : ViewState} (part : Result (Unit {0}) CacheFault) (x answer : Unit {0}) → part ≡ Ok x → PaintsView mark s f old new (result_above from_cache part) → PaintsView mark s f old new (Ok answer)
+  floors-ok {f} {old} {new} part x answer was one =
+      paints-value (subst (λ (r : Result (Unit {0}) CacheFault). PaintsView mark s f old new (result_above from_cache r)) was one)
+
+  pub floors-stop : {f : Scene → List Dot} {old new : ViewState} (part : Result (Unit {0}) CacheFault) (fault : CacheFault) (whole : Result (Unit {0}) ViewFault) → part ≡ Err fault → IsErrAnd whole (λ e. e ≡ from_cache fault) →
+      PaintsView mark s f old new (result_above from_cache part) → PaintsView mark s f old new whole
+  floors-stop {f} part fault whole was is one =
+      paints-stop {f = f} (ap (λ (r : Result (Unit {0}) CacheFault). result_above from_cache r) was) is one
