@@ -106,7 +106,7 @@ either_right false b e = e
 no_bytes : ℕ → List ℕ
 no_bytes n = []
 
-module _ {v : ViewValue} {s : SceneValue} {b : Bench} {dir : DirectoryView} {z : Heap} (sound : IsSound s.base.level) (can : CanDrawView dir.lumps s z) (walked : HasWalkedView v s b) where
+module _ {v : ViewValue} {s : SceneValue} {b : Bench} {z : Heap} (dir : DirectoryView) (sound : IsSound s.base.level) (can : CanDrawView dir.lumps s z) (walked : HasWalkedView v s b) where
   scene_notes : All (IsListed dir.lumps (textures_view s) z (mask_lists s)) b.walls.notes
   scene_notes =
       let w = walked no_bytes in
@@ -142,13 +142,13 @@ pub masks-above : {mark : Painter → ℕ → ℕ} {v : ViewValue} {s : SceneVal
 masks-above {mark} {v} {s} {b} {dir} {old} {new} {lower} parts same sound can walked draws =
     let one = subst (λ (p : MaskParts). DrawsMasks mark v dir b.sprites p old new lower) same draws in
     let dots : (contents : List (List ℕ)) → masked_dots v (view_art (lump_bytes contents dir.lumps) (textures_view s) s.base.colormap) (noted_drawsegs v (textures_view s) (mask_lists s) b.walls.openings b.walls.notes) (draw_order b.sprites)
-        ≡ masks_dots v s (scene_of (lump_bytes contents dir.lumps) s) = λ contents. same_dots sound can walked (lump_bytes contents dir.lumps) in
+        ≡ masks_dots v s (scene_of (lump_bytes contents dir.lumps) s) = λ contents. same_dots dir sound can walked (lump_bytes contents dir.lumps) in
     record {
       painted = λ contents count hold. on_ok_above (HasDots mark (masks_dots v s (scene_of (lump_bytes contents dir.lumps) s)) old.canvas new.canvas) lower
           (subst (λ (ds : List Dot). OnOk lower (HasDots mark ds old.canvas new.canvas)) (dots contents) (one.painted contents count hold));
       fits = λ contents count hold. on_ok_above (FitBeside dir.lumps (textures_view s) s.base.colormap count old.cache.size (masks_dots v s (scene_of (lump_bytes contents dir.lumps) s))) lower
           (subst (λ (ds : List Dot). OnOk lower (FitBeside dir.lumps (textures_view s) s.base.colormap count old.cache.size ds)) (dots contents) (one.fits contents count hold));
       draws = draws-above (λ (none : ⊥). absurd none) from_cache same_fault lower
-          (draws-wider {among = IsViewTexture s} {pictures = IsViewLump s} (λ number k. middle_prepared dir.lumps s old.cache b.walls.notes number (scene_notes sound can walked) k) (λ lump k. sprite_lump sound can walked lump k) one.draws);
+          (draws-wider {among = IsViewTexture s} {pictures = IsViewLump s} (λ number k. middle_prepared dir.lumps s old.cache b.walls.notes number (scene_notes dir sound can walked) k) (λ lump k. sprite_lump dir sound can walked lump k) one.draws);
       place = one.place;
     }
