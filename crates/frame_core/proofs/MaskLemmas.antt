@@ -23,6 +23,7 @@ use Rattle.art_rules.specs.Books.{book_lumps}
 use Rattle.pixel_rules.specs.declared.Painter.{Painter}
 use Rattle.pixel_rules.specs.Dots.{Dot}
 use Rattle.wall_rules.specs.declared.FragmentNote.{FragmentNote}
+use Rattle.plane_rules.specs.Planes.{Plane}
 use Rattle.sprite_rules.specs.declared.SpriteEntry.{SpriteEntry}
 use Rattle.sprite_rules.specs.Middles.{masked_dots}
 use Rattle.sprite_rules.specs.Order.{draw_order}
@@ -40,7 +41,8 @@ use Rattle.texture_build.specs.Draws.{DrawsWith, FitBeside, HoldsArt}
 use Rattle.texture_build.specs.Views.{IsPrepared, TexturesView}
 use Rattle.texture_build.proofs.DrawLemmas.{draws-above, draws-wider}
 use Rattle.level_audit.specs.Sound.{middles_of, textures_view}
-use Rattle.vissprites.specs.Bounds.{has_lump_below}
+use Rattle.vissprites.specs.Bounds.{has_lump_below, lies_within}
+use Rattle.wall_columns.specs.Built.{IsBuilt}
 use Rattle.masked_draw.specs.Lists.{MaskedLists, lists_of as lists_by, noted_drawsegs}
 use Rattle.masked_draw.specs.Ready.{IsListed, IsNotedMiddle, IsSpriteLump}
 use Rattle.frame_core.specs.declared.bench.Bench.{Bench}
@@ -48,6 +50,7 @@ use Rattle.frame_core.specs.declared.fault.ViewFault.{ViewFault}
 use Rattle.frame_core.specs.Faults.{from_cache, view_fault}
 use Rattle.frame_core.specs.Scenes.{lists_of, scene_of}
 use Rattle.frame_core.specs.Views.{CanDrawView, IsViewLump, IsViewTexture, PaintsView, ViewState, view_scene}
+use Rattle.frame_core.specs.Walked.{planes_after}
 use Rattle.frame_core.specs.Painters.{HasWalkedView}
 use Rattle.frame_core.proofs.DrawsegLemmas.{mask_lists, masked_dots-noted}
 use Rattle.frame_core.proofs.EntryLemmas.{entry_lump}
@@ -103,8 +106,25 @@ either_right : (a b : Bool) → b ≡ true → (a || b) ≡ true
 either_right true b e = refl
 either_right false b e = e
 
-no_bytes : ℕ → List ℕ
+pub no_bytes : ℕ → List ℕ
 no_bytes n = []
+
+-- the notes are noted in the parts
+pub parts-noted : (v : ViewValue) (s : SceneValue) (b : Bench) (parts : MaskParts) → parts ≡ parts_of s b → AreNoted v.shape b.walls.notes b.walls.openings → AreNoted v.shape parts.notes parts.openings
+parts-noted v s b parts same noted = subst (λ (p : MaskParts). AreNoted v.shape p.notes p.openings) (sym same) noted
+
+-- the columns of the vissprites lie in the view
+pub sprites-within : (v : ViewValue) (s : SceneValue) (b : Bench) → HasWalkedView v s b → AllPass (lies_within v.shape.width) b.sprites
+sprites-within v s b walked = (walked no_bytes).columns
+
+-- the walls are built, with the planes of the walk
+pub walls-built : (v : ViewValue) (s : SceneValue) (b : Bench) → HasWalkedView v s b →
+    IsBuilt v (walls_of v (scene_of no_bytes s) (view_events v (lists_of s))) (planes_after v (scene_of no_bytes s) (view_events v (lists_of s))) b.walls
+    (planes_after v (scene_of no_bytes s) (view_events v (lists_of s))).planes
+walls-built v s b walked =
+    let built = (walked no_bytes).built in
+    let P : List Plane → Type 0 = IsBuilt v (walls_of v (scene_of no_bytes s) (view_events v (lists_of s))) (planes_after v (scene_of no_bytes s) (view_events v (lists_of s))) b.walls in
+    subst P built.planes built
 
 module _ {v : ViewValue} {s : SceneValue} {b : Bench} {z : Heap} (dir : DirectoryView) (sound : IsSound s.base.level) (can : CanDrawView dir.lumps s z) (walked : HasWalkedView v s b) where
   scene_notes : All (IsListed dir.lumps (textures_view s) z (mask_lists s)) b.walls.notes
