@@ -16,6 +16,7 @@ use Rattle.view_rules.specs.declared.ViewShape.{ViewShape}
 use Rattle.level_rules.specs.declared.Seg.{Seg}
 use Rattle.level_rules.specs.declared.Sector.{Sector}
 use Rattle.level_rules.specs.declared.Side.{Side}
+use Rattle.map_rules.specs.Levels.{LevelValue}
 use Rattle.map_rules.specs.Sound.{IsSound}
 use Rattle.walk_rules.specs.Events.{Event}
 use Rattle.walk_rules.specs.Walk.{view_events}
@@ -72,11 +73,14 @@ mask_parts textures colormap segs sides sectors middles openings notes =
 abbrev pub parts_of : SceneValue → Bench → MaskParts
 parts_of s b = mask_parts (textures_view s) s.base.colormap s.base.level.segs s.base.level.sides s.base.level.sectors (middles_of s.faces.sides) b.walls.openings b.walls.notes
 
-pub parts-same : (s : SceneValue) (b : Bench) (textures : TexturesView) (colormap : ℕ) (segs : List Seg) (sides : List Side) (sectors : List Sector) (middles : List ℕ) (openings : List ℤ) (notes : List FragmentNote) →
-    textures ≡ textures_view s → colormap ≡ s.base.colormap → segs ≡ s.base.level.segs → sides ≡ s.base.level.sides → sectors ≡ s.base.level.sectors → middles ≡ middles_of s.faces.sides →
+pub parts-same : (s : SceneValue) (b : Bench) {level : LevelValue} {textures : TexturesView} {colormap : ℕ} {segs : List Seg} {sides : List Side} {sectors : List Sector} {middles : List ℕ} {openings : List ℤ} {notes : List FragmentNote} →
+    level ≡ s.base.level → textures ≡ textures_view s → colormap ≡ s.base.colormap → segs ≡ level.segs → sides ≡ level.sides → sectors ≡ level.sectors → middles ≡ middles_of s.faces.sides →
     openings ≡ b.walls.openings → notes ≡ b.walls.notes → mask_parts textures colormap segs sides sectors middles openings notes ≡ parts_of s b
-parts-same s b textures colormap segs sides sectors middles openings notes e f g h i j k l = λ n.
-    mask_parts (e n) (f n) (g n) (h n) (i n) (j n) (k n) (l n)
+parts-same s b level textures colormap segs sides sectors middles openings notes =
+    let by_segs = segs ∙ ap (λ (l : LevelValue). l.segs) level in
+    let by_sides = sides ∙ ap (λ (l : LevelValue). l.sides) level in
+    let by_sectors = sectors ∙ ap (λ (l : LevelValue). l.sectors) level in
+    λ i. mask_parts (textures i) (colormap i) (by_segs i) (by_sides i) (by_sectors i) (middles i) (openings i) (notes i)
 
 -- a call of the masked pass with these parts
 pub record DrawsMasks (mark : Painter → ℕ → ℕ) (v : ViewValue) (dir : DirectoryView) (sprites : List SpriteEntry) (parts : MaskParts) (old new : ViewState) (result : Result (Unit {0}) CacheFault) : Type 0 where
@@ -110,8 +114,8 @@ pub no_bytes : ℕ → List ℕ
 no_bytes n = []
 
 -- the notes are noted in the parts
-pub parts-noted : (v : ViewValue) (s : SceneValue) (b : Bench) (parts : MaskParts) → parts ≡ parts_of s b → AreNoted v.shape b.walls.notes b.walls.openings → AreNoted v.shape parts.notes parts.openings
-parts-noted v s b parts same noted = subst (λ (p : MaskParts). AreNoted v.shape p.notes p.openings) (sym same) noted
+pub parts-noted : (v : ViewValue) (s : SceneValue) (b : Bench) {parts : MaskParts} → parts ≡ parts_of s b → AreNoted v.shape b.walls.notes b.walls.openings → AreNoted v.shape parts.notes parts.openings
+parts-noted v s b same noted = subst (λ (p : MaskParts). AreNoted v.shape p.notes p.openings) (sym same) noted
 
 -- the columns of the vissprites lie in the view
 pub sprites-within : (v : ViewValue) (s : SceneValue) (b : Bench) → HasWalkedView v s b → AllPass (lies_within v.shape.width) b.sprites
@@ -133,8 +137,8 @@ module _ {v : ViewValue} {s : SceneValue} {b : Bench} {z : Heap} (dir : Director
       notes_listed dir.lumps can.lines can.name can.skill s can.whole sound z can.composites no_bytes v (view_events v (lists_of s)) b.walls.notes w.there w.built.notes
 
   -- the notes are listed in the parts
-  pub parts-listed : (parts : MaskParts) → parts ≡ parts_of s b → All (IsListed dir.lumps parts.textures z parts.lists) parts.notes
-  parts-listed parts same = subst (λ (p : MaskParts). All (IsListed dir.lumps p.textures z p.lists) p.notes) (sym same) scene_notes
+  pub parts-listed : {parts : MaskParts} → parts ≡ parts_of s b → All (IsListed dir.lumps parts.textures z parts.lists) parts.notes
+  parts-listed same = subst (λ (p : MaskParts). All (IsListed dir.lumps p.textures z p.lists) p.notes) (sym same) scene_notes
 
   -- the pictures of the vissprites are of the directory
   pub sprites-below : AllPass (has_lump_below (length dir.lumps)) b.sprites
@@ -157,9 +161,9 @@ module _ {v : ViewValue} {s : SceneValue} {b : Bench} {z : Heap} (dir : Director
       ∙ ap (λ (es : List SpriteEntry). masked_dots v (scene_of bytes s).art (view_drawsegs v (scene_of bytes s) (walls_of v (scene_of bytes s) (view_events v (lists_of s)))) (draw_order es)) w.sprites
 
 -- a call of the masked pass paints that of the view, its faults told as those of a view
-pub masks-above : {mark : Painter → ℕ → ℕ} {v : ViewValue} {s : SceneValue} {b : Bench} {dir : DirectoryView} {old new : ViewState} {lower : Result (Unit {0}) CacheFault} (parts : MaskParts) → parts ≡ parts_of s b →
+pub masks-above : {mark : Painter → ℕ → ℕ} {v : ViewValue} {s : SceneValue} {b : Bench} {dir : DirectoryView} {old new : ViewState} {lower : Result (Unit {0}) CacheFault} {parts : MaskParts} → parts ≡ parts_of s b →
     IsSound s.base.level → CanDrawView dir.lumps s old.cache → HasWalkedView v s b → DrawsMasks mark v dir b.sprites parts old new lower → PaintsView mark (view_scene v s dir) (masks_dots v s) old new (result_above from_cache lower)
-masks-above {mark} {v} {s} {b} {dir} {old} {new} {lower} parts same sound can walked draws =
+masks-above {mark} {v} {s} {b} {dir} {old} {new} {lower} same sound can walked draws =
     let one = subst (λ (p : MaskParts). DrawsMasks mark v dir b.sprites p old new lower) same draws in
     let dots : (contents : List (List ℕ)) → masked_dots v (view_art (lump_bytes contents dir.lumps) (textures_view s) s.base.colormap) (noted_drawsegs v (textures_view s) (mask_lists s) b.walls.openings b.walls.notes) (draw_order b.sprites)
         ≡ masks_dots v s (scene_of (lump_bytes contents dir.lumps) s) = λ contents. same_dots dir sound can walked (lump_bytes contents dir.lumps) in
