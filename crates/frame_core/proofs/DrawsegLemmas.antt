@@ -1,9 +1,9 @@
 -- The fragments that the notes of a view stand for are those of its picture, as far as the masked pass reads them.
-use Rattle.std.proofs.Common.{◌≡◌, ℕ, zero, suc, ◌+◌, ◌*◌, ◌≤◌, Bool, true, false, cond, ℤ, pos, List, [], ◌∷◌, ◌++◌, map, length, get_or, Option, Some, None, refl, ap, sym, ◌∙◌, subst, bit_and, arith}
+use Rattle.std.proofs.Common.{◌≡◌, ℕ, zero, suc, ◌+◌, ◌*◌, Bool, true, false, cond, ℤ, pos, List, [], ◌∷◌, ◌++◌, map, length, get_or, Option, Some, None, refl, ap, sym, ◌∙◌, subst, bit_and, arith}
 use Rattle.std.specs.Prelude.{option_map, not, is_some, slice_index_or, ◌||◌, ◌&&◌, ◌==◌, ◌-◌}
 use Rattle.std.specs.Int.{from_bool}
 use Rattle.std.specs.List.{AllZip, AllByRecursion}
-use Rattle.std.proofs.lemmas.List.{length-map, length-append, append_assoc}
+use Rattle.std.proofs.lemmas.List.{length-append, append_assoc}
 use Rattle.std.proofs.Math.ListN.{get_or-map}
 use Rattle.view_rules.specs.View.{ViewValue}
 use Rattle.level_rules.specs.declared.Seg.{Seg}
@@ -20,10 +20,9 @@ use Rattle.wall_rules.specs.declared.FragmentNumbers.{FragmentNumbers}
 use Rattle.wall_rules.specs.declared.TheConstants.{SIL_BOTTOM, SIL_TOP}
 use Rattle.wall_rules.specs.declared.WallFacts.{WallFacts}
 use Rattle.wall_rules.specs.declared.WallTexture.{WallTexture}
-use Rattle.wall_rules.specs.Columns.{texture_column}
-use Rattle.wall_rules.specs.Notes.{clip_row_at, note_at, notes_from, openings_list, place_if, room_if, saved_by, saved_from, silhouette_of, view_notes}
+use Rattle.wall_rules.specs.Notes.{note_at, notes_from, openings_list, place_if, room_if, saved_by, saved_from, silhouette_of, view_notes}
 use Rattle.wall_rules.specs.Numbers.{seg_light}
-use Rattle.wall_rules.specs.Openings.{bottom_clip, saves_bottom, saves_top, top_clip}
+use Rattle.wall_rules.specs.Openings.{saves_bottom, saves_top}
 use Rattle.wall_rules.specs.Walls.{Wall, wall_of}
 use Rattle.wall_rules.proofs.NoteLemmas.{length-saved_by, note-bottom_clip, note-middle_column, note-top_clip}
 use Rattle.art_rules.specs.Textures.{texture_at}
@@ -219,9 +218,10 @@ module _ (bytes : ℕ → List ℕ) (v : ViewValue) (s : SceneValue) (flats : le
   alike_from walls k (w ∷ ws) before place e own =
       let next : ℕ = place + room_if w.numbers.masked w + room_if (saves_top w.numbers) w + room_if (saves_bottom w.numbers) w in
       let long : length (before ++ saved_by v walls k w) ≡ next = (let a = length-append before (saved_by v walls k w) in let b = length-saved_by v walls k w in omega arith) in
-      let P : List ℤ → Type 0 = λ openings. AllZip DrawAlike (map as_read (map (noted_drawseg v (textures_view s) (mask_lists s) openings) (notes_from v next ws))) (map as_read (drawsegs_from v (scene_of bytes s) walls (k + 1) ws)) in
-      (note_alike walls k w before (saved_from v walls (k + 1) ws) place e own.0,
-      subst P (append_assoc before (saved_by v walls k w) (saved_from v walls (k + 1) ws)) (alike_from walls (k + 1) ws (before ++ saved_by v walls k w) next long own.1))
+      let P : List ℤ → Type 0 = λ openings. AllZip DrawAlike (map as_read (map (noted_drawseg v (textures_view s) (mask_lists s) openings) (notes_from v next ws))) (map as_read (drawsegs_from v (scene_of bytes s) walls (k + 1) ws)) in (
+        note_alike walls k w before (saved_from v walls (k + 1) ws) place e own.0,
+        subst P (append_assoc before (saved_by v walls k w) (saved_from v walls (k + 1) ws)) (alike_from walls (k + 1) ws (before ++ saved_by v walls k w) next long own.1),
+      )
 
   as_many : (openings : List ℤ) (walls : List Wall) (k place : ℕ) (ws : List Wall) →
       length (map (noted_drawseg v (textures_view s) (mask_lists s) openings) (notes_from v place ws)) ≡ length (drawsegs_from v (scene_of bytes s) walls k ws)

@@ -1,9 +1,8 @@
 -- The seg of each note of a view, with its side and its sectors, is among the lists of its scene, and the middle texture of a masked one may be drawn.
-use Rattle.std.proofs.Common.{◌≡◌, ◌⊎◌, inl, inr, ℕ, zero, suc, ◌+◌, ◌<◌, ◌≤◌, true, false, List, [], ◌∷◌, map, take, length, get_or, Option, Some, None, IfSome, IsSome, refl, ap, sym, ◌∙◌, subst, arith}
-use Rattle.std.specs.Prelude.{option_map, not, unwrap_or, Contains, ◌==◌}
+use Rattle.std.proofs.Common.{◌≡◌, ◌⊎◌, inl, inr, ℕ, zero, suc, ◌+◌, ◌<◌, ◌≤◌, true, false, List, [], ◌∷◌, map, take, length, get_or, Option, Some, None, IfSome, IsSome, refl, sym, subst, arith}
+use Rattle.std.specs.Prelude.{option_map, not, unwrap_or, ◌==◌}
 use Rattle.std.specs.List.{All, AllByRecursion}
 use Rattle.std.specs.Option.{ForSome}
-use Rattle.std.proofs.lemmas.Bool.Decides.{nat_tests}
 use Rattle.std.proofs.lemmas.List.{length-map}
 use Rattle.std.proofs.lemmas.List.Elements.{All-from_recursion, All-head, All-nil, All-tail, recursion_from_All}
 use Rattle.std.proofs.Math.ListN.{get_or-map}
@@ -36,7 +35,7 @@ use Rattle.picture_rules.specs.Walls.{fragment_wall, walls_of}
 use Rattle.texture_build.specs.Draws.{CanDraw}
 use Rattle.texture_build.specs.Views.{ArePatchesThere, IsPrepared, prepared_at, prepared_texture, unprepared}
 use Rattle.level_audit.specs.Sound.{middles_of, textures_view}
-use Rattle.level_audit.specs.Whole.{AllColumnsSingle, IsNoneOrPrepared, IsNoneOrSingle, IsWholeScene}
+use Rattle.level_audit.specs.Whole.{AllColumnsSingle, IsNoneOrSingle, IsWholeScene}
 use Rattle.masked_draw.specs.Lists.{middle_by, note_seg}
 use Rattle.masked_draw.specs.Ready.{CanDrawMiddle, IsListed, IsNotedMiddle}
 use Rattle.frame_core.specs.Scenes.{scene_of}

@@ -1,9 +1,8 @@
 -- Laws of the masked pass of a view: what it asks is there where the walk is in the bench, and what it paints is what the picture has.
-use Rattle.std.proofs.Common.{◌≡◌, ◌⊎◌, ℕ, ◌<◌, ◌≤◌, Bool, true, false, ℤ, List, [], length, get_or, Result, Ok, Err, OnOk, refl, ap, sym, subst, ◌∙◌, inl, inr}
+use Rattle.std.proofs.Common.{◌≡◌, ℕ, Bool, true, false, ℤ, List, [], length, get_or, Result, Ok, Err, OnOk, refl, ap, sym, subst, ◌∙◌}
 use Rattle.std.specs.Prelude.{◌||◌, ◌==◌}
 use Rattle.std.specs.List.{All, AllPass, list_any}
 use Rattle.outside.specs.Faults.{fault_above}
-use Rattle.lump_rules.specs.declared.wad.Lump.{Lump}
 use Rattle.lump_rules.specs.Contents.{lump_bytes}
 use Rattle.zone_rules.specs.Zones.{Heap}
 use Rattle.lump_cache.specs.declared.fault.CacheFault.{CacheFault}
@@ -12,13 +11,11 @@ use Rattle.lump_cache.specs.Caches.{cache_fault}
 use Rattle.lump_cache.proofs.CallLemmas.{result_above}
 use Rattle.wad_dir.specs.DirectoryView.{DirectoryView}
 use Rattle.view_rules.specs.View.{ViewValue}
-use Rattle.view_rules.specs.declared.ViewShape.{ViewShape}
 use Rattle.level_rules.specs.declared.Seg.{Seg}
 use Rattle.level_rules.specs.declared.Sector.{Sector}
 use Rattle.level_rules.specs.declared.Side.{Side}
 use Rattle.map_rules.specs.Levels.{LevelValue}
 use Rattle.map_rules.specs.Sound.{IsSound}
-use Rattle.walk_rules.specs.Events.{Event}
 use Rattle.walk_rules.specs.Walk.{view_events}
 use Rattle.art_rules.specs.Books.{book_lumps}
 use Rattle.pixel_rules.specs.declared.Painter.{Painter}
@@ -30,7 +27,6 @@ use Rattle.sprite_rules.specs.Middles.{masked_dots}
 use Rattle.sprite_rules.specs.Order.{draw_order}
 use Rattle.scene_rules.specs.Scenes.{SceneValue}
 use Rattle.scene_rules.specs.Sizes.{has_flat}
-use Rattle.picture_rules.specs.declared.OverLimit.{OverLimit}
 use Rattle.picture_rules.specs.Masked.{view_drawsegs}
 use Rattle.picture_rules.specs.Noted.{AreNoted}
 use Rattle.picture_rules.specs.Scene.{Scene}
@@ -39,7 +35,7 @@ use Rattle.picture_rules.specs.Walls.{walls_of}
 use Rattle.pixel_strips.specs.Dotted.{HasDots, PlacedAlike}
 use Rattle.texture_build.specs.Arts.{view_art}
 use Rattle.texture_build.specs.Draws.{DrawsWith, FitBeside, HoldsArt}
-use Rattle.texture_build.specs.Views.{IsPrepared, TexturesView}
+use Rattle.texture_build.specs.Views.{TexturesView}
 use Rattle.texture_build.proofs.DrawLemmas.{draws-above, draws-wider}
 use Rattle.level_audit.specs.Sound.{middles_of, textures_view}
 use Rattle.vissprites.specs.Bounds.{has_lump_below, lies_within}
@@ -47,7 +43,6 @@ use Rattle.wall_columns.specs.Built.{IsBuilt}
 use Rattle.masked_draw.specs.Lists.{MaskedLists, lists_of as lists_by, noted_drawsegs}
 use Rattle.masked_draw.specs.Ready.{IsListed, IsNotedMiddle, IsSpriteLump}
 use Rattle.frame_core.specs.declared.bench.Bench.{Bench}
-use Rattle.frame_core.specs.declared.fault.ViewFault.{ViewFault}
 use Rattle.frame_core.specs.Faults.{from_cache, view_fault}
 use Rattle.frame_core.specs.Scenes.{lists_of, scene_of}
 use Rattle.frame_core.specs.Views.{CanDrawView, IsViewLump, IsViewTexture, PaintsView, ViewState, view_scene}
@@ -166,7 +161,7 @@ pub masks-above : {mark : Painter → ℕ → ℕ} {v : ViewValue} {s : SceneVal
 masks-above {mark} {v} {s} {b} {dir} {old} {new} {lower} same sound can walked draws =
     let one = subst (λ (p : MaskParts). DrawsMasks mark v dir b.sprites p old new lower) same draws in
     let dots : (contents : List (List ℕ)) → masked_dots v (view_art (lump_bytes contents dir.lumps) (textures_view s) s.base.colormap) (noted_drawsegs v (textures_view s) (mask_lists s) b.walls.openings b.walls.notes) (draw_order b.sprites)
-        ≡ masks_dots v s (scene_of (lump_bytes contents dir.lumps) s) = λ contents. same_dots dir sound can walked (lump_bytes contents dir.lumps) in
+    ≡ masks_dots v s (scene_of (lump_bytes contents dir.lumps) s) = λ contents. same_dots dir sound can walked (lump_bytes contents dir.lumps) in
     record {
       painted = λ contents count hold. on_ok_above (HasDots mark (masks_dots v s (scene_of (lump_bytes contents dir.lumps) s)) old.canvas new.canvas) lower
           (subst (λ (ds : List Dot). OnOk lower (HasDots mark ds old.canvas new.canvas)) (dots contents) (one.painted contents count hold));

@@ -12,7 +12,7 @@ draw_masked-requires-clause-noted g c =
     let s = c.args.tools.now.scene.now.scene in
     let b = c.args.bench.now in
     let same = parts-same c.args.tools.now.scene.now.scene c.args.bench.now c.level-level.ensures c.textures.ensures c.colormap.ensures c.segs.ensures.value c.sides.ensures.value c.sectors.ensures.value c.middles.ensures
-        c.openings-openings.ensures.value c.notes.ensures.value in
+    c.openings-openings.ensures.value c.notes.ensures.value in
     let columns = c.requires.placed.columns in
     let rows = c.requires.placed.rows in
     let width : v.shape.width ≤ FRAME_WIDTH = omega (arith, columns) in
@@ -22,7 +22,7 @@ draw_masked-requires-clause-noted g c =
 pub draw_masked-requires-clause-listed : goal.draw_masked-requires-clause-listed
 draw_masked-requires-clause-listed g c =
     let same = parts-same c.args.tools.now.scene.now.scene c.args.bench.now c.level-level.ensures c.textures.ensures c.colormap.ensures c.segs.ensures.value c.sides.ensures.value c.sectors.ensures.value c.middles.ensures
-        c.openings-openings.ensures.value c.notes.ensures.value in
+    c.openings-openings.ensures.value c.notes.ensures.value in
     parts-listed c.args.tools.now.dir.now (subst IsSound c.level-level.ensures c.segs.ensures.sound) c.requires.drawable c.requires.walked same
 
 pub draw_masked-requires-clause-columns : goal.draw_masked-requires-clause-columns
@@ -34,7 +34,7 @@ draw_masked-requires-clause-lumps g c = sprites-below c.args.tools.now.dir.now (
 pub returns-in_err-draw_masked-clause-paints : goal.returns-in_err-draw_masked-clause-paints
 returns-in_err-draw_masked-clause-paints g c =
     let same = parts-same c.args.tools.now.scene.now.scene c.args.bench.now c.level-level.ensures c.textures.ensures c.colormap.ensures c.segs.ensures.value c.sides.ensures.value c.sectors.ensures.value c.middles.ensures
-        c.openings-openings.ensures.value c.notes.ensures.value in
+    c.openings-openings.ensures.value c.notes.ensures.value in
     let draws = c.in_err-draw_masked.ensures in
     paints-stop refl c.from_residual.ensures.1 (masks-above same (subst IsSound c.level-level.ensures c.segs.ensures.sound) c.requires.drawable c.requires.walked
     (record { painted = draws.painted; fits = draws.fits; draws = draws.draws; place = draws.place }))
@@ -42,7 +42,7 @@ returns-in_err-draw_masked-clause-paints g c =
 pub returns-clause-paints : goal.returns-clause-paints
 returns-clause-paints g c =
     let same = parts-same c.args.tools.now.scene.now.scene c.args.bench.now c.level-level.ensures c.textures.ensures c.colormap.ensures c.segs.ensures.value c.sides.ensures.value c.sectors.ensures.value c.middles.ensures
-        c.openings-openings.ensures.value c.notes.ensures.value in
+    c.openings-openings.ensures.value c.notes.ensures.value in
     let draws = c.in_ok-draw_masked.ensures in
     masks-above same (subst IsSound c.level-level.ensures c.segs.ensures.sound) c.requires.drawable c.requires.walked
     (record { painted = draws.painted; fits = draws.fits; draws = draws.draws; place = draws.place })
