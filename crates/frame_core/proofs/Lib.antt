@@ -3,3 +3,8 @@ pub mod ThingLemmas
 pub mod PaintLemmas
 pub mod ViewDotLemmas
 pub mod FloorLemmas
+pub mod AlikeLemmas
+pub mod DrawsegLemmas
+pub mod ListedLemmas
+pub mod EntryLemmas
+pub mod MaskLemmas

@@ -1,0 +1,244 @@
+-- The fragments that the notes of a view stand for are those of its picture, as far as the masked pass reads them.
+use Rattle.std.proofs.Common.{◌≡◌, ℕ, zero, suc, ◌+◌, ◌*◌, Bool, true, false, cond, ℤ, pos, List, [], ◌∷◌, ◌++◌, map, length, get_or, Option, Some, None, refl, ap, sym, ◌∙◌, subst, bit_and, arith}
+use Rattle.std.specs.Prelude.{option_map, not, is_some, slice_index_or, ◌||◌, ◌&&◌, ◌==◌, ◌-◌}
+use Rattle.std.specs.Int.{from_bool}
+use Rattle.std.specs.List.{AllZip, AllByRecursion}
+use Rattle.std.proofs.lemmas.List.{length-append, append_assoc}
+use Rattle.std.proofs.Math.ListN.{get_or-map}
+use Rattle.view_rules.specs.View.{ViewValue}
+use Rattle.level_rules.specs.declared.Seg.{Seg}
+use Rattle.level_rules.specs.declared.Sector.{Sector}
+use Rattle.level_rules.specs.declared.SideTextures.{SideTextures}
+use Rattle.level_rules.specs.declared.Surface.{Surface}
+use Rattle.level_rules.specs.Levels.{no_surface, seg_at, surface_at}
+use Rattle.walk_rules.specs.Drawsegs.{LeafFragment, drawsegs}
+use Rattle.walk_rules.specs.Events.{Event}
+use Rattle.walk_rules.specs.Segs.{back_of}
+use Rattle.pixel_rules.specs.Art.{Art}
+use Rattle.wall_rules.specs.declared.FragmentNote.{FragmentNote}
+use Rattle.wall_rules.specs.declared.FragmentNumbers.{FragmentNumbers}
+use Rattle.wall_rules.specs.declared.TheConstants.{SIL_BOTTOM, SIL_TOP}
+use Rattle.wall_rules.specs.declared.WallFacts.{WallFacts}
+use Rattle.wall_rules.specs.declared.WallTexture.{WallTexture}
+use Rattle.wall_rules.specs.Notes.{note_at, notes_from, openings_list, place_if, room_if, saved_by, saved_from, silhouette_of, view_notes}
+use Rattle.wall_rules.specs.Numbers.{seg_light}
+use Rattle.wall_rules.specs.Openings.{saves_bottom, saves_top}
+use Rattle.wall_rules.specs.Walls.{Wall, wall_of}
+use Rattle.wall_rules.proofs.NoteLemmas.{length-saved_by, note-bottom_clip, note-middle_column, note-top_clip}
+use Rattle.art_rules.specs.Textures.{texture_at}
+use Rattle.sprite_rules.specs.declared.SpriteEntry.{SpriteEntry}
+use Rattle.sprite_rules.specs.Drawsegs.{DrawAlike}
+use Rattle.sprite_rules.specs.Middles.{masked_dots, masked_mid, middle_hangs, middle_stands}
+use Rattle.scene_rules.specs.declared.SectorFlats.{SectorFlats}
+use Rattle.scene_rules.specs.Scenes.{SceneValue}
+use Rattle.scene_rules.specs.SectorFlats.{surface_of, surfaces_of}
+use Rattle.picture_rules.specs.Masked.{drawseg_of, drawsegs_from, own_front, own_mid, view_drawsegs}
+use Rattle.picture_rules.specs.Scene.{facts_of, fragment_facts, no_textures, side_at, textures_at, wall_texture}
+use Rattle.picture_rules.specs.Walls.{fragment_wall, walls_of}
+use Rattle.level_audit.specs.Sound.{middles_of, textures_view}
+use Rattle.masked_draw.specs.Lists.{MaskedLists, heights_of, lists_of as lists_by, middle_by, no_sector, note_mid, note_seg, noted_drawseg, noted_drawsegs, saved_column, sector_by, side_by}
+use Rattle.frame_core.specs.Scenes.{scene_of}
+use Rattle.frame_core.proofs.AlikeLemmas.{as_read, masked_dots-read}
+
+-- the lists of a scene as the masked pass has them
+abbrev pub mask_lists : SceneValue → MaskedLists
+mask_lists s = lists_by s.base.level.segs s.base.level.sides s.base.level.sectors (middles_of s.faces.sides)
+
+-- a surface has the heights and the light of its sector
+record HasHeights (surface : Surface) (sector : Sector) : Type 0 where
+  floor : surface.floor ≡ sector.floor
+  ceiling : surface.ceiling ≡ sector.ceiling
+  light : surface.light ≡ sector.light
+
+surfaces_from : (sectors : List Sector) (flats : List SectorFlats) (n : ℕ) → length flats ≡ length sectors → HasHeights (slice_index_or (surfaces_of sectors flats) n no_surface) (slice_index_or sectors n no_sector)
+unfolding surfaces_of surface_of
+surfaces_from [] flats n e = record { floor = refl; ceiling = refl; light = refl }
+surfaces_from (sector ∷ sectors) [] n e = absurd (omega (arith, e))
+surfaces_from (sector ∷ sectors) (both ∷ flats) zero e = record { floor = refl; ceiling = refl; light = refl }
+surfaces_from (sector ∷ sectors) (both ∷ flats) (suc n) e = surfaces_from sectors flats n (omega (arith, e))
+
+heights_at : (bytes : ℕ → List ℕ) (s : SceneValue) (n : ℕ) → length s.faces.flats ≡ length s.base.level.sectors → HasHeights (surface_at (scene_of bytes s).level n) (sector_by (mask_lists s) n)
+unfolding surface_at sector_by scene_of
+heights_at bytes s n e = surfaces_from s.base.level.sectors s.faces.flats n e
+
+-- the masked texture hangs by heights alone
+same_mid : (z : ℤ) (seg : Seg) (a b c d : Surface) (height : ℕ) (y : ℤ) → a.floor ≡ c.floor → a.ceiling ≡ c.ceiling → b.floor ≡ d.floor → b.ceiling ≡ d.ceiling →
+    masked_mid z seg a b height y ≡ masked_mid z seg c d height y
+unfolding masked_mid middle_hangs middle_stands
+same_mid z seg a b c d height y e f g h = cc
+
+-- what is read of a list is the same where it is read
+same_read : (p q : Bool) (y z : ℤ) → p ≡ q → (q ≡ true → y ≡ z) → cond p y (pos 0) ≡ cond q z (pos 0)
+same_read true true y z e h = h refl
+same_read true false y z e h = absurd (cc)
+same_read false true y z e h = absurd (cc)
+same_read false false y z e h = refl
+
+-- a silhouette is told by its bit
+bottom_told : (bottom top : Bool) → not (bit_and (SIL_BOTTOM * from_bool bottom + SIL_TOP * from_bool top) SIL_BOTTOM == 0) ≡ bottom
+bottom_told true true = refl
+bottom_told true false = refl
+bottom_told false true = refl
+bottom_told false false = refl
+
+top_told : (bottom top : Bool) → not (bit_and (SIL_BOTTOM * from_bool bottom + SIL_TOP * from_bool top) SIL_TOP == 0) ≡ top
+top_told true true = refl
+top_told true false = refl
+top_told false true = refl
+top_told false false = refl
+
+masked_told : (masked : Bool) (place : ℕ) → is_some (place_if masked place) ≡ masked
+unfolding place_if
+masked_told true place = refl
+masked_told false place = refl
+
+both_told : (p q r t : Bool) → p ≡ r → q ≡ t → (p || q) ≡ (r || t)
+both_told p q r t e f = cc
+
+-- a clip that is read is saved or constant
+saved_or : (there masked constant : Bool) → (there || masked) ≡ true → (((there || masked) && not constant) || constant) ≡ true
+saved_or true masked true e = refl
+saved_or true masked false e = refl
+saved_or false true true e = refl
+saved_or false true false e = refl
+saved_or false false constant e = absurd (cc)
+
+column_saved : (openings : List ℤ) (first place x : ℕ) (masked : Bool) → masked ≡ true → saved_column openings first (place_if masked place) x ≡ slice_index_or openings (place + (x - first)) (pos 0)
+unfolding saved_column place_if
+column_saved openings first place x true e = refl
+column_saved openings first place x false e = absurd (cc)
+
+-- a fragment is drawn from its own seg, side and middle texture
+record HasOwnFacts (bytes : ℕ → List ℕ) (s : SceneValue) (facts : WallFacts) : Type 0 where
+  seg : facts.seg ≡ seg_at (scene_of bytes s).level facts.seg_no
+  back : facts.back ≡ back_of (scene_of bytes s).level facts.seg
+  offset : facts.y_offset ≡ (side_at (scene_of bytes s) facts.seg.side).y_offset
+  middle : facts.middle ≡ wall_texture (scene_of bytes s) (textures_at (scene_of bytes s) facts.seg.side).middle
+
+own_facts : (bytes : ℕ → List ℕ) (s : SceneValue) (f : LeafFragment) → HasOwnFacts bytes s (fragment_facts (scene_of bytes s) f)
+unfolding fragment_facts facts_of
+own_facts bytes s f = record { seg = refl; back = refl; offset = refl; middle = refl }
+
+own_walls : (bytes : ℕ → List ℕ) (v : ViewValue) (s : SceneValue) (fs : List LeafFragment) → AllByRecursion (λ (w : Wall). HasOwnFacts bytes s w.facts) (map (fragment_wall v (scene_of bytes s)) fs)
+unfolding fragment_wall wall_of
+own_walls bytes v s [] = tt
+own_walls bytes v s (f ∷ fs) = (own_facts bytes s f, own_walls bytes v s fs)
+
+module _ (bytes : ℕ → List ℕ) (v : ViewValue) (s : SceneValue) (flats : length s.faces.flats ≡ length s.base.level.sectors) where
+  seg_noted : (w : Wall) (place : ℕ) → HasOwnFacts bytes s w.facts → note_seg (mask_lists s) (note_at v w place) ≡ w.facts.seg
+  unfolding note_seg note_at seg_at scene_of
+  seg_noted w place own = sym own.seg
+
+  middle_noted : (w : Wall) (place : ℕ) → HasOwnFacts bytes s w.facts → middle_by (mask_lists s) (note_at v w place) ≡ w.facts.middle.number
+  unfolding middle_by textures_at wall_texture scene_of
+  middle_noted w place own =
+      ap (λ (seg : Seg). get_or (middles_of s.faces.sides) seg.side 0) (seg_noted w place own)
+      ∙ get_or-map (λ (side : SideTextures). side.middle) s.faces.sides w.facts.seg.side no_textures
+      ∙ sym (ap (λ (t : WallTexture). t.number) own.middle)
+
+  height_noted : (facts : WallFacts) → HasOwnFacts bytes s facts → (texture_at s.base.lists.textures facts.middle.number).height ≡ facts.middle.height
+  unfolding wall_texture scene_of
+  height_noted facts own =
+      ap (λ (t : WallTexture). (texture_at s.base.lists.textures t.number).height) own.middle ∙ sym (ap (λ (t : WallTexture). t.height) own.middle)
+
+  offset_noted : (facts : WallFacts) → HasOwnFacts bytes s facts → (side_by (mask_lists s) facts.seg.side).y_offset ≡ facts.y_offset
+  unfolding side_by side_at scene_of
+  offset_noted facts own = sym own.offset
+
+  mid_by : (d : FragmentNote) (facts : WallFacts) (back : Option ℕ) → HasOwnFacts bytes s facts → note_seg (mask_lists s) d ≡ facts.seg → middle_by (mask_lists s) d ≡ facts.middle.number →
+      note_mid v (textures_view s) (mask_lists s) d back ≡ own_mid v (scene_of bytes s) facts (option_map (surface_at (scene_of bytes s).level) back)
+  unfolding note_mid own_mid own_front
+  mid_by d facts None own e m = refl
+  mid_by d facts (Some back) own e m =
+      let front : Surface = heights_of (sector_by (mask_lists s) facts.seg.front) in
+      let behind : Surface = heights_of (sector_by (mask_lists s) back) in
+      let a = heights_at bytes s facts.seg.front flats in
+      let b = heights_at bytes s back flats in
+      ap (λ (seg : Seg). masked_mid v.eye.z seg (heights_of (sector_by (mask_lists s) seg.front)) behind (texture_at s.base.lists.textures (middle_by (mask_lists s) d)).height (side_by (mask_lists s) seg.side).y_offset) e
+      ∙ ap (λ (n : ℕ). masked_mid v.eye.z facts.seg front behind (texture_at s.base.lists.textures n).height (side_by (mask_lists s) facts.seg.side).y_offset) m
+      ∙ ap (λ (h : ℕ). masked_mid v.eye.z facts.seg front behind h (side_by (mask_lists s) facts.seg.side).y_offset) (height_noted facts own)
+      ∙ ap (masked_mid v.eye.z facts.seg front behind facts.middle.height) (offset_noted facts own)
+      ∙ same_mid v.eye.z facts.seg front behind (surface_at (scene_of bytes s).level facts.seg.front) (surface_at (scene_of bytes s).level back) facts.middle.height facts.y_offset
+      (sym a.floor) (sym a.ceiling) (sym b.floor) (sym b.ceiling)
+
+  mid_noted : (w : Wall) (place : ℕ) → HasOwnFacts bytes s w.facts →
+      note_mid v (textures_view s) (mask_lists s) (note_at v w place) (note_seg (mask_lists s) (note_at v w place)).back ≡ own_mid v (scene_of bytes s) w.facts w.facts.back
+  unfolding back_of
+  mid_noted w place own =
+      let e = seg_noted w place own in
+      ap (λ (seg : Seg). note_mid v (textures_view s) (mask_lists s) (note_at v w place) seg.back) e
+      ∙ mid_by (note_at v w place) w.facts w.facts.seg.back own e (middle_noted w place own)
+      ∙ sym (ap (own_mid v (scene_of bytes s) w.facts) own.back)
+
+  light_noted : (w : Wall) (place : ℕ) → HasOwnFacts bytes s w.facts →
+      seg_light v (note_seg (mask_lists s) (note_at v w place)) (sector_by (mask_lists s) (note_seg (mask_lists s) (note_at v w place)).front).light
+      ≡ seg_light v w.facts.seg (own_front (scene_of bytes s) w.facts).light
+  unfolding own_front
+  light_noted w place own =
+      ap (λ (seg : Seg). seg_light v seg (sector_by (mask_lists s) seg.front).light) (seg_noted w place own)
+      ∙ ap (seg_light v w.facts.seg) (sym (heights_at bytes s w.facts.seg.front flats).light)
+
+  -- a note whose openings lie at its place stands for its fragment
+  note_alike : (walls : List Wall) (k : ℕ) (w : Wall) (before after : List ℤ) (place : ℕ) → length before ≡ place → HasOwnFacts bytes s w.facts →
+      DrawAlike (as_read (noted_drawseg v (textures_view s) (mask_lists s) (before ++ (saved_by v walls k w ++ after)) (note_at v w place))) (as_read (drawseg_of v (scene_of bytes s) walls k w))
+  unfolding noted_drawseg drawseg_of note_at silhouette_of saves_bottom saves_top
+  note_alike walls k w before after place e own =
+      let n : FragmentNumbers = w.numbers in
+      let bottom = bottom_told n.bottom.is_there n.top.is_there in
+      let top = top_told n.bottom.is_there n.top.is_there in
+      let masked = masked_told n.masked place in
+      record {
+        seg = seg_noted w place own;
+        first = refl;
+        last = refl;
+        scale1 = refl;
+        scale2 = refl;
+        step = refl;
+        has_bottom = bottom;
+        has_top = top;
+        bottom_height = refl;
+        top_height = refl;
+        bottom_clip = λ x l m. same_read _ (n.bottom.is_there || n.masked) _ _ (both_told _ _ n.bottom.is_there n.masked bottom masked)
+            (λ h. note-bottom_clip v walls k w before after place x e l m (saved_or n.bottom.is_there n.masked n.bottom_is_constant h));
+        top_clip = λ x l m. same_read _ (n.top.is_there || n.masked) _ _ (both_told _ _ n.top.is_there n.masked top masked)
+            (λ h. note-top_clip v walls k w before after place x e l m (saved_or n.top.is_there n.masked n.top_is_constant h));
+        masked = masked;
+        middle = middle_noted w place own;
+        mid = mid_noted w place own;
+        light = light_noted w place own;
+        column = λ x l m. same_read _ n.masked _ _ masked
+            (λ h. column_saved (before ++ (saved_by v walls k w ++ after)) w.first place x n.masked h ∙ note-middle_column v walls k w before after place x e l m h);
+      }
+
+  -- so do all notes from one on
+  alike_from : (walls : List Wall) (k : ℕ) (ws : List Wall) (before : List ℤ) (place : ℕ) → length before ≡ place → AllByRecursion (λ (w : Wall). HasOwnFacts bytes s w.facts) ws →
+      AllZip DrawAlike (map as_read (map (noted_drawseg v (textures_view s) (mask_lists s) (before ++ saved_from v walls k ws)) (notes_from v place ws))) (map as_read (drawsegs_from v (scene_of bytes s) walls k ws))
+  unfolding notes_from saved_from drawsegs_from
+  alike_from walls k [] before place e own = tt
+  alike_from walls k (w ∷ ws) before place e own =
+      let next : ℕ = place + room_if w.numbers.masked w + room_if (saves_top w.numbers) w + room_if (saves_bottom w.numbers) w in
+      let long : length (before ++ saved_by v walls k w) ≡ next = (let a = length-append before (saved_by v walls k w) in let b = length-saved_by v walls k w in omega arith) in
+      let P : List ℤ → Type 0 = λ openings. AllZip DrawAlike (map as_read (map (noted_drawseg v (textures_view s) (mask_lists s) openings) (notes_from v next ws))) (map as_read (drawsegs_from v (scene_of bytes s) walls (k + 1) ws)) in (
+        note_alike walls k w before (saved_from v walls (k + 1) ws) place e own.0,
+        subst P (append_assoc before (saved_by v walls k w) (saved_from v walls (k + 1) ws)) (alike_from walls (k + 1) ws (before ++ saved_by v walls k w) next long own.1),
+      )
+
+  as_many : (openings : List ℤ) (walls : List Wall) (k place : ℕ) (ws : List Wall) →
+      length (map (noted_drawseg v (textures_view s) (mask_lists s) openings) (notes_from v place ws)) ≡ length (drawsegs_from v (scene_of bytes s) walls k ws)
+  unfolding notes_from drawsegs_from
+  as_many openings walls k place [] = refl
+  as_many openings walls k place (w ∷ ws) =
+      ap suc (as_many openings walls (k + 1) (place + room_if w.numbers.masked w + room_if (saves_top w.numbers) w + room_if (saves_bottom w.numbers) w) ws)
+
+  -- the masked pass over the notes is that of the picture
+  pub masked_dots-noted : (art : Art) (events : List Event) (notes : List FragmentNote) (openings : List ℤ) (es : List SpriteEntry) →
+      notes ≡ view_notes v (walls_of v (scene_of bytes s) events) → openings ≡ openings_list v (walls_of v (scene_of bytes s) events) →
+      masked_dots v art (noted_drawsegs v (textures_view s) (mask_lists s) openings notes) es
+      ≡ masked_dots v art (view_drawsegs v (scene_of bytes s) (walls_of v (scene_of bytes s) events)) es
+  unfolding noted_drawsegs view_notes openings_list view_drawsegs walls_of
+  masked_dots-noted art events notes openings es e f =
+      let walls : List Wall = map (fragment_wall v (scene_of bytes s)) (drawsegs events) in
+      ap (λ (ns : List FragmentNote). masked_dots v art (map (noted_drawseg v (textures_view s) (mask_lists s) openings) ns) es) e
+      ∙ ap (λ (os : List ℤ). masked_dots v art (map (noted_drawseg v (textures_view s) (mask_lists s) os) (notes_from v 0 walls)) es) f
+      ∙ masked_dots-read v art (map (noted_drawseg v (textures_view s) (mask_lists s) (saved_from v walls 0 walls)) (notes_from v 0 walls)) (drawsegs_from v (scene_of bytes s) walls 0 walls) es
+      (alike_from walls 0 walls [] 0 refl (own_walls bytes v s (drawsegs events))) (as_many (saved_from v walls 0 walls) walls 0 0 walls)

@@ -1,0 +1,183 @@
+-- The seg of each note of a view, with its side and its sectors, is among the lists of its scene, and the middle texture of a masked one may be drawn.
+use Rattle.std.proofs.Common.{◌≡◌, ◌⊎◌, inl, inr, ℕ, zero, suc, ◌+◌, ◌<◌, ◌≤◌, true, false, List, [], ◌∷◌, map, take, length, get_or, Option, Some, None, IfSome, IsSome, refl, sym, subst, arith}
+use Rattle.std.specs.Prelude.{option_map, not, unwrap_or, ◌==◌}
+use Rattle.std.specs.List.{All, AllByRecursion}
+use Rattle.std.specs.Option.{ForSome}
+use Rattle.std.proofs.lemmas.List.{length-map}
+use Rattle.std.proofs.lemmas.List.Elements.{All-from_recursion, All-head, All-nil, All-tail, recursion_from_All}
+use Rattle.std.proofs.Math.ListN.{get_or-map}
+use Rattle.lump_rules.specs.declared.wad.Lump.{Lump}
+use Rattle.zone_rules.specs.Zones.{Heap}
+use Rattle.view_rules.specs.View.{ViewValue}
+use Rattle.level_rules.specs.declared.SideTextures.{SideTextures}
+use Rattle.level_rules.specs.declared.Surface.{Surface}
+use Rattle.level_rules.specs.declared.ThingLine.{ThingLine}
+use Rattle.level_rules.specs.Levels.{no_seg, seg_at, surface_at}
+use Rattle.map_rules.specs.Sound.{IsSound}
+use Rattle.walk_rules.specs.declared.TheConstants.{MAX_DRAWSEGS}
+use Rattle.walk_rules.specs.Drawsegs.{LeafFragment, drawsegs, leaf_fragments}
+use Rattle.walk_rules.specs.Events.{Event}
+use Rattle.walk_rules.specs.Events.Event.{LeafEvent, FragmentEvent}
+use Rattle.walk_rules.specs.Segs.{back_of}
+use Rattle.wall_rules.specs.declared.FragmentNote.{FragmentNote}
+use Rattle.wall_rules.specs.declared.WallFacts.{WallFacts}
+use Rattle.wall_rules.specs.Notes.{note_at, notes_from, place_if, room_if, view_notes}
+use Rattle.wall_rules.specs.Numbers.{fragment_numbers, numbers_by}
+use Rattle.wall_rules.specs.Openings.{saves_bottom, saves_top}
+use Rattle.wall_rules.specs.Parts.{is_masked}
+use Rattle.wall_rules.specs.Walls.{Wall, wall_of}
+use Rattle.art_rules.specs.declared.PlacedPatch.{PlacedPatch}
+use Rattle.art_rules.specs.Wanted.{PreparedTexture}
+use Rattle.scene_rules.specs.Scenes.{SceneValue}
+use Rattle.scene_rules.specs.Sides.{three_textures}
+use Rattle.picture_rules.specs.Scene.{facts_of, fragment_facts, no_textures, textures_at, wall_texture}
+use Rattle.picture_rules.specs.Walls.{fragment_wall, walls_of}
+use Rattle.texture_build.specs.Draws.{CanDraw}
+use Rattle.texture_build.specs.Views.{ArePatchesThere, IsPrepared, prepared_at, prepared_texture, unprepared}
+use Rattle.level_audit.specs.Sound.{middles_of, textures_view}
+use Rattle.level_audit.specs.Whole.{AllColumnsSingle, IsNoneOrSingle, IsWholeScene}
+use Rattle.masked_draw.specs.Lists.{middle_by, note_seg}
+use Rattle.masked_draw.specs.Ready.{CanDrawMiddle, IsListed, IsNotedMiddle}
+use Rattle.frame_core.specs.Scenes.{scene_of}
+use Rattle.frame_core.specs.Walked.{IsEventIn}
+use Rattle.frame_core.proofs.DrawsegLemmas.{mask_lists}
+
+-- the seg of each fragment of events that name what is there is there
+segs_there : (v : ViewValue) (s : SceneValue) (leaf : ℕ) (events : List Event) → AllByRecursion (IsEventIn v s) events → AllByRecursion (λ (f : LeafFragment). f.seg < length s.base.level.segs) (leaf_fragments leaf events)
+unfolding leaf_fragments
+segs_there v s leaf [] h = tt
+segs_there v s leaf (LeafEvent n ∷ es) h = segs_there v s n es h.1
+segs_there v s leaf (FragmentEvent seg first last ∷ es) h = (h.0.0, segs_there v s leaf es h.1)
+
+some_taken : {X : Type 0} (P : X → Type 0) (n : ℕ) (xs : List X) → AllByRecursion P xs → AllByRecursion P (take n xs)
+some_taken P zero xs h = tt
+some_taken P (suc n) [] h = tt
+some_taken P (suc n) (x ∷ xs) h = (h.0, some_taken P n xs h.1)
+
+-- so is that of each drawn one
+pub drawsegs_there : (v : ViewValue) (s : SceneValue) (events : List Event) → All (IsEventIn v s) events → AllByRecursion (λ (f : LeafFragment). f.seg < length s.base.level.segs) (drawsegs events)
+unfolding drawsegs
+drawsegs_there v s events h =
+    some_taken (λ (f : LeafFragment). f.seg < length s.base.level.segs) MAX_DRAWSEGS (leaf_fragments 0 events) (segs_there v s 0 events (recursion_from_All (IsEventIn v s) events h))
+
+-- what holds of each prepared texture holds of the one of a number
+prepared_has : (P : PreparedTexture → Type 0) (ts : List (Option PreparedTexture)) (number : ℕ) → All (λ (t : Option PreparedTexture). IfSome t P) ts → IfSome (prepared_at ts number) P
+prepared_has P [] number all = tt
+prepared_has P (t ∷ ts) zero all = All-head (λ (t : Option PreparedTexture). IfSome t P) t ts all
+prepared_has P (t ∷ ts) (suc number) all = prepared_has P ts number (All-tail (λ (t : Option PreparedTexture). IfSome t P) t ts all)
+
+-- a texture that is not prepared has no patch
+there_or_none : (lumps : List Lump) (o : Option PreparedTexture) → IfSome o (ArePatchesThere lumps) → ArePatchesThere lumps (unwrap_or o unprepared)
+there_or_none lumps None there = All-nil (λ (patch : PlacedPatch). patch.lump < length lumps)
+there_or_none lumps (Some t) there = there
+
+-- a number that is a texture's is not none
+prepared_some : (P : Type 0) (number : ℕ) → (number ≡ 0) ⊎ P → 0 < number → P
+prepared_some P zero e l = absurd (omega (arith, l))
+prepared_some P (suc number) (inl none) l = absurd (omega (arith, none))
+prepared_some P (suc number) (inr is) l = is
+
+-- a masked fragment has a sector behind it and a middle texture
+number_some : (number place : ℕ) → IsSome (place_if (not (number == 0)) place) → 0 < number
+unfolding place_if
+number_some zero place h = absurd (let t : false ≡ true = h in cc)
+number_some (suc number) place h = omega arith
+
+none_some : (place : ℕ) → IsSome (place_if false place) → ⊥
+unfolding place_if
+none_some place h = let t : false ≡ true = h in absurd (cc)
+
+masked_some : (facts : WallFacts) (back : Option Surface) (place : ℕ) → IsSome (place_if (is_masked facts back) place) → IsSome back × (0 < facts.middle.number)
+unfolding is_masked
+masked_some facts None place h = absurd (none_some place h)
+masked_some facts (Some back) place h = (refl, number_some facts.middle.number place h)
+
+mapped_some : {X Y : Type 0} (f : X → Y) (o : Option X) → IsSome (option_map f o) → IsSome o
+mapped_some f None h = h
+mapped_some f (Some x) h = refl
+
+if_some : {X : Type 0} (P : X → Type 0) (o : Option X) → ForSome o P → IfSome o P
+if_some P None h = tt
+if_some P (Some x) h = h x refl
+
+module _ (lumps : List Lump) (lines : List ThingLine) (name : List ℕ) (skill : ℕ) (s : SceneValue) (whole : IsWholeScene lumps lines name skill s) (sound : IsSound s.base.level)
+    (z : Heap) (slots : length s.base.lists.textures ≤ z.composites) where
+  -- the middle texture of a side, where it has one, is of the lists, and may be drawn
+  middle_among : (side : ℕ) → side < length s.faces.sides → 0 < (get_or s.faces.sides side no_textures).middle → (get_or s.faces.sides side no_textures).middle < length s.base.lists.textures
+  middle_among side inside some = (whole.below side no_textures inside).middle some
+
+  middle_drawn : (side : ℕ) → side < length s.faces.sides → 0 < (get_or s.faces.sides side no_textures).middle → CanDraw lumps (textures_view s) z (get_or s.faces.sides side no_textures).middle
+  middle_drawn side inside some =
+      let number : ℕ = (get_or s.faces.sides side no_textures).middle in
+      record {
+        prepared = prepared_some (IsPrepared (textures_view s) number) number (whole.art.textures side no_textures inside).middle some;
+        slot = let among = middle_among side inside some in omega (arith, among, slots);
+        there = there_or_none lumps (prepared_at s.prepared number) (prepared_has (ArePatchesThere lumps) s.prepared number whole.art.patches);
+      }
+
+  -- and is of single columns, behind the side of a seg with a sector behind it
+  middle_single : (seg : ℕ) → seg < length s.base.level.segs → IsSome (get_or s.base.level.segs seg no_seg).back →
+      0 < (get_or s.faces.sides (get_or s.base.level.segs seg no_seg).side no_textures).middle →
+      AllColumnsSingle (prepared_texture (textures_view s) (get_or s.faces.sides (get_or s.base.level.segs seg no_seg).side no_textures).middle)
+  unfolding three_textures
+  middle_single seg l behind some =
+      let number : ℕ = (get_or s.faces.sides (get_or s.base.level.segs seg no_seg).side no_textures).middle in
+      let single : IsNoneOrSingle (textures_view s) number = whole.art.middles seg no_seg l behind in
+      prepared_some (AllColumnsSingle (prepared_texture (textures_view s) number)) number single some
+
+  -- the note of a fragment whose seg is there
+  middle_ready : (bytes : ℕ → List ℕ) (v : ViewValue) (f : LeafFragment) (place : ℕ) → f.seg < length s.base.level.segs →
+      IsSome (note_at v (fragment_wall v (scene_of bytes s) f) place).masked → CanDrawMiddle lumps (textures_view s) z (mask_lists s) (note_at v (fragment_wall v (scene_of bytes s) f) place)
+  unfolding note_at fragment_wall wall_of fragment_numbers numbers_by fragment_facts facts_of note_seg middle_by seg_at back_of wall_texture textures_at scene_of
+  middle_ready bytes v f place l h =
+      let got = masked_some (fragment_facts (scene_of bytes s) f) (fragment_facts (scene_of bytes s) f).back place h in
+      let there = sound.segs f.seg no_seg l in
+      let side : ℕ = (get_or s.base.level.segs f.seg no_seg).side in
+      let behind = mapped_some (surface_at (scene_of bytes s).level) (get_or s.base.level.segs f.seg no_seg).back got.0 in
+      let inside : side < length s.faces.sides = omega (arith, there.side, whole.sides) in
+      let number : ℕ = (get_or s.faces.sides side no_textures).middle in
+      let same : number ≡ get_or (middles_of s.faces.sides) side 0 = sym (get_or-map (λ (t : SideTextures). t.middle) s.faces.sides side no_textures) in
+      record {
+        back = if_some (λ (back : ℕ). back < length s.base.level.sectors) (get_or s.base.level.segs f.seg no_seg).back there.back;
+        some = behind;
+        texture = subst (CanDraw lumps (textures_view s) z) same (middle_drawn side inside got.1);
+        among = subst (λ (n : ℕ). n < length s.base.lists.textures) same (middle_among side inside got.1);
+        single = subst (λ (n : ℕ). AllColumnsSingle (prepared_texture (textures_view s) n)) same (middle_single f.seg l behind got.1);
+      }
+
+  note_listed : (bytes : ℕ → List ℕ) (v : ViewValue) (f : LeafFragment) (place : ℕ) → f.seg < length s.base.level.segs →
+      IsListed lumps (textures_view s) z (mask_lists s) (note_at v (fragment_wall v (scene_of bytes s) f) place)
+  unfolding note_at fragment_wall wall_of fragment_facts facts_of note_seg
+  note_listed bytes v f place l =
+      let there = sound.segs f.seg no_seg l in
+      record {
+        seg = l;
+        front = there.front;
+        side = there.side;
+        middle = omega (arith, there.side, whole.sides, length-map s.faces.sides (λ (t : SideTextures). t.middle));
+        masked = middle_ready bytes v f place l;
+      }
+
+  listed_from : (bytes : ℕ → List ℕ) (v : ViewValue) (place : ℕ) (fs : List LeafFragment) → AllByRecursion (λ (f : LeafFragment). f.seg < length s.base.level.segs) fs →
+      AllByRecursion (IsListed lumps (textures_view s) z (mask_lists s)) (notes_from v place (map (fragment_wall v (scene_of bytes s)) fs))
+  unfolding notes_from
+  listed_from bytes v place [] h = tt
+  listed_from bytes v place (f ∷ fs) h =
+      let w : Wall = fragment_wall v (scene_of bytes s) f in
+      (note_listed bytes v f place h.0, listed_from bytes v (place + room_if w.numbers.masked w + room_if (saves_top w.numbers) w + room_if (saves_bottom w.numbers) w) fs h.1)
+
+  -- so it is for all notes of a view
+  pub notes_listed : (bytes : ℕ → List ℕ) (v : ViewValue) (events : List Event) (notes : List FragmentNote) → All (IsEventIn v s) events → notes ≡ view_notes v (walls_of v (scene_of bytes s) events) →
+      All (IsListed lumps (textures_view s) z (mask_lists s)) notes
+  unfolding view_notes walls_of
+  notes_listed bytes v events notes there e =
+      let P : List FragmentNote → Type 0 = All (IsListed lumps (textures_view s) z (mask_lists s)) in
+      subst P (sym e) (All-from_recursion (IsListed lumps (textures_view s) z (mask_lists s)) (notes_from v 0 (map (fragment_wall v (scene_of bytes s)) (drawsegs events)))
+      (listed_from bytes v 0 (drawsegs events) (drawsegs_there v s events there)))
+
+-- the middle texture of a masked note is prepared
+pub middle_prepared : (lumps : List Lump) (s : SceneValue) (z : Heap) (notes : List FragmentNote) (number : ℕ) → All (IsListed lumps (textures_view s) z (mask_lists s)) notes →
+    IsNotedMiddle (mask_lists s) notes number → IsPrepared (textures_view s) number
+middle_prepared lumps s z notes number listed middle =
+    let one = subst (IsListed lumps (textures_view s) z (mask_lists s)) middle.among.2 (listed middle.among.0 middle.note middle.among.1) in
+    subst (IsPrepared (textures_view s)) (sym middle.is) (one.masked middle.masked).texture.prepared

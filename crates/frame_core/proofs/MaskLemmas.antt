@@ -1,0 +1,173 @@
+-- Laws of the masked pass of a view: what it asks is there where the walk is in the bench, and what it paints is what the picture has.
+use Rattle.std.proofs.Common.{◌≡◌, ℕ, Bool, true, false, ℤ, List, [], length, get_or, Result, Ok, Err, OnOk, refl, ap, sym, subst, ◌∙◌}
+use Rattle.std.specs.Prelude.{◌||◌, ◌==◌}
+use Rattle.std.specs.List.{All, AllPass, list_any}
+use Rattle.outside.specs.Faults.{fault_above}
+use Rattle.lump_rules.specs.Contents.{lump_bytes}
+use Rattle.zone_rules.specs.Zones.{Heap}
+use Rattle.lump_cache.specs.declared.fault.CacheFault.{CacheFault}
+use Rattle.lump_cache.specs.declared.fault.CacheFault.TheVariants as cache
+use Rattle.lump_cache.specs.Caches.{cache_fault}
+use Rattle.lump_cache.proofs.CallLemmas.{result_above}
+use Rattle.wad_dir.specs.DirectoryView.{DirectoryView}
+use Rattle.view_rules.specs.View.{ViewValue}
+use Rattle.level_rules.specs.declared.Seg.{Seg}
+use Rattle.level_rules.specs.declared.Sector.{Sector}
+use Rattle.level_rules.specs.declared.Side.{Side}
+use Rattle.map_rules.specs.Levels.{LevelValue}
+use Rattle.map_rules.specs.Sound.{IsSound}
+use Rattle.walk_rules.specs.Walk.{view_events}
+use Rattle.art_rules.specs.Books.{book_lumps}
+use Rattle.pixel_rules.specs.declared.Painter.{Painter}
+use Rattle.pixel_rules.specs.Dots.{Dot}
+use Rattle.wall_rules.specs.declared.FragmentNote.{FragmentNote}
+use Rattle.plane_rules.specs.Planes.{Plane}
+use Rattle.sprite_rules.specs.declared.SpriteEntry.{SpriteEntry}
+use Rattle.sprite_rules.specs.Middles.{masked_dots}
+use Rattle.sprite_rules.specs.Order.{draw_order}
+use Rattle.scene_rules.specs.Scenes.{SceneValue}
+use Rattle.scene_rules.specs.Sizes.{has_flat}
+use Rattle.picture_rules.specs.Masked.{view_drawsegs}
+use Rattle.picture_rules.specs.Noted.{AreNoted}
+use Rattle.picture_rules.specs.Scene.{Scene}
+use Rattle.picture_rules.specs.Things.{view_entries}
+use Rattle.picture_rules.specs.Walls.{walls_of}
+use Rattle.pixel_strips.specs.Dotted.{HasDots, PlacedAlike}
+use Rattle.texture_build.specs.Arts.{view_art}
+use Rattle.texture_build.specs.Draws.{DrawsWith, FitBeside, HoldsArt}
+use Rattle.texture_build.specs.Views.{TexturesView}
+use Rattle.texture_build.proofs.DrawLemmas.{draws-above, draws-wider}
+use Rattle.level_audit.specs.Sound.{middles_of, textures_view}
+use Rattle.vissprites.specs.Bounds.{has_lump_below, lies_within}
+use Rattle.wall_columns.specs.Built.{IsBuilt}
+use Rattle.masked_draw.specs.Lists.{MaskedLists, lists_of as lists_by, noted_drawsegs}
+use Rattle.masked_draw.specs.Ready.{IsListed, IsNotedMiddle, IsSpriteLump}
+use Rattle.frame_core.specs.declared.bench.Bench.{Bench}
+use Rattle.frame_core.specs.Faults.{from_cache, view_fault}
+use Rattle.frame_core.specs.Scenes.{lists_of, scene_of}
+use Rattle.frame_core.specs.Views.{CanDrawView, IsViewLump, IsViewTexture, PaintsView, ViewState, view_scene}
+use Rattle.frame_core.specs.Walked.{planes_after}
+use Rattle.frame_core.specs.Painters.{HasWalkedView}
+use Rattle.frame_core.proofs.DrawsegLemmas.{mask_lists, masked_dots-noted}
+use Rattle.frame_core.proofs.EntryLemmas.{entry_lump}
+use Rattle.frame_core.proofs.ListedLemmas.{middle_prepared, notes_listed}
+
+-- what the masked pass is drawn with
+pub record MaskParts : Type 0 where
+  pub textures : TexturesView
+  pub colormap : ℕ
+  pub lists : MaskedLists
+  pub openings : List ℤ
+  pub notes : List FragmentNote
+
+abbrev pub mask_parts : TexturesView → ℕ → List Seg → List Side → List Sector → List ℕ → List ℤ → List FragmentNote → MaskParts
+mask_parts textures colormap segs sides sectors middles openings notes =
+    record { textures = textures; colormap = colormap; lists = lists_by segs sides sectors middles; openings = openings; notes = notes }
+
+-- those of a scene, where the walk of a view is in the bench
+abbrev pub parts_of : SceneValue → Bench → MaskParts
+parts_of s b = mask_parts (textures_view s) s.base.colormap s.base.level.segs s.base.level.sides s.base.level.sectors (middles_of s.faces.sides) b.walls.openings b.walls.notes
+
+pub parts-same : (s : SceneValue) (b : Bench) {level : LevelValue} {textures : TexturesView} {colormap : ℕ} {segs : List Seg} {sides : List Side} {sectors : List Sector} {middles : List ℕ} {openings : List ℤ} {notes : List FragmentNote} →
+    level ≡ s.base.level → textures ≡ textures_view s → colormap ≡ s.base.colormap → segs ≡ level.segs → sides ≡ level.sides → sectors ≡ level.sectors → middles ≡ middles_of s.faces.sides →
+    openings ≡ b.walls.openings → notes ≡ b.walls.notes → mask_parts textures colormap segs sides sectors middles openings notes ≡ parts_of s b
+parts-same s b level textures colormap segs sides sectors middles openings notes =
+    let by_segs = segs ∙ ap (λ (l : LevelValue). l.segs) level in
+    let by_sides = sides ∙ ap (λ (l : LevelValue). l.sides) level in
+    let by_sectors = sectors ∙ ap (λ (l : LevelValue). l.sectors) level in
+    λ i. mask_parts (textures i) (colormap i) (by_segs i) (by_sides i) (by_sectors i) (middles i) (openings i) (notes i)
+
+-- a call of the masked pass with these parts
+pub record DrawsMasks (mark : Painter → ℕ → ℕ) (v : ViewValue) (dir : DirectoryView) (sprites : List SpriteEntry) (parts : MaskParts) (old new : ViewState) (result : Result (Unit {0}) CacheFault) : Type 0 where
+  pub painted : (contents : List (List ℕ)) (count : ℕ) → HoldsArt old.shelf dir parts.textures contents parts.colormap count old.cache →
+      OnOk result (HasDots mark (masked_dots v (view_art (lump_bytes contents dir.lumps) parts.textures parts.colormap) (noted_drawsegs v parts.textures parts.lists parts.openings parts.notes) (draw_order sprites)) old.canvas new.canvas)
+  pub fits : (contents : List (List ℕ)) (count : ℕ) → HoldsArt old.shelf dir parts.textures contents parts.colormap count old.cache →
+      OnOk result (FitBeside dir.lumps parts.textures parts.colormap count old.cache.size
+      (masked_dots v (view_art (lump_bytes contents dir.lumps) parts.textures parts.colormap) (noted_drawsegs v parts.textures parts.lists parts.openings parts.notes) (draw_order sprites)))
+  pub draws : DrawsWith cache_fault (IsNotedMiddle parts.lists parts.notes) (IsSpriteLump sprites) old.shelf new.shelf dir parts.textures old.cache new.cache result
+  pub place : PlacedAlike old.canvas new.canvas
+
+-- the dots of the masked pass of a view
+abbrev pub masks_dots : ViewValue → SceneValue → Scene → List Dot
+masks_dots v s scene =
+    masked_dots v scene.art (view_drawsegs v scene (walls_of v scene (view_events v (lists_of s)))) (draw_order (view_entries v scene (view_events v (lists_of s))))
+
+-- the faults of the cache are those of a view
+same_fault : (e : CacheFault) → view_fault (from_cache e) ≡ fault_above (λ (none : ⊥). absurd none) (cache_fault e)
+same_fault (cache.ZoneFull wanted widest) = refl
+same_fault cache.ReadFault = refl
+
+on_ok_above : (P : Type 0) (lower : Result (Unit {0}) CacheFault) → OnOk lower P → OnOk (result_above from_cache lower) P
+on_ok_above P (Ok done) p = p
+on_ok_above P (Err fault) p = tt
+
+either_right : (a b : Bool) → b ≡ true → (a || b) ≡ true
+either_right true b e = refl
+either_right false b e = e
+
+pub no_bytes : ℕ → List ℕ
+no_bytes n = []
+
+-- the notes are noted in the parts
+pub parts-noted : (v : ViewValue) (s : SceneValue) (b : Bench) {parts : MaskParts} → parts ≡ parts_of s b → AreNoted v.shape b.walls.notes b.walls.openings → AreNoted v.shape parts.notes parts.openings
+parts-noted v s b same noted = subst (λ (p : MaskParts). AreNoted v.shape p.notes p.openings) (sym same) noted
+
+-- the columns of the vissprites lie in the view
+pub sprites-within : (v : ViewValue) (s : SceneValue) (b : Bench) → HasWalkedView v s b → AllPass (lies_within v.shape.width) b.sprites
+sprites-within v s b walked = (walked no_bytes).columns
+
+-- the walls are built, with the planes of the walk
+pub walls-built : (v : ViewValue) (s : SceneValue) (b : Bench) → HasWalkedView v s b →
+    IsBuilt v (walls_of v (scene_of no_bytes s) (view_events v (lists_of s))) (planes_after v (scene_of no_bytes s) (view_events v (lists_of s))) b.walls
+    (planes_after v (scene_of no_bytes s) (view_events v (lists_of s))).planes
+walls-built v s b walked =
+    let built = (walked no_bytes).built in
+    let P : List Plane → Type 0 = IsBuilt v (walls_of v (scene_of no_bytes s) (view_events v (lists_of s))) (planes_after v (scene_of no_bytes s) (view_events v (lists_of s))) b.walls in
+    subst P built.planes built
+
+module _ {v : ViewValue} {s : SceneValue} {b : Bench} {z : Heap} (dir : DirectoryView) (sound : IsSound s.base.level) (can : CanDrawView dir.lumps s z) (walked : HasWalkedView v s b) where
+  scene_notes : All (IsListed dir.lumps (textures_view s) z (mask_lists s)) b.walls.notes
+  scene_notes =
+      let w = walked no_bytes in
+      notes_listed dir.lumps can.lines can.name can.skill s can.whole sound z can.composites no_bytes v (view_events v (lists_of s)) b.walls.notes w.there w.built.notes
+
+  -- the notes are listed in the parts
+  pub parts-listed : {parts : MaskParts} → parts ≡ parts_of s b → All (IsListed dir.lumps parts.textures z parts.lists) parts.notes
+  parts-listed same = subst (λ (p : MaskParts). All (IsListed dir.lumps p.textures z p.lists) p.notes) (sym same) scene_notes
+
+  -- the pictures of the vissprites are of the directory
+  pub sprites-below : AllPass (has_lump_below (length dir.lumps)) b.sprites
+  sprites-below = (walked no_bytes).lumps (length dir.lumps) can.whole.art.pictures
+
+  sprite_lump : (lump : ℕ) → IsSpriteLump b.sprites lump → IsViewLump s lump
+  sprite_lump lump k =
+      let w = walked no_bytes in
+      let P : ℕ → Type 0 = λ (m : ℕ). list_any (λ n. n == m) (book_lumps s.book) ≡ true in
+      let found = entry_lump no_bytes v s (view_events v (lists_of s)) b.sprites k.among.0 k.sprite w.sprites k.among.1 in
+      let same : (get_or b.sprites k.among.0 k.sprite).lump ≡ lump = ap (λ (e : SpriteEntry). e.lump) k.among.2 ∙ sym k.is in
+      either_right (list_any (has_flat lump) s.faces.flats) (list_any (λ n. n == lump) (book_lumps s.book)) (subst P same found)
+
+  same_dots : (bytes : ℕ → List ℕ) →
+      masked_dots v (view_art bytes (textures_view s) s.base.colormap) (noted_drawsegs v (textures_view s) (mask_lists s) b.walls.openings b.walls.notes) (draw_order b.sprites) ≡ masks_dots v s (scene_of bytes s)
+  unfolding scene_of
+  same_dots bytes =
+      let w = walked bytes in
+      masked_dots-noted bytes v s can.whole.flats (scene_of bytes s).art (view_events v (lists_of s)) b.walls.notes b.walls.openings (draw_order b.sprites) w.built.notes w.built.openings
+      ∙ ap (λ (es : List SpriteEntry). masked_dots v (scene_of bytes s).art (view_drawsegs v (scene_of bytes s) (walls_of v (scene_of bytes s) (view_events v (lists_of s)))) (draw_order es)) w.sprites
+
+-- a call of the masked pass paints that of the view, its faults told as those of a view
+pub masks-above : {mark : Painter → ℕ → ℕ} {v : ViewValue} {s : SceneValue} {b : Bench} {dir : DirectoryView} {old new : ViewState} {lower : Result (Unit {0}) CacheFault} {parts : MaskParts} → parts ≡ parts_of s b →
+    IsSound s.base.level → CanDrawView dir.lumps s old.cache → HasWalkedView v s b → DrawsMasks mark v dir b.sprites parts old new lower → PaintsView mark (view_scene v s dir) (masks_dots v s) old new (result_above from_cache lower)
+masks-above {mark} {v} {s} {b} {dir} {old} {new} {lower} same sound can walked draws =
+    let one = subst (λ (p : MaskParts). DrawsMasks mark v dir b.sprites p old new lower) same draws in
+    let dots : (contents : List (List ℕ)) → masked_dots v (view_art (lump_bytes contents dir.lumps) (textures_view s) s.base.colormap) (noted_drawsegs v (textures_view s) (mask_lists s) b.walls.openings b.walls.notes) (draw_order b.sprites)
+    ≡ masks_dots v s (scene_of (lump_bytes contents dir.lumps) s) = λ contents. same_dots dir sound can walked (lump_bytes contents dir.lumps) in
+    record {
+      painted = λ contents count hold. on_ok_above (HasDots mark (masks_dots v s (scene_of (lump_bytes contents dir.lumps) s)) old.canvas new.canvas) lower
+          (subst (λ (ds : List Dot). OnOk lower (HasDots mark ds old.canvas new.canvas)) (dots contents) (one.painted contents count hold));
+      fits = λ contents count hold. on_ok_above (FitBeside dir.lumps (textures_view s) s.base.colormap count old.cache.size (masks_dots v s (scene_of (lump_bytes contents dir.lumps) s))) lower
+          (subst (λ (ds : List Dot). OnOk lower (FitBeside dir.lumps (textures_view s) s.base.colormap count old.cache.size ds)) (dots contents) (one.fits contents count hold));
+      draws = draws-above (λ (none : ⊥). absurd none) from_cache same_fault lower
+          (draws-wider {among = IsViewTexture s} {pictures = IsViewLump s} (λ number k. middle_prepared dir.lumps s old.cache b.walls.notes number (scene_notes dir sound can walked) k) (λ lump k. sprite_lump dir sound can walked lump k) one.draws);
+      place = one.place;
+    }

@@ -1,0 +1,48 @@
+-- What the masked pass asks is there, and what it paints is what the picture has.
+use Rattle.std.proofs.Common.{◌≤◌, arith, refl, subst}
+use Rattle.view_rules.specs.declared.TheConstants.{FRAME_WIDTH, FRAME_HEIGHT}
+use Rattle.map_rules.specs.Sound.{IsSound}
+use Rattle.frame_core.proofs.MaskLemmas.{masks-above, parts-listed, parts-noted, parts-same, sprites-below, sprites-within, walls-built}
+use Rattle.frame_core.proofs.PaintLemmas.{paints-stop}
+use Rattle.frame_core.proofs.masks.draw_masks.Goals as goal
+
+pub draw_masked-requires-clause-noted : goal.draw_masked-requires-clause-noted
+draw_masked-requires-clause-noted g c =
+    let v = c.args.tools.now.view.now in
+    let s = c.args.tools.now.scene.now.scene in
+    let b = c.args.bench.now in
+    let same = parts-same c.args.tools.now.scene.now.scene c.args.bench.now c.level-level.ensures c.textures.ensures c.colormap.ensures c.segs.ensures.value c.sides.ensures.value c.sectors.ensures.value c.middles.ensures
+    c.openings-openings.ensures.value c.notes.ensures.value in
+    let columns = c.requires.placed.columns in
+    let rows = c.requires.placed.rows in
+    let width : v.shape.width ≤ FRAME_WIDTH = omega (arith, columns) in
+    let height : v.shape.height ≤ FRAME_HEIGHT = omega (arith, rows) in
+    parts-noted v s b same (c.notes.ensures.noted v _ _ width height (walls-built v s b c.requires.walked))
+
+pub draw_masked-requires-clause-listed : goal.draw_masked-requires-clause-listed
+draw_masked-requires-clause-listed g c =
+    let same = parts-same c.args.tools.now.scene.now.scene c.args.bench.now c.level-level.ensures c.textures.ensures c.colormap.ensures c.segs.ensures.value c.sides.ensures.value c.sectors.ensures.value c.middles.ensures
+    c.openings-openings.ensures.value c.notes.ensures.value in
+    parts-listed c.args.tools.now.dir.now (subst IsSound c.level-level.ensures c.segs.ensures.sound) c.requires.drawable c.requires.walked same
+
+pub draw_masked-requires-clause-columns : goal.draw_masked-requires-clause-columns
+draw_masked-requires-clause-columns g c = sprites-within c.args.tools.now.view.now c.args.tools.now.scene.now.scene c.args.bench.now c.requires.walked
+
+pub draw_masked-requires-clause-lumps : goal.draw_masked-requires-clause-lumps
+draw_masked-requires-clause-lumps g c = sprites-below c.args.tools.now.dir.now (subst IsSound c.level-level.ensures c.segs.ensures.sound) c.requires.drawable c.requires.walked
+
+pub returns-in_err-draw_masked-clause-paints : goal.returns-in_err-draw_masked-clause-paints
+returns-in_err-draw_masked-clause-paints g c =
+    let same = parts-same c.args.tools.now.scene.now.scene c.args.bench.now c.level-level.ensures c.textures.ensures c.colormap.ensures c.segs.ensures.value c.sides.ensures.value c.sectors.ensures.value c.middles.ensures
+    c.openings-openings.ensures.value c.notes.ensures.value in
+    let draws = c.in_err-draw_masked.ensures in
+    paints-stop refl c.from_residual.ensures.1 (masks-above same (subst IsSound c.level-level.ensures c.segs.ensures.sound) c.requires.drawable c.requires.walked
+    (record { painted = draws.painted; fits = draws.fits; draws = draws.draws; place = draws.place }))
+
+pub returns-clause-paints : goal.returns-clause-paints
+returns-clause-paints g c =
+    let same = parts-same c.args.tools.now.scene.now.scene c.args.bench.now c.level-level.ensures c.textures.ensures c.colormap.ensures c.segs.ensures.value c.sides.ensures.value c.sectors.ensures.value c.middles.ensures
+    c.openings-openings.ensures.value c.notes.ensures.value in
+    let draws = c.in_ok-draw_masked.ensures in
+    masks-above same (subst IsSound c.level-level.ensures c.segs.ensures.sound) c.requires.drawable c.requires.walked
+    (record { painted = draws.painted; fits = draws.fits; draws = draws.draws; place = draws.place })
