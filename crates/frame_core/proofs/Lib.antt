@@ -4,3 +4,6 @@ pub mod PaintLemmas
 pub mod StepLemmas
 pub mod AllPlanesLemmas
 pub mod PlaneStepLemmas
+pub mod WalkedLemmas
+pub mod NumberLemmas
+pub mod SectorLemmas
