@@ -7,3 +7,4 @@ pub mod PlaneStepLemmas
 pub mod WalkedLemmas
 pub mod NumberLemmas
 pub mod SectorLemmas
+pub mod FragmentLemmas

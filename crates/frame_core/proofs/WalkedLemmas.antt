@@ -359,7 +359,7 @@ unfolding walls_of
 walls_within v scene es = let e = length-map (drawsegs es) (fragment_wall v scene) in let l = drawsegs-within es in omega arith
 
 -- where no fragment more is drawn the notes are as many as a view keeps
-notes_full : (v : ViewValue) (scene : Scene) (es : List Event) (s : PlanesNow) (walls : WallsView) (planes : List Plane) → IsBuilt v (walls_of v scene es) s walls planes → MAX_DRAWSEGS ≤ length (walls_of v scene es) →
+pub notes_full : (v : ViewValue) (scene : Scene) (es : List Event) (s : PlanesNow) (walls : WallsView) (planes : List Plane) → IsBuilt v (walls_of v scene es) s walls planes → MAX_DRAWSEGS ≤ length (walls_of v scene es) →
     length walls.notes ≡ MAX_DRAWSEGS
 unfolding view_notes
 notes_full v scene es s walls planes built full =
