@@ -8,3 +8,10 @@ pub mod DrawsegLemmas
 pub mod ListedLemmas
 pub mod EntryLemmas
 pub mod MaskLemmas
+pub mod StepLemmas
+pub mod AllPlanesLemmas
+pub mod PlaneStepLemmas
+pub mod WalkedLemmas
+pub mod NumberLemmas
+pub mod SectorLemmas
+pub mod FragmentLemmas

@@ -6,7 +6,8 @@
 ghost use Rattle.std.specs.Prelude.{◌≡◌, ◌≤◌, ◌<◌, ◌+◌, ◌++◌, ◌∷◌, ◌==◌, ℕ, true, false, List, [], All, IfOk, IfErr, IfSome, OnOk, length, Some};
 ghost use Rattle.std.specs.List.{AllPass};
 ghost use Rattle.view_rules.specs.declared.TheConstants.{FRAME_WIDTH, FRAME_HEIGHT};
-ghost use Rattle.level_rules.specs.Levels.{leaf_at, surface_at};
+ghost use Rattle.level_rules.specs.Levels.{leaf_at, seg_at, surface_at};
+ghost use Rattle.map_rules.specs.Sound.{IsSound};
 ghost use Rattle.art_rules.specs.Books.{book_lumps};
 ghost use Rattle.plane_rules.specs.declared.TheConstants.{MOST_VISPLANES};
 ghost use Rattle.plane_rules.specs.Keys.{ceiling_key, floor_key};
@@ -14,6 +15,7 @@ ghost use Rattle.walk_rules.specs.Events.{Event};
 ghost use Rattle.walk_rules.specs.Events.Event.{LeafEvent, FragmentEvent};
 ghost use Rattle.picture_rules.specs.declared.Limits.{Limits};
 ghost use Rattle.picture_rules.specs.Counts.{steps_over, view_steps};
+ghost use Rattle.picture_rules.specs.Scene.{facts_of};
 ghost use Rattle.vissprites.specs.Bounds.{lies_within, has_lump_below};
 ghost use Rattle.wall_rules.specs.declared.TheConstants.{MOST_OPENINGS};
 ghost use Rattle.wall_columns.specs.Built.{limits_of};
@@ -36,9 +38,11 @@ use picture_rules::Limits;
 use pixel_strips::Canvas;
 use std::alloc::{AllocError, Global};
 use view_frame::View;
+use view_rules::FRAME_HEIGHT;
 use visplanes::Planes;
 use vissprites::Sprites;
 use wall_columns::{DrawFault, LeafPlanes, WallState, WallTools};
+use wall_rules::WallFacts;
 
 /// What a view is built in. `sector` is that of the leaf that was entered last.
 #[derive(Drop)]
@@ -80,7 +84,7 @@ impl Bench {
         self.planes.clear();
         self.walls.start_view(view.shape().height);
         self.sprites.clear();
-        self.entered.clear(scene.surfaces().len());
+        self.entered.clear(scene.level().sectors().len());
         self.sector = first_sector(scene);
     }
 
@@ -176,6 +180,8 @@ impl Bench {
         ensures limits { limits_of self.new.walls self.new.planes
             ≡ limits_of self.old.walls self.old.planes }
     {
+        let rows = view.shape().height;
+        prove!(rows <= FRAME_HEIGHT);
         let facts = facts_of(scene, self.sector, seg);
         self.walls
             .count_range(view, &mut self.planes, &facts, first, last)
@@ -231,7 +237,7 @@ impl Bench {
         ensures limits { limits_of self.new.walls self.new.planes
             ≡ limits_of self.old.walls self.old.planes }
     {
-        let facts = facts_of(tools.scene, self.sector, seg);
+        let facts = facts_for(tools.scene, self.sector, seg);
         let mut walls = WallTools {
             view: tools.view,
             textures: tools.scene.textures(),
@@ -245,6 +251,24 @@ impl Bench {
         self.walls.store_range(&mut walls, &facts, first, last)?;
         Ok(())
     }
+}
+
+// What a seg is drawn from, seen from a sector, and that the level is sound.
+fn facts_for(scene: &SoundScene, sector: u16, seg: u16) -> WallFacts
+    requires sides { length scene.now.scene.faces.sides
+        ≡ length scene.now.scene.base.level.sides }
+    requires flats { length scene.now.scene.faces.flats
+        ≡ length scene.now.scene.base.level.sectors }
+    requires sector { sector < length scene.now.scene.base.level.sectors }
+    requires seg { seg < length scene.now.scene.base.level.segs }
+    ensures facts { (bytes : ℕ → List ℕ) → result ≡ facts_of (scene_of bytes scene.now.scene)
+        (surface_at (lists_of scene.now.scene) sector) seg
+        (seg_at (lists_of scene.now.scene) seg) }
+    ensures sound { IsSound scene.now.scene.base.level }
+{
+    let segs = scene.level().segs().len();
+    prove!(usize::from(seg) < segs);
+    facts_of(scene, sector, seg)
 }
 
 // The sector of a leaf.

@@ -1,0 +1,215 @@
+-- Laws of a fragment that is stored: its textures may be drawn, what it paints, and the limit that its fault tells.
+use Rattle.std.proofs.Common.{◌≡◌, ◌⊎◌, ℕ, zero, suc, ◌<◌, ◌≤◌, Bool, true, false, cond, List, [], ◌∷◌, ◌++◌, Option, Some, None, Result, Ok, Err, IfErr, IsErrAnd, OnOk, length, refl, ap, sym, ◌∙◌, subst, inl, inr, arith}
+use Rattle.std.specs.Prelude.{◌≢◌, All, IfSome, nat_lt, slice_index_or, unwrap_or}
+use Rattle.std.proofs.lemmas.Bool.{cases_lt}
+use Rattle.std.proofs.lemmas.Bool.Decides.{nat_tests}
+use Rattle.std.proofs.lemmas.List.Elements.{All-head, All-nil, All-tail}
+use Rattle.outside.specs.Faults.{fault_above}
+use Rattle.outside.specs.Shelf.{ShelfView}
+use Rattle.lump_rules.specs.Contents.{lump_bytes}
+use Rattle.lump_rules.specs.declared.wad.Lump.{Lump}
+use Rattle.zone_rules.specs.Zones.{Heap}
+use Rattle.view_rules.specs.View.{ViewValue}
+use Rattle.level_rules.specs.declared.Surface.{Surface}
+use Rattle.level_rules.specs.Levels.{seg_at, surface_at}
+use Rattle.map_rules.specs.Sound.{IsSound}
+use Rattle.art_rules.specs.Wanted.{PreparedTexture}
+use Rattle.walk_rules.specs.declared.TheConstants.{MAX_DRAWSEGS}
+use Rattle.walk_rules.specs.Drawsegs.{last_leaf}
+use Rattle.walk_rules.specs.Events.{Event}
+use Rattle.wad_dir.specs.DirectoryView.{DirectoryView}
+use Rattle.pixel_rules.specs.declared.Painter.{Painter}
+use Rattle.pixel_rules.specs.Dots.{Dot}
+use Rattle.pixel_strips.specs.Canvases.{CanvasView}
+use Rattle.pixel_strips.specs.Dotted.{HasDots, PlacedAlike}
+use Rattle.pixel_strips.proofs.DottedLemmas.{has_dots-none}
+use Rattle.plane_rules.specs.Built.{PlanesNow}
+use Rattle.wall_rules.specs.declared.WallFacts.{WallFacts}
+use Rattle.wall_rules.specs.Strips.{wall_dots}
+use Rattle.wall_rules.specs.Walls.{Wall, wall_of}
+use Rattle.scene_rules.specs.Scenes.{SceneValue}
+use Rattle.picture_rules.specs.declared.Limits.{Limits}
+use Rattle.picture_rules.specs.declared.OverLimit.{OverLimit}
+use Rattle.picture_rules.specs.Counts.{openings_count, planes_count}
+use Rattle.picture_rules.specs.Scene.{Scene, facts_of, leaf_sector}
+use Rattle.picture_rules.specs.Walls.{walls_of}
+use Rattle.texture_build.specs.Arts.{view_art}
+use Rattle.texture_build.specs.Draws.{CanDraw, DrawsWith, FitBeside, HoldsArt}
+use Rattle.texture_build.specs.Views.{ArePatchesThere, IsPrepared, TexturesView, prepared_at, unprepared}
+use Rattle.texture_build.proofs.DrawLemmas.{IsMapped, draws-mapped, draws-wider, on_ok-mapped}
+use Rattle.level_audit.specs.Sound.{textures_view}
+use Rattle.wall_columns.specs.declared.fault.DrawFault.{DrawFault}
+use Rattle.wall_columns.specs.declared.fault.DrawFault.TheVariants.{Planes, Openings, ZoneFull, ReadFault}
+use Rattle.wall_columns.specs.Built.{IsBuilt, with_wall}
+use Rattle.wall_columns.specs.Draws.{IsNoPicture, IsWallTexture}
+use Rattle.wall_columns.specs.Faults.{draw_fault, limit_of_fault}
+use Rattle.frame_core.specs.declared.bench.Bench.{Bench}
+use Rattle.frame_core.specs.declared.fault.ViewFault.{ViewFault}
+use Rattle.frame_core.specs.Faults.{from_draw, limit_of_view, view_fault}
+use Rattle.frame_core.specs.Scenes.{lists_of, scene_of}
+use Rattle.frame_core.specs.Views.{CanDrawView, IsViewLump, IsViewTexture, PaintsView, ViewScene, ViewState, held_scene}
+use Rattle.frame_core.specs.Walked.{HasWalked, next_dots, next_wall, planes_after}
+use Rattle.frame_core.proofs.SceneLemmas.{AreFactsReady, IsNoneOrReady, facts_ready}
+use Rattle.frame_core.proofs.WalkedLemmas.{next_wall-facts, notes_full}
+
+-- the patches of a prepared texture are there
+patches_at : (lumps : List Lump) (prepared : List (Option PreparedTexture)) (number : ℕ) → All (λ (t : Option PreparedTexture). IfSome t (ArePatchesThere lumps)) prepared → IfSome (slice_index_or prepared number None) (ArePatchesThere lumps)
+patches_at lumps [] number all = tt
+patches_at lumps (t ∷ ts) zero all = All-head (λ (t : Option PreparedTexture). IfSome t (ArePatchesThere lumps)) t ts all
+patches_at lumps (t ∷ ts) (suc number) all = patches_at lumps ts number (All-tail (λ (t : Option PreparedTexture). IfSome t (ArePatchesThere lumps)) t ts all)
+
+patches_or : (lumps : List Lump) (t : Option PreparedTexture) → IfSome t (ArePatchesThere lumps) → ArePatchesThere lumps (unwrap_or t unprepared)
+patches_or lumps None there = All-nil _
+patches_or lumps (Some t) there = there
+
+ready_of : (scene : SceneValue) (number n : ℕ) → number ≢ 0 → number ≡ n → IsNoneOrReady scene n → IsPrepared (textures_view scene) number × (number < length scene.base.lists.textures)
+ready_of scene number n some is (inl none) = absurd (some (is ∙ none))
+ready_of scene number n some is (inr ready) = subst (λ (k : ℕ). IsPrepared (textures_view scene) k × (k < length scene.base.lists.textures)) (sym is) ready
+
+ready_number : (scene : SceneValue) (facts : WallFacts) (number : ℕ) → AreFactsReady scene facts → IsWallTexture facts number → IsPrepared (textures_view scene) number × (number < length scene.base.lists.textures)
+ready_number scene facts number ready is =
+    elim is.1 [
+      | inl top ↦ ready_of scene number facts.top.number is.0 top ready.top
+      | inr rest ↦ elim rest [
+        | inl bottom ↦ ready_of scene number facts.bottom.number is.0 bottom ready.bottom
+        | inr middle ↦ ready_of scene number facts.middle.number is.0 middle ready.middle
+      ]
+    ]
+
+-- the facts of a seg are ready to draw, in a scene that may be drawn
+pub facts-ready : (lumps : List Lump) (scene : SceneValue) (z : Heap) (front : Surface) (seg : ℕ) (facts : WallFacts) → CanDrawView lumps scene z → IsSound scene.base.level → seg < length scene.base.level.segs →
+    ((bytes : ℕ → List ℕ) → facts ≡ facts_of (scene_of bytes scene) front seg (seg_at (lists_of scene) seg)) → AreFactsReady scene facts
+facts-ready lumps scene z front seg facts can sound l are =
+    let bytes : ℕ → List ℕ = λ n. [] in
+    subst (AreFactsReady scene) (sym (are bytes)) (facts_ready lumps can.lines can.name can.skill scene can.whole sound bytes front seg l)
+
+-- a texture of theirs may be drawn
+pub can_draw-facts : (lumps : List Lump) (scene : SceneValue) (z : Heap) (facts : WallFacts) (textures : TexturesView) (number : ℕ) → CanDrawView lumps scene z → AreFactsReady scene facts → textures ≡ textures_view scene →
+    IsWallTexture facts number → CanDraw lumps textures z number
+can_draw-facts lumps scene z facts textures number can ready same is =
+    let r = ready_number scene facts number ready is in
+    let slots = can.composites in
+    let below = r.1 in
+    subst (λ (t : TexturesView). CanDraw lumps t z number) (sym same) (record {
+      prepared = r.0;
+      slot = omega arith;
+      there = patches_or lumps (prepared_at scene.prepared number) (patches_at lumps scene.prepared number can.whole.art.patches);
+    })
+
+-- a fault of drawing is told here as it was there
+same_fault : (e : DrawFault) → view_fault (from_draw e) ≡ fault_above (λ (o : OverLimit). o) (draw_fault e)
+unfolding planes_count openings_count
+same_fault (Planes count) = refl
+same_fault (Openings count) = refl
+same_fault (ZoneFull wanted widest) = refl
+same_fault ReadFault = refl
+
+-- the answer is that of the call below, by its fault
+pub mapped-err : {A : Type 0} (lower : Result A DrawFault) (fault : DrawFault) (result : Result A ViewFault) → lower ≡ Err fault → IsErrAnd result (λ f. f ≡ from_draw fault) → IsMapped from_draw lower result
+mapped-err lower fault result was is = subst (λ r. IsMapped from_draw r result) (sym was) is
+
+pub mapped-ok : {A : Type 0} (lower : Result A DrawFault) (value : A) → lower ≡ Ok value → IsMapped from_draw lower (Ok value)
+mapped-ok lower value was = subst (λ r. IsMapped from_draw r (Ok value)) (sym was) refl
+
+-- what holds after an Ok holds where it was Ok
+pub ok-through : {A E : Type 0} (P : Type 0) (result : Result A E) (value : A) → result ≡ Ok value → OnOk result P → P
+ok-through P (Ok x) value was p = p
+ok-through P (Err e) value was p = absurd (cc)
+
+told_fault : (found : Option OverLimit) (fault : DrawFault) → limit_of_fault fault ≡ found → IfSome (limit_of_view (from_draw fault)) (λ (over : OverLimit). found ≡ Some over)
+unfolding planes_count openings_count
+told_fault found (Planes count) e = sym e
+told_fault found (Openings count) e = sym e
+told_fault found (ZoneFull wanted widest) e = tt
+told_fault found ReadFault e = tt
+
+-- a limit that is told is the first that is passed
+pub told-over : {A : Type 0} (found : Option OverLimit) (fault : DrawFault) (result : Result A ViewFault) → IsErrAnd result (λ f. f ≡ from_draw fault) → limit_of_fault fault ≡ found →
+    IfErr result (λ f. IfSome (limit_of_view f) (λ (over : OverLimit). found ≡ Some over))
+told-over found fault (Ok value) is e = tt
+told-over found fault (Err f) is e = subst (λ (g : ViewFault). IfSome (limit_of_view g) (λ (over : OverLimit). found ≡ Some over)) (sym is) (told_fault found fault e)
+
+-- the dots of the next fragment, where there is room, and past the most that a view keeps
+next_room : (v : ViewValue) (scene : Scene) (events : List Event) (seg first last : ℕ) → length (walls_of v scene events) < MAX_DRAWSEGS →
+    wall_dots v scene.art (with_wall (walls_of v scene events) (next_wall v scene events seg first last)) (length (walls_of v scene events)) (next_wall v scene events seg first last) ≡ next_dots v scene events seg first last
+unfolding next_dots
+next_room v scene events seg first last l =
+    let t : true ≡ nat_lt (length (walls_of v scene events)) MAX_DRAWSEGS = grind (arith, nat_tests) in
+    ap (λ (b : Bool). cond b (wall_dots v scene.art (with_wall (walls_of v scene events) (next_wall v scene events seg first last)) (length (walls_of v scene events)) (next_wall v scene events seg first last)) []) t
+
+next_full : (v : ViewValue) (scene : Scene) (events : List Event) (seg first last : ℕ) → MAX_DRAWSEGS ≤ length (walls_of v scene events) → [] ≡ next_dots v scene events seg first last
+unfolding next_dots
+next_full v scene events seg first last l =
+    let t : false ≡ nat_lt (length (walls_of v scene events)) MAX_DRAWSEGS = grind (arith, nat_tests) in
+    ap (λ (b : Bool). cond b (wall_dots v scene.art (with_wall (walls_of v scene events) (next_wall v scene events seg first last)) (length (walls_of v scene events)) (next_wall v scene events seg first last)) []) t
+
+art_is : (bytes : ℕ → List ℕ) (scene : SceneValue) → view_art bytes (textures_view scene) scene.base.colormap ≡ (scene_of bytes scene).art
+unfolding scene_of
+art_is bytes scene = refl
+
+-- what the call of the walls gives, with these textures and this colormap
+pub record PaintsFragment (mark : Painter → ℕ → ℕ) (s : ViewScene) (textures : TexturesView) (colormap : ℕ) (facts : WallFacts) (first last : ℕ) (old : Bench) (before after : ViewState)
+    (lower : Result (Unit {0}) DrawFault) : Type 0 where
+  pub painted : (ws : List Wall) (now : PlanesNow) (contents : List (List ℕ)) (count : ℕ) → IsBuilt s.view ws now old.walls old.planes.planes → length ws < MAX_DRAWSEGS →
+      HoldsArt before.shelf s.dir textures contents colormap count before.cache →
+      OnOk lower (HasDots mark (wall_dots s.view (view_art (lump_bytes contents s.dir.lumps) textures colormap) (with_wall ws (wall_of s.view facts first last)) (length ws) (wall_of s.view facts first last)) before.canvas after.canvas)
+  pub fits : (ws : List Wall) (now : PlanesNow) (contents : List (List ℕ)) (count : ℕ) → IsBuilt s.view ws now old.walls old.planes.planes → length ws < MAX_DRAWSEGS →
+      HoldsArt before.shelf s.dir textures contents colormap count before.cache →
+      OnOk lower (FitBeside s.dir.lumps textures colormap count before.cache.size
+      (wall_dots s.view (view_art (lump_bytes contents s.dir.lumps) textures colormap) (with_wall ws (wall_of s.view facts first last)) (length ws) (wall_of s.view facts first last)))
+  pub paints : DrawsWith draw_fault (IsWallTexture facts) IsNoPicture before.shelf after.shelf s.dir textures before.cache after.cache lower
+  pub place : PlacedAlike before.canvas after.canvas
+  pub past : length old.walls.notes ≡ MAX_DRAWSEGS → (lower ≡ Ok tt) × (after.canvas ≡ before.canvas)
+
+on_ok_at : {P : Type 0} (lower : Result (Unit {0}) DrawFault) → lower ≡ Ok tt → P → OnOk lower P
+on_ok_at {P} lower was p = let Q : Result (Unit {0}) DrawFault → Type 0 = λ r. OnOk r P in subst Q (sym was) p
+
+-- a property of the dots that the call of the walls gives is one of the next dots
+dots_next : (P : List Dot → Type 0) (s : ViewScene) (bytes : ℕ → List ℕ) (most : Limits) (events : List Event) (seg first last : ℕ) (facts : WallFacts) (old : Bench) (lower : Result (Unit {0}) DrawFault) →
+    HasWalked s.view bytes s.scene most events old →
+    ((bytes : ℕ → List ℕ) → facts ≡ facts_of (scene_of bytes s.scene) (surface_at (lists_of s.scene) old.sector) seg (seg_at (lists_of s.scene) seg)) →
+    ((ws : List Wall) (now : PlanesNow) → IsBuilt s.view ws now old.walls old.planes.planes → length ws < MAX_DRAWSEGS →
+    OnOk lower (P (wall_dots s.view (view_art bytes (textures_view s.scene) s.scene.base.colormap) (with_wall ws (wall_of s.view facts first last)) (length ws) (wall_of s.view facts first last)))) →
+    (length old.walls.notes ≡ MAX_DRAWSEGS → (lower ≡ Ok tt) × P []) →
+    OnOk lower (P (next_dots s.view (scene_of bytes s.scene) events seg first last))
+dots_next P s bytes most events seg first last facts old lower h are drawn past =
+    let S = scene_of bytes s.scene in
+    let ws = walls_of s.view S events in
+    let Q : List Dot → Type 0 = λ dots. OnOk lower (P dots) in
+    elim (cases_lt (length ws) MAX_DRAWSEGS) [
+      | inl room ↦
+          subst Q
+          (ap (λ (w : Wall). wall_dots s.view (view_art bytes (textures_view s.scene) s.scene.base.colormap) (with_wall ws w) (length ws) w) (next_wall-facts s.view bytes s.scene events seg first last old.sector facts h.sector (are bytes))
+          ∙ ap (λ (art : _). wall_dots s.view art (with_wall ws (next_wall s.view S events seg first last)) (length ws) (next_wall s.view S events seg first last)) (art_is bytes s.scene)
+          ∙ next_room s.view S events seg first last room)
+          (drawn ws (planes_after s.view S events) h.built room)
+      | inr full ↦
+          let both = past (notes_full s.view S events (planes_after s.view S events) old.walls old.planes.planes h.built full) in
+          subst Q (next_full s.view S events seg first last full) (on_ok_at lower both.0 both.1)
+    ]
+
+-- what a fragment paints of a view
+pub paints-fragment : {mark : Painter → ℕ → ℕ} (s : ViewScene) (textures : TexturesView) (colormap : ℕ) (most : Limits) (events : List Event) (seg first last : ℕ) (facts : WallFacts) (old : Bench) (before after : ViewState)
+    (lower : Result (Unit {0}) DrawFault) (result : Result (Unit {0}) ViewFault) → PaintsFragment mark s textures colormap facts first last old before after lower → textures ≡ textures_view s.scene → colormap ≡ s.scene.base.colormap →
+    IsMapped from_draw lower result → AreFactsReady s.scene facts → ((bytes : ℕ → List ℕ) → HasWalked s.view bytes s.scene most events old) →
+    ((bytes : ℕ → List ℕ) → facts ≡ facts_of (scene_of bytes s.scene) (surface_at (lists_of s.scene) old.sector) seg (seg_at (lists_of s.scene) seg)) →
+    PaintsView mark s (λ scene. next_dots s.view scene events seg first last) before after result
+paints-fragment {mark} s textures colormap most events seg first last facts old before after lower result given_paints same_textures same_colormap mapped ready walked are =
+    let P : TexturesView → Type 0 = λ t. PaintsFragment mark s t colormap facts first last old before after lower in
+    let Q : ℕ → Type 0 = λ n. PaintsFragment mark s (textures_view s.scene) n facts first last old before after lower in
+    let p : PaintsFragment mark s (textures_view s.scene) s.scene.base.colormap facts first last old before after lower = subst Q same_colormap (subst P same_textures given_paints) in
+    record {
+      painted = λ contents count hold.
+          on_ok-mapped (HasDots mark (next_dots s.view (held_scene contents s) events seg first last) before.canvas after.canvas) from_draw lower result mapped
+          (dots_next (λ (dots : List Dot). HasDots mark dots before.canvas after.canvas) s (lump_bytes contents s.dir.lumps) most events seg first last facts old lower (walked (lump_bytes contents s.dir.lumps)) are
+          (λ ws now built room. p.painted ws now contents count built room hold)
+          (λ n. ((p.past n).0, subst (λ (canvas : CanvasView). HasDots mark [] before.canvas canvas) (sym (p.past n).1) (has_dots-none mark before.canvas))));
+      fits = λ contents count hold.
+          on_ok-mapped (FitBeside s.dir.lumps (textures_view s.scene) s.scene.base.colormap count before.cache.size (next_dots s.view (held_scene contents s) events seg first last)) from_draw lower result mapped
+          (dots_next (FitBeside s.dir.lumps (textures_view s.scene) s.scene.base.colormap count before.cache.size) s (lump_bytes contents s.dir.lumps) most events seg first last facts old lower (walked (lump_bytes contents s.dir.lumps)) are
+          (λ ws now built room. p.fits ws now contents count built room hold)
+          (λ n. ((p.past n).0, tt)));
+      draws = draws-mapped (λ (o : OverLimit). o) from_draw same_fault lower result mapped
+          (draws-wider (λ number is. (ready_number s.scene facts number ready is).0) (λ lump no. absurd no) p.paints);
+      place = p.place;
+    }

@@ -1,0 +1,13 @@
+use Rattle.std.proofs.Common.{◌≤◌, length, arith, subst, sym}
+use Rattle.level_rules.specs.declared.Surface.{Surface}
+use Rattle.level_rules.specs.declared.TheConstants.{SKY_FLAT}
+use Rattle.frame_core.proofs.NumberLemmas.{numbers_at}
+use Rattle.frame_core.proofs.bench.planes_of.Goals as goal
+
+pub floor_key-requires : goal.floor_key-requires
+floor_key-requires c =
+    subst (λ (s : Surface). s.floor_flat ≤ SKY_FLAT) (sym c.surface_at-surface.ensures) (numbers_at c.args.scene.now.scene c.args.sector c.requires.scene c.requires.sector).floor
+
+pub ceiling_key-requires : goal.ceiling_key-requires
+ceiling_key-requires c =
+    subst (λ (s : Surface). s.ceiling_flat ≤ SKY_FLAT) (sym c.surface_at-surface.ensures) (numbers_at c.args.scene.now.scene c.args.sector c.requires.scene c.requires.sector).ceiling
