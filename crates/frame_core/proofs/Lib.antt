@@ -15,3 +15,6 @@ pub mod WalkedLemmas
 pub mod NumberLemmas
 pub mod SectorLemmas
 pub mod FragmentLemmas
+pub mod CanLemmas
+pub mod CountLemmas
+pub mod ViewLemmas

@@ -1,10 +1,11 @@
 // The planes of a view, drawn when its walls are there.
 //
 // Rules: `picture_rules`, Planes. The original: `R_DrawPlanes`, r_plane.c.
-ghost use Rattle.std.specs.Prelude.{◌≡◌};
+ghost use Rattle.std.specs.Prelude.{◌≡◌, None, IfErr};
 ghost use Rattle.walk_rules.specs.Walk.{view_events};
 ghost use Rattle.picture_rules.specs.Counts.{view_steps};
 ghost use Rattle.picture_rules.specs.Planes.{planes_dots, view_planes};
+ghost use Rattle.frame_core.specs.Faults.{limit_of_view};
 ghost use Rattle.frame_core.specs.Scenes.{lists_of};
 ghost use Rattle.frame_core.specs.Views.{CanDrawView, PaintsView, view_scene, view_state};
 ghost use Rattle.frame_core.specs.Painters.{HasWalkedView, IsPlacedIn};
@@ -30,6 +31,7 @@ pub(crate) fn draw_floors<S: Shelf, C: Canvas>(
     ensures same_cache { tools.new.cache.ghost_name ≡ tools.old.cache.ghost_name }
     ensures same_shelf { tools.new.shelf.ghost_name ≡ tools.old.shelf.ghost_name }
     ensures same_canvas { tools.new.canvas.ghost_name ≡ tools.old.canvas.ghost_name }
+    ensures faults { IfErr result (λ fault. limit_of_view fault ≡ None) }
     ensures paints { let v = tools.old.view.now in PaintsView C.mark
         (view_scene v tools.old.scene.now.scene tools.old.dir.now)
         (λ scene. planes_dots v scene (view_planes

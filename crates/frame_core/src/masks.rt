@@ -1,13 +1,14 @@
 // The masked pass of a view, drawn at last.
 //
 // Rules: `picture_rules`, Masked and Paints. The original: `R_DrawMasked`, r_things.c.
-ghost use Rattle.std.specs.Prelude.{◌≡◌, ◌≤◌, length};
+ghost use Rattle.std.specs.Prelude.{◌≡◌, ◌≤◌, None, IfErr, length};
 ghost use Rattle.walk_rules.specs.Walk.{view_events};
 ghost use Rattle.sprite_rules.specs.Middles.{masked_dots};
 ghost use Rattle.sprite_rules.specs.Order.{draw_order};
 ghost use Rattle.picture_rules.specs.Masked.{view_drawsegs};
 ghost use Rattle.picture_rules.specs.Things.{view_entries};
 ghost use Rattle.picture_rules.specs.Walls.{walls_of};
+ghost use Rattle.frame_core.specs.Faults.{limit_of_view};
 ghost use Rattle.frame_core.specs.Scenes.{lists_of};
 ghost use Rattle.frame_core.specs.Views.{CanDrawView, PaintsView, view_scene, view_state};
 ghost use Rattle.frame_core.specs.Painters.{HasWalkedView, IsPlacedIn};
@@ -37,6 +38,7 @@ pub(crate) fn draw_masks<S: Shelf, C: Canvas>(
     ensures same_shelf { tools.new.shelf.ghost_name ≡ tools.old.shelf.ghost_name }
     ensures same_canvas { tools.new.canvas.ghost_name ≡ tools.old.canvas.ghost_name }
     ensures marks { length marks.new ≡ length marks.old }
+    ensures faults { IfErr result (λ fault. limit_of_view fault ≡ None) }
     ensures paints { let v = tools.old.view.now in PaintsView C.mark
         (view_scene v tools.old.scene.now.scene tools.old.dir.now)
         (λ scene. let events = view_events v (lists_of tools.old.scene.now.scene) in

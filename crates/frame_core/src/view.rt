@@ -4,9 +4,10 @@
 ghost use Rattle.std.specs.Prelude.{◌≡◌, ◌≤◌, ℕ, List, None, Some, IfErr, IfOk, IfSome, OnOk, length};
 ghost use Rattle.lump_rules.specs.Contents.{lump_bytes};
 ghost use Rattle.view_rules.specs.View.{view_of};
+ghost use Rattle.view_rules.specs.Sound.{IsWithinFrame};
 ghost use Rattle.picture_rules.specs.Counts.{view_counts, view_over};
 ghost use Rattle.picture_rules.specs.Paints.{view_paints};
-ghost use Rattle.picture_rules.specs.Picture.{picture};
+ghost use Rattle.picture_rules.specs.Picture.{AreInView, picture};
 ghost use Rattle.pixel_strips.specs.Canvases.{placed_at};
 ghost use Rattle.texture_build.specs.Draws.{DrawsWith, FitBeside, HoldsArt};
 ghost use Rattle.level_audit.specs.Sound.{textures_view};
@@ -82,15 +83,16 @@ pub fn draw_view<S: Shelf>(
 {
     shop.frame.clear();
     let view = View::new(tables, eye);
-    let mut tools = ViewTools {
+    draw_with(
         scene,
-        view: &view,
-        dir,
+        &view,
         cache,
+        dir,
         shelf,
-        canvas: &mut shop.frame,
-    };
-    draw_parts(&mut tools, &mut shop.bench, &mut shop.marks)
+        &mut shop.frame,
+        &mut shop.bench,
+        &mut shop.marks,
+    )
 }
 
 /// Draws the view of `eye` on a canvas, which is placed where the view lies in the frame: after Ok
@@ -126,15 +128,16 @@ pub fn draw_view_on<S: Shelf, C: Canvas>(
     ensures frame { shop.new.frame ≡ shop.old.frame }
 {
     let view = View::new(tables, eye);
-    let mut tools = ViewTools {
+    draw_with(
         scene,
-        view: &view,
-        dir,
+        &view,
         cache,
+        dir,
         shelf,
         canvas,
-    };
-    draw_parts(&mut tools, &mut shop.bench, &mut shop.marks)
+        &mut shop.bench,
+        &mut shop.marks,
+    )
 }
 
 /// What the view of `eye` counts: its planes, its openings, its drawn fragments (at most 256) and
@@ -173,6 +176,46 @@ pub fn count_view(
     })
 }
 
+// Draws a view with what is lent for it, in a bench.
+fn draw_with<'a, S: Shelf, C: Canvas>(
+    scene: &'a SoundScene,
+    view: &'a View<'_>,
+    cache: &'a mut LumpCache,
+    dir: &'a Directory,
+    shelf: &'a mut S,
+    canvas: &'a mut C,
+    bench: &mut Bench,
+    marks: &mut [bool],
+) -> Result<(), ViewFault>
+    requires drawable { CanDrawView dir.now.lumps scene.now.scene cache.old }
+    requires marks { bench.old.walls.room ≤ length marks.old }
+    ensures marks { length marks.new ≡ length marks.old }
+    ensures within { (bytes : ℕ → List ℕ) → OnOk result
+        (view_over view.now (scene_of bytes scene.now.scene) (limits_in bench.old) ≡ None) }
+    ensures over { (bytes : ℕ → List ℕ) → IfErr result (λ fault.
+        IfSome (limit_of_view fault) (λ over. view_over view.now
+        (scene_of bytes scene.now.scene) (limits_in bench.old) ≡ Some over)) }
+    ensures paints { let v = view.now in
+        PaintsView C.mark (view_scene v scene.now.scene dir.now) (view_paints v)
+        (view_state (S.view shelf.old) cache.old
+        (placed_at v.shape.left v.shape.top (C.view canvas.old)))
+        (view_state (S.view shelf.new) cache.new (C.view canvas.new)) result }
+    ensures in_view { (bytes : ℕ → List ℕ) → OnOk result
+        (AreInView view.now.shape (view_paints view.now (scene_of bytes scene.now.scene))) }
+    ensures frame { IsWithinFrame view.now.shape }
+    ensures limits { limits_in bench.new ≡ limits_in bench.old }
+{
+    let mut tools = ViewTools {
+        scene,
+        view,
+        dir,
+        cache,
+        shelf,
+        canvas,
+    };
+    draw_parts(&mut tools, bench, marks)
+}
+
 // The three parts of a view: walls as they are walked, planes, the masked pass.
 fn draw_parts<S: Shelf, C: Canvas>(
     tools: &mut ViewTools<'_, S, C>,
@@ -199,6 +242,9 @@ fn draw_parts<S: Shelf, C: Canvas>(
         (placed_at v.shape.left v.shape.top (C.view tools.old.canvas.now)))
         (view_state (S.view tools.new.shelf.now) tools.new.cache.now
         (C.view tools.new.canvas.now)) result }
+    ensures in_view { (bytes : ℕ → List ℕ) → OnOk result (AreInView tools.old.view.now.shape
+        (view_paints tools.old.view.now (scene_of bytes tools.old.scene.now.scene))) }
+    ensures frame { IsWithinFrame tools.old.view.now.shape }
     ensures limits { limits_in bench.new ≡ limits_in bench.old }
 {
     let shape = tools.view.shape();

@@ -1,0 +1,76 @@
+-- Laws of counts: what a bench that the whole walk of a view is in counts is what the view counts.
+use Rattle.std.proofs.Common.{◌≡◌, ℕ, suc, ◌+◌, List, [], ◌∷◌, map, length, refl, ap, sym, ◌∙◌, arith}
+use Rattle.std.specs.Prelude.{None, sum}
+use Rattle.std.proofs.lemmas.List.{length-append}
+use Rattle.std.proofs.lemmas.List.Sums.{sum-map, sum_by-cons}
+use Rattle.view_rules.specs.View.{ViewValue}
+use Rattle.walk_rules.specs.Walk.{view_events}
+use Rattle.wall_rules.specs.Walls.{Wall}
+use Rattle.wall_rules.specs.Openings.{openings_of}
+use Rattle.wall_rules.specs.Notes.{notes_from, openings_list, saved_by, saved_from, view_notes}
+use Rattle.wall_rules.proofs.NoteLemmas.{length-saved_openings}
+use Rattle.plane_rules.specs.Built.{planes_of}
+use Rattle.plane_rules.specs.Planes.{Plane}
+use Rattle.scene_rules.specs.Scenes.{SceneValue}
+use Rattle.picture_rules.specs.declared.Counts.{Counts}
+use Rattle.picture_rules.specs.Planes.{steps_of, view_planes}
+use Rattle.picture_rules.specs.Things.{view_entries}
+use Rattle.picture_rules.specs.Walls.{walls_of}
+use Rattle.picture_rules.specs.Counts.{counts_by, view_counts, view_over, view_steps}
+use Rattle.frame_core.specs.declared.bench.Bench.{Bench}
+use Rattle.frame_core.specs.Scenes.{lists_of, scene_of}
+use Rattle.frame_core.specs.Walked.{HasWalked, planes_after}
+use Rattle.frame_core.specs.Painters.{HasWalkedView, limits_in}
+
+-- the fragments save as many openings as are counted of them
+saved_sum : (v : ViewValue) (walls : List Wall) (k : ℕ) (ws : List Wall) → length (saved_from v walls k ws) ≡ sum (map openings_of ws)
+unfolding saved_from
+saved_sum v walls k [] = refl
+saved_sum v walls k (w ∷ ws) =
+    length-append (saved_by v walls k w) (saved_from v walls (k + 1) ws)
+    ∙ ap (λ (n : ℕ). n + length (saved_from v walls (k + 1) ws)) (length-saved_openings v walls k w)
+    ∙ ap (λ (n : ℕ). openings_of w + n) (saved_sum v walls (k + 1) ws)
+    ∙ sym (sum_by-cons (λ (n : ℕ). n) (openings_of w) (map openings_of ws))
+
+-- the openings of a view are as many as its fragments count
+pub length-openings_list : (v : ViewValue) (walls : List Wall) → length (openings_list v walls) ≡ sum (map openings_of walls)
+unfolding openings_list
+length-openings_list v walls = saved_sum v walls 0 walls
+
+noted : (v : ViewValue) (place : ℕ) (ws : List Wall) → length (notes_from v place ws) ≡ length ws
+unfolding notes_from
+noted v place [] = refl
+noted v place (w ∷ ws) = ap suc (noted v _ ws)
+
+-- each fragment has a note
+pub length-view_notes : (v : ViewValue) (walls : List Wall) → length (view_notes v walls) ≡ length walls
+unfolding view_notes
+length-view_notes v walls = noted v 0 walls
+
+-- the counts of a view, one part each
+counts_parts : (v : ViewValue) (bytes : ℕ → List ℕ) (s : SceneValue) (counts : Counts) →
+    counts.planes ≡ length (planes_after v (scene_of bytes s) (view_events v (lists_of s))).planes →
+    counts.openings ≡ sum (map openings_of (walls_of v (scene_of bytes s) (view_events v (lists_of s)))) →
+    counts.fragments ≡ length (walls_of v (scene_of bytes s) (view_events v (lists_of s))) →
+    counts.sprites ≡ length (view_entries v (scene_of bytes s) (view_events v (lists_of s))) →
+    counts ≡ view_counts v (scene_of bytes s)
+unfolding view_counts counts_by scene_of planes_after view_planes view_steps planes_of
+counts_parts v bytes s counts planes openings fragments sprites = cc
+
+-- a bench that the walk of a view is in counts what the view counts
+pub counts-walked : (v : ViewValue) (bytes : ℕ → List ℕ) (s : SceneValue) (b : Bench) (counts : Counts) → HasWalkedView v s b →
+    counts.planes ≡ length b.planes.planes → counts.openings ≡ length b.walls.openings → counts.fragments ≡ length b.walls.notes → counts.sprites ≡ length b.sprites →
+    counts ≡ view_counts v (scene_of bytes s)
+counts-walked v bytes s b counts walked planes openings fragments sprites =
+    let has = walked bytes in
+    let walls = walls_of v (scene_of bytes s) (view_events v (lists_of s)) in
+    counts_parts v bytes s counts
+    (planes ∙ ap (λ (ps : List Plane). length ps) has.built.planes)
+    (openings ∙ ap length has.built.openings ∙ length-openings_list v walls)
+    (fragments ∙ ap length has.built.notes ∙ length-view_notes v walls)
+    (sprites ∙ ap length has.sprites)
+
+-- no count of a view that was walked passes its limit
+pub within-walked : (v : ViewValue) (bytes : ℕ → List ℕ) (s : SceneValue) (b : Bench) → HasWalkedView v s b → view_over v (scene_of bytes s) (limits_in b) ≡ None
+unfolding view_over scene_of
+within-walked v bytes s b walked = (walked bytes).within

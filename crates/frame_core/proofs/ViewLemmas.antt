@@ -1,0 +1,146 @@
+-- Laws of a whole view: its three parts in order, where its dots lie, what ends it, and the frame that it leaves.
+use Rattle.std.proofs.Common.{◌≡◌, ℕ, zero, suc, ◌+◌, ◌<◌, ◌≤◌, List, [], ◌++◌, Option, Some, None, Result, Ok, Err, IsErrAnd, OnOk, length, get_or, replicate, refl, ap, sym, ◌∙◌, subst, arith}
+use Rattle.std.specs.Prelude.{All, IfErr, IfSome, true}
+use Rattle.std.specs.List.{AllPass}
+use Rattle.std.proofs.lemmas.List.{length-replicate}
+use Rattle.view_rules.specs.View.{ViewValue}
+use Rattle.view_rules.specs.Sound.{IsWithinFrame}
+use Rattle.view_rules.specs.declared.ViewShape.{ViewShape}
+use Rattle.view_rules.specs.declared.TheConstants.{FRAME_WIDTH, FRAME_HEIGHT}
+use Rattle.walk_rules.specs.Walk.{view_events}
+use Rattle.pixel_rules.specs.declared.Painter.{Painter}
+use Rattle.pixel_rules.specs.declared.TheConstants.{FRAME_CELLS}
+use Rattle.pixel_rules.specs.Dots.{Dot}
+use Rattle.pixel_strips.specs.Canvases.{CanvasView, marked_by_colour, placed_at}
+use Rattle.pixel_strips.specs.Dotted.{HasDots, PlacedAlike}
+use Rattle.plane_rules.specs.Built.{planes_of}
+use Rattle.plane_rules.specs.Planes.{Plane}
+use Rattle.plane_rules.specs.Spans.{holds}
+use Rattle.wad_dir.specs.DirectoryView.{DirectoryView}
+use Rattle.sprite_rules.specs.declared.SpriteEntry.{SpriteEntry}
+use Rattle.sprite_rules.specs.Middles.{masked_dots}
+use Rattle.sprite_rules.specs.Order.{draw_order}
+use Rattle.vissprites.specs.Bounds.{lies_within}
+use Rattle.vissprites.proofs.BoundLemmas.{draw_order-all}
+use Rattle.scene_rules.specs.Scenes.{SceneValue}
+use Rattle.picture_rules.specs.declared.Limits.{Limits}
+use Rattle.picture_rules.specs.declared.OverLimit.{OverLimit}
+use Rattle.picture_rules.specs.Counts.{view_over, view_steps}
+use Rattle.picture_rules.specs.Masked.{view_drawsegs}
+use Rattle.picture_rules.specs.Paints.{paints_by, paints_of, view_paints}
+use Rattle.picture_rules.specs.Picture.{AreInView, FitsFrame, picture}
+use Rattle.picture_rules.specs.Planes.{planes_dots, view_planes}
+use Rattle.picture_rules.specs.Scene.{Scene}
+use Rattle.picture_rules.specs.Things.{view_entries}
+use Rattle.picture_rules.specs.Walls.{walls_dots, walls_of}
+use Rattle.picture_rules.proofs.FrameLemmas.{frame_of-put_dots, in_view-append}
+use Rattle.frame_core.specs.declared.bench.Bench.{Bench}
+use Rattle.frame_core.specs.declared.fault.ViewFault.{ViewFault}
+use Rattle.frame_core.specs.Faults.{limit_of_view}
+use Rattle.frame_core.specs.Scenes.{lists_of, scene_of}
+use Rattle.frame_core.specs.Views.{PaintsView, ViewState, view_scene}
+use Rattle.frame_core.specs.Walked.{HasWalked, IsPlaneIn, planes_after}
+use Rattle.frame_core.specs.Painters.{HasWalkedView, IsPlacedIn, drawn_walls, limits_in}
+use Rattle.frame_core.proofs.PaintLemmas.{paints-same, paints-then}
+use Rattle.frame_core.proofs.ViewDotLemmas.{LiesInView, drawsegs-in_view, masked-in_view, planes-in_view, walls-in_view}
+
+-- a bench that was started is one that no event has come to, within its own limits
+pub started : (v : ViewValue) (s : SceneValue) (old now : Bench) → limits_in now ≡ limits_in old → ((bytes : ℕ → List ℕ) → HasWalked v bytes s (limits_in old) [] now) →
+    (bytes : ℕ → List ℕ) → HasWalked v bytes s (limits_in now) [] now
+started v s old now same walked = λ bytes. subst (λ (limits : Limits). HasWalked v bytes s limits [] now) (sym same) (walked bytes)
+
+-- the place of a view of that shape
+pub placed-as : (v : ViewValue) (shape : ViewShape) (old now : CanvasView) → shape ≡ v.shape → now ≡ placed_at shape.left shape.top old → now ≡ placed_at v.shape.left v.shape.top old
+placed-as v shape old now same place = place ∙ ap (λ (sh : ViewShape). placed_at sh.left sh.top old) same
+
+-- a canvas on which the view was placed has it in the frame
+pub placed-frame : (v : ViewValue) (shape : ViewShape) (old now : CanvasView) → shape ≡ v.shape → IsWithinFrame shape → now ≡ placed_at shape.left shape.top old → IsPlacedIn v now
+placed-frame v shape old now same frame place =
+    let within : IsWithinFrame v.shape = subst IsWithinFrame same frame in
+    subst (IsPlacedIn v) (sym (placed-as v shape old now same place)) (record { columns = within.width; rows = within.height })
+
+-- and has it there as long as it stands where it stood
+pub placed-later : (v : ViewValue) (old now : CanvasView) → PlacedAlike old now → IsPlacedIn v old → IsPlacedIn v now
+placed-later v old now alike placed = record {
+  columns = subst (λ (n : ℕ). n + v.shape.width ≤ FRAME_WIDTH) (sym alike.left) placed.columns;
+  rows = subst (λ (n : ℕ). n + v.shape.height ≤ FRAME_HEIGHT) (sym alike.top) placed.rows;
+}
+
+-- the three parts of a view are its paints
+view_parts : (v : ViewValue) (bytes : ℕ → List ℕ) (s : SceneValue) →
+    drawn_walls v (view_events v (lists_of s)) (scene_of bytes s)
+    ++ (planes_dots v (scene_of bytes s) (view_planes (view_steps v (scene_of bytes s) (view_events v (lists_of s))))
+    ++ masked_dots v (scene_of bytes s).art (view_drawsegs v (scene_of bytes s) (walls_of v (scene_of bytes s) (view_events v (lists_of s)))) (draw_order (view_entries v (scene_of bytes s) (view_events v (lists_of s)))))
+    ≡ view_paints v (scene_of bytes s)
+unfolding view_paints paints_of paints_by view_steps scene_of
+view_parts v bytes s = refl
+
+-- walls, planes and the masked pass, one after the other, paint the view
+pub parts-paint : {mark : Painter → ℕ → ℕ} {v : ViewValue} {s : SceneValue} {dir : DirectoryView} {a b c d : ViewState} {A B D : Type 0} {one : A} {two : B} {result : Result D ViewFault} →
+    PaintsView mark (view_scene v s dir) (drawn_walls v (view_events v (lists_of s))) a b (Ok one) →
+    PaintsView mark (view_scene v s dir) (λ scene. planes_dots v scene (view_planes (view_steps v scene (view_events v (lists_of s))))) b c (Ok two) →
+    PaintsView mark (view_scene v s dir) (λ scene. masked_dots v scene.art (view_drawsegs v scene (walls_of v scene (view_events v (lists_of s)))) (draw_order (view_entries v scene (view_events v (lists_of s))))) c d result →
+    PaintsView mark (view_scene v s dir) (view_paints v) a d result
+parts-paint {v = v} {s} walls planes masks = paints-same (view_paints v) (λ contents. view_parts v _ s) (paints-then walls (paints-then planes masks))
+
+planes_in : (v : ViewValue) (bytes : ℕ → List ℕ) (s : SceneValue) (b : Bench) → HasWalkedView v s b → All (LiesInView v.shape) (view_planes (view_steps v (scene_of bytes s) (view_events v (lists_of s))))
+unfolding view_planes planes_of planes_after
+planes_in v bytes s b walked =
+    let has = walked bytes in
+    subst (λ (ps : List Plane). All (LiesInView v.shape) ps) has.built.planes
+    (λ i d l x y held. ((has.planes i d l).column x y held, (has.planes i d l).row x y held))
+
+-- the dots of a view that was walked lie in it
+pub in_view-walked : (v : ViewValue) (bytes : ℕ → List ℕ) (s : SceneValue) (b : Bench) → IsWithinFrame v.shape → HasWalkedView v s b → AreInView v.shape (view_paints v (scene_of bytes s))
+in_view-walked v bytes s b frame walked =
+    let has = walked bytes in
+    let scene = scene_of bytes s in
+    let events = view_events v (lists_of s) in
+    let low : v.shape.height ≤ FRAME_HEIGHT = omega (arith, frame.height) in
+    let entries = view_entries v scene events in
+    let passes : AllPass (lies_within v.shape.width) entries = subst (λ (es : List SpriteEntry). AllPass (lies_within v.shape.width) es) has.sprites has.columns in
+    let ds = view_drawsegs v scene (walls_of v scene events) in
+    let planes = view_planes (view_steps v scene events) in
+    subst (AreInView v.shape) (view_parts v bytes s)
+    (in_view-append v.shape (walls_dots v scene (walls_of v scene events)) (planes_dots v scene planes ++ masked_dots v scene.art ds (draw_order entries))
+    (walls-in_view v scene events low has.built.drawn)
+    (in_view-append v.shape (planes_dots v scene planes) (masked_dots v scene.art ds (draw_order entries))
+    (planes-in_view v scene planes (planes_in v bytes s b walked))
+    (masked-in_view v scene.art ds (draw_order entries) low (drawsegs-in_view v scene (walls_of v scene events) low has.built.drawn) (draw_order-all (lies_within v.shape.width) entries passes))))
+
+-- what holds anyway holds where the answer is Ok
+pub on_ok-always : {A E : Type 0} (P : Type 0) (result : Result A E) → P → OnOk result P
+on_ok-always P (Ok x) p = p
+on_ok-always P (Err e) p = tt
+
+-- what is told of a part's fault is told of the whole's
+pub if_err-stop : {A B : Type 0} (P : ViewFault → Type 0) (part : Result B ViewFault) (fault : ViewFault) (whole : Result A ViewFault) → part ≡ Err fault → IsErrAnd whole (λ e. e ≡ fault) → IfErr part P → IfErr whole P
+if_err-stop P part fault (Ok x) was is h = absurd is
+if_err-stop P part fault (Err e) was is h = subst P (sym is) (subst (λ r. IfErr r P) was h)
+
+-- a fault that tells no limit
+pub if_err-no_limit : {A : Type 0} (P : OverLimit → Type 0) (result : Result A ViewFault) → IfErr result (λ fault. limit_of_view fault ≡ None) → IfErr result (λ fault. IfSome (limit_of_view fault) P)
+if_err-no_limit P (Ok x) h = tt
+if_err-no_limit P (Err e) h = subst (λ (o : Option OverLimit). IfSome o P) (sym h) tt
+
+fits_frame : (shape : ViewShape) → IsWithinFrame shape → FitsFrame shape
+fits_frame shape frame = record { columns = frame.width; rows = frame.height }
+
+zeros : (n cell : ℕ) → get_or (replicate n 0) cell 0 ≡ 0
+zeros zero cell = refl
+zeros (suc n) zero = refl
+zeros (suc n) (suc cell) = zeros n cell
+
+zero_cell : (n : ℕ) (cells : List ℕ) (cell : ℕ) → cells ≡ replicate n 0 → get_or cells cell 0 ≡ 0
+zero_cell n cells cell same = ap (λ (cs : List ℕ). get_or cs cell 0) same ∙ zeros n cell
+
+as_long : (n : ℕ) (cells : List ℕ) → cells ≡ replicate n 0 → length cells ≡ n
+as_long n cells same = ap length same ∙ length-replicate n 0
+
+-- a cleared frame that was given the dots of a view is its picture
+pub pictured : {A : Type 0} (v : ViewValue) (scene : Scene) (old now : CanvasView) (result : Result A ViewFault) → IsWithinFrame v.shape → old.cells ≡ replicate FRAME_CELLS 0 → OnOk result (AreInView v.shape (view_paints v scene)) →
+    OnOk result (HasDots marked_by_colour (view_paints v scene) (placed_at v.shape.left v.shape.top old) now) → OnOk result (now.cells ≡ picture v scene)
+unfolding picture
+pictured v scene old now (Ok x) frame cleared inside dots =
+    dots.cells ∙ frame_of-put_dots v.shape (view_paints v scene) old.cells (fits_frame v.shape frame) inside (as_long FRAME_CELLS old.cells cleared) (λ cell. zero_cell FRAME_CELLS old.cells cell cleared)
+pictured v scene old now (Err e) frame cleared inside dots = tt
