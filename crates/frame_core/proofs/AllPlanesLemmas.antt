@@ -1,6 +1,6 @@
 -- Laws of a property of all planes after a leaf and after a fragment, and of the rows that a plane holds after one run more.
-use Rattle.std.proofs.Common.{◌≡◌, ℕ, zero, suc, ◌+◌, ◌-◌, ◌<◌, ◌≤◌, Bool, true, false, cond, ℤ, pos, negsuc, List, [], ◌∷◌, ◌++◌, Option, Some, None, length, get_or, refl, ap, sym, ◌∙◌, subst, inl, inr, arith}
-use Rattle.std.specs.Prelude.{All, IfSome, nat_le, ◌&&◌, ◌||◌, ◌⊎◌, ◌≤ℤ◌, ◌<ℤ◌, int_lt, slice_get, slice_set, slice_index_or}
+use Rattle.std.proofs.Common.{◌≡◌, ℕ, zero, suc, ◌+◌, ◌-◌, ◌<◌, ◌≤◌, Bool, true, false, cond, ℤ, pos, negsuc, List, [], ◌∷◌, Option, Some, None, length, get_or, refl, ap, sym, ◌∙◌, subst, inl, inr, arith}
+use Rattle.std.specs.Prelude.{All, IfSome, nat_le, ◌&&◌, ◌⊎◌, ◌≤ℤ◌, ◌<ℤ◌, int_lt, slice_get, slice_set, slice_index_or}
 use Rattle.std.proofs.lemmas.Bool.Decides.{nat_tests}
 use Rattle.std.proofs.lemmas.Int.{ints}
 use Rattle.std.proofs.lemmas.List.Elements.{All-push, All-set}
@@ -10,7 +10,7 @@ use Rattle.wall_rules.specs.Strips.{marked_rows}
 use Rattle.plane_rules.specs.declared.PlaneKey.{PlaneKey}
 use Rattle.plane_rules.specs.Planes.{Plane, add, check, check_plane, check_some, column, empty_plane, find, is_free, mark, mark_some, number_of, number_or_add, with_run}
 use Rattle.plane_rules.specs.Spans.{holds, holds_row}
-use Rattle.plane_rules.specs.Built.{PlaneEvent, PlaneWall, PlanesNow, after_event, ceiling_checked, ceiling_found, checked_plane, column_marked, columns_marked, floor_checked, floor_found, set_run, wall_marked, with_ceiling, with_floor}
+use Rattle.plane_rules.specs.Built.{PlaneWall, PlanesNow, after_event, ceiling_checked, ceiling_found, checked_plane, column_marked, columns_marked, floor_checked, floor_found, set_run, wall_marked, with_ceiling, with_floor}
 use Rattle.plane_rules.specs.Built.PlaneEvent.{Draws, Finds}
 use Rattle.plane_rules.proofs.PlaneLemmas.{column-empty_plane}
 

@@ -1,11 +1,10 @@
 -- Laws of a fragment that is stored: its textures may be drawn, what it paints, and the limit that its fault tells.
-use Rattle.std.proofs.Common.{◌≡◌, ◌⊎◌, ℕ, zero, suc, ◌<◌, ◌≤◌, Bool, true, false, cond, List, [], ◌∷◌, ◌++◌, Option, Some, None, Result, Ok, Err, IfErr, IsErrAnd, OnOk, length, refl, ap, sym, ◌∙◌, subst, inl, inr, arith}
+use Rattle.std.proofs.Common.{◌≡◌, ℕ, zero, suc, ◌<◌, ◌≤◌, Bool, true, false, cond, List, [], ◌∷◌, Option, Some, None, Result, Ok, Err, IfErr, IsErrAnd, OnOk, length, refl, ap, sym, ◌∙◌, subst, inl, inr, arith}
 use Rattle.std.specs.Prelude.{◌≢◌, All, IfSome, nat_lt, slice_index_or, unwrap_or}
 use Rattle.std.proofs.lemmas.Bool.{cases_lt}
 use Rattle.std.proofs.lemmas.Bool.Decides.{nat_tests}
 use Rattle.std.proofs.lemmas.List.Elements.{All-head, All-nil, All-tail}
 use Rattle.outside.specs.Faults.{fault_above}
-use Rattle.outside.specs.Shelf.{ShelfView}
 use Rattle.lump_rules.specs.Contents.{lump_bytes}
 use Rattle.lump_rules.specs.declared.wad.Lump.{Lump}
 use Rattle.zone_rules.specs.Zones.{Heap}
@@ -15,9 +14,7 @@ use Rattle.level_rules.specs.Levels.{seg_at, surface_at}
 use Rattle.map_rules.specs.Sound.{IsSound}
 use Rattle.art_rules.specs.Wanted.{PreparedTexture}
 use Rattle.walk_rules.specs.declared.TheConstants.{MAX_DRAWSEGS}
-use Rattle.walk_rules.specs.Drawsegs.{last_leaf}
 use Rattle.walk_rules.specs.Events.{Event}
-use Rattle.wad_dir.specs.DirectoryView.{DirectoryView}
 use Rattle.pixel_rules.specs.declared.Painter.{Painter}
 use Rattle.pixel_rules.specs.Dots.{Dot}
 use Rattle.pixel_strips.specs.Canvases.{CanvasView}
@@ -31,7 +28,7 @@ use Rattle.scene_rules.specs.Scenes.{SceneValue}
 use Rattle.picture_rules.specs.declared.Limits.{Limits}
 use Rattle.picture_rules.specs.declared.OverLimit.{OverLimit}
 use Rattle.picture_rules.specs.Counts.{openings_count, planes_count}
-use Rattle.picture_rules.specs.Scene.{Scene, facts_of, leaf_sector}
+use Rattle.picture_rules.specs.Scene.{Scene, facts_of}
 use Rattle.picture_rules.specs.Walls.{walls_of}
 use Rattle.texture_build.specs.Arts.{view_art}
 use Rattle.texture_build.specs.Draws.{CanDraw, DrawsWith, FitBeside, HoldsArt}
@@ -47,7 +44,7 @@ use Rattle.frame_core.specs.declared.bench.Bench.{Bench}
 use Rattle.frame_core.specs.declared.fault.ViewFault.{ViewFault}
 use Rattle.frame_core.specs.Faults.{from_draw, limit_of_view, view_fault}
 use Rattle.frame_core.specs.Scenes.{lists_of, scene_of}
-use Rattle.frame_core.specs.Views.{CanDrawView, IsViewLump, IsViewTexture, PaintsView, ViewScene, ViewState, held_scene}
+use Rattle.frame_core.specs.Views.{CanDrawView, PaintsView, ViewScene, ViewState, held_scene}
 use Rattle.frame_core.specs.Walked.{HasWalked, next_dots, next_wall, planes_after}
 use Rattle.frame_core.proofs.SceneLemmas.{AreFactsReady, IsNoneOrReady, facts_ready}
 use Rattle.frame_core.proofs.WalkedLemmas.{next_wall-facts, notes_full}

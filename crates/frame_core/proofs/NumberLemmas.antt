@@ -1,5 +1,5 @@
 -- What is there of a scene that may be counted: the numbers of the flats of its sectors.
-use Rattle.std.proofs.Common.{◌≡◌, ℕ, ◌<◌, length, arith}
+use Rattle.std.proofs.Common.{ℕ, ◌<◌, length, arith}
 use Rattle.level_rules.specs.Levels.{no_surface, surface_at}
 use Rattle.scene_rules.specs.Scenes.{SceneValue}
 use Rattle.frame_core.specs.Scenes.{lists_of}

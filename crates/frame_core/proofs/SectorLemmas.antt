@@ -1,5 +1,5 @@
 -- Laws of the vissprites after a sector's things: where it was entered before, and where it was not.
-use Rattle.std.proofs.Common.{◌≡◌, ℕ, Bool, true, false, not, List, refl, sym, ◌∙◌}
+use Rattle.std.proofs.Common.{◌≡◌, ℕ, Bool, true, false, not, List, refl}
 use Rattle.view_rules.specs.View.{ViewValue}
 use Rattle.sprite_rules.specs.declared.SpriteEntry.{SpriteEntry}
 use Rattle.scene_rules.specs.Places.{things_of}

@@ -1,5 +1,5 @@
 -- Laws of the steps of a view's events to which one more is added, of the planes and openings after them, and of the first limit that they pass.
-use Rattle.std.proofs.Common.{◌≡◌, ℕ, ◌<◌, ◌≤◌, List, [], ◌∷◌, ◌++◌, Option, Some, None, length, map, refl, ap, sym, ◌∙◌, subst, inl, inr, arith}
+use Rattle.std.proofs.Common.{◌≡◌, ℕ, ◌<◌, ◌≤◌, List, [], ◌∷◌, ◌++◌, Option, Some, None, length, map, refl, ap, sym, ◌∙◌, inl, inr, arith}
 use Rattle.std.specs.Prelude.{find}
 use Rattle.std.specs.Option.{option_or}
 use Rattle.std.proofs.lemmas.Bool.{cases_lt}
@@ -7,18 +7,17 @@ use Rattle.std.proofs.lemmas.List.{append-nil, append_assoc, map-append, length-
 use Rattle.std.proofs.lemmas.List.Folds.{find-append}
 use Rattle.view_rules.specs.View.{ViewValue}
 use Rattle.walk_rules.specs.declared.TheConstants.{MAX_DRAWSEGS}
-use Rattle.walk_rules.specs.Drawsegs.{LeafFragment, drawsegs, last_leaf, leaf_fragments}
+use Rattle.walk_rules.specs.Drawsegs.{drawsegs, last_leaf, leaf_fragments}
 use Rattle.walk_rules.specs.Events.{Event}
 use Rattle.walk_rules.specs.Events.Event.{LeafEvent, FragmentEvent}
-use Rattle.walk_rules.proofs.DrawsegLemmas.{full-drawsegs, room-drawsegs}
-use Rattle.wall_rules.specs.Walls.{Wall, wall_of}
-use Rattle.plane_rules.specs.Built.{PlaneEvent, PlanesNow, after_event, after_events, no_planes, plane_counts}
+use Rattle.wall_rules.specs.Walls.{Wall}
+use Rattle.plane_rules.specs.Built.{after_event, after_events, no_planes, plane_counts}
 use Rattle.plane_rules.proofs.BuiltLemmas.{after_events-more}
 use Rattle.picture_rules.specs.declared.Limits.{Limits}
 use Rattle.picture_rules.specs.declared.OverLimit.{OverLimit}
-use Rattle.picture_rules.specs.Scene.{Scene, facts_of, fragment_facts, leaf_surface}
+use Rattle.picture_rules.specs.Scene.{Scene, fragment_facts, leaf_surface}
 use Rattle.picture_rules.specs.Walls.{fragment_wall, walls_of}
-use Rattle.picture_rules.specs.Planes.{Step, leaf_step, steps_from, steps_of, wall_step}
+use Rattle.picture_rules.specs.Planes.{Step, leaf_step, steps_from, steps_of}
 use Rattle.picture_rules.specs.Counts.{counts_from, openings_after, openings_counts, openings_past, passes_limit, planes_count, steps_over, view_steps}
 use Rattle.picture_rules.proofs.CountLemmas.{counts_from-more, openings_after-more}
 use Rattle.picture_rules.proofs.EventLemmas.{steps_of-full, steps_of-leaf, steps_of-room, walls_of-full, walls_of-leaf, walls_of-room}

@@ -1,4 +1,4 @@
-use Rattle.std.proofs.Common.{◌<◌, length, subst, arith}
+use Rattle.std.proofs.Common.{subst, arith}
 use Rattle.level_rules.specs.Levels.{no_seg}
 use Rattle.map_rules.specs.Levels.{LevelValue}
 use Rattle.map_rules.specs.Sound.{IsSound}

@@ -1,4 +1,4 @@
-use Rattle.std.proofs.Common.{◌≤◌, length, arith, subst, sym}
+use Rattle.std.proofs.Common.{◌≤◌, subst, sym}
 use Rattle.level_rules.specs.declared.Surface.{Surface}
 use Rattle.level_rules.specs.declared.TheConstants.{SKY_FLAT}
 use Rattle.frame_core.proofs.NumberLemmas.{numbers_at}

@@ -1,5 +1,4 @@
-use Rattle.std.proofs.Common.{◌≡◌, Bool, true, false, not, ap, sym, ◌∙◌}
-use Rattle.frame_core.specs.Scenes.{scene_of}
+use Rattle.std.proofs.Common.{◌∙◌}
 use Rattle.frame_core.proofs.SectorLemmas.{sector_again, sector_new}
 use Rattle.frame_core.proofs.bench.Bench.enter_sector.Goals as goal
 

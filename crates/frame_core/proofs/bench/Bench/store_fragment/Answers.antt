@@ -1,7 +1,6 @@
-use Rattle.std.proofs.Common.{◌≤◌, ap, sym, ◌∙◌, Result, subst, arith}
+use Rattle.std.proofs.Common.{◌≤◌, ap, sym, ◌∙◌, arith}
 use Rattle.view_rules.specs.declared.TheConstants.{FRAME_HEIGHT}
 use Rattle.level_rules.specs.Levels.{surface_at}
-use Rattle.wall_columns.specs.declared.fault.DrawFault.{DrawFault}
 use Rattle.wall_columns.specs.Faults.{limit_of_result}
 use Rattle.frame_core.specs.Scenes.{lists_of}
 use Rattle.frame_core.specs.Views.{view_scene, view_state}
