@@ -1,5 +1,6 @@
 pub mod AboveLemmas
 pub mod AcceptedLemmas
+pub mod ArtLemmas
 pub mod AuditedLemmas
 pub mod CheckLemmas
 pub mod FoundLemmas

@@ -7,12 +7,14 @@ ghost use Rattle.outside.specs.Faults.{ResultIs, HasCauses, from_below, itself};
 ghost use Rattle.outside.specs.declared.fault.Fault.TheVariants.{OutOfMemory};
 ghost use Rattle.lump_rules.specs.Contents.{AllWithin, lump_bytes};
 ghost use Rattle.lump_rules.specs.Lookups.{lump_at};
-ghost use Rattle.zone_rules.specs.Zones.{IsZoneSize};
+ghost use Rattle.zone_rules.specs.Zones.{IsZoneSize, bytes_of};
 ghost use Rattle.view_rules.specs.declared.TheConstants.{MIN_SIZE, MAX_SIZE};
-ghost use Rattle.lump_cache.specs.Caches.{IsAtRest, IsEmpty, IsFaithful, KeepsCounts};
+ghost use Rattle.lump_cache.specs.Caches.{IsAtRest, IsEmpty, IsFaithful, KeepsCounts, composite_owner};
 ghost use Rattle.lump_cache.specs.Calls.{IfFull, HoldContents, ReadsLumps};
 ghost use Rattle.command_line.specs.LevelJobs.{level_job_value};
+ghost use Rattle.level_audit.specs.Sound.{textures_view};
 ghost use Rattle.level_audit.specs.Whole.{IsWholeScene};
+ghost use Rattle.texture_build.specs.Draws.{HoldsArt};
 ghost use Rattle.refusals.specs.Groups.{of_audit};
 ghost use Rattle.scene_load.specs.Files.{files_named, value_of};
 ghost use Rattle.outside.specs.Stops.{ResultIsOrAbsent};
@@ -59,7 +61,8 @@ pub struct LoadedScene {
 /// order, and the zone is small (`full`). `OutOfMemory`. The shelf goes on to stand for what it stood
 /// for.
 ///
-/// After Ok over any shelf, the scene has all that drawing asks of it (`whole`).
+/// After Ok over any shelf, the scene has all that drawing asks of it (`whole`); over one that holds
+/// the WADs, the lumps and composites in the cache and the textures are what their bytes give (`art`).
 ///
 /// The original: `D_DoomMain`, d_main.c, with `R_Init`, r_main.c, and `P_SetupLevel`, p_setup.c.
 pub fn load_scene<S: Shelf>(
@@ -97,6 +100,15 @@ pub fn load_scene<S: Shelf>(
         loaded.files.things level.now.map level.now.settings.skill loaded.scene.scene) }
     ensures fits { IfOk result (λ loaded. IsBaseWithin loaded.files.dir.lumps
         (level_job_value level.now) loaded.scene.scene.base.colormap) }
+    ensures few { IfOk result (λ loaded. length loaded.files.dir.lumps < 2 ^ 16) }
+    ensures colormap { IfOk result (λ loaded.
+        loaded.scene.scene.base.colormap < length loaded.files.dir.lumps) }
+    ensures art { (files : List File) (contents : List (List ℕ)) →
+        Holds (S.view shelf.old) files →
+        files_named (map (λ wad. wad.now) wads.now) files ≡ Some contents →
+        IfOk result (λ loaded. HoldsArt (S.view shelf.new) loaded.files.dir
+        (textures_view loaded.scene.scene) contents loaded.scene.scene.base.colormap
+        (lump_at loaded.files.dir.lumps loaded.scene.scene.base.colormap).size loaded.cache) }
     ensures follows { IsLaterShelf (S.view shelf.old) (S.view shelf.new) }
     ensures causes { HasCauses itself (S.view shelf.old).faults (S.view shelf.new).faults result }
 {
@@ -162,6 +174,10 @@ fn audit_level<S: Shelf>(
         files.now.things level.now.map level.now.settings.skill audited.0.scene) }
     ensures fits { IfOk result (λ audited. IsBaseWithin files.now.dir.lumps
         (level_job_value level.now) audited.0.scene.base.colormap) }
+    ensures colormap { IfOk result (λ audited.
+        audited.0.scene.base.colormap < length files.now.dir.lumps) }
+    ensures fresh { IfOk result (λ audited. (number : ℕ) →
+        bytes_of (composite_owner number) cache.new.blocks ≡ None) }
     ensures counts { KeepsCounts cache.old cache.new }
     ensures faithful { (contents : List (List ℕ)) →
         NameFiles (S.view shelf.old) files.now.dir.files contents →
@@ -206,6 +222,10 @@ fn audit_files<S: Shelf>(
         files.now.things level.now.map level.now.settings.skill audited.0.scene) }
     ensures fits { IfOk result (λ audited. IsBaseWithin files.now.dir.lumps
         (level_job_value level.now) audited.0.scene.base.colormap) }
+    ensures colormap { IfOk result (λ audited.
+        audited.0.scene.base.colormap < length files.now.dir.lumps) }
+    ensures fresh { IfOk result (λ audited. (number : ℕ) →
+        bytes_of (composite_owner number) cache.new.blocks ≡ None) }
     ensures counts { KeepsCounts cache.old cache.new }
     ensures faithful { (contents : List (List ℕ)) →
         NameFiles (S.view shelf.old) files.now.dir.files contents →

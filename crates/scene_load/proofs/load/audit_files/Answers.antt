@@ -1,4 +1,4 @@
-use Rattle.std.proofs.Common.{◌≡◌, ap, sym, subst, ◌∙◌, Ok}
+use Rattle.std.proofs.Common.{◌≡◌, ◌<◌, ap, sym, subst, ◌∙◌, length, Ok}
 use Rattle.outside.proofs.ShelfLemmas.{all_stand_later, follows_then}
 use Rattle.lump_rules.specs.Contents.{lump_bytes}
 use Rattle.lump_rules.specs.Lookups.{lump_at}
@@ -12,6 +12,7 @@ use Rattle.level_audit.proofs.FetchLemmas.{told_after}
 use Rattle.level_audit.proofs.SceneLemmas.{colormap_there}
 use Rattle.scene_load.specs.Fulls.{IsBaseWithin, IsFullOver}
 use Rattle.scene_load.specs.Loads.{audited_value, loaded_lumps, loaded_sizes}
+use Rattle.scene_load.proofs.ArtLemmas.{no_composites_first, no_composites_then}
 use Rattle.scene_load.proofs.AuditedLemmas.{both_accepted, causes_after, layers_stopped, scene_kept, scene_stopped}
 use Rattle.scene_load.proofs.FullLemmas.{audit_full, layers_full, same_full}
 use Rattle.scene_load.proofs.MoreLemmas.{named_layers, sizes_layers}
@@ -107,3 +108,13 @@ returns-clause-whole g c =
     let lumps = c.args.files.now.dir.lumps in
     let same = ap (λ (s : SoundValue). s.scene) c.in_ok-weapons.ensures.scene ∙ scene_kept lumps c.in_ok-weapons.weapons c.in_ok-scene.scene in
     subst (IsWholeScene lumps c.args.files.now.things c.args.level.now.map c.args.level.now.settings.skill) (sym same) c.in_ok-scene.ensures.whole
+
+pub returns-clause-colormap : goal.returns-clause-colormap
+returns-clause-colormap g c =
+    let lumps = c.args.files.now.dir.lumps in
+    let same = ap (λ (s : SoundValue). s.scene) c.in_ok-weapons.ensures.scene ∙ scene_kept lumps c.in_ok-weapons.weapons c.in_ok-scene.scene in
+    subst (λ (s : SceneValue). s.base.colormap < length lumps) (sym same) (colormap_there lumps c.in_ok-scene.scene.scene.base.colormap c.in_ok-scene.ensures.colormap)
+
+pub returns-clause-fresh : goal.returns-clause-fresh
+returns-clause-fresh g c =
+    no_composites_then c.in_ok-weapons.ensures.tells.keeps (no_composites_first c.args.cache.now c.audit.new.cache c.requires.empty c.in_ok-scene.ensures.composites)

@@ -34,3 +34,9 @@ returns-clause-fits g c = ok_through _ _ c.audit_files.result c.map_err.result c
 
 pub returns-clause-whole : goal.returns-clause-whole
 returns-clause-whole g c = ok_through _ _ c.audit_files.result c.map_err.result c.map_err.ensures.cases c.audit_files.ensures.whole
+
+pub returns-clause-colormap : goal.returns-clause-colormap
+returns-clause-colormap g c = ok_through _ _ c.audit_files.result c.map_err.result c.map_err.ensures.cases c.audit_files.ensures.colormap
+
+pub returns-clause-fresh : goal.returns-clause-fresh
+returns-clause-fresh g c = ok_through _ _ c.audit_files.result c.map_err.result c.map_err.ensures.cases c.audit_files.ensures.fresh

@@ -1,9 +1,10 @@
-use Rattle.std.proofs.Common.{Bor, ℕ, List, map}
+use Rattle.std.proofs.Common.{Bor, ℕ, List, map, refl}
 use Rattle.outside.proofs.ShelfLemmas.{all_stand_later, follows_then}
 use Rattle.command_line.specs.LevelJobs.{level_job_value}
 use Rattle.scene_load.specs.Files.{value_of}
 use Rattle.scene_load.specs.Fulls.{IsFullLoad}
-use Rattle.scene_load.specs.Loads.{wad_contents}
+use Rattle.scene_load.specs.Loads.{audited_value, wad_contents}
+use Rattle.scene_load.proofs.ArtLemmas.{all_held}
 use Rattle.scene_load.proofs.FullLemmas.{files_full, load_full}
 use Rattle.scene_load.proofs.LoadLemmas.{all_loaded, audit_stopped, files_stopped, memory_agrees, memory_full, told_wads}
 use Rattle.scene_load.proofs.load.load_scene.Goals as goal
@@ -61,3 +62,15 @@ returns-clause-contents g c = λ files contents holds named.
 
 pub returns-clause-follows : goal.returns-clause-follows
 returns-clause-follows g c = follows_then c.in_ok-files.ensures.follows c.in_ok-scene.ensures.follows
+
+pub returns-clause-art : goal.returns-clause-art
+returns-clause-art g c = λ files contents holds named.
+    let dir = c.in_ok-files.files.dir in
+    let both = c.in_ok-files.ensures.contents files contents holds named in
+    let before = c.in_ok-cache.ensures.faithful contents in
+    let found = value_of c.in_ok-files.files in
+    let loaded = audited_value found (c.in_ok-scene.scene, c.in_ok-scene.weapons) in
+    let accepted = (c.in_ok-scene.ensures.answers contents (record { stand = both.0; within = both.1; faithful = before })).ok in
+    all_held contents (level_job_value c.args.level.now) found loaded _ refl accepted c.in_ok-scene.ensures.rest
+    (record { stand = all_stand_later _ _ dir.files contents c.in_ok-scene.ensures.follows both.0; within = both.1; faithful = c.in_ok-scene.ensures.faithful contents both.0 before })
+    c.in_ok-scene.ensures.fresh
