@@ -1,5 +1,12 @@
--- The lumps of colours by name.
-use Rattle.std.proofs.Common.{◌≡◌, ℕ, Option, Some, None, Result, Ok, Err, refl, MatchResult, option_map}
+-- The lumps of colours by name, and the first palette.
+use Rattle.std.proofs.Common.{◌≡◌, ◌<◌, ◌≤◌, ◌-◌, ◌++◌, ℕ, List, length, take, min, Option, Some, None, Result, Ok, Err, refl, ap, ◌∙◌, arith, MatchResult, option_map}
+use Rattle.std.proofs.lemmas.List.{append-nil, length-take, take_all}
+use Rattle.std.proofs.lemmas.List.Elements.{All-get_or}
+use lib.ListN.{replicate}
+use Rattle.lump_rules.specs.Contents.{AllWithin, LiesWithin, lump_bytes}
+use Rattle.lump_rules.specs.Lookups.{lump_at, no_lump}
+use Rattle.lump_rules.proofs.ContentLemmas.{lump_bytes-length}
+use Rattle.lump_rules.specs.declared.wad.Lump.{Lump}
 use Rattle.std.specs.Option.{ok_or}
 use Rattle.lump_rules.specs.Names.{name_of, filled}
 use Rattle.lump_rules.specs.declared.wad.LumpNo.{LumpNo}
@@ -20,3 +27,18 @@ pub long_told : (refusal : ArtRefusal) (found : Option LumpNo) (number : Option 
     MatchResult r (λ lump. ok_or number refusal ≡ Ok lump.0) (λ given. ok_or number refusal ≡ Err given)
 long_told refusal None number r e is = rw (is, ← e) refl
 long_told refusal (Some lump) number r e is = rw (is, ← e) refl
+
+-- where a list has the first so many, filling up adds nothing to them
+pub filled_first : (n count held left : ℕ) (bytes part filled : List ℕ) → count ≡ min n (length bytes) → part ≡ take count bytes → held ≡ length (take count bytes) → left ≡ n - held → filled ≡ take n part ++ replicate left 0 → n ≤ length bytes → filled ≡ take n bytes
+filled_first n count held left bytes part filled counted is holds rest fills long =
+    let whole : count ≡ n = omega (arith, counted, long) in
+    let first : part ≡ take n bytes = is ∙ ap (λ k. take k bytes) whole in
+    let len : length (take n bytes) ≡ n = length-take n bytes ∙ omega (arith, long) in
+    let none : left ≡ 0 = omega (arith, rest, holds, ap (λ k. length (take k bytes)) whole, len) in
+    fills ∙ ap (λ k. take n part ++ replicate k 0) none ∙ append-nil (take n part) ∙ take_all n part (omega (arith, ap length first, len)) ∙ first
+
+-- a live lump that is long enough by the directory has the first so many bytes, where contents are held
+pub live_long : (contents : List (List ℕ)) (lumps : List Lump) (number n : ℕ) (bytes : List ℕ) → number < length lumps → AllWithin contents lumps → bytes ≡ lump_bytes contents lumps number → n ≤ (lump_at lumps number).size → n ≤ length bytes
+live_long contents lumps number n bytes there within is long =
+    let len = ap length is ∙ lump_bytes-length contents lumps number (All-get_or (LiesWithin contents) lumps number no_lump there within) in
+    omega (arith, len, long)

@@ -10,6 +10,7 @@ ghost use Rattle.lump_cache.specs.Sizes.{StandsBeside};
 ghost use Rattle.art_rules.specs.declared.TheConstants.{MAX_TEXTURES};
 ghost use Rattle.level_scene.specs.Asked.{IsLumpOfMap};
 ghost use Rattle.texture_lists.specs.Asked.{IsListLump};
+ghost use Rattle.scene_rules.specs.declared.TheConstants.{PALETTE_SIZE};
 ghost use Rattle.scene_rules.specs.declared.refusal.AuditRefusal.TheVariants.{Map, Texture};
 ghost use Rattle.scene_rules.specs.Scenes.{base_in, base_over, colormap_of, label_of, level_in, lists_in};
 ghost use Rattle.scene_rules.specs.Sizes.{is_map_lump};
@@ -54,6 +55,8 @@ pub struct ReadBase {
 /// From a cache at rest whose live lumps have the directory's sizes, after Ok, the colormap's block
 /// and that of any other of these lumps are together no larger than the zone (`fits`).
 ///
+/// After Ok the palette has 768 bytes whatever the cache held (`palette`).
+///
 /// The original: `R_InitTextures`, r_data.c, `P_SetupLevel`, p_setup.c.
 pub fn read_base<S: Shelf>(
     alloc: Global,
@@ -74,6 +77,7 @@ pub fn read_base<S: Shelf>(
     ensures label { IfOk result (λ base. base.label.0 + length MAP_LUMPS < length dir.now.lumps) }
     ensures few { IfOk result (λ base. length base.textures.lists.textures ≤ MAX_TEXTURES) }
     ensures unprepared { IfOk result (λ base. base.textures.prepared ≡ []) }
+    ensures palette { IfOk result (λ base. length base.palette.items ≡ PALETTE_SIZE) }
 {
     let playpal = match find_playpal(dir) {
         Ok(playpal) => playpal,
@@ -116,6 +120,7 @@ fn read_map<S: Shelf>(
     ensures label { IfOk result (λ base. base.label.0 + length MAP_LUMPS < length dir.now.lumps) }
     ensures few { IfOk result (λ base. length base.textures.lists.textures ≤ MAX_TEXTURES) }
     ensures unprepared { IfOk result (λ base. base.textures.prepared ≡ []) }
+    ensures palette { IfOk result (λ base. base.palette ≡ colours.palette) }
 {
     let (label, level) = read_labelled(alloc, name, dir, cache, shelf)?;
     let textures = load_lists(alloc, dir, cache, shelf)?;

@@ -71,6 +71,8 @@ fn find_long(dir: &Directory, name: &Name8, size: u32) -> Option<LumpNo>
 /// From a cache at rest whose live lumps have the directory's sizes, after Ok, the colormap's block
 /// and that of this lump, if it is another one, are together no larger than the zone.
 ///
+/// After Ok the palette has 768 bytes whatever the cache held (`size`).
+///
 /// The original: `W_CacheLumpName` with PLAYPAL, as in `D_Display`, d_main.c.
 pub fn read_palette<S: Shelf>(
     alloc: Global,
@@ -81,10 +83,12 @@ pub fn read_palette<S: Shelf>(
 ) -> Result<Vec<u8>, AuditFault>
     requires slots { length dir.now.lumps ≤ cache.old.lumps }
     requires there { playpal.0 < length dir.now.lumps }
+    requires long { PALETTE_SIZE ≤ (lump_at dir.now.lumps playpal.0).size }
     ensures tells { ReadsLumps itself (S.view shelf.old) (S.view shelf.new) dir.now cache.old
         cache.new (λ lump. lump ≡ playpal.0) (λ palette. palette.items) (λ bytes.
         Ok (take PALETTE_SIZE (bytes playpal.0))) result }
     ensures fits { OnOk result (StandsBeside dir.now.lumps cache.old playpal.0) }
+    ensures size { IfOk result (λ palette. length palette.items ≡ PALETTE_SIZE) }
 {
     fetch_lump(cache, dir, shelf, playpal)?;
     Ok(first_palette(alloc, live_lump(cache, playpal))?)
@@ -110,11 +114,15 @@ fn fetch_lump<S: Shelf>(
     fetch_live(cache, dir, shelf, lump).map_err(CacheFault::above)
 }
 
-// The first bytes of PLAYPAL as a palette, or all of them where they are fewer.
-#[tactic(auto, using(std::proofs::lemmas::List::take_min))]
+// The first bytes of PLAYPAL as a palette, filled up with 0 where they are fewer, which they never
+// are where the cache is faithful to the files.
 fn first_palette(alloc: Global, bytes: &[u8]) -> Result<Vec<u8>, OutOfMemory>
-    ensures { IfOk result (λ palette. palette.items ≡ take PALETTE_SIZE bytes.now) }
+    ensures size { IfOk result (λ palette. length palette.items ≡ PALETTE_SIZE) }
+    ensures first { PALETTE_SIZE ≤ length bytes.now →
+        IfOk result (λ palette. palette.items ≡ take PALETTE_SIZE bytes.now) }
 {
-    let size = (PALETTE_SIZE as usize).min(bytes.len());
-    bytes[..size].to_vec(alloc)
+    let count = (PALETTE_SIZE as usize).min(bytes.len());
+    let mut palette = bytes[..count].to_vec(alloc)?;
+    palette.resize(PALETTE_SIZE as usize, 0)?;
+    Ok(palette)
 }

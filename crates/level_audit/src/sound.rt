@@ -3,6 +3,7 @@
 // Rules: `specs/Sound`; `scene_rules`, Sizes and SectorFlats. The original: the globals of p_setup.c
 // and r_data.c.
 ghost use Rattle.std.specs.Prelude.{◌≡◌, ◌<◌, length, map, option_map, IfOk};
+ghost use Rattle.scene_rules.specs.declared.TheConstants.{PALETTE_SIZE};
 ghost use Rattle.scene_rules.specs.Places.{sector_at, things_of};
 ghost use Rattle.scene_rules.specs.Scenes.{art_of, sizes_of};
 ghost use Rattle.scene_rules.specs.SectorFlats.{surfaces_of};
@@ -37,6 +38,7 @@ pub struct SoundScene {
 
 impl Model for SoundScene {
     ghost use Rattle.std.specs.Prelude.{◌≡◌, length};
+    ghost use Rattle.scene_rules.specs.declared.TheConstants.{PALETTE_SIZE};
     ghost use Rattle.scene_rules.specs.SectorFlats.{surfaces_of};
     ghost use Rattle.level_audit.specs.Scenes.{scene_value};
     ghost use Rattle.level_audit.specs.Views.{numbers_of};
@@ -48,7 +50,8 @@ impl Model for SoundScene {
 
     ghost invariant = { λ s.
         (s.middles.items ≡ middles_of s.scene.faces.sides.items)
-        × (s.surfaces.items ≡ surfaces_of s.scene.base.level.sectors s.scene.faces.flats.items) };
+        × (s.surfaces.items ≡ surfaces_of s.scene.base.level.sectors s.scene.faces.flats.items)
+        × (length s.scene.base.palette.items ≡ PALETTE_SIZE) };
 }
 
 impl SoundScene {
@@ -61,6 +64,7 @@ impl SoundScene {
     ) -> Result<SoundScene, OutOfMemory>
         requires flats { length scene.faces.flats.items ≡ length scene.base.level.sectors }
         requires colormap { scene.base.colormap.0 < length dir.now.lumps }
+        requires palette { length scene.base.palette.items ≡ PALETTE_SIZE }
         ensures scene { IfOk result (λ sound. sound.scene ≡ scene_value scene) }
         ensures named { IfOk result (λ sound.
             sound.named ≡ needed_lumps dir.now.lumps (art_of (scene_value scene))) }
@@ -181,7 +185,8 @@ impl SoundScene {
 
     /// The first 768 bytes of PLAYPAL: red, green and blue of 256 colours.
     pub fn palette(&self) -> &[u8]
-        ensures { result.now ≡ self.now.scene.base.palette }
+        ensures value { result.now ≡ self.now.scene.base.palette }
+        ensures size { length result.now ≡ PALETTE_SIZE }
     {
         &self.scene.base.palette
     }

@@ -1,4 +1,4 @@
-use Rattle.std.proofs.Common.{◌<◌, length, sym, ap, subst}
+use Rattle.std.proofs.Common.{◌<◌, ◌∙◌, length, sym, ap, subst}
 use Rattle.scene_rules.specs.Scenes.{LevelBase}
 use Rattle.level_audit.specs.Whole.{IsWholeScene}
 use Rattle.level_audit.proofs.AuditLemmas.{base_stopped, scene_stopped, sound_passed, sound_stopped}
@@ -18,6 +18,9 @@ pub new-requires-clause-colormap : goal.new-requires-clause-colormap
 new-requires-clause-colormap g c =
     let same = ap (λ (base : LevelBase). base.colormap) c.in_ok-scene.ensures.base in
     subst (λ n. n < length c.args.dir.now.lumps) (sym same) (subst (λ lump. lump.0 < length c.args.dir.now.lumps) (sym c.in_ok-base.ensures.colormap) (colormap_there c.args.dir.now.lumps c.args.colormap.0 c.requires.colormap))
+
+pub new-requires-clause-palette : goal.new-requires-clause-palette
+new-requires-clause-palette g c = ap (λ (base : LevelBase). length base.palette) c.in_ok-scene.ensures.base ∙ c.in_ok-base.ensures.palette
 
 pub returns-in_err-new-clause-tells : goal.returns-in_err-new-clause-tells
 returns-in_err-new-clause-tells g c =

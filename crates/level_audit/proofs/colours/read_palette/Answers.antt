@@ -1,5 +1,23 @@
+use Rattle.std.proofs.Common.{◌≡◌, Ok, ap, sym, take, ◌∙◌}
+use Rattle.lump_cache.proofs.CallLemmas.{reads_told}
 use Rattle.lump_cache.proofs.SizeLemmas.{beside_earlier, beside_lent}
+use Rattle.lump_rules.specs.Contents.{lump_bytes}
+use Rattle.scene_rules.specs.declared.TheConstants.{PALETTE_SIZE}
+use Rattle.level_audit.proofs.ColourLemmas.{live_long}
 use Rattle.level_audit.proofs.colours.read_palette.Goals as goal
+
+pub returns-clause-tells : goal.returns-clause-tells
+returns-clause-tells g c =
+    let lumps = c.args.dir.now.lumps in
+    let number = c.args.playpal.0 in
+    let lent = c.live_lump.result.now in
+    reads_told tt c.in_ok-first_palette.field-0 c.in_ok-fetch_lump.ensures.tells (λ lump same. same)
+    (λ contents hold.
+    let held = c.in_ok-fetch_lump.ensures.bytes contents hold in
+    let value = c.live_lump.ensures.value in
+    let same : lent ≡ lump_bytes contents lumps number = cc in
+    let first = c.in_ok-first_palette.ensures.first (live_long contents lumps number PALETTE_SIZE lent c.requires.there hold.within same c.requires.long) in
+    ap Ok (sym (first ∙ ap (take PALETTE_SIZE) same)))
 
 pub returns-clause-fits : goal.returns-clause-fits
 returns-clause-fits g c =
