@@ -1,3 +1,6 @@
 pub mod SceneLemmas
 pub mod ThingLemmas
 pub mod PaintLemmas
+pub mod StepLemmas
+pub mod DotLemmas
+pub mod CanLemmas

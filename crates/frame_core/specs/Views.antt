@@ -1,5 +1,5 @@
 -- What is drawn in a view, what it is drawn with, and what a part of it paints.
-use Rattle.std.specs.Prelude.{◌≡◌, ◌≤◌, ◌<◌, ◌×◌, ◌||◌, ◌==◌, ℕ, true, List, All, OnOk, Result, length}
+use Rattle.std.specs.Prelude.{◌≡◌, ◌≤◌, ◌<◌, ◌||◌, ◌==◌, ℕ, true, List, All, OnOk, Result, length}
 use Rattle.std.specs.List.{list_any}
 use Rattle.outside.specs.Shelf.{ShelfView}
 use Rattle.lump_rules.specs.declared.wad.Lump.{Lump}

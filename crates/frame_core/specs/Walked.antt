@@ -78,14 +78,14 @@ pub record IsPlaneIn (shape : ViewShape) (scene : SceneValue) (p : Plane) : Type
   pub row : (x y : ℕ) → holds p y x ≡ true → y < shape.height
 
 -- The walls, the planes and the vissprites are those of the events, none of which passes a limit.
-pub record HasWalked (v : ViewValue) (bytes : ℕ → List ℕ) (scene : SceneValue) (limits : Limits)
+pub record HasWalked (v : ViewValue) (bytes : ℕ → List ℕ) (scene : SceneValue) (most : Limits)
     (events : List Event) (b : Bench) : Type 0 where
   pub there : All (IsEventIn v scene) events
   pub built : IsBuilt v (walls_of v (scene_of bytes scene) events)
       (planes_after v (scene_of bytes scene) events) b.walls b.planes.planes
   pub openings : length b.walls.openings ≡ openings_after 0 (view_steps v (scene_of bytes scene) events)
-  pub limits : limits_of b.walls b.planes ≡ limits
-  pub within : steps_over limits (view_steps v (scene_of bytes scene) events) ≡ None
+  pub limits : limits_of b.walls b.planes ≡ most
+  pub within : steps_over most (view_steps v (scene_of bytes scene) events) ≡ None
   pub planes : All (IsPlaneIn v.shape scene) b.planes.planes
   pub sprites : b.sprites ≡ view_entries v (scene_of bytes scene) events
   pub columns : AllPass (lies_within v.shape.width) b.sprites

@@ -1,0 +1,17 @@
+-- What is asked to draw a view is enough to count it.
+use Rattle.std.proofs.Common.{ℕ, List}
+use Rattle.lump_rules.specs.declared.wad.Lump.{Lump}
+use Rattle.zone_rules.specs.Zones.{Heap}
+use Rattle.scene_rules.specs.Scenes.{SceneValue}
+use Rattle.frame_core.specs.Views.{CanCount, CanDrawView}
+use Rattle.frame_core.proofs.SceneLemmas.{surface_flats}
+
+-- a scene that can be drawn can be counted
+pub can_count-drawable : (lumps : List Lump) (scene : SceneValue) (z : Heap) → CanDrawView lumps scene z → CanCount scene
+can_count-drawable lumps scene z can = record {
+  sides = can.whole.sides;
+  flats = can.whole.flats;
+  numbers = λ i d l.
+      let there = surface_flats lumps can.lines can.name can.skill scene can.whole can.few i d l in
+      record { floor = there.floor.number; ceiling = there.ceiling.number };
+}
