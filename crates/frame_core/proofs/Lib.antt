@@ -4,3 +4,5 @@ pub mod PaintLemmas
 pub mod StepLemmas
 pub mod DotLemmas
 pub mod CanLemmas
+pub mod PainterLemmas
+pub mod CounterLemmas
