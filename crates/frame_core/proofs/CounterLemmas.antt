@@ -1,18 +1,24 @@
 -- Laws of a counter: an event that it was given after others, and a whole walk.
 use Rattle.std.proofs.Common.{◌≡◌, ℕ, ◌<◌, ◌≤◌, ◌+◌, List, [], ◌∷◌, ◌++◌, take, drop, Option, Some, Result, Ok, Err, OnOk, refl, sym, subst, ◌∙◌, arith}
 use Rattle.std.specs.Prelude.{IfErr}
+use Rattle.std.proofs.lemmas.Result.{IfErr-weaker, on_ok_weaker}
 use Rattle.view_rules.specs.View.{ViewValue}
+use Rattle.level_rules.specs.Levels.{LevelLists}
 use Rattle.walk_rules.specs.Events.{Event}
+use Rattle.walk_rules.specs.Walk.{view_events}
 use Rattle.scene_rules.specs.Scenes.{SceneValue}
 use Rattle.picture_rules.specs.declared.Limits.{Limits}
 use Rattle.picture_rules.specs.declared.OverLimit.{OverLimit}
-use Rattle.picture_rules.specs.Counts.{steps_over, view_steps}
+use Rattle.picture_rules.specs.Counts.{steps_over, view_over, view_steps}
 use Rattle.node_walk.specs.Visits.{Visits}
-use Rattle.frame_core.specs.Scenes.{scene_of}
+use Rattle.wall_columns.specs.declared.fault.DrawFault.{DrawFault}
+use Rattle.wall_columns.specs.Faults.{limit_of_fault}
+use Rattle.frame_core.specs.declared.bench.Bench.{Bench}
+use Rattle.frame_core.specs.Scenes.{lists_of, scene_of}
 use Rattle.frame_core.specs.Views.{CanCount}
 use Rattle.frame_core.specs.Walked.{CanTake, HasWalked, IsEventIn}
-use Rattle.frame_core.specs.Painters.{CanCountNext, CounterValue, HasCounted, limits_in}
-use Rattle.frame_core.proofs.PainterLemmas.{all-ok, longer}
+use Rattle.frame_core.specs.Painters.{CanCountNext, CounterValue, HasCounted, HasWalkedView, counter_value, limits_in}
+use Rattle.frame_core.proofs.PainterLemmas.{all-ok, longer, view-over}
 
 all_over : {A E X : Type 0} (P : X → E → Type 0) (result : Result A E) → ((x : X) → IfErr result (P x)) → IfErr result (λ e. (x : X) → P x e)
 all_over P (Ok a) h = tt
@@ -108,3 +114,59 @@ pub counter-walked : (p q : CounterValue) (events : List Event) (result : Result
 counter-walked p q events (Ok unit) walked visits = visits.ok.each p [] (counted_none p walked)
 counter-walked p q events (Err stop) walked visits =
     stopped_all p q visits.err.count events stop (visits.err.each p [] (counted_none p walked))
+
+-- an event that was counted
+pub counts-passed : (v : ViewValue) (scene : SceneValue) (name : ℕ) (b c : Bench) (e : Event) →
+    ((bytes : ℕ → List ℕ) (limits : Limits) (events : List Event) → HasWalked v bytes scene limits events b → HasWalked v bytes scene limits (events ++ e ∷ []) c) →
+    CanTake v scene c → limits_in c ≡ limits_in b → CounterVisits (counter_value v scene b name) (counter_value v scene c name) (e ∷ []) (Ok tt)
+counts-passed v scene name b c e walked takes limits =
+    counter-visits (counter_value v scene b name) (counter_value v scene c name) (Ok tt) (record {
+      view_before = refl;
+      view = refl;
+      scene_before = refl;
+      scene = refl;
+      name = refl;
+      limits = limits;
+      walked = walked;
+      over = λ bytes most events h. tt;
+      takes = takes;
+    })
+
+-- an event at which a limit was passed
+pub counts-stopped : (v : ViewValue) (scene : SceneValue) (name : ℕ) (b c : Bench) (e : Event) (fault : DrawFault) (over : OverLimit) → limit_of_fault fault ≡ Some over →
+    ((bytes : ℕ → List ℕ) (limits : Limits) (events : List Event) → HasWalked v bytes scene limits events b → limit_of_fault fault ≡ steps_over limits (view_steps v (scene_of bytes scene) (events ++ e ∷ []))) →
+    limits_in c ≡ limits_in b → CounterVisits (counter_value v scene b name) (counter_value v scene c name) (e ∷ []) (Err over)
+counts-stopped v scene name b c e fault over is told limits =
+    counter-visits (counter_value v scene b name) (counter_value v scene c name) (Err over) (record {
+      view_before = refl;
+      view = refl;
+      scene_before = refl;
+      scene = refl;
+      name = refl;
+      limits = limits;
+      walked = λ bytes most events h. tt;
+      over = λ bytes most events h. sym (told bytes most events h) ∙ is;
+      takes = tt;
+    })
+
+-- the whole walk of a view, of the lists of its scene
+pub counter-viewed : (p q : CounterValue) (lists : LevelLists) {result : Result (Unit {0}) OverLimit} → lists ≡ lists_of p.scene →
+    ((bytes : ℕ → List ℕ) → HasWalked p.view bytes p.scene (limits_in p.bench) [] p.bench) → CounterVisits p q (view_events p.view lists) result →
+    HasCounted p q (view_events p.view (lists_of p.scene)) result
+counter-viewed p q lists {result} e walked visits =
+    subst (λ (l : LevelLists). HasCounted p q (view_events p.view l) result) e (counter-walked p q (view_events p.view lists) result walked visits)
+
+-- its bench has the whole walk
+pub counted-bench : (v : ViewValue) (scene : SceneValue) (limits : Limits) (b : Bench) (result : Result (Unit {0}) OverLimit) → limits_in b ≡ limits →
+    OnOk result ((bytes : ℕ → List ℕ) → HasWalked v bytes scene limits (view_events v (lists_of scene)) b) → OnOk result (HasWalkedView v scene b)
+counted-bench v scene limits b result e walked =
+    on_ok_weaker result (λ h bytes. subst (λ (l : Limits). HasWalked v bytes scene l (view_events v (lists_of scene)) b) (sym e) (h bytes)) walked
+
+-- and the first limit that it passes is the view's
+pub counted-over : (v : ViewValue) (scene : SceneValue) (limits : Limits) (result : Result (Unit {0}) OverLimit) →
+    IfErr result (λ over. (bytes : ℕ → List ℕ) → steps_over limits (view_steps v (scene_of bytes scene) (view_events v (lists_of scene))) ≡ Some over) →
+    (bytes : ℕ → List ℕ) → IfErr result (λ over. view_over v (scene_of bytes scene) limits ≡ Some over)
+counted-over v scene limits result told bytes =
+    IfErr-weaker result (λ over. steps_over limits (view_steps v (scene_of bytes scene) (view_events v (lists_of scene))) ≡ Some over)
+    (λ over. view_over v (scene_of bytes scene) limits ≡ Some over) (λ over e. view-over v scene limits bytes over e)
+    (each-count (λ bytes over. steps_over limits (view_steps v (scene_of bytes scene) (view_events v (lists_of scene))) ≡ Some over) result told bytes)

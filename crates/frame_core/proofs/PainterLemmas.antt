@@ -43,7 +43,7 @@ use Rattle.frame_core.specs.declared.fault.ViewFault.{ViewFault}
 use Rattle.frame_core.specs.declared.fault.ViewFault.TheVariants.{Limit}
 use Rattle.frame_core.specs.Faults.{from_draw, limit_of_view, view_fault}
 use Rattle.frame_core.specs.Scenes.{lists_of, scene_of}
-use Rattle.frame_core.specs.Views.{CanDrawView, PaintsView, ViewScene, ViewState, held_scene}
+use Rattle.frame_core.specs.Views.{CanDrawView, PaintsView, ViewScene, ViewState, held_scene, view_state}
 use Rattle.frame_core.specs.Walked.{CanTake, HasWalked, IsEventIn, next_dots}
 use Rattle.frame_core.specs.Painters.{CanPaintNext, HasPainted, HasWalkedView, IsPlacedIn, PainterNames, PainterValue, drawn_walls, limits_in, painter_value}
 use Rattle.frame_core.proofs.PaintLemmas.{can_draw_view-later, paints-none, paints-same, paints-stop, paints-then}
@@ -337,3 +337,11 @@ fragment-visits mark s old new names next b c seg first last result same counts 
       counts = counts;
       place = place;
     })
+
+-- what was painted, of a state by other words
+pub paints-at : {mark : Painter → ℕ → ℕ} {s : ViewScene} {dots : Scene → List Dot} {old : ViewState} {result : Result (Unit {0}) ViewFault} {shelf shelf' : ShelfView} {cache cache' : Heap} {canvas canvas' : CanvasView} →
+    PaintsView mark s dots old (view_state shelf cache canvas) result → shelf' ≡ shelf → cache' ≡ cache → canvas' ≡ canvas → PaintsView mark s dots old (view_state shelf' cache' canvas') result
+paints-at {mark} {s} {dots} {old} {result} {shelf} {shelf'} {cache} {cache'} {canvas} {canvas'} one e f g =
+    subst (λ (n : CanvasView). PaintsView mark s dots old (view_state shelf' cache' n) result) (sym g)
+    (subst (λ (n : Heap). PaintsView mark s dots old (view_state shelf' n canvas) result) (sym f)
+    (subst (λ (n : ShelfView). PaintsView mark s dots old (view_state n cache canvas) result) (sym e) one))
