@@ -43,9 +43,9 @@ use Rattle.frame_core.specs.declared.fault.ViewFault.{ViewFault}
 use Rattle.frame_core.specs.declared.fault.ViewFault.TheVariants.{Limit}
 use Rattle.frame_core.specs.Faults.{from_draw, limit_of_view, view_fault}
 use Rattle.frame_core.specs.Scenes.{lists_of, scene_of}
-use Rattle.frame_core.specs.Views.{CanDrawView, PaintsView, ViewScene, ViewState, held_scene, view_state}
+use Rattle.frame_core.specs.Views.{CanDrawView, PaintsView, ViewScene, ViewState, held_scene}
 use Rattle.frame_core.specs.Walked.{CanTake, HasWalked, IsEventIn, next_dots}
-use Rattle.frame_core.specs.Painters.{CanPaintNext, HasPainted, HasWalkedView, IsPlacedIn, PainterNames, PainterValue, drawn_walls, limits_in, painter_value}
+use Rattle.frame_core.specs.Painters.{CanPaintNext, HasPainted, HasWalkedView, IsPlacedIn, PainterNames, PainterValue, drawn_walls, limits_in, painter_names, painter_value}
 use Rattle.frame_core.proofs.PaintLemmas.{can_draw_view-later, paints-none, paints-same, paints-stop, paints-then}
 use Rattle.frame_core.proofs.DotLemmas.{drawn_walls-fragment, drawn_walls-leaf, drawn_walls-none}
 use Rattle.frame_core.proofs.StepLemmas.{over-stays}
@@ -338,10 +338,7 @@ fragment-visits mark s old new names next b c seg first last result same counts 
       place = place;
     })
 
--- what was painted, of a state by other words
-pub paints-at : {mark : Painter → ℕ → ℕ} {s : ViewScene} {dots : Scene → List Dot} {old : ViewState} {result : Result (Unit {0}) ViewFault} {shelf shelf' : ShelfView} {cache cache' : Heap} {canvas canvas' : CanvasView} →
-    PaintsView mark s dots old (view_state shelf cache canvas) result → shelf' ≡ shelf → cache' ≡ cache → canvas' ≡ canvas → PaintsView mark s dots old (view_state shelf' cache' canvas') result
-paints-at {mark} {s} {dots} {old} {result} {shelf} {shelf'} {cache} {cache'} {canvas} {canvas'} one e f g =
-    subst (λ (n : CanvasView). PaintsView mark s dots old (view_state shelf' cache' n) result) (sym g)
-    (subst (λ (n : Heap). PaintsView mark s dots old (view_state shelf' n canvas) result) (sym f)
-    (subst (λ (n : ShelfView). PaintsView mark s dots old (view_state n cache canvas) result) (sym e) one))
+-- a painter's references are the same
+pub names-same : {a b c d a' b' c' d' : ℕ} → a' ≡ a → b' ≡ b → c' ≡ c → d' ≡ d → painter_names a' b' c' d' ≡ painter_names a b c d
+names-same {b = b} {c} {d} {a'} {b'} {c'} {d'} e f g h =
+    ap (λ n. painter_names a' b' c' n) h ∙ ap (λ n. painter_names a' b' n d) g ∙ ap (λ n. painter_names a' n c d) f ∙ ap (λ n. painter_names n b c d) e
