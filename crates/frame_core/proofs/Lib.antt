@@ -18,3 +18,6 @@ pub mod FragmentLemmas
 pub mod CanLemmas
 pub mod CountLemmas
 pub mod ViewLemmas
+pub mod DotLemmas
+pub mod PainterLemmas
+pub mod CounterLemmas

@@ -20,12 +20,12 @@ use solid_segs::Cover;
 
 /// Draws each fragment of a view as it comes, in what the view is built in.
 #[derive(Drop)]
-pub(crate) struct ViewPainter<'a, S: Shelf, C: Canvas> {
-    pub bench: &'a mut Bench,
+pub(crate) struct ViewPainter<'b, 'a, S: Shelf, C: Canvas> {
+    pub bench: &'b mut Bench,
     pub tools: ViewTools<'a, S, C>,
 }
 
-impl<'a, S: Shelf, C: Canvas> Visitor for ViewPainter<'a, S, C> {
+impl<'b, 'a, S: Shelf, C: Canvas> Visitor for ViewPainter<'b, 'a, S, C> {
     ghost use Rattle.std.specs.Prelude.{Ok, Err};
     ghost use Rattle.frame_core.specs.Views.{view_scene, view_state};
     ghost use Rattle.frame_core.specs.Painters.{CanPaintNext, HasPainted, PainterValue, painter_names, painter_value};
@@ -33,22 +33,22 @@ impl<'a, S: Shelf, C: Canvas> Visitor for ViewPainter<'a, S, C> {
     ghost Start = { PainterValue };
 
     ghost stands = { λ p start events. HasPainted C.mark start (painter_value
-      (view_scene p.tools.view.now p.tools.scene.now.scene p.tools.dir.now) p.bench.now
-      (view_state (S.view p.tools.shelf.now) p.tools.cache.now (C.view p.tools.canvas.now))
-      (painter_names p.bench.ghost_name p.tools.cache.ghost_name p.tools.shelf.ghost_name
-      p.tools.canvas.ghost_name)) events (Ok tt) };
+        (view_scene p.tools.view.now p.tools.scene.now.scene p.tools.dir.now) p.bench.now
+        (view_state (S.view p.tools.shelf.now) p.tools.cache.now (C.view p.tools.canvas.now))
+        (painter_names p.bench.ghost_name p.tools.cache.ghost_name p.tools.shelf.ghost_name
+        p.tools.canvas.ghost_name)) events (Ok tt) };
 
     ghost stopped = { λ p start events stop. HasPainted C.mark start (painter_value
-      (view_scene p.tools.view.now p.tools.scene.now.scene p.tools.dir.now) p.bench.now
-      (view_state (S.view p.tools.shelf.now) p.tools.cache.now (C.view p.tools.canvas.now))
-      (painter_names p.bench.ghost_name p.tools.cache.ghost_name p.tools.shelf.ghost_name
-      p.tools.canvas.ghost_name)) events (Err stop) };
+        (view_scene p.tools.view.now p.tools.scene.now.scene p.tools.dir.now) p.bench.now
+        (view_state (S.view p.tools.shelf.now) p.tools.cache.now (C.view p.tools.canvas.now))
+        (painter_names p.bench.ghost_name p.tools.cache.ghost_name p.tools.shelf.ghost_name
+        p.tools.canvas.ghost_name)) events (Err stop) };
 
     ghost takes = { λ p event. CanPaintNext (painter_value
-      (view_scene p.tools.view.now p.tools.scene.now.scene p.tools.dir.now) p.bench.now
-      (view_state (S.view p.tools.shelf.now) p.tools.cache.now (C.view p.tools.canvas.now))
-      (painter_names p.bench.ghost_name p.tools.cache.ghost_name p.tools.shelf.ghost_name
-      p.tools.canvas.ghost_name)) event };
+        (view_scene p.tools.view.now p.tools.scene.now.scene p.tools.dir.now) p.bench.now
+        (view_state (S.view p.tools.shelf.now) p.tools.cache.now (C.view p.tools.canvas.now))
+        (painter_names p.bench.ghost_name p.tools.cache.ghost_name p.tools.shelf.ghost_name
+        p.tools.canvas.ghost_name)) event };
 
     type Stop = ViewFault;
 
@@ -64,7 +64,9 @@ impl<'a, S: Shelf, C: Canvas> Visitor for ViewPainter<'a, S, C> {
 }
 
 // Walks the level of the scene for a painter that no event was given.
-fn walk_painter<S: Shelf, C: Canvas>(painter: &mut ViewPainter<'_, S, C>) -> Result<(), ViewFault>
+fn walk_painter<S: Shelf, C: Canvas>(
+    painter: &mut ViewPainter<'_, '_, S, C>,
+) -> Result<(), ViewFault>
     requires drawable { CanDrawView painter.old.tools.dir.now.lumps
         painter.old.tools.scene.now.scene painter.old.tools.cache.now }
     requires placed { IsPlacedIn painter.old.tools.view.now

@@ -1,0 +1,172 @@
+-- Laws of a counter: an event that it was given after others, and a whole walk.
+use Rattle.std.proofs.Common.{◌≡◌, ℕ, ◌<◌, ◌≤◌, ◌+◌, List, [], ◌∷◌, ◌++◌, take, drop, Option, Some, Result, Ok, Err, OnOk, refl, sym, subst, ◌∙◌, arith}
+use Rattle.std.specs.Prelude.{IfErr}
+use Rattle.std.proofs.lemmas.Result.{IfErr-weaker, on_ok_weaker}
+use Rattle.view_rules.specs.View.{ViewValue}
+use Rattle.level_rules.specs.Levels.{LevelLists}
+use Rattle.walk_rules.specs.Events.{Event}
+use Rattle.walk_rules.specs.Walk.{view_events}
+use Rattle.scene_rules.specs.Scenes.{SceneValue}
+use Rattle.picture_rules.specs.declared.Limits.{Limits}
+use Rattle.picture_rules.specs.declared.OverLimit.{OverLimit}
+use Rattle.picture_rules.specs.Counts.{steps_over, view_over, view_steps}
+use Rattle.node_walk.specs.Visits.{Visits}
+use Rattle.wall_columns.specs.declared.fault.DrawFault.{DrawFault}
+use Rattle.wall_columns.specs.Faults.{limit_of_fault}
+use Rattle.frame_core.specs.declared.bench.Bench.{Bench}
+use Rattle.frame_core.specs.Scenes.{lists_of, scene_of}
+use Rattle.frame_core.specs.Views.{CanCount}
+use Rattle.frame_core.specs.Walked.{CanTake, HasWalked, IsEventIn}
+use Rattle.frame_core.specs.Painters.{CanCountNext, CounterValue, HasCounted, HasWalkedView, counter_value, limits_in}
+use Rattle.frame_core.proofs.PainterLemmas.{all-ok, longer, view-over}
+
+all_over : {A E X : Type 0} (P : X → E → Type 0) (result : Result A E) → ((x : X) → IfErr result (P x)) → IfErr result (λ e. (x : X) → P x e)
+all_over P (Ok a) h = tt
+all_over P (Err e) h = h
+
+-- the limit that ended a count, for each way to read lumps
+pub each-count : {A E X : Type 0} (P : X → E → Type 0) (result : Result A E) → IfErr result (λ e. (x : X) → P x e) → (x : X) → IfErr result (P x)
+each-count P (Ok a) h x = tt
+each-count P (Err e) h x = h x
+
+-- What a call that was given an event says of a counter.
+pub record IsCounted (v : ViewValue) (whole : SceneValue) (p q : CounterValue) (e : Event) (result : Result (Unit {0}) OverLimit) : Type 0 where
+  pub view_before : p.view ≡ v
+  pub view : q.view ≡ v
+  pub scene_before : p.scene ≡ whole
+  pub scene : q.scene ≡ whole
+  pub name : q.name ≡ p.name
+  pub limits : limits_in q.bench ≡ limits_in p.bench
+  pub walked : (bytes : ℕ → List ℕ) (limits : Limits) (events : List Event) → HasWalked v bytes whole limits events p.bench →
+      OnOk result (HasWalked v bytes whole limits (events ++ e ∷ []) q.bench)
+  pub over : (bytes : ℕ → List ℕ) (limits : Limits) (events : List Event) → HasWalked v bytes whole limits events p.bench →
+      IfErr result (λ over. steps_over limits (view_steps v (scene_of bytes whole) (events ++ e ∷ [])) ≡ Some over)
+  pub takes : OnOk result (CanTake v whole q.bench)
+
+module _ {e : Event} {result : Result (Unit {0}) OverLimit} (p q : CounterValue) where
+  more_by : (start : CounterValue) (events : List Event) → HasCounted start p events (Ok tt) → IsCounted start.view start.scene p q e result →
+      HasCounted start q (events ++ e ∷ []) result
+  more_by start events stood given = record {
+    view = given.view;
+    scene = given.scene;
+    name = given.name ∙ stood.name;
+    limits = given.limits ∙ stood.limits;
+    walked = all-ok (λ bytes. HasWalked start.view bytes start.scene (limits_in start.bench) (events ++ e ∷ []) q.bench) result
+        (λ bytes. given.walked bytes (limits_in start.bench) events (stood.walked bytes));
+    over = all_over (λ bytes over. steps_over (limits_in start.bench) (view_steps start.view (scene_of bytes start.scene) (events ++ e ∷ [])) ≡ Some over) result
+        (λ bytes. given.over bytes (limits_in start.bench) events (stood.walked bytes));
+  }
+
+  -- one event more
+  counted_more : (start : CounterValue) (events : List Event) → HasCounted start p events (Ok tt) → IsCounted p.view p.scene p q e result →
+      HasCounted start q (events ++ e ∷ []) result
+  counted_more start events stood given =
+      more_by start events stood (subst (λ (s : SceneValue). IsCounted start.view s p q e result) stood.scene
+      (subst (λ (v : ViewValue). IsCounted v p.scene p q e result) stood.view given))
+
+-- a counter takes after an event what it took before
+takes_later : (p q : CounterValue) (e event : Event) → IsCounted p.view p.scene p q e (Ok tt) → CanCountNext p event → CanCountNext q event
+takes_later p q e event given can = record {
+  scene = subst CanCount (sym given.scene) can.scene;
+  takes = subst (λ (v : ViewValue). CanTake v q.scene q.bench) (sym given.view) (subst (λ (s : SceneValue). CanTake p.view s q.bench) (sym given.scene) given.takes);
+  there = subst (λ (v : ViewValue). IsEventIn v q.scene event) (sym given.view) (subst (λ (s : SceneValue). IsEventIn p.view s event) (sym given.scene) can.there);
+}
+
+-- the answer of a visitor that was given events
+abbrev pub CounterVisits : CounterValue → CounterValue → List Event → Result (Unit {0}) OverLimit → Type 0
+CounterVisits p q events result =
+    Visits {A = CounterValue} {E = OverLimit} (CanCountNext p) (CanCountNext q) (λ start es. HasCounted start p es (Ok tt)) (λ start es. HasCounted start q es (Ok tt))
+    (λ start es stop. HasCounted start q es (Err stop)) events result
+
+pub counter-visits : {e : Event} (p q : CounterValue) (result : Result (Unit {0}) OverLimit) → IsCounted p.view p.scene p q e result → CounterVisits p q (e ∷ []) result
+counter-visits {e} p q (Ok unit) given = record {
+  ok = record { each = λ start before stood. counted_more p q start before stood given };
+  takes_on = record { each = λ event can. takes_later p q e event given can };
+  err = tt;
+}
+counter-visits p q (Err stop) given = record {
+  ok = tt;
+  takes_on = tt;
+  err = record {
+    count = 1;
+    given = omega arith;
+    within = omega arith;
+    each = λ start before stood. counted_more p q start before stood given;
+  };
+}
+
+-- a walk of a counter that no event was given
+counted_none : (p : CounterValue) → ((bytes : ℕ → List ℕ) → HasWalked p.view bytes p.scene (limits_in p.bench) [] p.bench) → HasCounted p p [] (Ok tt)
+counted_none p walked = record { view = refl; scene = refl; name = refl; limits = refl; walked = walked; over = tt }
+
+stopped_all : (start now : CounterValue) (n : ℕ) (events : List Event) (stop : OverLimit) → HasCounted start now (take n events) (Err stop) → HasCounted start now events (Err stop)
+stopped_all start now n events stop h = record {
+  view = h.view;
+  scene = h.scene;
+  name = h.name;
+  limits = h.limits;
+  walked = tt;
+  over = λ bytes. longer (limits_in start.bench) start.view (scene_of bytes start.scene) n events stop (h.over bytes);
+}
+
+pub counter-walked : (p q : CounterValue) (events : List Event) (result : Result (Unit {0}) OverLimit) →
+    ((bytes : ℕ → List ℕ) → HasWalked p.view bytes p.scene (limits_in p.bench) [] p.bench) → CounterVisits p q events result → HasCounted p q events result
+counter-walked p q events (Ok unit) walked visits = visits.ok.each p [] (counted_none p walked)
+counter-walked p q events (Err stop) walked visits =
+    stopped_all p q visits.err.count events stop (visits.err.each p [] (counted_none p walked))
+
+-- an event that was counted
+pub counts-passed : (v : ViewValue) (scene : SceneValue) (name : ℕ) (b c : Bench) (e : Event) →
+    ((bytes : ℕ → List ℕ) (limits : Limits) (events : List Event) → HasWalked v bytes scene limits events b → HasWalked v bytes scene limits (events ++ e ∷ []) c) →
+    CanTake v scene c → limits_in c ≡ limits_in b → CounterVisits (counter_value v scene b name) (counter_value v scene c name) (e ∷ []) (Ok tt)
+counts-passed v scene name b c e walked takes limits =
+    counter-visits (counter_value v scene b name) (counter_value v scene c name) (Ok tt) (record {
+      view_before = refl;
+      view = refl;
+      scene_before = refl;
+      scene = refl;
+      name = refl;
+      limits = limits;
+      walked = walked;
+      over = λ bytes most events h. tt;
+      takes = takes;
+    })
+
+-- an event at which a limit was passed
+pub counts-stopped : (v : ViewValue) (scene : SceneValue) (name : ℕ) (b c : Bench) (e : Event) (fault : DrawFault) (over : OverLimit) → limit_of_fault fault ≡ Some over →
+    ((bytes : ℕ → List ℕ) (limits : Limits) (events : List Event) → HasWalked v bytes scene limits events b → limit_of_fault fault ≡ steps_over limits (view_steps v (scene_of bytes scene) (events ++ e ∷ []))) →
+    limits_in c ≡ limits_in b → CounterVisits (counter_value v scene b name) (counter_value v scene c name) (e ∷ []) (Err over)
+counts-stopped v scene name b c e fault over is told limits =
+    counter-visits (counter_value v scene b name) (counter_value v scene c name) (Err over) (record {
+      view_before = refl;
+      view = refl;
+      scene_before = refl;
+      scene = refl;
+      name = refl;
+      limits = limits;
+      walked = λ bytes most events h. tt;
+      over = λ bytes most events h. sym (told bytes most events h) ∙ is;
+      takes = tt;
+    })
+
+-- the whole walk of a view, of the lists of its scene
+pub counter-viewed : (p q : CounterValue) (lists : LevelLists) {result : Result (Unit {0}) OverLimit} → lists ≡ lists_of p.scene →
+    ((bytes : ℕ → List ℕ) → HasWalked p.view bytes p.scene (limits_in p.bench) [] p.bench) → CounterVisits p q (view_events p.view lists) result →
+    HasCounted p q (view_events p.view (lists_of p.scene)) result
+counter-viewed p q lists {result} e walked visits =
+    subst (λ (l : LevelLists). HasCounted p q (view_events p.view l) result) e (counter-walked p q (view_events p.view lists) result walked visits)
+
+-- its bench has the whole walk
+pub counted-bench : (v : ViewValue) (scene : SceneValue) (limits : Limits) (b : Bench) (result : Result (Unit {0}) OverLimit) → limits_in b ≡ limits →
+    OnOk result ((bytes : ℕ → List ℕ) → HasWalked v bytes scene limits (view_events v (lists_of scene)) b) → OnOk result (HasWalkedView v scene b)
+counted-bench v scene limits b result e walked =
+    on_ok_weaker result (λ h bytes. subst (λ (l : Limits). HasWalked v bytes scene l (view_events v (lists_of scene)) b) (sym e) (h bytes)) walked
+
+-- and the first limit that it passes is the view's
+pub counted-over : (v : ViewValue) (scene : SceneValue) (limits : Limits) (result : Result (Unit {0}) OverLimit) →
+    IfErr result (λ over. (bytes : ℕ → List ℕ) → steps_over limits (view_steps v (scene_of bytes scene) (view_events v (lists_of scene))) ≡ Some over) →
+    (bytes : ℕ → List ℕ) → IfErr result (λ over. view_over v (scene_of bytes scene) limits ≡ Some over)
+counted-over v scene limits result told bytes =
+    IfErr-weaker result (λ over. steps_over limits (view_steps v (scene_of bytes scene) (view_events v (lists_of scene))) ≡ Some over)
+    (λ over. view_over v (scene_of bytes scene) limits ≡ Some over) (λ over e. view-over v scene limits bytes over e)
+    (each-count (λ bytes over. steps_over limits (view_steps v (scene_of bytes scene) (view_events v (lists_of scene))) ≡ Some over) result told bytes)

@@ -1,0 +1,52 @@
+-- Laws of the dots of the walls of a view's events to which one more is added.
+use Rattle.std.proofs.Common.{◌≡◌, ℕ, ◌<◌, ◌≤◌, Bool, true, false, cond, List, [], ◌∷◌, ◌++◌, length, refl, sym, ap, ◌∙◌, arith}
+use Rattle.std.specs.Prelude.{nat_lt}
+use Rattle.std.proofs.lemmas.Bool.Decides.{nat_tests}
+use Rattle.std.proofs.lemmas.List.{append-nil}
+use Rattle.view_rules.specs.View.{ViewValue}
+use Rattle.walk_rules.specs.declared.TheConstants.{MAX_DRAWSEGS}
+use Rattle.walk_rules.specs.Events.{Event}
+use Rattle.walk_rules.specs.Events.Event.{LeafEvent, FragmentEvent}
+use Rattle.walk_rules.specs.Drawsegs.{drawsegs, leaf_fragments}
+use Rattle.wall_rules.specs.Walls.{Wall}
+use Rattle.wall_rules.specs.Strips.{wall_dots}
+use Rattle.wall_rules.proofs.PaintLemmas.{wall_dots-front}
+use Rattle.pixel_rules.specs.Dots.{Dot}
+use Rattle.picture_rules.specs.Scene.{Scene}
+use Rattle.picture_rules.specs.Walls.{walls_dots, walls_from, walls_of}
+use Rattle.picture_rules.proofs.EventLemmas.{walls_dots-more}
+use Rattle.wall_columns.specs.Built.{with_wall}
+use Rattle.frame_core.specs.Walked.{next_dots, next_wall}
+use Rattle.frame_core.specs.Painters.{drawn_walls}
+use Rattle.frame_core.proofs.StepLemmas.{walls-full, walls-leaf, walls-room}
+
+-- no event is no dot
+pub drawn_walls-none : (v : ViewValue) (scene : Scene) → drawn_walls v [] scene ≡ []
+unfolding walls_dots walls_from walls_of drawsegs leaf_fragments
+drawn_walls-none v scene = refl
+
+-- a leaf adds no dot
+pub drawn_walls-leaf : (v : ViewValue) (scene : Scene) (es : List Event) (n : ℕ) →
+    drawn_walls v (es ++ LeafEvent n ∷ []) scene ≡ drawn_walls v es scene ++ []
+drawn_walls-leaf v scene es n = ap (walls_dots v scene) (walls-leaf v scene es n) ∙ sym (append-nil (drawn_walls v es scene))
+
+by_room : (v : ViewValue) (scene : Scene) (es : List Event) (seg first last : ℕ) (room : Bool) → nat_lt (length (walls_of v scene es)) MAX_DRAWSEGS ≡ room →
+    drawn_walls v (es ++ FragmentEvent seg first last ∷ []) scene
+    ≡ drawn_walls v es scene ++ cond room
+    (wall_dots v scene.art (with_wall (walls_of v scene es) (next_wall v scene es seg first last)) (length (walls_of v scene es)) (next_wall v scene es seg first last)) []
+by_room v scene es seg first last true e =
+    let walls = walls_of v scene es in
+    let w = next_wall v scene es seg first last in
+    let l : length walls < MAX_DRAWSEGS = grind (arith, nat_tests) in
+    ap (walls_dots v scene) (walls-room v scene es seg first last l)
+    ∙ walls_dots-more v scene walls w
+    ∙ ap (λ (ds : List Dot). walls_dots v scene walls ++ ds) (sym (wall_dots-front v scene.art walls (w ∷ []) (length walls) w (omega arith)))
+by_room v scene es seg first last false e =
+    let l : MAX_DRAWSEGS ≤ length (walls_of v scene es) = grind (arith, nat_tests) in
+    ap (walls_dots v scene) (walls-full v scene es seg first last l) ∙ sym (append-nil (drawn_walls v es scene))
+
+-- a fragment adds its own
+pub drawn_walls-fragment : (v : ViewValue) (scene : Scene) (es : List Event) (seg first last : ℕ) →
+    drawn_walls v (es ++ FragmentEvent seg first last ∷ []) scene ≡ drawn_walls v es scene ++ next_dots v scene es seg first last
+unfolding next_dots
+drawn_walls-fragment v scene es seg first last = by_room v scene es seg first last (nat_lt (length (walls_of v scene es)) MAX_DRAWSEGS) refl

@@ -1,0 +1,344 @@
+-- Laws of a painter: an event that it was given after others, and a whole walk.
+use Rattle.std.proofs.Common.{◌≡◌, ℕ, ◌<◌, ◌≤◌, ◌+◌, List, [], ◌∷◌, ◌++◌, take, drop, length, Option, Some, None, Result, Ok, Err, IsErrAnd, OnOk, refl, sym, ap, subst, ◌∙◌, arith}
+use Rattle.std.specs.Prelude.{IfErr, IfSome, ⊤}
+use Rattle.std.proofs.lemmas.List.{take-append-drop}
+use Rattle.std.proofs.lemmas.Option.{IfSome_then}
+use Rattle.std.proofs.lemmas.Result.{IfErr-weaker, err_from_is_err_and, on_ok_weaker}
+use Rattle.outside.specs.Shelf.{ShelfView}
+use Rattle.zone_rules.specs.Zones.{Heap}
+use Rattle.zone_rules.proofs.OrderLemmas.{order_none}
+use Rattle.wad_dir.specs.DirectoryView.{DirectoryView}
+use Rattle.lump_cache.specs.Caches.{KeepsCounts}
+use Rattle.texture_build.specs.Draws.{DrawsWith}
+use Rattle.texture_build.specs.Views.{TexturesView}
+use Rattle.texture_build.proofs.DrawLemmas.{keeps_art-none}
+use Rattle.view_rules.specs.View.{ViewValue}
+use Rattle.level_rules.specs.declared.Surface.{Surface}
+use Rattle.level_rules.specs.Levels.{LevelLists}
+use Rattle.map_rules.specs.Levels.{LevelValue}
+use Rattle.walk_rules.specs.Events.{Event}
+use Rattle.walk_rules.specs.Events.Event.{LeafEvent, FragmentEvent}
+use Rattle.walk_rules.specs.Walk.{view_events}
+use Rattle.pixel_rules.specs.declared.Painter.{Painter}
+use Rattle.pixel_rules.specs.Dots.{Dot}
+use Rattle.pixel_strips.specs.Canvases.{CanvasView}
+use Rattle.pixel_strips.specs.Dotted.{PlacedAlike}
+use Rattle.pixel_strips.proofs.DottedLemmas.{placed-none}
+use Rattle.scene_rules.specs.Scenes.{SceneValue}
+use Rattle.scene_rules.specs.SectorFlats.{surfaces_of}
+use Rattle.level_audit.specs.Sound.{middles_of, textures_view}
+use Rattle.picture_rules.specs.declared.Limits.{Limits}
+use Rattle.picture_rules.specs.declared.OverLimit.{OverLimit}
+use Rattle.picture_rules.specs.declared.LimitKind.{LimitKind}
+use Rattle.picture_rules.specs.declared.LimitKind.TheVariants as kind
+use Rattle.picture_rules.specs.Scene.{Scene}
+use Rattle.picture_rules.specs.Counts.{openings_count, planes_count, steps_over, view_over, view_steps}
+use Rattle.node_walk.specs.Lists.{walk_lists}
+use Rattle.node_walk.specs.Visits.{Visits}
+use Rattle.wall_columns.specs.declared.fault.DrawFault.{DrawFault}
+use Rattle.wall_columns.specs.declared.fault.DrawFault.TheVariants.{Planes, Openings, ZoneFull, ReadFault}
+use Rattle.wall_columns.specs.Faults.{IsLimitFault, limit_of_fault}
+use Rattle.frame_core.specs.declared.bench.Bench.{Bench}
+use Rattle.frame_core.specs.declared.fault.ViewFault.{ViewFault}
+use Rattle.frame_core.specs.declared.fault.ViewFault.TheVariants.{Limit}
+use Rattle.frame_core.specs.Faults.{from_draw, limit_of_view, view_fault}
+use Rattle.frame_core.specs.Scenes.{lists_of, scene_of}
+use Rattle.frame_core.specs.Views.{CanDrawView, PaintsView, ViewScene, ViewState, held_scene}
+use Rattle.frame_core.specs.Walked.{CanTake, HasWalked, IsEventIn, next_dots}
+use Rattle.frame_core.specs.Painters.{CanPaintNext, HasPainted, HasWalkedView, IsPlacedIn, PainterNames, PainterValue, drawn_walls, limits_in, painter_names, painter_value}
+use Rattle.frame_core.proofs.PaintLemmas.{can_draw_view-later, paints-none, paints-same, paints-stop, paints-then}
+use Rattle.frame_core.proofs.DotLemmas.{drawn_walls-fragment, drawn_walls-leaf, drawn_walls-none}
+use Rattle.frame_core.proofs.StepLemmas.{over-stays}
+
+-- what holds for each way to read lumps, told after an Ok
+pub all-ok : {A E X : Type 0} (P : X → Type 0) (result : Result A E) → ((x : X) → OnOk result (P x)) → OnOk result ((x : X) → P x)
+all-ok P (Ok a) h = h
+all-ok P (Err e) h = tt
+
+-- and of the limit that a fault tells
+all_some : {A X : Type 0} (P : X → A → Type 0) (o : Option A) → ((x : X) → IfSome o (P x)) → IfSome o (λ a. (x : X) → P x a)
+all_some P None h = tt
+all_some P (Some a) h = h
+
+each_some : {A X : Type 0} (P : X → A → Type 0) (o : Option A) → IfSome o (λ a. (x : X) → P x a) → (x : X) → IfSome o (P x)
+each_some P None h x = tt
+each_some P (Some a) h x = h x
+
+pub all-over : {A E L X : Type 0} (limit_of : E → Option L) (P : X → L → Type 0) (result : Result A E) → ((x : X) → IfErr result (λ e. IfSome (limit_of e) (P x))) →
+    IfErr result (λ e. IfSome (limit_of e) (λ l. (x : X) → P x l))
+all-over limit_of P (Ok a) h = tt
+all-over limit_of P (Err e) h = all_some P (limit_of e) h
+
+pub each-over : {A E L X : Type 0} (limit_of : E → Option L) (P : X → L → Type 0) (result : Result A E) → IfErr result (λ e. IfSome (limit_of e) (λ l. (x : X) → P x l)) →
+    (x : X) → IfErr result (λ e. IfSome (limit_of e) (P x))
+each-over limit_of P (Ok a) h x = tt
+each-over limit_of P (Err e) h x = each_some P (limit_of e) h x
+
+-- What a call that was given an event says of a painter: of the scene and the names, of the bench for all events that it may have
+-- had, and of what was painted, which those events' dots and these make together.
+pub record IsGiven (mark : Painter → ℕ → ℕ) (s : ViewScene) (p q : PainterValue) (e : Event) (dots : List Event → Scene → List Dot)
+    (result : Result (Unit {0}) ViewFault) : Type 0 where
+  pub before : p.scene ≡ s
+  pub after : q.scene ≡ s
+  pub names : q.names ≡ p.names
+  pub limits : limits_in q.bench ≡ limits_in p.bench
+  pub walked : (bytes : ℕ → List ℕ) (limits : Limits) (events : List Event) → HasWalked s.view bytes s.scene limits events p.bench →
+      OnOk result (HasWalked s.view bytes s.scene limits (events ++ e ∷ []) q.bench)
+  pub over : (bytes : ℕ → List ℕ) (limits : Limits) (events : List Event) → HasWalked s.view bytes s.scene limits events p.bench →
+      IfErr result (λ fault. IfSome (limit_of_view fault) (λ over. steps_over limits (view_steps s.view (scene_of bytes s.scene) (events ++ e ∷ [])) ≡ Some over))
+  pub takes : OnOk result (CanTake s.view s.scene q.bench)
+  pub paints : (limits : Limits) (events : List Event) → ((bytes : ℕ → List ℕ) → HasWalked s.view bytes s.scene limits events p.bench) →
+      PaintsView mark s (dots events) p.state q.state result
+  pub joins : (events : List Event) (scene : Scene) → drawn_walls s.view (events ++ e ∷ []) scene ≡ drawn_walls s.view events scene ++ dots events scene
+  pub counts : KeepsCounts p.state.cache q.state.cache
+  pub place : PlacedAlike p.state.canvas q.state.canvas
+
+module _ {mark : Painter → ℕ → ℕ} {e : Event} {dots : List Event → Scene → List Dot} {result : Result (Unit {0}) ViewFault} (p q : PainterValue) where
+  more_by : (start : PainterValue) (events : List Event) → HasPainted mark start p events (Ok tt) → IsGiven mark start.scene p q e dots result →
+      HasPainted mark start q (events ++ e ∷ []) result
+  more_by start events stood given = record {
+    scene = given.after;
+    names = given.names ∙ stood.names;
+    limits = given.limits ∙ stood.limits;
+    walked = all-ok (λ bytes. HasWalked start.scene.view bytes start.scene.scene (limits_in start.bench) (events ++ e ∷ []) q.bench) result
+        (λ bytes. given.walked bytes (limits_in start.bench) events (stood.walked bytes));
+    over = all-over limit_of_view
+        (λ bytes over. steps_over (limits_in start.bench) (view_steps start.scene.view (scene_of bytes start.scene.scene) (events ++ e ∷ [])) ≡ Some over) result
+        (λ bytes. given.over bytes (limits_in start.bench) events (stood.walked bytes));
+    paints = paints-same (drawn_walls start.scene.view (events ++ e ∷ [])) (λ contents. sym (given.joins events (held_scene contents start.scene)))
+        (paints-then stood.paints (given.paints (limits_in start.bench) events stood.walked));
+  }
+
+  -- one event more
+  painted_more : (start : PainterValue) (events : List Event) → HasPainted mark start p events (Ok tt) → IsGiven mark p.scene p q e dots result →
+      HasPainted mark start q (events ++ e ∷ []) result
+  painted_more start events stood given = more_by start events stood (subst (λ (s : ViewScene). IsGiven mark s p q e dots result) stood.scene given)
+
+-- the view stays in the frame
+placed_later : (v : ViewValue) (a b : CanvasView) → PlacedAlike a b → IsPlacedIn v a → IsPlacedIn v b
+placed_later v a b same is = record { columns = rw same.left is.columns; rows = rw same.top is.rows }
+
+-- a painter takes after an event what it took before
+takes_later : (mark : Painter → ℕ → ℕ) (p q : PainterValue) (e : Event) (dots : List Event → Scene → List Dot) (event : Event) → IsGiven mark p.scene p q e dots (Ok tt) → CanPaintNext p event → CanPaintNext q event
+takes_later mark p q e dots event given can = record {
+  drawable = subst (λ (s : ViewScene). CanDrawView s.dir.lumps s.scene q.state.cache) (sym given.after)
+      (can_draw_view-later p.scene.dir.lumps p.scene.scene p.state.cache q.state.cache given.counts can.drawable);
+  takes = subst (λ (s : ViewScene). CanTake s.view s.scene q.bench) (sym given.after) given.takes;
+  placed = subst (λ (s : ViewScene). IsPlacedIn s.view q.state.canvas) (sym given.after) (placed_later p.scene.view p.state.canvas q.state.canvas given.place can.placed);
+  there = subst (λ (s : ViewScene). IsEventIn s.view s.scene event) (sym given.after) can.there;
+}
+
+-- the answer of a visitor that was given one event
+abbrev pub PainterVisits : (Painter → ℕ → ℕ) → PainterValue → PainterValue → List Event → Result (Unit {0}) ViewFault → Type 0
+PainterVisits mark p q events result =
+    Visits {A = PainterValue} {E = ViewFault} (CanPaintNext p) (CanPaintNext q) (λ start es. HasPainted mark start p es (Ok tt)) (λ start es. HasPainted mark start q es (Ok tt))
+    (λ start es stop. HasPainted mark start q es (Err stop)) events result
+
+pub painter-visits : {mark : Painter → ℕ → ℕ} {e : Event} {dots : List Event → Scene → List Dot} (p q : PainterValue) (result : Result (Unit {0}) ViewFault) →
+    IsGiven mark p.scene p q e dots result → PainterVisits mark p q (e ∷ []) result
+painter-visits {mark} {e} {dots} p q (Ok unit) given = record {
+  ok = record { each = λ start before stood. painted_more p q start before stood given };
+  takes_on = record { each = λ event can. takes_later mark p q e dots event given can };
+  err = tt;
+}
+painter-visits p q (Err stop) given = record {
+  ok = tt;
+  takes_on = tt;
+  err = record {
+    count = 1;
+    given = omega arith;
+    within = omega arith;
+    each = λ start before stood. painted_more p q start before stood given;
+  };
+}
+
+-- a walk of a painter that no event was given
+painted_none : (mark : Painter → ℕ → ℕ) (p : PainterValue) → ((bytes : ℕ → List ℕ) → HasWalked p.scene.view bytes p.scene.scene (limits_in p.bench) [] p.bench) →
+    HasPainted mark p p [] (Ok tt)
+painted_none mark p walked = record {
+  scene = refl;
+  names = refl;
+  limits = refl;
+  walked = walked;
+  over = tt;
+  paints = paints-same (drawn_walls p.scene.view []) (λ contents. sym (drawn_walls-none p.scene.view (held_scene contents p.scene))) (paints-none p.state tt);
+}
+
+-- a limit that the first of some events passed is told of them all
+pub longer : (limits : Limits) (v : ViewValue) (scene : Scene) (n : ℕ) (events : List Event) (over : OverLimit) → steps_over limits (view_steps v scene (take n events)) ≡ Some over →
+    steps_over limits (view_steps v scene events) ≡ Some over
+longer limits v scene n events over h =
+    subst (λ (es : List Event). steps_over limits (view_steps v scene es) ≡ Some over) (take-append-drop n events) (over-stays limits v scene (take n events) (drop n events) over h)
+
+stopped_all : (mark : Painter → ℕ → ℕ) (start now : PainterValue) (n : ℕ) (events : List Event) (stop : ViewFault) → HasPainted mark start now (take n events) (Err stop) →
+    HasPainted mark start now events (Err stop)
+stopped_all mark start now n events stop h = record {
+  scene = h.scene;
+  names = h.names;
+  limits = h.limits;
+  walked = tt;
+  over = IfSome_then (limit_of_view stop) h.over (λ over told bytes. longer (limits_in start.bench) start.scene.view (scene_of bytes start.scene.scene) n events over (told bytes));
+  paints = paints-stop refl refl h.paints;
+}
+
+pub painter-walked : (mark : Painter → ℕ → ℕ) (p q : PainterValue) (events : List Event) (result : Result (Unit {0}) ViewFault) →
+    ((bytes : ℕ → List ℕ) → HasWalked p.scene.view bytes p.scene.scene (limits_in p.bench) [] p.bench) → PainterVisits mark p q events result → HasPainted mark p q events result
+painter-walked mark p q events (Ok unit) walked visits = visits.ok.each p [] (painted_none mark p walked)
+painter-walked mark p q events (Err stop) walked visits =
+    stopped_all mark p q visits.err.count events stop (visits.err.each p [] (painted_none mark p walked))
+
+-- the lists that are walked are those of the scene
+pub lists-walked : (scene : SceneValue) (level : LevelValue) (surfaces : List Surface) (middles : List ℕ) → level ≡ scene.base.level →
+    surfaces ≡ surfaces_of scene.base.level.sectors scene.faces.flats → middles ≡ middles_of scene.faces.sides → walk_lists level surfaces middles ≡ lists_of scene
+lists-walked scene level surfaces middles e f g =
+    ap (λ (l : LevelValue). walk_lists l surfaces middles) e
+    ∙ ap (λ (s : List Surface). walk_lists scene.base.level s middles) f
+    ∙ ap (λ (m : List ℕ). walk_lists scene.base.level (surfaces_of scene.base.level.sectors scene.faces.flats) m) g
+
+-- the whole walk of a view, of the lists of its scene
+pub painter-viewed : {mark : Painter → ℕ → ℕ} (p q : PainterValue) (lists : LevelLists) {result : Result (Unit {0}) ViewFault} → lists ≡ lists_of p.scene.scene →
+    ((bytes : ℕ → List ℕ) → HasWalked p.scene.view bytes p.scene.scene (limits_in p.bench) [] p.bench) → PainterVisits mark p q (view_events p.scene.view lists) result →
+    HasPainted mark p q (view_events p.scene.view (lists_of p.scene.scene)) result
+painter-viewed {mark} p q lists {result} e walked visits =
+    subst (λ (l : LevelLists). HasPainted mark p q (view_events p.scene.view l) result) e (painter-walked mark p q (view_events p.scene.view lists) result walked visits)
+
+-- its bench has the whole walk
+pub bench-walked : (v : ViewValue) (scene : SceneValue) (limits : Limits) (b : Bench) (result : Result (Unit {0}) ViewFault) → limits_in b ≡ limits →
+    OnOk result ((bytes : ℕ → List ℕ) → HasWalked v bytes scene limits (view_events v (lists_of scene)) b) → OnOk result (HasWalkedView v scene b)
+bench-walked v scene limits b result e walked =
+    on_ok_weaker result (λ h bytes. subst (λ (l : Limits). HasWalked v bytes scene l (view_events v (lists_of scene)) b) (sym e) (h bytes)) walked
+
+-- the first limit that a view passes is that of its steps
+pub view-over : (v : ViewValue) (scene : SceneValue) (limits : Limits) (bytes : ℕ → List ℕ) (over : OverLimit) →
+    steps_over limits (view_steps v (scene_of bytes scene) (view_events v (lists_of scene))) ≡ Some over → view_over v (scene_of bytes scene) limits ≡ Some over
+unfolding view_over scene_of
+view-over v scene limits bytes over h = h
+
+-- and so the limit that a fault tells
+pub fault-over : (v : ViewValue) (scene : SceneValue) (limits : Limits) (result : Result (Unit {0}) ViewFault) →
+    IfErr result (λ fault. IfSome (limit_of_view fault) (λ over. (bytes : ℕ → List ℕ) → steps_over limits (view_steps v (scene_of bytes scene) (view_events v (lists_of scene))) ≡ Some over)) →
+    (bytes : ℕ → List ℕ) → IfErr result (λ fault. IfSome (limit_of_view fault) (λ over. view_over v (scene_of bytes scene) limits ≡ Some over))
+fault-over v scene limits result told bytes =
+    IfErr-weaker result (λ fault. IfSome (limit_of_view fault) (λ over. steps_over limits (view_steps v (scene_of bytes scene) (view_events v (lists_of scene))) ≡ Some over))
+    (λ fault. IfSome (limit_of_view fault) (λ over. view_over v (scene_of bytes scene) limits ≡ Some over))
+    (λ fault h. IfSome_then (limit_of_view fault) h (λ over e. view-over v scene limits bytes over e))
+    (each-over limit_of_view (λ bytes over. steps_over limits (view_steps v (scene_of bytes scene) (view_events v (lists_of scene))) ≡ Some over) result told bytes)
+
+-- a limit fault of the walls, told as one of the view
+pub limit-from_draw : (fault : DrawFault) → limit_of_view (from_draw fault) ≡ limit_of_fault fault
+unfolding planes_count openings_count
+limit-from_draw (Planes count) = refl
+limit-from_draw (Openings count) = refl
+limit-from_draw (ZoneFull wanted widest) = refl
+limit-from_draw ReadFault = refl
+
+-- a limit that was passed before anything was drawn
+draws_limit : {among pictures : ℕ → Type 0} (view : ShelfView) (dir : DirectoryView) (textures : TexturesView) (z : Heap) (kind : LimitKind) (count : ℕ) →
+    DrawsWith {A = Unit {0}} view_fault among pictures view view dir textures z z (Err (Limit kind count))
+draws_limit view dir textures z kind count = record {
+  keeps = keeps_art-none view dir textures z;
+  causes = record { err = tt };
+  steady = λ contents stand within steady. tt;
+  full = tt;
+  order = λ items asked all k. order_none items z view.taken k;
+}
+
+paints_limit : (mark : Painter → ℕ → ℕ) (s : ViewScene) (dots : Scene → List Dot) (state : ViewState) (kind : LimitKind) (count : ℕ) →
+    PaintsView {A = Unit {0}} mark s dots state state (Err (Limit kind count))
+paints_limit mark s dots state kind count = record {
+  painted = λ contents n hold. tt;
+  fits = λ contents n hold. tt;
+  draws = draws_limit state.shelf s.dir (textures_view s.scene) state.cache kind count;
+  place = placed-none state.canvas;
+}
+
+paints_fault : (mark : Painter → ℕ → ℕ) (s : ViewScene) (dots : Scene → List Dot) (state : ViewState) (fault : DrawFault) → IsLimitFault fault →
+    PaintsView {A = Unit {0}} mark s dots state state (Err (from_draw fault))
+paints_fault mark s dots state (Planes count) is = paints_limit mark s dots state kind.Planes count
+paints_fault mark s dots state (Openings count) is = paints_limit mark s dots state kind.Openings count
+paints_fault mark s dots state (ZoneFull wanted widest) is = absurd is
+paints_fault mark s dots state ReadFault is = absurd is
+
+-- a leaf that was entered
+pub leaf-visits : (mark : Painter → ℕ → ℕ) (s : ViewScene) (state : ViewState) (names : PainterNames) (b c : Bench) (n : ℕ) →
+    ((bytes : ℕ → List ℕ) (limits : Limits) (events : List Event) → HasWalked s.view bytes s.scene limits events b → HasWalked s.view bytes s.scene limits (events ++ LeafEvent n ∷ []) c) →
+    CanTake s.view s.scene c → limits_in c ≡ limits_in b → PainterVisits mark (painter_value s b state names) (painter_value s c state names) (LeafEvent n ∷ []) (Ok tt)
+leaf-visits mark s state names b c n walked takes limits =
+    painter-visits {dots = λ events scene. []} (painter_value s b state names) (painter_value s c state names) (Ok tt) (record {
+      before = refl;
+      after = refl;
+      names = refl;
+      limits = limits;
+      walked = walked;
+      over = λ bytes most events h. tt;
+      takes = takes;
+      paints = λ most events h. paints-none state tt;
+      joins = λ events scene. drawn_walls-leaf s.view scene events n;
+      counts = (refl, refl, refl);
+      place = placed-none state.canvas;
+    })
+
+told_by : (o told : Option OverLimit) → o ≡ told → IfSome o (λ over. told ≡ Some over)
+told_by None told e = tt
+told_by (Some over) told e = sym e
+
+leaf_stop : (mark : Painter → ℕ → ℕ) (s : ViewScene) (state : ViewState) (names : PainterNames) (b c : Bench) (n : ℕ) (fault : DrawFault) → IsLimitFault fault →
+    ((bytes : ℕ → List ℕ) (limits : Limits) (events : List Event) → HasWalked s.view bytes s.scene limits events b →
+    limit_of_fault fault ≡ steps_over limits (view_steps s.view (scene_of bytes s.scene) (events ++ LeafEvent n ∷ []))) →
+    limits_in c ≡ limits_in b → PainterVisits mark (painter_value s b state names) (painter_value s c state names) (LeafEvent n ∷ []) (Err (from_draw fault))
+leaf_stop mark s state names b c n fault is over limits =
+    painter-visits {dots = λ events scene. []} (painter_value s b state names) (painter_value s c state names) (Err (from_draw fault)) (record {
+      before = refl;
+      after = refl;
+      names = refl;
+      limits = limits;
+      walked = λ bytes most events h. tt;
+      over = λ bytes most events h. told_by (limit_of_view (from_draw fault)) _ (limit-from_draw fault ∙ over bytes most events h);
+      takes = tt;
+      paints = λ most events h. paints_fault mark s (λ scene. []) state fault is;
+      joins = λ events scene. drawn_walls-leaf s.view scene events n;
+      counts = (refl, refl, refl);
+      place = placed-none state.canvas;
+    })
+
+-- a leaf at which a limit was passed
+pub leaf-visits_stop : (mark : Painter → ℕ → ℕ) (s : ViewScene) (state : ViewState) (names : PainterNames) (b c : Bench) (n : ℕ) (fault : DrawFault) (result : Result (Unit {0}) ViewFault) →
+    IsErrAnd result (λ e. e ≡ from_draw fault) → IsLimitFault fault →
+    ((bytes : ℕ → List ℕ) (limits : Limits) (events : List Event) → HasWalked s.view bytes s.scene limits events b →
+    limit_of_fault fault ≡ steps_over limits (view_steps s.view (scene_of bytes s.scene) (events ++ LeafEvent n ∷ []))) →
+    limits_in c ≡ limits_in b → PainterVisits mark (painter_value s b state names) (painter_value s c state names) (LeafEvent n ∷ []) result
+leaf-visits_stop mark s state names b c n fault result told is over limits =
+    let e = err_from_is_err_and result told in
+    subst (PainterVisits mark (painter_value s b state names) (painter_value s c state names) (LeafEvent n ∷ [])) (sym (e.1 ∙ ap Err e.2))
+    (leaf_stop mark s state names b c n fault is over limits)
+
+-- a fragment that was drawn, or a fault at it
+pub fragment-visits : (mark : Painter → ℕ → ℕ) (s : ViewScene) (old new : ViewState) (names next : PainterNames) (b c : Bench) (seg first last : ℕ) (result : Result (Unit {0}) ViewFault) →
+    next ≡ names → KeepsCounts old.cache new.cache → PlacedAlike old.canvas new.canvas →
+    ((bytes : ℕ → List ℕ) (limits : Limits) (events : List Event) → HasWalked s.view bytes s.scene limits events b →
+    OnOk result (HasWalked s.view bytes s.scene limits (events ++ FragmentEvent seg first last ∷ []) c)) →
+    ((bytes : ℕ → List ℕ) (limits : Limits) (events : List Event) → HasWalked s.view bytes s.scene limits events b →
+    IfErr result (λ fault. IfSome (limit_of_view fault) (λ over. steps_over limits (view_steps s.view (scene_of bytes s.scene) (events ++ FragmentEvent seg first last ∷ [])) ≡ Some over))) →
+    ((limits : Limits) (events : List Event) → ((bytes : ℕ → List ℕ) → HasWalked s.view bytes s.scene limits events b) →
+    PaintsView mark s (λ scene. next_dots s.view scene events seg first last) old new result) →
+    OnOk result (CanTake s.view s.scene c) → limits_in c ≡ limits_in b →
+    PainterVisits mark (painter_value s b old names) (painter_value s c new next) (FragmentEvent seg first last ∷ []) result
+fragment-visits mark s old new names next b c seg first last result same counts place walked over paints takes limits =
+    painter-visits {dots = λ events scene. next_dots s.view scene events seg first last} (painter_value s b old names) (painter_value s c new next) result (record {
+      before = refl;
+      after = refl;
+      names = same;
+      limits = limits;
+      walked = walked;
+      over = over;
+      takes = takes;
+      paints = paints;
+      joins = λ events scene. drawn_walls-fragment s.view scene events seg first last;
+      counts = counts;
+      place = place;
+    })
+
+-- a painter's references are the same
+pub names-same : {a b c d a' b' c' d' : ℕ} → a' ≡ a → b' ≡ b → c' ≡ c → d' ≡ d → painter_names a' b' c' d' ≡ painter_names a b c d
+names-same {b = b} {c} {d} {a'} {b'} {c'} {d'} e f g h =
+    ap (λ n. painter_names a' b' c' n) h ∙ ap (λ n. painter_names a' b' n d) g ∙ ap (λ n. painter_names a' n c d) f ∙ ap (λ n. painter_names n b c d) e

@@ -1,0 +1,17 @@
+-- A leaf that was entered, and one at which a limit was passed.
+use Rattle.frame_core.proofs.CanLemmas.{can_count-drawable}
+use Rattle.frame_core.proofs.PainterLemmas.{leaf-visits, leaf-visits_stop}
+use Rattle.frame_core.proofs.painter.ViewPainterVisitor.leaf.Goals as goal
+
+pub enter_leaf-requires-clause-scene : goal.enter_leaf-requires-clause-scene
+enter_leaf-requires-clause-scene g c = can_count-drawable _ _ _ c.requires.drawable
+
+pub returns-in_err-enter_leaf : goal.returns-in_err-enter_leaf
+returns-in_err-enter_leaf g c =
+    let e = c.in_err-enter_leaf.ensures in
+    leaf-visits_stop g.C.Canvas.mark _ _ _ _ _ c.args.leaf c.in_err-enter_leaf.field-0.0 c.from_residual.result c.from_residual.ensures.1 e.faults e.over e.limits
+
+pub returns : goal.returns
+returns g c =
+    let e = c.in_ok-enter_leaf.ensures in
+    leaf-visits g.C.Canvas.mark _ _ _ _ _ c.args.leaf e.walked e.takes e.limits
