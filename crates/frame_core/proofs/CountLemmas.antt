@@ -37,15 +37,25 @@ pub length-openings_list : (v : ViewValue) (walls : List Wall) → length (openi
 unfolding openings_list
 length-openings_list v walls = saved_sum v walls 0 walls
 
-noted : (v : ViewValue) (place : ℕ) (ws : List Wall) → length (notes_from v place ws) ≡ length ws
+noted : (v : ViewValue) (ws : List Wall) (place : ℕ) → length (notes_from v place ws) ≡ length ws
 unfolding notes_from
-noted v place [] = refl
-noted v place (w ∷ ws) = ap suc (noted v _ ws)
+noted v [] place = refl
+noted v (w ∷ ws) place = ap suc (noted v ws _)
 
 -- each fragment has a note
 pub length-view_notes : (v : ViewValue) (walls : List Wall) → length (view_notes v walls) ≡ length walls
 unfolding view_notes
-length-view_notes v walls = noted v 0 walls
+length-view_notes v walls = noted v walls 0
+
+abbrev made_counts : ℕ → ℕ → ℕ → ℕ → Counts
+made_counts planes openings fragments sprites = record { planes = planes; openings = openings; fragments = fragments; sprites = sprites }
+
+counts_of : (k : Counts) (planes openings fragments sprites : ℕ) → k.planes ≡ planes → k.openings ≡ openings → k.fragments ≡ fragments → k.sprites ≡ sprites → k ≡ made_counts planes openings fragments sprites
+counts_of k planes openings fragments sprites p o f s =
+    ap (λ (n : ℕ). made_counts n k.openings k.fragments k.sprites) p
+    ∙ ap (λ (n : ℕ). made_counts planes n k.fragments k.sprites) o
+    ∙ ap (λ (n : ℕ). made_counts planes openings n k.sprites) f
+    ∙ ap (λ (n : ℕ). made_counts planes openings fragments n) s
 
 -- the counts of a view, one part each
 counts_parts : (v : ViewValue) (bytes : ℕ → List ℕ) (s : SceneValue) (counts : Counts) →
@@ -55,7 +65,7 @@ counts_parts : (v : ViewValue) (bytes : ℕ → List ℕ) (s : SceneValue) (coun
     counts.sprites ≡ length (view_entries v (scene_of bytes s) (view_events v (lists_of s))) →
     counts ≡ view_counts v (scene_of bytes s)
 unfolding view_counts counts_by scene_of planes_after view_planes view_steps planes_of
-counts_parts v bytes s counts planes openings fragments sprites = cc
+counts_parts v bytes s counts planes openings fragments sprites = counts_of counts _ _ _ _ planes openings fragments sprites
 
 -- a bench that the walk of a view is in counts what the view counts
 pub counts-walked : (v : ViewValue) (bytes : ℕ → List ℕ) (s : SceneValue) (b : Bench) (counts : Counts) → HasWalkedView v s b →
