@@ -1,9 +1,12 @@
 -- Laws of counts: what a bench that the whole walk of a view is in counts is what the view counts.
-use Rattle.std.proofs.Common.{◌≡◌, ℕ, suc, ◌+◌, List, [], ◌∷◌, map, length, refl, ap, sym, ◌∙◌, arith}
+use Rattle.std.proofs.Common.{◌≡◌, ℕ, suc, ◌+◌, ◌≤◌, List, [], ◌∷◌, map, length, refl, ap, sym, ◌∙◌, arith}
 use Rattle.std.specs.Prelude.{None, sum}
-use Rattle.std.proofs.lemmas.List.{length-append}
+use Rattle.std.proofs.lemmas.List.{length-append, length-map, length-take}
 use Rattle.std.proofs.lemmas.List.Sums.{sum-map, sum_by-cons}
 use Rattle.view_rules.specs.View.{ViewValue}
+use Rattle.walk_rules.specs.declared.TheConstants.{MAX_DRAWSEGS}
+use Rattle.walk_rules.specs.Drawsegs.{drawsegs, leaf_fragments}
+use Rattle.walk_rules.specs.Events.{Event}
 use Rattle.walk_rules.specs.Walk.{view_events}
 use Rattle.wall_rules.specs.Walls.{Wall}
 use Rattle.wall_rules.specs.Openings.{openings_of}
@@ -15,7 +18,8 @@ use Rattle.scene_rules.specs.Scenes.{SceneValue}
 use Rattle.picture_rules.specs.declared.Counts.{Counts}
 use Rattle.picture_rules.specs.Planes.{steps_of, view_planes}
 use Rattle.picture_rules.specs.Things.{view_entries}
-use Rattle.picture_rules.specs.Walls.{walls_of}
+use Rattle.picture_rules.specs.Scene.{Scene}
+use Rattle.picture_rules.specs.Walls.{fragment_wall, walls_of}
 use Rattle.picture_rules.specs.Counts.{counts_by, view_counts, view_over, view_steps}
 use Rattle.frame_core.specs.declared.bench.Bench.{Bench}
 use Rattle.frame_core.specs.Scenes.{lists_of, scene_of}
@@ -79,6 +83,17 @@ counts-walked v bytes s b counts walked planes openings fragments sprites =
     (openings ∙ ap length has.built.openings ∙ length-openings_list v walls)
     (fragments ∙ ap length has.built.notes ∙ length-view_notes v walls)
     (sprites ∙ ap length has.sprites)
+
+few_walls : (v : ViewValue) (scene : Scene) (events : List Event) → length (walls_of v scene events) ≤ MAX_DRAWSEGS
+unfolding walls_of drawsegs
+few_walls v scene events = omega (arith, length-map (drawsegs events) (fragment_wall v scene), length-take MAX_DRAWSEGS (leaf_fragments 0 events))
+
+-- a view notes no more fragments than it draws
+pub few-notes : (v : ViewValue) (s : SceneValue) (b : Bench) → HasWalkedView v s b → length b.walls.notes ≤ MAX_DRAWSEGS
+few-notes v s b walked =
+    let bytes : ℕ → List ℕ = λ lump. [] in
+    let walls = walls_of v (scene_of bytes s) (view_events v (lists_of s)) in
+    omega (arith, ap length (walked bytes).built.notes, length-view_notes v walls, few_walls v (scene_of bytes s) (view_events v (lists_of s)))
 
 -- no count of a view that was walked passes its limit
 pub within-walked : (v : ViewValue) (bytes : ℕ → List ℕ) (s : SceneValue) (b : Bench) → HasWalkedView v s b → view_over v (scene_of bytes s) (limits_in b) ≡ None

@@ -159,6 +159,13 @@ pub if_err-no_limit : {A : Type 0} (P : OverLimit → Type 0) (result : Result A
 if_err-no_limit P (Ok x) h = tt
 if_err-no_limit P (Err e) h = subst (λ (o : Option OverLimit). IfSome o P) (sym h) tt
 
+-- a limit that is told, of the same view and the same limits by other words
+pub over-at : {A : Type 0} (result : Result A ViewFault) (v w : ViewValue) (scene : Scene) (l m : Limits) → v ≡ w → l ≡ m →
+    IfErr result (λ fault. IfSome (limit_of_view fault) (λ over. view_over v scene l ≡ Some over)) → IfErr result (λ fault. IfSome (limit_of_view fault) (λ over. view_over w scene m ≡ Some over))
+over-at result v w scene l m p q told =
+    subst (λ (x : ViewValue). IfErr result (λ fault. IfSome (limit_of_view fault) (λ over. view_over x scene m ≡ Some over))) p
+    (subst (λ (n : Limits). IfErr result (λ fault. IfSome (limit_of_view fault) (λ over. view_over v scene n ≡ Some over))) q told)
+
 fits_frame : (shape : ViewShape) → IsWithinFrame shape → FitsFrame shape
 fits_frame shape frame = record { columns = frame.width; rows = frame.height }
 

@@ -33,22 +33,22 @@ impl<'a, S: Shelf, C: Canvas> Visitor for ViewPainter<'a, S, C> {
     ghost Start = { PainterValue };
 
     ghost stands = { λ p start events. HasPainted C.mark start (painter_value
-      (view_scene p.tools.view.now p.tools.scene.now.scene p.tools.dir.now) p.bench.now
-      (view_state (S.view p.tools.shelf.now) p.tools.cache.now (C.view p.tools.canvas.now))
-      (painter_names p.bench.ghost_name p.tools.cache.ghost_name p.tools.shelf.ghost_name
-      p.tools.canvas.ghost_name)) events (Ok tt) };
+        (view_scene p.tools.view.now p.tools.scene.now.scene p.tools.dir.now) p.bench.now
+        (view_state (S.view p.tools.shelf.now) p.tools.cache.now (C.view p.tools.canvas.now))
+        (painter_names p.bench.ghost_name p.tools.cache.ghost_name p.tools.shelf.ghost_name
+        p.tools.canvas.ghost_name)) events (Ok tt) };
 
     ghost stopped = { λ p start events stop. HasPainted C.mark start (painter_value
-      (view_scene p.tools.view.now p.tools.scene.now.scene p.tools.dir.now) p.bench.now
-      (view_state (S.view p.tools.shelf.now) p.tools.cache.now (C.view p.tools.canvas.now))
-      (painter_names p.bench.ghost_name p.tools.cache.ghost_name p.tools.shelf.ghost_name
-      p.tools.canvas.ghost_name)) events (Err stop) };
+        (view_scene p.tools.view.now p.tools.scene.now.scene p.tools.dir.now) p.bench.now
+        (view_state (S.view p.tools.shelf.now) p.tools.cache.now (C.view p.tools.canvas.now))
+        (painter_names p.bench.ghost_name p.tools.cache.ghost_name p.tools.shelf.ghost_name
+        p.tools.canvas.ghost_name)) events (Err stop) };
 
     ghost takes = { λ p event. CanPaintNext (painter_value
-      (view_scene p.tools.view.now p.tools.scene.now.scene p.tools.dir.now) p.bench.now
-      (view_state (S.view p.tools.shelf.now) p.tools.cache.now (C.view p.tools.canvas.now))
-      (painter_names p.bench.ghost_name p.tools.cache.ghost_name p.tools.shelf.ghost_name
-      p.tools.canvas.ghost_name)) event };
+        (view_scene p.tools.view.now p.tools.scene.now.scene p.tools.dir.now) p.bench.now
+        (view_state (S.view p.tools.shelf.now) p.tools.cache.now (C.view p.tools.canvas.now))
+        (painter_names p.bench.ghost_name p.tools.cache.ghost_name p.tools.shelf.ghost_name
+        p.tools.canvas.ghost_name)) event };
 
     type Stop = ViewFault;
 
@@ -121,6 +121,9 @@ pub(crate) fn draw_walls<S: Shelf, C: Canvas>(
     requires takes { CanTake tools.old.view.now tools.old.scene.now.scene bench.old }
     requires walked { (bytes : ℕ → List ℕ) → HasWalked tools.old.view.now bytes
         tools.old.scene.now.scene (limits_in bench.old) [] bench.old }
+    ensures same_scene { tools.new.scene ≡ tools.old.scene }
+    ensures same_view { tools.new.view ≡ tools.old.view }
+    ensures same_dir { tools.new.dir ≡ tools.old.dir }
     ensures same_cache { tools.new.cache.ghost_name ≡ tools.old.cache.ghost_name }
     ensures same_shelf { tools.new.shelf.ghost_name ≡ tools.old.shelf.ghost_name }
     ensures same_canvas { tools.new.canvas.ghost_name ≡ tools.old.canvas.ghost_name }
