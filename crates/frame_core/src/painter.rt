@@ -33,22 +33,22 @@ impl<'a, S: Shelf, C: Canvas> Visitor for ViewPainter<'a, S, C> {
     ghost Start = { PainterValue };
 
     ghost stands = { λ p start events. HasPainted C.mark start (painter_value
-        (view_scene p.tools.view.now p.tools.scene.now.scene p.tools.dir.now) p.bench.now
-        (view_state (S.view p.tools.shelf.now) p.tools.cache.now (C.view p.tools.canvas.now))
-        (painter_names p.bench.ghost_name p.tools.cache.ghost_name p.tools.shelf.ghost_name
-        p.tools.canvas.ghost_name)) events (Ok tt) };
+      (view_scene p.tools.view.now p.tools.scene.now.scene p.tools.dir.now) p.bench.now
+      (view_state (S.view p.tools.shelf.now) p.tools.cache.now (C.view p.tools.canvas.now))
+      (painter_names p.bench.ghost_name p.tools.cache.ghost_name p.tools.shelf.ghost_name
+      p.tools.canvas.ghost_name)) events (Ok tt) };
 
     ghost stopped = { λ p start events stop. HasPainted C.mark start (painter_value
-        (view_scene p.tools.view.now p.tools.scene.now.scene p.tools.dir.now) p.bench.now
-        (view_state (S.view p.tools.shelf.now) p.tools.cache.now (C.view p.tools.canvas.now))
-        (painter_names p.bench.ghost_name p.tools.cache.ghost_name p.tools.shelf.ghost_name
-        p.tools.canvas.ghost_name)) events (Err stop) };
+      (view_scene p.tools.view.now p.tools.scene.now.scene p.tools.dir.now) p.bench.now
+      (view_state (S.view p.tools.shelf.now) p.tools.cache.now (C.view p.tools.canvas.now))
+      (painter_names p.bench.ghost_name p.tools.cache.ghost_name p.tools.shelf.ghost_name
+      p.tools.canvas.ghost_name)) events (Err stop) };
 
     ghost takes = { λ p event. CanPaintNext (painter_value
-        (view_scene p.tools.view.now p.tools.scene.now.scene p.tools.dir.now) p.bench.now
-        (view_state (S.view p.tools.shelf.now) p.tools.cache.now (C.view p.tools.canvas.now))
-        (painter_names p.bench.ghost_name p.tools.cache.ghost_name p.tools.shelf.ghost_name
-        p.tools.canvas.ghost_name)) event };
+      (view_scene p.tools.view.now p.tools.scene.now.scene p.tools.dir.now) p.bench.now
+      (view_state (S.view p.tools.shelf.now) p.tools.cache.now (C.view p.tools.canvas.now))
+      (painter_names p.bench.ghost_name p.tools.cache.ghost_name p.tools.shelf.ghost_name
+      p.tools.canvas.ghost_name)) event };
 
     type Stop = ViewFault;
 
