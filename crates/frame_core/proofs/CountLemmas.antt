@@ -1,9 +1,12 @@
 -- Laws of counts: what a bench that the whole walk of a view is in counts is what the view counts.
-use Rattle.std.proofs.Common.{◌≡◌, ℕ, suc, ◌+◌, List, [], ◌∷◌, map, length, refl, ap, sym, ◌∙◌, arith}
+use Rattle.std.proofs.Common.{◌≡◌, ℕ, suc, ◌+◌, ◌≤◌, List, [], ◌∷◌, map, length, refl, ap, sym, ◌∙◌, arith}
 use Rattle.std.specs.Prelude.{None, sum}
-use Rattle.std.proofs.lemmas.List.{length-append}
+use Rattle.std.proofs.lemmas.List.{length-append, length-map, length-take}
 use Rattle.std.proofs.lemmas.List.Sums.{sum-map, sum_by-cons}
 use Rattle.view_rules.specs.View.{ViewValue}
+use Rattle.walk_rules.specs.declared.TheConstants.{MAX_DRAWSEGS}
+use Rattle.walk_rules.specs.Drawsegs.{drawsegs, leaf_fragments}
+use Rattle.walk_rules.specs.Events.{Event}
 use Rattle.walk_rules.specs.Walk.{view_events}
 use Rattle.wall_rules.specs.Walls.{Wall}
 use Rattle.wall_rules.specs.Openings.{openings_of}
@@ -15,7 +18,8 @@ use Rattle.scene_rules.specs.Scenes.{SceneValue}
 use Rattle.picture_rules.specs.declared.Counts.{Counts}
 use Rattle.picture_rules.specs.Planes.{steps_of, view_planes}
 use Rattle.picture_rules.specs.Things.{view_entries}
-use Rattle.picture_rules.specs.Walls.{walls_of}
+use Rattle.picture_rules.specs.Scene.{Scene}
+use Rattle.picture_rules.specs.Walls.{fragment_wall, walls_of}
 use Rattle.picture_rules.specs.Counts.{counts_by, view_counts, view_over, view_steps}
 use Rattle.frame_core.specs.declared.bench.Bench.{Bench}
 use Rattle.frame_core.specs.Scenes.{lists_of, scene_of}
@@ -37,15 +41,25 @@ pub length-openings_list : (v : ViewValue) (walls : List Wall) → length (openi
 unfolding openings_list
 length-openings_list v walls = saved_sum v walls 0 walls
 
-noted : (v : ViewValue) (place : ℕ) (ws : List Wall) → length (notes_from v place ws) ≡ length ws
+noted : (v : ViewValue) (ws : List Wall) (place : ℕ) → length (notes_from v place ws) ≡ length ws
 unfolding notes_from
-noted v place [] = refl
-noted v place (w ∷ ws) = ap suc (noted v _ ws)
+noted v [] place = refl
+noted v (w ∷ ws) place = ap suc (noted v ws _)
 
 -- each fragment has a note
 pub length-view_notes : (v : ViewValue) (walls : List Wall) → length (view_notes v walls) ≡ length walls
 unfolding view_notes
-length-view_notes v walls = noted v 0 walls
+length-view_notes v walls = noted v walls 0
+
+abbrev made_counts : ℕ → ℕ → ℕ → ℕ → Counts
+made_counts planes openings fragments sprites = record { planes = planes; openings = openings; fragments = fragments; sprites = sprites }
+
+counts_of : (k : Counts) (planes openings fragments sprites : ℕ) → k.planes ≡ planes → k.openings ≡ openings → k.fragments ≡ fragments → k.sprites ≡ sprites → k ≡ made_counts planes openings fragments sprites
+counts_of k planes openings fragments sprites p o f s =
+    ap (λ (n : ℕ). made_counts n k.openings k.fragments k.sprites) p
+    ∙ ap (λ (n : ℕ). made_counts planes n k.fragments k.sprites) o
+    ∙ ap (λ (n : ℕ). made_counts planes openings n k.sprites) f
+    ∙ ap (λ (n : ℕ). made_counts planes openings fragments n) s
 
 -- the counts of a view, one part each
 counts_parts : (v : ViewValue) (bytes : ℕ → List ℕ) (s : SceneValue) (counts : Counts) →
@@ -55,7 +69,7 @@ counts_parts : (v : ViewValue) (bytes : ℕ → List ℕ) (s : SceneValue) (coun
     counts.sprites ≡ length (view_entries v (scene_of bytes s) (view_events v (lists_of s))) →
     counts ≡ view_counts v (scene_of bytes s)
 unfolding view_counts counts_by scene_of planes_after view_planes view_steps planes_of
-counts_parts v bytes s counts planes openings fragments sprites = cc
+counts_parts v bytes s counts planes openings fragments sprites = counts_of counts _ _ _ _ planes openings fragments sprites
 
 -- a bench that the walk of a view is in counts what the view counts
 pub counts-walked : (v : ViewValue) (bytes : ℕ → List ℕ) (s : SceneValue) (b : Bench) (counts : Counts) → HasWalkedView v s b →
@@ -69,6 +83,17 @@ counts-walked v bytes s b counts walked planes openings fragments sprites =
     (openings ∙ ap length has.built.openings ∙ length-openings_list v walls)
     (fragments ∙ ap length has.built.notes ∙ length-view_notes v walls)
     (sprites ∙ ap length has.sprites)
+
+few_walls : (v : ViewValue) (scene : Scene) (events : List Event) → length (walls_of v scene events) ≤ MAX_DRAWSEGS
+unfolding walls_of drawsegs
+few_walls v scene events = omega (arith, length-map (drawsegs events) (fragment_wall v scene), length-take MAX_DRAWSEGS (leaf_fragments 0 events))
+
+-- a view notes no more fragments than it draws
+pub few-notes : (v : ViewValue) (s : SceneValue) (b : Bench) → HasWalkedView v s b → length b.walls.notes ≤ MAX_DRAWSEGS
+few-notes v s b walked =
+    let bytes : ℕ → List ℕ = λ lump. [] in
+    let walls = walls_of v (scene_of bytes s) (view_events v (lists_of s)) in
+    omega (arith, ap length (walked bytes).built.notes, length-view_notes v walls, few_walls v (scene_of bytes s) (view_events v (lists_of s)))
 
 -- no count of a view that was walked passes its limit
 pub within-walked : (v : ViewValue) (bytes : ℕ → List ℕ) (s : SceneValue) (b : Bench) → HasWalkedView v s b → view_over v (scene_of bytes s) (limits_in b) ≡ None

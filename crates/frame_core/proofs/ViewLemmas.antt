@@ -3,6 +3,8 @@ use Rattle.std.proofs.Common.{◌≡◌, ℕ, zero, suc, ◌+◌, ◌<◌, ◌�
 use Rattle.std.specs.Prelude.{All, IfErr, IfSome, true}
 use Rattle.std.specs.List.{AllPass}
 use Rattle.std.proofs.lemmas.List.{length-replicate}
+use Rattle.outside.specs.Shelf.{ShelfView}
+use Rattle.zone_rules.specs.Zones.{Heap}
 use Rattle.view_rules.specs.View.{ViewValue}
 use Rattle.view_rules.specs.Sound.{IsWithinFrame}
 use Rattle.view_rules.specs.declared.ViewShape.{ViewShape}
@@ -38,7 +40,7 @@ use Rattle.frame_core.specs.declared.bench.Bench.{Bench}
 use Rattle.frame_core.specs.declared.fault.ViewFault.{ViewFault}
 use Rattle.frame_core.specs.Faults.{limit_of_view}
 use Rattle.frame_core.specs.Scenes.{lists_of, scene_of}
-use Rattle.frame_core.specs.Views.{PaintsView, ViewState, view_scene}
+use Rattle.frame_core.specs.Views.{CanDrawView, PaintsView, ViewScene, ViewState, view_scene, view_state}
 use Rattle.frame_core.specs.Walked.{HasWalked, IsPlaneIn, planes_after}
 use Rattle.frame_core.specs.Painters.{HasWalkedView, IsPlacedIn, drawn_walls, limits_in}
 use Rattle.frame_core.proofs.PaintLemmas.{paints-same, paints-then}
@@ -75,13 +77,47 @@ view_parts : (v : ViewValue) (bytes : ℕ → List ℕ) (s : SceneValue) →
 unfolding view_paints paints_of paints_by view_steps scene_of
 view_parts v bytes s = refl
 
+-- what the planes and the masked pass of a view paint
+abbrev pub FloorsPaint : {D : Type 0} → (Painter → ℕ → ℕ) → ViewValue → SceneValue → DirectoryView → ViewState → ViewState → Result D ViewFault → Type 0
+FloorsPaint mark v s dir a b result = PaintsView mark (view_scene v s dir) (λ scene. planes_dots v scene (view_planes (view_steps v scene (view_events v (lists_of s))))) a b result
+
+abbrev pub MasksPaint : {D : Type 0} → (Painter → ℕ → ℕ) → ViewValue → SceneValue → DirectoryView → ViewState → ViewState → Result D ViewFault → Type 0
+MasksPaint mark v s dir a b result =
+    PaintsView mark (view_scene v s dir) (λ scene. masked_dots v scene.art (view_drawsegs v scene (walls_of v scene (view_events v (lists_of s)))) (draw_order (view_entries v scene (view_events v (lists_of s))))) a b result
+
+-- a part of the same view, scene and directory by other words
+pub floors-at : {D : Type 0} {mark : Painter → ℕ → ℕ} (v w : ViewValue) (s t : SceneValue) (dir e : DirectoryView) {a b : ViewState} {result : Result D ViewFault} → w ≡ v → t ≡ s → e ≡ dir → FloorsPaint mark w t e a b result → FloorsPaint mark v s dir a b result
+floors-at {mark = mark} v w s t dir e {a} {b} {result} p q r paint =
+    subst (λ (x : ViewValue). FloorsPaint mark x s dir a b result) p
+    (subst (λ (y : SceneValue). FloorsPaint mark w y dir a b result) q
+    (subst (λ (z : DirectoryView). FloorsPaint mark w t z a b result) r paint))
+
+pub masks-at : {D : Type 0} {mark : Painter → ℕ → ℕ} (v w : ViewValue) (s t : SceneValue) (dir e : DirectoryView) {a b : ViewState} {result : Result D ViewFault} → w ≡ v → t ≡ s → e ≡ dir → MasksPaint mark w t e a b result → MasksPaint mark v s dir a b result
+masks-at {mark = mark} v w s t dir e {a} {b} {result} p q r paint =
+    subst (λ (x : ViewValue). MasksPaint mark x s dir a b result) p
+    (subst (λ (y : SceneValue). MasksPaint mark w y dir a b result) q
+    (subst (λ (z : DirectoryView). MasksPaint mark w t z a b result) r paint))
+
+pub drawable-at : (dir e : DirectoryView) (s t : SceneValue) (z : Heap) → e ≡ dir → t ≡ s → CanDrawView dir.lumps s z → CanDrawView e.lumps t z
+drawable-at dir e s t z p q can =
+    subst (λ (y : SceneValue). CanDrawView e.lumps y z) (sym q) (subst (λ (d : DirectoryView). CanDrawView d.lumps s z) (sym p) can)
+
+pub walked-at : (v w : ViewValue) (s t : SceneValue) (b : Bench) → w ≡ v → t ≡ s → HasWalkedView v s b → HasWalkedView w t b
+walked-at v w s t b p q walked = subst (λ (y : SceneValue). HasWalkedView w y b) (sym q) (subst (λ (x : ViewValue). HasWalkedView x s b) (sym p) walked)
+
 -- walls, planes and the masked pass, one after the other, paint the view
 pub parts-paint : {mark : Painter → ℕ → ℕ} {v : ViewValue} {s : SceneValue} {dir : DirectoryView} {a b c d : ViewState} {A B D : Type 0} {one : A} {two : B} {result : Result D ViewFault} →
     PaintsView mark (view_scene v s dir) (drawn_walls v (view_events v (lists_of s))) a b (Ok one) →
-    PaintsView mark (view_scene v s dir) (λ scene. planes_dots v scene (view_planes (view_steps v scene (view_events v (lists_of s))))) b c (Ok two) →
-    PaintsView mark (view_scene v s dir) (λ scene. masked_dots v scene.art (view_drawsegs v scene (walls_of v scene (view_events v (lists_of s)))) (draw_order (view_entries v scene (view_events v (lists_of s))))) c d result →
+    FloorsPaint mark v s dir b c (Ok two) → MasksPaint mark v s dir c d result →
     PaintsView mark (view_scene v s dir) (view_paints v) a d result
 parts-paint {v = v} {s} walls planes masks = paints-same (view_paints v) (λ contents. view_parts v _ s) (paints-then walls (paints-then planes masks))
+
+-- what was painted from where the view was placed
+pub paints-placed : {A : Type 0} {mark : Painter → ℕ → ℕ} {s : ViewScene} {f : Scene → List Dot} {shelf : ShelfView} {z : Heap} {b : ViewState} {result : Result A ViewFault} (v : ViewValue) (shape : ViewShape) (old now : CanvasView) →
+    shape ≡ v.shape → now ≡ placed_at shape.left shape.top old → PaintsView mark s f (view_state shelf z now) b result →
+    PaintsView mark s f (view_state shelf z (placed_at v.shape.left v.shape.top old)) b result
+paints-placed {mark = mark} {s} {f} {shelf} {z} {b} {result} v shape old now same place paint =
+    subst (λ (canvas : CanvasView). PaintsView mark s f (view_state shelf z canvas) b result) (placed-as v shape old now same place) paint
 
 planes_in : (v : ViewValue) (bytes : ℕ → List ℕ) (s : SceneValue) (b : Bench) → HasWalkedView v s b → All (LiesInView v.shape) (view_planes (view_steps v (scene_of bytes s) (view_events v (lists_of s))))
 unfolding view_planes planes_of planes_after
@@ -123,10 +159,17 @@ pub if_err-no_limit : {A : Type 0} (P : OverLimit → Type 0) (result : Result A
 if_err-no_limit P (Ok x) h = tt
 if_err-no_limit P (Err e) h = subst (λ (o : Option OverLimit). IfSome o P) (sym h) tt
 
+-- a limit that is told, of the same view and the same limits by other words
+pub over-at : {A : Type 0} (result : Result A ViewFault) (v w : ViewValue) (scene : Scene) (l m : Limits) → v ≡ w → l ≡ m →
+    IfErr result (λ fault. IfSome (limit_of_view fault) (λ over. view_over v scene l ≡ Some over)) → IfErr result (λ fault. IfSome (limit_of_view fault) (λ over. view_over w scene m ≡ Some over))
+over-at result v w scene l m p q told =
+    subst (λ (x : ViewValue). IfErr result (λ fault. IfSome (limit_of_view fault) (λ over. view_over x scene m ≡ Some over))) p
+    (subst (λ (n : Limits). IfErr result (λ fault. IfSome (limit_of_view fault) (λ over. view_over v scene n ≡ Some over))) q told)
+
 fits_frame : (shape : ViewShape) → IsWithinFrame shape → FitsFrame shape
 fits_frame shape frame = record { columns = frame.width; rows = frame.height }
 
-zeros : (n cell : ℕ) → get_or (replicate n 0) cell 0 ≡ 0
+zeros : (n cell : ℕ) → get_or (replicate {A = ℕ} n 0) cell 0 ≡ 0
 zeros zero cell = refl
 zeros (suc n) zero = refl
 zeros (suc n) (suc cell) = zeros n cell

@@ -34,6 +34,9 @@ pub(crate) fn draw_masks<S: Shelf, C: Canvas>(
     requires placed { IsPlacedIn tools.old.view.now (C.view tools.old.canvas.now) }
     requires walked { HasWalkedView tools.old.view.now tools.old.scene.now.scene bench.now }
     requires marks { bench.now.walls.room ≤ length marks.old }
+    ensures same_scene { tools.new.scene ≡ tools.old.scene }
+    ensures same_view { tools.new.view ≡ tools.old.view }
+    ensures same_dir { tools.new.dir ≡ tools.old.dir }
     ensures same_cache { tools.new.cache.ghost_name ≡ tools.old.cache.ghost_name }
     ensures same_shelf { tools.new.shelf.ghost_name ≡ tools.old.shelf.ghost_name }
     ensures same_canvas { tools.new.canvas.ghost_name ≡ tools.old.canvas.ghost_name }

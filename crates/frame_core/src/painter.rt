@@ -123,6 +123,9 @@ pub(crate) fn draw_walls<S: Shelf, C: Canvas>(
     requires takes { CanTake tools.old.view.now tools.old.scene.now.scene bench.old }
     requires walked { (bytes : ℕ → List ℕ) → HasWalked tools.old.view.now bytes
         tools.old.scene.now.scene (limits_in bench.old) [] bench.old }
+    ensures same_scene { tools.new.scene ≡ tools.old.scene }
+    ensures same_view { tools.new.view ≡ tools.old.view }
+    ensures same_dir { tools.new.dir ≡ tools.old.dir }
     ensures same_cache { tools.new.cache.ghost_name ≡ tools.old.cache.ghost_name }
     ensures same_shelf { tools.new.shelf.ghost_name ≡ tools.old.shelf.ghost_name }
     ensures same_canvas { tools.new.canvas.ghost_name ≡ tools.old.canvas.ghost_name }

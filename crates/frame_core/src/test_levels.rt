@@ -31,7 +31,10 @@ impl Wad {
     }
 
     fn add(&mut self, name: &[u8; 8], bytes: &[u8]) -> Result<(), AllocError> {
-        put_size(&mut self.directory, self.lumps.len().wrapping_add(HEADER_BYTES))?;
+        put_size(
+            &mut self.directory,
+            self.lumps.len().wrapping_add(HEADER_BYTES),
+        )?;
         put_size(&mut self.directory, bytes.len())?;
         self.directory.extend_from_slice(name)?;
         self.lumps.extend_from_slice(bytes)

@@ -7,9 +7,7 @@ ghost use Rattle.wall_rules.specs.declared.TheConstants.{MOST_OPENINGS};
 ghost use Rattle.frame_core.specs.Views.{CanDrawView};
 
 use crate::test_levels::{hall_wad, room_wad};
-use crate::{
-    Counts, LimitKind, Limits, OverLimit, ViewFault, Workshop, count_view, draw_view,
-};
+use crate::{Counts, LimitKind, Limits, OverLimit, ViewFault, Workshop, count_view, draw_view};
 use angle_tables::Tables;
 use csv_tables::ThingTable;
 use level_audit::{SoundScene, audit};

@@ -1,0 +1,23 @@
+-- The cleared frame is the canvas.
+use Rattle.std.proofs.Common.{◌≡◌, OnOk, ap, subst}
+use Rattle.lump_rules.specs.Contents.{lump_bytes}
+use Rattle.pixel_strips.specs.Canvases.{CanvasView}
+use Rattle.view_rules.specs.View.{ViewValue, view_of}
+use Rattle.picture_rules.specs.Picture.{picture}
+use Rattle.frame_core.specs.Scenes.{scene_of}
+use Rattle.frame_core.specs.Workshops.{WorkshopView}
+use Rattle.frame_core.proofs.ViewLemmas.{over-at, pictured}
+use Rattle.frame_core.proofs.view.draw_view.Goals as goal
+
+pub returns-clause-picture : goal.returns-clause-picture
+returns-clause-picture g c = λ contents count hold.
+    let scene = scene_of (lump_bytes contents c.args.dir.now.lumps) c.args.scene.now.scene in
+    let cleared = ap (λ (f : CanvasView). f.cells) c.clear.ensures in
+    subst (λ (v : ViewValue). OnOk c.draw_with.result (c.draw_with.new.canvas.cells ≡ picture v scene)) c.new-view.ensures
+    (pictured c.new-view.result scene c.clear.new.self c.draw_with.new.canvas c.draw_with.result c.draw_with.ensures.frame cleared
+    (c.draw_with.ensures.in_view (lump_bytes contents c.args.dir.now.lumps)) (c.draw_with.ensures.paints.painted contents count hold))
+
+pub returns-clause-over : goal.returns-clause-over
+returns-clause-over g c = λ bytes.
+    over-at c.draw_with.result c.new-view.result (view_of c.args.tables.now c.args.eye) (scene_of bytes c.args.scene.now.scene) _ _ c.new-view.ensures (ap (λ (w : WorkshopView). w.limits) c.shop.view_is)
+    (c.draw_with.ensures.over bytes)
