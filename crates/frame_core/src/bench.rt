@@ -20,6 +20,8 @@ ghost use Rattle.vissprites.specs.Bounds.{lies_within, has_lump_below};
 ghost use Rattle.wall_rules.specs.declared.TheConstants.{MOST_OPENINGS};
 ghost use Rattle.wall_columns.specs.Built.{limits_of};
 ghost use Rattle.wall_columns.specs.Faults.{limit_of_result, IsLimitFault};
+ghost use Rattle.lump_cache.specs.Caches.{KeepsCounts};
+ghost use Rattle.pixel_strips.specs.Dotted.{PlacedAlike};
 ghost use Rattle.frame_core.specs.Entered.{has_entered};
 ghost use Rattle.frame_core.specs.Scenes.{lists_of, scene_of};
 ghost use Rattle.frame_core.specs.Faults.{limit_of_view};
@@ -213,6 +215,8 @@ impl Bench {
         ensures same_cache { tools.new.cache.ghost_name ≡ tools.old.cache.ghost_name }
         ensures same_shelf { tools.new.shelf.ghost_name ≡ tools.old.shelf.ghost_name }
         ensures same_canvas { tools.new.canvas.ghost_name ≡ tools.old.canvas.ghost_name }
+        ensures counts { KeepsCounts tools.old.cache.now tools.new.cache.now }
+        ensures place { PlacedAlike (C.view tools.old.canvas.now) (C.view tools.new.canvas.now) }
         ensures walked { (bytes : ℕ → List ℕ) (limits : Limits) (events : List Event) →
             HasWalked tools.old.view.now bytes tools.old.scene.now.scene limits events self.old →
             OnOk result (HasWalked tools.old.view.now bytes tools.old.scene.now.scene limits

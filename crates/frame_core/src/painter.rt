@@ -13,16 +13,25 @@ ghost use Rattle.frame_core.specs.Painters.{HasWalkedView, IsPlacedIn, drawn_wal
 use crate::bench::Bench;
 use crate::fault::ViewFault;
 use crate::tools::ViewTools;
+use level_audit::SoundScene;
+use lump_cache::LumpCache;
 use node_walk::{Visitor, WalkScene, walk};
 use outside::Shelf;
 use pixel_strips::Canvas;
 use solid_segs::Cover;
+use view_frame::View;
+use wad_dir::Directory;
 
 /// Draws each fragment of a view as it comes, in what the view is built in.
 #[derive(Drop)]
 pub(crate) struct ViewPainter<'b, 'a, S: Shelf, C: Canvas> {
     pub bench: &'b mut Bench,
-    pub tools: ViewTools<'a, S, C>,
+    pub scene: &'a SoundScene,
+    pub view: &'a View<'a>,
+    pub dir: &'a Directory,
+    pub cache: &'a mut LumpCache,
+    pub shelf: &'a mut S,
+    pub canvas: &'a mut C,
 }
 
 impl<'b, 'a, S: Shelf, C: Canvas> Visitor for ViewPainter<'b, 'a, S, C> {
@@ -33,33 +42,40 @@ impl<'b, 'a, S: Shelf, C: Canvas> Visitor for ViewPainter<'b, 'a, S, C> {
     ghost Start = { PainterValue };
 
     ghost stands = { λ p start events. HasPainted C.mark start (painter_value
-        (view_scene p.tools.view.now p.tools.scene.now.scene p.tools.dir.now) p.bench.now
-        (view_state (S.view p.tools.shelf.now) p.tools.cache.now (C.view p.tools.canvas.now))
-        (painter_names p.bench.ghost_name p.tools.cache.ghost_name p.tools.shelf.ghost_name
-        p.tools.canvas.ghost_name)) events (Ok tt) };
+        (view_scene p.view.now p.scene.now.scene p.dir.now) p.bench.now
+        (view_state (S.view p.shelf.now) p.cache.now (C.view p.canvas.now))
+        (painter_names p.bench.ghost_name p.cache.ghost_name p.shelf.ghost_name
+        p.canvas.ghost_name)) events (Ok tt) };
 
     ghost stopped = { λ p start events stop. HasPainted C.mark start (painter_value
-        (view_scene p.tools.view.now p.tools.scene.now.scene p.tools.dir.now) p.bench.now
-        (view_state (S.view p.tools.shelf.now) p.tools.cache.now (C.view p.tools.canvas.now))
-        (painter_names p.bench.ghost_name p.tools.cache.ghost_name p.tools.shelf.ghost_name
-        p.tools.canvas.ghost_name)) events (Err stop) };
+        (view_scene p.view.now p.scene.now.scene p.dir.now) p.bench.now
+        (view_state (S.view p.shelf.now) p.cache.now (C.view p.canvas.now))
+        (painter_names p.bench.ghost_name p.cache.ghost_name p.shelf.ghost_name
+        p.canvas.ghost_name)) events (Err stop) };
 
     ghost takes = { λ p event. CanPaintNext (painter_value
-        (view_scene p.tools.view.now p.tools.scene.now.scene p.tools.dir.now) p.bench.now
-        (view_state (S.view p.tools.shelf.now) p.tools.cache.now (C.view p.tools.canvas.now))
-        (painter_names p.bench.ghost_name p.tools.cache.ghost_name p.tools.shelf.ghost_name
-        p.tools.canvas.ghost_name)) event };
+        (view_scene p.view.now p.scene.now.scene p.dir.now) p.bench.now
+        (view_state (S.view p.shelf.now) p.cache.now (C.view p.canvas.now))
+        (painter_names p.bench.ghost_name p.cache.ghost_name p.shelf.ghost_name
+        p.canvas.ghost_name)) event };
 
     type Stop = ViewFault;
 
     fn leaf(&mut self, leaf: u16) -> Result<(), ViewFault> {
-        self.bench
-            .enter_leaf(self.tools.scene, self.tools.view, leaf)?;
+        self.bench.enter_leaf(self.scene, self.view, leaf)?;
         Ok(())
     }
 
     fn fragment(&mut self, seg: u16, first: u16, last: u16) -> Result<(), ViewFault> {
-        self.bench.store_fragment(&mut self.tools, seg, first, last)
+        let mut tools = ViewTools {
+            scene: self.scene,
+            view: self.view,
+            dir: self.dir,
+            cache: &mut *self.cache,
+            shelf: &mut *self.shelf,
+            canvas: &mut *self.canvas,
+        };
+        self.bench.store_fragment(&mut tools, seg, first, last)
     }
 }
 
@@ -67,39 +83,39 @@ impl<'b, 'a, S: Shelf, C: Canvas> Visitor for ViewPainter<'b, 'a, S, C> {
 fn walk_painter<S: Shelf, C: Canvas>(
     painter: &mut ViewPainter<'_, '_, S, C>,
 ) -> Result<(), ViewFault>
-    requires drawable { CanDrawView painter.old.tools.dir.now.lumps
-        painter.old.tools.scene.now.scene painter.old.tools.cache.now }
-    requires placed { IsPlacedIn painter.old.tools.view.now
-        (C.view painter.old.tools.canvas.now) }
-    requires takes { CanTake painter.old.tools.view.now painter.old.tools.scene.now.scene
+    requires drawable { CanDrawView painter.old.dir.now.lumps
+        painter.old.scene.now.scene painter.old.cache.now }
+    requires placed { IsPlacedIn painter.old.view.now
+        (C.view painter.old.canvas.now) }
+    requires takes { CanTake painter.old.view.now painter.old.scene.now.scene
         painter.old.bench.now }
-    requires walked { (bytes : ℕ → List ℕ) → HasWalked painter.old.tools.view.now bytes
-        painter.old.tools.scene.now.scene (limits_in painter.old.bench.now) []
+    requires walked { (bytes : ℕ → List ℕ) → HasWalked painter.old.view.now bytes
+        painter.old.scene.now.scene (limits_in painter.old.bench.now) []
         painter.old.bench.now }
     ensures same_bench { painter.new.bench.ghost_name ≡ painter.old.bench.ghost_name }
-    ensures same_cache { painter.new.tools.cache.ghost_name ≡ painter.old.tools.cache.ghost_name }
-    ensures same_shelf { painter.new.tools.shelf.ghost_name ≡ painter.old.tools.shelf.ghost_name }
-    ensures same_canvas { painter.new.tools.canvas.ghost_name
-        ≡ painter.old.tools.canvas.ghost_name }
-    ensures walked { OnOk result (HasWalkedView painter.old.tools.view.now
-        painter.old.tools.scene.now.scene painter.new.bench.now) }
+    ensures same_cache { painter.new.cache.ghost_name ≡ painter.old.cache.ghost_name }
+    ensures same_shelf { painter.new.shelf.ghost_name ≡ painter.old.shelf.ghost_name }
+    ensures same_canvas { painter.new.canvas.ghost_name
+        ≡ painter.old.canvas.ghost_name }
+    ensures walked { OnOk result (HasWalkedView painter.old.view.now
+        painter.old.scene.now.scene painter.new.bench.now) }
     ensures over { (bytes : ℕ → List ℕ) → IfErr result (λ fault.
-        IfSome (limit_of_view fault) (λ over. view_over painter.old.tools.view.now
-        (scene_of bytes painter.old.tools.scene.now.scene) (limits_in painter.old.bench.now)
+        IfSome (limit_of_view fault) (λ over. view_over painter.old.view.now
+        (scene_of bytes painter.old.scene.now.scene) (limits_in painter.old.bench.now)
         ≡ Some over)) }
     ensures paints { PaintsView C.mark
-        (view_scene painter.old.tools.view.now painter.old.tools.scene.now.scene
-        painter.old.tools.dir.now)
-        (drawn_walls painter.old.tools.view.now (view_events painter.old.tools.view.now
-        (lists_of painter.old.tools.scene.now.scene)))
-        (view_state (S.view painter.old.tools.shelf.now) painter.old.tools.cache.now
-        (C.view painter.old.tools.canvas.now))
-        (view_state (S.view painter.new.tools.shelf.now) painter.new.tools.cache.now
-        (C.view painter.new.tools.canvas.now)) result }
+        (view_scene painter.old.view.now painter.old.scene.now.scene
+        painter.old.dir.now)
+        (drawn_walls painter.old.view.now (view_events painter.old.view.now
+        (lists_of painter.old.scene.now.scene)))
+        (view_state (S.view painter.old.shelf.now) painter.old.cache.now
+        (C.view painter.old.canvas.now))
+        (view_state (S.view painter.new.shelf.now) painter.new.cache.now
+        (C.view painter.new.canvas.now)) result }
     ensures limits { limits_in painter.new.bench.now ≡ limits_in painter.old.bench.now }
 {
-    let scene = painter.tools.scene;
-    let view = painter.tools.view;
+    let scene = painter.scene;
+    let view = painter.view;
     let walked = WalkScene {
         level: scene.level(),
         surfaces: scene.surfaces(),
@@ -146,14 +162,12 @@ pub(crate) fn draw_walls<S: Shelf, C: Canvas>(
 {
     let mut painter = ViewPainter {
         bench,
-        tools: ViewTools {
-            scene: tools.scene,
-            view: tools.view,
-            dir: tools.dir,
-            cache: &mut *tools.cache,
-            shelf: &mut *tools.shelf,
-            canvas: &mut *tools.canvas,
-        },
+        scene: tools.scene,
+        view: tools.view,
+        dir: tools.dir,
+        cache: &mut *tools.cache,
+        shelf: &mut *tools.shelf,
+        canvas: &mut *tools.canvas,
     };
     walk_painter(&mut painter)
 }
