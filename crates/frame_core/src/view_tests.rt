@@ -127,14 +127,18 @@ fn lit(extralight: u8, colormap: u8) -> Eye {
     }
 }
 
-// A workshop with the view of an eye in the level beside the made WAD.
+// What is seen of a frame: the pixel of column 160 in a row, and the sum of all.
+type Seen = (Option<u8>, u64);
+
+// What is seen of the view of an eye in the level beside the made WAD.
 fn drawn(
     alloc: Global,
     level: Vec<u8>,
     limits: Limits,
     size: u8,
     eye: Eye,
-) -> Result<Result<Workshop, ViewFault>, Fail>
+    row: usize,
+) -> Result<Result<Seen, ViewFault>, Fail>
     requires planes { limits.planes ≤ MOST_VISPLANES }
     requires openings { limits.openings ≤ MOST_OPENINGS }
     requires least { MIN_SIZE ≤ size }
@@ -145,7 +149,7 @@ fn drawn(
     let tables = Tables::from_bytes(alloc, &make_tables(alloc)?, size)?;
     let mut shop = Workshop::new(alloc, limits)?;
     match draw(&mut assets, &tables, &mut shop, eye) {
-        Ok(()) => Ok(Ok(shop)),
+        Ok(()) => Ok(Ok((pixel(shop.frame(), row), sum_of(shop.frame())))),
         Err(fault) => Ok(Err(fault)),
     }
 }
@@ -179,14 +183,6 @@ fn count(
     count_view(&assets.scene, tables, shop, eye)
 }
 
-// The sum of a frame that was drawn, none where it was not.
-fn sum_drawn(drawn: &Result<Workshop, ViewFault>) -> Option<u64> {
-    match drawn {
-        Ok(shop) => Some(sum_of(shop.frame())),
-        Err(_) => None,
-    }
-}
-
 // The light of the view and its size change the east wall of the room.
 #[test]
 fn a_room_is_drawn_at_each_light_and_size(rt: HostRuntime) -> Result<(), Fail> {
@@ -203,9 +199,8 @@ fn a_room_is_drawn_at_each_light_and_size(rt: HostRuntime) -> Result<(), Fail> {
         (3, EYE, 199, 0, 0x8106_2c3f_895e_0633),
     ] {
         let level = room_wad(alloc, b"FLAT0\0\0\0FLAT1\0\0\0")?;
-        let shop = drawn(alloc, level, LIMITS, size, eye)??;
-        assert_eq!(rt; pixel(shop.frame(), row), Some(colour));
-        assert_eq!(rt; sum_of(shop.frame()), sum);
+        let seen = drawn(alloc, level, LIMITS, size, eye, row)?;
+        assert_eq!(rt; seen, Ok((Some(colour), sum)));
     }
     Ok(())
 }
@@ -214,12 +209,11 @@ fn a_room_is_drawn_at_each_light_and_size(rt: HostRuntime) -> Result<(), Fail> {
 fn a_floor_and_a_ceiling_of_sky_are_one_plane(rt: HostRuntime) -> Result<(), Fail> {
     let alloc = rt.alloc();
     let flats = b"F_SKY1\0\0F_SKY1\0\0";
-    let level = room_wad(alloc, flats)?;
-    let shop = drawn(alloc, level, LIMITS, MAX_SIZE, EYE)??;
-    assert_eq!(rt; pixel(shop.frame(), 0), Some(0));
-    assert_eq!(rt; pixel(shop.frame(), 45), Some(0));
-    assert_eq!(rt; pixel(shop.frame(), 46), Some(128));
-    assert_eq!(rt; sum_of(shop.frame()), 0x5e3d_0e53_1461_de80);
+    for (row, colour) in [(0, 0), (45, 0), (46, 128)] {
+        let level = room_wad(alloc, flats)?;
+        let seen = drawn(alloc, level, LIMITS, MAX_SIZE, EYE, row)?;
+        assert_eq!(rt; seen, Ok((Some(colour), 0x5e3d_0e53_1461_de80)));
+    }
     let counts = counted(alloc, room_wad(alloc, flats)?, LIMITS, EYE)?;
     let expected = Counts {
         planes: 1,
@@ -258,16 +252,18 @@ fn a_hall_past_the_limit_is_drawn_where_the_limit_is_raised(rt: HostRuntime) -> 
         planes: 129,
         openings: 20480,
     };
-    let small = drawn(alloc, hall_wad(alloc, 64)?, LIMITS, MAX_SIZE, EYE)?;
-    assert_eq!(rt; sum_drawn(&small), Some(0x4de2_1e57_70ab_9919));
-    let large = drawn(alloc, hall_wad(alloc, 65)?, raised, MAX_SIZE, EYE)?;
-    assert_eq!(rt; sum_drawn(&large), Some(0x9201_dc65_0a56_2f4b));
-    let full = drawn(alloc, hall_wad(alloc, 65)?, LIMITS, MAX_SIZE, EYE)?;
     let over = ViewFault::Limit {
         kind: LimitKind::Planes,
         count: 129,
     };
-    assert_eq!(rt; full.err(), Some(over));
+    for (leaves, limits, sum) in [
+        (64, LIMITS, Ok(0x4de2_1e57_70ab_9919)),
+        (65, raised, Ok(0x9201_dc65_0a56_2f4b)),
+        (65, LIMITS, Err(over)),
+    ] {
+        let seen = drawn(alloc, hall_wad(alloc, leaves)?, limits, MAX_SIZE, EYE, 0)?;
+        assert_eq!(rt; seen.map(|frame| frame.1), sum);
+    }
     Ok(())
 }
 
