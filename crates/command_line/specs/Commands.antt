@@ -1,5 +1,5 @@
 -- Which words are a command, and which command they are.
-use Rattle.std.specs.Prelude.{ℕ, ◌≤◌, Bool, cond, ◌==◌, ◌||◌, List, [], ◌∷◌, length, map, Option, Some, None, option_and_then, option_map, codes, bytes_eq}
+use Rattle.std.specs.Prelude.{ℕ, ◌≤◌, Bool, cond, not, ◌==◌, ◌||◌, List, [], ◌∷◌, length, map, Option, Some, None, option_and_then, option_map, codes, bytes_eq}
 use Rattle.clap.specs.Words.{Row, Text, all_of, fault_of, first_of, matches_of}
 use Rattle.lump_rules.specs.Names.{name_of_text}
 use Rattle.command_line.specs.declared.command.Command.{Command}
@@ -10,7 +10,7 @@ use Rattle.command_line.specs.declared.command.MakeJob.TheVariants.{Wad, Path, T
 use Rattle.command_line.specs.declared.command.LevelTask.{LevelTask}
 use Rattle.command_line.specs.declared.jobs.TheConstants.{MAX_COUNT, MIN_COUNT}
 use Rattle.command_line.specs.Simple.{simple_command}
-use Rattle.command_line.specs.Choices.{format_in, has_no_options, has_no_settings, number_within, zone_in}
+use Rattle.command_line.specs.Choices.{IsZone, format_in, has_no_options, has_no_settings, number_within, zone_in}
 use Rattle.command_line.specs.LevelJobs.{IsLevelJob, LevelJobValue, are_wads, level_task_in, level_job_of, level_job_value}
 
 -- a command, as text and numbers
@@ -37,16 +37,21 @@ IsCountedMake (Path n) = IsCount n
 IsCountedMake Tables = Unit {0}
 IsCountedMake Things = Unit {0}
 
--- the number of made files, or the numbers of a job over a level, are in their ranges
+-- a number of made files, and a size that their zone can have
+pub record IsExercise (files size : ℕ) : Type 0 where
+  pub count : IsCount files
+  pub zone : IsZone size
+
+-- the number of made files with the size of their zone, or the numbers of a job over a level, are in their ranges
 abbrev pub IsCounted : CommandValue → Type 0
 IsCounted (flat name file) = Unit {0}
 IsCounted (level_job task level wads) = IsLevelJob level wads
 IsCounted (make job) = IsCountedMake job
-IsCounted (exercise count zone format) = IsCount count
+IsCounted (exercise count zone format) = IsExercise count zone
 
--- the jobs that are built; the others are no command yet
+-- trim and trace are not built
 unfoldable pub is_built : Text → Bool
-is_built job = bytes_eq job (codes "flat") || (bytes_eq job (codes "make") || bytes_eq job (codes "audit"))
+is_built job = not (bytes_eq job (codes "trim") || bytes_eq job (codes "trace"))
 
 -- flat NAME FILE, and no option
 unfoldable pub flat_of : List Row → List Text → Option CommandValue

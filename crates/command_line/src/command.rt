@@ -13,7 +13,7 @@ pub enum Format {
     Ppm,
 }
 
-/// A job over a level.
+/// A job over a level. `Trim` and `Trace` are no command yet.
 #[derive(Clone, Copy, Debug, PartialEq, Eq)]
 pub enum LevelTask {
     Render(Format),

@@ -2,7 +2,7 @@
 
 ghost use Rattle.std.specs.Prelude.{◌≡◌, ◌≢◌, ◌==◌, true, false, [], Err, IfOk, IfErr, IfSome, Some, None, map, option_map, codes, string_bytes};
 ghost use Rattle.clap.specs.Words.{found_of, rows_of};
-ghost use Rattle.command_line.specs.Commands.{IsCount, IsCounted, IsCountedMake, command_in, command_of, count_of, exercise_of, flat_of, is_built, job_named, make_job_of, make_of, numbered_make, plain_make, level_command, level_with, exercise_numbers, command_value};
+ghost use Rattle.command_line.specs.Commands.{IsCount, IsCounted, IsCountedMake, IsExercise, command_in, command_of, count_of, exercise_of, flat_of, is_built, job_named, make_job_of, make_of, numbered_make, plain_make, level_command, level_with, exercise_numbers, command_value};
 
 use crate::choices::{format_in, has_no_options, has_no_settings, number_within, zone_in};
 use crate::command::{Command, CommandFault, Format, LevelTask, MakeJob};
@@ -17,8 +17,9 @@ pub const MIN_COUNT: u32 = 1;
 
 pub const MAX_COUNT: u32 = 32;
 
-/// The command of the words after the program's name. The number of made files, and the numbers of
-/// a job over a level, are in their ranges.
+/// The command of the words after the program's name. The number of made files, the size of their
+/// zone in an exercise, and the numbers of a job over a level are in their ranges. The jobs `trim`
+/// and `trace` are no command yet.
 ///
 /// Takes memory for what `clap` finds and for the list of WADs.
 ///
@@ -65,12 +66,12 @@ fn command_in<'a>(alloc: Global, found: &ArgMatches<'a>) -> Result<Command<'a>, 
     }
 }
 
-// Whether the job of that name is built.
+// Whether the job of that name is built: `trim` and `trace` are not.
 #[tactic(auto, unfolding(crate::specs::Commands::is_built))]
 fn is_built(job: &str) -> bool
     ensures { result ≡ is_built job.now }
 {
-    job == "flat" || job == "make" || job == "audit"
+    !(job == "trim" || job == "trace")
 }
 
 // The command of the job of that name.
@@ -231,7 +232,7 @@ fn exercise_of<'m, 'a>(
 #[tactic(auto, unfolding(crate::specs::Commands::exercise_numbers))]
 fn exercise_numbers(found: &ArgMatches<'_>, count: &str) -> Option<(u8, u32, Format)>
     ensures value { result ≡ exercise_numbers (rows_of (found_of found.now)) count.now }
-    ensures counted { IfSome result (λ numbers. IsCount numbers.0) }
+    ensures counted { IfSome result (λ numbers. IsExercise numbers.0 numbers.1) }
 {
     let count = count_of(count)?;
     let zone = zone_in(found)?;

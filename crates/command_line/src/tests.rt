@@ -22,6 +22,21 @@ fn is_usage(alloc: Global, words: &[&str]) -> bool {
     }
 }
 
+// Whether these words are a command.
+fn is_command(alloc: Global, words: &[&str]) -> bool {
+    match owned(alloc, words) {
+        Ok(list) => command_of(alloc, &list).is_ok(),
+        Err(_) => false,
+    }
+}
+
+// The words of a job over a level, with its files.
+fn level_words(job: &str) -> [&str; 9] {
+    [
+        job, "MAP01", "a.wad", "--tables", "t.csv", "--things", "o.csv", "--path", "p.csv",
+    ]
+}
+
 fn is_flat_tile(command: &Command<'_>) -> bool {
     match command {
         Command::Flat { name, file } => name.bytes() == *b"TILE\0\0\0\0" && *file == "-tiny.wad",
@@ -94,6 +109,17 @@ fn an_audit_of_two_wads(rt: HostRuntime) -> Result<(), Fail> {
         },
         Err(_) => assert!(rt; false),
     }
+    Ok(())
+}
+
+#[test]
+fn jobs_that_are_built(rt: HostRuntime) -> Result<(), Fail> {
+    let alloc = rt.alloc();
+    assert!(rt; is_command(alloc, &["exercise", "1"]));
+    assert!(rt; is_command(alloc, &level_words("limits")));
+    assert!(rt; is_command(alloc, &level_words("render")));
+    assert!(rt; is_usage(alloc, &level_words("trim")));
+    assert!(rt; is_usage(alloc, &level_words("trace")));
     Ok(())
 }
 
