@@ -4,6 +4,7 @@ ghost use Rattle.std.specs.Prelude.{◌≡◌, ◌≤◌, ◌+◌, ℕ, List, []
 ghost use Rattle.csv.specs.Records.{fields_of};
 ghost use Rattle.csv_tables.specs.declared.fault.CsvRefusal.{CsvRefusal};
 ghost use Rattle.csv_tables.specs.declared.path.PathRow.{PathRow};
+ghost use Rattle.csv_tables.specs.declared.path.TheConstants.{MAX_VIEWS};
 ghost use Rattle.csv_tables.specs.Paths.{HasLightInRange, light_column, path_in, path_of_records, path_row, path_rows, path_width, view_of_fields};
 
 use crate::columns::{natural_column, place_column};
@@ -52,15 +53,17 @@ pub struct PathTable {
 }
 
 impl Model for PathTable {
-    ghost use Rattle.std.specs.Prelude.{List, All};
+    ghost use Rattle.std.specs.Prelude.{◌≤◌, List, All, length};
     ghost use Rattle.csv_tables.specs.declared.path.PathRow.{PathRow};
+    ghost use Rattle.csv_tables.specs.declared.path.TheConstants.{MAX_VIEWS};
     ghost use Rattle.csv_tables.specs.Paths.{HasLightInRange};
 
     ghost Value = { List PathRow };
 
     ghost view = { λ t. t.rows.items };
 
-    ghost invariant = { λ t. All HasLightInRange t.rows.items };
+    ghost invariant = { λ t.
+        (length t.rows.items ≤ MAX_VIEWS) × All HasLightInRange t.rows.items };
 }
 
 impl PathTable {
@@ -83,9 +86,10 @@ impl PathTable {
         Ok(PathTable { rows })
     }
 
-    /// The views in the order of the file. Takes no memory.
+    /// The views in the order of the file, at most 10,000. Takes no memory.
     pub fn views(&self) -> &[PathRow]
         ensures value { result.now ≡ self.now }
+        ensures few { length result.now ≤ MAX_VIEWS }
         ensures light { All HasLightInRange result.now }
     {
         &self.rows
@@ -96,6 +100,7 @@ impl PathTable {
 #[tactic(auto, unfolding(crate::specs::Paths::path_of_records))]
 fn path_of_records(alloc: Global, records: &[ByteRecord]) -> Result<Vec<PathRow>, CsvFault>
     ensures ok { IfOk result (λ v. path_of_records (map fields_of records.now) ≡ Ok v.items) }
+    ensures few { IfOk result (λ v. length v.items ≤ MAX_VIEWS) }
     ensures light { IfOk result (λ v. All HasLightInRange v.items) }
     ensures refused { (r : CsvRefusal) → result ≡ Err (CsvFault.Refused r) →
         path_of_records (map fields_of records.now) ≡ Err r }
@@ -129,6 +134,7 @@ fn path_width(head: &ByteRecord) -> Result<usize, CsvRefusal>
 // The views of the rows.
 fn path_rows(alloc: Global, width: usize, rows: &[ByteRecord]) -> Result<Vec<PathRow>, CsvFault>
     ensures ok { IfOk result (λ v. path_rows width (map fields_of rows.now) ≡ Ok v.items) }
+    ensures few { IfOk result (λ v. length v.items ≤ MAX_VIEWS) }
     ensures light { IfOk result (λ v. All HasLightInRange v.items) }
     ensures refused { (r : CsvRefusal) → result ≡ Err (CsvFault.Refused r) →
         path_rows width (map fields_of rows.now) ≡ Err r }
@@ -151,6 +157,7 @@ fn path_rows(alloc: Global, width: usize, rows: &[ByteRecord]) -> Result<Vec<Pat
 #[tactic(auto, unfolding(crate::specs::Paths::path_row))]
 fn path_row(width: usize, row: u64, fields: &ByteRecord) -> Result<PathRow, CsvRefusal>
     ensures value { result ≡ path_row width row (fields_of fields.now) }
+    ensures within { IfOk result (λ _. row ≤ MAX_VIEWS) }
     ensures light { IfOk result HasLightInRange }
 {
     checked_shape(MAX_VIEWS, width, row, fields)?;

@@ -1,4 +1,4 @@
-use Rattle.std.proofs.Common.{◌≡◌, ◌+◌, ◌++◌, [], ◌∷◌, map, length, get_or, sym, ap, rules, ◌∙◌, Err, true}
+use Rattle.std.proofs.Common.{◌≡◌, ◌+◌, ◌++◌, [], ◌∷◌, map, length, get_or, sym, ap, rules, ◌∙◌, Err, true, arith}
 use Rattle.std.specs.Result.{is_ok}
 use Rattle.std.proofs.lemmas.List.{length-map, get_or-map, length-append}
 use Rattle.std.proofs.lemmas.List.Elements.{All-push}
@@ -26,6 +26,7 @@ loop-i-preserved c =
     rw items (record {
       so_far = inv.so_far ∙ rows_after-taken _ _ (map fields_of c.args.rows.now) c.loop-i.i _ c.in-Ok.view (rw len c.loop-i-test.true) at inv.count (sym c.in-Ok.ensures.value);
       count = longer ∙ ap (λ n. n + 1) inv.count;
+      few = omega (arith, longer, inv.count, c.in-Ok.ensures.within);
       light = All-push HasLightInRange c.loop-i.views.items c.in-Ok.view inv.light c.in-Ok.ensures.light;
     })
 
