@@ -1,19 +1,24 @@
 -- What a full zone leaves out.
-use Rattle.std.proofs.Common.{◌≡◌, ◌<◌, ◌≤◌, ℕ, List, Option, Some, None, Result, Ok, Err, IfSome, refl, arith, ap, ◌∙◌}
+use Rattle.std.proofs.Common.{◌≡◌, ◌<◌, ◌≤◌, ◌⊎◌, inl, inr, ℕ, Bool, true, false, cond, List, Option, Some, None, Result, Ok, Err, IfSome, refl, arith, ap, sym, subst, ◌∙◌}
 use Rattle.outside.specs.Shelf.{File}
 use Rattle.outside.specs.Faults.{and_then, from_below}
-use Rattle.command_line.specs.Commands.{CommandValue, command_of}
-use Rattle.command_line.specs.LevelJobs.{LevelJobValue}
-use Rattle.command_line.specs.declared.command.LevelTask.{LevelTask}
-use Rattle.command_line.specs.declared.command.LevelTask.TheVariants.{Render, Audit, Limits, Trim, Trace}
 use Rattle.outside.specs.Stops as files
 use Rattle.outside.specs.Stops.{no_file}
+use Rattle.command_line.specs.Commands.{CommandValue, command_of, exercise, level_job}
+use Rattle.command_line.specs.LevelJobs.{LevelJobValue}
+use Rattle.command_line.specs.declared.command.Format.{Format}
+use Rattle.command_line.specs.declared.command.LevelTask.{LevelTask}
+use Rattle.command_line.specs.declared.command.LevelTask.TheVariants.{Render, Audit, Limits, Trim, Trace}
+use Rattle.command_line.specs.declared.command.Settings.{Settings}
 use Rattle.refusals.specs.declared.refusal.Refusal.{Refusal}
+use Rattle.level_audit.proofs.SceneLemmas.{same_value}
 use Rattle.scene_load.specs.Fulls.{IsFullLoad}
-use Rattle.scene_load.specs.Loads.{LoadedValue, load_in, loaded_sizes}
-use Rattle.doom_run.specs.Fulls.{HasRoom, IsFullRun}
-use Rattle.doom_run.specs.Steps.{absent, at_step, else_usage}
-use Rattle.doom_run.specs.Verdict.{Accepted, audited, enough_for, job_verdict, level_verdict}
+use Rattle.scene_load.specs.Loads.{LoadedValue, load_in, loaded_sizes, wad_bytes}
+use Rattle.doom_run.specs.Exercises.{made_files, made_level, made_wads}
+use Rattle.doom_run.specs.Fulls.{Draws, HasRoom, IsFullDraw, IsFullRun, IsOver}
+use Rattle.doom_run.specs.Steps.{RunStop, absent, at_step, else_usage, usage}
+use Rattle.doom_run.specs.Verdict.{Accepted, audited, counted, enough_for, exercised, job_verdict, level_verdict, rendered}
+use Rattle.doom_run.specs.Views.{ViewsValue, views_of}
 
 -- steps that ask for no file find none absent
 asks_for_none : {A R : Type 0} (expected : Result A R) → no_file expected ≡ Err files.absent → ⊥
@@ -25,52 +30,124 @@ load_held : {wanted widest' : ℕ} (level : LevelJobValue) (wads : List (List �
 unfolding load_in
 load_held level wads held full e = asks_for_none _ (rw full.are at e)
 
--- where an audit meets an absent file, loading does
-absent_load : (loading : Result LoadedValue (files.Stop Refusal)) →
-    and_then (from_below at_step (and_then loading (λ loaded. Ok (loaded_sizes loaded)))) (λ sizes. Ok (audited sizes)) ≡ Err absent → loading ≡ Err files.absent
-absent_load (Ok loaded) e = absurd (cc)
-absent_load (Err files.absent) e = refl
-absent_load (Err (files.stopped refusal)) e = absurd (cc)
+loads_or_not : {loading : Result LoadedValue (files.Stop Refusal)} (loaded : LoadedValue) → loading ≡ Ok loaded → loading ≡ Err files.absent → ⊥
+loads_or_not loaded is e = cc
 
--- an audit that accepts tells the sizes of what was loaded
-accepted_load : (loading : Result LoadedValue (files.Stop Refusal)) (accepted : Accepted) →
-    and_then (from_below at_step (and_then loading (λ loaded. Ok (loaded_sizes loaded)))) (λ sizes. Ok (audited sizes)) ≡ Ok accepted →
-    (loaded : LoadedValue) × (loading ≡ Ok loaded) × (audited (loaded_sizes loaded) ≡ accepted)
-accepted_load (Ok loaded) accepted e = (loaded, refl, cc)
-accepted_load (Err files.absent) accepted e = absurd (cc)
-accepted_load (Err (files.stopped refusal)) accepted e = absurd (cc)
+-- a zone that is full, for what loading reads or for what is drawn
+module _ {Drawing : Type 0} {wanted widest' : ℕ} (level : LevelJobValue) (wads : List (List ℕ)) (held : List File) where
+  full_held : IsFullLoad level wads held wanted widest' ⊎ (Drawing × IsFullDraw level wads held wanted widest') → load_in level wads held ≡ Err files.absent → ⊥
+  full_held (inl load) e = load_held level wads held load e
+  full_held (inr draw) e = loads_or_not draw.1.loaded draw.1.is e
 
--- over a level: where a zone is full, no file is absent
-level_held : {wanted widest' : ℕ} (job : LevelTask) (level : LevelJobValue) (wads : List (List ℕ)) (held : List File) →
-    IsFullLoad level wads held wanted widest' → level_verdict job level wads held ≡ Err absent → ⊥
-level_held (Render format) level wads held full e = cc
-level_held Audit level wads held full e = load_held level wads held full (absent_load (load_in level wads held) e)
-level_held Limits level wads held full e = cc
-level_held Trim level wads held full e = cc
-level_held Trace level wads held full e = cc
+  -- is smaller than enough for what is loaded
+  full_small : (loaded : LoadedValue) → IsFullLoad level wads held wanted widest' ⊎ (Drawing × IsFullDraw level wads held wanted widest') → load_in level wads held ≡ Ok loaded → level.settings.zone < (loaded_sizes loaded).enough
+  full_small loaded (inl load) e = load.enough loaded e
+  full_small loaded (inr draw) e = subst (λ (l : LoadedValue). level.settings.zone < (loaded_sizes l).enough) (same_value draw.1.loaded loaded draw.1.is e) draw.1.enough
+
+-- what a job tells of what was loaded
+abbrev after_load : {V : Type 0} → (LoadedValue → V) → (V → Accepted) → Result LoadedValue (files.Stop Refusal) → Result Accepted RunStop
+after_load next accept loading = and_then (from_below at_step (and_then loading (λ loaded. Ok (next loaded)))) (λ value. Ok (accept value))
+
+-- where such a job meets an absent file, loading does
+absent_load : {V : Type 0} (next : LoadedValue → V) (accept : V → Accepted) (loading : Result LoadedValue (files.Stop Refusal)) → after_load next accept loading ≡ Err absent → loading ≡ Err files.absent
+absent_load next accept (Ok loaded) e = absurd (cc)
+absent_load next accept (Err files.absent) e = refl
+absent_load next accept (Err (files.stopped refusal)) e = absurd (cc)
+
+-- one that accepts tells of what was loaded
+accepted_load : {V : Type 0} (next : LoadedValue → V) (accept : V → Accepted) (loading : Result LoadedValue (files.Stop Refusal)) (accepted : Accepted) → after_load next accept loading ≡ Ok accepted →
+    (loaded : LoadedValue) × (loading ≡ Ok loaded) × (accept (next loaded) ≡ accepted)
+accepted_load next accept (Ok loaded) accepted e = (loaded, refl, cc)
+accepted_load next accept (Err files.absent) accepted e = absurd (cc)
+accepted_load next accept (Err (files.stopped refusal)) accepted e = absurd (cc)
+
+-- a job without a weapon over its frames
+absent_built : (b : Bool) (r : Result Accepted RunStop) → cond b (Err usage) r ≡ Err absent → r ≡ Err absent
+absent_built true r e = absurd (cc)
+absent_built false r e = e
+
+accepted_built : (b : Bool) (r : Result Accepted RunStop) (accepted : Accepted) → cond b (Err usage) r ≡ Ok accepted → r ≡ Ok accepted
+accepted_built true r accepted e = absurd (cc)
+accepted_built false r accepted e = e
+
+-- the views tell how large a zone has to be for what was loaded
+views_sizes : (bytes : ℕ → List ℕ) (settings : Settings) (loaded : LoadedValue) → (views_of bytes settings loaded).sizes ≡ loaded_sizes loaded
+unfolding views_of
+views_sizes bytes settings loaded = refl
+
+module _ (level : LevelJobValue) (wads : List (List ℕ)) (held : List File) where
+  abbrev views_in : LoadedValue → ViewsValue
+  views_in loaded = views_of (wad_bytes wads held loaded.files.lumps) level.settings loaded
+
+  -- what was loaded, for which this zone is enough
+  abbrev HasLoaded : Accepted → Type 0
+  HasLoaded accepted = (loaded : LoadedValue) × (load_in level wads held ≡ Ok loaded) × (enough_for accepted ≡ (loaded_sizes loaded).enough)
+
+  views_enough : (accept : ViewsValue → Accepted) (accepted : Accepted) → ((views : ViewsValue) → enough_for (accept views) ≡ views.sizes.enough) → after_load views_in accept (load_in level wads held) ≡ Ok accepted → HasLoaded accepted
+  views_enough accept accepted tells e =
+      let p : (loaded : LoadedValue) × (load_in level wads held ≡ Ok loaded) × (accept (views_in loaded) ≡ accepted) = accepted_load views_in accept (load_in level wads held) accepted e in
+      (p.0, p.1, sym (ap (λ (a : Accepted). enough_for a) p.2) ∙ tells (views_in p.0) ∙ ap (λ s. s.enough) (views_sizes (wad_bytes wads held p.0.files.lumps) level.settings p.0))
+
+  -- where a job over a level meets an absent file, loading does
+  level_absent : (job : LevelTask) → level_verdict job level wads held ≡ Err absent → load_in level wads held ≡ Err files.absent
+  level_absent (Render format) e = absent_load views_in (rendered format) (load_in level wads held) (absent_built _ _ e)
+  level_absent Audit e = absent_load loaded_sizes audited (load_in level wads held) e
+  level_absent Limits e = absent_load views_in counted (load_in level wads held) e
+  level_absent Trim e = absurd (cc)
+  level_absent Trace e = absurd (cc)
+
+  -- one that accepts has loaded
+  level_loaded : (job : LevelTask) (accepted : Accepted) → level_verdict job level wads held ≡ Ok accepted → HasLoaded accepted
+  level_loaded (Render format) accepted e = views_enough (rendered format) accepted (λ views. refl) (accepted_built _ _ accepted e)
+  level_loaded Audit accepted e =
+      let p : (loaded : LoadedValue) × (load_in level wads held ≡ Ok loaded) × (audited (loaded_sizes loaded) ≡ accepted) = accepted_load loaded_sizes audited (load_in level wads held) accepted e in
+      (p.0, p.1, sym (ap (λ (a : Accepted). enough_for a) p.2))
+  level_loaded Limits accepted e = views_enough counted accepted (λ views. refl) e
+  level_loaded Trim accepted e = absurd (cc)
+  level_loaded Trace accepted e = absurd (cc)
+
+-- the same level over the same files is loaded alike
+same_load : (level made : LevelJobValue) (wads others : List (List ℕ)) (held given : List File) → level ≡ made → wads ≡ others → held ≡ given → load_in level wads held ≡ load_in made others given
+same_load level made wads others held given a b c =
+    ap (λ (l : LevelJobValue). load_in l wads held) a ∙ ap (λ (w : List (List ℕ)). load_in made w held) b ∙ ap (λ (h : List File). load_in made others h) c
 
 -- where a zone is full, no file is absent
+over_held : {wanted widest' : ℕ} (command : CommandValue) (held : List File) (full : IsFullRun command held wanted widest') → IsOver command held full.level full.wads full.held → job_verdict command held ≡ Err absent → ⊥
+over_held command held full (inl over) e =
+    let h : level_verdict over.0.0 full.level full.wads held ≡ Err absent = subst (λ (c : CommandValue). job_verdict c held ≡ Err absent) over.0.1 e in
+    full_held full.level full.wads full.held full.full (ap (λ (h : List File). load_in full.level full.wads h) over.1 ∙ level_absent full.level full.wads held over.0.0 h)
+over_held command held full (inr over) e =
+    let h : job_verdict (exercise over.0 full.level.settings.zone over.1) held ≡ Err absent = subst (λ (c : CommandValue). job_verdict c held ≡ Err absent) over.2 e in
+    full_held full.level full.wads full.held full.full
+    (same_load full.level (made_level full.level.settings.zone) full.wads made_wads full.held (made_files over.0) over.3 over.4 over.5
+    ∙ absent_load (views_in (made_level full.level.settings.zone) made_wads (made_files over.0)) (exercised over.0 over.1) _ h)
+
 pub run_held : (command : Option CommandValue) (held : List File) (wanted widest' : ℕ) → IfSome command (λ command. IsFullRun command held wanted widest') →
     and_then (else_usage command) (λ command. job_verdict command held) ≡ Err absent → ⊥
 run_held None held wanted widest' full e = cc
-run_held (Some command) held wanted widest' full e = level_held full.job full.level full.wads held full.full (rw full.is at e)
+run_held (Some command) held wanted widest' full e = over_held command held full full.is e
 
--- over a level: a zone that is large enough for what is accepted is not full
-level_room : {wanted widest' : ℕ} (job : LevelTask) (level : LevelJobValue) (wads : List (List ℕ)) (held : List File) (accepted : Accepted) →
-    IsFullLoad level wads held wanted widest' → enough_for accepted ≤ level.settings.zone → level_verdict job level wads held ≡ Ok accepted → ⊥
-level_room (Render format) level wads held accepted full room e = cc
-level_room Audit level wads held accepted full room e =
-    let p : (loaded : LoadedValue) × (load_in level wads held ≡ Ok loaded) × (audited (loaded_sizes loaded) ≡ accepted) = accepted_load (load_in level wads held) accepted e in
-    let small : level.settings.zone < (loaded_sizes p.0).enough = full.enough p.0 p.1 in
-    let large : (loaded_sizes p.0).enough ≤ level.settings.zone = rw (← p.2) at room in
-    omega (arith, small, large)
-level_room Limits level wads held accepted full room e = cc
-level_room Trim level wads held accepted full room e = cc
-level_room Trace level wads held accepted full room e = cc
+-- a zone that is enough is not smaller
+no_smaller : (zone enough due : ℕ) → zone < enough → due ≡ enough → due ≤ zone → ⊥
+no_smaller zone enough due small same room = omega (arith, small, same, room)
 
 -- a zone that is large enough for what is accepted is not full
+over_room : {wanted widest' : ℕ} (words : List (List ℕ)) (command : CommandValue) (held : List File) (accepted : Accepted) → command_of words ≡ Some command → (full : IsFullRun command held wanted widest') → IsOver command held full.level full.wads full.held → HasRoom words accepted → job_verdict command held ≡ Ok accepted → ⊥
+over_room words command held accepted are full (inl over) room e =
+    let h : level_verdict over.0.0 full.level full.wads held ≡ Ok accepted = subst (λ (c : CommandValue). job_verdict c held ≡ Ok accepted) over.0.1 e in
+    let p : (loaded : LoadedValue) × (load_in full.level full.wads held ≡ Ok loaded) × (enough_for accepted ≡ (loaded_sizes loaded).enough) = level_loaded full.level full.wads held over.0.0 accepted h in
+    no_smaller full.level.settings.zone (loaded_sizes p.0).enough (enough_for accepted)
+    (full_small full.level full.wads full.held p.0 full.full (ap (λ (h : List File). load_in full.level full.wads h) over.1 ∙ p.1)) p.2
+    (room.enough over.0.0 full.level full.wads (are ∙ ap (λ (t : CommandValue). Some t) over.0.1))
+over_room words command held accepted are full (inr over) room e =
+    let h : job_verdict (exercise over.0 full.level.settings.zone over.1) held ≡ Ok accepted = subst (λ (c : CommandValue). job_verdict c held ≡ Ok accepted) over.2 e in
+    let p : (loaded : LoadedValue) × (load_in (made_level full.level.settings.zone) made_wads (made_files over.0) ≡ Ok loaded) × (enough_for accepted ≡ (loaded_sizes loaded).enough) =
+    views_enough (made_level full.level.settings.zone) made_wads (made_files over.0) (exercised over.0 over.1) accepted (λ views. refl) h in
+    no_smaller full.level.settings.zone (loaded_sizes p.0).enough (enough_for accepted)
+    (full_small full.level full.wads full.held p.0 full.full (same_load full.level (made_level full.level.settings.zone) full.wads made_wads full.held (made_files over.0) over.3 over.4 over.5 ∙ p.1)) p.2
+    (room.made over.0 full.level.settings.zone over.1 (are ∙ ap (λ (t : CommandValue). Some t) over.2))
+
 pub run_room : (words : List (List ℕ)) (command : Option CommandValue) (held : List File) (accepted : Accepted) (wanted widest' : ℕ) → command_of words ≡ command →
     IfSome command (λ command. IsFullRun command held wanted widest') → HasRoom words accepted → and_then (else_usage command) (λ command. job_verdict command held) ≡ Ok accepted → ⊥
 run_room words None held accepted wanted widest' are full room e = cc
-run_room words (Some command) held accepted wanted widest' are full room e =
-    level_room full.job full.level full.wads held accepted full.full (room.enough full.job full.level full.wads (are ∙ ap (λ (t : CommandValue). Some t) full.is)) (rw full.is at e)
+run_room words (Some command) held accepted wanted widest' are full room e = over_room words command held accepted are full full.is room e

@@ -1,6 +1,15 @@
+pub mod CountLemmas
+pub mod DrawnLemmas
+pub mod EndLemmas
 pub mod FlatLemmas
+pub mod FrameLemmas
 pub mod FullLemmas
+pub mod LimitLemmas
 pub mod LumpLemmas
+pub mod MadeLemmas
+pub mod ReadyLemmas
+pub mod RowLemmas
 pub mod RunLemmas
 pub mod StepLemmas
+pub mod TallyLemmas
 pub mod TilingLemmas

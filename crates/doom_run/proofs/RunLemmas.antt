@@ -1,11 +1,12 @@
 -- What a status tells of the output, and what a verdict tells of the status.
 use Rattle.std.proofs.Common.{◌≡◌, ◌⊎◌, inl, inr, ℕ, Bool, IsTrue, List, [], Result, Ok, Err, refl, sym, ap, ◌∙◌, subst}
+use Rattle.std.specs.Prelude.{MatchResult}
 use Rattle.outside.specs.Sink.{Grew, GrewByPrefix}
 use Rattle.outside.proofs.WriteLemmas.{grew_whole, prefix_of_none}
 use Rattle.refusals.specs.declared.refusal.Refusal.{Refusal}
 use Rattle.doom_run.specs.declared.status.Status.{Status}
 use Rattle.doom_run.specs.declared.status.Status.TheVariants.{Done, Usage, Refused, ReadFault, WriteFault, Limit, ZoneFull, OutOfMemory}
-use Rattle.doom_run.specs.Ends.{EndsAt, EndsWith, IsEnd, IsUnwritten}
+use Rattle.doom_run.specs.Ends.{EndsAt, EndsWith, IsEnd, IsUnwritten, StopsWith}
 use Rattle.doom_run.specs.Steps.{RunStop, usage, absent, refused}
 use Rattle.doom_run.specs.Verdict.{Accepted, end_of, output}
 
@@ -18,17 +19,26 @@ whole_at_end : (verdict : Result Accepted RunStop) (old new : List ℕ → Type 
 whole_at_end verdict old new status accepted ends e =
     subst (λ (a : Accepted). GrewByPrefix old new (output a)) (same_accepted verdict ends.accepted accepted ends.is e) (grew_whole ends.written)
 
+-- where a run stops, a prefix of the output was written, or nothing where the verdict stops
+stops_prefix : (verdict : Result Accepted RunStop) (old new : List ℕ → Type 0) (accepted : Accepted) → StopsWith verdict old new → verdict ≡ Ok accepted → GrewByPrefix old new (output accepted)
+stops_prefix verdict old new accepted stops e =
+    subst (λ (v : Result Accepted RunStop). MatchResult v (λ a. GrewByPrefix old new (output a)) (λ stop. Grew old new [])) e stops.written
+
+stops_none : (verdict : Result Accepted RunStop) (old new : List ℕ → Type 0) (stop : RunStop) → StopsWith verdict old new → verdict ≡ Err stop → Grew old new []
+stops_none verdict old new stop stops e =
+    subst (λ (v : Result Accepted RunStop). MatchResult v (λ a. GrewByPrefix old new (output a)) (λ stop. Grew old new [])) e stops.written
+
 -- whatever the status, a prefix of the output was written
 pub prefix_at_end : (steady : Bool) (verdict : Result Accepted RunStop) (old new : List ℕ → Type 0) (status : Status) (accepted : Accepted) →
     EndsAt steady verdict old new status → (IsUnwritten status → Grew old new []) → verdict ≡ Ok accepted → GrewByPrefix old new (output accepted)
 prefix_at_end steady verdict old new Done accepted ends unwritten e = whole_at_end verdict old new Done accepted ends e
 prefix_at_end steady verdict old new Usage accepted ends unwritten e = prefix_of_none _ (unwritten tt)
 prefix_at_end steady verdict old new (Refused refusal) accepted ends unwritten e = prefix_of_none _ (unwritten tt)
-prefix_at_end steady verdict old new ReadFault accepted ends unwritten e = prefix_of_none _ (unwritten tt)
+prefix_at_end steady verdict old new ReadFault accepted ends unwritten e = stops_prefix verdict old new accepted ends.1 e
 prefix_at_end steady verdict old new WriteFault accepted ends unwritten e =
     subst (λ (a : Accepted). GrewByPrefix old new (output a)) (same_accepted verdict ends.accepted accepted ends.is e) ends.written
 prefix_at_end steady verdict old new (Limit view kind count) accepted ends unwritten e = whole_at_end verdict old new (Limit view kind count) accepted ends e
-prefix_at_end steady verdict old new (ZoneFull wanted widest) accepted ends unwritten e = prefix_of_none _ (unwritten tt)
+prefix_at_end steady verdict old new (ZoneFull wanted widest) accepted ends unwritten e = stops_prefix verdict old new accepted ends e
 prefix_at_end steady verdict old new OutOfMemory accepted ends unwritten e = prefix_of_none _ (unwritten tt)
 
 -- an end is that of the verdict
@@ -48,15 +58,15 @@ accepts_or_stops verdict accepted stop a s = cc
 
 -- where the verdict stops, nothing was written
 pub stopped_at : (steady : Bool) (verdict : Result Accepted RunStop) (old new : List ℕ → Type 0) (status : Status) (stop : RunStop) →
-    EndsAt steady verdict old new status → verdict ≡ Err stop → IsUnwritten status
-stopped_at steady verdict old new Done stop ends e = accepts_or_stops verdict ends.accepted stop ends.is e
-stopped_at steady verdict old new Usage stop ends e = tt
-stopped_at steady verdict old new (Refused refusal) stop ends e = tt
-stopped_at steady verdict old new ReadFault stop ends e = tt
-stopped_at steady verdict old new WriteFault stop ends e = accepts_or_stops verdict ends.accepted stop ends.is e
-stopped_at steady verdict old new (Limit view kind count) stop ends e = accepts_or_stops verdict ends.accepted stop ends.is e
-stopped_at steady verdict old new (ZoneFull wanted widest) stop ends e = tt
-stopped_at steady verdict old new OutOfMemory stop ends e = tt
+    EndsAt steady verdict old new status → (IsUnwritten status → Grew old new []) → verdict ≡ Err stop → Grew old new []
+stopped_at steady verdict old new Done stop ends unwritten e = absurd (accepts_or_stops verdict ends.accepted stop ends.is e)
+stopped_at steady verdict old new Usage stop ends unwritten e = unwritten tt
+stopped_at steady verdict old new (Refused refusal) stop ends unwritten e = unwritten tt
+stopped_at steady verdict old new ReadFault stop ends unwritten e = stops_none verdict old new stop ends.1 e
+stopped_at steady verdict old new WriteFault stop ends unwritten e = absurd (accepts_or_stops verdict ends.accepted stop ends.is e)
+stopped_at steady verdict old new (Limit view kind count) stop ends unwritten e = absurd (accepts_or_stops verdict ends.accepted stop ends.is e)
+stopped_at steady verdict old new (ZoneFull wanted widest) stop ends unwritten e = stops_none verdict old new stop ends e
+stopped_at steady verdict old new OutOfMemory stop ends unwritten e = unwritten tt
 
 not_usage : (verdict : Result Accepted RunStop) (refusal : Refusal) → verdict ≡ Err usage → verdict ≡ Err (refused refusal) → ⊥
 not_usage verdict refusal u e = cc
@@ -118,4 +128,4 @@ pub steady_reads : (steady : Bool) (verdict : Result Accepted RunStop) (old new 
     EndsAt steady verdict old new status → verdict ≡ Ok accepted → (status ≡ ReadFault → IsTrue steady) → status ≡ ReadFault → ⊥
 steady_reads steady verdict old new status accepted ends e holds is =
     let h : EndsAt steady verdict old new ReadFault = rw is at ends in
-    accepts_or_stops verdict accepted absent e (h (holds is))
+    accepts_or_stops verdict accepted absent e (h.0 (holds is))

@@ -1,20 +1,70 @@
 -- When a run ends with a full zone.
-use Rattle.std.specs.Prelude.{◌≡◌, ◌≤◌, ℕ, List, Some}
+use Rattle.std.specs.Prelude.{◌≡◌, ◌≢◌, ◌≤◌, ◌<◌, ◌+◌, ◌*◌, ◌⊎◌, ℕ, true, List, Option, Some, Ok, Contains}
 use Rattle.outside.specs.Shelf.{File}
-use Rattle.command_line.specs.Commands.{CommandValue, level_job, command_of}
+use Rattle.zone_rules.specs.declared.TheConstants.{MIN_FRAGMENT}
+use Rattle.art_rules.specs.declared.PlacedPatch.{PlacedPatch}
+use Rattle.art_rules.specs.Wanted.{PreparedTexture}
+use Rattle.command_line.specs.Commands.{CommandValue, level_job, exercise, command_of}
 use Rattle.command_line.specs.LevelJobs.{LevelJobValue}
+use Rattle.command_line.specs.declared.command.Format.{Format}
 use Rattle.command_line.specs.declared.command.LevelTask.{LevelTask}
+use Rattle.command_line.specs.declared.command.LevelTask.TheVariants.{Render}
+use Rattle.scene_rules.specs.Sizes.{composite_block, is_needed, lump_block}
+use Rattle.level_audit.specs.Sound.{art_with}
 use Rattle.scene_load.specs.Fulls.{IsFullLoad}
+use Rattle.scene_load.specs.Loads.{LoadedValue, load_in, loaded_pictures, loaded_sizes}
+use Rattle.doom_run.specs.Exercises.{made_files, made_level, made_wads}
 use Rattle.doom_run.specs.Verdict.{Accepted, enough_for}
 
--- The words are a command over a level, whose files are in order, and the zone that they give is small.
+-- A block that drawing asks for: that of a lump that the scene needs, or of a prepared texture's composite.
+-- The sky's number stands for a flat, and is that of no lump: its block is the least.
+pub record IsDrawnBlock (loaded : LoadedValue) (wanted : ℕ) : Type 0 where
+  pub is : ((lump : ℕ) × (is_needed loaded.files.lumps (art_with loaded.scene (loaded_pictures loaded)) lump ≡ true) × (wanted ≡ lump_block loaded.files.lumps lump))
+      ⊎ ((t : Option PreparedTexture) × (Contains loaded.scene.prepared t) × (wanted ≡ composite_block t) × (wanted ≢ 0))
+
+-- a patch of a texture whose composite is built, which has to stand beside it and COLORMAP
+pub record IsPatchBeside (loaded : LoadedValue) (zone wanted : ℕ) : Type 0 where
+  pub texture : PreparedTexture
+  pub prepared : Contains loaded.scene.prepared (Some texture)
+  pub patch : PlacedPatch
+  pub among : Contains texture.patches patch
+  pub is : wanted ≡ lump_block loaded.files.lumps patch.lump
+  pub built : composite_block (Some texture) ≢ 0
+  pub small : zone < lump_block loaded.files.lumps loaded.scene.base.colormap
+      + composite_block (Some texture) + 2 * wanted + 2 * MIN_FRAGMENT
+
+-- No gap held a block that drawing asks for. The zone does not hold it beside COLORMAP, or it is a patch of
+-- a composite that is built; and the zone is smaller than enough.
+pub record IsFullDraw (level : LevelJobValue) (wads : List (List ℕ)) (files : List File) (wanted widest' : ℕ) : Type 0 where
+  pub loaded : LoadedValue
+  pub is : load_in level wads files ≡ Ok loaded
+  pub block : IsDrawnBlock loaded wanted
+  pub narrow : widest' < wanted
+  pub small : (level.settings.zone < lump_block loaded.files.lumps loaded.scene.base.colormap + wanted + MIN_FRAGMENT)
+      ⊎ IsPatchBeside loaded level.settings.zone wanted
+  pub enough : level.settings.zone < (loaded_sizes loaded).enough
+
+-- a command that has a zone, with the level, the WADs and the files that it reads
+abbrev pub IsOver : CommandValue → List File → LevelJobValue → List (List ℕ) → List File → Type 0
+IsOver command files level wads held =
+    (((task : LevelTask) × (command ≡ level_job task level wads)) × (held ≡ files))
+    ⊎ ((n : ℕ) × (format : Format) × (command ≡ exercise n level.settings.zone format) × (level ≡ made_level level.settings.zone) × (wads ≡ made_wads) × (held ≡ made_files n))
+
+-- a job that draws
+abbrev pub Draws : CommandValue → Type 0
+Draws command =
+    ((format : Format) × (level : LevelJobValue) × (wads : List (List ℕ)) × (command ≡ level_job (Render format) level wads))
+    ⊎ ((n : ℕ) × (zone : ℕ) × (format : Format) × (command ≡ exercise n zone format))
+
+-- The words are a command with a zone, whose files are in order, and the zone is small: for what loading reads, or for what is drawn.
 pub record IsFullRun (command : CommandValue) (files : List File) (wanted widest' : ℕ) : Type 0 where
-  pub job : LevelTask
   pub level : LevelJobValue
   pub wads : List (List ℕ)
-  pub is : command ≡ level_job job level wads
-  pub full : IsFullLoad level wads files wanted widest'
+  pub held : List File
+  pub is : IsOver command files level wads held
+  pub full : IsFullLoad level wads held wanted widest' ⊎ (Draws command × IsFullDraw level wads held wanted widest')
 
--- the zone of a command over a level is large enough
+-- the zone of a command is large enough for what it accepts
 pub record HasRoom (words : List (List ℕ)) (accepted : Accepted) : Type 0 where
-  pub enough : (job : LevelTask) (level : LevelJobValue) (wads : List (List ℕ)) → command_of words ≡ Some (level_job job level wads) → enough_for accepted ≤ level.settings.zone
+  pub enough : (task : LevelTask) (level : LevelJobValue) (wads : List (List ℕ)) → command_of words ≡ Some (level_job task level wads) → enough_for accepted ≤ level.settings.zone
+  pub made : (n zone : ℕ) (format : Format) → command_of words ≡ Some (exercise n zone format) → enough_for accepted ≤ zone

@@ -1,9 +1,13 @@
 pub mod Audits
 pub mod Ends
+pub mod Exercises
 pub mod Flats
+pub mod Frames
 pub mod Fulls
 pub mod Lines
 pub mod Made
+pub mod Renders
 pub mod Steps
 pub mod Verdict
+pub mod Views
 pub mod Words

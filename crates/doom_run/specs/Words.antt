@@ -1,8 +1,9 @@
 -- The words of a command line, after the program's name, and whether they ask for files.
-use Rattle.std.specs.Prelude.{ℕ, Bool, true, false, IsTrue, List, map, String, string_bytes}
+use Rattle.std.specs.Prelude.{ℕ, Bool, true, false, is_none, IsTrue, List, map, String, string_bytes}
 use Rattle.std.specs.Option.{option_map_or}
 use Rattle.std.specs.declared.alloc.Global.{Global}
 use Rattle.command_line.specs.Commands.{CommandValue, flat, level_job, make, exercise, command_of}
+use Rattle.command_line.specs.LevelJobs.{LevelJobValue}
 use Rattle.command_line.specs.declared.command.LevelTask.{LevelTask}
 use Rattle.command_line.specs.declared.command.LevelTask.TheVariants.{Render, Audit, Limits, Trim, Trace}
 
@@ -10,19 +11,19 @@ use Rattle.command_line.specs.declared.command.LevelTask.TheVariants.{Render, Au
 abbrev pub texts : List (String Global) → List (List ℕ)
 texts words = map (λ word. string_bytes word) words
 
--- a job over a level asks for files, if it is built
-abbrev pub level_asks : LevelTask → Bool
-level_asks (Render format) = false
-level_asks Audit = true
-level_asks Limits = false
-level_asks Trim = false
-level_asks Trace = false
+-- a job over a level asks for files, if it is built: frames with a weapon over them are not
+abbrev pub level_asks : LevelTask → LevelJobValue → Bool
+level_asks (Render format) level = is_none level.files.weapon
+level_asks Audit level = true
+level_asks Limits level = true
+level_asks Trim level = false
+level_asks Trace level = false
 
 -- The job asks the shelf for files. A made file is told by its words alone, and a job that is not
 -- built asks for nothing.
 abbrev pub asks_for_files : CommandValue → Bool
 asks_for_files (flat name file) = true
-asks_for_files (level_job job level wads) = level_asks job
+asks_for_files (level_job job level wads) = level_asks job level
 asks_for_files (make job) = false
 asks_for_files (exercise count zone format) = false
 
@@ -30,12 +31,12 @@ asks_for_files (exercise count zone format) = false
 abbrev pub ask_for_files : List (List ℕ) → Bool
 ask_for_files words = option_map_or asks_for_files (command_of words) false
 
--- a job over a level has a zone, if it is built
+-- a job over a level has a zone, if it is built, and so has an exercise
 abbrev pub has_zone : CommandValue → Bool
 has_zone (flat name file) = false
-has_zone (level_job job level wads) = level_asks job
+has_zone (level_job job level wads) = level_asks job level
 has_zone (make job) = false
-has_zone (exercise count zone format) = false
+has_zone (exercise count zone format) = true
 
 -- the words are a command that has a zone
 abbrev pub have_zone : List (List ℕ) → Bool
@@ -44,3 +45,18 @@ have_zone words = option_map_or has_zone (command_of words) false
 -- a premise on the shelf: it counts only where the words ask for files
 abbrev pub WhereAsked : List (List ℕ) → Type 0 → Type 0
 WhereAsked words Premise = IsTrue (ask_for_files words) → Premise
+
+-- the job writes frames as they are drawn
+abbrev pub writes_frames : CommandValue → Bool
+writes_frames (flat name file) = false
+writes_frames (level_job (Render format) level wads) = true
+writes_frames (level_job Audit level wads) = false
+writes_frames (level_job Limits level wads) = false
+writes_frames (level_job Trim level wads) = false
+writes_frames (level_job Trace level wads) = false
+writes_frames (make job) = false
+writes_frames (exercise count zone format) = false
+
+-- the words are a command that does
+abbrev pub write_frames : List (List ℕ) → Bool
+write_frames words = option_map_or writes_frames (command_of words) false

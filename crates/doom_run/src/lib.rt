@@ -13,11 +13,14 @@
 #![tactic(auto)]
 
 mod audit;
+mod exercise;
 mod flat;
+mod limits;
 mod lumps;
 mod make;
 mod notes;
 mod picture;
+mod render;
 mod status;
 #[cfg(test)]
 mod tests;

@@ -1,9 +1,12 @@
 // The line that is noted for a status. No call takes memory.
 ghost use Rattle.std.specs.Prelude.{codes};
 ghost use Rattle.outside.specs.Sink.{Writes};
+ghost use Rattle.refusals.specs.Lines.{labelled};
+ghost use Rattle.doom_run.specs.Exercises.{summary_line};
 ghost use Rattle.doom_run.specs.Lines.{line_of, limit_label, refusal_line, pair_line};
 
 use crate::Refusal;
+use crate::exercise::Summary;
 use crate::status::Status;
 use outside::{Failed, Sink};
 use picture_rules::LimitKind;
@@ -92,4 +95,32 @@ fn put_refusal<N: Sink>(notes: &mut N, refusal: Refusal) -> Result<(), Failed>
     notes.put(b"doomview: refused")?;
     put_numbers_of(notes, refusal)?;
     notes.put(b"\n")
+}
+
+// Appends what a limit counts, and the count.
+pub(crate) fn put_limit_count<K: Sink>(
+    out: &mut K,
+    kind: LimitKind,
+    count: u32,
+) -> Result<(), Failed>
+    ensures { Writes (K.written out.old) (K.written out.new) (K.faults out.old)
+        (K.faults out.new) (labelled (limit_label kind) count) result }
+{
+    match kind {
+        LimitKind::Planes => put_labelled(out, b" planes ", count as u64),
+        LimitKind::Openings => put_labelled(out, b" openings ", count as u64),
+    }
+}
+
+// Appends the line of an exercise.
+pub(crate) fn put_summary<K: Sink>(out: &mut K, summary: &Summary) -> Result<(), Failed>
+    ensures { Writes (K.written out.old) (K.written out.new) (K.faults out.old)
+        (K.faults out.new) (summary_line summary.now) result }
+{
+    put_labelled(out, b"sectors ", summary.sectors)?;
+    put_labelled(out, b" views ", summary.views)?;
+    put_labelled(out, b" frames ", summary.frames)?;
+    put_labelled(out, b" bytes ", summary.bytes)?;
+    put_labelled(out, b" sum ", summary.sum)?;
+    out.put(b"\n")
 }

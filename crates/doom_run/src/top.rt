@@ -1,26 +1,31 @@
 // A run, from its words to its status.
-ghost use Rattle.std.specs.Prelude.{◌≡◌, ◌⊎◌, ℕ, Bool, false, List, [], map, Ok, Err, IsTrue, IfSome};
+ghost use Rattle.std.specs.Prelude.{◌≡◌, ◌⊎◌, ℕ, Bool, false, List, [], map, None, Ok, Err, IsTrue, IfSome};
 ghost use Rattle.outside.specs.Causes.{FaultsRose};
 ghost use Rattle.outside.specs.Shelf.{File, Holds};
 ghost use Rattle.outside.specs.Sink.{Grew, GrewByPrefix};
-ghost use Rattle.command_line.specs.Commands.{IsCounted, IsCountedMake, command_of, flat, make, command_value};
+ghost use Rattle.command_line.specs.Commands.{IsCount, IsCounted, IsCountedMake, command_of, command_value, exercise, flat, level_job, make};
 ghost use Rattle.command_line.specs.LevelJobs.{IsLevelJob, level_job_value};
-ghost use Rattle.command_line.specs.declared.command.LevelTask.TheVariants.{Audit};
+ghost use Rattle.command_line.specs.declared.command.LevelTask.TheVariants.{Audit, Limits, Render};
 ghost use Rattle.scene_load.specs.Fulls.{IsFullLoad};
-ghost use Rattle.doom_run.specs.Ends.{EndsAt, EndsWith, IsEnd, IsUnwritten};
-ghost use Rattle.doom_run.specs.Fulls.{HasRoom, IsFullRun};
+ghost use Rattle.zone_rules.specs.Zones.{IsZoneSize};
+ghost use Rattle.doom_run.specs.Ends.{EndsAt, EndsWith, IsEnd, IsReadOrFull, IsUnwritten};
+ghost use Rattle.doom_run.specs.Exercises.{made_files, made_level, made_wads};
+ghost use Rattle.doom_run.specs.Fulls.{HasRoom, IsFullDraw, IsFullRun};
 ghost use Rattle.doom_run.specs.Lines.{line_of};
 ghost use Rattle.doom_run.specs.Steps.{RunStop, usage, absent, refused};
 ghost use Rattle.doom_run.specs.Verdict.{Accepted, job_verdict, level_verdict, verdict, end_of, output};
-ghost use Rattle.doom_run.specs.Words.{WhereAsked, ask_for_files, asks_for_files, has_zone, have_zone, level_asks, texts};
+ghost use Rattle.doom_run.specs.Words.{WhereAsked, ask_for_files, asks_for_files, has_zone, have_zone, level_asks, texts, write_frames, writes_frames};
 
 use crate::Refusal;
 use crate::audit::{deliver_audit, prepare_audit};
+use crate::exercise::{deliver_exercise, prepare_exercise};
 use crate::flat::{deliver_flat, prepare_flat};
+use crate::limits::deliver_limits;
 use crate::make::{deliver_make, prepare_make};
 use crate::notes::put_note;
+use crate::render::{deliver_render, prepare_views};
 use crate::status::Status;
-use command_line::{Command, CommandFault, LevelJob, LevelTask, MakeJob, command_of};
+use command_line::{Command, CommandFault, Format, LevelJob, LevelTask, MakeJob, command_of};
 use outside::{Shelf, Sink};
 use std::alloc::Global;
 use wad_dir::Name8;
@@ -47,12 +52,15 @@ pub fn run<S: Shelf, K: Sink, N: Sink>(
         WhereAsked (texts words.now) (Holds (S.view shelf.old) files) →
         EndsWith (verdict (texts words.now) files) (K.written out.old) (K.written out.new) result }
 
-    // Another status: a prefix of the output, and nothing where none is due or memory ran out.
+    // Another status: a prefix of the output, and nothing where none is due or memory ran out. Frames
+    // alone are written before all is read.
     ensures prefix { (files : List File) (accepted : Accepted) →
         WhereAsked (texts words.now) (Holds (S.view shelf.old) files) →
         verdict (texts words.now) files ≡ Ok accepted →
         GrewByPrefix (K.written out.old) (K.written out.new) (output accepted) }
     ensures unwritten { IsUnwritten result → Grew (K.written out.old) (K.written out.new) [] }
+    ensures before { write_frames (texts words.now) ≡ false → IsReadOrFull result →
+        Grew (K.written out.old) (K.written out.new) [] }
     ensures stopped { (files : List File) (stop : RunStop) →
         WhereAsked (texts words.now) (Holds (S.view shelf.old) files) →
         verdict (texts words.now) files ≡ Err stop →
@@ -88,7 +96,7 @@ pub fn run<S: Shelf, K: Sink, N: Sink>(
     ensures write_fault { result ≡ Status.WriteFault →
         FaultsRose (K.faults out.old) (K.faults out.new) }
 
-    // A full zone comes only for a job over a level whose files are in order, and the zone is small.
+    // A full zone comes only for a job whose files are in order, and the zone is small.
     ensures zone_full { (files : List File) (wanted widest : ℕ) →
         result ≡ Status.ZoneFull wanted widest →
         WhereAsked (texts words.now) (Holds (S.view shelf.old) files) →
@@ -137,6 +145,8 @@ fn perform<S: Shelf, K: Sink>(alloc: Global, words: &[String], shelf: &mut S, ou
         EndsAt (S.view shelf.old).steady (verdict (texts words.now) files)
         (K.written out.old) (K.written out.new) result }
     ensures unwritten { IsUnwritten result → Grew (K.written out.old) (K.written out.new) [] }
+    ensures before { write_frames (texts words.now) ≡ false → IsReadOrFull result →
+        Grew (K.written out.old) (K.written out.new) [] }
     ensures usage { (files : List File) → result ≡ Status.Usage →
         verdict (texts words.now) files ≡ Err usage }
     ensures wrong_words { (files : List File) → verdict (texts words.now) files ≡ Err usage →
@@ -173,6 +183,8 @@ fn perform_job<S: Shelf, K: Sink>(
         EndsAt (S.view shelf.old).steady (job_verdict (command_value command.now) files)
         (K.written out.old) (K.written out.new) result }
     ensures unwritten { IsUnwritten result → Grew (K.written out.old) (K.written out.new) [] }
+    ensures before { writes_frames (command_value command.now) ≡ false → IsReadOrFull result →
+        Grew (K.written out.old) (K.written out.new) [] }
     ensures usage { (files : List File) → result ≡ Status.Usage →
         job_verdict (command_value command.now) files ≡ Err usage }
     ensures not_built { (files : List File) →
@@ -198,7 +210,11 @@ fn perform_job<S: Shelf, K: Sink>(
         Command::Level { task, level, wads } => perform_level(
             alloc, *task, level, wads, shelf, out,
         ),
-        Command::Exercise { .. } => Status::Usage,
+        Command::Exercise {
+            count,
+            zone,
+            format,
+        } => perform_exercise(alloc, *count, *zone, *format, out),
     }
 }
 
@@ -212,11 +228,14 @@ fn perform_level<S: Shelf, K: Sink>(
 ) -> Status
     requires { IsLevelJob (level_job_value level.now) (map (λ wad. wad.now) wads.now) }
     ensures ends { (files : List File) →
-        (IsTrue (level_asks job) → Holds (S.view shelf.old) files) →
+        (IsTrue (level_asks job (level_job_value level.now)) → Holds (S.view shelf.old) files) →
         EndsAt (S.view shelf.old).steady
         (level_verdict job (level_job_value level.now) (map (λ wad. wad.now) wads.now) files)
         (K.written out.old) (K.written out.new) result }
     ensures unwritten { IsUnwritten result → Grew (K.written out.old) (K.written out.new) [] }
+    ensures before {
+        writes_frames (level_job job (level_job_value level.now) (map (λ wad. wad.now) wads.now)) ≡ false →
+        IsReadOrFull result → Grew (K.written out.old) (K.written out.new) [] }
     ensures usage { (files : List File) → result ≡ Status.Usage →
         level_verdict job (level_job_value level.now) (map (λ wad. wad.now) wads.now) files
         ≡ Err usage }
@@ -230,17 +249,19 @@ fn perform_level<S: Shelf, K: Sink>(
         FaultsRose (K.faults out.old) (K.faults out.new) }
     ensures zone_full { (files : List File) (wanted widest : ℕ) →
         result ≡ Status.ZoneFull wanted widest →
-        (IsTrue (level_asks job) → Holds (S.view shelf.old) files) →
-        IsFullLoad (level_job_value level.now) (map (λ wad. wad.now) wads.now) files wanted widest }
+        (IsTrue (level_asks job (level_job_value level.now)) → Holds (S.view shelf.old) files) →
+        IsFullRun (level_job job (level_job_value level.now) (map (λ wad. wad.now) wads.now)) files
+        wanted widest }
     ensures zoned { (wanted widest : ℕ) → result ≡ Status.ZoneFull wanted widest →
-        IsTrue (level_asks job) }
-    ensures asked { result ≡ Status.ReadFault → IsTrue (level_asks job) }
-    ensures untouched { level_asks job ≡ false → shelf.new ≡ shelf.old }
+        IsTrue (level_asks job (level_job_value level.now)) }
+    ensures asked { result ≡ Status.ReadFault → IsTrue (level_asks job (level_job_value level.now)) }
+    ensures untouched { level_asks job (level_job_value level.now) ≡ false → shelf.new ≡ shelf.old }
 {
     match job {
+        LevelTask::Render(format) => perform_render(alloc, format, level, wads, shelf, out),
         LevelTask::Audit => perform_audit(alloc, level, wads, shelf, out),
-        LevelTask::Render(_) | LevelTask::Limits | LevelTask::Trim | LevelTask::Trace =>
-            Status::Usage,
+        LevelTask::Limits => perform_limits(alloc, level, wads, shelf, out),
+        LevelTask::Trim | LevelTask::Trace => Status::Usage,
     }
 }
 
@@ -257,6 +278,7 @@ fn perform_audit<S: Shelf, K: Sink>(
         (level_verdict Audit (level_job_value level.now) (map (λ wad. wad.now) wads.now) files)
         (K.written out.old) (K.written out.new) result }
     ensures unwritten { IsUnwritten result → Grew (K.written out.old) (K.written out.new) [] }
+    ensures before { IsReadOrFull result → Grew (K.written out.old) (K.written out.new) [] }
     ensures not_usage { result ≡ Status.Usage → ⊥ }
     ensures read_fault { result ≡ Status.ReadFault →
         FaultsRose (S.view shelf.old).faults (S.view shelf.new).faults }
@@ -272,6 +294,111 @@ fn perform_audit<S: Shelf, K: Sink>(
     }
 }
 
+fn perform_render<S: Shelf, K: Sink>(
+    alloc: Global,
+    format: Format,
+    level: &LevelJob<'_>,
+    wads: &[&str],
+    shelf: &mut S,
+    out: &mut K,
+) -> Status
+    requires { IsLevelJob (level_job_value level.now) (map (λ wad. wad.now) wads.now) }
+    ensures ends { (files : List File) →
+        (IsTrue (level_asks (Render format) (level_job_value level.now)) →
+        Holds (S.view shelf.old) files) →
+        EndsAt (S.view shelf.old).steady (level_verdict (Render format)
+        (level_job_value level.now) (map (λ wad. wad.now) wads.now) files)
+        (K.written out.old) (K.written out.new) result }
+    ensures unwritten { IsUnwritten result → Grew (K.written out.old) (K.written out.new) [] }
+    ensures usage { (files : List File) → result ≡ Status.Usage →
+        level_verdict (Render format) (level_job_value level.now)
+        (map (λ wad. wad.now) wads.now) files ≡ Err usage }
+    ensures not_built { (files : List File) →
+        level_verdict (Render format) (level_job_value level.now)
+        (map (λ wad. wad.now) wads.now) files ≡ Err usage → result ≡ Status.Usage }
+    ensures read_fault { result ≡ Status.ReadFault →
+        FaultsRose (S.view shelf.old).faults (S.view shelf.new).faults }
+    ensures write_fault { result ≡ Status.WriteFault →
+        FaultsRose (K.faults out.old) (K.faults out.new) }
+    ensures zone_full { (files : List File) (wanted widest : ℕ) →
+        result ≡ Status.ZoneFull wanted widest →
+        (IsTrue (level_asks (Render format) (level_job_value level.now)) →
+        Holds (S.view shelf.old) files) →
+        IsFullLoad (level_job_value level.now) (map (λ wad. wad.now) wads.now) files wanted widest
+        ⊎ IsFullDraw (level_job_value level.now) (map (λ wad. wad.now) wads.now) files wanted
+        widest }
+    ensures asked { (result ≡ Status.ReadFault)
+        ⊎ ((wanted : ℕ) × (widest : ℕ) × (result ≡ Status.ZoneFull wanted widest)) →
+        IsTrue (level_asks (Render format) (level_job_value level.now)) }
+    ensures untouched { level_asks (Render format) (level_job_value level.now) ≡ false →
+        shelf.new ≡ shelf.old }
+{
+    if level.files.weapon.is_some() {
+        return Status::Usage;
+    }
+    match prepare_views(alloc, level, wads, shelf) {
+        Ok(mut ready) => deliver_render(&mut ready, format, shelf, out),
+        Err(fault) => Status::of(fault),
+    }
+}
+
+fn perform_limits<S: Shelf, K: Sink>(
+    alloc: Global,
+    level: &LevelJob<'_>,
+    wads: &[&str],
+    shelf: &mut S,
+    out: &mut K,
+) -> Status
+    requires { IsLevelJob (level_job_value level.now) (map (λ wad. wad.now) wads.now) }
+    ensures ends { (files : List File) → Holds (S.view shelf.old) files →
+        EndsAt (S.view shelf.old).steady
+        (level_verdict Limits (level_job_value level.now) (map (λ wad. wad.now) wads.now) files)
+        (K.written out.old) (K.written out.new) result }
+    ensures unwritten { IsUnwritten result → Grew (K.written out.old) (K.written out.new) [] }
+    ensures before { IsReadOrFull result → Grew (K.written out.old) (K.written out.new) [] }
+    ensures not_usage { result ≡ Status.Usage → ⊥ }
+    ensures read_fault { result ≡ Status.ReadFault →
+        FaultsRose (S.view shelf.old).faults (S.view shelf.new).faults }
+    ensures write_fault { result ≡ Status.WriteFault →
+        FaultsRose (K.faults out.old) (K.faults out.new) }
+    ensures zone_full { (files : List File) (wanted widest : ℕ) →
+        result ≡ Status.ZoneFull wanted widest → Holds (S.view shelf.old) files →
+        IsFullLoad (level_job_value level.now) (map (λ wad. wad.now) wads.now) files wanted widest }
+{
+    match prepare_views(alloc, level, wads, shelf) {
+        Ok(mut ready) => deliver_limits(&mut ready, out),
+        Err(fault) => Status::of(fault),
+    }
+}
+
+fn perform_exercise<K: Sink>(
+    alloc: Global,
+    count: u8,
+    zone: u32,
+    format: Format,
+    out: &mut K,
+) -> Status
+    requires count { IsCount count }
+    requires zone { IsZoneSize zone }
+    ensures ends { (steady : Bool) (files : List File) →
+        EndsAt steady (job_verdict (exercise count zone format) files)
+        (K.written out.old) (K.written out.new) result }
+    ensures unwritten { IsUnwritten result → Grew (K.written out.old) (K.written out.new) [] }
+    ensures before { IsReadOrFull result → Grew (K.written out.old) (K.written out.new) [] }
+    ensures not_usage { result ≡ Status.Usage → ⊥ }
+    ensures not_read { result ≡ Status.ReadFault → ⊥ }
+    ensures write_fault { result ≡ Status.WriteFault →
+        FaultsRose (K.faults out.old) (K.faults out.new) }
+    ensures zone_full { (wanted widest : ℕ) → result ≡ Status.ZoneFull wanted widest →
+        IsFullLoad (made_level zone) made_wads (made_files count) wanted widest
+        ⊎ IsFullDraw (made_level zone) made_wads (made_files count) wanted widest }
+{
+    match prepare_exercise(alloc, count as u32, zone, format) {
+        Ok(summary) => deliver_exercise(summary, out),
+        Err(status) => status,
+    }
+}
+
 fn perform_flat<S: Shelf, K: Sink>(
     alloc: Global,
     name: &Name8,
@@ -283,6 +410,7 @@ fn perform_flat<S: Shelf, K: Sink>(
         EndsAt (S.view shelf.old).steady (job_verdict (flat name.now file.now) files)
         (K.written out.old) (K.written out.new) result }
     ensures unwritten { IsUnwritten result → Grew (K.written out.old) (K.written out.new) [] }
+    ensures before { IsReadOrFull result → Grew (K.written out.old) (K.written out.new) [] }
     ensures not_usage { result ≡ Status.Usage → ⊥ }
     ensures read_fault { result ≡ Status.ReadFault →
         FaultsRose (S.view shelf.old).faults (S.view shelf.new).faults }
@@ -302,6 +430,7 @@ fn perform_make<K: Sink>(alloc: Global, job: MakeJob, out: &mut K) -> Status
         EndsAt steady (job_verdict (make job) files)
         (K.written out.old) (K.written out.new) result }
     ensures unwritten { IsUnwritten result → Grew (K.written out.old) (K.written out.new) [] }
+    ensures before { IsReadOrFull result → Grew (K.written out.old) (K.written out.new) [] }
     ensures not_usage { result ≡ Status.Usage → ⊥ }
     ensures not_read { result ≡ Status.ReadFault → ⊥ }
     ensures write_fault { result ≡ Status.WriteFault →

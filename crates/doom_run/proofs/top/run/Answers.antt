@@ -15,7 +15,7 @@ returns-clause-prefix g c files accepted held is =
 
 pub returns-clause-stopped : goal.returns-clause-stopped
 returns-clause-stopped g c files stop held is =
-    c.perform-status.ensures.unwritten (stopped_at _ _ _ _ c.perform-status.result stop (c.perform-status.ensures.ends files held) is)
+    stopped_at _ _ _ _ c.perform-status.result stop (c.perform-status.ensures.ends files held) c.perform-status.ensures.unwritten is
 
 pub returns-clause-refused : goal.returns-clause-refused
 returns-clause-refused g c files refusal is held = rw is at (c.perform-status.ensures.ends files held)
@@ -25,7 +25,7 @@ returns-clause-refusal g c files refusal held is =
     refusal_at _ _ _ _ c.perform-status.result refusal (c.perform-status.ensures.ends files held) is
 
 pub returns-clause-steady : goal.returns-clause-steady
-returns-clause-steady g c files is held steady = (rw is at (c.perform-status.ensures.ends files held)) steady
+returns-clause-steady g c files is held steady = (rw is at (c.perform-status.ensures.ends files held)).0 steady
 
 pub returns-clause-absent : goal.returns-clause-absent
 returns-clause-absent g c files held is =

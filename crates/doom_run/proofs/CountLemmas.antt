@@ -1,0 +1,38 @@
+-- A scene that may be drawn may be counted.
+use Rattle.std.proofs.Common.{ℕ, ◌≤◌, List, [], ◌∷◌, length, arith}
+use Rattle.std.specs.Prelude.{All}
+use Rattle.std.proofs.lemmas.List.Elements.{All-cons, All-head, All-nil, All-tail}
+use Rattle.lump_rules.specs.declared.wad.Lump.{Lump}
+use Rattle.zone_rules.specs.Zones.{Heap}
+use Rattle.level_rules.specs.declared.Sector.{Sector}
+use Rattle.level_rules.specs.declared.TheConstants.{SKY_FLAT}
+use Rattle.scene_rules.specs.declared.Flat.{Flat}
+use Rattle.scene_rules.specs.declared.Flat.TheVariants.{Sky, Lump as LumpFlat}
+use Rattle.scene_rules.specs.declared.SectorFlats.{SectorFlats}
+use Rattle.scene_rules.specs.Scenes.{SceneValue}
+use Rattle.scene_rules.specs.SectorFlats.{flat_number, surface_of, surfaces_of}
+use Rattle.level_scene.specs.Bounds.{AreThere, IsThere}
+use Rattle.frame_core.specs.Views.{AreFlatNumbers, CanCount, CanDrawView}
+
+-- a flat's number is that of a lump, or the sky's
+number_within : (count : ℕ) (flat : Flat) → count ≤ SKY_FLAT → IsThere count flat → flat_number flat ≤ SKY_FLAT
+unfolding flat_number
+number_within count Sky few there = omega arith
+number_within count (LumpFlat lump) few there = omega (arith, few, there)
+
+numbers_within : (count : ℕ) (sectors : List Sector) (flats : List SectorFlats) → count ≤ SKY_FLAT → All (AreThere count) flats → All AreFlatNumbers (surfaces_of sectors flats)
+unfolding surfaces_of surface_of
+numbers_within count [] flats few there = All-nil AreFlatNumbers
+numbers_within count (sector ∷ sectors) [] few there = All-nil AreFlatNumbers
+numbers_within count (sector ∷ sectors) (f ∷ flats) few there =
+    let first = All-head (AreThere count) f flats there in
+    All-cons AreFlatNumbers (surface_of sector f) (surfaces_of sectors flats)
+    (record { floor = number_within count f.floor few first.floor; ceiling = number_within count f.ceiling few first.ceiling })
+    (numbers_within count sectors flats few (All-tail (AreThere count) f flats there))
+
+pub can_count : (lumps : List Lump) (scene : SceneValue) (z : Heap) → CanDrawView lumps scene z → CanCount scene
+can_count lumps scene z can = record {
+  sides = can.whole.sides;
+  flats = can.whole.flats;
+  numbers = numbers_within (length lumps) scene.base.level.sectors scene.faces.flats can.few can.whole.flats_there;
+}

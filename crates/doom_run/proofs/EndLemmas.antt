@@ -1,0 +1,171 @@
+-- What a status says of a run, by what its steps gave.
+use Rattle.std.proofs.Common.{◌≡◌, ◌⊎◌, inl, inr, ℕ, Bool, true, false, IsTrue, List, [], Option, Some, None, Result, Ok, Err, cond, refl, sym, ap, subst, ◌∙◌}
+use Rattle.std.specs.Prelude.{MatchResult, is_some, is_none, option_map, unwrap_or}
+use Rattle.outside.specs.Sink.{Grew, GrewByPrefix}
+use Rattle.outside.specs.Shelf.{File}
+use Rattle.outside.specs.Faults.{and_then, from_below}
+use Rattle.outside.specs.Stops as files
+use Rattle.outside.specs.Stops.{FaultFitsOrAbsent, Stop}
+use Rattle.outside.specs.declared.fault.Fault.{Fault}
+use Rattle.outside.specs.declared.fault.Fault.TheVariants as fault
+use Rattle.outside.proofs.StopLemmas.{stops_all}
+use Rattle.outside.proofs.WriteLemmas.{prefix_of_none}
+use Rattle.lump_cache.specs.Calls.{IfFull}
+use Rattle.lump_rules.specs.Contents.{lump_bytes}
+use Rattle.command_line.specs.declared.command.Format.{Format}
+use Rattle.command_line.specs.LevelJobs.{LevelJobValue}
+use Rattle.refusals.specs.declared.refusal.Refusal.{Refusal}
+use Rattle.level_audit.proofs.SceneLemmas.{and_then-ok}
+use Rattle.scene_load.specs.Files.{files_in, files_named}
+use Rattle.scene_load.specs.Loads.{LoadedValue, load_in, loaded_value, wad_bytes, wad_contents}
+use Rattle.scene_load.proofs.AcceptedLemmas.{wads_accepted}
+use Rattle.scene_load.proofs.AuditedLemmas.{audited_by}
+use Rattle.scene_load.proofs.LoadLemmas.{audited_of}
+use Rattle.doom_run.specs.declared.render.ReadyViews.{ReadyViews}
+use Rattle.doom_run.specs.declared.status.Status.{Status}
+use Rattle.doom_run.specs.declared.status.Status.TheVariants.{Done, Usage, Refused, ReadFault, WriteFault, Limit, ZoneFull, OutOfMemory}
+use Rattle.doom_run.specs.Ends.{DeliversAt, EndsAt, RendersAt, StopsWith, status_of}
+use Rattle.doom_run.specs.Exercises.{DeliversLine, IsExercised, StopsAt, exercised_bytes}
+use Rattle.doom_run.specs.Renders.{IsReady, ready_views}
+use Rattle.doom_run.specs.Steps.{RunStop, at_step, usage}
+use Rattle.doom_run.specs.Verdict.{Accepted, exercised, output}
+use Rattle.doom_run.specs.Views.{ViewsValue, limits_in, views_of}
+
+-- where nothing was written a run may stop, whatever its verdict
+pub none_stops : (verdict : Result Accepted RunStop) (old new : List ℕ → Type 0) → Grew old new [] → StopsWith verdict old new
+none_stops (Ok accepted) old new none = record { written = prefix_of_none _ none }
+none_stops (Err stop) old new none = record { written = none }
+
+-- where the verdict accepts, it may stop with a prefix of the output
+prefix_stops : (verdict : Result Accepted RunStop) (accepted : Accepted) (old new : List ℕ → Type 0) → verdict ≡ Ok accepted → GrewByPrefix old new (output accepted) → StopsWith verdict old new
+prefix_stops verdict accepted old new is prefix = record {
+  written = subst (λ (v : Result Accepted RunStop). MatchResult v (λ a. GrewByPrefix old new (output a)) (λ stop. Grew old new [])) (sym is) prefix;
+}
+
+-- what an accepted run comes to, by its delivery
+pub delivers_end : (steady : Bool) (verdict : Result Accepted RunStop) (accepted : Accepted) (old new : List ℕ → Type 0) (status : Status) →
+    verdict ≡ Ok accepted → DeliversAt accepted old new status → EndsAt steady verdict old new status
+delivers_end steady verdict accepted old new Done is d = record { accepted = accepted; is = is; due = d.0; written = d.1 }
+delivers_end steady verdict accepted old new Usage is d = absurd d
+delivers_end steady verdict accepted old new (Refused refusal) is d = absurd d
+delivers_end steady verdict accepted old new ReadFault is d = absurd d
+delivers_end steady verdict accepted old new WriteFault is d = record { accepted = accepted; is = is; written = d }
+delivers_end steady verdict accepted old new (Limit view kind count) is d = record { accepted = accepted; is = is; due = d.0; written = d.1 }
+delivers_end steady verdict accepted old new (ZoneFull wanted widest) is d = absurd d
+delivers_end steady verdict accepted old new OutOfMemory is d = absurd d
+
+-- by its frames
+pub renders_end : (steady later : Bool) (verdict : Result Accepted RunStop) (accepted : Accepted) (old new : List ℕ → Type 0) (status : Status) →
+    later ≡ steady → verdict ≡ Ok accepted → RendersAt later accepted old new status → EndsAt steady verdict old new status
+renders_end steady later verdict accepted old new Done same is d = record { accepted = accepted; is = is; due = d.0; written = d.1 }
+renders_end steady later verdict accepted old new Usage same is d = absurd d
+renders_end steady later verdict accepted old new (Refused refusal) same is d = absurd d
+renders_end steady later verdict accepted old new ReadFault same is d = (λ holds. absurd (d.0 (subst IsTrue (sym same) holds)), prefix_stops verdict accepted old new is d.1)
+renders_end steady later verdict accepted old new WriteFault same is d = record { accepted = accepted; is = is; written = d }
+renders_end steady later verdict accepted old new (Limit view kind count) same is d = record { accepted = accepted; is = is; due = d.0; written = d.1 }
+renders_end steady later verdict accepted old new (ZoneFull wanted widest) same is d = prefix_stops verdict accepted old new is d
+renders_end steady later verdict accepted old new OutOfMemory same is d = absurd d
+
+-- what a run comes to whose first steps have stopped
+pub fault_end : {A : Type 0} (steady : Bool) (expected : Result A (Stop Refusal)) (accept : A → Accepted) (old new : List ℕ → Type 0) (stop : Fault Refusal) →
+    FaultFitsOrAbsent steady expected stop → Grew old new [] → EndsAt steady (and_then (from_below at_step expected) (λ value. Ok (accept value))) old new (status_of stop)
+fault_end steady expected accept old new (fault.Refused refusal) fits none = rw fits refl
+fault_end steady expected accept old new fault.ReadFault fits none = (λ holds. rw (fits holds) refl, none_stops _ old new none)
+fault_end steady expected accept old new (fault.ZoneFull wanted widest) fits none = none_stops _ old new none
+fault_end steady expected accept old new fault.OutOfMemory fits none = tt
+
+-- the same where a further step would follow
+pub first_end : {A C : Type 0} (steady : Bool) (first : Result C (Stop Refusal)) (next : C → A) (accept : A → Accepted) (old new : List ℕ → Type 0) (stop : Fault Refusal) →
+    FaultFitsOrAbsent steady first stop → Grew old new [] → EndsAt steady (and_then (from_below at_step (and_then first (λ found. Ok (next found)))) (λ value. Ok (accept value))) old new (status_of stop)
+first_end steady first next accept old new stop fits none =
+    fault_end steady (and_then first (λ found. Ok (next found))) accept old new stop (stops_all steady first (λ found. Ok (next found)) stop fits) none
+
+-- the views of a ready scene are those of what was loaded
+pub ready_as : (bytes : ℕ → List ℕ) (level : LevelJobValue) (ready : ReadyViews) → IsReady level ready → views_of bytes level.settings (loaded_value ready.loaded) ≡ ready_views bytes ready
+unfolding views_of ready_views
+ready_as bytes level ready stands =
+    ap (λ l. record {
+      scene = (ready_views bytes ready).scene;
+      views = (ready_views bytes ready).views;
+      limits = l;
+      palette = (ready_views bytes ready).palette;
+      sizes = (ready_views bytes ready).sizes;
+    }) (sym stands.limits)
+
+-- the bytes of the WADs of what was loaded
+pub record AreNamed (wads : List (List ℕ)) (held : List File) : Type 0 where
+  pub contents : List (List ℕ)
+  pub named : files_named wads held ≡ Some contents
+  pub are : wad_contents wads held ≡ contents
+
+pub loaded_named : (level : LevelJobValue) (wads : List (List ℕ)) (held : List File) (loaded : LoadedValue) → load_in level wads held ≡ Ok loaded → AreNamed wads held
+unfolding load_in
+loaded_named level wads held loaded e =
+    let a = and_then-ok (files_in level.files wads level.settings.size held) _ loaded e in
+    let listed = wads_accepted level.files wads level.settings.size held a.0 a.1 in
+    record { contents = listed.contents; named = listed.named; are = ap (λ (c : Option (List (List ℕ))). unwrap_or c []) listed.named }
+
+-- what a job over a level accepts of a ready scene
+pub ready_accepted : (level : LevelJobValue) (wads : List (List ℕ)) (held : List File) (ready : ReadyViews) (contents : List (List ℕ)) (accept : ViewsValue → Accepted) →
+    IsReady level ready → load_in level wads held ≡ Ok (loaded_value ready.loaded) → wad_contents wads held ≡ contents →
+    and_then (from_below at_step (and_then (load_in level wads held) (λ loaded. Ok (views_of (wad_bytes wads held loaded.files.lumps) level.settings loaded)))) (λ views. Ok (accept views))
+    ≡ Ok (accept (ready_views (lump_bytes contents ready.loaded.files.dir.lumps) ready))
+ready_accepted level wads held ready contents accept stands is are =
+    ap (λ (loading : Result LoadedValue (Stop Refusal)). and_then (from_below at_step (and_then loading (λ loaded. Ok (views_of (wad_bytes wads held loaded.files.lumps) level.settings loaded)))) (λ views. Ok (accept views))) is
+    ∙ ap (λ (c : List (List ℕ)). Ok (accept (views_of (lump_bytes c ready.loaded.files.dir.lumps) level.settings (loaded_value ready.loaded)))) are
+    ∙ ap (λ (v : ViewsValue). Ok (accept v)) (ready_as (lump_bytes contents ready.loaded.files.dir.lumps) level ready stands)
+
+-- frames without a weapon over them
+pub unless_armed : {X : Type 0} (f : X → List ℕ) (weapon : Option X) (r : Result Accepted RunStop) → is_some weapon ≡ false → cond (is_some (option_map f weapon)) (Err usage) r ≡ r
+unless_armed f None r e = refl
+unless_armed f (Some x) r e = absurd (cc)
+
+pub where_armed : {X : Type 0} (f : X → List ℕ) (weapon : Option X) (r : Result Accepted RunStop) → is_some weapon ≡ true → cond (is_some (option_map f weapon)) (Err usage) r ≡ Err usage
+where_armed f None r e = absurd (cc)
+where_armed f (Some x) r e = refl
+
+-- without a weapon files are asked for
+pub asks_unarmed : {X : Type 0} (f : X → List ℕ) (weapon : Option X) → is_some weapon ≡ false → is_none (option_map f weapon) ≡ true
+asks_unarmed f None e = refl
+asks_unarmed f (Some x) e = absurd (cc)
+
+-- steps after loading do not find the words wrong
+pub not_usage_at : {A : Type 0} (expected : Result A (Stop Refusal)) (accept : A → Accepted) → and_then (from_below at_step expected) (λ value. Ok (accept value)) ≡ Err usage → ⊥
+not_usage_at (Ok value) accept e = cc
+not_usage_at (Err stop) accept e = cc
+
+-- a fault of the first steps is no wrong words
+pub fault_not_usage : (stop : Fault Refusal) → status_of stop ≡ Usage → ⊥
+fault_not_usage (fault.Refused refusal) e = cc
+fault_not_usage fault.ReadFault e = cc
+fault_not_usage (fault.ZoneFull wanted widest) e = cc
+fault_not_usage fault.OutOfMemory e = cc
+
+-- what an exercise comes to, by its delivery
+module _ (steady : Bool) (n : ℕ) (format : Format) (verdict : Result ViewsValue (Stop Refusal)) (old new : List ℕ → Type 0) where
+  abbrev its_verdict : Result Accepted RunStop
+  its_verdict = and_then (from_below at_step verdict) (λ views. Ok (exercised n format views))
+
+  accepts : (views : ViewsValue) → verdict ≡ Ok views → its_verdict ≡ Ok (exercised n format views)
+  accepts views is = rw is refl
+
+  pub line_end : (line : List ℕ) (status : Status) → IsExercised n format verdict line Done → DeliversLine line old new status → EndsAt steady its_verdict old new status
+  line_end line Done one d = record { accepted = exercised n format one.views; is = accepts one.views one.is; due = one.due; written = subst (Grew old new) (sym one.line) d }
+  line_end line Usage one d = absurd d
+  line_end line (Refused refusal) one d = absurd d
+  line_end line ReadFault one d = absurd d
+  line_end line WriteFault one d = record { accepted = exercised n format one.views; is = accepts one.views one.is; written = subst (GrewByPrefix old new) (sym one.line) d }
+  line_end line (Limit view kind count) one d = absurd d
+  line_end line (ZoneFull wanted widest) one d = absurd d
+  line_end line OutOfMemory one d = absurd d
+
+  -- or by where it stops
+  pub exercise_end : (status : Status) → StopsAt n format verdict status → Grew old new [] → EndsAt steady its_verdict old new status
+  exercise_end Done stops none = absurd stops
+  exercise_end Usage stops none = absurd stops
+  exercise_end (Refused refusal) stops none = rw stops refl
+  exercise_end ReadFault stops none = absurd stops
+  exercise_end WriteFault stops none = absurd stops
+  exercise_end (Limit view kind count) stops none = record { accepted = exercised n format stops.views; is = accepts stops.views stops.is; due = stops.due; written = subst (Grew old new) (sym stops.line) none }
+  exercise_end (ZoneFull wanted widest) stops none = none_stops _ old new none
+  exercise_end OutOfMemory stops none = tt

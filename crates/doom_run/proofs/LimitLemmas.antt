@@ -1,0 +1,123 @@
+-- The lines of the views of a path, one after the other.
+use Rattle.std.proofs.Common.{◌≡◌, ◌≤◌, ◌<◌, ℕ, zero, suc, ◌+◌, ◌-◌, List, [], ◌∷◌, ◌++◌, length, Option, Some, None, Result, Ok, map, get_or, refl, subst, ap, sym, ◌∙◌, arith, append_assoc, append-nil}
+use Rattle.std.specs.Prelude.{slice_get, option_map}
+use Rattle.std.proofs.lemmas.List.{length-map}
+use Rattle.std.proofs.lemmas.Option.{slice_get-map, slice_get-get_or}
+use Rattle.outside.specs.Sink.{Grew, GrewByPrefix, Writes}
+use Rattle.outside.proofs.WriteLemmas.{prefix_of_more, writes_none, writes_then}
+use Rattle.word_rules.specs.Listed.{listed, joined_lists}
+use Rattle.word_rules.proofs.ListedLemmas.{joined_lists-append, joined_lists-cons, listed-more}
+use Rattle.view_rules.specs.declared.Eye.{Eye}
+use Rattle.view_rules.specs.View.{ViewValue, view_of}
+use Rattle.csv_tables.specs.declared.path.PathRow.{PathRow}
+use Rattle.picture_rules.specs.declared.Limits.{Limits}
+use Rattle.picture_rules.specs.declared.Counts.{Counts}
+use Rattle.picture_rules.specs.declared.OverLimit.{OverLimit}
+use Rattle.picture_rules.specs.Counts.{view_counts, view_over}
+use Rattle.scene_load.specs.declared.load.LoadedScene.{LoadedScene}
+use Rattle.frame_core.specs.Scenes.{scene_of}
+use Rattle.doom_run.specs.declared.render.ReadyViews.{ReadyViews}
+use Rattle.doom_run.specs.Renders.{ready_views}
+use Rattle.doom_run.specs.Views.{ViewsValue, counted_bytes, counts_line, eye_of, first_lines, line_at, over_line, view_line}
+
+-- before the first view there is no line
+pub lines_none : (r : ViewsValue) → [] ≡ first_lines r 0
+unfolding first_lines listed joined_lists
+lines_none r = refl
+
+-- one view more has its line more
+pub lines_more : (r : ViewsValue) (n : ℕ) → first_lines r n ++ line_at r n (slice_get r.views n) ≡ first_lines r (n + 1)
+unfolding first_lines joined_lists
+lines_more r n =
+    let f : ℕ → List ℕ = λ k. line_at r k (slice_get r.views k) in
+    ap (λ (xs : List ℕ). joined_lists f (listed (λ k. k) n) ++ xs) (sym (append-nil (f n)) ∙ sym (joined_lists-cons f n []))
+    ∙ sym (joined_lists-append f (listed (λ k. k) n) (n ∷ []))
+    ∙ ap (joined_lists f) (sym (listed-more (λ k. k) n))
+
+-- the lines of some views begin those of more
+pub lines_begin : (r : ViewsValue) (n m : ℕ) → (rest : List ℕ) × (first_lines r n ++ rest ≡ first_lines r (n + m))
+lines_begin r n zero = let e : n ≡ n + zero = omega arith in ([], append-nil (first_lines r n) ∙ ap (first_lines r) e)
+lines_begin r n (suc m) =
+    let p : (rest : List ℕ) × (first_lines r n ++ rest ≡ first_lines r (n + m)) = lines_begin r n m in
+    let line : List ℕ = line_at r (n + m) (slice_get r.views (n + m)) in
+    let e : n + m + 1 ≡ n + suc m = omega arith in
+    (p.0 ++ line, sym (append_assoc (first_lines r n) p.0 line) ∙ ap (λ (xs : List ℕ). xs ++ line) p.1 ∙ lines_more r (n + m) ∙ ap (first_lines r) e)
+
+-- a prefix of the first lines is one of all lines
+pub prefix_of_lines : {a b : List ℕ → Type 0} (r : ViewsValue) (n : ℕ) → n ≤ length r.views → GrewByPrefix a b (first_lines r n) → GrewByPrefix a b (counted_bytes r)
+prefix_of_lines r n le grew =
+    let p : (rest : List ℕ) × (first_lines r n ++ rest ≡ first_lines r (n + (length r.views - n))) = lines_begin r n (length r.views - n) in
+    let e : n + (length r.views - n) ≡ length r.views = omega arith in
+    prefix_of_more p.0 (counted_bytes r) grew (p.1 ∙ ap (first_lines r) e)
+
+-- the same bytes, told otherwise
+pub same_bytes : {E : Type 0} {a b : List ℕ → Type 0} {i j : ℕ} {xs ys : List ℕ} {result : Result (Unit {0}) E} → xs ≡ ys → Writes a b i j xs result → Writes a b i j ys result
+same_bytes {E} {a} {b} {i} {j} {result} e writes = subst (λ (zs : List ℕ). Writes a b i j zs result) e writes
+
+pub same_lines : {a b : List ℕ → Type 0} {n : ℕ} (r : ViewsValue) (m : ℕ) → n ≡ m → Grew a b (first_lines r n) → Grew a b (first_lines r m)
+same_lines {a} {b} r m e grew = subst (λ (k : ℕ). Grew a b (first_lines r k)) e grew
+
+-- nothing was written of no line
+pub none_written : {E : Type 0} (r : ViewsValue) (a : List ℕ → Type 0) (i : ℕ) → Writes {E = E} a a i i (first_lines r 0) (Ok tt)
+none_written {E} r a i = subst (λ (xs : List ℕ). Writes {E = E} a a i i xs (Ok tt)) (lines_none r) (writes_none a i)
+
+-- the first lines were written, and then that of the next view
+pub more_written : {E F : Type 0} {a b c : List ℕ → Type 0} {i j k : ℕ} {last : Result (Unit {0}) F} (r now : ViewsValue) (n : ℕ) → now ≡ r →
+    Writes {E = E} a b i j (first_lines r n) (Ok tt) → Writes b c j k (line_at now n (slice_get now.views n)) last → Writes a c i k (first_lines r (n + 1)) last
+more_written {E} {F} {a} {b} {c} {i} {j} {k} {last} r now n e first next =
+    let then_ : Writes b c j k (line_at r n (slice_get r.views n)) last = subst (λ (v : ViewsValue). Writes b c j k (line_at v n (slice_get v.views n)) last) e next in
+    writes_then (first_lines r (n + 1)) first tt refl then_ (lines_more r n)
+
+-- and all of it was
+pub all_written : {E F : Type 0} {a b c : List ℕ → Type 0} {i j k : ℕ} {last : Result (Unit {0}) F} (r now : ViewsValue) (n : ℕ) → now ≡ r →
+    Writes {E = E} a b i j (first_lines r n) (Ok tt) → Writes b c j k (line_at now n (slice_get now.views n)) last → (unit : Unit {0}) → last ≡ Ok unit →
+    Writes {E = F} a c i k (first_lines r (n + 1)) (Ok tt)
+all_written {E} {F} {a} {c} {i} {k} {last} r now n e first next unit was =
+    subst (λ (v : Result (Unit {0}) F). Writes a c i k (first_lines r (n + 1)) v) was (more_written {E = E} {F = F} r now n e first next)
+
+-- the view at a place of the path
+pub view_at : (bytes : ℕ → List ℕ) (ready : ReadyViews) (number : ℕ) (eye : Eye) (d : PathRow) (rows : List PathRow) →
+    number < length ready.loaded.files.path → rows ≡ ready.loaded.files.path → eye ≡ eye_of (get_or rows number d) →
+    slice_get (ready_views bytes ready).views number ≡ Some (view_of ready.loaded.files.tables eye)
+unfolding ready_views
+view_at bytes ready number eye d rows l same is =
+    slice_get-map (λ (row : PathRow). view_of ready.loaded.files.tables (eye_of row)) ready.loaded.files.path number
+    ∙ ap (option_map (λ (row : PathRow). view_of ready.loaded.files.tables (eye_of row))) (slice_get-get_or ready.loaded.files.path number d l)
+    ∙ ap (λ (e : Eye). Some (view_of ready.loaded.files.tables e)) (ap (λ (rows : List PathRow). eye_of (get_or rows number d)) (sym same) ∙ sym is)
+
+-- there are as many views as rows of the path
+pub length_views : (bytes : ℕ → List ℕ) (ready : ReadyViews) → length (ready_views bytes ready).views ≡ length ready.loaded.files.path
+unfolding ready_views
+length_views bytes ready = length-map ready.loaded.files.path (λ (row : PathRow). view_of ready.loaded.files.tables (eye_of row))
+
+line_counted : (r : ViewsValue) (number : ℕ) (v : ViewValue) (counts : Counts) →
+    counts ≡ view_counts v r.scene → view_over v r.scene r.limits ≡ None → counts_line number counts ≡ view_line r number v
+unfolding view_line
+line_counted r number v counts e w = rw (w, e) refl
+
+line_over : (r : ViewsValue) (number : ℕ) (v : ViewValue) (over : OverLimit) →
+    view_over v r.scene r.limits ≡ Some over → over_line number over ≡ view_line r number v
+unfolding view_line
+line_over r number v over w = rw w refl
+
+-- the line of a view that is within its limits
+pub line_of_counts : (bytes : ℕ → List ℕ) (ready : ReadyViews) (number : ℕ) (v : ViewValue) (counts : Counts) →
+    slice_get (ready_views bytes ready).views number ≡ Some v → counts ≡ view_counts v (scene_of bytes ready.loaded.scene.scene) →
+    view_over v (scene_of bytes ready.loaded.scene.scene) ready.shop.limits ≡ None →
+    counts_line number counts ≡ line_at (ready_views bytes ready) number (slice_get (ready_views bytes ready).views number)
+unfolding ready_views
+line_of_counts bytes ready number v counts s e w = line_counted (ready_views bytes ready) number v counts e w ∙ ap (line_at (ready_views bytes ready) number) (sym s)
+
+-- the line of a view that is over one
+pub line_of_over : (bytes : ℕ → List ℕ) (ready : ReadyViews) (number : ℕ) (v : ViewValue) (over : OverLimit) →
+    slice_get (ready_views bytes ready).views number ≡ Some v → view_over v (scene_of bytes ready.loaded.scene.scene) ready.shop.limits ≡ Some over →
+    over_line number over ≡ line_at (ready_views bytes ready) number (slice_get (ready_views bytes ready).views number)
+unfolding ready_views
+line_of_over bytes ready number v over s w = line_over (ready_views bytes ready) number v over w ∙ ap (line_at (ready_views bytes ready) number) (sym s)
+
+-- the views of a scene are those of its path, within its limits
+pub ready_same : (bytes : ℕ → List ℕ) (a b : ReadyViews) → a.loaded ≡ b.loaded → a.shop.limits ≡ b.shop.limits → ready_views bytes a ≡ ready_views bytes b
+unfolding ready_views
+ready_same bytes a b e l =
+    ap (λ (loaded : LoadedScene). ready_views bytes (record { loaded = loaded; shop = a.shop })) e
+    ∙ ap (λ (limits : Limits). ready_views bytes (record { loaded = b.loaded; shop = record { limits = limits; frame = a.shop.frame } })) l

@@ -1,0 +1,157 @@
+-- What stays while views are drawn.
+use Rattle.std.proofs.Common.{◌≡◌, ◌⊎◌, ℕ, Bool, List, Option, Result, length, map, refl, ap, ◌∙◌, subst, inl, inr}
+use Rattle.std.proofs.lemmas.List.{length-map}
+use Rattle.outside.specs.Shelf.{ShelfView}
+use Rattle.zone_rules.specs.Zones.{Heap}
+use Rattle.art_rules.specs.declared.shapes.Frame.{Frame}
+use Rattle.picture_rules.specs.declared.Limits.{Limits}
+use Rattle.lump_rules.specs.declared.wad.Lump.{Lump}
+use Rattle.lump_rules.specs.Contents.{lump_bytes}
+use Rattle.wad_dir.specs.DirectoryView.{DirectoryView}
+use Rattle.view_rules.specs.View.{view_of}
+use Rattle.lump_cache.specs.Caches.{KeepsCounts}
+use Rattle.lump_cache.specs.Calls.{IsFullFor}
+use Rattle.scene_rules.specs.Scenes.{SceneValue}
+use Rattle.texture_build.specs.Asked.{IsPatch, IsSmall, IsSmallBeside, size_of}
+use Rattle.texture_build.specs.Views.{TexturesView, prepared_texture}
+use Rattle.texture_build.specs.Draws.{HoldsArt, IsFullForTexture, KeepsArt}
+use Rattle.texture_build.proofs.DrawLemmas.{holds_art-later, keeps_art-none, keeps_art-then}
+use Rattle.level_audit.specs.Sound.{SoundValue, textures_view}
+use Rattle.scene_load.specs.declared.read.SceneFiles.{SceneFiles}
+use Rattle.scene_load.specs.Files.{value_of}
+use Rattle.scene_load.specs.Loads.{LoadedValue, loaded_sizes}
+use Rattle.command_line.specs.declared.command.Format.{Format}
+use Rattle.frame_core.specs.Scenes.{scene_of}
+use Rattle.frame_core.specs.Views.{CanDrawView, IsViewLump, IsViewTexture}
+use Rattle.doom_run.specs.declared.render.ReadyViews.{ReadyViews}
+use Rattle.doom_run.specs.declared.status.Status.{Status}
+use Rattle.doom_run.specs.Frames.{KeepsReady, ViewEnds}
+use Rattle.doom_run.specs.Renders.{IsFullView, ready_views}
+use Rattle.doom_run.specs.Views.{ViewsValue, eye_of}
+
+-- nothing was drawn
+pub keeps_ready-none : (view : ShelfView) (ready : ReadyViews) → KeepsReady view view ready ready
+keeps_ready-none view ready = record {
+  files = refl;
+  scene = refl;
+  weapons = refl;
+  limits = refl;
+  art = keeps_art-none view ready.loaded.files.dir (textures_view ready.loaded.scene.scene) ready.loaded.cache;
+}
+
+keeps_for : {b c : ShelfView} {y z : Heap} (files files' : SceneFiles) (scene scene' : SoundValue) → files' ≡ files → scene' ≡ scene → KeepsArt b c files'.dir (textures_view scene'.scene) y z → KeepsArt b c files.dir (textures_view scene.scene) y z
+keeps_for files files' scene scene' f s keeps = rw (← f, ← s) keeps
+
+-- views are drawn after others
+pub keeps_ready-then : {a b c : ShelfView} {x y z : ReadyViews} → KeepsReady a b x y → KeepsReady b c y z → KeepsReady a c x z
+keeps_ready-then {x = x} {y} one two = record {
+  files = two.files ∙ one.files;
+  scene = two.scene ∙ one.scene;
+  weapons = two.weapons ∙ one.weapons;
+  limits = two.limits ∙ one.limits;
+  art = keeps_art-then one.art (keeps_for x.loaded.files y.loaded.files x.loaded.scene y.loaded.scene one.files one.scene two.art);
+}
+
+can_for : (files files' : SceneFiles) (scene scene' : SoundValue) (y z : Heap) → files' ≡ files → scene' ≡ scene → KeepsCounts y z → CanDrawView files.dir.lumps scene.scene y → CanDrawView files'.dir.lumps scene'.scene z
+can_for files files' scene scene' y z f s counts can = rw (f, s) (record {
+  lines = can.lines;
+  name = can.name;
+  skill = can.skill;
+  whole = can.whole;
+  few = can.few;
+  colormap = can.colormap;
+  slots = rw (counts.1) can.slots;
+  composites = rw (counts.2) can.composites;
+})
+
+-- it may be drawn again
+pub drawable-later : {a b : ShelfView} {x y : ReadyViews} → KeepsReady a b x y → CanDrawView x.loaded.files.dir.lumps x.loaded.scene.scene x.loaded.cache → CanDrawView y.loaded.files.dir.lumps y.loaded.scene.scene y.loaded.cache
+drawable-later {x = x} {y} keeps can = can_for x.loaded.files y.loaded.files x.loaded.scene y.loaded.scene x.loaded.cache y.loaded.cache keeps.files keeps.scene keeps.art.counts can
+
+abbrev views_with : (ℕ → List ℕ) → SceneFiles → SoundValue → Option (List Frame) → Limits → ViewsValue
+views_with bytes files scene weapons limits = record {
+  scene = scene_of bytes scene.scene;
+  views = map (λ row. view_of files.tables (eye_of row)) files.path;
+  limits = limits;
+  palette = scene.scene.base.palette;
+  sizes = loaded_sizes (record { files = value_of files; scene = scene.scene; weapons = weapons });
+}
+
+views_for : (bytes : ℕ → List ℕ) (files files' : SceneFiles) (scene scene' : SoundValue) (weapons weapons' : Option (List Frame)) (limits limits' : Limits) →
+    files' ≡ files → scene' ≡ scene → weapons' ≡ weapons → limits' ≡ limits → views_with bytes files' scene' weapons' limits' ≡ views_with bytes files scene weapons limits
+views_for bytes files files' scene scene' weapons weapons' limits limits' f s w l = rw (f, s, w, l) refl
+
+-- the views are the same
+pub views-later : {a b : ShelfView} {x y : ReadyViews} (bytes : ℕ → List ℕ) → KeepsReady a b x y → ready_views bytes y ≡ ready_views bytes x
+unfolding ready_views
+views-later {x = x} {y} bytes keeps =
+    views_for bytes x.loaded.files y.loaded.files x.loaded.scene y.loaded.scene x.loaded.weapons y.loaded.weapons x.shop.limits y.shop.limits keeps.files keeps.scene keeps.weapons keeps.limits
+
+holds_for : {b : ShelfView} {contents : List (List ℕ)} {count : ℕ} {z : Heap} (files files' : SceneFiles) (scene scene' : SoundValue) → files' ≡ files → scene' ≡ scene →
+    HoldsArt b files.dir (textures_view scene.scene) contents scene.scene.base.colormap count z → HoldsArt b files'.dir (textures_view scene'.scene) contents scene'.scene.base.colormap count z
+holds_for files files' scene scene' f s holds = rw (f, s) holds
+
+-- the art that is there stays
+pub holds-later : {a b : ShelfView} {x y : ReadyViews} {contents : List (List ℕ)} {count : ℕ} → KeepsReady a b x y →
+    HoldsArt a x.loaded.files.dir (textures_view x.loaded.scene.scene) contents x.loaded.scene.scene.base.colormap count x.loaded.cache →
+    HoldsArt b y.loaded.files.dir (textures_view y.loaded.scene.scene) contents y.loaded.scene.scene.base.colormap count y.loaded.cache
+holds-later {x = x} {y} keeps holds = holds_for x.loaded.files y.loaded.files x.loaded.scene y.loaded.scene keeps.files keeps.scene (holds_art-later keeps.art holds)
+
+full_texture-first : {a b : ShelfView} {dir : DirectoryView} {textures : TexturesView} {y z : Heap} {among : ℕ → Type 0} (wanted widest : ℕ) → KeepsArt a b dir textures y z →
+    IsFullForTexture among dir.lumps textures z wanted widest → IsFullForTexture among dir.lumps textures y wanted widest
+full_texture-first {dir = dir} {textures} wanted widest keeps full = record {
+  number = full.number;
+  column = full.column;
+  is = full.is;
+  full = record {
+    owner = full.full.owner;
+    size = full.full.size;
+    asked = full.full.asked;
+    wanted_is = full.full.wanted_is;
+    narrow = full.full.narrow;
+    room = λ colormap count rest. subst
+        (λ (n : ℕ). IsSmall n count wanted
+        ⊎ (IsPatch dir.lumps (prepared_texture textures full.number) full.full.owner full.full.size
+        × IsSmallBeside n count (size_of (prepared_texture textures full.number)) wanted))
+        keeps.counts.0 (full.full.room colormap count (keeps.rest colormap count rest));
+  };
+}
+
+full_lump-first : {a b : ShelfView} {dir : DirectoryView} {textures : TexturesView} {y z : Heap} {pictures : ℕ → Type 0} (wanted widest : ℕ) → KeepsArt a b dir textures y z →
+    IsFullFor pictures dir z wanted widest → IsFullFor pictures dir y wanted widest
+full_lump-first wanted widest keeps full = record {
+  lump = full.lump;
+  asked = full.asked;
+  wanted_is = full.wanted_is;
+  narrow = full.narrow;
+  room = λ colormap count rest. subst (λ (n : ℕ). IsSmall n count wanted) keeps.counts.0 (full.room colormap count (keeps.rest colormap count rest));
+}
+
+full_view-first : {a b : ShelfView} {y z : Heap} (files files' : SceneFiles) (scene scene' : SoundValue) (wanted widest : ℕ) → files' ≡ files → scene' ≡ scene → KeepsArt a b files.dir (textures_view scene.scene) y z →
+    (IsFullForTexture (IsViewTexture scene'.scene) files'.dir.lumps (textures_view scene'.scene) z wanted widest ⊎ IsFullFor (IsViewLump scene'.scene) files'.dir z wanted widest) →
+    (IsFullForTexture (IsViewTexture scene.scene) files.dir.lumps (textures_view scene.scene) y wanted widest ⊎ IsFullFor (IsViewLump scene.scene) files.dir y wanted widest)
+full_view-first files files' scene scene' wanted widest f s keeps (inl full) = inl (full_texture-first wanted widest keeps (rw (← f, ← s) full))
+full_view-first files files' scene scene' wanted widest f s keeps (inr full) = inr (full_lump-first wanted widest keeps (rw (← f, ← s) full))
+
+-- a zone that was full later was so from the beginning
+pub full-first : {a b : ShelfView} {x y : ReadyViews} (wanted widest : ℕ) → KeepsReady a b x y → IsFullView y wanted widest → IsFullView x wanted widest
+full-first {x = x} {y} wanted widest keeps full =
+    full_view-first x.loaded.files y.loaded.files x.loaded.scene y.loaded.scene wanted widest keeps.files keeps.scene keeps.art full
+
+-- there are as many views as rows of the path
+pub views_count : (bytes : ℕ → List ℕ) (ready : ReadyViews) → length (ready_views bytes ready).views ≡ length ready.loaded.files.path
+unfolding ready_views
+views_count bytes ready = length-map ready.loaded.files.path (λ row. view_of ready.loaded.files.tables (eye_of row))
+
+ends_for : (format : Format) (n : ℕ) (old new : List ℕ → Type 0) (result : Result (Unit {0}) Status) (steady steady' : Bool) (lumps lumps' : List Lump) (contents : List (List ℕ)) (r r' : (ℕ → List ℕ) → ViewsValue) →
+    steady' ≡ steady → lumps' ≡ lumps → ((bytes : ℕ → List ℕ) → r' bytes ≡ r bytes) →
+    ViewEnds steady' format (r' (lump_bytes contents lumps')) n old new result → ViewEnds steady format (r (lump_bytes contents lumps)) n old new result
+ends_for format n old new result steady steady' lumps lumps' contents r r' s l e ends =
+    rw (← s, ← e (lump_bytes contents lumps), ← l) ends
+
+-- how a view ends is told of the views as they were first
+pub view_ends-later : {a b : ShelfView} {x y : ReadyViews} (format : Format) (n : ℕ) (old new : List ℕ → Type 0) (result : Result (Unit {0}) Status) (contents : List (List ℕ)) → KeepsReady a b x y →
+    ViewEnds b.steady format (ready_views (lump_bytes contents y.loaded.files.dir.lumps) y) n old new result → ViewEnds a.steady format (ready_views (lump_bytes contents x.loaded.files.dir.lumps) x) n old new result
+view_ends-later {a} {b} {x} {y} format n old new result contents keeps ends =
+    ends_for format n old new result a.steady b.steady x.loaded.files.dir.lumps y.loaded.files.dir.lumps contents (λ bytes. ready_views bytes x) (λ bytes. ready_views bytes y) keeps.art.follows.steady
+    (ap (λ (files : SceneFiles). files.dir.lumps) keeps.files) (λ bytes. views-later bytes keeps) ends

@@ -1,0 +1,52 @@
+use Rattle.std.proofs.Common.{[], ◌∷◌, length, ap, sym, ◌∙◌, arith, inl, inr}
+use Rattle.command_line.specs.declared.command.MakeJob.TheVariants.{Wad}
+use Rattle.scene_load.specs.Fulls.{IsFullLoad}
+use Rattle.scene_load.specs.Loads.{loaded_value}
+use Rattle.doom_run.specs.Exercises.{made_files, made_level, made_wads}
+use Rattle.doom_run.specs.Made.{made_file}
+use Rattle.doom_run.proofs.MadeLemmas.{loaded_few, made_count, made_stops, memory_holds, memory_steady, ready_exercise, wads_held}
+use Rattle.doom_run.proofs.StepLemmas.{status_full}
+use Rattle.doom_run.proofs.TallyLemmas.{same_status}
+use Rattle.doom_run.proofs.exercise.prepare_exercise.Goals as goal
+
+pub new-shelf-requires : goal.new-shelf-requires
+new-shelf-requires c = let e = ap (λ files. length files) c.in-Ok.ensures in let n = made_count c.args.n in omega (arith, e, n)
+
+pub returns-clause-ends : goal.returns-clause-ends
+returns-clause-ends c =
+    rw c.of.ensures (made_stops c.args.n c.args.zone c.args.format _ c.in-Err-prepare_made.fault
+    (memory_steady c.new-shelf.result _ _ c.new-shelf.ensures c.new.ensures.items)
+    (c.in-Err-prepare_made.ensures.answers (made_files c.args.n) (memory_holds c.new-shelf.result _ (made_files c.args.n) _ c.new-shelf.ensures c.in-Ok.ensures)).err)
+
+pub returns-clause-zone_full : goal.returns-clause-zone_full
+returns-clause-zone_full c wanted widest e =
+    inl (status_full (IsFullLoad (made_level c.args.zone) made_wads (made_files c.args.n)) c.in-Err-prepare_made.fault wanted widest
+    (sym c.of.ensures ∙ same_status _ _ e)
+    (c.in-Err-prepare_made.ensures.full (made_files c.args.n) (memory_holds c.new-shelf.result _ (made_files c.args.n) _ c.new-shelf.ensures c.in-Ok.ensures)))
+
+pub render_all-requires-clause-few : goal.render_all-requires-clause-few
+render_all-requires-clause-few c =
+    loaded_few (made_level c.args.zone) made_wads (made_files c.args.n) (loaded_value c.in-Ok-prepare_made.ready.loaded)
+    (c.in-Ok-prepare_made.ensures.answers (made_files c.args.n) (memory_holds c.new-shelf.result _ (made_files c.args.n) _ c.new-shelf.ensures c.in-Ok.ensures)).ok
+
+pub render_all-requires-clause-scene : goal.render_all-requires-clause-scene
+render_all-requires-clause-scene c = c.in-Ok-prepare_made.ensures.ready.drawable
+
+pub returns-in-Ok-prepare_made-clause-ends : goal.returns-in-Ok-prepare_made-clause-ends
+returns-in-Ok-prepare_made-clause-ends c =
+    let holds = memory_holds c.new-shelf.result _ (made_files c.args.n) _ c.new-shelf.ensures c.in-Ok.ensures in
+    let steady = memory_steady c.new-shelf.result _ _ c.new-shelf.ensures c.new.ensures.items in
+    ready_exercise c.args.n c.args.zone c.args.format c.in-Ok-prepare_made.ready c.render_all.result
+    (c.in-Ok-prepare_made.ensures.answers (made_files c.args.n) holds).ok c.in-Ok-prepare_made.ensures.ready.limits
+    (c.render_all.ensures.ends (made_file (Wad c.args.n) ∷ []) _
+    (c.in-Ok-prepare_made.ensures.art (made_files c.args.n) (made_file (Wad c.args.n) ∷ []) holds (wads_held c.args.n))
+    (c.prepare_made.ensures.follows.steady ∙ steady))
+
+pub returns-in-Ok-prepare_made-clause-zone_full : goal.returns-in-Ok-prepare_made-clause-zone_full
+returns-in-Ok-prepare_made-clause-zone_full c wanted widest e =
+    inr (record {
+      ready = c.in-Ok-prepare_made.ready;
+      is = (c.in-Ok-prepare_made.ensures.answers (made_files c.args.n) (memory_holds c.new-shelf.result _ (made_files c.args.n) _ c.new-shelf.ensures c.in-Ok.ensures)).ok;
+      stands = c.in-Ok-prepare_made.ensures.ready;
+      full = c.render_all.ensures.zone_full wanted widest e;
+    })

@@ -1,0 +1,25 @@
+-- A view that is drawn is written, or a fault ends it.
+use Rattle.std.proofs.Common.{ap}
+use Rattle.lump_rules.specs.Contents.{lump_bytes}
+use Rattle.level_audit.specs.Sound.{SoundValue}
+use Rattle.doom_run.specs.Renders.{ready_views}
+use Rattle.doom_run.proofs.FrameLemmas.{view_fails, view_put, view_put_failed}
+use Rattle.doom_run.proofs.render.render_view.Goals as goal
+
+pub returns-in-Err-clause-ends : goal.returns-in-Err-clause-ends
+returns-in-Err-clause-ends g c contents count holds =
+    let bytes = lump_bytes contents c.args.ready.now.loaded.files.dir.lumps in
+    view_fails _ c.args.format (ready_views bytes c.args.ready.now) c.args.number _ c.draw_at.result c.in-Err.fault c.status_of_view.result c.in-Err.is c.status_of_view.ensures
+    (c.draw_at.ensures.over bytes) (c.draw_at.ensures.draws.steady contents holds.files.stand holds.files.within)
+
+pub returns-in-Ok-write_frame-clause-ends : goal.returns-in-Ok-write_frame-clause-ends
+returns-in-Ok-write_frame-clause-ends g c contents count holds =
+    let bytes = lump_bytes contents c.args.ready.now.loaded.files.dir.lumps in
+    view_put bytes c.args.format c.args.ready.now c.args.number _ c.draw_at.new.ready.shop.frame.cells c.draw_at.result c.write_frame.result c.in-Ok.field-0 c.in-Ok-write_frame.field-0 c.in-Ok.is c.in-Ok-write_frame.is
+    (ap (λ (s : SoundValue). s.scene.base.palette) c.draw_at.ensures.keeps.scene) (c.draw_at.ensures.picture contents count holds) (c.draw_at.ensures.within bytes) c.write_frame.ensures
+
+pub returns-in-Err-write_frame-clause-ends : goal.returns-in-Err-write_frame-clause-ends
+returns-in-Err-write_frame-clause-ends g c contents count holds =
+    let bytes = lump_bytes contents c.args.ready.now.loaded.files.dir.lumps in
+    view_put_failed bytes c.args.format c.args.ready.now c.args.number _ c.draw_at.new.ready.shop.frame.cells c.draw_at.result c.write_frame.result c.in-Ok.field-0 c.in-Err-write_frame.field-0 c.in-Ok.is c.in-Err-write_frame.is
+    (ap (λ (s : SoundValue). s.scene.base.palette) c.draw_at.ensures.keeps.scene) (c.draw_at.ensures.picture contents count holds) (c.draw_at.ensures.within bytes) c.write_frame.ensures

@@ -1,0 +1,102 @@
+-- The made files of a number, rendered and counted.
+use Rattle.std.specs.Prelude.{◌≡◌, ℕ, ◌++◌, ◌∷◌, ◌*◌, ◌%◌, ◌^◌, List, [], length, sum, codes, Option, Some, None, Result, Ok, Err}
+use Rattle.outside.specs.Shelf.{File}
+use Rattle.outside.specs.Sink.{Grew, GrewByPrefix}
+use Rattle.outside.specs.Stops.{Stop, stopped}
+use Rattle.command_line.specs.declared.command.Format.{Format}
+use Rattle.command_line.specs.declared.command.Format.TheVariants.{Index, Ppm}
+use Rattle.command_line.specs.declared.command.MakeJob.TheVariants.{Wad, Path, Tables, Things}
+use Rattle.command_line.specs.LevelJobs.{LevelJobValue}
+use Rattle.refusals.specs.declared.refusal.Refusal.{Refusal}
+use Rattle.refusals.specs.Lines.{labelled}
+use Rattle.doom_run.specs.declared.exercise.Summary.{Summary}
+use Rattle.doom_run.specs.declared.status.Status.{Status}
+use Rattle.doom_run.specs.declared.status.Status.TheVariants.{Done, Usage, Refused, ReadFault, WriteFault, Limit, ZoneFull, OutOfMemory}
+use Rattle.doom_run.specs.Made.{made_file}
+use Rattle.doom_run.specs.Views.{ViewsValue, due_views, first_over, rendered_bytes, rendered_end, views_verdict}
+
+-- the made files of a number, by name
+unfoldable pub made_files : ℕ → List File
+made_files n =
+    record { name = codes "wad"; bytes = made_file (Wad n) }
+    ∷ record { name = codes "tables"; bytes = made_file Tables }
+    ∷ record { name = codes "things"; bytes = made_file Things }
+    ∷ record { name = codes "path"; bytes = made_file (Path n) } ∷ []
+
+abbrev pub made_wads : List (List ℕ)
+made_wads = codes "wad" ∷ []
+
+-- the job over the made level in a zone of that size, with each other setting as it is where no option is given
+abbrev pub made_level : ℕ → LevelJobValue
+made_level zone = record {
+  map_name = 77 ∷ 65 ∷ 80 ∷ 48 ∷ 49 ∷ 0 ∷ 0 ∷ 0 ∷ [];
+  files = record { tables = codes "tables"; things = codes "things"; path = codes "path"; weapon = None };
+  settings = record { zone = zone; skill = 3; size = 11; planes = 128; openings = 20480 };
+}
+
+abbrev pub exercise_verdict : ℕ → ℕ → Result ViewsValue (Stop Refusal)
+exercise_verdict n zone = views_verdict (made_level zone) made_wads (made_files n)
+
+-- the line of an exercise: sectors, views, frames, and the number and the sum of the frames' bytes
+unfoldable pub exercise_line : ℕ → ℕ → List ℕ → List ℕ
+exercise_line n frames bytes =
+    labelled (codes "sectors ") (4 * n * n)
+    ++ (labelled (codes " views ") (3 * n)
+    ++ (labelled (codes " frames ") frames
+    ++ (labelled (codes " bytes ") (length bytes)
+    ++ (labelled (codes " sum ") (sum bytes % 2 ^ 64) ++ codes "\n"))))
+
+-- the line of what was counted
+abbrev pub summary_line : Summary → List ℕ
+summary_line s =
+    labelled (codes "sectors ") s.sectors
+    ++ (labelled (codes " views ") s.views
+    ++ (labelled (codes " frames ") s.frames
+    ++ (labelled (codes " bytes ") s.bytes
+    ++ (labelled (codes " sum ") s.sum ++ codes "\n"))))
+
+-- nothing is written where a made view is over a limit
+abbrev pub line_unless : ℕ → Format → ViewsValue → Option ℕ → List ℕ
+line_unless n format r None = exercise_line n (length (due_views r)) (rendered_bytes format r)
+line_unless n format r (Some view) = []
+
+abbrev pub exercised_bytes : ℕ → Format → ViewsValue → List ℕ
+exercised_bytes n format r = line_unless n format r (first_over r)
+
+-- the bytes of a frame as it is written
+abbrev pub frame_size : Format → ℕ
+frame_size Index = 64000
+frame_size Ppm = 192015
+
+-- The verdict accepts views whose rendering ends with this status, and this is to be written of them.
+pub record IsExercised (n : ℕ) (format : Format) (verdict : Result ViewsValue (Stop Refusal)) (written : List ℕ) (end : Status) : Type 0 where
+  pub views : ViewsValue
+  pub is : verdict ≡ Ok views
+  pub due : rendered_end views ≡ end
+  pub line : exercised_bytes n format views ≡ written
+
+-- what the verdict is, and what is to be written, by what an exercise comes to
+abbrev pub StopsAt : ℕ → Format → Result ViewsValue (Stop Refusal) → Status → Type 0
+StopsAt n format verdict Done = ⊥
+StopsAt n format verdict Usage = ⊥
+StopsAt n format verdict (Refused refusal) = verdict ≡ Err (stopped refusal)
+StopsAt n format verdict ReadFault = ⊥
+StopsAt n format verdict WriteFault = ⊥
+StopsAt n format verdict (Limit view kind count) = IsExercised n format verdict [] (Limit view kind count)
+StopsAt n format verdict (ZoneFull wanted widest) = Unit {0}
+StopsAt n format verdict OutOfMemory = Unit {0}
+
+abbrev pub ExercisesAt : ℕ → Format → Result ViewsValue (Stop Refusal) → Result Summary Status → Type 0
+ExercisesAt n format verdict (Ok summary) = IsExercised n format verdict (summary_line summary) Done
+ExercisesAt n format verdict (Err status) = StopsAt n format verdict status
+
+-- what was written of a summary, by the status that its delivery gives
+abbrev pub DeliversLine : List ℕ → (List ℕ → Type 0) → (List ℕ → Type 0) → Status → Type 0
+DeliversLine line old new Done = Grew old new line
+DeliversLine line old new Usage = ⊥
+DeliversLine line old new (Refused refusal) = ⊥
+DeliversLine line old new ReadFault = ⊥
+DeliversLine line old new WriteFault = GrewByPrefix old new line
+DeliversLine line old new (Limit view kind count) = ⊥
+DeliversLine line old new (ZoneFull wanted widest) = ⊥
+DeliversLine line old new OutOfMemory = ⊥

@@ -1,0 +1,51 @@
+-- One view of a path, drawn and written.
+use Rattle.std.specs.Prelude.{◌≡◌, ℕ, Bool, IsTrue, List, [], Some, None, option_map, slice_get, Result, Ok, Err}
+use Rattle.std.specs.Option.{option_map_or}
+use Rattle.outside.specs.Shelf.{ShelfView}
+use Rattle.outside.specs.Sink.{Grew, GrewByPrefix}
+use Rattle.texture_build.specs.Draws.{KeepsArt}
+use Rattle.level_audit.specs.Sound.{textures_view}
+use Rattle.picture_rules.specs.Picture.{picture}
+use Rattle.command_line.specs.declared.command.Format.{Format}
+use Rattle.frame_core.specs.declared.fault.ViewFault.{ViewFault}
+use Rattle.frame_core.specs.declared.fault.ViewFault.TheVariants as fault
+use Rattle.doom_run.specs.declared.render.ReadyViews.{ReadyViews}
+use Rattle.doom_run.specs.declared.status.Status.{Status}
+use Rattle.doom_run.specs.declared.status.Status.TheVariants.{Done, Usage, Refused, ReadFault, WriteFault, Limit, ZoneFull, OutOfMemory}
+use Rattle.doom_run.specs.Views.{ViewsValue, frame_bytes, over_at}
+
+-- these cells are the picture of view number k, which is there
+abbrev pub IsPictureAt : ViewsValue → ℕ → List ℕ → Type 0
+IsPictureAt r k cells = option_map (λ v. picture v r.scene) (slice_get r.views k) ≡ Some cells
+
+-- the frame of view number k as it is written, nothing where there is no such view
+unfoldable pub frame_at : Format → ViewsValue → ℕ → List ℕ
+frame_at format r k = option_map_or (λ v. frame_bytes format r.palette (picture v r.scene)) (slice_get r.views k) []
+
+-- the status of a fault of a view
+abbrev pub status_of_view : ℕ → ViewFault → Status
+status_of_view view (fault.Limit kind count) = Limit view kind count
+status_of_view view (fault.ZoneFull wanted widest) = ZoneFull wanted widest
+status_of_view view fault.ReadFault = ReadFault
+
+-- View number k of these, by what drawing and writing it answers: its frame was written, and it is not over a
+-- limit; or it is, or a fault came, and nothing was written, or of its frame only a prefix.
+abbrev pub ViewEnds : Bool → Format → ViewsValue → ℕ → (List ℕ → Type 0) → (List ℕ → Type 0) → Result (Unit {0}) Status → Type 0
+ViewEnds steady format r k old new (Ok unit) = (over_at r k ≡ None) × Grew old new (frame_at format r k)
+ViewEnds steady format r k old new (Err Done) = ⊥
+ViewEnds steady format r k old new (Err Usage) = ⊥
+ViewEnds steady format r k old new (Err (Refused refusal)) = ⊥
+ViewEnds steady format r k old new (Err ReadFault) = (IsTrue steady → ⊥) × Grew old new []
+ViewEnds steady format r k old new (Err WriteFault) = (over_at r k ≡ None) × GrewByPrefix old new (frame_at format r k)
+ViewEnds steady format r k old new (Err (Limit view kind count)) =
+    (view ≡ k) × (over_at r k ≡ Some (record { kind = kind; count = count })) × Grew old new []
+ViewEnds steady format r k old new (Err (ZoneFull wanted widest)) = Grew old new []
+ViewEnds steady format r k old new (Err OutOfMemory) = ⊥
+
+-- all that stays while views are drawn: what was loaded and the limits; and of the cache its art
+pub record KeepsReady (view after : ShelfView) (old new : ReadyViews) : Type 0 where
+  pub files : new.loaded.files ≡ old.loaded.files
+  pub scene : new.loaded.scene ≡ old.loaded.scene
+  pub weapons : new.loaded.weapons ≡ old.loaded.weapons
+  pub limits : new.shop.limits ≡ old.shop.limits
+  pub art : KeepsArt view after old.loaded.files.dir (textures_view old.loaded.scene.scene) old.loaded.cache new.loaded.cache

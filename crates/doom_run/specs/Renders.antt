@@ -1,0 +1,60 @@
+-- A scene that is ready to be drawn, and when drawing it finds the zone full.
+use Rattle.std.specs.Prelude.{◌≡◌, ◌⊎◌, ℕ, List, map, Ok}
+use Rattle.outside.specs.Shelf.{File}
+use Rattle.lump_rules.specs.Lookups.{lump_at}
+use Rattle.lump_cache.specs.Caches.{IsAtRest}
+use Rattle.lump_cache.specs.Calls.{IsFullFor}
+use Rattle.texture_build.specs.Draws.{IsFullForTexture}
+use Rattle.view_rules.specs.View.{view_of}
+use Rattle.level_audit.specs.Sound.{textures_view}
+use Rattle.command_line.specs.LevelJobs.{LevelJobValue}
+use Rattle.scene_load.specs.Loads.{load_in, loaded_sizes, loaded_value}
+use Rattle.frame_core.specs.Scenes.{scene_of}
+use Rattle.frame_core.specs.Views.{CanDrawView, IsViewLump, IsViewTexture}
+use Rattle.doom_run.specs.declared.render.ReadyViews.{ReadyViews}
+use Rattle.doom_run.specs.declared.status.Status.{Status}
+use Rattle.doom_run.specs.declared.status.Status.TheVariants.{Done, Usage, Refused, ReadFault, WriteFault, Limit, ZoneFull, OutOfMemory}
+use Rattle.doom_run.specs.Views.{ViewsValue, eye_of, limits_in}
+
+-- the views of a ready scene, whose lumps have these bytes
+unfoldable pub ready_views : (ℕ → List ℕ) → ReadyViews → ViewsValue
+ready_views bytes ready = record {
+  scene = scene_of bytes ready.loaded.scene.scene;
+  views = map (λ row. view_of ready.loaded.files.tables (eye_of row)) ready.loaded.files.path;
+  limits = ready.shop.limits;
+  palette = ready.loaded.scene.scene.base.palette;
+  sizes = loaded_sizes (loaded_value ready.loaded);
+}
+
+-- it may be drawn, in a cache at rest, with the limits of its job
+pub record IsReady (level : LevelJobValue) (ready : ReadyViews) : Type 0 where
+  pub drawable : CanDrawView ready.loaded.files.dir.lumps ready.loaded.scene.scene ready.loaded.cache
+  pub limits : ready.shop.limits ≡ limits_in level.settings
+  pub rest : IsAtRest ready.loaded.scene.scene.base.colormap
+      (lump_at ready.loaded.files.dir.lumps ready.loaded.scene.scene.base.colormap).size ready.loaded.cache
+  pub zone : ready.loaded.cache.size ≡ level.settings.zone
+
+-- no gap of its zone held what a texture or a lump of the scene asks for
+abbrev pub IsFullView : ReadyViews → ℕ → ℕ → Type 0
+IsFullView ready wanted widest' =
+    IsFullForTexture (IsViewTexture ready.loaded.scene.scene) ready.loaded.files.dir.lumps
+    (textures_view ready.loaded.scene.scene) ready.loaded.cache wanted widest'
+    ⊎ IsFullFor (IsViewLump ready.loaded.scene.scene) ready.loaded.files.dir ready.loaded.cache wanted widest'
+
+-- a scene of a job that is ready to be drawn, and the zone in which a view of it found no gap
+pub record IsFullReady (level : LevelJobValue) (wads : List (List ℕ)) (files : List File) (wanted widest' : ℕ) : Type 0 where
+  pub ready : ReadyViews
+  pub is : load_in level wads files ≡ Ok (loaded_value ready.loaded)
+  pub stands : IsReady level ready
+  pub full : IsFullView ready wanted widest'
+
+-- a status that delivering frames can come to
+abbrev pub IsDelivered : Status → Type 0
+IsDelivered Done = Unit {0}
+IsDelivered Usage = ⊥
+IsDelivered (Refused refusal) = ⊥
+IsDelivered ReadFault = Unit {0}
+IsDelivered WriteFault = Unit {0}
+IsDelivered (Limit view kind count) = Unit {0}
+IsDelivered (ZoneFull wanted widest) = Unit {0}
+IsDelivered OutOfMemory = ⊥

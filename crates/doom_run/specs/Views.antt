@@ -1,0 +1,136 @@
+-- The views of a path over a level: their frames and counts, and the first that is over a limit.
+use Rattle.std.specs.Prelude.{ℕ, ◌++◌, ◌*◌, ◌%◌, ◌^◌, List, [], map, length, take, sum, codes, Option, Some, None, is_some, unwrap_or, slice_get, option_and_then, Result, Ok}
+use Rattle.outside.specs.Shelf.{File}
+use Rattle.outside.specs.Faults.{and_then}
+use Rattle.outside.specs.Stops.{Stop}
+use Rattle.word_rules.specs.Least.{least}
+use Rattle.word_rules.specs.Listed.{listed, joined_lists}
+use Rattle.view_rules.specs.declared.Eye.{Eye}
+use Rattle.view_rules.specs.View.{ViewValue, view_of}
+use Rattle.csv_tables.specs.declared.path.PathRow.{PathRow}
+use Rattle.frame_writer.specs.Ppm.{ppm}
+use Rattle.command_line.specs.declared.command.Format.{Format}
+use Rattle.command_line.specs.declared.command.Format.TheVariants.{Index, Ppm}
+use Rattle.command_line.specs.declared.command.Settings.{Settings}
+use Rattle.command_line.specs.LevelJobs.{LevelJobValue}
+use Rattle.refusals.specs.declared.refusal.Refusal.{Refusal}
+use Rattle.refusals.specs.Lines.{labelled}
+use Rattle.picture_rules.specs.declared.Limits.{Limits}
+use Rattle.picture_rules.specs.declared.Counts.{Counts}
+use Rattle.picture_rules.specs.declared.OverLimit.{OverLimit}
+use Rattle.picture_rules.specs.Scene.{Scene}
+use Rattle.picture_rules.specs.Picture.{picture}
+use Rattle.picture_rules.specs.Counts.{view_counts, view_over}
+use Rattle.scene_rules.specs.declared.ZoneSizes.{ZoneSizes}
+use Rattle.scene_load.specs.Loads.{LoadedValue, load_in, loaded_sizes, wad_bytes}
+use Rattle.frame_core.specs.Scenes.{scene_of}
+use Rattle.doom_run.specs.declared.status.Status.{Status}
+use Rattle.doom_run.specs.declared.status.Status.TheVariants.{Done, Limit}
+use Rattle.doom_run.specs.Lines.{limit_label}
+
+-- what is seen: a scene, the views of a path, how much a view may have, the palette, and how large a
+-- zone has to be
+pub record ViewsValue : Type 0 where
+  pub scene : Scene
+  pub views : List ViewValue
+  pub limits : Limits
+  pub palette : List ℕ
+  pub sizes : ZoneSizes
+
+-- the viewpoint of a row of the path
+abbrev pub eye_of : PathRow → Eye
+eye_of row = record {
+  x = row.x;
+  y = row.y;
+  z = row.z;
+  angle = row.angle;
+  extralight = row.extralight;
+  colormap = row.colormap;
+}
+
+abbrev pub limits_in : Settings → Limits
+limits_in settings = record { planes = settings.planes; openings = settings.openings }
+
+-- the views of a path over a level that is loaded, whose lumps have these bytes
+unfoldable pub views_of : (ℕ → List ℕ) → Settings → LoadedValue → ViewsValue
+views_of bytes settings loaded = record {
+  scene = scene_of bytes loaded.scene;
+  views = map (λ row. view_of loaded.files.tables (eye_of row)) loaded.files.path;
+  limits = limits_in settings;
+  palette = loaded.scene.base.palette;
+  sizes = loaded_sizes loaded;
+}
+
+-- the views of a job, or the first step that stops
+abbrev pub views_verdict : LevelJobValue → List (List ℕ) → List File → Result ViewsValue (Stop Refusal)
+views_verdict level wads files =
+    and_then (load_in level wads files) (λ loaded.
+    Ok (views_of (wad_bytes wads files loaded.files.lumps) level.settings loaded))
+
+-- the first count of view number k that passes its limit, if any
+unfoldable pub over_at : ViewsValue → ℕ → Option OverLimit
+over_at r k = option_and_then (λ v. view_over v r.scene r.limits) (slice_get r.views k)
+
+-- the least number of a view that is over
+unfoldable pub first_over : ViewsValue → Option ℕ
+first_over r = least (λ k. is_some (over_at r k)) (length r.views)
+
+-- the views whose frames are due: those before the first that is over
+unfoldable pub due_views : ViewsValue → List ViewValue
+due_views r = take (unwrap_or (first_over r) (length r.views)) r.views
+
+-- a frame as it is written
+abbrev pub frame_bytes : Format → List ℕ → List ℕ → List ℕ
+frame_bytes Index palette frame = frame
+frame_bytes Ppm palette frame = ppm frame palette
+
+-- the frames of these views, one after the other
+unfoldable pub frames_of : Format → ViewsValue → List ViewValue → List ℕ
+frames_of format r views = joined_lists (λ v. frame_bytes format r.palette (picture v r.scene)) views
+
+abbrev pub rendered_bytes : Format → ViewsValue → List ℕ
+rendered_bytes format r = frames_of format r (due_views r)
+
+-- how a rendering ends: at the first view that is over, with its number, or with the last view
+abbrev pub limit_at : ℕ → Option OverLimit → Status
+limit_at view None = Done
+limit_at view (Some over) = Limit view over.kind over.count
+
+abbrev pub end_at : ViewsValue → Option ℕ → Status
+end_at r None = Done
+end_at r (Some view) = limit_at view (over_at r view)
+
+abbrev pub rendered_end : ViewsValue → Status
+rendered_end r = end_at r (first_over r)
+
+-- the line of a view's counts, or of its first count past a limit
+abbrev pub counts_line : ℕ → Counts → List ℕ
+counts_line view counts =
+    labelled (codes "view ") view
+    ++ (labelled (codes " planes ") counts.planes
+    ++ (labelled (codes " openings ") counts.openings
+    ++ (labelled (codes " fragments ") counts.fragments
+    ++ (labelled (codes " sprites ") counts.sprites ++ codes "\n"))))
+
+abbrev pub over_line : ℕ → OverLimit → List ℕ
+over_line view over =
+    labelled (codes "view ") view ++ (codes " over" ++ (labelled (limit_label over.kind) over.count ++ codes "\n"))
+
+abbrev pub line_by : ℕ → Counts → Option OverLimit → List ℕ
+line_by view counts None = counts_line view counts
+line_by view counts (Some over) = over_line view over
+
+unfoldable pub view_line : ViewsValue → ℕ → ViewValue → List ℕ
+view_line r view v = line_by view (view_counts v r.scene) (view_over v r.scene r.limits)
+
+-- the line of view number k
+abbrev pub line_at : ViewsValue → ℕ → Option ViewValue → List ℕ
+line_at r view None = []
+line_at r view (Some v) = view_line r view v
+
+-- the lines of the first n views
+unfoldable pub first_lines : ViewsValue → ℕ → List ℕ
+first_lines r n = joined_lists (λ k. line_at r k (slice_get r.views k)) (listed (λ k. k) n)
+
+abbrev pub counted_bytes : ViewsValue → List ℕ
+counted_bytes r = first_lines r (length r.views)

@@ -1,0 +1,77 @@
+// The job `limits`: the counts of the views of a path.
+ghost use Rattle.std.specs.Prelude.{◌≡◌, ◌<◌, ℕ, List, length, slice_get};
+ghost use Rattle.outside.specs.Causes.{FaultsRose};
+ghost use Rattle.outside.specs.Sink.{Writes};
+ghost use Rattle.frame_core.specs.Views.{CanCount};
+ghost use Rattle.doom_run.specs.Ends.{DeliversAt};
+ghost use Rattle.doom_run.specs.Renders.{ready_views};
+ghost use Rattle.doom_run.specs.Verdict.{counted};
+ghost use Rattle.doom_run.specs.Views.{counts_line, line_at, over_line};
+
+use crate::notes::put_limit_count;
+use crate::render::{ReadyViews, eye_of};
+use crate::status::Status;
+use frame_core::{Counts, OverLimit, count_view};
+use outside::{Failed, Sink};
+use refusals::put_labelled;
+
+// Appends the line of a view's counts.
+fn put_counts<K: Sink>(out: &mut K, view: u64, counts: &Counts) -> Result<(), Failed>
+    ensures { Writes (K.written out.old) (K.written out.new) (K.faults out.old)
+        (K.faults out.new) (counts_line view counts.now) result }
+{
+    put_labelled(out, b"view ", view)?;
+    put_labelled(out, b" planes ", counts.planes as u64)?;
+    put_labelled(out, b" openings ", counts.openings as u64)?;
+    put_labelled(out, b" fragments ", counts.fragments as u64)?;
+    put_labelled(out, b" sprites ", counts.sprites as u64)?;
+    out.put(b"\n")
+}
+
+// Appends the line of a view that is over a limit.
+fn put_over<K: Sink>(out: &mut K, view: u64, over: &OverLimit) -> Result<(), Failed>
+    ensures { Writes (K.written out.old) (K.written out.new) (K.faults out.old)
+        (K.faults out.new) (over_line view over.now) result }
+{
+    put_labelled(out, b"view ", view)?;
+    out.put(b" over")?;
+    put_limit_count(out, over.kind, over.count)?;
+    out.put(b"\n")
+}
+
+// Appends the line of view number `number`.
+fn put_view<K: Sink>(ready: &mut ReadyViews, number: usize, out: &mut K) -> Result<(), Failed>
+    requires number { number < length ready.old.loaded.files.path }
+    requires scene { CanCount ready.old.loaded.scene.scene }
+    ensures writes { (bytes : ℕ → List ℕ) → Writes (K.written out.old) (K.written out.new)
+        (K.faults out.old) (K.faults out.new) (line_at (ready_views bytes ready.old) number
+        (slice_get (ready_views bytes ready.old).views number)) result }
+    ensures loaded { ready.new.loaded ≡ ready.old.loaded }
+    ensures limits { ready.new.shop.limits ≡ ready.old.shop.limits }
+{
+    let loaded = &ready.loaded;
+    let eye = eye_of(&loaded.files.path.views()[number]);
+    match count_view(&loaded.scene, &loaded.files.tables, &mut ready.shop, eye) {
+        Ok(counts) => put_counts(out, number as u64, &counts),
+        Err(over) => put_over(out, number as u64, &over),
+    }
+}
+
+// Writes the line of each view; a view over a limit has its own, and the next comes after it. Takes
+// no memory.
+pub fn deliver_limits<K: Sink>(ready: &mut ReadyViews, out: &mut K) -> Status
+    requires { CanCount ready.old.loaded.scene.scene }
+    ensures ends { (bytes : ℕ → List ℕ) → DeliversAt (counted (ready_views bytes ready.old))
+        (K.written out.old) (K.written out.new) result }
+    ensures write_fault { result ≡ Status.WriteFault →
+        FaultsRose (K.faults out.old) (K.faults out.new) }
+{
+    let count = ready.loaded.files.path.views().len();
+    for number in 0..count {
+        match put_view(ready, number, out) {
+            Ok(()) => {}
+            Err(_) => return Status::WriteFault,
+        }
+    }
+    Status::Done
+}

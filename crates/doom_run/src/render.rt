@@ -1,0 +1,264 @@
+// The job `render`: the frames of the views of a path, each written as it is drawn.
+ghost use Rattle.std.specs.Prelude.{◌≡◌, ◌<◌, ◌≤◌, ℕ, List, length, map, option_map, slice_get, None, Some, IfErr, IfOk, IfSome, OnOk};
+ghost use Rattle.outside.specs.Causes.{FaultsRose};
+ghost use Rattle.outside.specs.Shelf.{File, IsLaterShelf, Holds};
+ghost use Rattle.outside.specs.Faults.{HasCauses, itself};
+ghost use Rattle.outside.specs.Sink.{Writes};
+ghost use Rattle.outside.specs.Stops.{ResultIsOrAbsent};
+ghost use Rattle.lump_rules.specs.Contents.{lump_bytes};
+ghost use Rattle.lump_rules.specs.Lookups.{lump_at};
+ghost use Rattle.lump_cache.specs.Calls.{IfFull};
+ghost use Rattle.texture_build.specs.Draws.{DrawsWith, HoldsArt};
+ghost use Rattle.level_audit.specs.Sound.{textures_view};
+ghost use Rattle.command_line.specs.LevelJobs.{level_job_value};
+ghost use Rattle.command_line.specs.Choices.{AreSettings};
+ghost use Rattle.scene_load.specs.Files.{files_named};
+ghost use Rattle.scene_load.specs.Fulls.{IsFullLoad};
+ghost use Rattle.scene_load.specs.Loads.{load_in, loaded_value};
+ghost use Rattle.doom_run.specs.Ends.{RendersAt};
+ghost use Rattle.frame_core.specs.Faults.{limit_of_view, view_fault};
+ghost use Rattle.frame_core.specs.Views.{CanDrawView, IsViewLump, IsViewTexture};
+ghost use Rattle.frame_writer.specs.declared.TheConstants.{FRAME_BYTES, PALETTE_BYTES};
+ghost use Rattle.doom_run.specs.Frames.{IsPictureAt, KeepsReady, ViewEnds, status_of_view};
+ghost use Rattle.doom_run.specs.Renders.{IsDelivered, IsFullView, IsReady, ready_views};
+ghost use Rattle.doom_run.specs.Verdict.{rendered};
+ghost use Rattle.doom_run.specs.Views.{eye_of, frame_bytes, over_at};
+
+use crate::status::Status;
+use command_line::{Format, LevelJob};
+use csv_tables::{PathRow, PathTable};
+use frame_core::{Limits, ViewFault, Workshop, draw_view};
+use frame_writer::{put_index, put_ppm};
+use outside::{Failed, Fault, Shelf, Sink};
+use scene_load::{LoadFault, LoadedScene, load_scene};
+use std::alloc::Global;
+use view_rules::Eye;
+
+// A scene that is ready to be drawn, with all the memory of drawing.
+#[derive(Drop)]
+pub struct ReadyViews {
+    pub loaded: LoadedScene,
+    pub shop: Workshop,
+}
+
+// The scene of a job over a level in these WADs, and the memory to draw it. Takes all memory of the
+// job.
+pub fn prepare_views<S: Shelf>(
+    alloc: Global,
+    level: &LevelJob<'_>,
+    wads: &[&str],
+    shelf: &mut S,
+) -> Result<ReadyViews, LoadFault>
+    requires { AreSettings level.now.settings }
+    ensures answers { (files : List File) → Holds (S.view shelf.old) files →
+        ResultIsOrAbsent itself (S.view shelf.old).steady (λ ready. loaded_value ready.loaded)
+        (load_in (level_job_value level.now) (map (λ wad. wad.now) wads.now) files) result }
+    ensures ready { IfOk result (IsReady (level_job_value level.now)) }
+    ensures art { (files : List File) (contents : List (List ℕ)) →
+        Holds (S.view shelf.old) files →
+        files_named (map (λ wad. wad.now) wads.now) files ≡ Some contents →
+        IfOk result (λ ready. HoldsArt (S.view shelf.new) ready.loaded.files.dir
+        (textures_view ready.loaded.scene.scene) contents
+        ready.loaded.scene.scene.base.colormap
+        (lump_at ready.loaded.files.dir.lumps ready.loaded.scene.scene.base.colormap).size
+        ready.loaded.cache) }
+    ensures full { (files : List File) → Holds (S.view shelf.old) files →
+        IfErr result (λ fault. IfFull (itself fault)
+        (IsFullLoad (level_job_value level.now) (map (λ wad. wad.now) wads.now) files)) }
+    ensures follows { IsLaterShelf (S.view shelf.old) (S.view shelf.new) }
+    ensures causes { HasCauses itself
+        (S.view shelf.old).faults (S.view shelf.new).faults result }
+{
+    let loaded = load_scene(alloc, level, wads, shelf)?;
+    let limits = Limits {
+        planes: level.settings.planes,
+        openings: level.settings.openings,
+    };
+    match Workshop::new(alloc, limits) {
+        Ok(shop) => Ok(ReadyViews { loaded, shop }),
+        Err(_) => Err(Fault::OutOfMemory),
+    }
+}
+
+// The viewpoint of a row of the path.
+pub(crate) fn eye_of(row: &PathRow) -> Eye
+    ensures { result ≡ eye_of row.now }
+{
+    Eye {
+        x: row.x,
+        y: row.y,
+        z: row.z,
+        angle: row.angle,
+        extralight: row.extralight,
+        colormap: row.colormap,
+    }
+}
+
+// How many views a path has.
+pub(crate) fn view_count(path: &PathTable) -> u32
+    ensures { result ≡ length path.now }
+{
+    path.views().len() as u32
+}
+
+// The viewpoint of view number `number`, which is there.
+pub(crate) fn eye_at(path: &PathTable, number: u32) -> Eye
+    requires { number < length path.now }
+    ensures { option_map eye_of (slice_get path.now number) ≡ Some result }
+{
+    eye_of(&path.views()[number as usize])
+}
+
+// Writes a frame in the format.
+fn put_frame<K: Sink>(
+    out: &mut K,
+    format: Format,
+    frame: &[u8],
+    palette: &[u8],
+) -> Result<(), Failed>
+    requires frame { length frame.now ≡ FRAME_BYTES }
+    requires palette { length palette.now ≡ PALETTE_BYTES }
+    ensures { Writes (K.written out.old) (K.written out.new)
+        (K.faults out.old) (K.faults out.new) (frame_bytes format palette.now frame.now) result }
+{
+    match format {
+        Format::Index => put_index(out, frame),
+        Format::Ppm => put_ppm(out, frame, palette),
+    }
+}
+
+// The status of a fault of a view.
+fn status_of_view(view: u32, fault: ViewFault) -> Status
+    ensures { result ≡ status_of_view view fault }
+{
+    match fault {
+        ViewFault::Limit { kind, count } => Status::Limit { view, kind, count },
+        ViewFault::ZoneFull { wanted, widest } => Status::ZoneFull { wanted, widest },
+        ViewFault::ReadFault => Status::ReadFault,
+    }
+}
+
+// Draws view number `number` on the workshop's frame.
+fn draw_at<S: Shelf>(ready: &mut ReadyViews, number: u32, shelf: &mut S) -> Result<(), ViewFault>
+    requires drawable { CanDrawView ready.old.loaded.files.dir.lumps
+        ready.old.loaded.scene.scene ready.old.loaded.cache }
+    requires there { number < length ready.old.loaded.files.path }
+    ensures picture { (contents : List (List ℕ)) (count : ℕ) →
+        HoldsArt (S.view shelf.old) ready.old.loaded.files.dir
+        (textures_view ready.old.loaded.scene.scene) contents
+        ready.old.loaded.scene.scene.base.colormap count ready.old.loaded.cache →
+        OnOk result (IsPictureAt (ready_views
+        (lump_bytes contents ready.old.loaded.files.dir.lumps) ready.old) number
+        ready.new.shop.frame.cells) }
+    ensures within { (bytes : ℕ → List ℕ) →
+        OnOk result (over_at (ready_views bytes ready.old) number ≡ None) }
+    ensures over { (bytes : ℕ → List ℕ) → IfErr result (λ fault.
+        IfSome (limit_of_view fault) (λ over.
+        over_at (ready_views bytes ready.old) number ≡ Some over)) }
+    ensures draws { DrawsWith view_fault (IsViewTexture ready.old.loaded.scene.scene)
+        (IsViewLump ready.old.loaded.scene.scene) (S.view shelf.old) (S.view shelf.new)
+        ready.old.loaded.files.dir (textures_view ready.old.loaded.scene.scene)
+        ready.old.loaded.cache ready.new.loaded.cache result }
+    ensures keeps { KeepsReady (S.view shelf.old) (S.view shelf.new) ready.old ready.new }
+{
+    let loaded = &mut ready.loaded;
+    let eye = eye_at(&loaded.files.path, number);
+    draw_view(
+        &loaded.scene,
+        &loaded.files.tables,
+        &mut ready.shop,
+        &mut loaded.cache,
+        &loaded.files.dir,
+        shelf,
+        eye,
+    )
+}
+
+// Writes the workshop's frame.
+fn write_frame<K: Sink>(ready: &ReadyViews, format: Format, out: &mut K) -> Result<(), Failed>
+    ensures { Writes (K.written out.old) (K.written out.new) (K.faults out.old)
+        (K.faults out.new) (frame_bytes format ready.now.loaded.scene.scene.base.palette
+        ready.now.shop.frame.cells) result }
+{
+    put_frame(
+        out,
+        format,
+        ready.shop.frame(),
+        ready.loaded.scene.palette(),
+    )
+}
+
+// Draws view number `number` and writes its frame.
+fn render_view<S: Shelf, K: Sink>(
+    ready: &mut ReadyViews,
+    number: u32,
+    format: Format,
+    shelf: &mut S,
+    out: &mut K,
+) -> Result<(), Status>
+    requires drawable { CanDrawView ready.old.loaded.files.dir.lumps
+        ready.old.loaded.scene.scene ready.old.loaded.cache }
+    requires there { number < length ready.old.loaded.files.path }
+    ensures ends { (contents : List (List ℕ)) (count : ℕ) →
+        HoldsArt (S.view shelf.old) ready.old.loaded.files.dir
+        (textures_view ready.old.loaded.scene.scene) contents
+        ready.old.loaded.scene.scene.base.colormap count ready.old.loaded.cache →
+        ViewEnds (S.view shelf.old).steady format
+        (ready_views (lump_bytes contents ready.old.loaded.files.dir.lumps) ready.old) number
+        (K.written out.old) (K.written out.new) result }
+    ensures read_fault { IfErr result (λ status. status ≡ Status.ReadFault →
+        FaultsRose (S.view shelf.old).faults (S.view shelf.new).faults) }
+    ensures write_fault { IfErr result (λ status. status ≡ Status.WriteFault →
+        FaultsRose (K.faults out.old) (K.faults out.new)) }
+    ensures zone_full { IfErr result (λ status. (wanted widest : ℕ) →
+        status ≡ Status.ZoneFull wanted widest → IsFullView ready.old wanted widest) }
+    ensures answers { IfErr result IsDelivered }
+    ensures keeps { KeepsReady (S.view shelf.old) (S.view shelf.new) ready.old ready.new }
+    ensures later { K.faults out.old ≤ K.faults out.new }
+{
+    match draw_at(ready, number, shelf) {
+        Ok(()) => {}
+        Err(fault) => return Err(status_of_view(number, fault)),
+    }
+    match write_frame(ready, format, out) {
+        Ok(()) => Ok(()),
+        Err(_) => Err(Status::WriteFault),
+    }
+}
+
+// Draws and writes the views one after the other, up to the first that is over a limit. Takes no
+// memory.
+pub fn deliver_render<S: Shelf, K: Sink>(
+    ready: &mut ReadyViews,
+    format: Format,
+    shelf: &mut S,
+    out: &mut K,
+) -> Status
+    requires { CanDrawView ready.old.loaded.files.dir.lumps ready.old.loaded.scene.scene
+        ready.old.loaded.cache }
+    ensures ends { (contents : List (List ℕ)) (count : ℕ) →
+        HoldsArt (S.view shelf.old) ready.old.loaded.files.dir
+        (textures_view ready.old.loaded.scene.scene) contents
+        ready.old.loaded.scene.scene.base.colormap count ready.old.loaded.cache →
+        RendersAt (S.view shelf.old).steady (rendered format (ready_views
+        (lump_bytes contents ready.old.loaded.files.dir.lumps) ready.old))
+        (K.written out.old) (K.written out.new) result }
+    ensures read_fault { result ≡ Status.ReadFault →
+        FaultsRose (S.view shelf.old).faults (S.view shelf.new).faults }
+    ensures write_fault { result ≡ Status.WriteFault →
+        FaultsRose (K.faults out.old) (K.faults out.new) }
+    ensures zone_full { (wanted widest : ℕ) → result ≡ Status.ZoneFull wanted widest →
+        IsFullView ready.old wanted widest }
+    ensures answers { IsDelivered result }
+    ensures loaded { ready.new.loaded.files ≡ ready.old.loaded.files }
+    ensures scene { ready.new.loaded.scene ≡ ready.old.loaded.scene }
+    ensures follows { IsLaterShelf (S.view shelf.old) (S.view shelf.new) }
+{
+    for number in 0..view_count(&ready.loaded.files.path) {
+        match render_view(ready, number, format, shelf, out) {
+            Ok(()) => {}
+            Err(status) => return status,
+        }
+    }
+    Status::Done
+}
