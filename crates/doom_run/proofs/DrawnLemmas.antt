@@ -116,7 +116,7 @@ module _ (lumps : List Lump) (number : ℕ) (t : PreparedTexture) (owner : Owner
     column_asked : IsAskedByColumn lumps number t (own_lookup t x) owner size → IsOfTexture lumps t size
     column_asked asked = elim (cases_lt x (length t.columns)) [
       | inl l ↦ asked_of bytes (composite_place t.patches t.height x) x (patches_in t.patches x) standing_are (size_some l)
-        (subst (λ (lookup : ColumnLookup). IsAskedByColumn lumps number t lookup owner size) (lookup_is l) asked)
+          (subst (λ (lookup : ColumnLookup). IsAskedByColumn lumps number t lookup owner size) (lookup_is l) asked)
       | inr past ↦ absurd (subst (λ (lookup : ColumnLookup). IsAskedByColumn lumps number t lookup owner size) (get_or_past t.columns x Empty past) asked)
     ]
 

@@ -152,7 +152,7 @@ pub memory_steady : (shelf : ShelfInMemory) (given : List File) (failing : List 
 memory_steady shelf given failing e none =
     let steady : IsTrue (memory_view (record { files = given; failing = []; calls = 0; faults = 0; taken = 0 })).steady = refl in
     let same : shelf ≡ record { files = given; failing = []; calls = 0; faults = 0; taken = 0 } =
-        e ∙ ap (λ (f : List ℕ). record { files = given; failing = f; calls = 0; faults = 0; taken = 0 }) none in
+    e ∙ ap (λ (f : List ℕ). record { files = given; failing = f; calls = 0; faults = 0; taken = 0 }) none in
     subst (λ (s : ShelfInMemory). IsTrue (memory_view s).steady) (sym same) steady
 
 module _ (n zone : ℕ) where

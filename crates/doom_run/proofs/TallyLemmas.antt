@@ -104,11 +104,11 @@ line_of_frames : (n frames : ℕ) (format : Format) (r : ViewsValue) (tally : Ta
 unfolding exercise_line
 line_of_frames n frames format r tally count none counted =
     let line : ℕ → ℕ → ℕ → List ℕ = λ f b s.
-        labelled (codes "sectors ") (4 * n * n)
-        ++ (labelled (codes " views ") (3 * n)
-        ++ (labelled (codes " frames ") f
-        ++ (labelled (codes " bytes ") b
-        ++ (labelled (codes " sum ") s ++ codes "\n")))) in
+    labelled (codes "sectors ") (4 * n * n)
+    ++ (labelled (codes " views ") (3 * n)
+    ++ (labelled (codes " frames ") f
+    ++ (labelled (codes " bytes ") b
+    ++ (labelled (codes " sum ") s ++ codes "\n")))) in
     let due : length (due_views r) ≡ frames = ap (λ (vs : List ViewValue). length vs) (due_all r none) ∙ sym count in
     let size : length (rendered_bytes format r) ≡ frames * frame_size format = length_frames format r (due_views r) ∙ ap (λ k. k * frame_size format) due in
     ap (λ f. line f (length (rendered_bytes format r)) (sum (rendered_bytes format r) % 2 ^ 64)) due

@@ -116,12 +116,7 @@ fn prepare_made(alloc: Global, zone: u32, shelf: &mut MemoryShelf) -> Result<Rea
 
 // Renders the made files of a number, and counts what comes. Takes all memory of the job, and asks
 // for no file.
-pub fn prepare_exercise(
-    alloc: Global,
-    n: u32,
-    zone: u32,
-    format: Format,
-) -> Result<Summary, Status>
+pub fn prepare_exercise(alloc: Global, n: u32, zone: u32, format: Format) -> Result<Summary, Status>
     requires count { IsCount n }
     requires zone { IsZoneSize zone }
     ensures ends { ExercisesAt n format (exercise_verdict n zone) result }
@@ -183,12 +178,12 @@ fn summary_of(n: u32, format: Format, ready: &ReadyViews, tally: &TallySink) -> 
     requires count { IsCount n }
     requires few { length ready.now.loaded.files.path ≤ MAX_VIEWS }
     ensures { result ≡ record {
-        sectors = 4 * n * n;
-        views = 3 * n;
-        frames = length ready.now.loaded.files.path;
-        bytes = length ready.now.loaded.files.path * frame_size format;
-        sum = tally.now.sum;
-        } }
+      sectors = 4 * n * n;
+      views = 3 * n;
+      frames = length ready.now.loaded.files.path;
+      bytes = length ready.now.loaded.files.path * frame_size format;
+      sum = tally.now.sum;
+    } }
 {
     let frames = ready.loaded.files.path.views().len() as u64;
     let size = frame_size(format);

@@ -26,6 +26,8 @@ mod status;
 mod tests;
 mod tiling;
 mod top;
+#[cfg(test)]
+mod view_tests;
 
 pub use notes::put_note;
 pub use picture_rules::LimitKind;

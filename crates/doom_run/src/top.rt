@@ -233,8 +233,7 @@ fn perform_level<S: Shelf, K: Sink>(
         (level_verdict job (level_job_value level.now) (map (λ wad. wad.now) wads.now) files)
         (K.written out.old) (K.written out.new) result }
     ensures unwritten { IsUnwritten result → Grew (K.written out.old) (K.written out.new) [] }
-    ensures before {
-        writes_frames (level_job job (level_job_value level.now) (map (λ wad. wad.now) wads.now)) ≡ false →
+    ensures before { writes_frames (level_job job (level_job_value level.now) (map (λ wad. wad.now) wads.now)) ≡ false →
         IsReadOrFull result → Grew (K.written out.old) (K.written out.new) [] }
     ensures usage { (files : List File) → result ≡ Status.Usage →
         level_verdict job (level_job_value level.now) (map (λ wad. wad.now) wads.now) files

@@ -19,9 +19,9 @@ loop-number-preserved g c = record {
 pub returns-in-Err-clause-ends : goal.returns-in-Err-clause-ends
 returns-in-Err-clause-ends g c bytes =
     let within : c.loop-number.number + 1 ≤ length (ready_views bytes c.args.ready.now).views =
-        let e = length_views bytes c.args.ready.now in
-        let v = ap (λ rows. length rows) c.views-count.ensures.value in
-        let t = c.loop-number-test.true in omega (arith, e, v, t) in
+    let e = length_views bytes c.args.ready.now in
+    let v = ap (λ rows. length rows) c.views-count.ensures.value in
+    let t = c.loop-number-test.true in omega (arith, e, v, t) in
     prefix_of_lines (ready_views bytes c.args.ready.now) (c.loop-number.number + 1) within
     (rw c.in-Err.is at (more_written (ready_views bytes c.args.ready.now) (ready_views bytes c.loop-number.ready) c.loop-number.number
     (ready_same bytes c.loop-number.ready c.args.ready.now c.loop-number.invariant.loaded c.loop-number.invariant.limits)
@@ -37,8 +37,8 @@ returns-in-Err-clause-write_fault g c is =
 pub returns-clause-ends : goal.returns-clause-ends
 returns-clause-ends g c bytes =
     let e : c.loop-number.number ≡ length (ready_views bytes c.args.ready.now).views =
-        let n = length_views bytes c.args.ready.now in
-        let v = ap (λ rows. length rows) c.views-count.ensures.value in
-        let t = c.loop-number-test.false in
-        let u = c.loop-number.auto.number-end in omega (arith, n, v, t, u) in
+    let n = length_views bytes c.args.ready.now in
+    let v = ap (λ rows. length rows) c.views-count.ensures.value in
+    let t = c.loop-number-test.false in
+    let u = c.loop-number.auto.number-end in omega (arith, n, v, t, u) in
     (refl, same_lines (ready_views bytes c.args.ready.now) _ e (c.loop-number.invariant.writes bytes).ok)

@@ -1,0 +1,241 @@
+// Values from outside: frames, counts and statuses of made levels, by what is told of a run. A sum is
+// the FNV-1a of all that was written.
+use crate::{Status, run};
+use level_maker::{make_path, make_tables, make_things, make_wad};
+use outside::{MemoryFile, MemoryShelf, MemorySink, PutFault};
+use std::alloc::{AllocError, Global};
+use std::test::Fail;
+
+const OUT_ROOM: usize = 6_000_000;
+
+const LINE_ROOM: usize = 100;
+
+const NOTHING: u64 = 0xcbf2_9ce4_8422_2325;
+
+const FRAMES_OF_10: u64 = 0x8255_4244_4dc5_4d3b;
+
+// How a run ended, how many bytes it wrote, and their sum.
+#[derive(Clone, Copy, Debug, PartialEq, Eq)]
+struct Told {
+    status: Status,
+    length: usize,
+    sum: u64,
+}
+
+fn sum_of(bytes: &[u8]) -> u64 {
+    let mut sum = NOTHING;
+    for byte in bytes {
+        sum = (sum ^ *byte as u64).wrapping_mul(0x100_0000_01b3);
+    }
+    sum
+}
+
+fn file_of(alloc: Global, name: &str, bytes: Vec<u8>) -> Result<MemoryFile, AllocError> {
+    let name = name.to_string(alloc)?;
+    Ok(MemoryFile { name, bytes })
+}
+
+fn words_of(alloc: Global, text: &str) -> Result<Vec<String>, AllocError> {
+    let mut words = Vec::new(alloc);
+    for word in text.split_whitespace() {
+        words.push(word.to_string(alloc)?)?;
+    }
+    Ok(words)
+}
+
+// The WAD and the path of a made level, as two files.
+fn level_files(alloc: Global, n: u32, path: Vec<u8>) -> Result<Vec<MemoryFile>, Fail> {
+    let wad = file_of(alloc, "made.wad", make_wad(alloc, n)?)?;
+    let path = file_of(alloc, "p", path)?;
+    Ok(vec![in alloc; wad, path]?)
+}
+
+// A shelf of these two with the tables and the things, whose calls of these numbers fail.
+fn shelf_of(alloc: Global, level: Vec<MemoryFile>, failing: Vec<u64>) -> Result<MemoryShelf, Fail> {
+    let mut files = level;
+    files.push(file_of(alloc, "t", make_tables(alloc)?)?)?;
+    files.push(file_of(alloc, "h", make_things(alloc)?)?)?;
+    if files.len() > 4 {
+        return Err("four files".into());
+    }
+    Ok(MemoryShelf::new(files, failing))
+}
+
+// What is told of a run of the words over a shelf.
+fn told(
+    alloc: Global,
+    words: &str,
+    shelf: MemoryShelf,
+    faults: Vec<PutFault>,
+) -> Result<Told, Fail> {
+    let mut shelf = shelf;
+    let words = words_of(alloc, words)?;
+    let mut out = MemorySink::new(alloc, OUT_ROOM, faults)?;
+    let mut notes = MemorySink::new(alloc, LINE_ROOM, Vec::new(alloc))?;
+    let status = run(alloc, &words, &mut shelf, &mut out, &mut notes);
+    Ok(Told {
+        status,
+        length: out.bytes().len(),
+        sum: sum_of(out.bytes()),
+    })
+}
+
+// The same over the made files of a number, with this path.
+fn told_of(
+    alloc: Global,
+    n: u32,
+    path: Vec<u8>,
+    words: &str,
+    failing: Vec<u64>,
+    faults: Vec<PutFault>,
+) -> Result<Told, Fail> {
+    let level = level_files(alloc, n, path)?;
+    let shelf = shelf_of(alloc, level, failing)?;
+    told(alloc, words, shelf, faults)
+}
+
+#[test]
+fn frames_and_counts_of_made_levels(rt: HostRuntime) -> Result<(), Fail> {
+    let alloc = rt.alloc();
+    let full = Status::ZoneFull {
+        wanted: 48024,
+        widest: 48020,
+    };
+    for (n, words, status, length, sum) in [
+        (
+            10,
+            "render MAP01 made.wad --tables t --things h --path p",
+            Status::Done,
+            1_920_000,
+            FRAMES_OF_10,
+        ),
+        (
+            10,
+            "render MAP01 made.wad --tables t --things h --path p --zone 108512",
+            Status::Done,
+            1_920_000,
+            FRAMES_OF_10,
+        ),
+        (
+            10,
+            "render MAP01 made.wad --tables t --things h --path p --format ppm",
+            Status::Done,
+            5_760_450,
+            0xa9ee_ff00_f210_bf55,
+        ),
+        (
+            10,
+            "render MAP01 made.wad --tables t --things h --path p --zone 56236",
+            full,
+            0,
+            NOTHING,
+        ),
+        (
+            10,
+            "limits MAP01 made.wad --tables t --things h --path p",
+            Status::Done,
+            1525,
+            0x6610_24dd_a2c2_711c,
+        ),
+        (
+            1,
+            "render MAP01 made.wad --tables t --things h --path p --size 5",
+            Status::Done,
+            192_000,
+            0xbadb_a51e_14df_16ed,
+        ),
+        (
+            1,
+            "render MAP01 made.wad --tables t --things h --path p --weapon h",
+            Status::Usage,
+            0,
+            NOTHING,
+        ),
+    ] {
+        let path = make_path(alloc, n)?;
+        let seen = told_of(alloc, n, path, words, Vec::new(alloc), Vec::new(alloc))?;
+        let expected = Told {
+            status,
+            length,
+            sum,
+        };
+        assert_eq!(rt; seen, expected);
+    }
+    Ok(())
+}
+
+#[test]
+fn a_path_of_no_view_and_one_on_a_vertex(rt: HostRuntime) -> Result<(), Fail> {
+    let alloc = rt.alloc();
+    let words = "render MAP01 made.wad --tables t --things h --path p";
+    for (path, length, sum) in [
+        ("x,y,z,angle\n", 0, NOTHING),
+        (
+            "x,y,z,angle\n0,0,4718592,536870912\n",
+            64000,
+            0xd203_d9c4_4555_fc63,
+        ),
+    ] {
+        let path = path.as_bytes().to_vec(alloc)?;
+        let seen = told_of(alloc, 1, path, words, Vec::new(alloc), Vec::new(alloc))?;
+        let expected = Told {
+            status: Status::Done,
+            length,
+            sum,
+        };
+        assert_eq!(rt; seen, expected);
+    }
+    Ok(())
+}
+
+#[test]
+fn a_call_and_a_put_that_fail_end_a_render(rt: HostRuntime) -> Result<(), Fail> {
+    let alloc = rt.alloc();
+    let words = "render MAP01 made.wad --tables t --things h --path p";
+    let failing = vec![in alloc; 3u64]?;
+    let seen = told_of(
+        alloc,
+        1,
+        make_path(alloc, 1)?,
+        words,
+        failing,
+        Vec::new(alloc),
+    )?;
+    assert_eq!(rt; seen.status, Status::ReadFault);
+    assert_eq!(rt; seen.length, 0);
+    let fault = PutFault {
+        call: 2,
+        passed: 100,
+    };
+    let faults = vec![in alloc; fault]?;
+    let path = make_path(alloc, 1)?;
+    let seen = told_of(alloc, 1, path, words, Vec::new(alloc), faults)?;
+    assert_eq!(rt; seen.status, Status::WriteFault);
+    assert_eq!(rt; seen.length, 64100);
+    Ok(())
+}
+
+#[test]
+fn an_exercise_tells_what_it_rendered(rt: HostRuntime) -> Result<(), Fail> {
+    let alloc = rt.alloc();
+    for (words, line) in [
+        (
+            "exercise 10",
+            "sectors 400 views 30 frames 30 bytes 1920000 sum 110342962\n",
+        ),
+        (
+            "exercise 1 --format ppm",
+            "sectors 4 views 3 frames 3 bytes 576045 sum 71558081\n",
+        ),
+    ] {
+        let shelf = MemoryShelf::new(Vec::new(alloc), Vec::new(alloc));
+        let seen = told(alloc, words, shelf, Vec::new(alloc))?;
+        let expected = Told {
+            status: Status::Done,
+            length: line.len(),
+            sum: sum_of(line.as_bytes()),
+        };
+        assert_eq!(rt; seen, expected);
+    }
+    Ok(())
+}
