@@ -44,6 +44,7 @@ use Rattle.level_audit.proofs.SceneLemmas.{and_then-ok, from_below-ok, scene_par
 use Rattle.level_rules.specs.declared.ThingLine.{ThingLine}
 use Rattle.frame_core.specs.Views.{IsViewLump, IsViewTexture}
 use Rattle.scene_load.specs.Files.{files_in}
+use Rattle.scene_load.specs.Fulls.{IsFullLoad}
 use Rattle.scene_load.specs.Loads.{LoadedValue, load_in, loaded_pictures, loaded_sizes, loaded_value, wad_bytes, wad_contents, weapon_lumps}
 use Rattle.scene_load.proofs.AuditedLemmas.{audited_by}
 use Rattle.scene_load.proofs.LoadLemmas.{audited_of}
@@ -337,5 +338,11 @@ module _ (level : LevelJobValue) (wads : List (List ℕ)) (files : List File) (r
   view_draw (inr lump) = draw_lump lump
 
 -- the same of a scene that is ready
-pub ready_draw : {wanted widest' : ℕ} (level : LevelJobValue) (wads : List (List ℕ)) (files : List File) → IsFullReady level wads files wanted widest' → IsFullDraw level wads files wanted widest'
+ready_draw : {wanted widest' : ℕ} (level : LevelJobValue) (wads : List (List ℕ)) (files : List File) → IsFullReady level wads files wanted widest' → IsFullDraw level wads files wanted widest'
 ready_draw {wanted} {widest'} level wads files full = view_draw level wads files full.ready full.stands full.is wanted widest' full.full
+
+-- a zone that was full for an exercise
+pub load_or_draw : {wanted widest' : ℕ} (level : LevelJobValue) (wads : List (List ℕ)) (files : List File) → IsFullLoad level wads files wanted widest' ⊎ IsFullReady level wads files wanted widest' →
+    IsFullLoad level wads files wanted widest' ⊎ IsFullDraw level wads files wanted widest'
+load_or_draw level wads files (inl load) = inl load
+load_or_draw level wads files (inr full) = inr (ready_draw level wads files full)

@@ -13,6 +13,7 @@ use Rattle.outside.proofs.WriteLemmas.{prefix_of_none}
 use Rattle.lump_cache.specs.Calls.{IfFull}
 use Rattle.lump_rules.specs.Contents.{lump_bytes}
 use Rattle.command_line.specs.declared.command.Format.{Format}
+use Rattle.command_line.specs.declared.command.LevelTask.TheVariants.{Limits, Render}
 use Rattle.command_line.specs.LevelJobs.{LevelJobValue}
 use Rattle.refusals.specs.declared.refusal.Refusal.{Refusal}
 use Rattle.level_audit.proofs.SceneLemmas.{and_then-ok}
@@ -24,12 +25,12 @@ use Rattle.scene_load.proofs.LoadLemmas.{audited_of}
 use Rattle.doom_run.specs.declared.render.ReadyViews.{ReadyViews}
 use Rattle.doom_run.specs.declared.status.Status.{Status}
 use Rattle.doom_run.specs.declared.status.Status.TheVariants.{Done, Usage, Refused, ReadFault, WriteFault, Limit, ZoneFull, OutOfMemory}
-use Rattle.doom_run.specs.Ends.{DeliversAt, EndsAt, RendersAt, StopsWith, status_of}
+use Rattle.doom_run.specs.Ends.{DeliversAt, EndsAt, IsReadOrFull, IsUnwritten, RendersAt, StopsWith, status_of}
 use Rattle.doom_run.specs.Exercises.{DeliversLine, IsExercised, StopsAt, exercised_bytes}
-use Rattle.doom_run.specs.Renders.{IsReady, ready_views}
+use Rattle.doom_run.specs.Renders.{IsDelivered, IsReady, ready_views}
 use Rattle.doom_run.specs.Steps.{RunStop, at_step, usage}
-use Rattle.doom_run.specs.Verdict.{Accepted, exercised, output}
-use Rattle.doom_run.specs.Views.{ViewsValue, limits_in, views_of}
+use Rattle.doom_run.specs.Verdict.{Accepted, counted, exercised, level_verdict, output, rendered}
+use Rattle.doom_run.specs.Views.{ViewsValue, limits_in, views_of, views_verdict}
 
 -- where nothing was written a run may stop, whatever its verdict
 pub none_stops : (verdict : Result Accepted RunStop) (old new : List ℕ → Type 0) → Grew old new [] → StopsWith verdict old new
@@ -115,31 +116,75 @@ ready_accepted level wads held ready contents accept stands is are =
     ∙ ap (λ (c : List (List ℕ)). Ok (accept (views_of (lump_bytes c ready.loaded.files.dir.lumps) level.settings (loaded_value ready.loaded)))) are
     ∙ ap (λ (v : ViewsValue). Ok (accept v)) (ready_as (lump_bytes contents ready.loaded.files.dir.lumps) level ready stands)
 
+-- what the counts of a ready scene come to
+pub counted_end : (steady : Bool) (level : LevelJobValue) (wads : List (List ℕ)) (held : List File) (ready : ReadyViews) (old new : List ℕ → Type 0) (status : Status) →
+    IsReady level ready → load_in level wads held ≡ Ok (loaded_value ready.loaded) → ((bytes : ℕ → List ℕ) → DeliversAt (counted (ready_views bytes ready)) old new status) →
+    EndsAt steady (level_verdict Limits level wads held) old new status
+counted_end steady level wads held ready old new status stands is delivers =
+    let named = loaded_named level wads held (loaded_value ready.loaded) is in
+    delivers_end steady _ (counted (ready_views (lump_bytes named.contents ready.loaded.files.dir.lumps) ready)) old new status
+    (ready_accepted level wads held ready named.contents counted stands is named.are) (delivers (lump_bytes named.contents ready.loaded.files.dir.lumps))
+
+-- what its frames come to
+abbrev pub views_to : (ViewsValue → Accepted) → LevelJobValue → List (List ℕ) → List File → Result Accepted RunStop
+views_to accept level wads held = and_then (from_below at_step (views_verdict level wads held)) (λ views. Ok (accept views))
+
+pub frames_end : (steady later : Bool) (format : Format) (level : LevelJobValue) (wads : List (List ℕ)) (held : List File) (ready : ReadyViews) (old new : List ℕ → Type 0) (status : Status) →
+    IsReady level ready → load_in level wads held ≡ Ok (loaded_value ready.loaded) → later ≡ steady →
+    ((contents : List (List ℕ)) → files_named wads held ≡ Some contents → RendersAt later (rendered format (ready_views (lump_bytes contents ready.loaded.files.dir.lumps) ready)) old new status) →
+    EndsAt steady (views_to (rendered format) level wads held) old new status
+frames_end steady later format level wads held ready old new status stands is same renders =
+    let named = loaded_named level wads held (loaded_value ready.loaded) is in
+    renders_end steady later _ (rendered format (ready_views (lump_bytes named.contents ready.loaded.files.dir.lumps) ready)) old new status same
+    (ready_accepted level wads held ready named.contents (rendered format) stands is named.are) (renders named.contents named.named)
+
+-- a delivery tells no stop before it, no read fault and no full zone
+pub delivers_more : (accepted : Accepted) (old new : List ℕ → Type 0) (status : Status) → DeliversAt accepted old new status → IsUnwritten status → ⊥
+delivers_more accepted old new Done d is = is
+delivers_more accepted old new Usage d is = d
+delivers_more accepted old new (Refused refusal) d is = d
+delivers_more accepted old new ReadFault d is = d
+delivers_more accepted old new WriteFault d is = is
+delivers_more accepted old new (Limit view kind count) d is = is
+delivers_more accepted old new (ZoneFull wanted widest) d is = d
+delivers_more accepted old new OutOfMemory d is = d
+
+pub delivers_all : (accepted : Accepted) (old new : List ℕ → Type 0) (status : Status) → DeliversAt accepted old new status → IsReadOrFull status → ⊥
+delivers_all accepted old new Done d is = is
+delivers_all accepted old new Usage d is = is
+delivers_all accepted old new (Refused refusal) d is = is
+delivers_all accepted old new ReadFault d is = d
+delivers_all accepted old new WriteFault d is = is
+delivers_all accepted old new (Limit view kind count) d is = is
+delivers_all accepted old new (ZoneFull wanted widest) d is = d
+delivers_all accepted old new OutOfMemory d is = is
+
+-- nor do frames that are delivered tell such a stop
+pub frames_more : (status : Status) → IsDelivered status → IsUnwritten status → ⊥
+frames_more Done d is = is
+frames_more Usage d is = d
+frames_more (Refused refusal) d is = d
+frames_more ReadFault d is = is
+frames_more WriteFault d is = is
+frames_more (Limit view kind count) d is = is
+frames_more (ZoneFull wanted widest) d is = is
+frames_more OutOfMemory d is = d
+
+-- a weapon is named where one is given
+pub same_weapon : {X Y : Type 0} (f : X → Y) (weapon : Option X) → is_some (option_map f weapon) ≡ is_some weapon
+same_weapon f None = refl
+same_weapon f (Some x) = refl
+
+-- without one, files are asked for
+pub unarmed_asks : {X : Type 0} (weapon : Option X) → is_some weapon ≡ false → IsTrue (is_none weapon)
+unarmed_asks None e = refl
+unarmed_asks (Some x) e = absurd (cc)
+
 -- frames without a weapon over them
-pub unless_armed : {X : Type 0} (f : X → List ℕ) (weapon : Option X) (r : Result Accepted RunStop) → is_some weapon ≡ false → cond (is_some (option_map f weapon)) (Err usage) r ≡ r
-unless_armed f None r e = refl
-unless_armed f (Some x) r e = absurd (cc)
-
-pub where_armed : {X : Type 0} (f : X → List ℕ) (weapon : Option X) (r : Result Accepted RunStop) → is_some weapon ≡ true → cond (is_some (option_map f weapon)) (Err usage) r ≡ Err usage
-where_armed f None r e = absurd (cc)
-where_armed f (Some x) r e = refl
-
--- without a weapon files are asked for
-pub asks_unarmed : {X : Type 0} (f : X → List ℕ) (weapon : Option X) → is_some weapon ≡ false → is_none (option_map f weapon) ≡ true
-asks_unarmed f None e = refl
-asks_unarmed f (Some x) e = absurd (cc)
-
--- steps after loading do not find the words wrong
-pub not_usage_at : {A : Type 0} (expected : Result A (Stop Refusal)) (accept : A → Accepted) → and_then (from_below at_step expected) (λ value. Ok (accept value)) ≡ Err usage → ⊥
-not_usage_at (Ok value) accept e = cc
-not_usage_at (Err stop) accept e = cc
-
--- a fault of the first steps is no wrong words
-pub fault_not_usage : (stop : Fault Refusal) → status_of stop ≡ Usage → ⊥
-fault_not_usage (fault.Refused refusal) e = cc
-fault_not_usage fault.ReadFault e = cc
-fault_not_usage (fault.ZoneFull wanted widest) e = cc
-fault_not_usage fault.OutOfMemory e = cc
+pub unarmed_end : (steady : Bool) (format : Format) (level : LevelJobValue) (wads : List (List ℕ)) (held : List File) (old new : List ℕ → Type 0) (status : Status) → is_some level.files.weapon ≡ false →
+    EndsAt steady (views_to (rendered format) level wads held) old new status → EndsAt steady (level_verdict (Render format) level wads held) old new status
+unarmed_end steady format level wads held old new status none ends =
+    subst (λ b. EndsAt steady (cond b (Err usage) (views_to (rendered format) level wads held)) old new status) (sym none) ends
 
 -- what an exercise comes to, by its delivery
 module _ (steady : Bool) (n : ℕ) (format : Format) (verdict : Result ViewsValue (Stop Refusal)) (old new : List ℕ → Type 0) where

@@ -151,3 +151,19 @@ pub run_room : (words : List (List ℕ)) (command : Option CommandValue) (held :
     IfSome command (λ command. IsFullRun command held wanted widest') → HasRoom words accepted → and_then (else_usage command) (λ command. job_verdict command held) ≡ Ok accepted → ⊥
 run_room words None held accepted wanted widest' are full room e = cc
 run_room words (Some command) held accepted wanted widest' are full room e = over_room words command held accepted are full full.is room e
+
+-- a zone that was full for a job over a level
+pub level_full : {wanted widest' : ℕ} (task : LevelTask) (level : LevelJobValue) (wads : List (List ℕ)) (held : List File) → IsFullLoad level wads held wanted widest' → IsFullRun (level_job task level wads) held wanted widest'
+level_full task level wads held load = record { level = level; wads = wads; held = held; is = inl ((task, refl), refl); full = inl load }
+
+-- for one that draws
+pub render_full : {wanted widest' : ℕ} (format : Format) (level : LevelJobValue) (wads : List (List ℕ)) (held : List File) → IsFullLoad level wads held wanted widest' ⊎ IsFullDraw level wads held wanted widest' →
+    IsFullRun (level_job (Render format) level wads) held wanted widest'
+render_full format level wads held (inl load) = level_full (Render format) level wads held load
+render_full format level wads held (inr draw) = record { level = level; wads = wads; held = held; is = inl ((Render format, refl), refl); full = inr (inl (format, level, wads, refl), draw) }
+
+-- and for an exercise
+pub exercise_full : {wanted widest' : ℕ} (n zone : ℕ) (format : Format) (held : List File) → IsFullLoad (made_level zone) made_wads (made_files n) wanted widest' ⊎ IsFullDraw (made_level zone) made_wads (made_files n) wanted widest' →
+    IsFullRun (exercise n zone format) held wanted widest'
+exercise_full n zone format held (inl load) = record { level = made_level zone; wads = made_wads; held = made_files n; is = inr (n, format, refl, refl, refl, refl); full = inl load }
+exercise_full n zone format held (inr draw) = record { level = made_level zone; wads = made_wads; held = made_files n; is = inr (n, format, refl, refl, refl, refl); full = inr (inr (n, zone, format, refl), draw) }

@@ -62,7 +62,7 @@ fn shelf_of(alloc: Global, level: Vec<MemoryFile>, failing: Vec<u64>) -> Result<
 }
 
 // What is told of a run of the words over a shelf.
-fn told(
+fn run_over(
     alloc: Global,
     words: &str,
     shelf: MemoryShelf,
@@ -81,7 +81,7 @@ fn told(
 }
 
 // The same over the made files of a number, with this path.
-fn told_of(
+fn run_made(
     alloc: Global,
     n: u32,
     path: Vec<u8>,
@@ -91,7 +91,7 @@ fn told_of(
 ) -> Result<Told, Fail> {
     let level = level_files(alloc, n, path)?;
     let shelf = shelf_of(alloc, level, failing)?;
-    told(alloc, words, shelf, faults)
+    run_over(alloc, words, shelf, faults)
 }
 
 #[test]
@@ -153,7 +153,7 @@ fn frames_and_counts_of_made_levels(rt: HostRuntime) -> Result<(), Fail> {
         ),
     ] {
         let path = make_path(alloc, n)?;
-        let seen = told_of(alloc, n, path, words, Vec::new(alloc), Vec::new(alloc))?;
+        let seen = run_made(alloc, n, path, words, Vec::new(alloc), Vec::new(alloc))?;
         let expected = Told {
             status,
             length,
@@ -177,7 +177,7 @@ fn a_path_of_no_view_and_one_on_a_vertex(rt: HostRuntime) -> Result<(), Fail> {
         ),
     ] {
         let path = path.as_bytes().to_vec(alloc)?;
-        let seen = told_of(alloc, 1, path, words, Vec::new(alloc), Vec::new(alloc))?;
+        let seen = run_made(alloc, 1, path, words, Vec::new(alloc), Vec::new(alloc))?;
         let expected = Told {
             status: Status::Done,
             length,
@@ -193,7 +193,7 @@ fn a_call_and_a_put_that_fail_end_a_render(rt: HostRuntime) -> Result<(), Fail> 
     let alloc = rt.alloc();
     let words = "render MAP01 made.wad --tables t --things h --path p";
     let failing = vec![in alloc; 3u64]?;
-    let seen = told_of(
+    let seen = run_made(
         alloc,
         1,
         make_path(alloc, 1)?,
@@ -209,7 +209,7 @@ fn a_call_and_a_put_that_fail_end_a_render(rt: HostRuntime) -> Result<(), Fail> 
     };
     let faults = vec![in alloc; fault]?;
     let path = make_path(alloc, 1)?;
-    let seen = told_of(alloc, 1, path, words, Vec::new(alloc), faults)?;
+    let seen = run_made(alloc, 1, path, words, Vec::new(alloc), faults)?;
     assert_eq!(rt; seen.status, Status::WriteFault);
     assert_eq!(rt; seen.length, 64100);
     Ok(())
@@ -229,7 +229,7 @@ fn an_exercise_tells_what_it_rendered(rt: HostRuntime) -> Result<(), Fail> {
         ),
     ] {
         let shelf = MemoryShelf::new(Vec::new(alloc), Vec::new(alloc));
-        let seen = told(alloc, words, shelf, Vec::new(alloc))?;
+        let seen = run_over(alloc, words, shelf, Vec::new(alloc))?;
         let expected = Told {
             status: Status::Done,
             length: line.len(),

@@ -1,0 +1,20 @@
+use Rattle.std.proofs.Common.{map, refl}
+use Rattle.command_line.specs.LevelJobs.{level_job_value}
+use Rattle.doom_run.proofs.FullLemmas.{level_full, render_full}
+use Rattle.doom_run.proofs.top.perform_level.Goals as goal
+
+pub returns-in-Render-clause-ends : goal.returns-in-Render-clause-ends
+returns-in-Render-clause-ends g c files held =
+    rw c.in-Render.is (c.perform_render.ensures.ends files (λ asked. held (rw c.in-Render.is asked)))
+
+pub returns-in-Render-clause-zone_full : goal.returns-in-Render-clause-zone_full
+returns-in-Render-clause-zone_full g c files wanted widest is held =
+    rw c.in-Render.is (render_full c.in-Render.format (level_job_value c.args.level.now) (map (λ wad. wad.now) c.args.wads.now) files (c.perform_render.ensures.zone_full files wanted widest is (λ asked. held (rw c.in-Render.is asked))))
+
+pub returns-in-Audit-clause-zone_full : goal.returns-in-Audit-clause-zone_full
+returns-in-Audit-clause-zone_full g c files wanted widest is held =
+    level_full c.args.job (level_job_value c.args.level.now) (map (λ wad. wad.now) c.args.wads.now) files (c.perform_audit.ensures.zone_full files wanted widest is (held (rw c.in-Audit.is refl)))
+
+pub returns-in-Limits-clause-zone_full : goal.returns-in-Limits-clause-zone_full
+returns-in-Limits-clause-zone_full g c files wanted widest is held =
+    level_full c.args.job (level_job_value c.args.level.now) (map (λ wad. wad.now) c.args.wads.now) files (c.perform_limits.ensures.zone_full files wanted widest is (held (rw c.in-Limits.is refl)))
