@@ -47,6 +47,6 @@ render() {
     "$doomview" render "$map" ${IWAD:+"$IWAD"} "$wad" --tables "$work/tables.bin" \
         --things "$here/things.csv" --path "$path" --format ppm "$@" >"$out"
     status=$?
-    [ "$status" -ne 1 ] || fail 'doomview has no job render yet, or an option is wrong'
-    [ "$status" -eq 0 ] || fail "doomview drew nothing of $map" "$status"
+    [ "$status" -ne 1 ] || fail 'doomview does not take these options'
+    [ "$status" -eq 0 ] || fail "doomview did not draw $map to the end" "$status"
 }

@@ -23,7 +23,7 @@ COMMANDS = ['sh', 'basename', 'cat', 'dirname', 'env', 'grep', 'mkdir', 'mktemp'
 ROOM = [(-256, 256), (256, 256), (256, -256), (-256, -256)]
 FRAME = b'P6\n320 200\n255\n' + bytes(192000)
 
-# Answers as doomview does without its job render; reads the files of an audit, and refuses MAP02.
+# Reads the files of an audit, and refuses MAP02; takes no words of another job.
 DOOMVIEW = '''#!/bin/sh
 [ "$1" != audit ] || cat "$3" "$5" "$7" "$9" >/dev/null || exit 3
 case "$1 $2" in
@@ -212,13 +212,13 @@ class Examples(unittest.TestCase):
         os.remove(self.at('bin/python3'))
         self.refuses('python3 is not', 'audit_all', self.wad, doomview=doomview)
 
-    def test_waits_for_render(self):
+    def test_wrong_options(self):
         doomview = self.stand_in('doomview', DOOMVIEW)
         self.stand_in('bin/pnmtopng', '#!/bin/sh\n')
         self.stand_in('bin/ffmpeg', '#!/bin/sh\n')
         self.write('path.csv', b'x,y,z,angle\n')
-        self.refuses('no job render', 'picture', self.wad, 'MAP01', 'out.png', doomview=doomview)
-        self.refuses('no job render', 'video', self.wad, 'MAP01', 'path.csv', 'out.mp4', doomview=doomview)
+        self.refuses('does not take', 'picture', self.wad, 'MAP01', 'out.png', doomview=doomview)
+        self.refuses('does not take', 'video', self.wad, 'MAP01', 'path.csv', 'out.mp4', doomview=doomview)
         self.assertFalse(os.path.exists(self.at('out.png')) or os.path.exists(self.at('out.mp4')))
 
     def test_picture(self):
@@ -278,7 +278,7 @@ class Examples(unittest.TestCase):
             self.assertIn(f'| `{entry}', readme)
             with open(os.path.join(HERE, entry)) as file:
                 paths = re.findall(r'(?<![\w.)}])/[a-z][\w/]*', file.read())
-            self.assertLessEqual(set(paths), {'/bin/sh', '/dev/null'}, entry)
+            self.assertLessEqual(set(paths), {'/bin/sh', '/dev/null', '/usr/bin/env'}, entry)
 
     def test_nothing_stays(self):
         """A script leaves no folder of its own behind."""

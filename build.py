@@ -1,0 +1,170 @@
+"""Builds doomview by the command rt, and then runs it with the words given: the script doomview calls it.
+
+All crates that the program stands on are proved, as many side by side as there are processors: `rt all`
+starts a crate once those below it are done. At the end few crates can go on at a time; then each is
+built with all processors. The program gets its place, out/doomview, as the last step, so no half-built
+one is ever run, and a build that was interrupted goes on where it was.
+
+Ends with 70 if the build fails, with 128 and the signal's number if a signal stops it, else with the
+program's status."""
+import fcntl
+import os
+import re
+import shutil
+import signal
+import subprocess
+import sys
+import time
+from collections import Counter
+
+TOP = os.path.dirname(os.path.abspath(__file__))
+PROGRAM = 'doomview'
+BUILT = os.path.join(TOP, 'out', PROGRAM)
+BUILD_FAILED = 70
+CRATE_MEMORY = 2 << 30  # bytes, about what the proof of a crate takes
+SHOWN_LINES = 60  # of what rt said of a crate that failed
+STOPS = (signal.SIGINT, signal.SIGTERM, signal.SIGHUP)
+IGNORED = (signal.SIGPIPE, signal.SIGXFSZ)  # by Python, and not by the program
+
+
+def say(text):
+    print(f'doomview: {text}', file=sys.stderr, flush=True)
+
+
+def fail(text, said=()):
+    sys.stderr.writelines(said[-SHOWN_LINES:])
+    say(text)
+    sys.exit(BUILD_FAILED)
+
+
+def crates_below(name):
+    """The crates that one stands on, each with those it names, lowest first; it is the last."""
+    with open(os.path.join(TOP, 'crates.txt')) as file:
+        lines = [line.partition('#')[0].partition(':') for line in file]
+    named = {head.split()[0]: rest.split() for head, _, rest in lines if head.strip()}
+    found = {}
+
+    def visit(crate):
+        below = [it for it in named[crate] if it in named]
+        for it in below:
+            if it not in found:
+                visit(it)
+        found[crate] = below
+
+    visit(name)
+    return found
+
+
+def count_jobs():
+    """As many as there are processors, and as memory allows."""
+    with open('/proc/meminfo') as file:
+        free = 1024 * int(re.search(r'MemAvailable:\s+(\d+)', file.read())[1])
+    return max(1, min(len(os.sched_getaffinity(0)), free // CRATE_MEMORY))
+
+
+def rt(crate, *words):
+    """A run of rt in a crate's folder, whose lines are read one by one; it ends with this program."""
+    return subprocess.Popen(['rt', *words], cwd=os.path.join(TOP, 'crates', crate), errors='replace',
+                            stdin=subprocess.DEVNULL, stdout=subprocess.PIPE, stderr=subprocess.STDOUT)
+
+
+class Build:
+    def __init__(self, crates, jobs):
+        self.crates, self.jobs, self.done = crates, jobs, []
+        self.run = None
+
+    def finish(self, crate):
+        self.done.append(crate)
+        say(f'crate {len(self.done)} of {len(self.crates)}: {crate}')
+
+    def is_narrow(self, last):
+        """Whether from here on at most half of the processors would have a crate each, and each crate that
+        can go on waited for the last one, so that none has begun."""
+        levels = {}
+        for crate, below in self.crates.items():
+            if crate not in self.done:
+                levels[crate] = 1 + max((levels[it] for it in below if it in levels), default=0)
+        width = max(Counter(levels.values()).values(), default=0)
+        return 2 * width <= self.jobs and all(last in self.crates[it] for it, n in levels.items() if n == 1)
+
+    def side_by_side(self):
+        self.run = rt(PROGRAM, 'all', 'check', '--jobs', str(self.jobs))
+        said = {'': []}
+        crate = ''
+        for line in self.run.stdout:
+            if line.startswith('== '):
+                crate = line.split()[1]
+                if crate in self.crates and crate not in self.done:
+                    self.finish(crate)
+                    if self.is_narrow(crate):
+                        return self.stop()
+            said.setdefault(crate, []).append(line)
+        if self.run.wait():
+            failed = [it.partition(':')[0] for it in said.get('summary', []) if ': failed (' in it]
+            fail('the build failed', [line for it in failed or [''] for line in said.get(it, [])])
+
+    def one_by_one(self):
+        for crate in self.crates:
+            if crate not in self.done and crate != PROGRAM:
+                self.alone(crate, 'lib', '--jobs', str(self.jobs))
+        self.done = [it for it in self.done if it != PROGRAM]
+        self.alone(PROGRAM, 'run', '--jobs', str(self.jobs), '--', 'make', 'things')
+
+    def alone(self, crate, *words):
+        self.run = rt(crate, *words)
+        said = list(self.run.stdout)
+        if self.run.wait():
+            fail(f'the build of {crate} failed', said)
+        self.finish(crate)
+
+    def stop(self):
+        """Ends rt, and with it all that it started."""
+        if self.run and self.run.poll() is None:
+            self.run.terminate()
+            self.run.communicate()
+
+
+def put_in_place(began):
+    """Copies the program to its place at once, as old as the sources that it was built from may be."""
+    part = BUILT + '.part'
+    shutil.copy(os.path.join(TOP, 'crates', PROGRAM, 'out', PROGRAM), part)
+    os.utime(part, (began, began))
+    os.replace(part, BUILT)
+
+
+def build():
+    began = time.time()
+    crates = crates_below(PROGRAM)
+    jobs = count_jobs()
+    say(f'building: {len(crates)} crates are proved, up to {jobs} side by side. The first time one after '
+        'another took over 40 minutes on four processors; side by side it was not measured yet')
+    work = Build(crates, jobs)
+    try:
+        work.side_by_side()
+        work.one_by_one()
+    finally:
+        work.stop()
+    put_in_place(began)
+
+
+def main():
+    for number in STOPS:
+        signal.signal(number, lambda number, _: sys.exit(128 + number))
+    if not shutil.which('rt'):
+        fail('the build needs the command rt')
+    os.makedirs(os.path.dirname(BUILT), exist_ok=True)
+    with open(BUILT + '.lock', 'w') as lock:
+        try:
+            fcntl.flock(lock, fcntl.LOCK_EX | fcntl.LOCK_NB)
+        except BlockingIOError:
+            say('waiting for another build to end')
+            fcntl.flock(lock, fcntl.LOCK_EX)
+            os.execv(os.path.join(TOP, PROGRAM), [PROGRAM, *sys.argv[1:]])
+        build()
+        for number in (*STOPS, *IGNORED):
+            signal.signal(number, signal.SIG_DFL)
+        os.execv(BUILT, [BUILT, *sys.argv[1:]])
+
+
+if __name__ == '__main__':
+    main()
