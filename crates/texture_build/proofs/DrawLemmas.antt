@@ -14,6 +14,7 @@ use Rattle.wad_dir.specs.DirectoryView.{DirectoryView}
 use Rattle.lump_cache.specs.Calls.{HoldContents, IfFull, InOrderAt, IsFullFor}
 use Rattle.lump_cache.proofs.CallLemmas.{cause_later, full_at, order_at, result_above}
 use Rattle.texture_build.specs.Asked.{IsSmall, IsSmallBeside, IsPatch, size_of}
+use Rattle.texture_build.specs.Sources.{IsComposedColumn, column_in}
 use Rattle.texture_build.specs.Views.{TexturesView, prepared_texture}
 use Rattle.texture_build.specs.Draws.{KeepsArt, HoldsArt, IsNoReadFault, IsFullForTexture, DrawsWith}
 
@@ -83,7 +84,8 @@ full_column-earlier {dir = dir} {textures} {x} {y} keeps wider wanted widest k =
         narrow = full.narrow;
         room = λ colormap count rest. subst
             (λ (n : ℕ). IsSmall n count wanted
-            ⊎ (IsPatch dir.lumps (prepared_texture textures k.number) full.owner full.size
+            ⊎ (IsComposedColumn (column_in (prepared_texture textures k.number) k.column)
+            × IsPatch dir.lumps (prepared_texture textures k.number) full.owner full.size
             × IsSmallBeside n count (size_of (prepared_texture textures k.number)) wanted))
             keeps.counts.0 (full.room colormap count (keeps.rest colormap count rest));
       };

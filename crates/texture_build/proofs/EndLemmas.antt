@@ -77,7 +77,7 @@ module _ (lumps : List Lump) (number : ℕ) (t : PreparedTexture) (place : ℕ) 
     asked = inr full.asked;
     wanted_is = full.wanted_is;
     narrow = full.narrow;
-    room = λ colormap count rest. inr (full.asked, subst (λ (n : ℕ). IsSmallBeside n count (size_of t) wanted) begins.counts.0 (full.room colormap count (begins.rest colormap count rest) begins.building));
+    room = λ colormap count rest. inr (tt, full.asked, subst (λ (n : ℕ). IsSmallBeside n count (size_of t) wanted) begins.counts.0 (full.room colormap count (begins.rest colormap count rest) begins.building));
   }
 
   pub ends_full : (begun : Heap) (built : Result (Unit {0}) CacheFault) → StartsComposite number (size_of t) old begun → IfErr built (λ fault. IfFull (cache_fault fault) (IsFullForPatch lumps number t begun)) → IfErr built (λ fault. IfFull (cache_fault fault) (IsFullForColumn lumps number t (Composed place) old))

@@ -13,6 +13,7 @@ use Rattle.art_rules.specs.declared.ColumnLookup.TheVariants.{Empty, Single, Com
 use Rattle.art_rules.specs.Textures.{Texture, TextureLists}
 use Rattle.art_rules.specs.Columns.{composite_size}
 use Rattle.art_rules.specs.Wanted.{PreparedTexture}
+use Rattle.texture_build.specs.Sources.{IsComposedColumn}
 
 -- the lump of a patch's name
 abbrev pub patch_lump : List Lump → List (List ℕ) → TextureEntry → Option ℕ
@@ -58,7 +59,8 @@ abbrev pub IsSmallBeside : ℕ → ℕ → ℕ → ℕ → Type 0
 IsSmallBeside zone colormap composite wanted = zone < block_size colormap + block_size composite
     + 2 * wanted + 2 * MIN_FRAGMENT
 
--- no gap held what a column asked for; where the cache was at rest, the zone is that small
+-- No gap held what a column asked for. Where the cache was at rest, the zone is that small; a patch of a
+-- composed column has to stand beside the composite.
 pub record IsFullForColumn (lumps : List Lump) (number : ℕ) (t : PreparedTexture)
     (lookup : ColumnLookup) (z : Heap) (wanted widest' : ℕ) : Type 0 where
   pub owner : Owner
@@ -68,7 +70,7 @@ pub record IsFullForColumn (lumps : List Lump) (number : ℕ) (t : PreparedTextu
   pub narrow : widest' < wanted
   pub room : (colormap count : ℕ) → IsAtRest colormap count z →
       IsSmall z.size count wanted ⊎
-      (IsPatch lumps t owner size × IsSmallBeside z.size count (size_of t) wanted)
+      (IsComposedColumn lookup × IsPatch lumps t owner size × IsSmallBeside z.size count (size_of t) wanted)
 
 -- a list has all that a column asks for
 abbrev pub HasColumnAsked : List Item → List Lump → ℕ → PreparedTexture → ColumnLookup → Type 0
