@@ -1,5 +1,5 @@
 -- A zone that is full while a scene is drawn: for which block, and how small it is.
-use Rattle.std.proofs.Common.{◌≡◌, ◌≢◌, ℕ, zero, suc, ◌+◌, ◌*◌, ◌<◌, ◌≤◌, Bool, true, false, ℤ, List, [], ◌∷◌, ◌++◌, length, get_or, Option, Some, None, Result, Ok, refl, sym, ap, subst, ◌∙◌, arith, inl, inr, eq-eqb}
+use Rattle.std.proofs.Common.{◌≡◌, ◌≢◌, ℕ, zero, suc, ◌+◌, ◌*◌, ◌<◌, ◌≤◌, Bool, true, false, List, [], ◌∷◌, ◌++◌, length, Option, Some, None, Ok, refl, sym, ap, subst, ◌∙◌, arith, inl, inr, eq-eqb}
 use Rattle.std.specs.Prelude.{◌⊎◌, ◌||◌, ◌==◌, cond, All, Contains, IsSome, slice_index_or, nat_lt, filter, take, unwrap_or}
 use Rattle.std.specs.List.{list_any, range_with_len}
 use Rattle.std.proofs.lemmas.Bool.{cases_lt, false≢true}
@@ -11,23 +11,22 @@ use Rattle.outside.specs.Shelf.{File}
 use Rattle.outside.specs.Faults.{from_below}
 use Rattle.lump_rules.specs.declared.wad.Lump.{Lump}
 use Rattle.lump_rules.specs.Contents.{lump_bytes}
-use Rattle.lump_rules.specs.Lookups.{last_of, lump_at}
+use Rattle.lump_rules.specs.Lookups.{lump_at}
 use Rattle.zone_rules.specs.declared.TheConstants.{MIN_FRAGMENT}
-use Rattle.zone_rules.specs.Zones.{Heap, Owner, block_size}
-use Rattle.lump_cache.specs.Caches.{IsAtRest, lump_owner}
+use Rattle.zone_rules.specs.Zones.{Owner, block_size}
 use Rattle.lump_cache.specs.Calls.{IsFullFor}
 use Rattle.art_rules.specs.declared.ColumnLookup.{ColumnLookup}
-use Rattle.art_rules.specs.declared.ColumnLookup.TheVariants.{Empty, Single, Composed}
+use Rattle.art_rules.specs.declared.ColumnLookup.TheVariants.{Empty}
 use Rattle.art_rules.specs.declared.PlacedPatch.{PlacedPatch}
 use Rattle.art_rules.specs.Books.{book_lumps}
 use Rattle.art_rules.specs.Columns.{composed_columns, composed_count, composite_place, composite_size, is_composed, patches_in, stands_in}
 use Rattle.art_rules.specs.Lookups.{column_lookup, lookup_of}
 use Rattle.art_rules.specs.Wanted.{PreparedTexture, is_patch_of, is_patch_of_any}
 use Rattle.art_rules.proofs.LookupLemmas.{column_lookups-read}
-use Rattle.texture_build.specs.Asked.{IsAskedByColumn, IsFullForColumn, IsPatch, IsSmall, IsSmallBeside, size_of}
+use Rattle.texture_build.specs.Asked.{IsAskedByColumn, IsPatch, IsSmall, IsSmallBeside, size_of}
 use Rattle.texture_build.specs.Draws.{IsFullForTexture}
 use Rattle.texture_build.specs.Sources.{IsComposedColumn, column_in, column_index, own_lookup}
-use Rattle.texture_build.specs.Views.{AreTexturesOf, IsPrepared, TexturesView, prepared_at, prepared_texture, unprepared}
+use Rattle.texture_build.specs.Views.{AreTexturesOf, IsPrepared, prepared_at, prepared_texture, unprepared}
 use Rattle.texture_build.proofs.TexelLemmas.{prepared_is}
 use Rattle.texture_build.proofs.ViewLemmas.{HasColumns, textures_columns}
 use Rattle.command_line.specs.LevelJobs.{LevelJobValue}
@@ -35,7 +34,7 @@ use Rattle.scene_rules.specs.declared.TheConstants.{PALETTE_SIZE}
 use Rattle.scene_rules.specs.declared.refusal.AuditRefusal.TheVariants.{Art, Map, Texture}
 use Rattle.scene_rules.specs.Scenes.{LevelBase, SceneValue, base_in, base_over, colormap_of, level_in, lists_in, playpal_of, scene_in}
 use Rattle.scene_rules.specs.Sides.{is_wanted_texture}
-use Rattle.scene_rules.specs.Sizes.{SceneArt, block_or_none, composite_block, enough, greatest_by, has_flat, is_needed, lump_block, needed_lumps, zone_sizes}
+use Rattle.scene_rules.specs.Sizes.{block_or_none, composite_block, enough, greatest_by, has_flat, is_needed, lump_block, needed_lumps, zone_sizes}
 use Rattle.level_audit.specs.Sound.{art_with, textures_view}
 use Rattle.level_audit.proofs.MarkLemmas.{any_passed}
 use Rattle.level_audit.proofs.MemberLemmas.{among_cases, among_none, any_among}
@@ -49,7 +48,7 @@ use Rattle.scene_load.specs.Loads.{LoadedValue, load_in, loaded_pictures, loaded
 use Rattle.scene_load.proofs.AuditedLemmas.{audited_by}
 use Rattle.scene_load.proofs.LoadLemmas.{audited_of}
 use Rattle.doom_run.specs.declared.render.ReadyViews.{ReadyViews}
-use Rattle.doom_run.specs.Fulls.{IsDrawnBlock, IsFullDraw, IsPatchBeside}
+use Rattle.doom_run.specs.Fulls.{IsFullDraw}
 use Rattle.doom_run.specs.Renders.{IsFullReady, IsFullView, IsReady}
 use Rattle.doom_run.proofs.RowLemmas.{textures_rows}
 

@@ -1,5 +1,5 @@
 -- What a status says of a run, by what its steps gave.
-use Rattle.std.proofs.Common.{◌≡◌, ◌⊎◌, inl, inr, ℕ, Bool, true, false, IsTrue, List, [], Option, Some, None, Result, Ok, Err, cond, refl, sym, ap, subst, ◌∙◌}
+use Rattle.std.proofs.Common.{◌≡◌, ℕ, Bool, false, IsTrue, List, [], Option, Some, None, Result, Ok, Err, cond, refl, sym, ap, subst, ◌∙◌}
 use Rattle.std.specs.Prelude.{MatchResult, is_some, is_none, option_map, unwrap_or}
 use Rattle.outside.specs.Sink.{Grew, GrewByPrefix}
 use Rattle.outside.specs.Shelf.{File}
@@ -10,7 +10,6 @@ use Rattle.outside.specs.declared.fault.Fault.{Fault}
 use Rattle.outside.specs.declared.fault.Fault.TheVariants as fault
 use Rattle.outside.proofs.StopLemmas.{stops_all}
 use Rattle.outside.proofs.WriteLemmas.{prefix_of_none}
-use Rattle.lump_cache.specs.Calls.{IfFull}
 use Rattle.lump_rules.specs.Contents.{lump_bytes}
 use Rattle.command_line.specs.declared.command.Format.{Format}
 use Rattle.command_line.specs.declared.command.LevelTask.TheVariants.{Limits, Render}
@@ -20,17 +19,15 @@ use Rattle.level_audit.proofs.SceneLemmas.{and_then-ok}
 use Rattle.scene_load.specs.Files.{files_in, files_named}
 use Rattle.scene_load.specs.Loads.{LoadedValue, load_in, loaded_value, wad_bytes, wad_contents}
 use Rattle.scene_load.proofs.AcceptedLemmas.{wads_accepted}
-use Rattle.scene_load.proofs.AuditedLemmas.{audited_by}
-use Rattle.scene_load.proofs.LoadLemmas.{audited_of}
 use Rattle.doom_run.specs.declared.render.ReadyViews.{ReadyViews}
 use Rattle.doom_run.specs.declared.status.Status.{Status}
 use Rattle.doom_run.specs.declared.status.Status.TheVariants.{Done, Usage, Refused, ReadFault, WriteFault, Limit, ZoneFull, OutOfMemory}
 use Rattle.doom_run.specs.Ends.{DeliversAt, EndsAt, IsReadOrFull, IsUnwritten, RendersAt, StopsWith, status_of}
-use Rattle.doom_run.specs.Exercises.{DeliversLine, IsExercised, StopsAt, exercised_bytes}
+use Rattle.doom_run.specs.Exercises.{DeliversLine, IsExercised, StopsAt}
 use Rattle.doom_run.specs.Renders.{IsDelivered, IsReady, ready_views}
 use Rattle.doom_run.specs.Steps.{RunStop, at_step, usage}
 use Rattle.doom_run.specs.Verdict.{Accepted, counted, exercised, level_verdict, output, rendered}
-use Rattle.doom_run.specs.Views.{ViewsValue, limits_in, views_of, views_verdict}
+use Rattle.doom_run.specs.Views.{ViewsValue, views_of, views_verdict}
 
 -- where nothing was written a run may stop, whatever its verdict
 pub none_stops : (verdict : Result Accepted RunStop) (old new : List ℕ → Type 0) → Grew old new [] → StopsWith verdict old new

@@ -15,7 +15,7 @@ use Rattle.level_audit.proofs.SceneLemmas.{same_value}
 use Rattle.scene_load.specs.Fulls.{IsFullLoad}
 use Rattle.scene_load.specs.Loads.{LoadedValue, load_in, loaded_sizes, wad_bytes}
 use Rattle.doom_run.specs.Exercises.{made_files, made_level, made_wads}
-use Rattle.doom_run.specs.Fulls.{Draws, HasRoom, IsFullDraw, IsFullRun, IsOver}
+use Rattle.doom_run.specs.Fulls.{HasRoom, IsFullDraw, IsFullRun, IsOver}
 use Rattle.doom_run.specs.Steps.{RunStop, absent, at_step, else_usage, usage}
 use Rattle.doom_run.specs.Verdict.{Accepted, audited, counted, enough_for, exercised, job_verdict, level_verdict, rendered}
 use Rattle.doom_run.specs.Views.{ViewsValue, views_of}
@@ -132,7 +132,8 @@ no_smaller : (zone enough due : ℕ) → zone < enough → due ≡ enough → du
 no_smaller zone enough due small same room = omega (arith, small, same, room)
 
 -- a zone that is large enough for what is accepted is not full
-over_room : {wanted widest' : ℕ} (words : List (List ℕ)) (command : CommandValue) (held : List File) (accepted : Accepted) → command_of words ≡ Some command → (full : IsFullRun command held wanted widest') → IsOver command held full.level full.wads full.held → HasRoom words accepted → job_verdict command held ≡ Ok accepted → ⊥
+over_room : {wanted widest' : ℕ} (words : List (List ℕ)) (command : CommandValue) (held : List File) (accepted : Accepted) →
+    command_of words ≡ Some command → (full : IsFullRun command held wanted widest') → IsOver command held full.level full.wads full.held → HasRoom words accepted → job_verdict command held ≡ Ok accepted → ⊥
 over_room words command held accepted are full (inl over) room e =
     let h : level_verdict over.0.0 full.level full.wads held ≡ Ok accepted = subst (λ (c : CommandValue). job_verdict c held ≡ Ok accepted) over.0.1 e in
     let p : (loaded : LoadedValue) × (load_in full.level full.wads held ≡ Ok loaded) × (enough_for accepted ≡ (loaded_sizes loaded).enough) = level_loaded full.level full.wads held over.0.0 accepted h in

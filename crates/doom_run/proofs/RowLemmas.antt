@@ -1,10 +1,9 @@
 -- Each texture of accepted lists has a row, and so has what is prepared of it.
-use Rattle.std.proofs.Common.{◌≡◌, ℕ, zero, suc, ◌+◌, ◌<◌, Bool, true, false, cond, List, [], ◌∷◌, ◌++◌, length, Option, Some, None, Result, Ok, Err, refl, sym, subst, ap, ◌∙◌, arith, option_map}
+use Rattle.std.proofs.Common.{◌≡◌, ℕ, zero, suc, ◌+◌, ◌<◌, Bool, true, false, cond, List, [], ◌∷◌, ◌++◌, Option, Some, None, Result, Ok, Err, refl, sym, subst, ap, ◌∙◌, arith, option_map}
 use Rattle.std.specs.Prelude.{All, ◌||◌, nat_lt, pos, int_lt}
 use Rattle.std.specs.Int.{w16, cast_signed}
 use Rattle.std.proofs.lemmas.Bool.{false≢true}
 use Rattle.std.proofs.lemmas.List.Elements.{All-append, All-from_get_or, All-head, All-nil, All-tail}
-use Rattle.outside.specs.Faults.{and_then}
 use Rattle.word_rules.specs.Least.{or_else}
 use Rattle.word_rules.proofs.LeastLemmas.{none-below}
 use Rattle.word_rules.proofs.ListedLemmas.{get_or-listed, length-listed}
@@ -135,7 +134,9 @@ module _ (prepare : ℕ → Texture → Result PreparedTexture TexRefusal) (want
       let b = and_then-ok (prepared_from prepare wanted (suc n) ts) _ out a.2 in
       let o : a.0 ∷ b.0 ≡ out = cc in
       go k a.0 b.0 (λ m rest later. high_from (suc n) m ts b.0 t (All-tail is_tall x ts high) rest later) a.1 b.1 (ap (λ (xs : List (Option PreparedTexture)). prepared_at xs k) o ∙ is) where
-        go : (k : ℕ) (first : Option PreparedTexture) (others : List (Option PreparedTexture)) → ((m : ℕ) → prepared_from prepare wanted (suc n) ts ≡ Ok others → prepared_at others m ≡ Some t → has_row t) → prepared_if (wanted n) (prepare n x) ≡ Ok first → prepared_from prepare wanted (suc n) ts ≡ Ok others → prepared_at (first ∷ others) k ≡ Some t → has_row t
+        go : (k : ℕ) (first : Option PreparedTexture) (others : List (Option PreparedTexture)) →
+            ((m : ℕ) → prepared_from prepare wanted (suc n) ts ≡ Ok others → prepared_at others m ≡ Some t → has_row t) →
+            prepared_if (wanted n) (prepare n x) ≡ Ok first → prepared_from prepare wanted (suc n) ts ≡ Ok others → prepared_at (first ∷ others) k ≡ Some t → has_row t
         go zero first others below one rest here = high_one (wanted n) n x t (All-head is_tall x ts high) (one ∙ ap Ok here)
         go (suc k) first others below one rest later = below k rest later
 

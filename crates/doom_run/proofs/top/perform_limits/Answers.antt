@@ -1,4 +1,4 @@
-use Rattle.std.proofs.Common.{List, [], map, ◌∙◌, sym, subst}
+use Rattle.std.proofs.Common.{[], map, ◌∙◌, sym, subst}
 use Rattle.command_line.specs.LevelJobs.{level_job_value}
 use Rattle.scene_load.specs.Fulls.{IsFullLoad}
 use Rattle.doom_run.specs.declared.status.Status.{Status}

@@ -1,4 +1,4 @@
-use Rattle.std.proofs.Common.{◌≡◌, Bor, Bool, false, List, ℕ, map, ◌∙◌, sym, inl, inr}
+use Rattle.std.proofs.Common.{◌≡◌, Bor, false, List, ℕ, map, ◌∙◌, sym, inl, inr}
 use Rattle.std.specs.Prelude.{is_some}
 use Rattle.command_line.specs.LevelJobs.{level_job_value}
 use Rattle.scene_load.specs.Fulls.{IsFullLoad}
