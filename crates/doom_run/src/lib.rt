@@ -2,14 +2,16 @@
 //!
 //! A run has a command, which its words give (`command_line`). Each job has two halves:
 //! `prepare_..` reads and checks all that it needs and takes all memory, `deliver_..` writes. So
-//! nothing is written before the first step that can refuse has passed.
+//! nothing is written before the last step that can refuse has passed. `render` alone reads on while
+//! it writes: each frame goes out as it is drawn.
 //!
 //! Rules: specs, Words (whether the words ask for files), Flats (the picture of a flat), Audits (how
-//! large a zone has to be for a level), Made (the bytes of a made file), Steps (where a run stops),
-//! Verdict (what a run comes to, and its output), Ends (what a status says), Fulls (when a zone is
-//! full), Lines (what is noted). Proved: what `run` writes, each status and its cause, and the line
-//! for each status. Tested only: that memory is found. The original: none; `D_DoomMain`, d_main.c,
-//! stands in its place there.
+//! large a zone has to be for a level), Views (the frames and the counts of a path, and the first
+//! view over a limit), Exercises (the made files, rendered), Made (the bytes of a made file), Steps
+//! (where a run stops), Verdict (what a run comes to, and its output), Ends (what a status says),
+//! Fulls (when a zone is full), Lines (what is noted). Proved: what `run` writes, each status and its
+//! cause, and the line for each status. Tested only: that memory is found. The original: none;
+//! `D_DoomMain`, d_main.c, stands in its place there.
 #![tactic(auto)]
 
 mod audit;
