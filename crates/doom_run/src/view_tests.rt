@@ -43,9 +43,33 @@ fn words_of(alloc: Global, text: &str) -> Result<Vec<String>, AllocError> {
     Ok(words)
 }
 
+// The made WAD of a number.
+fn wad_of(alloc: Global, n: u32) -> Result<MemoryFile, Fail> {
+    if n < 1 || n > 32 {
+        return Err("a number of made files".into());
+    }
+    Ok(file_of(alloc, "made.wad", make_wad(alloc, n)?)?)
+}
+
+// The made path of a number.
+fn path_of(alloc: Global, n: u32) -> Result<Vec<u8>, Fail> {
+    if n < 1 || n > 32 {
+        return Err("a number of made files".into());
+    }
+    Ok(make_path(alloc, n)?)
+}
+
+fn tables_of(alloc: Global) -> Result<MemoryFile, Fail> {
+    Ok(file_of(alloc, "t", make_tables(alloc)?)?)
+}
+
+fn things_of(alloc: Global) -> Result<MemoryFile, Fail> {
+    Ok(file_of(alloc, "h", make_things(alloc)?)?)
+}
+
 // The WAD and the path of a made level, as two files.
 fn level_files(alloc: Global, n: u32, path: Vec<u8>) -> Result<Vec<MemoryFile>, Fail> {
-    let wad = file_of(alloc, "made.wad", make_wad(alloc, n)?)?;
+    let wad = wad_of(alloc, n)?;
     let path = file_of(alloc, "p", path)?;
     Ok(vec![in alloc; wad, path]?)
 }
@@ -53,8 +77,8 @@ fn level_files(alloc: Global, n: u32, path: Vec<u8>) -> Result<Vec<MemoryFile>, 
 // A shelf of these two with the tables and the things, whose calls of these numbers fail.
 fn shelf_of(alloc: Global, level: Vec<MemoryFile>, failing: Vec<u64>) -> Result<MemoryShelf, Fail> {
     let mut files = level;
-    files.push(file_of(alloc, "t", make_tables(alloc)?)?)?;
-    files.push(file_of(alloc, "h", make_things(alloc)?)?)?;
+    files.push(tables_of(alloc)?)?;
+    files.push(things_of(alloc)?)?;
     if files.len() > 4 {
         return Err("four files".into());
     }
@@ -152,7 +176,7 @@ fn frames_and_counts_of_made_levels(rt: HostRuntime) -> Result<(), Fail> {
             NOTHING,
         ),
     ] {
-        let path = make_path(alloc, n)?;
+        let path = path_of(alloc, n)?;
         let seen = run_made(alloc, n, path, words, Vec::new(alloc), Vec::new(alloc))?;
         let expected = Told {
             status,
@@ -196,7 +220,7 @@ fn a_call_and_a_put_that_fail_end_a_render(rt: HostRuntime) -> Result<(), Fail> 
     let seen = run_made(
         alloc,
         1,
-        make_path(alloc, 1)?,
+        path_of(alloc, 1)?,
         words,
         failing,
         Vec::new(alloc),
@@ -208,7 +232,7 @@ fn a_call_and_a_put_that_fail_end_a_render(rt: HostRuntime) -> Result<(), Fail> 
         passed: 100,
     };
     let faults = vec![in alloc; fault]?;
-    let path = make_path(alloc, 1)?;
+    let path = path_of(alloc, 1)?;
     let seen = run_made(alloc, 1, path, words, Vec::new(alloc), faults)?;
     assert_eq!(rt; seen.status, Status::WriteFault);
     assert_eq!(rt; seen.length, 64100);
