@@ -13,6 +13,7 @@ use Rattle.lump_cache.specs.Caches.{KeepsCounts}
 use Rattle.lump_cache.specs.Calls.{IsFullFor}
 use Rattle.scene_rules.specs.Scenes.{SceneValue}
 use Rattle.texture_build.specs.Asked.{IsPatch, IsSmall, IsSmallBeside, size_of}
+use Rattle.texture_build.specs.Sources.{IsComposedColumn, column_in}
 use Rattle.texture_build.specs.Views.{TexturesView, prepared_texture}
 use Rattle.texture_build.specs.Draws.{HoldsArt, IsFullForTexture, KeepsArt}
 use Rattle.texture_build.proofs.DrawLemmas.{holds_art-later, keeps_art-none, keeps_art-then}
@@ -111,7 +112,8 @@ full_texture-first {dir = dir} {textures} wanted widest keeps full = record {
     narrow = full.full.narrow;
     room = λ colormap count rest. subst
         (λ (n : ℕ). IsSmall n count wanted
-        ⊎ (IsPatch dir.lumps (prepared_texture textures full.number) full.full.owner full.full.size
+        ⊎ (IsComposedColumn (column_in (prepared_texture textures full.number) full.column)
+        × IsPatch dir.lumps (prepared_texture textures full.number) full.full.owner full.full.size
         × IsSmallBeside n count (size_of (prepared_texture textures full.number)) wanted))
         keeps.counts.0 (full.full.room colormap count (keeps.rest colormap count rest));
   };
