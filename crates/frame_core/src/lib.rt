@@ -16,6 +16,8 @@ mod keys;
 mod masks;
 mod painter;
 #[cfg(test)]
+mod shelf_tests;
+#[cfg(test)]
 mod test_levels;
 #[cfg(test)]
 mod tests;

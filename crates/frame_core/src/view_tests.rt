@@ -20,11 +20,11 @@ use std::test::Fail;
 use view_rules::{Eye, MAX_SIZE};
 use wad_dir::Directory;
 
-const ZONE: u32 = 6_291_456;
+pub(crate) const ZONE: u32 = 6_291_456;
 
-const COMPOSITE_SLOTS: u32 = 32767;
+pub(crate) const COMPOSITE_SLOTS: u32 = 32767;
 
-const LIMITS: Limits = Limits {
+pub(crate) const LIMITS: Limits = Limits {
     planes: 128,
     openings: 20480,
 };
@@ -40,15 +40,15 @@ const EYE: Eye = Eye {
 
 // A scene, and what it is drawn from.
 #[derive(Drop)]
-struct Assets {
-    dir: Directory,
-    cache: LumpCache,
-    shelf: MemoryShelf,
-    scene: SoundScene,
+pub(crate) struct Assets {
+    pub(crate) dir: Directory,
+    pub(crate) cache: LumpCache,
+    pub(crate) shelf: MemoryShelf,
+    pub(crate) scene: SoundScene,
 }
 
 // A shelf of the made WAD and a WAD with a level.
-fn shelf_of(alloc: Global, made: Vec<u8>, level: Vec<u8>) -> Result<MemoryShelf, Fail> {
+pub(crate) fn shelf_of(alloc: Global, made: Vec<u8>, level: Vec<u8>) -> Result<MemoryShelf, Fail> {
     let made = MemoryFile {
         name: "made.wad".to_string(alloc)?,
         bytes: made,
@@ -62,7 +62,7 @@ fn shelf_of(alloc: Global, made: Vec<u8>, level: Vec<u8>) -> Result<MemoryShelf,
 }
 
 // The scene of a map over a shelf.
-fn load_assets(alloc: Global, shelf: MemoryShelf, map: &str) -> Result<Assets, Fail>
+pub(crate) fn load_assets(alloc: Global, shelf: MemoryShelf, map: &str) -> Result<Assets, Fail>
     ensures { IfOk result (λ a. CanDrawView a.dir.lumps a.scene.scene a.cache) }
 {
     let mut shelf = shelf;
@@ -85,7 +85,7 @@ fn load_assets(alloc: Global, shelf: MemoryShelf, map: &str) -> Result<Assets, F
 }
 
 // Draws a view in the workshop.
-fn draw(
+pub(crate) fn draw(
     assets: &mut Assets,
     tables: &Tables,
     shop: &mut Workshop,
@@ -105,7 +105,7 @@ fn draw(
     )
 }
 
-fn sum_of(bytes: &[u8]) -> u64 {
+pub(crate) fn sum_of(bytes: &[u8]) -> u64 {
     let mut sum = 0xcbf2_9ce4_8422_2325u64;
     for byte in bytes {
         sum = (sum ^ *byte as u64).wrapping_mul(0x100_0000_01b3);
