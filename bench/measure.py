@@ -1,7 +1,7 @@
 #!/usr/bin/env python3
 """Measures the processor time of a view, and prints a table.
 
-measure.py PROGRAM                              exercise 1, 4, 16 and 32
+measure.py PROGRAM                              exercise 1, 4, 16 and 32, and render over the same files
 measure.py PROGRAM WAD MAP.. [--beside OTHER]   render of a map's places, each 60 times over
 
 PROGRAM and OTHER take doomview's words. The time of a view is the processor time of a long run less that
@@ -17,6 +17,7 @@ TOP = os.path.dirname(os.path.dirname(os.path.abspath(__file__)))
 NUMBERS = (1, 4, 16, 32)
 VIEWS_PER_NUMBER = 3
 TIMES = 60
+MADE_VIEWS = 4000
 RUNS = 5
 
 
@@ -34,11 +35,30 @@ def seconds(words):
     return least
 
 
+def made_files(folder, program, number):
+    """The files of `exercise`, as words of `render`, and its path once and many times over."""
+    for what, words in (('wad', [str(number)]), ('path', [str(number)]), ('things', []), ('tables', [])):
+        with open(os.path.join(folder, what), 'wb') as file:
+            subprocess.run([program, 'make', what, *words], stdout=file, check=True)
+    head, *rows = open(os.path.join(folder, 'path')).read().splitlines()
+    times = MADE_VIEWS // len(rows)
+    with open(os.path.join(folder, 'long'), 'w') as file:
+        file.write('\n'.join([head, *(rows * times), '']))
+    words = [program, 'render', 'MAP01', os.path.join(folder, 'wad'), '--tables', os.path.join(folder, 'tables'),
+             '--things', os.path.join(folder, 'things'), '--path']
+    return words, len(rows) * (times - 1)
+
+
 def exercises(program):
-    print('| exercise | views | microseconds a view, all else with it |\n|---|---|---|')
+    print('Microseconds a view of `exercise`, with all else that the job does, and of `render` over the same files:\n')
+    print('| Number | Views | exercise | render |\n|---|---|---|---|')
     for number in NUMBERS:
         views = VIEWS_PER_NUMBER * number
-        print(f'| {number} | {views} | {1e6 * seconds([program, "exercise", str(number)]) / views:.0f} |')
+        whole = 1e6 * seconds([program, 'exercise', str(number)]) / views
+        with tempfile.TemporaryDirectory() as folder:
+            words, more = made_files(folder, program, number)
+            alone = seconds([*words, os.path.join(folder, 'long')]) - seconds([*words, os.path.join(folder, 'path')])
+        print(f'| {number} | {views} | {whole:.0f} | {1e6 * alone / more:.0f} |')
 
 
 def made(folder, name, script, *words):
