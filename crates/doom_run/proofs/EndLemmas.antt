@@ -22,7 +22,7 @@ use Rattle.scene_load.proofs.AcceptedLemmas.{wads_accepted}
 use Rattle.doom_run.specs.declared.render.ReadyViews.{ReadyViews}
 use Rattle.doom_run.specs.declared.status.Status.{Status}
 use Rattle.doom_run.specs.declared.status.Status.TheVariants.{Done, Usage, Refused, ReadFault, WriteFault, Limit, ZoneFull, OutOfMemory}
-use Rattle.doom_run.specs.Ends.{DeliversAt, EndsAt, IsReadOrFull, IsUnwritten, RendersAt, StopsWith, status_of}
+use Rattle.doom_run.specs.Ends.{DeliversAt, EndsAt, IfEnded, IsEnd, IsReadOrFull, IsUnwritten, RendersAt, StopsWith, status_of}
 use Rattle.doom_run.specs.Exercises.{DeliversLine, IsExercised, StopsAt}
 use Rattle.doom_run.specs.Renders.{IsDelivered, IsReady, ready_views}
 use Rattle.doom_run.specs.Steps.{RunStop, at_step, usage}
@@ -166,6 +166,18 @@ frames_more WriteFault d is = is
 frames_more (Limit view kind count) d is = is
 frames_more (ZoneFull wanted widest) d is = is
 frames_more OutOfMemory d is = d
+
+-- nor does a fault
+pub fault_no_end : (stop : Fault Refusal) → IsEnd (status_of stop) → ⊥
+fault_no_end (fault.Refused refusal) end = end
+fault_no_end fault.ReadFault end = end
+fault_no_end (fault.ZoneFull wanted widest) end = end
+fault_no_end fault.OutOfMemory end = end
+
+-- what follows of an exercise that ended
+pub ended_more : {A : Type 0} {P Q : Type 0} (result : Result A Status) → (P → Q) → IfEnded result P → IfEnded result Q
+ended_more (Ok summary) f p = f p
+ended_more (Err status) f p = λ end. f (p end)
 
 -- a weapon is named where one is given
 pub same_weapon : {X Y : Type 0} (f : X → Y) (weapon : Option X) → is_some (option_map f weapon) ≡ is_some weapon

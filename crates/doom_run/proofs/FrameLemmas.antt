@@ -43,7 +43,7 @@ mapped_twice f g None y e = absurd (cc)
 mapped_twice f g (Some x) y e = ap (option_map g) e
 
 -- the view of a number is that of its viewpoint
-view_get : (bytes : ℕ → List ℕ) (ready : ReadyViews) (k : ℕ) (eye : Eye) → option_map eye_of (slice_get ready.loaded.files.path k) ≡ Some eye →
+pub view_get : (bytes : ℕ → List ℕ) (ready : ReadyViews) (k : ℕ) (eye : Eye) → option_map eye_of (slice_get ready.loaded.files.path k) ≡ Some eye →
     slice_get (ready_views bytes ready).views k ≡ Some (view_of ready.loaded.files.tables eye)
 unfolding ready_views
 view_get bytes ready k eye e =
@@ -153,12 +153,12 @@ rendered-more {format} {r} {n} {old} {mid} {new} steady result unit so_far below
     }
 
 -- no view is over
-none_over : (r : ViewsValue) → ((k : ℕ) → k < length r.views → over_at r k ≡ None) → first_over r ≡ None
+pub none_over : (r : ViewsValue) → ((k : ℕ) → k < length r.views → over_at r k ≡ None) → first_over r ≡ None
 unfolding first_over
 none_over r within = least-none (λ k. is_some (over_at r k)) (length r.views) (λ k below. ap (λ (o : Option OverLimit). is_some o) (within k below))
 
 -- the first that is over
-some_over : (r : ViewsValue) (n : ℕ) (over : OverLimit) → n < length r.views → ((k : ℕ) → k < n → over_at r k ≡ None) → over_at r n ≡ Some over → first_over r ≡ Some n
+pub some_over : (r : ViewsValue) (n : ℕ) (over : OverLimit) → n < length r.views → ((k : ℕ) → k < n → over_at r k ≡ None) → over_at r n ≡ Some over → first_over r ≡ Some n
 unfolding first_over
 some_over r n over below within is =
     least-some (λ k. is_some (over_at r k)) (length r.views) n below (ap (λ (o : Option OverLimit). is_some o) is) (λ k b. ap (λ (o : Option OverLimit). is_some o) (within k b))

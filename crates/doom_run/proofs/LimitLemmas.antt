@@ -18,7 +18,7 @@ use Rattle.scene_load.specs.declared.load.LoadedScene.{LoadedScene}
 use Rattle.frame_core.specs.Scenes.{scene_of}
 use Rattle.doom_run.specs.declared.render.ReadyViews.{ReadyViews}
 use Rattle.doom_run.specs.Renders.{ready_views}
-use Rattle.doom_run.specs.Views.{ViewsValue, counted_bytes, counts_line, eye_of, first_lines, line_at, over_line, view_line}
+use Rattle.doom_run.specs.Views.{ViewsValue, counted_bytes, counts_line, eye_of, first_lines, view_line_at, over_line, view_line}
 
 -- before the first view there is no line
 pub lines_none : (r : ViewsValue) → [] ≡ first_lines r 0
@@ -26,10 +26,10 @@ unfolding first_lines listed joined_lists
 lines_none r = refl
 
 -- one view more has its line more
-pub lines_more : (r : ViewsValue) (n : ℕ) → first_lines r n ++ line_at r n (slice_get r.views n) ≡ first_lines r (n + 1)
+pub lines_more : (r : ViewsValue) (n : ℕ) → first_lines r n ++ view_line_at r n (slice_get r.views n) ≡ first_lines r (n + 1)
 unfolding first_lines joined_lists
 lines_more r n =
-    let f : ℕ → List ℕ = λ k. line_at r k (slice_get r.views k) in
+    let f : ℕ → List ℕ = λ k. view_line_at r k (slice_get r.views k) in
     ap (λ (xs : List ℕ). joined_lists f (listed (λ k. k) n) ++ xs) (sym (append-nil (f n)) ∙ sym (joined_lists-cons f n []))
     ∙ sym (joined_lists-append f (listed (λ k. k) n) (n ∷ []))
     ∙ ap (joined_lists f) (sym (listed-more (λ k. k) n))
@@ -39,7 +39,7 @@ pub lines_begin : (r : ViewsValue) (n m : ℕ) → (rest : List ℕ) × (first_l
 lines_begin r n zero = let e : n ≡ n + zero = omega arith in ([], append-nil (first_lines r n) ∙ ap (first_lines r) e)
 lines_begin r n (suc m) =
     let p : (rest : List ℕ) × (first_lines r n ++ rest ≡ first_lines r (n + m)) = lines_begin r n m in
-    let line : List ℕ = line_at r (n + m) (slice_get r.views (n + m)) in
+    let line : List ℕ = view_line_at r (n + m) (slice_get r.views (n + m)) in
     let e : n + m + 1 ≡ n + suc m = omega arith in
     (p.0 ++ line, sym (append_assoc (first_lines r n) p.0 line) ∙ ap (λ (xs : List ℕ). xs ++ line) p.1 ∙ lines_more r (n + m) ∙ ap (first_lines r) e)
 
@@ -63,14 +63,14 @@ none_written {E} r a i = subst (λ (xs : List ℕ). Writes {E = E} a a i i xs (O
 
 -- the first lines were written, and then that of the next view
 pub more_written : {E F : Type 0} {a b c : List ℕ → Type 0} {i j k : ℕ} {last : Result (Unit {0}) F} (r now : ViewsValue) (n : ℕ) → now ≡ r →
-    Writes {E = E} a b i j (first_lines r n) (Ok tt) → Writes b c j k (line_at now n (slice_get now.views n)) last → Writes a c i k (first_lines r (n + 1)) last
+    Writes {E = E} a b i j (first_lines r n) (Ok tt) → Writes b c j k (view_line_at now n (slice_get now.views n)) last → Writes a c i k (first_lines r (n + 1)) last
 more_written {E} {F} {a} {b} {c} {i} {j} {k} {last} r now n e first next =
-    let then_ : Writes b c j k (line_at r n (slice_get r.views n)) last = subst (λ (v : ViewsValue). Writes b c j k (line_at v n (slice_get v.views n)) last) e next in
+    let then_ : Writes b c j k (view_line_at r n (slice_get r.views n)) last = subst (λ (v : ViewsValue). Writes b c j k (view_line_at v n (slice_get v.views n)) last) e next in
     writes_then (first_lines r (n + 1)) first tt refl then_ (lines_more r n)
 
 -- and all of it was
 pub all_written : {E F : Type 0} {a b c : List ℕ → Type 0} {i j k : ℕ} {last : Result (Unit {0}) F} (r now : ViewsValue) (n : ℕ) → now ≡ r →
-    Writes {E = E} a b i j (first_lines r n) (Ok tt) → Writes b c j k (line_at now n (slice_get now.views n)) last → (unit : Unit {0}) → last ≡ Ok unit →
+    Writes {E = E} a b i j (first_lines r n) (Ok tt) → Writes b c j k (view_line_at now n (slice_get now.views n)) last → (unit : Unit {0}) → last ≡ Ok unit →
     Writes {E = F} a c i k (first_lines r (n + 1)) (Ok tt)
 all_written {E} {F} {a} {c} {i} {k} {last} r now n e first next unit was =
     subst (λ (v : Result (Unit {0}) F). Writes a c i k (first_lines r (n + 1)) v) was (more_written {E = E} {F = F} r now n e first next)
@@ -104,16 +104,16 @@ line_over r number v over w = rw w refl
 pub line_of_counts : (bytes : ℕ → List ℕ) (ready : ReadyViews) (number : ℕ) (v : ViewValue) (counts : Counts) →
     slice_get (ready_views bytes ready).views number ≡ Some v → counts ≡ view_counts v (scene_of bytes ready.loaded.scene.scene) →
     view_over v (scene_of bytes ready.loaded.scene.scene) ready.shop.limits ≡ None →
-    counts_line number counts ≡ line_at (ready_views bytes ready) number (slice_get (ready_views bytes ready).views number)
+    counts_line number counts ≡ view_line_at (ready_views bytes ready) number (slice_get (ready_views bytes ready).views number)
 unfolding ready_views
-line_of_counts bytes ready number v counts s e w = line_counted (ready_views bytes ready) number v counts e w ∙ ap (line_at (ready_views bytes ready) number) (sym s)
+line_of_counts bytes ready number v counts s e w = line_counted (ready_views bytes ready) number v counts e w ∙ ap (view_line_at (ready_views bytes ready) number) (sym s)
 
 -- the line of a view that is over one
 pub line_of_over : (bytes : ℕ → List ℕ) (ready : ReadyViews) (number : ℕ) (v : ViewValue) (over : OverLimit) →
     slice_get (ready_views bytes ready).views number ≡ Some v → view_over v (scene_of bytes ready.loaded.scene.scene) ready.shop.limits ≡ Some over →
-    over_line number over ≡ line_at (ready_views bytes ready) number (slice_get (ready_views bytes ready).views number)
+    over_line number over ≡ view_line_at (ready_views bytes ready) number (slice_get (ready_views bytes ready).views number)
 unfolding ready_views
-line_of_over bytes ready number v over s w = line_over (ready_views bytes ready) number v over w ∙ ap (line_at (ready_views bytes ready) number) (sym s)
+line_of_over bytes ready number v over s w = line_over (ready_views bytes ready) number v over w ∙ ap (view_line_at (ready_views bytes ready) number) (sym s)
 
 -- the views of a scene are those of its path, within its limits
 pub ready_same : (bytes : ℕ → List ℕ) (a b : ReadyViews) → a.loaded ≡ b.loaded → a.shop.limits ≡ b.shop.limits → ready_views bytes a ≡ ready_views bytes b

@@ -39,7 +39,7 @@ use Rattle.doom_run.specs.Ends.{status_of}
 use Rattle.doom_run.specs.Exercises.{ExercisesAt, StopsAt, exercise_verdict, made_files, made_level, made_wads}
 use Rattle.doom_run.specs.Made.{made_file}
 use Rattle.doom_run.specs.Renders.{ready_views}
-use Rattle.doom_run.specs.Views.{ViewsValue, eye_of, limits_in, views_of, views_verdict}
+use Rattle.doom_run.specs.Views.{ViewsValue, eye_of, limits_of_settings, views_of, views_verdict}
 
 -- both steps of a table were passed
 then_ok : {A B : Type 0} (first : Result A CsvRefusal) (next : A → Result B CsvRefusal) (value : B) → then_checked first next ≡ Ok value → (found : A) × (first ≡ Ok found) × (next found ≡ Ok value)
@@ -192,7 +192,7 @@ unfolding filled
 map_named = refl
 
 -- a ready scene has the views of its job, with the limits of the job
-within_limits : (bytes : ℕ → List ℕ) (settings : Settings) (ready : ReadyViews) → ready.shop.limits ≡ limits_in settings → views_of bytes settings (loaded_value ready.loaded) ≡ ready_views bytes ready
+within_limits : (bytes : ℕ → List ℕ) (settings : Settings) (ready : ReadyViews) → ready.shop.limits ≡ limits_of_settings settings → views_of bytes settings (loaded_value ready.loaded) ≡ ready_views bytes ready
 unfolding views_of ready_views
 within_limits bytes settings ready l =
     let made : Limits → ViewsValue = λ limits. record {
@@ -206,7 +206,7 @@ within_limits bytes settings ready l =
 
 -- the verdict of a job whose scene is ready
 pub ready_is : (level : LevelJobValue) (wads : List (List ℕ)) (files : List File) (contents : List (List ℕ)) (ready : ReadyViews) →
-    load_in level wads files ≡ Ok (loaded_value ready.loaded) → ready.shop.limits ≡ limits_in level.settings → files_named wads files ≡ Some contents →
+    load_in level wads files ≡ Ok (loaded_value ready.loaded) → ready.shop.limits ≡ limits_of_settings level.settings → files_named wads files ≡ Some contents →
     views_verdict level wads files ≡ Ok (ready_views (lump_bytes contents ready.loaded.files.dir.lumps) ready)
 ready_is level wads files contents ready e l named =
     ap (λ (loading : Result LoadedValue (Stop Refusal)). and_then loading (λ loaded. Ok (views_of (wad_bytes wads files loaded.files.lumps) level.settings loaded))) e
@@ -215,7 +215,7 @@ ready_is level wads files contents ready e l named =
 
 -- what a ready scene of the made level comes to is what the verdict says
 pub ready_exercise : (n zone : ℕ) (format : Format) (ready : ReadyViews) (result : Result Summary Status) →
-    load_in (made_level zone) made_wads (made_files n) ≡ Ok (loaded_value ready.loaded) → ready.shop.limits ≡ limits_in (made_level zone).settings →
+    load_in (made_level zone) made_wads (made_files n) ≡ Ok (loaded_value ready.loaded) → ready.shop.limits ≡ limits_of_settings (made_level zone).settings →
     ExercisesAt n format (Ok (ready_views (lump_bytes (made_file (Wad n) ∷ []) ready.loaded.files.dir.lumps) ready)) result → ExercisesAt n format (exercise_verdict n zone) result
 ready_exercise n zone format ready result e limits exercised =
     subst (λ (verdict : Result ViewsValue (Stop Refusal)). ExercisesAt n format verdict result)

@@ -70,6 +70,11 @@ IsEnd (Limit view kind count) = Unit {0}
 IsEnd (ZoneFull wanted widest) = ⊥
 IsEnd OutOfMemory = ⊥
 
+-- a job that is rendered and then delivered came to its end, or ends at a view that is over a limit
+abbrev pub IfEnded : {A : Type 0} → Result A Status → Type 0 → Type 0
+IfEnded (Ok summary) P = P
+IfEnded (Err status) P = IsEnd status → P
+
 -- a status that comes before anything is written, whatever the job
 abbrev pub IsUnwritten : Status → Type 0
 IsUnwritten Done = ⊥

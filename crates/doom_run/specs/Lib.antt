@@ -4,10 +4,12 @@ pub mod Exercises
 pub mod Flats
 pub mod Frames
 pub mod Fulls
+pub mod Leasts
 pub mod Lines
 pub mod Made
 pub mod Renders
 pub mod Steps
+pub mod Takes
 pub mod Verdict
 pub mod Views
 pub mod Words

@@ -1,10 +1,12 @@
 -- A scene that is ready to be drawn, and when drawing it finds the zone full.
-use Rattle.std.specs.Prelude.{◌≡◌, ◌⊎◌, ℕ, List, map, Ok}
+use Rattle.std.specs.Prelude.{◌≡◌, ◌<◌, ◌⊎◌, ℕ, IfSome, List, length, map, slice_get, unwrap_or, Ok}
 use Rattle.outside.specs.Shelf.{File}
 use Rattle.lump_rules.specs.Lookups.{lump_at}
 use Rattle.lump_cache.specs.Caches.{IsAtRest}
-use Rattle.lump_cache.specs.Calls.{IsFullFor}
-use Rattle.texture_build.specs.Draws.{IsFullForTexture}
+use Rattle.zone_rules.specs.Orders.{Item}
+use Rattle.lump_cache.specs.Calls.{HasAll, IsFullFor}
+use Rattle.texture_build.specs.Draws.{FitBeside, HasTexturesAsked, IsFullForTexture}
+use Rattle.picture_rules.specs.Paints.{view_paints}
 use Rattle.view_rules.specs.View.{view_of}
 use Rattle.level_audit.specs.Sound.{textures_view}
 use Rattle.command_line.specs.LevelJobs.{LevelJobValue}
@@ -14,7 +16,7 @@ use Rattle.frame_core.specs.Views.{CanDrawView, IsViewLump, IsViewTexture}
 use Rattle.doom_run.specs.declared.render.ReadyViews.{ReadyViews}
 use Rattle.doom_run.specs.declared.status.Status.{Status}
 use Rattle.doom_run.specs.declared.status.Status.TheVariants.{Done, Usage, Refused, ReadFault, WriteFault, Limit, ZoneFull, OutOfMemory}
-use Rattle.doom_run.specs.Views.{ViewsValue, eye_of, limits_in}
+use Rattle.doom_run.specs.Views.{ViewsValue, eye_of, first_over, limits_of_settings}
 
 -- the views of a ready scene, whose lumps have these bytes
 unfoldable pub ready_views : (ℕ → List ℕ) → ReadyViews → ViewsValue
@@ -29,7 +31,7 @@ ready_views bytes ready = record {
 -- it may be drawn, in a cache at rest, with the limits of its job
 pub record IsReady (level : LevelJobValue) (ready : ReadyViews) : Type 0 where
   pub drawable : CanDrawView ready.loaded.files.dir.lumps ready.loaded.scene.scene ready.loaded.cache
-  pub limits : ready.shop.limits ≡ limits_in level.settings
+  pub limits : ready.shop.limits ≡ limits_of_settings level.settings
   pub rest : IsAtRest ready.loaded.scene.scene.base.colormap
       (lump_at ready.loaded.files.dir.lumps ready.loaded.scene.scene.base.colormap).size ready.loaded.cache
   pub zone : ready.loaded.cache.size ≡ level.settings.zone
@@ -47,6 +49,24 @@ pub record IsFullReady (level : LevelJobValue) (wads : List (List ℕ)) (files :
   pub is : load_in level wads files ≡ Ok (loaded_value ready.loaded)
   pub stands : IsReady level ready
   pub full : IsFullView ready wanted widest'
+
+-- a list has all that its textures and lumps may ask for
+pub record HasReadyAsked (items : List Item) (ready : ReadyViews) : Type 0 where
+  pub textures : HasTexturesAsked items (IsViewTexture ready.loaded.scene.scene) ready.loaded.files.dir.lumps
+      (textures_view ready.loaded.scene.scene)
+  pub lumps : HasAll items ready.loaded.files.dir (IsViewLump ready.loaded.files.dir.lumps ready.loaded.scene.scene)
+
+-- what view number k is painted from stands in its zone beside COLORMAP, of `count` bytes
+abbrev pub FitsAt : (ℕ → List ℕ) → ℕ → ReadyViews → ℕ → Type 0
+FitsAt bytes count ready k = IfSome (slice_get (ready_views bytes ready).views k) (λ v.
+    FitBeside ready.loaded.files.dir.lumps (textures_view ready.loaded.scene.scene)
+    ready.loaded.scene.scene.base.colormap count ready.loaded.cache.size
+    (view_paints v (ready_views bytes ready).scene))
+
+-- so it is of each view whose frame is due
+abbrev pub FitDue : (ℕ → List ℕ) → ℕ → ReadyViews → Type 0
+FitDue bytes count ready = (k : ℕ) →
+    k < unwrap_or (first_over (ready_views bytes ready)) (length (ready_views bytes ready).views) → FitsAt bytes count ready k
 
 -- a status that delivering frames can come to
 abbrev pub IsDelivered : Status → Type 0

@@ -48,15 +48,15 @@ eye_of row = record {
   colormap = row.colormap;
 }
 
-abbrev pub limits_in : Settings → Limits
-limits_in settings = record { planes = settings.planes; openings = settings.openings }
+abbrev pub limits_of_settings : Settings → Limits
+limits_of_settings settings = record { planes = settings.planes; openings = settings.openings }
 
 -- the views of a path over a level that is loaded, whose lumps have these bytes
 unfoldable pub views_of : (ℕ → List ℕ) → Settings → LoadedValue → ViewsValue
 views_of bytes settings loaded = record {
   scene = scene_of bytes loaded.scene;
   views = map (λ row. view_of loaded.files.tables (eye_of row)) loaded.files.path;
-  limits = limits_in settings;
+  limits = limits_of_settings settings;
   palette = loaded.scene.base.palette;
   sizes = loaded_sizes loaded;
 }
@@ -116,21 +116,21 @@ abbrev pub over_line : ℕ → OverLimit → List ℕ
 over_line view over =
     labelled (codes "view ") view ++ (codes " over" ++ (labelled (limit_label over.kind) over.count ++ codes "\n"))
 
-abbrev pub line_by : ℕ → Counts → Option OverLimit → List ℕ
-line_by view counts None = counts_line view counts
-line_by view counts (Some over) = over_line view over
+abbrev pub view_line_by : ℕ → Counts → Option OverLimit → List ℕ
+view_line_by view counts None = counts_line view counts
+view_line_by view counts (Some over) = over_line view over
 
 unfoldable pub view_line : ViewsValue → ℕ → ViewValue → List ℕ
-view_line r view v = line_by view (view_counts v r.scene) (view_over v r.scene r.limits)
+view_line r view v = view_line_by view (view_counts v r.scene) (view_over v r.scene r.limits)
 
 -- the line of view number k
-abbrev pub line_at : ViewsValue → ℕ → Option ViewValue → List ℕ
-line_at r view None = []
-line_at r view (Some v) = view_line r view v
+abbrev pub view_line_at : ViewsValue → ℕ → Option ViewValue → List ℕ
+view_line_at r view None = []
+view_line_at r view (Some v) = view_line r view v
 
 -- the lines of the first n views
 unfoldable pub first_lines : ViewsValue → ℕ → List ℕ
-first_lines r n = joined_lists (λ k. line_at r k (slice_get r.views k)) (listed (λ k. k) n)
+first_lines r n = joined_lists (λ k. view_line_at r k (slice_get r.views k)) (listed (λ k. k) n)
 
 abbrev pub counted_bytes : ViewsValue → List ℕ
 counted_bytes r = first_lines r (length r.views)

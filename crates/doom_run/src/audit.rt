@@ -1,5 +1,5 @@
 // The job `audit`: how large a zone has to be for a level that is accepted.
-ghost use Rattle.std.specs.Prelude.{◌≡◌, ◌≤◌, ℕ, List, map, IfErr};
+ghost use Rattle.std.specs.Prelude.{◌≡◌, ◌≤◌, ℕ, List, map, IfErr, IfOk};
 ghost use Rattle.outside.specs.Causes.{FaultsRose};
 ghost use Rattle.outside.specs.Shelf.{File, IsLaterShelf, Holds};
 ghost use Rattle.outside.specs.Faults.{HasCauses, itself};
@@ -7,10 +7,13 @@ ghost use Rattle.zone_rules.specs.Zones.{IsZoneSize};
 ghost use Rattle.view_rules.specs.declared.TheConstants.{MIN_SIZE, MAX_SIZE};
 ghost use Rattle.lump_cache.specs.Calls.{IfFull};
 ghost use Rattle.command_line.specs.LevelJobs.{level_job_value};
+ghost use Rattle.command_line.specs.declared.command.LevelTask.TheVariants.{Audit};
 ghost use Rattle.outside.specs.Stops.{ResultIsOrAbsent};
 ghost use Rattle.scene_load.specs.Fulls.{IsFullLoad};
 ghost use Rattle.doom_run.specs.Audits.{audit_verdict};
 ghost use Rattle.doom_run.specs.Ends.{DeliversAt};
+ghost use Rattle.doom_run.specs.Leasts.{level_least};
+ghost use Rattle.doom_run.specs.Takes.{TakesOnce};
 ghost use Rattle.doom_run.specs.Verdict.{audited};
 
 use crate::notes::put_pair;
@@ -38,6 +41,13 @@ pub fn prepare_audit<S: Shelf>(
     ensures full { (files : List File) → Holds (S.view shelf.old) files →
         IfErr result (λ fault. IfFull (itself fault)
         (IsFullLoad (level_job_value level.now) (map (λ wad. wad.now) wads.now) files)) }
+    ensures least { (files : List File) → Holds (S.view shelf.old) files →
+        IfOk result (λ sizes. level_least Audit (level_job_value level.now)
+        (map (λ wad. wad.now) wads.now) files ≤ level.now.settings.zone) }
+    ensures taken { (files : List File) → Holds (S.view shelf.old) files →
+        (FaultsRose (S.view shelf.old).faults (S.view shelf.new).faults → ⊥) →
+        TakesOnce (level_job_value level.now) (map (λ wad. wad.now) wads.now) files
+        (S.view shelf.old).taken (S.view shelf.new).taken }
     ensures follows { IsLaterShelf (S.view shelf.old) (S.view shelf.new) }
     ensures causes { HasCauses itself
         (S.view shelf.old).faults (S.view shelf.new).faults result }

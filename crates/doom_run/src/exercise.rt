@@ -13,12 +13,15 @@ ghost use Rattle.csv_tables.specs.declared.path.TheConstants.{MAX_VIEWS};
 ghost use Rattle.texture_build.specs.Draws.{HoldsArt};
 ghost use Rattle.level_audit.specs.Sound.{textures_view};
 ghost use Rattle.command_line.specs.Commands.{IsCount};
+ghost use Rattle.command_line.specs.declared.command.LevelTask.TheVariants.{Render};
 ghost use Rattle.scene_load.specs.Files.{files_named};
-ghost use Rattle.scene_load.specs.Fulls.{IsFullLoad};
+ghost use Rattle.scene_load.specs.Fulls.{IsBaseWithin, IsFullLoad};
 ghost use Rattle.scene_load.specs.Loads.{load_in, loaded_value};
 ghost use Rattle.frame_core.specs.Views.{CanDrawView};
+ghost use Rattle.doom_run.specs.Ends.{IfEnded};
 ghost use Rattle.doom_run.specs.Exercises.{DeliversLine, ExercisesAt, exercise_verdict, frame_size, made_files, made_level, made_wads, summary_line};
-ghost use Rattle.doom_run.specs.Renders.{IsFullReady, IsFullView, IsReady, ready_views};
+ghost use Rattle.doom_run.specs.Leasts.{level_least};
+ghost use Rattle.doom_run.specs.Renders.{FitDue, IsFullReady, IsFullView, IsReady, ready_views};
 
 use crate::notes::put_summary;
 use crate::render::{ReadyViews, deliver_render, prepare_views};
@@ -93,6 +96,8 @@ fn prepare_made(alloc: Global, zone: u32, shelf: &mut MemoryShelf) -> Result<Rea
     ensures full { (files : List File) → Holds (memory_view shelf.old) files →
         IfErr result (λ fault. IfFull (itself fault)
         (IsFullLoad (made_level zone) made_wads files)) }
+    ensures fits { IfOk result (λ ready. IsBaseWithin ready.loaded.files.dir.lumps
+        (made_level zone) ready.loaded.scene.scene.base.colormap) }
     ensures follows { IsLaterShelf (memory_view shelf.old) (memory_view shelf.new) }
 {
     let level = LevelJob {
@@ -123,6 +128,8 @@ pub fn prepare_exercise(alloc: Global, n: u32, zone: u32, format: Format) -> Res
     ensures zone_full { (wanted widest : ℕ) → result ≡ Err (Status.ZoneFull wanted widest) →
         IsFullLoad (made_level zone) made_wads (made_files n) wanted widest
         ⊎ IsFullReady (made_level zone) made_wads (made_files n) wanted widest }
+    ensures least { IfEnded result
+        (level_least (Render format) (made_level zone) made_wads (made_files n) ≤ zone) }
 {
     let files = match made_files(alloc, n) {
         Ok(files) => files,
@@ -155,6 +162,12 @@ fn render_all(
         (lump_bytes contents ready.old.loaded.files.dir.lumps) ready.old)) result }
     ensures zone_full { (wanted widest : ℕ) → result ≡ Err (Status.ZoneFull wanted widest) →
         IsFullView ready.old wanted widest }
+    ensures fits { (contents : List (List ℕ)) (count : ℕ) →
+        HoldsArt (memory_view shelf.old) ready.old.loaded.files.dir
+        (textures_view ready.old.loaded.scene.scene) contents
+        ready.old.loaded.scene.scene.base.colormap count ready.old.loaded.cache →
+        IfEnded result
+        (FitDue (lump_bytes contents ready.old.loaded.files.dir.lumps) count ready.old) }
 {
     let mut tally = TallySink::new();
     match deliver_render(ready, format, shelf, &mut tally) {

@@ -6,7 +6,7 @@ ghost use Rattle.frame_core.specs.Views.{CanCount};
 ghost use Rattle.doom_run.specs.Ends.{DeliversAt};
 ghost use Rattle.doom_run.specs.Renders.{ready_views};
 ghost use Rattle.doom_run.specs.Verdict.{counted};
-ghost use Rattle.doom_run.specs.Views.{counts_line, line_at, over_line};
+ghost use Rattle.doom_run.specs.Views.{counts_line, view_line_at, over_line};
 
 use crate::notes::put_limit_count;
 use crate::render::{ReadyViews, eye_of};
@@ -44,7 +44,7 @@ fn put_view<K: Sink>(ready: &mut ReadyViews, number: usize, out: &mut K) -> Resu
     requires number { number < length ready.old.loaded.files.path }
     requires scene { CanCount ready.old.loaded.scene.scene }
     ensures writes { (bytes : ℕ → List ℕ) → Writes (K.written out.old) (K.written out.new)
-        (K.faults out.old) (K.faults out.new) (line_at (ready_views bytes ready.old) number
+        (K.faults out.old) (K.faults out.new) (view_line_at (ready_views bytes ready.old) number
         (slice_get (ready_views bytes ready.old).views number)) result }
     ensures loaded { ready.new.loaded ≡ ready.old.loaded }
     ensures limits { ready.new.shop.limits ≡ ready.old.shop.limits }

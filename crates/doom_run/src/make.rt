@@ -27,7 +27,8 @@ pub fn prepare_make(alloc: Global, job: MakeJob) -> Result<Vec<u8>, OutOfMemory>
 
 // Writes the bytes of a made file. Takes no memory.
 pub fn deliver_make<K: Sink>(bytes: &[u8], out: &mut K) -> Status
-    ensures ends { DeliversAt (made_bytes bytes.now) (K.written out.old) (K.written out.new) result }
+    ensures ends { DeliversAt (made_bytes bytes.now)
+        (K.written out.old) (K.written out.new) result }
     ensures write_fault { result ≡ Status.WriteFault →
         FaultsRose (K.faults out.old) (K.faults out.new) }
 {

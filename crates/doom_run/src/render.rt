@@ -1,5 +1,5 @@
 // The job `render`: the frames of the views of a path, each written as it is drawn.
-ghost use Rattle.std.specs.Prelude.{◌≡◌, ◌<◌, ◌≤◌, ℕ, List, length, map, option_map, slice_get, None, Some, IfErr, IfOk, IfSome, OnOk};
+ghost use Rattle.std.specs.Prelude.{◌≡◌, ◌<◌, ◌≤◌, ℕ, List, length, map, option_map, slice_get, None, Some, Ok, IfErr, IfOk, IfSome, MatchResult, OnOk};
 ghost use Rattle.outside.specs.Causes.{FaultsRose};
 ghost use Rattle.outside.specs.Shelf.{File, IsLaterShelf, Holds};
 ghost use Rattle.outside.specs.Faults.{HasCauses, itself};
@@ -7,20 +7,22 @@ ghost use Rattle.outside.specs.Sink.{Writes};
 ghost use Rattle.outside.specs.Stops.{ResultIsOrAbsent};
 ghost use Rattle.lump_rules.specs.Contents.{lump_bytes};
 ghost use Rattle.lump_rules.specs.Lookups.{lump_at};
+ghost use Rattle.zone_rules.specs.Orders.{Item, IsInOrder, KeepsOrder};
 ghost use Rattle.lump_cache.specs.Calls.{IfFull};
 ghost use Rattle.texture_build.specs.Draws.{DrawsWith, HoldsArt};
 ghost use Rattle.level_audit.specs.Sound.{textures_view};
 ghost use Rattle.command_line.specs.LevelJobs.{level_job_value};
 ghost use Rattle.command_line.specs.Choices.{AreSettings};
 ghost use Rattle.scene_load.specs.Files.{files_named};
-ghost use Rattle.scene_load.specs.Fulls.{IsFullLoad};
-ghost use Rattle.scene_load.specs.Loads.{load_in, loaded_value};
-ghost use Rattle.doom_run.specs.Ends.{RendersAt};
+ghost use Rattle.scene_load.specs.Fulls.{IsBaseWithin, IsFullLoad};
+ghost use Rattle.scene_load.specs.Loads.{LoadedValue, load_in, loaded_sizes, loaded_value};
+ghost use Rattle.doom_run.specs.Ends.{IsEnd, RendersAt};
 ghost use Rattle.frame_core.specs.Faults.{limit_of_view, view_fault};
 ghost use Rattle.frame_core.specs.Views.{CanDrawView, IsViewLump, IsViewTexture};
 ghost use Rattle.frame_writer.specs.declared.TheConstants.{FRAME_BYTES, PALETTE_BYTES};
 ghost use Rattle.doom_run.specs.Frames.{IsPictureAt, KeepsReady, ViewEnds, status_of_view};
-ghost use Rattle.doom_run.specs.Renders.{IsDelivered, IsFullView, IsReady, ready_views};
+ghost use Rattle.doom_run.specs.Renders.{FitDue, FitsAt, HasReadyAsked, IsDelivered, IsFullView, IsReady, ready_views};
+ghost use Rattle.doom_run.specs.Takes.{InOrderAfter, LoadsOnce};
 ghost use Rattle.doom_run.specs.Verdict.{rendered};
 ghost use Rattle.doom_run.specs.Views.{eye_of, frame_bytes, over_at};
 
@@ -65,6 +67,16 @@ pub fn prepare_views<S: Shelf>(
     ensures full { (files : List File) → Holds (S.view shelf.old) files →
         IfErr result (λ fault. IfFull (itself fault)
         (IsFullLoad (level_job_value level.now) (map (λ wad. wad.now) wads.now) files)) }
+    ensures fits { IfOk result (λ ready. IsBaseWithin ready.loaded.files.dir.lumps
+        (level_job_value level.now) ready.loaded.scene.scene.base.colormap) }
+    ensures order { (files : List File) (contents : List (List ℕ)) (expected : LoadedValue) →
+        Holds (S.view shelf.old) files →
+        files_named (map (λ wad. wad.now) wads.now) files ≡ Some contents →
+        load_in (level_job_value level.now) (map (λ wad. wad.now) wads.now) files ≡ Ok expected →
+        (loaded_sizes expected).roomy ≤ level.now.settings.zone →
+        LoadsOnce (λ ready. ready.loaded.cache) (level_job_value level.now)
+        (map (λ wad. wad.now) wads.now) files expected
+        (S.view shelf.old).taken (S.view shelf.new).taken result }
     ensures follows { IsLaterShelf (S.view shelf.old) (S.view shelf.new) }
     ensures causes { HasCauses itself
         (S.view shelf.old).faults (S.view shelf.new).faults result }
@@ -155,8 +167,14 @@ fn draw_at<S: Shelf>(ready: &mut ReadyViews, number: u32, shelf: &mut S) -> Resu
     ensures over { (bytes : ℕ → List ℕ) → IfErr result (λ fault.
         IfSome (limit_of_view fault) (λ over.
         over_at (ready_views bytes ready.old) number ≡ Some over)) }
+    ensures fits { (contents : List (List ℕ)) (count : ℕ) →
+        HoldsArt (S.view shelf.old) ready.old.loaded.files.dir
+        (textures_view ready.old.loaded.scene.scene) contents
+        ready.old.loaded.scene.scene.base.colormap count ready.old.loaded.cache →
+        OnOk result (FitsAt (lump_bytes contents ready.old.loaded.files.dir.lumps) count
+        ready.old number) }
     ensures draws { DrawsWith view_fault (IsViewTexture ready.old.loaded.scene.scene)
-        (IsViewLump ready.old.loaded.scene.scene) (S.view shelf.old) (S.view shelf.new)
+        (IsViewLump ready.old.loaded.files.dir.lumps ready.old.loaded.scene.scene) (S.view shelf.old) (S.view shelf.new)
         ready.old.loaded.files.dir (textures_view ready.old.loaded.scene.scene)
         ready.old.loaded.cache ready.new.loaded.cache result }
     ensures keeps { KeepsReady (S.view shelf.old) (S.view shelf.new) ready.old ready.new }
@@ -206,6 +224,18 @@ fn render_view<S: Shelf, K: Sink>(
         ViewEnds (S.view shelf.old).steady format
         (ready_views (lump_bytes contents ready.old.loaded.files.dir.lumps) ready.old) number
         (K.written out.old) (K.written out.new) result }
+    ensures fits { (contents : List (List ℕ)) (count : ℕ) →
+        HoldsArt (S.view shelf.old) ready.old.loaded.files.dir
+        (textures_view ready.old.loaded.scene.scene) contents
+        ready.old.loaded.scene.scene.base.colormap count ready.old.loaded.cache →
+        OnOk result (FitsAt (lump_bytes contents ready.old.loaded.files.dir.lumps) count
+        ready.old number) }
+    ensures order { (items : List Item) → HasReadyAsked items ready.old →
+        IsInOrder items ready.old.loaded.cache →
+        MatchResult result (λ _. KeepsOrder items ready.old.loaded.cache ready.new.loaded.cache
+        (S.view shelf.old).taken (S.view shelf.new).taken) (λ status. InOrderAfter status
+        (KeepsOrder items ready.old.loaded.cache ready.new.loaded.cache
+        (S.view shelf.old).taken (S.view shelf.new).taken)) }
     ensures read_fault { IfErr result (λ status. status ≡ Status.ReadFault →
         FaultsRose (S.view shelf.old).faults (S.view shelf.new).faults) }
     ensures write_fault { IfErr result (λ status. status ≡ Status.WriteFault →
@@ -243,6 +273,16 @@ pub fn deliver_render<S: Shelf, K: Sink>(
         RendersAt (S.view shelf.old).steady (rendered format (ready_views
         (lump_bytes contents ready.old.loaded.files.dir.lumps) ready.old))
         (K.written out.old) (K.written out.new) result }
+    ensures fits { (contents : List (List ℕ)) (count : ℕ) →
+        HoldsArt (S.view shelf.old) ready.old.loaded.files.dir
+        (textures_view ready.old.loaded.scene.scene) contents
+        ready.old.loaded.scene.scene.base.colormap count ready.old.loaded.cache →
+        IsEnd result →
+        FitDue (lump_bytes contents ready.old.loaded.files.dir.lumps) count ready.old }
+    ensures order { (items : List Item) → HasReadyAsked items ready.old →
+        IsInOrder items ready.old.loaded.cache →
+        InOrderAfter result (KeepsOrder items ready.old.loaded.cache ready.new.loaded.cache
+        (S.view shelf.old).taken (S.view shelf.new).taken) }
     ensures read_fault { result ≡ Status.ReadFault →
         FaultsRose (S.view shelf.old).faults (S.view shelf.new).faults }
     ensures write_fault { result ≡ Status.WriteFault →

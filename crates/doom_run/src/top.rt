@@ -1,31 +1,29 @@
 // A run, from its words to its status.
-ghost use Rattle.std.specs.Prelude.{◌≡◌, ◌⊎◌, ℕ, Bool, false, List, [], map, None, Ok, Err, IsTrue, IfSome};
+ghost use Rattle.std.specs.Prelude.{◌≡◌, ◌≤◌, ◌⊎◌, ℕ, Bool, false, List, [], map, Ok, Err, IsTrue, IfSome};
 ghost use Rattle.outside.specs.Causes.{FaultsRose};
 ghost use Rattle.outside.specs.Shelf.{File, Holds};
 ghost use Rattle.outside.specs.Sink.{Grew, GrewByPrefix};
-ghost use Rattle.command_line.specs.Commands.{IsCount, IsCounted, IsCountedMake, command_of, command_value, exercise, flat, level_job, make};
+ghost use Rattle.command_line.specs.Commands.{IsCounted, IsCountedMake, command_of, command_value, flat, level_job, make};
 ghost use Rattle.command_line.specs.LevelJobs.{IsLevelJob, level_job_value};
-ghost use Rattle.command_line.specs.declared.command.LevelTask.TheVariants.{Audit, Limits, Render};
+ghost use Rattle.command_line.specs.declared.command.LevelTask.TheVariants.{Audit};
 ghost use Rattle.scene_load.specs.Fulls.{IsFullLoad};
-ghost use Rattle.zone_rules.specs.Zones.{IsZoneSize};
 ghost use Rattle.doom_run.specs.Ends.{EndsAt, EndsWith, IsEnd, IsReadOrFull, IsUnwritten};
-ghost use Rattle.doom_run.specs.Exercises.{made_files, made_level, made_wads};
-ghost use Rattle.doom_run.specs.Fulls.{HasRoom, IsFullDraw, IsFullRun};
+ghost use Rattle.doom_run.specs.Fulls.{HasRoom, IsFullRun};
+ghost use Rattle.doom_run.specs.Leasts.{command_least, command_zone, level_least};
 ghost use Rattle.doom_run.specs.Lines.{line_of};
 ghost use Rattle.doom_run.specs.Steps.{RunStop, usage, absent, refused};
+ghost use Rattle.doom_run.specs.Takes.{CommandTakes, TakesOnce};
 ghost use Rattle.doom_run.specs.Verdict.{Accepted, job_verdict, level_verdict, verdict, end_of, output};
 ghost use Rattle.doom_run.specs.Words.{WhereAsked, ask_for_files, asks_for_files, has_zone, have_zone, level_asks, texts, write_frames, writes_frames};
 
 use crate::Refusal;
 use crate::audit::{deliver_audit, prepare_audit};
-use crate::exercise::{deliver_exercise, prepare_exercise};
 use crate::flat::{deliver_flat, prepare_flat};
-use crate::limits::deliver_limits;
 use crate::make::{deliver_make, prepare_make};
 use crate::notes::put_note;
-use crate::render::{deliver_render, prepare_views};
 use crate::status::Status;
-use command_line::{Command, CommandFault, Format, LevelJob, LevelTask, MakeJob, command_of};
+use crate::view_jobs::{perform_exercise, perform_limits, perform_render};
+use command_line::{Command, CommandFault, LevelJob, LevelTask, MakeJob, command_of};
 use outside::{Shelf, Sink};
 use std::alloc::Global;
 use wad_dir::Name8;
@@ -106,6 +104,19 @@ pub fn run<S: Shelf, K: Sink, N: Sink>(
     ensures zoned { (wanted widest : ℕ) → result ≡ Status.ZoneFull wanted widest →
         IsTrue (have_zone (texts words.now)) }
 
+    // In a zone that is smaller than the least, no run comes to its end.
+    ensures least { (files : List File) → IsEnd result →
+        WhereAsked (texts words.now) (Holds (S.view shelf.old) files) →
+        IfSome (command_of (texts words.now)) (λ command.
+        command_least command files ≤ command_zone command) }
+
+    // In a zone with room for all that a level needs, no lump of it is read twice.
+    ensures taken { (files : List File) →
+        WhereAsked (texts words.now) (Holds (S.view shelf.old) files) →
+        (FaultsRose (S.view shelf.old).faults (S.view shelf.new).faults → ⊥) →
+        IfSome (command_of (texts words.now)) (λ command. CommandTakes command files
+        (S.view shelf.old).taken (S.view shelf.new).taken) }
+
     // Words that ask for no file leave the shelf alone.
     ensures asked { result ≡ Status.ReadFault → IsTrue (ask_for_files (texts words.now)) }
     ensures untouched { ask_for_files (texts words.now) ≡ false → shelf.new ≡ shelf.old }
@@ -161,6 +172,15 @@ fn perform<S: Shelf, K: Sink>(alloc: Global, words: &[String], shelf: &mut S, ou
         IfSome (command_of (texts words.now)) (λ command. IsFullRun command files wanted widest) }
     ensures zoned { (wanted widest : ℕ) → result ≡ Status.ZoneFull wanted widest →
         IsTrue (have_zone (texts words.now)) }
+    ensures least { (files : List File) → IsEnd result →
+        WhereAsked (texts words.now) (Holds (S.view shelf.old) files) →
+        IfSome (command_of (texts words.now)) (λ command.
+        command_least command files ≤ command_zone command) }
+    ensures taken { (files : List File) →
+        WhereAsked (texts words.now) (Holds (S.view shelf.old) files) →
+        (FaultsRose (S.view shelf.old).faults (S.view shelf.new).faults → ⊥) →
+        IfSome (command_of (texts words.now)) (λ command. CommandTakes command files
+        (S.view shelf.old).taken (S.view shelf.new).taken) }
     ensures asked { result ≡ Status.ReadFault → IsTrue (ask_for_files (texts words.now)) }
     ensures untouched { ask_for_files (texts words.now) ≡ false → shelf.new ≡ shelf.old }
 {
@@ -200,6 +220,15 @@ fn perform_job<S: Shelf, K: Sink>(
         IsFullRun (command_value command.now) files wanted widest }
     ensures zoned { (wanted widest : ℕ) → result ≡ Status.ZoneFull wanted widest →
         IsTrue (has_zone (command_value command.now)) }
+    ensures least { (files : List File) → IsEnd result →
+        (IsTrue (asks_for_files (command_value command.now)) → Holds (S.view shelf.old) files) →
+        command_least (command_value command.now) files
+        ≤ command_zone (command_value command.now) }
+    ensures taken { (files : List File) →
+        (IsTrue (asks_for_files (command_value command.now)) → Holds (S.view shelf.old) files) →
+        (FaultsRose (S.view shelf.old).faults (S.view shelf.new).faults → ⊥) →
+        CommandTakes (command_value command.now) files
+        (S.view shelf.old).taken (S.view shelf.new).taken }
     ensures asked { result ≡ Status.ReadFault →
         IsTrue (asks_for_files (command_value command.now)) }
     ensures untouched { asks_for_files (command_value command.now) ≡ false → shelf.new ≡ shelf.old }
@@ -233,7 +262,8 @@ fn perform_level<S: Shelf, K: Sink>(
         (level_verdict job (level_job_value level.now) (map (λ wad. wad.now) wads.now) files)
         (K.written out.old) (K.written out.new) result }
     ensures unwritten { IsUnwritten result → Grew (K.written out.old) (K.written out.new) [] }
-    ensures before { writes_frames (level_job job (level_job_value level.now) (map (λ wad. wad.now) wads.now)) ≡ false →
+    ensures before { writes_frames (level_job job (level_job_value level.now)
+        (map (λ wad. wad.now) wads.now)) ≡ false →
         IsReadOrFull result → Grew (K.written out.old) (K.written out.new) [] }
     ensures usage { (files : List File) → result ≡ Status.Usage →
         level_verdict job (level_job_value level.now) (map (λ wad. wad.now) wads.now) files
@@ -253,7 +283,17 @@ fn perform_level<S: Shelf, K: Sink>(
         wanted widest }
     ensures zoned { (wanted widest : ℕ) → result ≡ Status.ZoneFull wanted widest →
         IsTrue (level_asks job (level_job_value level.now)) }
-    ensures asked { result ≡ Status.ReadFault → IsTrue (level_asks job (level_job_value level.now)) }
+    ensures least { (files : List File) → IsEnd result →
+        (IsTrue (level_asks job (level_job_value level.now)) → Holds (S.view shelf.old) files) →
+        level_least job (level_job_value level.now) (map (λ wad. wad.now) wads.now) files
+        ≤ level.now.settings.zone }
+    ensures taken { (files : List File) →
+        (IsTrue (level_asks job (level_job_value level.now)) → Holds (S.view shelf.old) files) →
+        (FaultsRose (S.view shelf.old).faults (S.view shelf.new).faults → ⊥) →
+        TakesOnce (level_job_value level.now) (map (λ wad. wad.now) wads.now) files
+        (S.view shelf.old).taken (S.view shelf.new).taken }
+    ensures asked { result ≡ Status.ReadFault →
+        IsTrue (level_asks job (level_job_value level.now)) }
     ensures untouched { level_asks job (level_job_value level.now) ≡ false → shelf.new ≡ shelf.old }
 {
     match job {
@@ -286,115 +326,17 @@ fn perform_audit<S: Shelf, K: Sink>(
     ensures zone_full { (files : List File) (wanted widest : ℕ) →
         result ≡ Status.ZoneFull wanted widest → Holds (S.view shelf.old) files →
         IsFullLoad (level_job_value level.now) (map (λ wad. wad.now) wads.now) files wanted widest }
+    ensures least { (files : List File) → IsEnd result → Holds (S.view shelf.old) files →
+        level_least Audit (level_job_value level.now) (map (λ wad. wad.now) wads.now) files
+        ≤ level.now.settings.zone }
+    ensures taken { (files : List File) → Holds (S.view shelf.old) files →
+        (FaultsRose (S.view shelf.old).faults (S.view shelf.new).faults → ⊥) →
+        TakesOnce (level_job_value level.now) (map (λ wad. wad.now) wads.now) files
+        (S.view shelf.old).taken (S.view shelf.new).taken }
 {
     match prepare_audit(alloc, level, wads, shelf) {
         Ok(sizes) => deliver_audit(sizes, out),
         Err(fault) => Status::of(fault),
-    }
-}
-
-fn perform_render<S: Shelf, K: Sink>(
-    alloc: Global,
-    format: Format,
-    level: &LevelJob<'_>,
-    wads: &[&str],
-    shelf: &mut S,
-    out: &mut K,
-) -> Status
-    requires { IsLevelJob (level_job_value level.now) (map (λ wad. wad.now) wads.now) }
-    ensures ends { (files : List File) →
-        (IsTrue (level_asks (Render format) (level_job_value level.now)) →
-        Holds (S.view shelf.old) files) →
-        EndsAt (S.view shelf.old).steady (level_verdict (Render format)
-        (level_job_value level.now) (map (λ wad. wad.now) wads.now) files)
-        (K.written out.old) (K.written out.new) result }
-    ensures unwritten { IsUnwritten result → Grew (K.written out.old) (K.written out.new) [] }
-    ensures usage { (files : List File) → result ≡ Status.Usage →
-        level_verdict (Render format) (level_job_value level.now)
-        (map (λ wad. wad.now) wads.now) files ≡ Err usage }
-    ensures not_built { (files : List File) →
-        level_verdict (Render format) (level_job_value level.now)
-        (map (λ wad. wad.now) wads.now) files ≡ Err usage → result ≡ Status.Usage }
-    ensures read_fault { result ≡ Status.ReadFault →
-        FaultsRose (S.view shelf.old).faults (S.view shelf.new).faults }
-    ensures write_fault { result ≡ Status.WriteFault →
-        FaultsRose (K.faults out.old) (K.faults out.new) }
-    ensures zone_full { (files : List File) (wanted widest : ℕ) →
-        result ≡ Status.ZoneFull wanted widest →
-        (IsTrue (level_asks (Render format) (level_job_value level.now)) →
-        Holds (S.view shelf.old) files) →
-        IsFullLoad (level_job_value level.now) (map (λ wad. wad.now) wads.now) files wanted widest
-        ⊎ IsFullDraw (level_job_value level.now) (map (λ wad. wad.now) wads.now) files wanted
-        widest }
-    ensures asked { (result ≡ Status.ReadFault)
-        ⊎ ((wanted : ℕ) × (widest : ℕ) × (result ≡ Status.ZoneFull wanted widest)) →
-        IsTrue (level_asks (Render format) (level_job_value level.now)) }
-    ensures untouched { level_asks (Render format) (level_job_value level.now) ≡ false →
-        shelf.new ≡ shelf.old }
-{
-    if level.files.weapon.is_some() {
-        return Status::Usage;
-    }
-    match prepare_views(alloc, level, wads, shelf) {
-        Ok(mut ready) => deliver_render(&mut ready, format, shelf, out),
-        Err(fault) => Status::of(fault),
-    }
-}
-
-fn perform_limits<S: Shelf, K: Sink>(
-    alloc: Global,
-    level: &LevelJob<'_>,
-    wads: &[&str],
-    shelf: &mut S,
-    out: &mut K,
-) -> Status
-    requires { IsLevelJob (level_job_value level.now) (map (λ wad. wad.now) wads.now) }
-    ensures ends { (files : List File) → Holds (S.view shelf.old) files →
-        EndsAt (S.view shelf.old).steady
-        (level_verdict Limits (level_job_value level.now) (map (λ wad. wad.now) wads.now) files)
-        (K.written out.old) (K.written out.new) result }
-    ensures unwritten { IsUnwritten result → Grew (K.written out.old) (K.written out.new) [] }
-    ensures before { IsReadOrFull result → Grew (K.written out.old) (K.written out.new) [] }
-    ensures not_usage { result ≡ Status.Usage → ⊥ }
-    ensures read_fault { result ≡ Status.ReadFault →
-        FaultsRose (S.view shelf.old).faults (S.view shelf.new).faults }
-    ensures write_fault { result ≡ Status.WriteFault →
-        FaultsRose (K.faults out.old) (K.faults out.new) }
-    ensures zone_full { (files : List File) (wanted widest : ℕ) →
-        result ≡ Status.ZoneFull wanted widest → Holds (S.view shelf.old) files →
-        IsFullLoad (level_job_value level.now) (map (λ wad. wad.now) wads.now) files wanted widest }
-{
-    match prepare_views(alloc, level, wads, shelf) {
-        Ok(mut ready) => deliver_limits(&mut ready, out),
-        Err(fault) => Status::of(fault),
-    }
-}
-
-fn perform_exercise<K: Sink>(
-    alloc: Global,
-    count: u8,
-    zone: u32,
-    format: Format,
-    out: &mut K,
-) -> Status
-    requires count { IsCount count }
-    requires zone { IsZoneSize zone }
-    ensures ends { (steady : Bool) (files : List File) →
-        EndsAt steady (job_verdict (exercise count zone format) files)
-        (K.written out.old) (K.written out.new) result }
-    ensures unwritten { IsUnwritten result → Grew (K.written out.old) (K.written out.new) [] }
-    ensures before { IsReadOrFull result → Grew (K.written out.old) (K.written out.new) [] }
-    ensures not_usage { result ≡ Status.Usage → ⊥ }
-    ensures not_read { result ≡ Status.ReadFault → ⊥ }
-    ensures write_fault { result ≡ Status.WriteFault →
-        FaultsRose (K.faults out.old) (K.faults out.new) }
-    ensures zone_full { (wanted widest : ℕ) → result ≡ Status.ZoneFull wanted widest →
-        IsFullLoad (made_level zone) made_wads (made_files count) wanted widest
-        ⊎ IsFullDraw (made_level zone) made_wads (made_files count) wanted widest }
-{
-    match prepare_exercise(alloc, count as u32, zone, format) {
-        Ok(summary) => deliver_exercise(summary, out),
-        Err(status) => status,
     }
 }
 

@@ -1,7 +1,12 @@
-use Rattle.std.proofs.Common.{[], ◌∷◌, length, ap, sym, ◌∙◌, arith, inl, inr}
+use Rattle.std.proofs.Common.{[], ◌∷◌, length, ap, sym, ◌∙◌, arith, inl, inr, List, ℕ, subst, refl}
 use Rattle.command_line.specs.declared.command.MakeJob.TheVariants.{Wad}
 use Rattle.scene_load.specs.Fulls.{IsFullLoad}
 use Rattle.scene_load.specs.Loads.{loaded_value}
+use Rattle.lump_rules.specs.Contents.{lump_bytes}
+use Rattle.lump_rules.specs.Lookups.{lump_at}
+use Rattle.doom_run.proofs.LeastLemmas.{least_render}
+use Rattle.doom_run.proofs.EndLemmas.{ended_more, fault_no_end, loaded_named}
+use Rattle.doom_run.specs.Renders.{FitDue}
 use Rattle.doom_run.specs.Exercises.{made_files, made_level, made_wads}
 use Rattle.doom_run.specs.Made.{made_file}
 use Rattle.doom_run.proofs.MadeLemmas.{loaded_few, made_count, made_stops, memory_holds, memory_steady, ready_exercise, wads_held}
@@ -50,3 +55,18 @@ returns-in-Ok-prepare_made-clause-zone_full c wanted widest e =
       stands = c.in-Ok-prepare_made.ensures.ready;
       full = c.render_all.ensures.zone_full wanted widest e;
     })
+
+pub returns-clause-least : goal.returns-clause-least
+returns-clause-least c end = absurd (fault_no_end c.in-Err-prepare_made.fault (rw c.of.ensures at end))
+
+pub returns-in-Ok-prepare_made-clause-least : goal.returns-in-Ok-prepare_made-clause-least
+returns-in-Ok-prepare_made-clause-least c =
+    let holds = memory_holds c.new-shelf.result _ (made_files c.args.n) _ c.new-shelf.ensures c.in-Ok.ensures in
+    let ready = c.in-Ok-prepare_made.ready in
+    let loaded = (c.in-Ok-prepare_made.ensures.answers (made_files c.args.n) holds).ok in
+    let named = loaded_named (made_level c.args.zone) made_wads (made_files c.args.n) (loaded_value ready.loaded) loaded in
+    let count = (lump_at ready.loaded.files.dir.lumps ready.loaded.scene.scene.base.colormap).size in
+    ended_more c.render_all.result
+    (λ due. least_render (made_level c.args.zone) made_wads (made_files c.args.n) c.args.format ready loaded c.in-Ok-prepare_made.ensures.ready c.in-Ok-prepare_made.ensures.fits
+    (subst (λ (contents : List (List ℕ)). FitDue (lump_bytes contents ready.loaded.files.dir.lumps) count ready) (sym named.are) due))
+    (c.render_all.ensures.fits named.contents count (c.in-Ok-prepare_made.ensures.art (made_files c.args.n) named.contents holds named.named))

@@ -24,3 +24,6 @@ returns-clause-full c files holds = rw c.made_map.ensures at (c.prepare_views.en
 
 pub returns-clause-follows : goal.returns-clause-follows
 returns-clause-follows c = c.prepare_views.ensures.follows
+
+pub returns-clause-fits : goal.returns-clause-fits
+returns-clause-fits c = rw c.made_map.ensures at c.prepare_views.ensures.fits

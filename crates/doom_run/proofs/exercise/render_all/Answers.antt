@@ -25,4 +25,8 @@ returns-in_default c = record {
       stopped_exercise c.args.n c.args.format (ready_views (lump_bytes contents c.args.ready.now.loaded.files.dir.lumps) c.args.ready.now) _
       (IsTallyOf c.new-tally.result) (IsTallyOf c.deliver_render.new.out) c.deliver_render.result c.in_default.not-Done steady (c.deliver_render.ensures.ends contents count art) c.deliver_render.ensures.write_fault;
   zone_full = λ wanted widest e. c.deliver_render.ensures.zone_full wanted widest (same_status _ _ e);
+  fits = λ contents count art end. c.deliver_render.ensures.fits contents count art end;
 }
+
+pub returns-in-Done-clause-fits : goal.returns-in-Done-clause-fits
+returns-in-Done-clause-fits c contents count art = c.in-Done.ensures.fits contents count art tt

@@ -1,10 +1,12 @@
--- The views below the number are written, and none of them is over a limit.
-use Rattle.std.proofs.Common.{◌≤◌, ℕ, List}
+-- The views below the number are written, and none of them is over a limit; what they are painted from
+-- stands beside COLORMAP, and a zone in order stayed so.
+use Rattle.std.proofs.Common.{◌<◌, ◌≤◌, ℕ, List}
 use Rattle.lump_rules.specs.Contents.{lump_bytes}
+use Rattle.zone_rules.specs.Orders.{Item, IsInOrder, KeepsOrder}
 use Rattle.texture_build.specs.Draws.{HoldsArt}
 use Rattle.level_audit.specs.Sound.{textures_view}
 use Rattle.doom_run.specs.Frames.{KeepsReady}
-use Rattle.doom_run.specs.Renders.{ready_views}
+use Rattle.doom_run.specs.Renders.{FitsAt, HasReadyAsked, ready_views}
 use Rattle.doom_run.proofs.FrameLemmas.{Rendered}
 use Rattle.doom_run.proofs.render.deliver_render.Given as goal
 
@@ -15,4 +17,9 @@ invariant-loop-number g l = record {
   rendered : (contents : List (List ℕ)) (count : ℕ) →
       HoldsArt (g.S.Shelf.view l.initial.shelf) l.initial.ready.loaded.files.dir (textures_view l.initial.ready.loaded.scene.scene) contents l.initial.ready.loaded.scene.scene.base.colormap count l.initial.ready.loaded.cache →
       Rendered l.format (ready_views (lump_bytes contents l.initial.ready.loaded.files.dir.lumps) l.initial.ready) l.number (g.K.Sink.written l.initial.out) (g.K.Sink.written l.out);
+  fits : (contents : List (List ℕ)) (count : ℕ) →
+      HoldsArt (g.S.Shelf.view l.initial.shelf) l.initial.ready.loaded.files.dir (textures_view l.initial.ready.loaded.scene.scene) contents l.initial.ready.loaded.scene.scene.base.colormap count l.initial.ready.loaded.cache →
+      (k : ℕ) → k < l.number → FitsAt (lump_bytes contents l.initial.ready.loaded.files.dir.lumps) count l.initial.ready k;
+  order : (items : List Item) → HasReadyAsked items l.initial.ready → IsInOrder items l.initial.ready.loaded.cache →
+      KeepsOrder items l.initial.ready.loaded.cache l.ready.loaded.cache (g.S.Shelf.view l.initial.shelf).taken (g.S.Shelf.view l.shelf).taken;
 }

@@ -2,6 +2,7 @@
 use Rattle.std.proofs.Common.{ap}
 use Rattle.lump_rules.specs.Contents.{lump_bytes}
 use Rattle.level_audit.specs.Sound.{SoundValue}
+use Rattle.doom_run.proofs.TakeLemmas.{drawn_after}
 use Rattle.doom_run.specs.Renders.{ready_views}
 use Rattle.doom_run.proofs.FrameLemmas.{view_fails, view_put, view_put_failed}
 use Rattle.doom_run.proofs.render.render_view.Goals as goal
@@ -23,3 +24,16 @@ returns-in-Err-write_frame-clause-ends g c contents count holds =
     let bytes = lump_bytes contents c.args.ready.now.loaded.files.dir.lumps in
     view_put_failed bytes c.args.format c.args.ready.now c.args.number _ c.draw_at.new.ready.shop.frame.cells c.draw_at.result c.write_frame.result c.in-Ok.field-0 c.in-Err-write_frame.field-0 c.in-Ok.is c.in-Err-write_frame.is
     (ap (λ (s : SoundValue). s.scene.base.palette) c.draw_at.ensures.keeps.scene) (c.draw_at.ensures.picture contents count holds) (c.draw_at.ensures.within bytes) c.write_frame.ensures
+
+pub returns-in-Err-clause-order : goal.returns-in-Err-clause-order
+returns-in-Err-clause-order g c items asked order =
+    drawn_after c.args.number c.draw_at.result c.in-Err.fault c.status_of_view.result c.in-Err.is c.status_of_view.ensures (c.draw_at.ensures.draws.order items asked.textures asked.lumps order)
+
+pub returns-in-Ok-write_frame-clause-fits : goal.returns-in-Ok-write_frame-clause-fits
+returns-in-Ok-write_frame-clause-fits g c contents count holds = rw c.in-Ok.is at (c.draw_at.ensures.fits contents count holds)
+
+pub returns-in-Ok-write_frame-clause-order : goal.returns-in-Ok-write_frame-clause-order
+returns-in-Ok-write_frame-clause-order g c items asked order = rw c.in-Ok.is at (c.draw_at.ensures.draws.order items asked.textures asked.lumps order)
+
+pub returns-in-Err-write_frame-clause-order : goal.returns-in-Err-write_frame-clause-order
+returns-in-Err-write_frame-clause-order g c items asked order = rw c.in-Ok.is at (c.draw_at.ensures.draws.order items asked.textures asked.lumps order)

@@ -7,3 +7,13 @@ pub returns-in-Ok-clause-ends : goal.returns-in-Ok-clause-ends
 returns-in-Ok-clause-ends g c files held =
     let is : command_of (texts c.args.words.now) ≡ Some (command_value c.in-Ok.command) = c.in-Ok.ensures.ok in
     rw is (c.perform_job.ensures.ends files (λ asked. held (rw is asked)))
+
+pub returns-in-Ok-clause-least : goal.returns-in-Ok-clause-least
+returns-in-Ok-clause-least g c files end held =
+    let is : command_of (texts c.args.words.now) ≡ Some (command_value c.in-Ok.command) = c.in-Ok.ensures.ok in
+    rw is (c.perform_job.ensures.least files end (λ asked. held (rw is asked)))
+
+pub returns-in-Ok-clause-taken : goal.returns-in-Ok-clause-taken
+returns-in-Ok-clause-taken g c files held calm =
+    let is : command_of (texts c.args.words.now) ≡ Some (command_value c.in-Ok.command) = c.in-Ok.ensures.ok in
+    rw is (c.perform_job.ensures.taken files (λ asked. held (rw is asked)) calm)

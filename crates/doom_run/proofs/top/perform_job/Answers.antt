@@ -27,3 +27,14 @@ returns-in-Exercise-clause-ends g c files held =
 pub returns-in-Exercise-clause-zone_full : goal.returns-in-Exercise-clause-zone_full
 returns-in-Exercise-clause-zone_full g c files wanted widest is held =
     rw c.in-Exercise.is (exercise_full c.in-Exercise.count c.in-Exercise.zone c.in-Exercise.format files (c.perform_exercise.ensures.zone_full wanted widest is))
+
+pub returns-in-Level-clause-least : goal.returns-in-Level-clause-least
+returns-in-Level-clause-least g c files end held =
+    rw (c.in-Level.is, ← c.deref.ensures.value) (c.perform_level.ensures.least files end (λ asked. held (rw c.in-Level.is asked)))
+
+pub returns-in-Level-clause-taken : goal.returns-in-Level-clause-taken
+returns-in-Level-clause-taken g c files held calm =
+    rw c.in-Level.is (c.perform_level.ensures.taken files (λ asked. held (rw c.in-Level.is asked)) calm)
+
+pub returns-in-Exercise-clause-least : goal.returns-in-Exercise-clause-least
+returns-in-Exercise-clause-least g c files end held = rw c.in-Exercise.is (c.perform_exercise.ensures.least end)

@@ -18,3 +18,22 @@ returns-in-Audit-clause-zone_full g c files wanted widest is held =
 pub returns-in-Limits-clause-zone_full : goal.returns-in-Limits-clause-zone_full
 returns-in-Limits-clause-zone_full g c files wanted widest is held =
     level_full c.args.job (level_job_value c.args.level.now) (map (λ wad. wad.now) c.args.wads.now) files (c.perform_limits.ensures.zone_full files wanted widest is (held (rw c.in-Limits.is refl)))
+
+pub returns-in-Render-clause-least : goal.returns-in-Render-clause-least
+returns-in-Render-clause-least g c files end held =
+    rw c.in-Render.is (c.perform_render.ensures.least files end (λ asked. held (rw c.in-Render.is asked)))
+
+pub returns-in-Render-clause-taken : goal.returns-in-Render-clause-taken
+returns-in-Render-clause-taken g c files held calm = c.perform_render.ensures.taken files (λ asked. held (rw c.in-Render.is asked)) calm
+
+pub returns-in-Audit-clause-least : goal.returns-in-Audit-clause-least
+returns-in-Audit-clause-least g c files end held = rw c.in-Audit.is (c.perform_audit.ensures.least files end (held (rw c.in-Audit.is refl)))
+
+pub returns-in-Audit-clause-taken : goal.returns-in-Audit-clause-taken
+returns-in-Audit-clause-taken g c files held calm = c.perform_audit.ensures.taken files (held (rw c.in-Audit.is refl)) calm
+
+pub returns-in-Limits-clause-least : goal.returns-in-Limits-clause-least
+returns-in-Limits-clause-least g c files end held = rw c.in-Limits.is (c.perform_limits.ensures.least files end (held (rw c.in-Limits.is refl)))
+
+pub returns-in-Limits-clause-taken : goal.returns-in-Limits-clause-taken
+returns-in-Limits-clause-taken g c files held calm = c.perform_limits.ensures.taken files (held (rw c.in-Limits.is refl)) calm

@@ -1,14 +1,17 @@
 use Rattle.std.proofs.Common.{[], map, ◌∙◌, sym, subst}
 use Rattle.command_line.specs.LevelJobs.{level_job_value}
 use Rattle.scene_load.specs.Fulls.{IsFullLoad}
+use Rattle.scene_load.specs.Loads.{loaded_value}
+use Rattle.doom_run.proofs.TakeLemmas.{loads_taken}
+use Rattle.doom_run.proofs.LeastLemmas.{least_limits}
 use Rattle.doom_run.specs.declared.status.Status.{Status}
 use Rattle.doom_run.specs.Ends.{DeliversAt}
 use Rattle.doom_run.specs.Renders.{ready_views}
 use Rattle.doom_run.specs.Verdict.{counted}
 use Rattle.doom_run.proofs.CountLemmas.{can_count}
-use Rattle.doom_run.proofs.EndLemmas.{counted_end, delivers_all, delivers_more}
+use Rattle.doom_run.proofs.EndLemmas.{counted_end, delivers_all, delivers_more, fault_no_end, loaded_named}
 use Rattle.doom_run.proofs.StepLemmas.{status_full}
-use Rattle.doom_run.proofs.top.perform_limits.Goals as goal
+use Rattle.doom_run.proofs.view_jobs.perform_limits.Goals as goal
 
 pub deliver_limits-requires : goal.deliver_limits-requires
 deliver_limits-requires g c = can_count _ _ _ c.in-Ok.ensures.ready.drawable
@@ -40,3 +43,24 @@ returns-in-Ok-clause-zone_full g c files wanted widest is held =
 pub returns-in-Err-clause-zone_full : goal.returns-in-Err-clause-zone_full
 returns-in-Err-clause-zone_full g c files wanted widest is held =
     status_full (IsFullLoad (level_job_value c.args.level.now) (map (λ wad. wad.now) c.args.wads.now) files) c.in-Err.fault wanted widest (sym c.of.ensures ∙ is) (c.in-Err.ensures.full files held)
+
+pub returns-in-Ok-clause-least : goal.returns-in-Ok-clause-least
+returns-in-Ok-clause-least g c files end held =
+    least_limits (level_job_value c.args.level.now) (map (λ wad. wad.now) c.args.wads.now) files (loaded_value c.in-Ok.ready.loaded) (c.in-Ok.ensures.answers files held).ok c.in-Ok.ensures.fits
+
+pub returns-in-Ok-clause-taken : goal.returns-in-Ok-clause-taken
+returns-in-Ok-clause-taken g c files held calm expected is room =
+    let level = level_job_value c.args.level.now in
+    let wads = map (λ wad. wad.now) c.args.wads.now in
+    let named = loaded_named level wads files expected is in
+    loads_taken (λ ready. ready.loaded.cache) level wads files expected c.prepare_views.result (c.prepare_views.ensures.order files named.contents expected held named.named is room) c.prepare_views.ensures.causes calm
+
+pub returns-in-Err-clause-least : goal.returns-in-Err-clause-least
+returns-in-Err-clause-least g c files end held = absurd (fault_no_end c.in-Err.fault (rw c.of.ensures at end))
+
+pub returns-in-Err-clause-taken : goal.returns-in-Err-clause-taken
+returns-in-Err-clause-taken g c files held calm expected is room =
+    let level = level_job_value c.args.level.now in
+    let wads = map (λ wad. wad.now) c.args.wads.now in
+    let named = loaded_named level wads files expected is in
+    loads_taken (λ ready. ready.loaded.cache) level wads files expected c.prepare_views.result (c.prepare_views.ensures.order files named.contents expected held named.named is room) c.prepare_views.ensures.causes calm

@@ -1,0 +1,71 @@
+-- The list of all that a level needs has what drawing its views may ask for.
+use Rattle.std.proofs.Common.{◌≡◌, ◌<◌, ℕ, ℤ, true, length, List, Option, Some, Ok, IfSome, arith, inl, inr}
+use Rattle.std.specs.Prelude.{Contains}
+use Rattle.std.proofs.lemmas.List.Elements.{All-contains}
+use Rattle.outside.specs.Shelf.{File}
+use Rattle.lump_rules.specs.Contents.{lump_bytes}
+use Rattle.zone_rules.specs.Zones.{Owner}
+use Rattle.zone_rules.specs.Orders.{Item, has_item}
+use Rattle.lump_cache.specs.Calls.{HasAll}
+use Rattle.art_rules.specs.Wanted.{PreparedTexture}
+use Rattle.texture_build.specs.Asked.{IsAskedByColumn}
+use Rattle.texture_build.specs.Draws.{HasTexturesAsked}
+use Rattle.texture_build.specs.Sources.{column_in, column_index}
+use Rattle.texture_build.specs.Views.{ArePatchesThere, AreTexturesOf, IsPrepared, prepared_at, prepared_texture}
+use Rattle.texture_build.proofs.TexelLemmas.{prepared_is}
+use Rattle.texture_build.proofs.ViewLemmas.{HasColumns, textures_columns}
+use Rattle.command_line.specs.LevelJobs.{LevelJobValue}
+use Rattle.level_audit.specs.Sound.{textures_view}
+use Rattle.scene_load.specs.Loads.{load_in, loaded_pictures, loaded_value, wad_contents, weapon_lumps}
+use Rattle.scene_load.specs.Orders.{loaded_items}
+use Rattle.scene_load.proofs.OrderLemmas.{items_composite, items_lump}
+use Rattle.frame_core.specs.Views.{IsViewLump, IsViewTexture}
+use Rattle.frame_core.proofs.EnoughLemmas.{IsOfTexture, among_prepared, column_asked, needed_drawn, needed_patch}
+use Rattle.doom_run.specs.declared.render.ReadyViews.{ReadyViews}
+use Rattle.doom_run.specs.Renders.{HasReadyAsked, IsReady}
+use Rattle.doom_run.proofs.DrawnLemmas.{loaded_textures}
+use Rattle.doom_run.proofs.RowLemmas.{textures_rows}
+
+module _ (level : LevelJobValue) (wads : List (List ℕ)) (files : List File) (ready : ReadyViews) (is : load_in level wads files ≡ Ok (loaded_value ready.loaded)) (stands : IsReady level ready) where
+  -- a flat or a picture
+  lumps_asked : HasAll (loaded_items (loaded_value ready.loaded)) ready.loaded.files.dir (IsViewLump ready.loaded.files.dir.lumps ready.loaded.scene.scene)
+  lumps_asked lump asked = items_lump (loaded_value ready.loaded) lump (needed_drawn ready.loaded.files.dir.lumps ready.loaded.scene.scene (weapon_lumps ready.loaded.weapons) lump asked) asked.0
+
+  module _ (number : ℕ) (some : IsPrepared (textures_view ready.loaded.scene.scene) number) where
+    abbrev t : PreparedTexture
+    t = prepared_texture (textures_view ready.loaded.scene.scene) number
+
+    prepared_as : prepared_at ready.loaded.scene.scene.prepared number ≡ Some t
+    prepared_as = prepared_is (prepared_at ready.loaded.scene.scene.prepared number) some
+
+    there : ArePatchesThere ready.loaded.files.dir.lumps t
+    there =
+        All-contains (λ (o : Option PreparedTexture). IfSome o (ArePatchesThere ready.loaded.files.dir.lumps)) ready.loaded.scene.scene.prepared (Some t) stands.drawable.whole.art.patches
+        (among_prepared ready.loaded.scene.scene.prepared number some)
+
+    textures_are : AreTexturesOf (wad_contents wads files) ready.loaded.files.dir.lumps (textures_view ready.loaded.scene.scene)
+    textures_are = loaded_textures level wads files (loaded_value ready.loaded) is
+
+    -- a patch or a composite of a texture
+    texture_item : (owner : Owner) (size : ℕ) → IsOfTexture ready.loaded.files.dir.lumps number t owner size → has_item (loaded_items (loaded_value ready.loaded)) owner size ≡ true
+    texture_item owner size (inl patch) =
+        rw (patch.2, patch.3)
+        (items_lump (loaded_value ready.loaded) patch.0.lump
+        (needed_patch ready.loaded.files.dir.lumps ready.loaded.scene.scene (loaded_pictures (loaded_value ready.loaded)) t patch.0 (among_prepared ready.loaded.scene.scene.prepared number some) patch.1)
+        (All-contains _ t.patches patch.0 there patch.1))
+    texture_item owner size (inr composite) = rw (composite.0, composite.1) (items_composite (loaded_value ready.loaded) number t prepared_as composite.2)
+
+    -- what a column of it asks for
+    column_item : (column : ℤ) (owner : Owner) (size : ℕ) → IsAskedByColumn ready.loaded.files.dir.lumps number t (column_in t column) owner size → has_item (loaded_items (loaded_value ready.loaded)) owner size ≡ true
+    column_item column owner size asked =
+        texture_item owner size
+        (column_asked ready.loaded.files.dir.lumps number t owner size (lump_bytes (wad_contents wads files) ready.loaded.files.dir.lumps)
+        (textures_columns (wad_contents wads files) ready.loaded.files.dir.lumps (textures_view ready.loaded.scene.scene) number t textures_are prepared_as)
+        (textures_rows (wad_contents wads files) ready.loaded.files.dir.lumps (textures_view ready.loaded.scene.scene) number t textures_are prepared_as)
+        (column_index t column) asked)
+
+  pub ready_asked : HasReadyAsked (loaded_items (loaded_value ready.loaded)) ready
+  ready_asked = record {
+    textures = λ number column some owner size asked. column_item number some column owner size asked;
+    lumps = λ lump asked. lumps_asked lump asked;
+  }

@@ -1,0 +1,216 @@
+-- Where all of which a least zone is the greatest stands beside COLORMAP, the zone is no smaller.
+use Rattle.std.proofs.Common.{◌≡◌, ◌≢◌, ℕ, zero, suc, ◌+◌, ◌<◌, ◌≤◌, Bool, true, false, cond, List, [], ◌∷◌, length, max, take, Option, Some, None, Result, Ok, IfSome, refl, sym, ap, subst, ◌∙◌, arith, inl, inr, eq-eqb, eqb-true}
+use Rattle.std.specs.Prelude.{◌⊎◌, ◌||◌, ◌==◌, slice_get, unwrap_or}
+use Rattle.std.specs.List.{AllByRecursion, range_with_len}
+use Rattle.std.specs.Option.{option_map_or}
+use Rattle.std.proofs.lemmas.Bool.{cases_lt}
+use Rattle.std.proofs.lemmas.Bool.Decides.{nat_tests}
+use Rattle.outside.specs.Shelf.{File}
+use Rattle.outside.specs.Stops.{Stop}
+use Rattle.lump_rules.specs.declared.wad.Lump.{Lump}
+use Rattle.lump_rules.specs.declared.names.TheConstants.{MAP_LUMPS}
+use Rattle.lump_rules.specs.Lookups.{last_of, lump_at}
+use Rattle.lump_cache.specs.Named.{IsLast}
+use Rattle.zone_rules.specs.Zones.{block_size}
+use Rattle.art_rules.specs.declared.TheConstants.{PNAMES, TEXTURE1, TEXTURE2}
+use Rattle.view_rules.specs.View.{ViewValue}
+use Rattle.pixel_rules.specs.declared.Painter.{Painter}
+use Rattle.pixel_rules.specs.declared.TheConstants.{COMPOSITE, LUMP}
+use Rattle.pixel_rules.specs.Dots.{Dot}
+use Rattle.picture_rules.specs.Paints.{view_paints}
+use Rattle.picture_rules.specs.Scene.{Scene}
+use Rattle.level_scene.specs.Asked.{IsLumpOfMap}
+use Rattle.texture_lists.specs.Asked.{IsListLump}
+use Rattle.texture_build.specs.Asked.{size_of}
+use Rattle.texture_build.specs.Draws.{FitBeside, FitsBeside}
+use Rattle.texture_build.specs.Views.{TexturesView, prepared_texture}
+use Rattle.command_line.specs.LevelJobs.{LevelJobValue}
+use Rattle.command_line.specs.declared.command.Format.{Format}
+use Rattle.command_line.specs.declared.command.LevelTask.{LevelTask}
+use Rattle.command_line.specs.declared.command.LevelTask.TheVariants.{Audit, Limits, Render}
+use Rattle.refusals.specs.declared.refusal.Refusal.{Refusal}
+use Rattle.scene_rules.specs.Scenes.{LevelBase}
+use Rattle.scene_rules.specs.Sizes.{greatest_by, is_last, is_list, is_map_lump, lump_block}
+use Rattle.level_audit.specs.Asked.{IsOfBase}
+use Rattle.level_audit.specs.Sound.{textures_view}
+use Rattle.level_audit.proofs.MemberLemmas.{or_cases}
+use Rattle.level_audit.proofs.SceneLemmas.{IsBaseOf, and_then-ok, base_parts, scene_parts}
+use Rattle.scene_load.specs.Files.{files_in}
+use Rattle.scene_load.specs.Fulls.{IsBaseWithin}
+use Rattle.scene_load.specs.Loads.{LoadedValue, load_in, loaded_value, wad_bytes}
+use Rattle.scene_load.proofs.AuditedLemmas.{audited_by}
+use Rattle.scene_load.proofs.LoadLemmas.{audited_of}
+use Rattle.doom_run.specs.declared.render.ReadyViews.{ReadyViews}
+use Rattle.doom_run.specs.Leasts.{base_block, block_beside, is_base_lump, least_loading, least_over, least_views, level_least, painted_block, source_block}
+use Rattle.doom_run.specs.Renders.{FitDue, IsReady, ready_views}
+use Rattle.doom_run.specs.Views.{ViewsValue, due_views, first_over, views_of}
+use Rattle.doom_run.proofs.EndLemmas.{ready_as}
+
+-- what stands beside `m` for each stands there for the greatest
+module _ {X : Type 0} (f : X → ℕ) (m zone : ℕ) (least : m ≤ zone) where
+  greatest_beside : (xs : List X) → AllByRecursion (λ (x : X). m + f x ≤ zone) xs → m + greatest_by f xs ≤ zone
+  unfolding greatest_by
+  greatest_beside [] all = omega (arith, least)
+  greatest_beside (x ∷ xs) all = omega (arith, all.0, greatest_beside xs all.1)
+
+  taken_beside : (n : ℕ) (xs : List X) → ((k : ℕ) → k < n → IfSome (slice_get xs k) (λ x. m + f x ≤ zone)) → m + greatest_by f (take n xs) ≤ zone
+  unfolding greatest_by
+  taken_beside zero xs each = omega (arith, least)
+  taken_beside (suc n) [] each = omega (arith, least)
+  taken_beside (suc n) (x ∷ xs) each =
+      let first : m + f x ≤ zone = each 0 (omega arith) in
+      omega (arith, first, taken_beside n xs (λ k l. each (suc k) (omega (arith, l))))
+
+-- of numbers in a range
+range_beside : (f : ℕ → ℕ) (m zone first n : ℕ) → m ≤ zone → ((k : ℕ) → m + f k ≤ zone) → m + greatest_by f (range_with_len first n) ≤ zone
+unfolding greatest_by
+range_beside f m zone first zero least each = omega (arith, least)
+range_beside f m zone first (suc n) least each = omega (arith, each first, range_beside f m zone (suc first) n least each)
+
+-- a sum with one of two numbers, by a test
+by_test : (b : Bool) (m x y zone : ℕ) → (b ≡ true → m + x ≤ zone) → (b ≡ false → m + y ≤ zone) → m + cond b x y ≤ zone
+by_test true m x y zone on off = on refl
+by_test false m x y zone on off = off refl
+
+not_same : (x y : ℕ) → (x == y) ≡ false → x ≢ y
+not_same x y e same = absurd (let on = eq-eqb x y same in cc)
+
+-- what a painter reads
+module _ (lumps : List Lump) (textures : TexturesView) (colormap zone : ℕ) (least : lump_block lumps colormap ≤ zone) where
+  source_beside : (painter : Painter) → FitsBeside lumps textures colormap (lump_at lumps colormap).size zone painter → lump_block lumps colormap + source_block lumps textures colormap painter ≤ zone
+  unfolding source_block block_beside lump_block
+  source_beside painter fits =
+      by_test (painter.source_kind == LUMP) (block_size (lump_at lumps colormap).size) _ _ zone
+      (λ on. by_test (painter.source == colormap) (block_size (lump_at lumps colormap).size) _ _ zone
+      (λ same. omega (arith, least))
+      (λ other. fits.lump (eqb-true painter.source_kind LUMP on) (not_same painter.source colormap other)))
+      (λ off. by_test (painter.source_kind == COMPOSITE) (block_size (lump_at lumps colormap).size) _ _ zone
+      (λ on. fits.composite (eqb-true painter.source_kind COMPOSITE on))
+      (λ none. omega (arith, least)))
+
+  dots_beside : (dots : List Dot) → FitBeside lumps textures colormap (lump_at lumps colormap).size zone dots → AllByRecursion (λ (d : Dot). lump_block lumps colormap + source_block lumps textures colormap d.painter ≤ zone) dots
+  dots_beside [] fit = tt
+  dots_beside (d ∷ dots) fit = (source_beside d.painter fit.0, dots_beside dots fit.1)
+
+  view_beside : (scene : Scene) (v : ViewValue) → FitBeside lumps textures colormap (lump_at lumps colormap).size zone (view_paints v scene) → lump_block lumps colormap + painted_block lumps textures colormap scene v ≤ zone
+  unfolding painted_block
+  view_beside scene v fit =
+      greatest_beside (λ (d : Dot). source_block lumps textures colormap d.painter) (lump_block lumps colormap) zone least (view_paints v scene) (dots_beside (view_paints v scene) fit)
+
+-- a list of textures is one by its name
+last_named : (o : Option ℕ) (lump : ℕ) → option_map_or (λ n. n == lump) o false ≡ true → o ≡ Some lump
+last_named None lump e = absurd (cc)
+last_named (Some n) lump e = ap (λ (k : ℕ). Some k) (eqb-true n lump e)
+
+is_last_named : (lumps : List Lump) (name : List ℕ) (lump : ℕ) → is_last lumps name lump ≡ true → IsLast lumps name lump
+unfolding is_last
+is_last_named lumps name lump e = last_named (last_of lumps name) lump e
+
+list_named : (lumps : List Lump) (lump : ℕ) → is_list lumps lump ≡ true → IsListLump lumps lump
+unfolding is_list
+list_named lumps lump on = elim (or_cases (is_last lumps PNAMES lump) _ on) [
+  | inl names ↦ inl (is_last_named lumps PNAMES lump names)
+  | inr more ↦ elim (or_cases (is_last lumps TEXTURE1 lump) _ more) [
+      | inl first ↦ inr (inl (is_last_named lumps TEXTURE1 lump first))
+      | inr second ↦ inr (inr (is_last_named lumps TEXTURE2 lump second))
+    ]
+]
+
+module _ (lumps : List Lump) (name : List ℕ) (base : LevelBase) (parts : IsBaseOf lumps name base) where
+  -- a lump of the base is one that is asked for
+  base_asked : (lump : ℕ) → is_base_lump lumps base lump ≡ true → IsOfBase lumps name lump
+  unfolding is_base_lump
+  base_asked lump on = elim (or_cases (base.playpal == lump) _ on) [
+    | inl palette ↦ inl (parts.playpal ∙ ap (λ (k : ℕ). Ok k) (eqb-true base.playpal lump palette))
+    | inr more ↦ elim (or_cases (is_map_lump base.label lump) _ more) [
+        | inl map ↦ inr (inl (record { label = base.label; is = parts.label; among = map }))
+        | inr list ↦ inr (inr (list_named lumps lump list))
+      ]
+  ]
+
+  module _ (zone : ℕ) (within : (lump : ℕ) → IsOfBase lumps name lump → lump ≢ base.colormap → lump_block lumps base.colormap + lump_block lumps lump ≤ zone) where
+    -- the first of the map's lumps
+    map_asked : (k : ℕ) → 0 < k → k < 3 → IsOfBase lumps name (base.label + k)
+    unfolding is_map_lump
+    map_asked k some few = inr (inl (record { label = base.label; is = parts.label; among = grind (arith, nat_tests) }))
+
+    -- COLORMAP has room, since one of the map's lumps stands beside it
+    colormap_room : lump_block lumps base.colormap ≤ zone
+    colormap_room = elim (cases_lt base.colormap (base.label + 2)) [
+      | inl below ↦ let beside = within (base.label + 2) (map_asked 2 (omega arith) (omega arith)) (λ e. omega (arith, below, e)) in omega (arith, beside)
+      | inr above ↦ let beside = within (base.label + 1) (map_asked 1 (omega arith) (omega arith)) (λ e. omega (arith, above, e)) in omega (arith, beside)
+    ]
+
+    base_room : lump_block lumps base.colormap + base_block lumps base ≤ zone
+    unfolding base_block block_beside
+    base_room =
+        range_beside _ (lump_block lumps base.colormap) zone 0 (length lumps) colormap_room
+        (λ k. by_test (is_base_lump lumps base k) (lump_block lumps base.colormap) _ _ zone
+        (λ on. by_test (k == base.colormap) (lump_block lumps base.colormap) _ _ zone
+        (λ same. omega (arith, colormap_room))
+        (λ other. within k (base_asked k on) (not_same k base.colormap other)))
+        (λ off. omega (arith, colormap_room)))
+
+-- what was loaded has the base of the directory
+loaded_base : (level : LevelJobValue) (wads : List (List ℕ)) (files : List File) (loaded : LoadedValue) → load_in level wads files ≡ Ok loaded → IsBaseOf loaded.files.lumps level.map_name loaded.scene.base
+unfolding load_in
+loaded_base level wads files loaded e =
+    let a = and_then-ok (files_in level.files wads level.settings.size files) _ loaded e in
+    audited_by (λ l. IsBaseOf l.files.lumps level.map_name l.scene.base) (wad_bytes wads files a.0.lumps) level a.0 loaded (audited_of level wads files a.0 loaded a.1 e)
+    (λ scene weapons accepted layers.
+    base_parts (wad_bytes wads files a.0.lumps) a.0.lumps level.map_name scene.base (scene_parts (wad_bytes wads files a.0.lumps) a.0.lumps a.0.things level.map_name level.settings.skill scene accepted).base)
+
+module _ (level : LevelJobValue) (wads : List (List ℕ)) (files : List File) (loaded : LoadedValue) (is : load_in level wads files ≡ Ok loaded) (within : IsBaseWithin loaded.files.lumps level loaded.scene.base.colormap) where
+  beside : (lump : ℕ) → IsOfBase loaded.files.lumps level.map_name lump → lump ≢ loaded.scene.base.colormap → lump_block loaded.files.lumps loaded.scene.base.colormap + lump_block loaded.files.lumps lump ≤ level.settings.zone
+  unfolding lump_block
+  beside lump asked other = within lump asked other
+
+  pub loaded_room : lump_block loaded.files.lumps loaded.scene.base.colormap ≤ level.settings.zone
+  loaded_room = colormap_room loaded.files.lumps level.map_name loaded.scene.base (loaded_base level wads files loaded is) level.settings.zone beside
+
+  -- the greatest of the base, and of the views that are drawn
+  over_room : (scene : Scene) (views : List ViewValue) → lump_block loaded.files.lumps loaded.scene.base.colormap
+      + greatest_by (painted_block loaded.files.lumps (textures_view loaded.scene) loaded.scene.base.colormap scene) views ≤ level.settings.zone → least_over loaded scene views ≤ level.settings.zone
+  unfolding least_over
+  over_room scene views drawn = omega (arith, drawn, base_room loaded.files.lumps level.map_name loaded.scene.base (loaded_base level wads files loaded is) level.settings.zone beside)
+
+  none_room : (scene : Scene) → least_over loaded scene [] ≤ level.settings.zone
+  unfolding greatest_by
+  none_room scene = over_room scene [] (omega (arith, loaded_room))
+
+  least_is : (task : LevelTask) → least_views task loaded (views_of (wad_bytes wads files loaded.files.lumps) level.settings loaded) ≡ level_least task level wads files
+  unfolding level_least
+  least_is task = sym (ap (λ (loading : Result LoadedValue (Stop Refusal)). least_loading task level (wad_bytes wads files) loading) is)
+
+  -- a job that draws no frame
+  pub least_audit : level_least Audit level wads files ≤ level.settings.zone
+  unfolding least_views
+  least_audit = subst (λ n. n ≤ level.settings.zone) (least_is Audit) (none_room _)
+
+  pub least_limits : level_least Limits level wads files ≤ level.settings.zone
+  unfolding least_views
+  least_limits = subst (λ n. n ≤ level.settings.zone) (least_is Limits) (none_room _)
+
+-- a job that draws the frames that are due
+pub least_render : (level : LevelJobValue) (wads : List (List ℕ)) (files : List File) (format : Format) (ready : ReadyViews) → load_in level wads files ≡ Ok (loaded_value ready.loaded) → IsReady level ready →
+    IsBaseWithin ready.loaded.files.dir.lumps level ready.loaded.scene.scene.base.colormap → FitDue (wad_bytes wads files ready.loaded.files.dir.lumps) (lump_at ready.loaded.files.dir.lumps ready.loaded.scene.scene.base.colormap).size ready →
+    level_least (Render format) level wads files ≤ level.settings.zone
+unfolding least_views due_views
+least_render level wads files format ready is stands within fit =
+    let loaded = loaded_value ready.loaded in
+    let bytes = wad_bytes wads files ready.loaded.files.dir.lumps in
+    let r = ready_views bytes ready in
+    let room : lump_block ready.loaded.files.dir.lumps ready.loaded.scene.scene.base.colormap ≤ level.settings.zone = loaded_room level wads files loaded is within in
+    let drawn = taken_beside (painted_block ready.loaded.files.dir.lumps (textures_view ready.loaded.scene.scene) ready.loaded.scene.scene.base.colormap r.scene) (lump_block ready.loaded.files.dir.lumps ready.loaded.scene.scene.base.colormap) level.settings.zone room
+    (unwrap_or (first_over r) (length r.views)) r.views
+    (λ k l. views_beside level ready stands room r (slice_get r.views k) (fit k l)) in
+    subst (λ n. n ≤ level.settings.zone) (ap (λ (v : ViewsValue). least_views (Render format) loaded v) (sym (ready_as bytes level ready stands)) ∙ least_is level wads files loaded is within (Render format))
+    (over_room level wads files loaded is within r.scene (due_views r) drawn)
+  where
+    views_beside : (level : LevelJobValue) (ready : ReadyViews) → IsReady level ready → lump_block ready.loaded.files.dir.lumps ready.loaded.scene.scene.base.colormap ≤ level.settings.zone → (r : ViewsValue) (o : Option ViewValue) →
+        IfSome o (λ v. FitBeside ready.loaded.files.dir.lumps (textures_view ready.loaded.scene.scene) ready.loaded.scene.scene.base.colormap (lump_at ready.loaded.files.dir.lumps ready.loaded.scene.scene.base.colormap).size ready.loaded.cache.size (view_paints v r.scene)) →
+        IfSome o (λ v. lump_block ready.loaded.files.dir.lumps ready.loaded.scene.scene.base.colormap + painted_block ready.loaded.files.dir.lumps (textures_view ready.loaded.scene.scene) ready.loaded.scene.scene.base.colormap r.scene v ≤ level.settings.zone)
+    views_beside level ready stands room r None fits = tt
+    views_beside level ready stands room r (Some v) fits =
+        view_beside ready.loaded.files.dir.lumps (textures_view ready.loaded.scene.scene) ready.loaded.scene.scene.base.colormap level.settings.zone room r.scene v
+        (subst (λ (n : ℕ). FitBeside ready.loaded.files.dir.lumps (textures_view ready.loaded.scene.scene) ready.loaded.scene.scene.base.colormap (lump_at ready.loaded.files.dir.lumps ready.loaded.scene.scene.base.colormap).size n (view_paints v r.scene)) stands.zone fits)

@@ -1,0 +1,95 @@
+-- How many bytes are read while a zone stays in order.
+use Rattle.std.proofs.Common.{◌≡◌, ◌≤◌, ◌+◌, ℕ, List, Result, Ok, Err, refl, sym, ap, subst, ◌∙◌, arith, MatchResult}
+use Rattle.std.specs.Prelude.{IfErr}
+use Rattle.outside.specs.Causes.{FaultsRose}
+use Rattle.outside.specs.Shelf.{File, ShelfView}
+use Rattle.outside.specs.Faults.{HasCauses, itself}
+use Rattle.outside.specs.declared.fault.Fault.{Fault}
+use Rattle.outside.specs.declared.fault.Fault.TheVariants as fault
+use Rattle.zone_rules.specs.Zones.{Heap}
+use Rattle.zone_rules.specs.Orders.{Item, IsInOrder, KeepsOrder, live_sum, lump_size}
+use Rattle.zone_rules.proofs.OrderLemmas.{order_then}
+use Rattle.lump_cache.specs.Calls.{HasAll, InOrderAt}
+use Rattle.texture_build.specs.Draws.{HasTexturesAsked}
+use Rattle.level_audit.specs.Sound.{SoundValue, textures_view}
+use Rattle.level_audit.proofs.SceneLemmas.{same_value}
+use Rattle.command_line.specs.LevelJobs.{LevelJobValue}
+use Rattle.refusals.specs.declared.refusal.Refusal.{Refusal}
+use Rattle.scene_load.specs.declared.read.SceneFiles.{SceneFiles}
+use Rattle.scene_load.specs.Loads.{LoadedValue, load_in, loaded_value}
+use Rattle.scene_load.specs.Orders.{IsLoadedInOrder, files_size, loaded_items, lumps_size}
+use Rattle.scene_load.proofs.OrderLemmas.{items_read}
+use Rattle.frame_core.specs.declared.fault.ViewFault.{ViewFault}
+use Rattle.frame_core.specs.declared.fault.ViewFault.TheVariants as view
+use Rattle.frame_core.specs.Faults.{view_fault}
+use Rattle.frame_core.specs.Views.{IsViewLump, IsViewTexture}
+use Rattle.doom_run.specs.declared.render.ReadyViews.{ReadyViews}
+use Rattle.doom_run.specs.declared.status.Status.{Status}
+use Rattle.doom_run.specs.declared.status.Status.TheVariants.{Done, Usage, Refused, ReadFault, WriteFault, Limit, ZoneFull, OutOfMemory}
+use Rattle.doom_run.specs.Frames.{KeepsReady, status_of_view}
+use Rattle.doom_run.specs.Renders.{HasReadyAsked}
+use Rattle.doom_run.specs.Takes.{InOrderAfter, LoadsOnce, TakesOnce}
+
+-- what is said after a status, of more
+pub after_all : {P Q : Type 0} (status : Status) → (P → Q) → InOrderAfter status P → InOrderAfter status Q
+after_all Done f p = f p
+after_all Usage f p = f p
+after_all (Refused refusal) f p = f p
+after_all ReadFault f p = tt
+after_all WriteFault f p = f p
+after_all (Limit view kind count) f p = f p
+after_all (ZoneFull wanted widest) f p = p
+after_all OutOfMemory f p = f p
+
+-- a fault of drawing that ends a view
+fault_after : {P : Type 0} (k : ℕ) (f : ViewFault) → InOrderAt (view_fault f) P → InOrderAfter (status_of_view k f) P
+fault_after k (view.Limit kind count) p = p
+fault_after k (view.ZoneFull wanted widest) p = p
+fault_after k view.ReadFault p = tt
+
+pub drawn_after : {P : Type 0} (k : ℕ) (drawn : Result (Unit {0}) ViewFault) (f : ViewFault) (status : Status) → drawn ≡ Err f → status ≡ status_of_view k f →
+    MatchResult drawn (λ _. P) (λ fault. InOrderAt (view_fault fault) P) → InOrderAfter status P
+drawn_after {P} k drawn f status was is order =
+    let now : InOrderAt (view_fault f) P = rw was at order in
+    rw is (fault_after k f now)
+
+asked_for : (items : List Item) (files files' : SceneFiles) (scene scene' : SoundValue) → files' ≡ files → scene' ≡ scene →
+    HasTexturesAsked items (IsViewTexture scene.scene) files.dir.lumps (textures_view scene.scene) × HasAll items files.dir (IsViewLump files.dir.lumps scene.scene) →
+    HasTexturesAsked items (IsViewTexture scene'.scene) files'.dir.lumps (textures_view scene'.scene) × HasAll items files'.dir (IsViewLump files'.dir.lumps scene'.scene)
+asked_for items files files' scene scene' f s asked = rw (f, s) asked
+
+-- the list has what later views ask for
+pub asked-later : {a b : ShelfView} {x y : ReadyViews} (items : List Item) → KeepsReady a b x y → HasReadyAsked items x → HasReadyAsked items y
+asked-later {x = x} {y} items keeps asked =
+    let both = asked_for items x.loaded.files y.loaded.files x.loaded.scene y.loaded.scene keeps.files keeps.scene (asked.textures, asked.lumps) in
+    record { textures = both.0; lumps = both.1 }
+
+-- no read failed
+loaded_fault : {i j before after : ℕ} (level : LevelJobValue) (wads : List (List ℕ)) (files : List File) (expected : LoadedValue) (f : Fault Refusal) → (FaultsRose i j → ⊥) → HasCauses {B = Unit {0}} itself i j (Err f) →
+    InOrderAt f (after ≤ before + (files_size level.files wads files + lumps_size expected)) → after ≤ before + (files_size level.files wads files + lumps_size expected)
+loaded_fault level wads files expected (fault.Refused refusal) none causes read = read
+loaded_fault level wads files expected fault.ReadFault none causes read = absurd (none causes.err)
+loaded_fault level wads files expected (fault.ZoneFull wanted widest) none causes read = absurd read
+loaded_fault level wads files expected fault.OutOfMemory none causes read = read
+
+-- what loading read
+pub loads_taken : {A : Type 0} {i j before after : ℕ} (cache : A → Heap) (level : LevelJobValue) (wads : List (List ℕ)) (files : List File) (expected : LoadedValue) (result : Result A (Fault Refusal)) →
+    LoadsOnce cache level wads files expected before after result → HasCauses itself i j result → (FaultsRose i j → ⊥) → after ≤ before + (files_size level.files wads files + lumps_size expected)
+loads_taken cache level wads files expected (Ok loaded) once causes none = omega (arith, once.taken, items_read expected (cache loaded).blocks)
+loads_taken cache level wads files expected (Err f) once causes none = loaded_fault level wads files expected f none (record { err = causes.err }) once
+
+-- what loading and then drawing read
+drawn_taken : {before loaded after : ℕ} (level : LevelJobValue) (wads : List (List ℕ)) (files : List File) (expected : LoadedValue) (y z : Heap) → IsLoadedInOrder level wads files expected before loaded y → KeepsOrder (loaded_items expected) y z loaded after →
+    after ≤ before + (files_size level.files wads files + lumps_size expected)
+drawn_taken level wads files expected y z once keeps = omega (arith, once.taken, keeps.taken, items_read expected z.blocks)
+
+pub renders_taken : {before loaded after : ℕ} (level : LevelJobValue) (wads : List (List ℕ)) (files : List File) (expected : LoadedValue) (y z : Heap) (status : Status) → IsLoadedInOrder level wads files expected before loaded y →
+    InOrderAfter status (KeepsOrder (loaded_items expected) y z loaded after) → (status ≡ ReadFault → ⊥) → after ≤ before + (files_size level.files wads files + lumps_size expected)
+renders_taken level wads files expected y z Done once keeps read = drawn_taken level wads files expected y z once keeps
+renders_taken level wads files expected y z Usage once keeps read = drawn_taken level wads files expected y z once keeps
+renders_taken level wads files expected y z (Refused refusal) once keeps read = drawn_taken level wads files expected y z once keeps
+renders_taken level wads files expected y z ReadFault once keeps read = absurd (read refl)
+renders_taken level wads files expected y z WriteFault once keeps read = drawn_taken level wads files expected y z once keeps
+renders_taken level wads files expected y z (Limit view kind count) once keeps read = drawn_taken level wads files expected y z once keeps
+renders_taken level wads files expected y z (ZoneFull wanted widest) once keeps read = absurd keeps
+renders_taken level wads files expected y z OutOfMemory once keeps read = drawn_taken level wads files expected y z once keeps
