@@ -1,11 +1,11 @@
 -- A zone that is full while a scene is drawn: for which block, and how small it is.
 use Rattle.std.proofs.Common.{◌≡◌, ◌≢◌, ℕ, zero, suc, ◌+◌, ◌*◌, ◌<◌, ◌≤◌, Bool, true, false, List, [], ◌∷◌, ◌++◌, length, Option, Some, None, Ok, refl, sym, ap, subst, ◌∙◌, arith, inl, inr, eq-eqb}
-use Rattle.std.specs.Prelude.{◌⊎◌, ◌||◌, ◌==◌, cond, All, Contains, IsSome, slice_index_or, nat_lt, filter, take, unwrap_or}
+use Rattle.std.specs.Prelude.{◌⊎◌, ◌||◌, ◌==◌, cond, All, Contains, IfSome, IsSome, slice_index_or, nat_lt, filter, take, unwrap_or}
 use Rattle.std.specs.List.{list_any, range_with_len}
 use Rattle.std.proofs.lemmas.Bool.{cases_lt, false≢true}
 use Rattle.std.proofs.lemmas.Bool.Decides.{nat_tests}
 use Rattle.std.proofs.lemmas.List.{get_or_past}
-use Rattle.std.proofs.lemmas.List.Elements.{All-contains_itself, All-filter, All-head, Contains-get_or}
+use Rattle.std.proofs.lemmas.List.Elements.{All-contains, All-contains_itself, All-filter, All-head, Contains-get_or}
 use Rattle.std.proofs.lemmas.List.Folds.{list_any-append}
 use Rattle.outside.specs.Shelf.{File}
 use Rattle.outside.specs.Faults.{from_below}
@@ -26,7 +26,7 @@ use Rattle.art_rules.proofs.LookupLemmas.{column_lookups-read}
 use Rattle.texture_build.specs.Asked.{IsAskedByColumn, IsPatch, IsSmall, IsSmallBeside, size_of}
 use Rattle.texture_build.specs.Draws.{IsFullForTexture}
 use Rattle.texture_build.specs.Sources.{IsComposedColumn, column_in, column_index, own_lookup}
-use Rattle.texture_build.specs.Views.{AreTexturesOf, IsPrepared, prepared_at, prepared_texture, unprepared}
+use Rattle.texture_build.specs.Views.{AllThere, ArePatchesThere, AreTexturesOf, IsPrepared, prepared_at, prepared_texture, unprepared}
 use Rattle.texture_build.proofs.TexelLemmas.{prepared_is}
 use Rattle.texture_build.proofs.ViewLemmas.{HasColumns, textures_columns}
 use Rattle.command_line.specs.LevelJobs.{LevelJobValue}
@@ -38,7 +38,7 @@ use Rattle.scene_rules.specs.Sizes.{block_or_none, composite_block, enough, grea
 use Rattle.level_audit.specs.Sound.{art_with, textures_view}
 use Rattle.level_audit.proofs.MarkLemmas.{any_passed}
 use Rattle.level_audit.proofs.MemberLemmas.{among_cases, among_none, any_among}
-use Rattle.level_audit.proofs.NeededLemmas.{for_colormap, needed_there, past_block}
+use Rattle.level_audit.proofs.NeededLemmas.{needed_there}
 use Rattle.level_audit.proofs.SceneLemmas.{and_then-ok, from_below-ok, scene_parts}
 use Rattle.level_rules.specs.declared.ThingLine.{ThingLine}
 use Rattle.frame_core.specs.Views.{IsViewLump, IsViewTexture}
@@ -152,11 +152,11 @@ or_patch false false f g on = absurd (cc)
 
 -- what a scene needs with the pictures of its book and of others
 module _ (lumps : List Lump) (scene : SceneValue) (more : List ℕ) where
-  needed_drawn : (lump : ℕ) → IsViewLump scene lump → is_needed lumps (art_with scene (book_lumps scene.book ++ more)) lump ≡ true
+  needed_drawn : (lump : ℕ) → IsViewLump lumps scene lump → is_needed lumps (art_with scene (book_lumps scene.book ++ more)) lump ≡ true
   unfolding is_needed
   needed_drawn lump is =
       rw (list_any-append (λ n. n == lump) (book_lumps scene.book) more)
-      (or_more _ (list_any (has_flat lump) scene.faces.flats) (list_any (λ n. n == lump) (book_lumps scene.book)) (list_any (λ n. n == lump) more) is)
+      (or_more _ (list_any (has_flat lump) scene.faces.flats) (list_any (λ n. n == lump) (book_lumps scene.book)) (list_any (λ n. n == lump) more) is.drawn)
 
 module _ (lumps : List Lump) (scene : SceneValue) (pictures : List ℕ) where
   needed_patch : (t : PreparedTexture) (patch : PlacedPatch) → Contains scene.prepared (Some t) → Contains t.patches patch → is_needed lumps (art_with scene pictures) patch.lump ≡ true
@@ -166,34 +166,27 @@ module _ (lumps : List Lump) (scene : SceneValue) (pictures : List ℕ) where
       (any_among (is_patch_of patch.lump) scene.prepared (Some t) prepared
       (any_among (λ (one : PlacedPatch). one.lump == patch.lump) t.patches patch among (eq-eqb patch.lump patch.lump refl)))
 
-  module _ (there : scene.base.colormap < length lumps) where
-    -- a needed lump has no greater block than the greatest that is needed
-    needed_most : (lump : ℕ) → is_needed lumps (art_with scene pictures) lump ≡ true → lump_block lumps lump ≤ greatest_by (lump_block lumps) (needed_lumps lumps (art_with scene pictures))
-    needed_most lump on = elim (cases_lt lump (length lumps)) [
-      | inl below ↦ needed_there lumps (art_with scene pictures) lump on below
-      | inr past ↦ omega (
-        arith,
-        past_block lumps lump scene.base.colormap past,
-        needed_there lumps (art_with scene pictures) scene.base.colormap (for_colormap lumps (art_with scene pictures) scene.base.colormap (eq-eqb scene.base.colormap scene.base.colormap refl)) there,
-      )
-    ]
+  module _ (zone : ℕ) where
+    -- a zone that does not hold COLORMAP and a needed lump is smaller than enough
+    small_lump : (lump : ℕ) → lump < length lumps → is_needed lumps (art_with scene pictures) lump ≡ true → zone < lump_block lumps scene.base.colormap + lump_block lumps lump + MIN_FRAGMENT → zone < enough lumps (art_with scene pictures)
+    unfolding enough
+    small_lump lump below on l = omega (arith, l, needed_there lumps (art_with scene pictures) lump on below)
 
-    module _ (zone : ℕ) where
-      -- a zone that does not hold COLORMAP and a needed lump is smaller than enough
-      small_lump : (lump : ℕ) → is_needed lumps (art_with scene pictures) lump ≡ true → zone < lump_block lumps scene.base.colormap + lump_block lumps lump + MIN_FRAGMENT → zone < enough lumps (art_with scene pictures)
-      unfolding enough
-      small_lump lump on l = omega (arith, l, needed_most lump on)
+    -- so is one that does not hold COLORMAP and a composite
+    small_composite : (t : Option PreparedTexture) → Contains scene.prepared t → zone < lump_block lumps scene.base.colormap + composite_block t + MIN_FRAGMENT → zone < enough lumps (art_with scene pictures)
+    unfolding enough
+    small_composite t has l = omega (arith, l, contained_greatest composite_block scene.prepared t has)
 
-      -- so is one that does not hold COLORMAP and a composite
-      small_composite : (t : Option PreparedTexture) → Contains scene.prepared t → zone < lump_block lumps scene.base.colormap + composite_block t + MIN_FRAGMENT → zone < enough lumps (art_with scene pictures)
-      unfolding enough
-      small_composite t has l = omega (arith, l, contained_greatest composite_block scene.prepared t has)
+    -- and one that does not hold COLORMAP, a composite and two needed lumps
+    small_beside : (t : Option PreparedTexture) (lump : ℕ) → Contains scene.prepared t → lump < length lumps → is_needed lumps (art_with scene pictures) lump ≡ true →
+        zone < lump_block lumps scene.base.colormap + composite_block t + 2 * lump_block lumps lump + 2 * MIN_FRAGMENT → zone < enough lumps (art_with scene pictures)
+    unfolding enough
+    small_beside t lump has below on l = omega (arith, l, contained_greatest composite_block scene.prepared t has, needed_there lumps (art_with scene pictures) lump on below)
 
-      -- and one that does not hold COLORMAP, a composite and two needed lumps
-      small_beside : (t : Option PreparedTexture) (lump : ℕ) → Contains scene.prepared t → is_needed lumps (art_with scene pictures) lump ≡ true →
-          zone < lump_block lumps scene.base.colormap + composite_block t + 2 * lump_block lumps lump + 2 * MIN_FRAGMENT → zone < enough lumps (art_with scene pictures)
-      unfolding enough
-      small_beside t lump has on l = omega (arith, l, contained_greatest composite_block scene.prepared t has, needed_most lump on)
+-- a patch of a prepared texture is a lump of the directory
+patch_there : (lumps : List Lump) (scene : SceneValue) (t : PreparedTexture) (patch : PlacedPatch) → AllThere lumps (textures_view scene) → Contains scene.prepared (Some t) → Contains t.patches patch → patch.lump < length lumps
+patch_there lumps scene t patch all prepared among =
+    All-contains (λ (p : PlacedPatch). p.lump < length lumps) t.patches patch (All-contains (λ (o : Option PreparedTexture). IfSome o (ArePatchesThere lumps)) scene.prepared (Some t) all prepared) among
 
 -- the lists of a base are those of the directory
 base_lists : (bytes : ℕ → List ℕ) (lumps : List Lump) (name : List ℕ) (base : LevelBase) → base_in bytes lumps name ≡ Ok base → lists_in bytes lumps ≡ Ok base.lists
@@ -221,18 +214,18 @@ loaded_textures level wads files loaded e =
     audited_by (λ l. AreTexturesOf (wad_contents wads files) l.files.lumps (textures_view l.scene)) (wad_bytes wads files a.0.lumps) level a.0 loaded (audited_of level wads files a.0 loaded a.1 e)
     (λ scene weapons accepted layers. scene_textures (wad_contents wads files) a.0.lumps a.0.things level.map_name level.settings.skill scene accepted)
 
-module _ (level : LevelJobValue) (wads : List (List ℕ)) (files : List File) (loaded : LoadedValue) (is : load_in level wads files ≡ Ok loaded) (there : loaded.scene.base.colormap < length loaded.files.lumps) (wanted widest' : ℕ) (narrow : widest' < wanted) where
+module _ (level : LevelJobValue) (wads : List (List ℕ)) (files : List File) (loaded : LoadedValue) (is : load_in level wads files ≡ Ok loaded) (there : AllThere loaded.files.lumps (textures_view loaded.scene)) (wanted widest' : ℕ) (narrow : widest' < wanted) where
   -- no room for a needed lump beside COLORMAP
-  lump_full : (lump : ℕ) → is_needed loaded.files.lumps (art_with loaded.scene (loaded_pictures loaded)) lump ≡ true → wanted ≡ block_size (lump_at loaded.files.lumps lump).size →
+  lump_full : (lump : ℕ) → lump < length loaded.files.lumps → is_needed loaded.files.lumps (art_with loaded.scene (loaded_pictures loaded)) lump ≡ true → wanted ≡ block_size (lump_at loaded.files.lumps lump).size →
       IsSmall level.settings.zone (lump_at loaded.files.lumps loaded.scene.base.colormap).size wanted → IsFullDraw level wads files wanted widest'
   unfolding lump_block loaded_sizes zone_sizes
-  lump_full lump on wanted_is small = record {
+  lump_full lump below on wanted_is small = record {
     loaded = loaded;
     is = is;
-    block = record { is = inl (lump, on, wanted_is) };
+    block = record { is = inl (lump, below, on, wanted_is) };
     narrow = narrow;
     small = inl small;
-    enough = small_lump loaded.files.lumps loaded.scene (loaded_pictures loaded) there level.settings.zone lump on (subst (λ n. level.settings.zone < block_size (lump_at loaded.files.lumps loaded.scene.base.colormap).size + n + MIN_FRAGMENT) wanted_is small);
+    enough = small_lump loaded.files.lumps loaded.scene (loaded_pictures loaded) level.settings.zone lump below on (subst (λ n. level.settings.zone < block_size (lump_at loaded.files.lumps loaded.scene.base.colormap).size + n + MIN_FRAGMENT) wanted_is small);
   }
 
   module _ (t : PreparedTexture) (prepared : Contains loaded.scene.prepared (Some t)) (size : ℕ) (wanted_is : wanted ≡ block_size size) where
@@ -247,20 +240,21 @@ module _ (level : LevelJobValue) (wads : List (List ℕ)) (files : List File) (l
           block = record { is = inr (Some t, prepared, block, subst (λ n. n ≢ 0) (sym wanted_is) (block_some size)) };
           narrow = narrow;
           small = inl small;
-          enough = small_composite loaded.files.lumps loaded.scene (loaded_pictures loaded) there level.settings.zone (Some t) prepared (subst (λ n. level.settings.zone < block_size (lump_at loaded.files.lumps loaded.scene.base.colormap).size + n + MIN_FRAGMENT) block small);
+          enough = small_composite loaded.files.lumps loaded.scene (loaded_pictures loaded) level.settings.zone (Some t) prepared (subst (λ n. level.settings.zone < block_size (lump_at loaded.files.lumps loaded.scene.base.colormap).size + n + MIN_FRAGMENT) block small);
         }
 
     -- none for a patch, alone or beside the composite
     patch_full : (patch : PlacedPatch) → Contains t.patches patch → size ≡ (lump_at loaded.files.lumps patch.lump).size →
         IsSmall level.settings.zone (lump_at loaded.files.lumps loaded.scene.base.colormap).size wanted → IsFullDraw level wads files wanted widest'
     patch_full patch among same small =
-        lump_full patch.lump (needed_patch loaded.files.lumps loaded.scene (loaded_pictures loaded) t patch prepared among) (wanted_is ∙ ap (λ n. block_size n) same) small
+        lump_full patch.lump (patch_there loaded.files.lumps loaded.scene t patch there prepared among) (needed_patch loaded.files.lumps loaded.scene (loaded_pictures loaded) t patch prepared among) (wanted_is ∙ ap (λ n. block_size n) same) small
 
     beside_full : (patch : PlacedPatch) → Contains t.patches patch → size ≡ (lump_at loaded.files.lumps patch.lump).size → 0 < size_of t →
         IsSmallBeside level.settings.zone (lump_at loaded.files.lumps loaded.scene.base.colormap).size (size_of t) wanted → IsFullDraw level wads files wanted widest'
     unfolding lump_block loaded_sizes zone_sizes
     beside_full patch among same some small =
         let on = needed_patch loaded.files.lumps loaded.scene (loaded_pictures loaded) t patch prepared among in
+        let below = patch_there loaded.files.lumps loaded.scene t patch there prepared among in
         let block : wanted ≡ block_size (lump_at loaded.files.lumps patch.lump).size = wanted_is ∙ ap (λ n. block_size n) same in
         let built : composite_block (Some t) ≡ block_size (size_of t) = block_of t some in
         let less : level.settings.zone < block_size (lump_at loaded.files.lumps loaded.scene.base.colormap).size + composite_block (Some t) + 2 * wanted + 2 * MIN_FRAGMENT =
@@ -268,10 +262,10 @@ module _ (level : LevelJobValue) (wads : List (List ℕ)) (files : List File) (l
         record {
           loaded = loaded;
           is = is;
-          block = record { is = inl (patch.lump, on, block) };
+          block = record { is = inl (patch.lump, below, on, block) };
           narrow = narrow;
           small = inr (record { texture = t; prepared = prepared; patch = patch; among = among; is = block; built = subst (λ n. n ≢ 0) (sym built) (block_some (size_of t)); small = less });
-          enough = small_beside loaded.files.lumps loaded.scene (loaded_pictures loaded) there level.settings.zone (Some t) patch.lump prepared on
+          enough = small_beside loaded.files.lumps loaded.scene (loaded_pictures loaded) level.settings.zone (Some t) patch.lump prepared below on
               (subst (λ n. level.settings.zone < block_size (lump_at loaded.files.lumps loaded.scene.base.colormap).size + composite_block (Some t) + 2 * n + 2 * MIN_FRAGMENT) block less);
         }
 
@@ -291,9 +285,9 @@ module _ (level : LevelJobValue) (wads : List (List ℕ)) (files : List File) (r
   count = (lump_at ready.loaded.files.dir.lumps ready.loaded.scene.scene.base.colormap).size
 
   -- no room for a flat or a picture
-  draw_lump : IsFullFor (IsViewLump ready.loaded.scene.scene) ready.loaded.files.dir ready.loaded.cache wanted widest' → IsFullDraw level wads files wanted widest'
+  draw_lump : IsFullFor (IsViewLump ready.loaded.files.dir.lumps ready.loaded.scene.scene) ready.loaded.files.dir ready.loaded.cache wanted widest' → IsFullDraw level wads files wanted widest'
   draw_lump full =
-      lump_full level wads files (loaded_value ready.loaded) is stands.drawable.colormap wanted widest' full.narrow full.lump
+      lump_full level wads files (loaded_value ready.loaded) is stands.drawable.whole.art.patches wanted widest' full.narrow full.lump full.asked.there
       (needed_drawn ready.loaded.files.dir.lumps ready.loaded.scene.scene (weapon_lumps ready.loaded.weapons) full.lump full.asked) full.wanted_is
       (subst (λ n. IsSmall n count wanted) stands.zone (full.room ready.loaded.scene.scene.base.colormap count stands.rest))
 
@@ -317,10 +311,10 @@ module _ (level : LevelJobValue) (wads : List (List ℕ)) (files : List File) (r
     draw_column : IsAskedByColumn ready.loaded.files.dir.lumps number t (own_lookup t x) owner size →
         IsSmall level.settings.zone count wanted ⊎ (IsComposedColumn (own_lookup t x) × IsPatch ready.loaded.files.dir.lumps t owner size × IsSmallBeside level.settings.zone count (size_of t) wanted) → IsFullDraw level wads files wanted widest'
     draw_column asked (inl small) =
-        alone_full level wads files (loaded_value ready.loaded) is stands.drawable.colormap wanted widest' narrow t (among_prepared ready.loaded.scene.scene.prepared number some) size wanted_is
+        alone_full level wads files (loaded_value ready.loaded) is stands.drawable.whole.art.patches wanted widest' narrow t (among_prepared ready.loaded.scene.scene.prepared number some) size wanted_is
         (column_asked ready.loaded.files.dir.lumps number t owner size (lump_bytes (wad_contents wads files) ready.loaded.files.dir.lumps) its_columns its_rows x asked) small
     draw_column asked (inr beside) =
-        beside_full level wads files (loaded_value ready.loaded) is stands.drawable.colormap wanted widest' narrow t (among_prepared ready.loaded.scene.scene.prepared number some) size wanted_is
+        beside_full level wads files (loaded_value ready.loaded) is stands.drawable.whole.art.patches wanted widest' narrow t (among_prepared ready.loaded.scene.scene.prepared number some) size wanted_is
         beside.1.0 beside.1.1 beside.1.3 (column_composed ready.loaded.files.dir.lumps number t owner size (lump_bytes (wad_contents wads files) ready.loaded.files.dir.lumps) its_columns its_rows x beside.0) beside.2
 
   draw_texture : IsFullForTexture (IsViewTexture ready.loaded.scene.scene) ready.loaded.files.dir.lumps (textures_view ready.loaded.scene.scene) ready.loaded.cache wanted widest' → IsFullDraw level wads files wanted widest'

@@ -130,8 +130,8 @@ full_lump-first wanted widest keeps full = record {
 }
 
 full_view-first : {a b : ShelfView} {y z : Heap} (files files' : SceneFiles) (scene scene' : SoundValue) (wanted widest : ℕ) → files' ≡ files → scene' ≡ scene → KeepsArt a b files.dir (textures_view scene.scene) y z →
-    (IsFullForTexture (IsViewTexture scene'.scene) files'.dir.lumps (textures_view scene'.scene) z wanted widest ⊎ IsFullFor (IsViewLump scene'.scene) files'.dir z wanted widest) →
-    (IsFullForTexture (IsViewTexture scene.scene) files.dir.lumps (textures_view scene.scene) y wanted widest ⊎ IsFullFor (IsViewLump scene.scene) files.dir y wanted widest)
+    (IsFullForTexture (IsViewTexture scene'.scene) files'.dir.lumps (textures_view scene'.scene) z wanted widest ⊎ IsFullFor (IsViewLump files'.dir.lumps scene'.scene) files'.dir z wanted widest) →
+    (IsFullForTexture (IsViewTexture scene.scene) files.dir.lumps (textures_view scene.scene) y wanted widest ⊎ IsFullFor (IsViewLump files.dir.lumps scene.scene) files.dir y wanted widest)
 full_view-first files files' scene scene' wanted widest f s keeps (inl full) = inl (full_texture-first wanted widest keeps (rw (← f, ← s) full))
 full_view-first files files' scene scene' wanted widest f s keeps (inr full) = inr (full_lump-first wanted widest keeps (rw (← f, ← s) full))
 

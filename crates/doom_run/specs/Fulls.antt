@@ -1,5 +1,5 @@
 -- When a run ends with a full zone.
-use Rattle.std.specs.Prelude.{◌≡◌, ◌≢◌, ◌≤◌, ◌<◌, ◌+◌, ◌*◌, ◌⊎◌, ℕ, true, List, Option, Some, Ok, Contains}
+use Rattle.std.specs.Prelude.{◌≡◌, ◌≢◌, ◌≤◌, ◌<◌, ◌+◌, ◌*◌, ◌⊎◌, ℕ, true, List, length, Option, Some, Ok, Contains}
 use Rattle.outside.specs.Shelf.{File}
 use Rattle.zone_rules.specs.declared.TheConstants.{MIN_FRAGMENT}
 use Rattle.art_rules.specs.declared.PlacedPatch.{PlacedPatch}
@@ -16,10 +16,10 @@ use Rattle.scene_load.specs.Loads.{LoadedValue, load_in, loaded_pictures, loaded
 use Rattle.doom_run.specs.Exercises.{made_files, made_level, made_wads}
 use Rattle.doom_run.specs.Verdict.{Accepted, enough_for}
 
--- A block that drawing asks for: that of a lump that the scene needs, or of a prepared texture's composite.
--- The sky's number stands for a flat, and is that of no lump: its block is the least.
+-- A block that drawing asks for: that of a lump of the directory that the scene needs, or of a prepared
+-- texture's composite.
 pub record IsDrawnBlock (loaded : LoadedValue) (wanted : ℕ) : Type 0 where
-  pub is : ((lump : ℕ) × (is_needed loaded.files.lumps (art_with loaded.scene (loaded_pictures loaded)) lump ≡ true) × (wanted ≡ lump_block loaded.files.lumps lump))
+  pub is : ((lump : ℕ) × (lump < length loaded.files.lumps) × (is_needed loaded.files.lumps (art_with loaded.scene (loaded_pictures loaded)) lump ≡ true) × (wanted ≡ lump_block loaded.files.lumps lump))
       ⊎ ((t : Option PreparedTexture) × (Contains loaded.scene.prepared t) × (wanted ≡ composite_block t) × (wanted ≢ 0))
 
 -- a patch of a texture whose composite is built, which has to stand beside it and COLORMAP

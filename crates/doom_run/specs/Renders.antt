@@ -41,7 +41,8 @@ abbrev pub IsFullView : ReadyViews → ℕ → ℕ → Type 0
 IsFullView ready wanted widest' =
     IsFullForTexture (IsViewTexture ready.loaded.scene.scene) ready.loaded.files.dir.lumps
     (textures_view ready.loaded.scene.scene) ready.loaded.cache wanted widest'
-    ⊎ IsFullFor (IsViewLump ready.loaded.scene.scene) ready.loaded.files.dir ready.loaded.cache wanted widest'
+    ⊎ IsFullFor (IsViewLump ready.loaded.files.dir.lumps ready.loaded.scene.scene) ready.loaded.files.dir
+    ready.loaded.cache wanted widest'
 
 -- a scene of a job that is ready to be drawn, and the zone in which a view of it found no gap
 pub record IsFullReady (level : LevelJobValue) (wads : List (List ℕ)) (files : List File) (wanted widest' : ℕ) : Type 0 where

@@ -174,9 +174,10 @@ fn draw_at<S: Shelf>(ready: &mut ReadyViews, number: u32, shelf: &mut S) -> Resu
         OnOk result (FitsAt (lump_bytes contents ready.old.loaded.files.dir.lumps) count
         ready.old number) }
     ensures draws { DrawsWith view_fault (IsViewTexture ready.old.loaded.scene.scene)
-        (IsViewLump ready.old.loaded.files.dir.lumps ready.old.loaded.scene.scene) (S.view shelf.old) (S.view shelf.new)
-        ready.old.loaded.files.dir (textures_view ready.old.loaded.scene.scene)
-        ready.old.loaded.cache ready.new.loaded.cache result }
+        (IsViewLump ready.old.loaded.files.dir.lumps ready.old.loaded.scene.scene)
+        (S.view shelf.old) (S.view shelf.new) ready.old.loaded.files.dir
+        (textures_view ready.old.loaded.scene.scene) ready.old.loaded.cache
+        ready.new.loaded.cache result }
     ensures keeps { KeepsReady (S.view shelf.old) (S.view shelf.new) ready.old ready.new }
 {
     let loaded = &mut ready.loaded;

@@ -180,10 +180,14 @@ flat_shown scene lump long shown =
     list_any_at (has_flat lump) flats shown.sector no_flats (omega (arith, shown.there, long))
     (flat_by lump _ (get_or sectors shown.sector no_sector) (get_or flats shown.sector no_flats) (surface_from sectors flats shown.sector no_sector no_flats no_surface long shown.there) shown.is)
 
-flat_lump : (shape : ViewShape) (scene : SceneValue) (planes : List Plane) (lump : ℕ) → length scene.faces.flats ≡ length scene.base.level.sectors → All (IsPlaneIn shape scene) planes → IsFlatOf planes lump → IsViewLump scene lump
-flat_lump shape scene planes lump long all asked =
+flat_lump : (lumps : List Lump) (scene : SceneValue) (z : Heap) (sky : Option TexNo) (shape : ViewShape) (planes : List Plane) (lump : ℕ) → CanDrawView lumps scene z → IsSkyOf scene sky → All (IsPlaneIn shape scene) planes → IsFlatOf planes lump →
+    IsViewLump lumps scene lump
+flat_lump lumps scene z sky shape planes lump can is all asked =
     let shown : IsFlatShown scene (flat.Lump lump) = subst (IsFlatShown scene) asked.is (All-contains (IsPlaneIn shape scene) planes asked.plane all asked.among).flat in
-    or_left (list_any (has_flat lump) scene.faces.flats) (list_any (λ n. n == lump) (book_lumps scene.book)) (flat_shown scene lump long shown)
+    record {
+      there = flat_there lumps scene z sky can is (flat.Lump lump) shown;
+      drawn = or_left (list_any (has_flat lump) scene.faces.flats) (list_any (λ n. n == lump) (book_lumps scene.book)) (flat_shown scene lump can.whole.flats shown);
+    }
 
 -- a fault of the cache is the same fault of a view
 cache_above : (e : CacheFault) → view_fault (from_cache e) ≡ fault_above (λ (never : ⊥). absurd never) (cache_fault e)
@@ -226,7 +230,7 @@ module _ {mark : Painter → ℕ → ℕ} {s : ViewScene} where
             (subst (λ (ps : List Plane). OnOk part (FitBeside s.dir.lumps (textures_view s.scene) s.scene.base.colormap count old.cache.size (planes_dots s.view (held_scene contents s) ps))) (same contents)
             (drawn.fits (held_scene contents s) contents count hold (held_art (lump_bytes contents s.dir.lumps) s.scene) (held_sky (lump_bytes contents s.dir.lumps) s.scene sky is)));
         draws = draws-above (λ (never : ⊥). absurd never) from_cache cache_above part
-            (draws-wider (λ number asked. sky_prepared s.scene sky number can.whole.art.sky is asked) (λ lump asked. flat_lump s.view.shape s.scene b.planes.planes lump can.whole.flats all asked) drawn.draws);
+            (draws-wider (λ number asked. sky_prepared s.scene sky number can.whole.art.sky is asked) (λ lump asked. flat_lump s.dir.lumps s.scene old.cache sky s.view.shape b.planes.planes lump can is all asked) drawn.draws);
         place = drawn.place;
       }
 

@@ -1,7 +1,9 @@
 -- Laws of the masked pass of a view: what it asks is there where the walk is in the bench, and what it paints is what the picture has.
-use Rattle.std.proofs.Common.{◌≡◌, ℕ, Bool, true, false, ℤ, List, [], length, get_or, Result, Ok, Err, OnOk, refl, ap, sym, subst, ◌∙◌}
+use Rattle.std.proofs.Common.{◌≡◌, ◌<◌, ℕ, Bool, true, false, ℤ, List, [], length, get_or, Result, Ok, Err, OnOk, refl, ap, sym, subst, ◌∙◌, arith}
 use Rattle.std.specs.Prelude.{◌||◌, ◌==◌}
 use Rattle.std.specs.List.{All, AllPass, list_any}
+use Rattle.std.proofs.lemmas.Bool.Decides.{nat_tests}
+use Rattle.std.proofs.lemmas.List.Elements.{All-contains}
 use Rattle.outside.specs.Faults.{fault_above}
 use Rattle.lump_rules.specs.Contents.{lump_bytes}
 use Rattle.zone_rules.specs.Zones.{Heap}
@@ -105,6 +107,11 @@ either_right : (a b : Bool) → b ≡ true → (a || b) ≡ true
 either_right true b e = refl
 either_right false b e = e
 
+-- the lump of an entry that has one of so many
+lump_below : (n : ℕ) (e : SpriteEntry) → has_lump_below n e ≡ true → e.lump < n
+unfolding has_lump_below
+lump_below n e on = grind (arith, nat_tests)
+
 pub no_bytes : ℕ → List ℕ
 no_bytes n = []
 
@@ -139,13 +146,17 @@ module _ {v : ViewValue} {s : SceneValue} {b : Bench} {z : Heap} (dir : Director
   pub sprites-below : AllPass (has_lump_below (length dir.lumps)) b.sprites
   sprites-below = (walked no_bytes).lumps (length dir.lumps) can.whole.art.pictures
 
-  sprite_lump : (lump : ℕ) → IsSpriteLump b.sprites lump → IsViewLump s lump
+  sprite_lump : (lump : ℕ) → IsSpriteLump b.sprites lump → IsViewLump dir.lumps s lump
   sprite_lump lump k =
       let w = walked no_bytes in
       let P : ℕ → Type 0 = λ (m : ℕ). list_any (λ n. n == m) (book_lumps s.book) ≡ true in
       let found = entry_lump no_bytes v s (view_events v (lists_of s)) b.sprites k.among.0 k.sprite w.sprites k.among.1 in
       let same : (get_or b.sprites k.among.0 k.sprite).lump ≡ lump = ap (λ (e : SpriteEntry). e.lump) k.among.2 ∙ sym k.is in
-      either_right (list_any (has_flat lump) s.faces.flats) (list_any (λ n. n == lump) (book_lumps s.book)) (subst P same found)
+      let below = All-contains (λ (e : SpriteEntry). has_lump_below (length dir.lumps) e ≡ true) b.sprites k.sprite sprites-below k.among in
+      record {
+        there = subst (λ (m : ℕ). m < length dir.lumps) (sym k.is) (lump_below (length dir.lumps) k.sprite below);
+        drawn = either_right (list_any (has_flat lump) s.faces.flats) (list_any (λ n. n == lump) (book_lumps s.book)) (subst P same found);
+      }
 
   same_dots : (bytes : ℕ → List ℕ) →
       masked_dots v (view_art bytes (textures_view s) s.base.colormap) (noted_drawsegs v (textures_view s) (mask_lists s) b.walls.openings b.walls.notes) (draw_order b.sprites) ≡ masks_dots v s (scene_of bytes s)
@@ -168,6 +179,6 @@ masks-above {mark} {v} {s} {b} {dir} {old} {new} {lower} same sound can walked d
       fits = λ contents count hold. on_ok_above (FitBeside dir.lumps (textures_view s) s.base.colormap count old.cache.size (masks_dots v s (scene_of (lump_bytes contents dir.lumps) s))) lower
           (subst (λ (ds : List Dot). OnOk lower (FitBeside dir.lumps (textures_view s) s.base.colormap count old.cache.size ds)) (dots contents) (one.fits contents count hold));
       draws = draws-above (λ (none : ⊥). absurd none) from_cache same_fault lower
-          (draws-wider {among = IsViewTexture s} {pictures = IsViewLump s} (λ number k. middle_prepared dir.lumps s old.cache b.walls.notes number (scene_notes dir sound can walked) k) (λ lump k. sprite_lump dir sound can walked lump k) one.draws);
+          (draws-wider {among = IsViewTexture s} {pictures = IsViewLump dir.lumps s} (λ number k. middle_prepared dir.lumps s old.cache b.walls.notes number (scene_notes dir sound can walked) k) (λ lump k. sprite_lump dir sound can walked lump k) one.draws);
       place = one.place;
     }

@@ -50,13 +50,13 @@ pub record CanDrawView (lumps : List Lump) (scene : SceneValue) (z : Heap) : Typ
   pub slots : length lumps ≤ z.lumps
   pub composites : length scene.base.lists.textures ≤ z.composites
 
--- the textures of sides and sky, and the lumps of flats and of pictures of things
+-- the textures of sides and sky, and the lumps of the directory that are flats or pictures of things
 abbrev pub IsViewTexture : SceneValue → ℕ → Type 0
 IsViewTexture scene number = IsPrepared (textures_view scene) number
 
-abbrev pub IsViewLump : SceneValue → ℕ → Type 0
-IsViewLump scene lump =
-    (list_any (has_flat lump) scene.faces.flats || list_any (λ n. n == lump) (book_lumps scene.book)) ≡ true
+pub record IsViewLump (lumps : List Lump) (scene : SceneValue) (lump : ℕ) : Type 0 where
+  pub there : lump < length lumps
+  pub drawn : (list_any (has_flat lump) scene.faces.flats || list_any (λ n. n == lump) (book_lumps scene.book)) ≡ true
 
 -- what stays while a view is drawn
 pub record ViewScene : Type 0 where
@@ -90,6 +90,6 @@ pub record PaintsView {A : Type 0} (mark : Painter → ℕ → ℕ) (s : ViewSce
       HoldsArt old.shelf s.dir (textures_view s.scene) contents s.scene.base.colormap count old.cache →
       OnOk result (FitBeside s.dir.lumps (textures_view s.scene) s.scene.base.colormap count old.cache.size
       (dots (held_scene contents s)))
-  pub draws : DrawsWith view_fault (IsViewTexture s.scene) (IsViewLump s.scene) old.shelf new.shelf s.dir
-      (textures_view s.scene) old.cache new.cache result
+  pub draws : DrawsWith view_fault (IsViewTexture s.scene) (IsViewLump s.dir.lumps s.scene) old.shelf new.shelf
+      s.dir (textures_view s.scene) old.cache new.cache result
   pub place : PlacedAlike old.canvas new.canvas

@@ -77,8 +77,8 @@ pub fn draw_view<S: Shelf>(
         (view_paints (view_of tables.now eye)
         (scene_of (lump_bytes contents dir.now.lumps) scene.now.scene))) }
     ensures draws { DrawsWith view_fault (IsViewTexture scene.now.scene)
-        (IsViewLump scene.now.scene) (S.view shelf.old) (S.view shelf.new) dir.now
-        (textures_view scene.now.scene) cache.old cache.new result }
+        (IsViewLump dir.now.lumps scene.now.scene) (S.view shelf.old) (S.view shelf.new)
+        dir.now (textures_view scene.now.scene) cache.old cache.new result }
     ensures limits { shop.new.limits ≡ shop.old.limits }
 {
     shop.frame.clear();
