@@ -9,4 +9,5 @@ pub mod LayerLemmas
 pub mod LengthLemmas
 pub mod LoadLemmas
 pub mod MoreLemmas
+pub mod TakenLemmas
 pub mod WadLemmas
