@@ -9,4 +9,7 @@ pub mod LayerLemmas
 pub mod LengthLemmas
 pub mod LoadLemmas
 pub mod MoreLemmas
+pub mod OrderLemmas
+pub mod ReadLemmas
+pub mod TakenLemmas
 pub mod WadLemmas

@@ -47,7 +47,7 @@ more_passes false false more on = absurd (cc)
 
 module _ (lumps : List Lump) (scene : SceneValue) (few more : List ℕ) where
   -- a scene with more pictures needs what it needed
-  needed_more : (lump : ℕ) → is_needed lumps (art_with scene few) lump ≡ true → is_needed lumps (art_with scene (few ++ more)) lump ≡ true
+  pub needed_more : (lump : ℕ) → is_needed lumps (art_with scene few) lump ≡ true → is_needed lumps (art_with scene (few ++ more)) lump ≡ true
   unfolding is_needed
   needed_more lump on =
       rw (list_any-append (λ n. n == lump) few more) (more_passes _ (list_any (λ n. n == lump) few) (list_any (λ n. n == lump) more) on)
@@ -100,7 +100,7 @@ module _ (lumps : List Lump) (scene : SceneValue) (pictures : List ℕ) (there :
   picture_beside lump on = omega (arith, picture_block lump on)
 
 -- a picture of the layers is among those of the book
-book_of_layers : (bytes : ℕ → List ℕ) (lumps : List Lump) (weapons : Option (List WeaponRow)) (layers : Option (List Frame)) (lump : ℕ) → weapons_of bytes lumps weapons ≡ Ok layers → IsOfLayers lumps weapons lump → list_any (λ n. n == lump) (weapon_lumps layers) ≡ true
+pub book_of_layers : (bytes : ℕ → List ℕ) (lumps : List Lump) (weapons : Option (List WeaponRow)) (layers : Option (List Frame)) (lump : ℕ) → weapons_of bytes lumps weapons ≡ Ok layers → IsOfLayers lumps weapons lump → list_any (λ n. n == lump) (weapon_lumps layers) ≡ true
 unfolding weapons_of weapon_book
 book_of_layers bytes lumps weapons layers lump e asked =
     let rows = asked.0 in

@@ -3,3 +3,4 @@ pub mod Found
 pub mod Fulls
 pub mod Lengths
 pub mod Loads
+pub mod Orders

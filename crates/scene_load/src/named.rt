@@ -4,6 +4,7 @@ ghost use Rattle.outside.specs.Shelf.{File, IsLaterShelf, Holds, Stands};
 ghost use Rattle.outside.specs.Faults.{ResultIs, HasCauses, itself};
 ghost use Rattle.scene_load.specs.Files.{IsNeverFull, in_file, unless_refused};
 ghost use Rattle.scene_load.specs.Lengths.{bytes_in, length_refusal, most_bytes, tables_length_refusal, text_length_refusal};
+ghost use Rattle.scene_load.specs.Orders.{named_size};
 ghost use Rattle.outside.specs.Stops.{ResultIsOrAbsent};
 
 use crate::{LoadFault, Refusal};
@@ -36,6 +37,8 @@ pub fn read_named<S: Shelf>(
     ensures causes { HasCauses itself
         (S.view shelf.old).faults (S.view shelf.new).faults result }
     ensures taken { (S.view shelf.new).taken ≤ (S.view shelf.old).taken + most_bytes kind }
+    ensures taken_of { (files : List File) → Holds (S.view shelf.old) files →
+        (S.view shelf.new).taken ≤ (S.view shelf.old).taken + named_size name.now files }
 {
     let file = shelf.find(name)?;
     read_file(alloc, shelf, file, kind)
@@ -56,6 +59,8 @@ fn read_file<S: Shelf>(
     ensures causes { HasCauses itself
         (S.view shelf.old).faults (S.view shelf.new).faults result }
     ensures taken { (S.view shelf.new).taken ≤ (S.view shelf.old).taken + most_bytes kind }
+    ensures taken_of { (bytes : List ℕ) → Stands (S.view shelf.old) file.0 bytes →
+        (S.view shelf.new).taken ≤ (S.view shelf.old).taken + length bytes }
 {
     let size = shelf.size_of(file)?;
     match check_length(kind, size) {

@@ -7,6 +7,7 @@ ghost use Rattle.lump_rules.specs.Wads.{listing_sizes};
 ghost use Rattle.view_rules.specs.declared.TheConstants.{MIN_SIZE, MAX_SIZE};
 ghost use Rattle.command_line.specs.LevelJobs.{file_names};
 ghost use Rattle.scene_load.specs.Files.{IsNeverFull, files_in, files_named, value_of};
+ghost use Rattle.scene_load.specs.Orders.{files_size};
 ghost use Rattle.outside.specs.Stops.{ResultIsOrAbsent};
 
 use crate::LoadFault;
@@ -80,6 +81,11 @@ pub fn read_files<S: Shelf>(
         (S.view shelf.new).taken ≤ (S.view shelf.old).taken
         + (TABLES_BYTES + 3 * MAX_TABLE_BYTES
         + HEADER_SIZE * length found.dir.files + ENTRY_SIZE * length found.dir.lumps)) }
+    ensures taken_of { (files : List File) (contents : List (List ℕ)) →
+        Holds (S.view shelf.old) files →
+        files_named (map (λ wad. wad.now) wads.now) files ≡ Some contents →
+        (S.view shelf.new).taken ≤ (S.view shelf.old).taken
+        + files_size (file_names names.now) (map (λ wad. wad.now) wads.now) files }
 {
     let tables = load_tables(alloc, shelf, names.tables, size)?;
     let texts = load_texts(alloc, shelf, names)?;

@@ -4,6 +4,7 @@ ghost use Rattle.outside.specs.Shelf.{File, IsLaterShelf, Holds};
 ghost use Rattle.outside.specs.Faults.{ResultIs, HasCauses, itself};
 ghost use Rattle.view_rules.specs.declared.TheConstants.{MIN_SIZE, MAX_SIZE};
 ghost use Rattle.scene_load.specs.Files.{IsNeverFull, in_file, tables_file, tables_in};
+ghost use Rattle.scene_load.specs.Orders.{named_size};
 ghost use Rattle.outside.specs.Stops.{ResultIsOrAbsent};
 
 use crate::named::{FileKind, read_named};
@@ -31,6 +32,8 @@ pub fn load_tables<S: Shelf>(
         (S.view shelf.old).faults (S.view shelf.new).faults result }
     ensures size { IfOk result (λ tables. tables.size ≡ size) }
     ensures taken { (S.view shelf.new).taken ≤ (S.view shelf.old).taken + TABLES_BYTES }
+    ensures taken_of { (files : List File) → Holds (S.view shelf.old) files →
+        (S.view shelf.new).taken ≤ (S.view shelf.old).taken + named_size name.now files }
 {
     let bytes = read_named(alloc, shelf, name, FileKind::Tables)?;
     check_tables(alloc, &bytes, size)

@@ -5,6 +5,7 @@ ghost use Rattle.outside.specs.Shelf.{File, IsLaterShelf, Holds};
 ghost use Rattle.outside.specs.Faults.{ResultIs, HasCauses, itself};
 ghost use Rattle.command_line.specs.LevelJobs.{file_names};
 ghost use Rattle.scene_load.specs.Files.{IsNeverFull, in_file, in_optional_file, things_file, path_file, weapons_file, texts_in};
+ghost use Rattle.scene_load.specs.Orders.{named_size, optional_size, texts_size};
 ghost use Rattle.outside.specs.Stops.{ResultIsOrAbsent};
 
 use crate::named::{FileKind, read_named};
@@ -36,6 +37,9 @@ pub fn load_texts<S: Shelf>(
     ensures causes { HasCauses itself
         (S.view shelf.old).faults (S.view shelf.new).faults result }
     ensures taken { (S.view shelf.new).taken ≤ (S.view shelf.old).taken + 3 * MAX_TABLE_BYTES }
+    ensures taken_of { (files : List File) → Holds (S.view shelf.old) files →
+        (S.view shelf.new).taken
+        ≤ (S.view shelf.old).taken + texts_size (file_names names.now) files }
 {
     let things = load_things(alloc, shelf, names.things)?;
     let path = load_path(alloc, shelf, names.path)?;
@@ -61,6 +65,8 @@ pub fn load_things<S: Shelf>(
     ensures causes { HasCauses itself
         (S.view shelf.old).faults (S.view shelf.new).faults result }
     ensures taken { (S.view shelf.new).taken ≤ (S.view shelf.old).taken + MAX_TABLE_BYTES }
+    ensures taken_of { (files : List File) → Holds (S.view shelf.old) files →
+        (S.view shelf.new).taken ≤ (S.view shelf.old).taken + named_size name.now files }
 {
     let bytes = read_named(alloc, shelf, name, FileKind::Things)?;
     check_things(alloc, &bytes)
@@ -88,6 +94,8 @@ pub fn load_path<S: Shelf>(alloc: Global, shelf: &mut S, name: &str) -> Result<P
     ensures causes { HasCauses itself
         (S.view shelf.old).faults (S.view shelf.new).faults result }
     ensures taken { (S.view shelf.new).taken ≤ (S.view shelf.old).taken + MAX_TABLE_BYTES }
+    ensures taken_of { (files : List File) → Holds (S.view shelf.old) files →
+        (S.view shelf.new).taken ≤ (S.view shelf.old).taken + named_size name.now files }
 {
     let bytes = read_named(alloc, shelf, name, FileKind::Path)?;
     check_path(alloc, &bytes)
@@ -119,6 +127,9 @@ pub fn load_weapons<S: Shelf>(
     ensures causes { HasCauses itself
         (S.view shelf.old).faults (S.view shelf.new).faults result }
     ensures taken { (S.view shelf.new).taken ≤ (S.view shelf.old).taken + MAX_TABLE_BYTES }
+    ensures taken_of { (files : List File) → Holds (S.view shelf.old) files →
+        (S.view shelf.new).taken ≤ (S.view shelf.old).taken
+        + optional_size (option_map (λ text. text.now) name.entry) files }
 {
     match name {
         None => Ok(None),
@@ -136,6 +147,8 @@ fn load_layers<S: Shelf>(alloc: Global, shelf: &mut S, name: &str) -> Result<Wea
     ensures causes { HasCauses itself
         (S.view shelf.old).faults (S.view shelf.new).faults result }
     ensures taken { (S.view shelf.new).taken ≤ (S.view shelf.old).taken + MAX_TABLE_BYTES }
+    ensures taken_of { (files : List File) → Holds (S.view shelf.old) files →
+        (S.view shelf.new).taken ≤ (S.view shelf.old).taken + named_size name.now files }
 {
     let bytes = read_named(alloc, shelf, name, FileKind::Weapons)?;
     check_layers(alloc, &bytes)

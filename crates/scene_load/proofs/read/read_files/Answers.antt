@@ -1,7 +1,9 @@
-use Rattle.std.proofs.Common.{◌∙◌, refl}
+use Rattle.std.proofs.Common.{Bor, ℕ, List, map, ◌∙◌, refl, arith}
 use Rattle.outside.proofs.ShelfLemmas.{follows_then}
 use Rattle.scene_load.specs.Files.{files_in}
+use Rattle.scene_load.specs.Orders.{files_size}
 use Rattle.outside.proofs.StopLemmas.{step_passed, step_stops, all_passed}
+use Rattle.scene_load.proofs.TakenLemmas.{listed_taken}
 use Rattle.scene_load.proofs.read.read_files.Goals as goal
 
 pub returns-in_err-tables-clause-answers : goal.returns-in_err-tables-clause-answers
@@ -40,3 +42,29 @@ returns-clause-contents g c files contents holds named =
 
 pub returns-clause-follows : goal.returns-clause-follows
 returns-clause-follows g c = follows_then (follows_then c.load_tables.ensures.follows c.load_texts.ensures.follows) c.load_wads.ensures.follows
+
+pub returns-in_err-tables-clause-taken_of : goal.returns-in_err-tables-clause-taken_of
+unfolding files_size
+returns-in_err-tables-clause-taken_of g c files contents holds named = omega (arith, c.load_tables.ensures.taken_of files holds)
+
+pub returns-in_err-texts-clause-taken_of : goal.returns-in_err-texts-clause-taken_of
+unfolding files_size
+returns-in_err-texts-clause-taken_of g c files contents holds named =
+    let held = c.load_tables.ensures.follows.held ∙ holds in
+    omega (arith, c.load_tables.ensures.taken_of files holds, c.load_texts.ensures.taken_of files held)
+
+pub returns-in_err-dir-clause-taken_of : goal.returns-in_err-dir-clause-taken_of
+unfolding files_size
+returns-in_err-dir-clause-taken_of g c files contents holds named =
+    let held = c.load_tables.ensures.follows.held ∙ holds in
+    let still = c.load_texts.ensures.follows.held ∙ held in
+    let listed = listed_taken (map (λ (wad : Bor (List ℕ)). wad.now) c.args.wads.now) files contents named in
+    omega (arith, listed, c.load_tables.ensures.taken_of files holds, c.load_texts.ensures.taken_of files held, c.load_wads.ensures.taken files contents still named)
+
+pub returns-clause-taken_of : goal.returns-clause-taken_of
+unfolding files_size
+returns-clause-taken_of g c files contents holds named =
+    let held = c.load_tables.ensures.follows.held ∙ holds in
+    let still = c.load_texts.ensures.follows.held ∙ held in
+    let listed = listed_taken (map (λ (wad : Bor (List ℕ)). wad.now) c.args.wads.now) files contents named in
+    omega (arith, listed, c.load_tables.ensures.taken_of files holds, c.load_texts.ensures.taken_of files held, c.load_wads.ensures.taken files contents still named)

@@ -1,5 +1,6 @@
-use Rattle.std.proofs.Common.{◌∙◌, refl}
+use Rattle.std.proofs.Common.{◌∙◌, refl, arith}
 use Rattle.scene_load.specs.Files.{texts_in}
+use Rattle.scene_load.specs.Orders.{texts_size}
 use Rattle.outside.proofs.StopLemmas.{step_passed, step_stops, all_passed}
 use Rattle.scene_load.proofs.texts.load_texts.Goals as goal
 
@@ -32,3 +33,27 @@ returns-clause-answers g c files holds =
     step_passed _ _ c.in_ok-things.things (c.in_ok-things.ensures.answers files holds).ok c.load_things.ensures.follows.steady
     (step_passed _ _ c.in_ok-path.path (c.in_ok-path.ensures.answers files held).ok c.load_path.ensures.follows.steady
     (step_passed _ _ c.in_ok-weapons.weapons (c.in_ok-weapons.ensures.answers files still).ok c.load_weapons.ensures.follows.steady (all_passed _ _ refl)))
+
+pub returns-in_err-things-clause-taken_of : goal.returns-in_err-things-clause-taken_of
+unfolding texts_size
+returns-in_err-things-clause-taken_of g c files holds = omega (arith, c.load_things.ensures.taken_of files holds)
+
+pub returns-in_err-path-clause-taken_of : goal.returns-in_err-path-clause-taken_of
+unfolding texts_size
+returns-in_err-path-clause-taken_of g c files holds =
+    let held = c.load_things.ensures.follows.held ∙ holds in
+    omega (arith, c.load_things.ensures.taken_of files holds, c.load_path.ensures.taken_of files held)
+
+pub returns-in_err-weapons-clause-taken_of : goal.returns-in_err-weapons-clause-taken_of
+unfolding texts_size
+returns-in_err-weapons-clause-taken_of g c files holds =
+    let held = c.load_things.ensures.follows.held ∙ holds in
+    let still = c.load_path.ensures.follows.held ∙ held in
+    omega (arith, c.load_things.ensures.taken_of files holds, c.load_path.ensures.taken_of files held, c.load_weapons.ensures.taken_of files still)
+
+pub returns-clause-taken_of : goal.returns-clause-taken_of
+unfolding texts_size
+returns-clause-taken_of g c files holds =
+    let held = c.load_things.ensures.follows.held ∙ holds in
+    let still = c.load_path.ensures.follows.held ∙ held in
+    omega (arith, c.load_things.ensures.taken_of files holds, c.load_path.ensures.taken_of files held, c.load_weapons.ensures.taken_of files still)

@@ -18,3 +18,9 @@ pub returns-in_ok-load_layers-in-Some-clause-answers : goal.returns-in_ok-load_l
 unfolding in_optional_file
 returns-in_ok-load_layers-in-Some-clause-answers g c files holds =
     all_passed _ _ (rw (c.in-Some.is, (c.in_ok-load_layers-in-Some.ensures.answers files holds).ok) refl)
+
+pub returns-in_err-load_layers-in-Some-clause-taken_of : goal.returns-in_err-load_layers-in-Some-clause-taken_of
+returns-in_err-load_layers-in-Some-clause-taken_of g c files holds = rw c.in-Some.is (c.load_layers.ensures.taken_of files holds)
+
+pub returns-in_ok-load_layers-in-Some-clause-taken_of : goal.returns-in_ok-load_layers-in-Some-clause-taken_of
+returns-in_ok-load_layers-in-Some-clause-taken_of g c files holds = rw c.in-Some.is (c.load_layers.ensures.taken_of files holds)
