@@ -20,7 +20,7 @@ use Rattle.scene_load.specs.Loads.{load_in, loaded_pictures, loaded_value, wad_c
 use Rattle.scene_load.specs.Orders.{loaded_items}
 use Rattle.scene_load.proofs.OrderLemmas.{items_composite, items_lump}
 use Rattle.frame_core.specs.Views.{IsViewLump, IsViewTexture}
-use Rattle.frame_core.proofs.EnoughLemmas.{IsOfTexture, among_prepared, column_asked, needed_drawn, needed_patch}
+use Rattle.doom_run.proofs.DrawnLemmas.{IsOfTexture, among_prepared, column_asked, needed_drawn, needed_patch}
 use Rattle.doom_run.specs.declared.render.ReadyViews.{ReadyViews}
 use Rattle.doom_run.specs.Renders.{HasReadyAsked, IsReady}
 use Rattle.doom_run.proofs.DrawnLemmas.{loaded_textures}
@@ -29,7 +29,7 @@ use Rattle.doom_run.proofs.RowLemmas.{textures_rows}
 module _ (level : LevelJobValue) (wads : List (List ℕ)) (files : List File) (ready : ReadyViews) (is : load_in level wads files ≡ Ok (loaded_value ready.loaded)) (stands : IsReady level ready) where
   -- a flat or a picture
   lumps_asked : HasAll (loaded_items (loaded_value ready.loaded)) ready.loaded.files.dir (IsViewLump ready.loaded.files.dir.lumps ready.loaded.scene.scene)
-  lumps_asked lump asked = items_lump (loaded_value ready.loaded) lump (needed_drawn ready.loaded.files.dir.lumps ready.loaded.scene.scene (weapon_lumps ready.loaded.weapons) lump asked) asked.0
+  lumps_asked lump asked = items_lump (loaded_value ready.loaded) lump (needed_drawn ready.loaded.files.dir.lumps ready.loaded.scene.scene (weapon_lumps ready.loaded.weapons) lump asked) asked.there
 
   module _ (number : ℕ) (some : IsPrepared (textures_view ready.loaded.scene.scene) number) where
     abbrev t : PreparedTexture

@@ -14,6 +14,7 @@ use Rattle.lump_rules.specs.Contents.{lump_bytes}
 use Rattle.lump_rules.specs.Lookups.{lump_at}
 use Rattle.zone_rules.specs.declared.TheConstants.{MIN_FRAGMENT}
 use Rattle.zone_rules.specs.Zones.{Owner, block_size}
+use Rattle.lump_cache.specs.Caches.{composite_owner, lump_owner}
 use Rattle.lump_cache.specs.Calls.{IsFullFor}
 use Rattle.art_rules.specs.declared.ColumnLookup.{ColumnLookup}
 use Rattle.art_rules.specs.declared.ColumnLookup.TheVariants.{Empty}
@@ -78,20 +79,20 @@ composed_some patches width x l many =
     let on : nat_lt 1 (length (patches_in patches x)) ≡ true = grind (arith, nat_tests) in
     some_of (λ m. m == x) (filter (is_composed patches) (range_with_len 0 width)) (any_passed (is_composed patches) 0 width x (omega arith) (omega (arith, l)) ∙ on)
 
--- the size of one of a texture's patches, or of its composite, which has bytes
-abbrev IsOfTexture : List Lump → PreparedTexture → ℕ → Type 0
-IsOfTexture lumps t size =
-    ((patch : PlacedPatch) × Contains t.patches patch × (size ≡ (lump_at lumps patch.lump).size))
-    ⊎ ((size ≡ size_of t) × (0 < size_of t))
+-- for whom, and how many bytes: one of a texture's patches, or its composite, which has bytes
+abbrev pub IsOfTexture : List Lump → ℕ → PreparedTexture → Owner → ℕ → Type 0
+IsOfTexture lumps number t owner size =
+    ((patch : PlacedPatch) × Contains t.patches patch × (owner ≡ lump_owner patch.lump) × (size ≡ (lump_at lumps patch.lump).size))
+    ⊎ ((owner ≡ composite_owner number) × (size ≡ size_of t) × (0 < size_of t))
 
 module _ (lumps : List Lump) (number : ℕ) (t : PreparedTexture) (owner : Owner) (size : ℕ) where
   module _ (bytes : ℕ → List ℕ) (start x : ℕ) where
-    asked_of : (standing : List PlacedPatch) → All (Contains t.patches) standing → (1 < length standing → 0 < size_of t) → IsAskedByColumn lumps number t (lookup_of bytes start x standing) owner size → IsOfTexture lumps t size
+    asked_of : (standing : List PlacedPatch) → All (Contains t.patches) standing → (1 < length standing → 0 < size_of t) → IsAskedByColumn lumps number t (lookup_of bytes start x standing) owner size → IsOfTexture lumps number t owner size
     unfolding lookup_of
     asked_of [] all some asked = absurd asked
-    asked_of (patch ∷ []) all some asked = inl (patch, All-head (Contains t.patches) patch [] all, asked.1)
-    asked_of (a ∷ b ∷ rest) all some (inl composite) = inr (composite.1, some (omega arith))
-    asked_of (a ∷ b ∷ rest) all some (inr patch) = inl (patch.0, patch.1, patch.3)
+    asked_of (patch ∷ []) all some asked = inl (patch, All-head (Contains t.patches) patch [] all, asked.0, asked.1)
+    asked_of (a ∷ b ∷ rest) all some (inl composite) = inr (composite.0, composite.1, some (omega arith))
+    asked_of (a ∷ b ∷ rest) all some (inr patch) = inl (patch.0, patch.1, patch.2, patch.3)
 
     composed_of : (standing : List PlacedPatch) → (1 < length standing → 0 < size_of t) → IsComposedColumn (lookup_of bytes start x standing) → 0 < size_of t
     unfolding lookup_of
@@ -113,7 +114,7 @@ module _ (lumps : List Lump) (number : ℕ) (t : PreparedTexture) (owner : Owner
     standing_are = All-filter (stands_in x) (Contains t.patches) t.patches (All-contains_itself t.patches)
 
     -- a column of a prepared texture asks for these alone
-    column_asked : IsAskedByColumn lumps number t (own_lookup t x) owner size → IsOfTexture lumps t size
+    pub column_asked : IsAskedByColumn lumps number t (own_lookup t x) owner size → IsOfTexture lumps number t owner size
     column_asked asked = elim (cases_lt x (length t.columns)) [
       | inl l ↦ asked_of bytes (composite_place t.patches t.height x) x (patches_in t.patches x) standing_are (size_some l)
           (subst (λ (lookup : ColumnLookup). IsAskedByColumn lumps number t lookup owner size) (lookup_is l) asked)
@@ -152,14 +153,14 @@ or_patch false false f g on = absurd (cc)
 
 -- what a scene needs with the pictures of its book and of others
 module _ (lumps : List Lump) (scene : SceneValue) (more : List ℕ) where
-  needed_drawn : (lump : ℕ) → IsViewLump lumps scene lump → is_needed lumps (art_with scene (book_lumps scene.book ++ more)) lump ≡ true
+  pub needed_drawn : (lump : ℕ) → IsViewLump lumps scene lump → is_needed lumps (art_with scene (book_lumps scene.book ++ more)) lump ≡ true
   unfolding is_needed
   needed_drawn lump is =
       rw (list_any-append (λ n. n == lump) (book_lumps scene.book) more)
       (or_more _ (list_any (has_flat lump) scene.faces.flats) (list_any (λ n. n == lump) (book_lumps scene.book)) (list_any (λ n. n == lump) more) is.drawn)
 
 module _ (lumps : List Lump) (scene : SceneValue) (pictures : List ℕ) where
-  needed_patch : (t : PreparedTexture) (patch : PlacedPatch) → Contains scene.prepared (Some t) → Contains t.patches patch → is_needed lumps (art_with scene pictures) patch.lump ≡ true
+  pub needed_patch : (t : PreparedTexture) (patch : PlacedPatch) → Contains scene.prepared (Some t) → Contains t.patches patch → is_needed lumps (art_with scene pictures) patch.lump ≡ true
   unfolding is_needed is_patch_of_any is_patch_of
   needed_patch t patch prepared among =
       or_patch _ (list_any (is_patch_of patch.lump) scene.prepared) _ _
@@ -207,7 +208,7 @@ scene_textures contents lumps lines name skill scene e =
     record { wanted = is_wanted_texture scene.faces.sides scene.faces.sky; lists = base_lists (lump_bytes contents lumps) lumps name scene.base parts.base; prepared = parts.prepared }
 
 -- so are those of a scene that is loaded
-loaded_textures : (level : LevelJobValue) (wads : List (List ℕ)) (files : List File) (loaded : LoadedValue) → load_in level wads files ≡ Ok loaded → AreTexturesOf (wad_contents wads files) loaded.files.lumps (textures_view loaded.scene)
+pub loaded_textures : (level : LevelJobValue) (wads : List (List ℕ)) (files : List File) (loaded : LoadedValue) → load_in level wads files ≡ Ok loaded → AreTexturesOf (wad_contents wads files) loaded.files.lumps (textures_view loaded.scene)
 unfolding load_in
 loaded_textures level wads files loaded e =
     let a = and_then-ok (files_in level.files wads level.settings.size files) _ loaded e in
@@ -269,12 +270,12 @@ module _ (level : LevelJobValue) (wads : List (List ℕ)) (files : List File) (l
               (subst (λ n. level.settings.zone < block_size (lump_at loaded.files.lumps loaded.scene.base.colormap).size + composite_block (Some t) + 2 * n + 2 * MIN_FRAGMENT) block less);
         }
 
-    alone_full : IsOfTexture loaded.files.lumps t size → IsSmall level.settings.zone (lump_at loaded.files.lumps loaded.scene.base.colormap).size wanted → IsFullDraw level wads files wanted widest'
-    alone_full (inl patch) small = patch_full patch.0 patch.1 patch.2 small
-    alone_full (inr composite) small = composite_full composite.0 composite.1 small
+    alone_full : {number : ℕ} {owner : Owner} → IsOfTexture loaded.files.lumps number t owner size → IsSmall level.settings.zone (lump_at loaded.files.lumps loaded.scene.base.colormap).size wanted → IsFullDraw level wads files wanted widest'
+    alone_full (inl patch) small = patch_full patch.0 patch.1 patch.3 small
+    alone_full (inr composite) small = composite_full composite.1 composite.2 small
 
 -- the texture of a number that is prepared is among those that are
-among_prepared : (prepared : List (Option PreparedTexture)) (number : ℕ) → IsSome (prepared_at prepared number) → Contains prepared (Some (unwrap_or (prepared_at prepared number) unprepared))
+pub among_prepared : (prepared : List (Option PreparedTexture)) (number : ℕ) → IsSome (prepared_at prepared number) → Contains prepared (Some (unwrap_or (prepared_at prepared number) unprepared))
 among_prepared prepared number some = elim (cases_lt number (length prepared)) [
   | inl l ↦ subst (λ (o : Option PreparedTexture). Contains prepared o) (prepared_is (prepared_at prepared number) some) (Contains-get_or prepared number None l)
   | inr past ↦ absurd (false≢true (subst IsSome (get_or_past prepared number None past) some))
