@@ -1,12 +1,12 @@
 -- What is known of a call whose fault is named as the layer above names it.
-use Rattle.std.proofs.Common.{◌≡◌, ℕ, Result, Ok, Err, refl, Bool}
+use Rattle.std.proofs.Common.{◌≡◌, ℕ, Result, Ok, Err, refl, Bool, MatchResult}
 use Rattle.std.specs.Prelude.{IfErr}
 use Rattle.std.proofs.lemmas.Result.{err_from_is_err_and}
 use Rattle.outside.specs.declared.fault.Fault.{Fault}
 use Rattle.outside.specs.declared.fault.Fault.TheVariants.{Refused, ReadFault, ZoneFull, OutOfMemory}
 use Rattle.outside.specs.Faults.{fault_above, from_below, FaultFits, HasCauseAt, HasCauses, ResultIs, itself}
 use Rattle.outside.proofs.ThroughLemmas.{IsThrough}
-use Rattle.lump_cache.specs.Calls.{IfFull}
+use Rattle.lump_cache.specs.Calls.{IfFull, InOrderAt}
 
 fits_above : {A R Q : Type 0} (lift : R → Q) (steady : Bool) (expected : Result A R) (fault : Fault R) →
     FaultFits steady expected fault → FaultFits steady (from_below lift expected) (fault_above lift fault)
@@ -26,6 +26,12 @@ full_above lift P (Refused reason) h = tt
 full_above lift P ReadFault h = tt
 full_above lift P (ZoneFull wanted widest) h = h
 full_above lift P OutOfMemory h = tt
+
+order_above : {R Q : Type 0} (lift : R → Q) (P : Type 0) (fault : Fault R) → InOrderAt fault P → InOrderAt (fault_above lift fault) P
+order_above lift P (Refused reason) h = h
+order_above lift P ReadFault h = tt
+order_above lift P (ZoneFull wanted widest) h = h
+order_above lift P OutOfMemory h = h
 
 module _ {B R Q E : Type 0} (fault_of : E → Fault R) (lift : R → Q) where
   -- the value is the same, and each fault is named as above
@@ -55,4 +61,12 @@ module _ {B R Q E : Type 0} (fault_of : E → Fault R) (lift : R → Q) where
   fulls_above P (Err fault) result is full =
       let s = err_from_is_err_and result is in
       let k : IfFull (itself s.0) P = rw s.2 (full_above lift P (fault_of fault) full) in
+      rw s.1 k
+
+  -- what is said of a zone in order
+  pub orders_above : (P : Type 0) (one : Result B E) (result : Result B (Fault Q)) → IsNamedAbove one result → MatchResult one (λ _. P) (λ fault. InOrderAt (fault_of fault) P) → MatchResult result (λ _. P) (λ fault. InOrderAt (itself fault) P)
+  orders_above P (Ok x) result is order = rw is order
+  orders_above P (Err fault) result is order =
+      let s = err_from_is_err_and result is in
+      let k : InOrderAt (itself s.0) P = rw s.2 (order_above lift P (fault_of fault) order) in
       rw s.1 k

@@ -11,5 +11,6 @@ pub mod LoadLemmas
 pub mod MoreLemmas
 pub mod OrderLemmas
 pub mod ReadLemmas
+pub mod StayLemmas
 pub mod TakenLemmas
 pub mod WadLemmas

@@ -8,8 +8,8 @@ use Rattle.std.proofs.lemmas.List.Folds.{list_any-append}
 use Rattle.std.proofs.lemmas.List.Sums.{sum_by-append, sum_by-cons}
 use Rattle.lump_rules.specs.declared.wad.Lump.{Lump}
 use Rattle.lump_rules.specs.Lookups.{lump_at}
-use Rattle.zone_rules.specs.Zones.{Block, Owner, block_size, same_owner}
-use Rattle.zone_rules.specs.Orders.{Item, AreDistinct, AreRoomy, has_item, has_owner, items_size, live_sum, lump_size}
+use Rattle.zone_rules.specs.Zones.{Block, Heap, Owner, block_size, same_owner}
+use Rattle.zone_rules.specs.Orders.{Item, AreDistinct, AreRoomy, KeepsOrder, has_item, has_owner, items_size, live_sum, lump_size}
 use Rattle.zone_rules.proofs.OrderSumLemmas.{item_block, live_most}
 use Rattle.lump_cache.specs.Caches.{composite_owner, lump_owner}
 use Rattle.art_rules.specs.Wanted.{PreparedTexture}
@@ -250,3 +250,7 @@ items_read loaded blocks =
     let first = lumps_read lumps (loaded_lumps loaded) in
     let second = composites_unread prepared 0 in
     omega (arith, most, both, first, second)
+
+-- a call that keeps a zone in order for them reads no more than the needed lumps
+pub lumps_taken : (loaded : LoadedValue) {old new : Heap} {before after : ℕ} → KeepsOrder (loaded_items loaded) old new before after → after ≤ before + lumps_size loaded
+lumps_taken loaded {new} keeps = omega (arith, keeps.taken, items_read loaded new.blocks)

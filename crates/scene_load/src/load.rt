@@ -1,16 +1,17 @@
 // The files and the scene of a job over a level.
 //
 // Rules: specs, Loads and Fulls. The original: `D_DoomMain`, d_main.c, `P_SetupLevel`, p_setup.c.
-ghost use Rattle.std.specs.Prelude.{◌≡◌, ◌<◌, ◌≤◌, ◌^◌, ℕ, List, length, map, IfOk, IfErr};
+ghost use Rattle.std.specs.Prelude.{◌≡◌, ◌<◌, ◌≤◌, ◌+◌, ◌^◌, ℕ, List, length, map, IfOk, IfErr, MatchResult};
 ghost use Rattle.outside.specs.Shelf.{NameFiles, File, IsLaterShelf, Holds};
 ghost use Rattle.outside.specs.Faults.{ResultIs, HasCauses, from_below, itself};
 ghost use Rattle.outside.specs.declared.fault.Fault.TheVariants.{OutOfMemory};
 ghost use Rattle.lump_rules.specs.Contents.{AllWithin, lump_bytes};
 ghost use Rattle.lump_rules.specs.Lookups.{lump_at};
 ghost use Rattle.zone_rules.specs.Zones.{IsZoneSize, bytes_of};
+ghost use Rattle.zone_rules.specs.Orders.{Item, AreRoomy, IsInOrder, KeepsOrder};
 ghost use Rattle.view_rules.specs.declared.TheConstants.{MIN_SIZE, MAX_SIZE};
 ghost use Rattle.lump_cache.specs.Caches.{IsAtRest, IsEmpty, IsFaithful, KeepsCounts, composite_owner};
-ghost use Rattle.lump_cache.specs.Calls.{IfFull, HoldContents, ReadsLumps};
+ghost use Rattle.lump_cache.specs.Calls.{IfFull, InOrderAt, HoldContents, ReadsLumps};
 ghost use Rattle.command_line.specs.LevelJobs.{level_job_value};
 ghost use Rattle.level_audit.specs.Sound.{textures_view};
 ghost use Rattle.level_audit.specs.Whole.{IsWholeScene};
@@ -19,7 +20,8 @@ ghost use Rattle.refusals.specs.Groups.{of_audit};
 ghost use Rattle.scene_load.specs.Files.{files_named, value_of};
 ghost use Rattle.outside.specs.Stops.{ResultIsOrAbsent};
 ghost use Rattle.scene_load.specs.Fulls.{IsBaseWithin, IsFullLoad, IsFullOver, IsOfLayers};
-ghost use Rattle.scene_load.specs.Loads.{audited_in, audited_value, load_in, loaded_lumps, loaded_sizes, loaded_value, weapons_of, with_layers};
+ghost use Rattle.scene_load.specs.Orders.{IsLoadedInOrder, files_size, loaded_items, lumps_size};
+ghost use Rattle.scene_load.specs.Loads.{LoadedValue, audited_in, audited_value, load_in, loaded_lumps, loaded_sizes, loaded_value, weapons_of, with_layers};
 
 use crate::fault::audit_fault;
 use crate::{LoadFault, SceneFiles, read_files};
@@ -63,6 +65,10 @@ pub struct LoadedScene {
 ///
 /// After Ok over any shelf, the scene has all that drawing asks of it (`whole`); over one that holds
 /// the WADs, the lumps and composites in the cache and the textures are what their bytes give (`art`).
+///
+/// In a zone that is large enough for all that the level needs (`roomy`), each file that is read
+/// whole, the header and the directory of each WAD, and each needed lump are read at most once; the
+/// zone is not full, and after Ok the cache is in order for all that drawing may ask for (`order`).
 ///
 /// The original: `D_DoomMain`, d_main.c, with `R_Init`, r_main.c, and `P_SetupLevel`, p_setup.c.
 pub fn load_scene<S: Shelf>(
@@ -109,6 +115,19 @@ pub fn load_scene<S: Shelf>(
         IfOk result (λ loaded. HoldsArt (S.view shelf.new) loaded.files.dir
         (textures_view loaded.scene.scene) contents loaded.scene.scene.base.colormap
         (lump_at loaded.files.dir.lumps loaded.scene.scene.base.colormap).size loaded.cache) }
+    ensures order { (files : List File) (contents : List (List ℕ)) (expected : LoadedValue) →
+        Holds (S.view shelf.old) files →
+        files_named (map (λ wad. wad.now) wads.now) files ≡ Some contents →
+        load_in (level_job_value level.now) (map (λ wad. wad.now) wads.now) files
+        ≡ Ok expected →
+        (loaded_sizes expected).roomy ≤ level.now.settings.zone →
+        MatchResult result (λ loaded. IsLoadedInOrder (level_job_value level.now)
+        (map (λ wad. wad.now) wads.now) files expected
+        (S.view shelf.old).taken (S.view shelf.new).taken loaded.cache)
+        (λ fault. InOrderAt (itself fault)
+        ((S.view shelf.new).taken ≤ (S.view shelf.old).taken
+        + (files_size (level_job_value level.now).files (map (λ wad. wad.now) wads.now) files
+        + lumps_size expected))) }
     ensures follows { IsLaterShelf (S.view shelf.old) (S.view shelf.new) }
     ensures causes { HasCauses itself (S.view shelf.old).faults (S.view shelf.new).faults result }
 {
@@ -134,6 +153,7 @@ fn make_cache(alloc: Global, dir: &Directory, size: u32) -> Result<LumpCache, Lo
     ensures composites { IfOk result (λ cache. cache.composites ≡ COMPOSITE_SLOTS) }
     ensures faithful { (contents : List (List ℕ)) →
         IfOk result (IsFaithful contents dir.now.lumps) }
+    ensures order { (items : List Item) → AreRoomy size items → IfOk result (IsInOrder items) }
 {
     match LumpCache::new(alloc, dir, size, COMPOSITE_SLOTS) {
         Ok(cache) => Ok(cache),
@@ -183,6 +203,16 @@ fn audit_level<S: Shelf>(
         NameFiles (S.view shelf.old) files.now.dir.files contents →
         IsFaithful contents files.now.dir.lumps cache.old →
         IsFaithful contents files.now.dir.lumps cache.new }
+    ensures order { (contents : List (List ℕ)) (expected : LoadedValue) →
+        HoldContents (S.view shelf.old) files.now.dir cache.old contents →
+        audited_in (lump_bytes contents files.now.dir.lumps) (level_job_value level.now)
+        (value_of files.now) ≡ Ok expected →
+        IsInOrder (loaded_items expected) cache.old →
+        MatchResult result (λ _. KeepsOrder (loaded_items expected) cache.old cache.new
+        (S.view shelf.old).taken (S.view shelf.new).taken)
+        (λ fault. InOrderAt (itself fault)
+        (KeepsOrder (loaded_items expected) cache.old cache.new
+        (S.view shelf.old).taken (S.view shelf.new).taken)) }
     ensures follows { IsLaterShelf (S.view shelf.old) (S.view shelf.new) }
     ensures causes { HasCauses itself
         (S.view shelf.old).faults (S.view shelf.new).faults result }
@@ -231,6 +261,16 @@ fn audit_files<S: Shelf>(
         NameFiles (S.view shelf.old) files.now.dir.files contents →
         IsFaithful contents files.now.dir.lumps cache.old →
         IsFaithful contents files.now.dir.lumps cache.new }
+    ensures order { (contents : List (List ℕ)) (expected : LoadedValue) →
+        HoldContents (S.view shelf.old) files.now.dir cache.old contents →
+        audited_in (lump_bytes contents files.now.dir.lumps) (level_job_value level.now)
+        (value_of files.now) ≡ Ok expected →
+        IsInOrder (loaded_items expected) cache.old →
+        MatchResult result (λ _. KeepsOrder (loaded_items expected) cache.old cache.new
+        (S.view shelf.old).taken (S.view shelf.new).taken)
+        (λ fault. InOrderAt (itself fault)
+        (KeepsOrder (loaded_items expected) cache.old cache.new
+        (S.view shelf.old).taken (S.view shelf.new).taken)) }
     ensures follows { IsLaterShelf (S.view shelf.old) (S.view shelf.new) }
     ensures causes { HasCauses itself
         (S.view shelf.old).faults (S.view shelf.new).faults result }

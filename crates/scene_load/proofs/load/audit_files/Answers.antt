@@ -1,21 +1,27 @@
-use Rattle.std.proofs.Common.{◌≡◌, ◌<◌, ap, sym, subst, ◌∙◌, length, Ok}
+use Rattle.std.proofs.Common.{◌≡◌, ◌<◌, ap, sym, subst, ◌∙◌, length, Ok, inl, inr}
+use Rattle.outside.specs.Faults.{itself}
 use Rattle.outside.proofs.ShelfLemmas.{all_stand_later, follows_then}
 use Rattle.lump_rules.specs.Contents.{lump_bytes}
 use Rattle.lump_rules.specs.Lookups.{lump_at}
+use Rattle.zone_rules.specs.Orders.{KeepsOrder}
+use Rattle.zone_rules.proofs.OrderLemmas.{order_then}
 use Rattle.lump_cache.specs.Caches.{IsAtRest}
 use Rattle.command_line.specs.LevelJobs.{level_job_value}
 use Rattle.scene_load.specs.Files.{value_of}
 use Rattle.scene_rules.specs.Scenes.{SceneValue}
 use Rattle.level_audit.specs.Sound.{SoundValue}
 use Rattle.level_audit.specs.Whole.{IsWholeScene}
-use Rattle.level_audit.proofs.FetchLemmas.{told_after}
+use Rattle.level_audit.proofs.FetchLemmas.{order_after, told_after}
 use Rattle.level_audit.proofs.SceneLemmas.{colormap_there}
 use Rattle.scene_load.specs.Fulls.{IsBaseWithin, IsFullOver}
 use Rattle.scene_load.specs.Loads.{audited_value, loaded_lumps, loaded_sizes}
+use Rattle.scene_load.specs.Orders.{loaded_items}
 use Rattle.scene_load.proofs.ArtLemmas.{no_composites_first, no_composites_then}
 use Rattle.scene_load.proofs.AuditedLemmas.{both_accepted, causes_after, layers_stopped, scene_kept, scene_stopped}
 use Rattle.scene_load.proofs.FullLemmas.{audit_full, layers_full, same_full}
 use Rattle.scene_load.proofs.MoreLemmas.{named_layers, sizes_layers}
+use Rattle.scene_load.proofs.ReadLemmas.{items_all}
+use Rattle.scene_load.proofs.StayLemmas.{call_order}
 use Rattle.scene_load.proofs.load.audit_files.Goals as goal
 
 pub returns-in_err-scene-clause-answers : goal.returns-in_err-scene-clause-answers
@@ -118,3 +124,27 @@ returns-clause-colormap g c =
 pub returns-clause-fresh : goal.returns-clause-fresh
 returns-clause-fresh g c =
     no_composites_then c.in_ok-weapons.ensures.tells.keeps (no_composites_first c.args.cache.now c.audit.new.cache c.requires.empty c.in_ok-scene.ensures.composites)
+
+pub returns-in_err-scene-clause-order : goal.returns-in_err-scene-clause-order
+returns-in_err-scene-clause-order g c = λ contents expected told accepted order.
+    let all = items_all _ (level_job_value c.args.level.now) (value_of c.args.files.now) expected accepted in
+    let K = KeepsOrder (loaded_items expected) c.args.cache.now c.audit.new.cache (g.S.Shelf.view c.args.shelf.now).taken (g.S.Shelf.view c.audit.new.shelf).taken in
+    call_order (λ _. K) K K c.audit.result c.in_err-scene.field-0.0 c.from_residual.result (c.audit.ensures.order contents (loaded_items expected) told (λ lump read. all lump (inl read)) order)
+    c.in_err-scene.was c.from_residual.ensures.1 (λ k. k)
+
+pub returns-in_err-weapons-clause-order : goal.returns-in_err-weapons-clause-order
+returns-in_err-weapons-clause-order g c = λ contents expected told accepted order.
+    let items = loaded_items expected in
+    let all = items_all _ (level_job_value c.args.level.now) (value_of c.args.files.now) expected accepted in
+    let one = c.in_ok-scene.ensures.order contents items told (λ lump read. all lump (inl read)) order in
+    let two = c.audit_layers.ensures.tells.order items (λ lump asked. all lump (inr asked)) one.order in
+    let K = KeepsOrder items c.args.cache.now c.audit_layers.new.cache (g.S.Shelf.view c.args.shelf.now).taken (g.S.Shelf.view c.audit_layers.new.shelf).taken in
+    call_order (λ _. K) K K c.audit_layers.result c.in_err-weapons.field-0.0 c.from_residual-in_err-weapons.result
+    (order_after itself c.audit_layers.new.cache (g.S.Shelf.view c.audit_layers.new.shelf).taken c.audit_layers.result one two) c.in_err-weapons.was c.from_residual-in_err-weapons.ensures.1 (λ k. k)
+
+pub returns-clause-order : goal.returns-clause-order
+returns-clause-order g c = λ contents expected told accepted order.
+    let items = loaded_items expected in
+    let all = items_all _ (level_job_value c.args.level.now) (value_of c.args.files.now) expected accepted in
+    let one = c.in_ok-scene.ensures.order contents items told (λ lump read. all lump (inl read)) order in
+    order_then one (c.in_ok-weapons.ensures.tells.order items (λ lump asked. all lump (inr asked)) one.order)

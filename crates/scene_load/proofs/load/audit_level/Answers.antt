@@ -1,12 +1,14 @@
 use Rattle.outside.specs.Faults.{itself}
 use Rattle.outside.proofs.ThroughLemmas.{ok_through}
 use Rattle.lump_rules.specs.Contents.{lump_bytes}
+use Rattle.zone_rules.specs.Orders.{KeepsOrder}
 use Rattle.command_line.specs.LevelJobs.{level_job_value}
 use Rattle.refusals.specs.Groups.{of_audit}
 use Rattle.scene_load.specs.Files.{value_of}
 use Rattle.scene_load.specs.Fulls.{IsFullOver}
 use Rattle.scene_load.specs.Loads.{audited_in}
-use Rattle.scene_load.proofs.AboveLemmas.{answers_above, causes_above, fulls_above}
+use Rattle.scene_load.specs.Orders.{loaded_items}
+use Rattle.scene_load.proofs.AboveLemmas.{answers_above, causes_above, fulls_above, orders_above}
 use Rattle.scene_load.proofs.load.audit_level.Goals as goal
 
 pub returns-clause-answers : goal.returns-clause-answers
@@ -40,3 +42,8 @@ returns-clause-colormap g c = ok_through _ _ c.audit_files.result c.map_err.resu
 
 pub returns-clause-fresh : goal.returns-clause-fresh
 returns-clause-fresh g c = ok_through _ _ c.audit_files.result c.map_err.result c.map_err.ensures.cases c.audit_files.ensures.fresh
+
+pub returns-clause-order : goal.returns-clause-order
+returns-clause-order g c contents expected told accepted order =
+    orders_above itself of_audit (KeepsOrder (loaded_items expected) c.args.cache.now c.audit_files.new.cache (g.S.Shelf.view c.args.shelf.now).taken (g.S.Shelf.view c.audit_files.new.shelf).taken)
+    c.audit_files.result c.map_err.result c.map_err.ensures.cases (c.audit_files.ensures.order contents expected told accepted order)

@@ -1,12 +1,17 @@
-use Rattle.std.proofs.Common.{Bor, ℕ, List, map, refl}
+use Rattle.std.proofs.Common.{◌+◌, ◌≤◌, Bor, ℕ, List, map, refl, arith}
 use Rattle.outside.proofs.ShelfLemmas.{all_stand_later, follows_then}
+use Rattle.zone_rules.specs.Orders.{IsInOrder, KeepsOrder}
 use Rattle.command_line.specs.LevelJobs.{level_job_value}
+use Rattle.scene_load.specs.declared.load.LoadedScene.{LoadedScene}
 use Rattle.scene_load.specs.Files.{value_of}
 use Rattle.scene_load.specs.Fulls.{IsFullLoad}
 use Rattle.scene_load.specs.Loads.{audited_value, wad_contents}
+use Rattle.scene_load.specs.Orders.{IsLoadedInOrder, files_size, loaded_items, lumps_size}
 use Rattle.scene_load.proofs.ArtLemmas.{all_held}
 use Rattle.scene_load.proofs.FullLemmas.{files_full, load_full}
-use Rattle.scene_load.proofs.LoadLemmas.{all_loaded, audit_stopped, files_stopped, memory_agrees, memory_full, told_wads}
+use Rattle.scene_load.proofs.LoadLemmas.{all_loaded, audit_stopped, audited_of, files_stopped, memory_agrees, memory_full, told_wads}
+use Rattle.scene_load.proofs.OrderLemmas.{items_roomy, lumps_taken}
+use Rattle.scene_load.proofs.StayLemmas.{call_order, files_order, memory_order}
 use Rattle.scene_load.proofs.load.load_scene.Goals as goal
 
 pub returns-in_err-files-clause-answers : goal.returns-in_err-files-clause-answers
@@ -74,3 +79,52 @@ returns-clause-art g c = λ files contents holds named.
     all_held contents (level_job_value c.args.level.now) found loaded _ refl accepted c.in_ok-scene.ensures.rest
     (record { stand = all_stand_later _ _ dir.files contents c.in_ok-scene.ensures.follows both.0; within = both.1; faithful = c.in_ok-scene.ensures.faithful contents both.0 before })
     c.in_ok-scene.ensures.fresh
+
+pub returns-in_err-files-clause-order : goal.returns-in_err-files-clause-order
+returns-in_err-files-clause-order g c = λ files contents expected holds named loads room.
+    let level = level_job_value c.args.level.now in
+    let wads = map (λ (wad : Bor (List ℕ)). wad.now) c.args.wads.now in
+    let before = (g.S.Shelf.view c.args.shelf.now).taken in
+    let after = (g.S.Shelf.view c.read_files.new.shelf).taken in
+    let read = c.read_files.ensures.taken_of files contents holds named in
+    files_order (λ (loaded : LoadedScene). IsLoadedInOrder level wads files expected before after loaded.cache) (after ≤ before + (files_size level.files wads files + lumps_size expected))
+    c.read_files.result c.in_err-files.field-0.0 c.from_residual.result c.read_files.ensures.full c.in_err-files.was c.from_residual.ensures.1 (omega (arith, read))
+
+pub returns-in_err-cache-clause-order : goal.returns-in_err-cache-clause-order
+returns-in_err-cache-clause-order g c = λ files contents expected holds named loads room.
+    let level = level_job_value c.args.level.now in
+    let wads = map (λ (wad : Bor (List ℕ)). wad.now) c.args.wads.now in
+    let before = (g.S.Shelf.view c.args.shelf.now).taken in
+    let after = (g.S.Shelf.view c.read_files.new.shelf).taken in
+    let read = c.in_ok-files.ensures.taken_of files contents holds named in
+    memory_order (λ (loaded : LoadedScene). IsLoadedInOrder level wads files expected before after loaded.cache) (after ≤ before + (files_size level.files wads files + lumps_size expected))
+    c.in_err-cache.field-0.0 c.from_residual-in_err-cache.result c.in_err-cache.ensures.memory c.from_residual-in_err-cache.ensures.1 (omega (arith, read))
+
+pub returns-in_err-scene-clause-order : goal.returns-in_err-scene-clause-order
+returns-in_err-scene-clause-order g c = λ files contents expected holds named loads room.
+    let level = level_job_value c.args.level.now in
+    let wads = map (λ (wad : Bor (List ℕ)). wad.now) c.args.wads.now in
+    let found = value_of c.in_ok-files.files in
+    let are = (c.in_ok-files.ensures.answers files holds).ok in
+    let told = told_wads level wads files found are (λ contents named. c.in_ok-files.ensures.contents files contents holds named) c.in_ok-cache.ensures.faithful in
+    let first : IsInOrder (loaded_items expected) c.in_ok-cache.cache = c.in_ok-cache.ensures.order (loaded_items expected) (items_roomy expected c.args.level.now.settings.zone room) in
+    let before = (g.S.Shelf.view c.args.shelf.now).taken in
+    let between = (g.S.Shelf.view c.read_files.new.shelf).taken in
+    let after = (g.S.Shelf.view c.audit_level.new.shelf).taken in
+    let read = c.in_ok-files.ensures.taken_of files contents holds named in
+    call_order (λ (loaded : LoadedScene). IsLoadedInOrder level wads files expected before after loaded.cache) (after ≤ before + (files_size level.files wads files + lumps_size expected))
+    (KeepsOrder (loaded_items expected) c.in_ok-cache.cache c.audit_level.new.cache between after) c.audit_level.result c.in_err-scene.field-0.0 c.from_residual-in_err-scene.result
+    (c.audit_level.ensures.order (wad_contents wads files) expected told (audited_of level wads files found expected are loads) first) c.in_err-scene.was c.from_residual-in_err-scene.ensures.1
+    (λ k. omega (arith, read, lumps_taken expected k))
+
+pub returns-clause-order : goal.returns-clause-order
+returns-clause-order g c = λ files contents expected holds named loads room.
+    let level = level_job_value c.args.level.now in
+    let wads = map (λ (wad : Bor (List ℕ)). wad.now) c.args.wads.now in
+    let found = value_of c.in_ok-files.files in
+    let are = (c.in_ok-files.ensures.answers files holds).ok in
+    let told = told_wads level wads files found are (λ contents named. c.in_ok-files.ensures.contents files contents holds named) c.in_ok-cache.ensures.faithful in
+    let first : IsInOrder (loaded_items expected) c.in_ok-cache.cache = c.in_ok-cache.ensures.order (loaded_items expected) (items_roomy expected c.args.level.now.settings.zone room) in
+    let read = c.in_ok-files.ensures.taken_of files contents holds named in
+    let keeps = c.in_ok-scene.ensures.order (wad_contents wads files) expected told (audited_of level wads files found expected are loads) first in
+    record { order = keeps.order; taken = omega (arith, keeps.taken, read) }
