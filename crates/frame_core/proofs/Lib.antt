@@ -21,3 +21,5 @@ pub mod ViewLemmas
 pub mod DotLemmas
 pub mod PainterLemmas
 pub mod CounterLemmas
+pub mod RowLemmas
+pub mod EnoughLemmas
