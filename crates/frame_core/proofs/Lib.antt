@@ -1,6 +1,7 @@
 pub mod SceneLemmas
 pub mod ThingLemmas
 pub mod PaintLemmas
+pub mod PartDotLemmas
 pub mod ViewDotLemmas
 pub mod FloorLemmas
 pub mod AlikeLemmas
@@ -12,6 +13,7 @@ pub mod StepLemmas
 pub mod AllPlanesLemmas
 pub mod PlaneStepLemmas
 pub mod WalkedLemmas
+pub mod WalkedFragmentLemmas
 pub mod NumberLemmas
 pub mod SectorLemmas
 pub mod FragmentLemmas

@@ -43,7 +43,8 @@ use Rattle.frame_core.specs.Views.{CanDrawView, PaintsView, ViewScene, ViewState
 use Rattle.frame_core.specs.Walked.{HasWalked, planes_after}
 use Rattle.frame_core.specs.Painters.{HasWalkedView, IsPlacedIn, drawn_walls, limits_in}
 use Rattle.frame_core.proofs.PaintLemmas.{paints-same, paints-then}
-use Rattle.frame_core.proofs.ViewDotLemmas.{LiesInView, drawsegs-in_view, masked-in_view, planes-in_view, walls-in_view}
+use Rattle.frame_core.proofs.PartDotLemmas.{LiesInView, planes-in_view, walls-in_view}
+use Rattle.frame_core.proofs.ViewDotLemmas.{drawsegs-in_view, masked-in_view}
 
 -- a bench that was started is one that no event has come to, within its own limits
 pub started : (v : ViewValue) (s : SceneValue) (old now : Bench) → limits_in now ≡ limits_in old → ((bytes : ℕ → List ℕ) → HasWalked v bytes s (limits_in old) [] now) →
