@@ -4,7 +4,6 @@ use Rattle.std.specs.Prelude.{MatchResult, is_some, is_none, option_map, unwrap_
 use Rattle.outside.specs.Sink.{Grew, GrewByPrefix}
 use Rattle.outside.specs.Shelf.{File}
 use Rattle.outside.specs.Faults.{and_then, from_below}
-use Rattle.outside.specs.Stops as files
 use Rattle.outside.specs.Stops.{FaultFitsOrAbsent, Stop}
 use Rattle.outside.specs.declared.fault.Fault.{Fault}
 use Rattle.outside.specs.declared.fault.Fault.TheVariants as fault

@@ -1,6 +1,5 @@
 -- One view of a path, and the views one after the other.
-use Rattle.std.proofs.Common.{◌≡◌, ◌<◌, ◌≤◌, ◌+◌, ◌-◌, ◌*◌, ℕ, zero, suc, Bool, true, IsTrue, List, [], ◌∷◌, ◌++◌, length, take, drop, get_or, Option, Some, None, is_some, option_map, option_and_then, slice_get, unwrap_or, slice_index, Result, Ok, Err, IfErr, IfSome, OnOk, refl, ap, sym, ◌∙◌, subst, arith, add-one, append-nil, inl, inr}
-use Rattle.std.specs.List.{flat_map}
+use Rattle.std.proofs.Common.{◌≡◌, ◌<◌, ◌≤◌, ◌+◌, ◌-◌, ℕ, zero, suc, Bool, true, IsTrue, List, [], ◌∷◌, ◌++◌, length, take, drop, get_or, Option, Some, None, is_some, option_map, option_and_then, slice_get, unwrap_or, Result, Ok, Err, IfErr, IfSome, OnOk, refl, ap, sym, ◌∙◌, subst, arith, add-one, append-nil, inl, inr}
 use Rattle.std.specs.Option.{option_map_or}
 use Rattle.std.proofs.lemmas.Bool.{cases_lt}
 use Rattle.std.proofs.lemmas.Option.{slice_get-map, slice_get_within, get_or_from_slice_get}
@@ -17,8 +16,6 @@ use Rattle.picture_rules.specs.declared.OverLimit.{OverLimit}
 use Rattle.picture_rules.specs.Picture.{picture}
 use Rattle.picture_rules.specs.Counts.{view_over}
 use Rattle.texture_build.specs.Draws.{IsNoReadFault}
-use Rattle.frame_writer.specs.declared.TheConstants.{PALETTE_BYTES}
-use Rattle.frame_writer.specs.Ppm.{colour, ppm, ppm_header}
 use Rattle.command_line.specs.declared.command.Format.{Format}
 use Rattle.frame_core.specs.declared.fault.ViewFault.{ViewFault}
 use Rattle.frame_core.specs.declared.fault.ViewFault.TheVariants as fault

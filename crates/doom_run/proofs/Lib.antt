@@ -11,7 +11,6 @@ pub mod LimitLemmas
 pub mod LumpLemmas
 pub mod MadeLemmas
 pub mod ReadyLemmas
-pub mod RowLemmas
 pub mod RunLemmas
 pub mod StepLemmas
 pub mod TakeLemmas

@@ -29,7 +29,7 @@ use Rattle.picture_rules.specs.declared.Limits.{Limits}
 use Rattle.level_audit.proofs.SceneLemmas.{and_then-ok, from_below-ok}
 use Rattle.scene_load.specs.declared.texts.TextTables.{TextTables}
 use Rattle.scene_load.specs.Files.{FilesValue, files_in, files_named, in_file, in_optional_file, lumps_in, path_file, tables_file, texts_in, things_file, wad_files, weapons_file}
-use Rattle.scene_load.specs.Loads.{LoadedValue, audited_in, load_in, loaded_sizes, loaded_value, stops_of_audit, wad_bytes}
+use Rattle.scene_load.specs.Loads.{LoadedValue, audited_in, load_in, loaded_sizes, loaded_value, wad_bytes}
 use Rattle.scene_load.proofs.AuditedLemmas.{audited_by}
 use Rattle.frame_core.specs.Scenes.{scene_of}
 use Rattle.doom_run.specs.declared.exercise.Summary.{Summary}

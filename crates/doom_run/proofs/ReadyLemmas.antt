@@ -11,7 +11,6 @@ use Rattle.wad_dir.specs.DirectoryView.{DirectoryView}
 use Rattle.view_rules.specs.View.{view_of}
 use Rattle.lump_cache.specs.Caches.{KeepsCounts}
 use Rattle.lump_cache.specs.Calls.{IsFullFor}
-use Rattle.scene_rules.specs.Scenes.{SceneValue}
 use Rattle.texture_build.specs.Asked.{IsPatch, IsSmall, IsSmallBeside, size_of}
 use Rattle.texture_build.specs.Sources.{IsComposedColumn, column_in}
 use Rattle.texture_build.specs.Views.{TexturesView, prepared_texture}
@@ -20,7 +19,7 @@ use Rattle.texture_build.proofs.DrawLemmas.{holds_art-later, keeps_art-none, kee
 use Rattle.level_audit.specs.Sound.{SoundValue, textures_view}
 use Rattle.scene_load.specs.declared.read.SceneFiles.{SceneFiles}
 use Rattle.scene_load.specs.Files.{value_of}
-use Rattle.scene_load.specs.Loads.{LoadedValue, loaded_sizes}
+use Rattle.scene_load.specs.Loads.{loaded_sizes}
 use Rattle.command_line.specs.declared.command.Format.{Format}
 use Rattle.frame_core.specs.Scenes.{scene_of}
 use Rattle.frame_core.specs.Views.{CanDrawView, IsViewLump, IsViewTexture}

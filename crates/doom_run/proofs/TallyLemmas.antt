@@ -1,6 +1,6 @@
 -- The bytes of frames, counted.
 use Rattle.std.proofs.Common.{◌≡◌, ℕ, ◌+◌, ◌*◌, ◌%◌, ◌^◌, ◌++◌, Bool, true, IsTrue, List, [], ◌∷◌, length, Option, Some, None, Result, Ok, Err, refl, ap, sym, ◌∙◌, arith, subst}
-use Rattle.std.specs.Prelude.{codes, is_some, sum, take, unwrap_or}
+use Rattle.std.specs.Prelude.{codes, is_some, sum}
 use Rattle.std.specs.List.{flat_map}
 use Rattle.std.proofs.Math.Seq.{take-length}
 use Rattle.std.proofs.lemmas.List.{length-append, length-map}
@@ -9,7 +9,7 @@ use Rattle.outside.specs.Sink.{Grew}
 use Rattle.outside.specs.TallySink.{IsTallyOf, Tally}
 use Rattle.word_rules.specs.Listed.{joined_lists}
 use Rattle.word_rules.proofs.LeastLemmas.{least-is}
-use Rattle.word_rules.proofs.ListedLemmas.{joined_lists-cons, length-listed}
+use Rattle.word_rules.proofs.ListedLemmas.{length-listed}
 use Rattle.view_rules.specs.View.{ViewValue}
 use Rattle.pixel_rules.specs.declared.TheConstants.{FRAME_CELLS}
 use Rattle.frame_writer.specs.Ppm.{colour, ppm, ppm_header}
@@ -24,7 +24,7 @@ use Rattle.doom_run.specs.declared.status.Status.{Status}
 use Rattle.doom_run.specs.declared.status.Status.TheVariants.{Done, Usage, Refused, ReadFault, WriteFault, Limit, ZoneFull, OutOfMemory}
 use Rattle.doom_run.specs.declared.exercise.Summary.{Summary}
 use Rattle.doom_run.specs.Ends.{RendersAt}
-use Rattle.doom_run.specs.Exercises.{IsExercised, StopsAt, exercise_line, exercised_bytes, frame_size, line_unless, summary_line}
+use Rattle.doom_run.specs.Exercises.{IsExercised, StopsAt, exercise_line, frame_size, line_unless, summary_line}
 use Rattle.doom_run.specs.Verdict.{rendered}
 use Rattle.doom_run.specs.Views.{ViewsValue, due_views, end_at, first_over, frame_bytes, frames_of, limit_at, over_at, rendered_bytes, rendered_end}
 

@@ -1,5 +1,5 @@
 -- What is asked to draw a view is enough to count it.
-use Rattle.std.proofs.Common.{ℕ, List}
+use Rattle.std.proofs.Common.{List}
 use Rattle.lump_rules.specs.declared.wad.Lump.{Lump}
 use Rattle.zone_rules.specs.Zones.{Heap}
 use Rattle.scene_rules.specs.Scenes.{SceneValue}

@@ -2,7 +2,7 @@
 use Rattle.std.proofs.Common.{◌≡◌, ℕ, suc, ◌+◌, ◌≤◌, List, [], ◌∷◌, map, length, refl, ap, sym, ◌∙◌, arith}
 use Rattle.std.specs.Prelude.{None, sum}
 use Rattle.std.proofs.lemmas.List.{length-append, length-map, length-take}
-use Rattle.std.proofs.lemmas.List.Sums.{sum-map, sum_by-cons}
+use Rattle.std.proofs.lemmas.List.Sums.{sum_by-cons}
 use Rattle.view_rules.specs.View.{ViewValue}
 use Rattle.walk_rules.specs.declared.TheConstants.{MAX_DRAWSEGS}
 use Rattle.walk_rules.specs.Drawsegs.{drawsegs, leaf_fragments}
@@ -16,14 +16,14 @@ use Rattle.plane_rules.specs.Built.{planes_of}
 use Rattle.plane_rules.specs.Planes.{Plane}
 use Rattle.scene_rules.specs.Scenes.{SceneValue}
 use Rattle.picture_rules.specs.declared.Counts.{Counts}
-use Rattle.picture_rules.specs.Planes.{steps_of, view_planes}
+use Rattle.picture_rules.specs.Planes.{view_planes}
 use Rattle.picture_rules.specs.Things.{view_entries}
 use Rattle.picture_rules.specs.Scene.{Scene}
 use Rattle.picture_rules.specs.Walls.{fragment_wall, walls_of}
 use Rattle.picture_rules.specs.Counts.{counts_by, view_counts, view_over, view_steps}
 use Rattle.frame_core.specs.declared.bench.Bench.{Bench}
 use Rattle.frame_core.specs.Scenes.{lists_of, scene_of}
-use Rattle.frame_core.specs.Walked.{HasWalked, planes_after}
+use Rattle.frame_core.specs.Walked.{planes_after}
 use Rattle.frame_core.specs.Painters.{HasWalkedView, limits_in}
 
 -- the fragments save as many openings as are counted of them

@@ -47,7 +47,7 @@ use Rattle.frame_core.specs.Scenes.{lists_of, scene_of}
 use Rattle.frame_core.specs.Views.{CanDrawView, PaintsView, ViewScene, ViewState, held_scene}
 use Rattle.frame_core.specs.Walked.{HasWalked, next_dots, next_wall, planes_after}
 use Rattle.frame_core.proofs.SceneLemmas.{AreFactsReady, IsNoneOrReady, facts_ready}
-use Rattle.frame_core.proofs.WalkedLemmas.{next_wall-facts, notes_full}
+use Rattle.frame_core.proofs.WalkedFragmentLemmas.{next_wall-facts, notes_full}
 
 -- the patches of a prepared texture are there
 patches_at : (lumps : List Lump) (prepared : List (Option PreparedTexture)) (number : ℕ) → All (λ (t : Option PreparedTexture). IfSome t (ArePatchesThere lumps)) prepared → IfSome (slice_index_or prepared number None) (ArePatchesThere lumps)

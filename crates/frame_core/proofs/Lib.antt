@@ -1,6 +1,7 @@
 pub mod SceneLemmas
 pub mod ThingLemmas
 pub mod PaintLemmas
+pub mod PartDotLemmas
 pub mod ViewDotLemmas
 pub mod FloorLemmas
 pub mod AlikeLemmas
@@ -12,6 +13,7 @@ pub mod StepLemmas
 pub mod AllPlanesLemmas
 pub mod PlaneStepLemmas
 pub mod WalkedLemmas
+pub mod WalkedFragmentLemmas
 pub mod NumberLemmas
 pub mod SectorLemmas
 pub mod FragmentLemmas
@@ -21,3 +23,5 @@ pub mod ViewLemmas
 pub mod DotLemmas
 pub mod PainterLemmas
 pub mod CounterLemmas
+pub mod RowLemmas
+pub mod EnoughLemmas

@@ -1,6 +1,5 @@
 -- Laws of what a part of a view paints: nothing, one after the other, an error, the same dots by other words, and a layer below.
 use Rattle.std.proofs.Common.{◌≡◌, ℕ, List, ◌++◌, [], Result, Ok, Err, IsErrAnd, OnOk, subst}
-use Rattle.outside.specs.declared.fault.Fault.{Fault}
 use Rattle.lump_rules.specs.declared.wad.Lump.{Lump}
 use Rattle.zone_rules.specs.Zones.{Heap}
 use Rattle.pixel_rules.specs.declared.Painter.{Painter}

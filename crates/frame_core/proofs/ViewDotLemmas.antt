@@ -1,13 +1,12 @@
--- Laws of where the dots of a view are: those of its walls, its planes and its masked pass lie in it.
-use Rattle.std.proofs.Common.{◌≡◌, ℕ, zero, suc, ◌+◌, ◌-◌, ◌<◌, ◌≤◌, Bool, true, false, cond, ℤ, pos, negsuc, ◌≤ℤ◌, ◌<ℤ◌, List, [], ◌∷◌, ◌++◌, Option, Some, None, length, map, refl, subst, arith}
-use Rattle.std.specs.Prelude.{All, int_le, int_lt, nat_le, slice_get, filter, ◌&&◌}
-use Rattle.std.specs.List.{AllByRecursion, AllPass, range_with_len}
-use Rattle.std.proofs.lemmas.Bool.{and_from, le-leb}
+-- Laws of where the dots of a view are: those of its masked pass lie in it, and with its walls and planes all.
+use Rattle.std.proofs.Common.{◌≡◌, ℕ, zero, suc, ◌+◌, ◌<◌, ◌≤◌, Bool, true, false, cond, ℤ, pos, ◌≤ℤ◌, ◌<ℤ◌, List, [], ◌∷◌, ◌++◌, Option, Some, None, length, refl, subst, arith}
+use Rattle.std.specs.Prelude.{All, int_le, int_lt, slice_get, filter, ◌&&◌}
+use Rattle.std.specs.List.{AllByRecursion, AllPass}
 use Rattle.std.proofs.lemmas.Int.{ints}
 use Rattle.std.proofs.lemmas.List.Elements.{All-from_recursion, recursion_from_All}
 use Rattle.std.proofs.lemmas.Option.{slice_get_within, get_or_from_slice_get}
-use Rattle.word_rules.specs.Words.{minus_one, natural}
-use Rattle.word_rules.specs.Listed.{listed, listed_from, joined_lists}
+use Rattle.word_rules.specs.Words.{minus_one}
+use Rattle.word_rules.specs.Listed.{listed_from}
 use Rattle.view_rules.specs.View.{ViewValue}
 use Rattle.view_rules.specs.declared.ViewShape.{ViewShape}
 use Rattle.view_rules.specs.declared.TheConstants.{FRAME_HEIGHT}
@@ -17,25 +16,11 @@ use Rattle.pixel_rules.specs.declared.MaskedColumn.{MaskedColumn}
 use Rattle.pixel_rules.specs.declared.Painter.{Painter}
 use Rattle.pixel_rules.specs.declared.Post.{Post}
 use Rattle.pixel_rules.specs.Art.{Art}
-use Rattle.pixel_rules.specs.Dots.{Dot}
 use Rattle.pixel_rules.specs.Posts.{picture_top, post_top, post_bottom, post_first, post_last, post_rows, post_colour, post_dots, posts_dots}
-use Rattle.pixel_rules.specs.Strips.{column_dots, rows_between}
-use Rattle.plane_rules.specs.declared.Flat4.{Flat4}
-use Rattle.plane_rules.specs.declared.Flat4.TheVariants.{Sky, Lump}
-use Rattle.plane_rules.specs.Floors.{run_dots, floor_dots}
-use Rattle.plane_rules.specs.Planes.{Plane, column}
-use Rattle.plane_rules.specs.Skies.{sky_dots, plane_dots_by, plane_dots}
-use Rattle.plane_rules.specs.Spans.{holds_row, holds}
+use Rattle.pixel_rules.specs.Strips.{rows_between}
 use Rattle.wall_rules.specs.declared.ColumnClip.{ColumnClip}
-use Rattle.wall_rules.specs.declared.Edges.{Edges}
-use Rattle.wall_rules.specs.declared.FragmentNumbers.{FragmentNumbers}
-use Rattle.wall_rules.specs.declared.Part.{Part}
-use Rattle.wall_rules.specs.declared.RowRange.{RowRange}
-use Rattle.wall_rules.specs.Clips.{middle_rows, top_rows, bottom_rows}
 use Rattle.wall_rules.specs.Openings.{top_clip, bottom_clip}
-use Rattle.wall_rules.specs.Parts.{has_texture}
-use Rattle.wall_rules.specs.Strips.{WallStrip, strip_of, wall_strips, strip_dots, wall_column_by, wall_column, wall_dots}
-use Rattle.wall_rules.specs.Walls.{Wall, wall_edges, clip_before, clip_past}
+use Rattle.wall_rules.specs.Walls.{Wall, clip_past}
 use Rattle.sprite_rules.specs.declared.SpriteEntry.{SpriteEntry}
 use Rattle.sprite_rules.specs.Clips.{gives_bottom, gives_top, greatest_that, clip_of_some, clip_of_number, sprite_bottom, sprite_top}
 use Rattle.sprite_rules.specs.Drawsegs.{Drawseg}
@@ -47,187 +32,24 @@ use Rattle.picture_rules.specs.Masked.{drawseg_of, drawsegs_from, view_drawsegs}
 use Rattle.picture_rules.specs.Noted.{least_clip, greatest_clip}
 use Rattle.picture_rules.specs.Paints.{view_paints, paints_of, paints_by}
 use Rattle.picture_rules.specs.Picture.{AreInView}
-use Rattle.picture_rules.specs.Planes.{steps_of, view_planes, planes_from, planes_dots}
+use Rattle.picture_rules.specs.Planes.{steps_of, view_planes, planes_dots}
 use Rattle.picture_rules.specs.Scene.{Scene}
 use Rattle.picture_rules.specs.Things.{view_entries}
-use Rattle.picture_rules.specs.Walls.{walls_of, walls_from, walls_dots}
+use Rattle.picture_rules.specs.Walls.{walls_of, walls_dots}
 use Rattle.picture_rules.proofs.FrameLemmas.{in_view-append}
 use Rattle.vissprites.specs.Bounds.{lies_within}
 use Rattle.vissprites.proofs.BoundLemmas.{draw_order-all}
 use Rattle.wall_columns.specs.Built.{IsDrawn}
-use Rattle.wall_columns.specs.Plans.{AreEdgeWords, AreRowsIn}
 use Rattle.wall_columns.specs.Windows.{IsClipIn}
-use Rattle.wall_columns.proofs.ClipLemmas.{clip_before-in, middle_rows-in, top_rows-in, bottom_rows-in, edges_at-words}
+use Rattle.wall_columns.proofs.ClipLemmas.{clip_before-in}
 use Rattle.masked_draw.proofs.PostLemmas.{post_first-low, post_last-high}
-
--- a plane with no row and no column outside the view
-abbrev pub LiesInView : ViewShape → Plane → Type 0
-LiesInView shape p = (x y : ℕ) → holds p y x ≡ true → (x < shape.width) × (y < shape.height)
+use Rattle.frame_core.proofs.PartDotLemmas.{LiesInView, drawn_walls-in_view, in_view-column, in_view-joined, numbers_between, planes-in_view, rows_between-in}
 
 -- a fragment of the view's columns, whose clips leave no row outside the view
 pub record IsDrawsegIn (shape : ViewShape) (d : Drawseg) : Type 0 where
   pub within : d.last < shape.width
   pub top : (x : ℕ) → (minus_one ≤ℤ d.top_clip x) × (d.top_clip x ≤ℤ greatest_clip)
   pub bottom : (x : ℕ) → (least_clip ≤ℤ d.bottom_clip x) × (d.bottom_clip x ≤ℤ pos shape.height)
-
--- what holds of numbers from first on, n of them
-numbers_from : (P : ℕ → Type 0) (first n : ℕ) → ((k : ℕ) → first ≤ k → k < first + n → P k) → AllByRecursion P (map (λ k. k) (range_with_len first n))
-numbers_from P first zero h = tt
-numbers_from P first (suc n) h = (h first (omega arith) (omega arith), numbers_from P (first + 1) n (λ k l m. h k (omega arith) (omega arith)))
-
-numbers_between : (P : ℕ → Type 0) (first last : ℕ) → ((k : ℕ) → first ≤ k → k ≤ last → P k) → AllByRecursion P (listed_from (λ k. k) first last)
-unfolding listed_from
-numbers_between P first last h = numbers_from P first (last + 1 - first) (λ k l m. h k l (omega arith))
-
-numbers_below : (P : ℕ → Type 0) (n : ℕ) → ((k : ℕ) → k < n → P k) → AllByRecursion P (listed (λ k. k) n)
-unfolding listed
-numbers_below P n h = numbers_from P 0 n (λ k l m. h k (omega arith))
-
--- lists that are joined lie in the view when each does
-in_view-joined : {X : Type 0} (shape : ViewShape) (f : X → List Dot) (P : X → Type 0) (xs : List X) → ((x : X) → P x → AreInView shape (f x)) → AllByRecursion P xs → AreInView shape (joined_lists f xs)
-unfolding joined_lists
-in_view-joined shape f P [] h a = tt
-in_view-joined shape f P (x ∷ xs) h a = in_view-append shape (f x) (joined_lists f xs) (h x a.0) (in_view-joined shape f P xs h a.1)
-
--- rows of a column
-in_view-column : (shape : ViewShape) (painter : Painter) (x : ℕ) (colour : ℕ → ℕ) (rows : List ℕ) → x < shape.width → AllByRecursion (λ y. y < shape.height) rows → AreInView shape (column_dots painter x colour rows)
-unfolding column_dots
-in_view-column shape painter x colour [] l a = tt
-in_view-column shape painter x colour (y ∷ ys) l a = ((l, a.0), in_view-column shape painter x colour ys l a.1)
-
-natural-below : (first last : ℤ) (height y : ℕ) → first ≤ℤ last → pos 0 ≤ℤ first → last <ℤ pos height → y ≤ natural last → y < height
-unfolding natural
-natural-below first (pos n) height y o l h m = let k : n < height = omega (arith, ints) in omega arith
-natural-below first (negsuc n) height y o l h m = absurd (omega (arith, ints))
-
-rows_by : (height : ℕ) (first last : ℤ) (t : Bool) → int_lt last first ≡ t → (first ≤ℤ last → (pos 0 ≤ℤ first) × (last <ℤ pos height)) →
-    AllByRecursion (λ y. y < height) (cond t [] (listed_from (λ y. y) (natural first) (natural last)))
-rows_by height first last true e h = tt
-rows_by height first last false e h =
-    let o : first ≤ℤ last = grind (arith, ints) in
-    let p = h o in
-    numbers_between (λ y. y < height) (natural first) (natural last) (λ y l m. natural-below first last height y o p.0 p.1 m)
-
--- rows between two that are rows of the view, where there are some
-rows_between-in : (height : ℕ) (first last : ℤ) → (first ≤ℤ last → (pos 0 ≤ℤ first) × (last <ℤ pos height)) → AllByRecursion (λ y. y < height) (rows_between first last)
-unfolding rows_between
-rows_between-in height first last h = rows_by height first last (int_lt last first) refl h
-
--- the strips of a fragment have rows of the view
-abbrev IsStripIn : ℕ → WallStrip → Type 0
-IsStripIn height s = AreRowsIn height s.rows
-
-strip_if : (height : ℕ) (t : Bool) (part : Part) (rows : RowRange) → AreRowsIn height rows → AllByRecursion (IsStripIn height) (cond t (record { part = part; rows = rows } ∷ []) [])
-strip_if height true part rows h = (h, tt)
-strip_if height false part rows h = tt
-
-strip_of-in : (height : ℕ) (part : Part) (rows : RowRange) → AreRowsIn height rows → AllByRecursion (IsStripIn height) (strip_of part rows)
-unfolding strip_of
-strip_of-in height part rows h = strip_if height (has_texture part) part rows h
-
-all-append : {X : Type 0} (P : X → Type 0) (xs ys : List X) → AllByRecursion P xs → AllByRecursion P ys → AllByRecursion P (xs ++ ys)
-all-append P [] ys a b = b
-all-append P (x ∷ xs) ys a b = (a.0, all-append P xs ys a.1 b)
-
-strips_by : (height : ℕ) (t : Bool) (xs ys : List WallStrip) → AllByRecursion (IsStripIn height) xs → AllByRecursion (IsStripIn height) ys → AllByRecursion (IsStripIn height) (cond t xs ys)
-strips_by height true xs ys a b = a
-strips_by height false xs ys a b = b
-
-wall_strips-in : (height : ℕ) (n : FragmentNumbers) (clip : ColumnClip) (e : Edges) → height ≤ FRAME_HEIGHT → IsClipIn height clip → AreEdgeWords e → AllByRecursion (IsStripIn height) (wall_strips n clip e)
-unfolding wall_strips
-wall_strips-in height n clip e s i w =
-    strips_by height (has_texture n.middle_part) (strip_of n.middle_part (middle_rows clip e)) (strip_of n.top_part (top_rows clip e) ++ strip_of n.bottom_part (bottom_rows n clip e))
-    (strip_of-in height n.middle_part (middle_rows clip e) (middle_rows-in height clip e s i w))
-    (all-append (IsStripIn height) (strip_of n.top_part (top_rows clip e)) (strip_of n.bottom_part (bottom_rows n clip e))
-    (strip_of-in height n.top_part (top_rows clip e) (top_rows-in height clip e s i w)) (strip_of-in height n.bottom_part (bottom_rows n clip e) (bottom_rows-in height n clip e s i w)))
-
-strip_dots-in : (v : ViewValue) (art : Art) (k x light : ℕ) (column scale : ℤ) (s : WallStrip) → x < v.shape.width → IsStripIn v.shape.height s → AreInView v.shape (strip_dots v art k x light column scale s)
-unfolding strip_dots
-strip_dots-in v art k x light column scale s l h = in_view-column v.shape _ x _ (rows_between s.rows.first s.rows.last) l (rows_between-in v.shape.height s.rows.first s.rows.last h)
-
-edges_words : (shape : ViewShape) (w : Wall) (x : ℕ) → AreEdgeWords (wall_edges shape w x)
-unfolding wall_edges
-edges_words shape w x = edges_at-words shape w.numbers (x - w.first)
-
-wall_column-in : (v : ViewValue) (art : Art) (walls : List Wall) (k : ℕ) (w : Wall) (x : ℕ) → v.shape.height ≤ FRAME_HEIGHT → x < v.shape.width → AreInView v.shape (wall_column v art walls k w x)
-unfolding wall_column wall_column_by
-wall_column-in v art walls k w x s l =
-    in_view-joined v.shape _ (IsStripIn v.shape.height) (wall_strips w.numbers (clip_before v.shape walls k x) (wall_edges v.shape w x))
-    (λ strip h. strip_dots-in v art k x _ _ _ strip l h)
-    (wall_strips-in v.shape.height w.numbers (clip_before v.shape walls k x) (wall_edges v.shape w x) s (clip_before-in v.shape walls k x s) (edges_words v.shape w x))
-
-wall_dots-in : (v : ViewValue) (art : Art) (walls : List Wall) (k : ℕ) (w : Wall) → v.shape.height ≤ FRAME_HEIGHT → w.last < v.shape.width → AreInView v.shape (wall_dots v art walls k w)
-unfolding wall_dots
-wall_dots-in v art walls k w s l =
-    in_view-joined v.shape (wall_column v art walls k w) (λ x. x < v.shape.width) (listed_from (λ x. x) w.first w.last)
-    (λ x h. wall_column-in v art walls k w x s h)
-    (numbers_between (λ x. x < v.shape.width) w.first w.last (λ x m n. omega (arith, n, l)))
-
-walls_from-in : (v : ViewValue) (scene : Scene) (walls : List Wall) (k : ℕ) (ws : List Wall) → v.shape.height ≤ FRAME_HEIGHT → AllByRecursion (IsDrawn v) ws → AreInView v.shape (walls_from v scene walls k ws)
-unfolding walls_from
-walls_from-in v scene walls k [] s a = tt
-walls_from-in v scene walls k (w ∷ ws) s a =
-    in_view-append v.shape (wall_dots v scene.art walls k w) (walls_from v scene walls (k + 1) ws) (wall_dots-in v scene.art walls k w s a.0.within) (walls_from-in v scene walls (k + 1) ws s a.1)
-
--- the dots of walls that are drawn lie in the view
-pub drawn_walls-in_view : (v : ViewValue) (scene : Scene) (walls : List Wall) → v.shape.height ≤ FRAME_HEIGHT → All (IsDrawn v) walls → AreInView v.shape (walls_dots v scene walls)
-unfolding walls_dots
-drawn_walls-in_view v scene walls s d = walls_from-in v scene walls 0 walls s (recursion_from_All (IsDrawn v) walls d)
-
--- so do those of the walls of a list of events
-pub walls-in_view : (v : ViewValue) (scene : Scene) (events : List Event) → v.shape.height ≤ FRAME_HEIGHT → All (IsDrawn v) (walls_of v scene events) → AreInView v.shape (walls_dots v scene (walls_of v scene events))
-walls-in_view v scene events s d = drawn_walls-in_view v scene (walls_of v scene events) s d
-
--- dots of one column, row by row
-run_by : (shape : ViewShape) (painter : Painter) (x : ℕ) (colour : ℕ → ℕ) (rows : List ℕ) → AllByRecursion (λ y. (x < shape.width) × (y < shape.height)) rows → AreInView shape (column_dots painter x colour rows)
-unfolding column_dots
-run_by shape painter x colour [] a = tt
-run_by shape painter x colour (y ∷ ys) a = (a.0, run_by shape painter x colour ys a.1)
-
--- the rows of a plane at a column
-run-in : (shape : ViewShape) (painter : Painter) (x : ℕ) (colour : ℕ → ℕ) (run : Option (ℕ × ℕ)) → ((y : ℕ) → holds_row run y ≡ true → (x < shape.width) × (y < shape.height)) → AreInView shape (run_dots painter x colour run)
-unfolding run_dots holds_row
-run-in shape painter x colour None h = tt
-run-in shape painter x colour (Some r) h =
-    run_by shape painter x colour (listed_from (λ y. y) r.0 r.1)
-    (numbers_between (λ y. (x < shape.width) × (y < shape.height)) r.0 r.1 (λ y l m. h y (and_from (nat_le r.0 y) (nat_le y r.1) (le-leb r.0 y l) (le-leb y r.1 m))))
-
-plane_column-in : (shape : ViewShape) (painter : Painter) (x : ℕ) (colour : ℕ → ℕ) (p : Plane) → LiesInView shape p → AreInView shape (run_dots painter x colour (column p x))
-unfolding holds
-plane_column-in shape painter x colour p h = run-in shape painter x colour (column p x) (λ y t. h x y t)
-
-abbrev any_number : ℕ → Type 0
-any_number k = Unit {0}
-
-floor_dots-in : (v : ViewValue) (art : Art) (n lump : ℕ) (p : Plane) → LiesInView v.shape p → AreInView v.shape (floor_dots v art n lump p)
-unfolding floor_dots
-floor_dots-in v art n lump p h =
-    in_view-joined v.shape _ any_number (listed (λ x. x) v.shape.width) (λ x l. plane_column-in v.shape _ x _ p h) (numbers_below any_number v.shape.width (λ k l. tt))
-
-sky_dots-in : (v : ViewValue) (art : Art) (n sky : ℕ) (p : Plane) → LiesInView v.shape p → AreInView v.shape (sky_dots v art n sky p)
-unfolding sky_dots
-sky_dots-in v art n sky p h =
-    in_view-joined v.shape _ any_number (listed (λ x. x) v.shape.width) (λ x l. plane_column-in v.shape _ x _ p h) (numbers_below any_number v.shape.width (λ k l. tt))
-
-plane_by-in : (v : ViewValue) (art : Art) (sky n : ℕ) (p : Plane) (flat : Flat4) → LiesInView v.shape p → AreInView v.shape (plane_dots_by v art sky n p flat)
-unfolding plane_dots_by
-plane_by-in v art sky n p Sky h = sky_dots-in v art n sky p h
-plane_by-in v art sky n p (Lump lump) h = floor_dots-in v art n lump p h
-
-plane_dots-in : (v : ViewValue) (art : Art) (sky n : ℕ) (p : Plane) → LiesInView v.shape p → AreInView v.shape (plane_dots v art sky n p)
-unfolding plane_dots
-plane_dots-in v art sky n p h = plane_by-in v art sky n p p.key.flat h
-
-planes_from-in : (v : ViewValue) (scene : Scene) (n : ℕ) (planes : List Plane) → AllByRecursion (LiesInView v.shape) planes → AreInView v.shape (planes_from v scene n planes)
-unfolding planes_from
-planes_from-in v scene n [] a = tt
-planes_from-in v scene n (p ∷ ps) a =
-    in_view-append v.shape (plane_dots v scene.art scene.sky n p) (planes_from v scene (n + 1) ps) (plane_dots-in v scene.art scene.sky n p a.0) (planes_from-in v scene (n + 1) ps a.1)
-
--- the dots of planes that lie in the view lie in it
-pub planes-in_view : (v : ViewValue) (scene : Scene) (planes : List Plane) → All (LiesInView v.shape) planes → AreInView v.shape (planes_dots v scene planes)
-unfolding planes_dots
-planes-in_view v scene planes h = planes_from-in v scene 0 planes (recursion_from_All (LiesInView v.shape) planes h)
 
 -- the clips of a masked column
 record AreClipsIn (shape : ViewShape) (c : MaskedColumn) : Type 0 where

@@ -1,6 +1,6 @@
 -- Laws of a whole view: its three parts in order, where its dots lie, what ends it, and the frame that it leaves.
-use Rattle.std.proofs.Common.{◌≡◌, ℕ, zero, suc, ◌+◌, ◌<◌, ◌≤◌, List, [], ◌++◌, Option, Some, None, Result, Ok, Err, IsErrAnd, OnOk, length, get_or, replicate, refl, ap, sym, ◌∙◌, subst, arith}
-use Rattle.std.specs.Prelude.{All, IfErr, IfSome, true}
+use Rattle.std.proofs.Common.{◌≡◌, ℕ, zero, suc, ◌+◌, ◌≤◌, List, [], ◌++◌, Option, Some, None, Result, Ok, Err, IsErrAnd, OnOk, length, get_or, replicate, refl, ap, sym, ◌∙◌, subst, arith}
+use Rattle.std.specs.Prelude.{All, IfErr, IfSome}
 use Rattle.std.specs.List.{AllPass}
 use Rattle.std.proofs.lemmas.List.{length-replicate}
 use Rattle.outside.specs.Shelf.{ShelfView}
@@ -17,7 +17,6 @@ use Rattle.pixel_strips.specs.Canvases.{CanvasView, marked_by_colour, placed_at}
 use Rattle.pixel_strips.specs.Dotted.{HasDots, PlacedAlike}
 use Rattle.plane_rules.specs.Built.{planes_of}
 use Rattle.plane_rules.specs.Planes.{Plane}
-use Rattle.plane_rules.specs.Spans.{holds}
 use Rattle.wad_dir.specs.DirectoryView.{DirectoryView}
 use Rattle.sprite_rules.specs.declared.SpriteEntry.{SpriteEntry}
 use Rattle.sprite_rules.specs.Middles.{masked_dots}
@@ -41,10 +40,11 @@ use Rattle.frame_core.specs.declared.fault.ViewFault.{ViewFault}
 use Rattle.frame_core.specs.Faults.{limit_of_view}
 use Rattle.frame_core.specs.Scenes.{lists_of, scene_of}
 use Rattle.frame_core.specs.Views.{CanDrawView, PaintsView, ViewScene, ViewState, view_scene, view_state}
-use Rattle.frame_core.specs.Walked.{HasWalked, IsPlaneIn, planes_after}
+use Rattle.frame_core.specs.Walked.{HasWalked, planes_after}
 use Rattle.frame_core.specs.Painters.{HasWalkedView, IsPlacedIn, drawn_walls, limits_in}
 use Rattle.frame_core.proofs.PaintLemmas.{paints-same, paints-then}
-use Rattle.frame_core.proofs.ViewDotLemmas.{LiesInView, drawsegs-in_view, masked-in_view, planes-in_view, walls-in_view}
+use Rattle.frame_core.proofs.PartDotLemmas.{LiesInView, planes-in_view, walls-in_view}
+use Rattle.frame_core.proofs.ViewDotLemmas.{drawsegs-in_view, masked-in_view}
 
 -- a bench that was started is one that no event has come to, within its own limits
 pub started : (v : ViewValue) (s : SceneValue) (old now : Bench) → limits_in now ≡ limits_in old → ((bytes : ℕ → List ℕ) → HasWalked v bytes s (limits_in old) [] now) →

@@ -1,58 +1,52 @@
--- Laws of a bench as a list of events makes it: no event, a leaf more, and a fragment more.
-use Rattle.std.proofs.Common.{◌≡◌, ℕ, suc, ◌+◌, ◌<◌, ◌≤◌, ◌||◌, ◌==◌, Bool, true, false, List, [], ◌∷◌, ◌++◌, Option, None, Result, Ok, Err, OnOk, IsErrAnd, length, map, refl, ap, sym, ◌∙◌, subst, inl, inr, arith}
+-- Laws of a bench as a list of events makes it: no event, and a leaf more.
+use Rattle.std.proofs.Common.{◌≡◌, ℕ, ◌<◌, ◌||◌, ◌==◌, Bool, true, false, List, [], ◌∷◌, ◌++◌, Option, None, Result, Ok, Err, IsErrAnd, length, map, refl, ap, sym, ◌∙◌, subst}
 use Rattle.std.specs.Prelude.{All}
 use Rattle.std.specs.List.{AllPass, list_any}
-use Rattle.std.proofs.lemmas.Bool.{cases_lt, eqb-true}
-use Rattle.std.proofs.lemmas.List.{append-nil, length-append, length-map, map-append}
+use Rattle.std.proofs.lemmas.Bool.{eqb-true}
+use Rattle.std.proofs.lemmas.List.{map-append}
 use Rattle.std.proofs.lemmas.List.Elements.{All-nil, All-push}
 use Rattle.std.proofs.lemmas.List.Folds.{list_any-append}
 use Rattle.view_rules.specs.View.{ViewValue}
-use Rattle.view_rules.specs.declared.TheConstants.{FRAME_HEIGHT}
-use Rattle.level_rules.specs.Levels.{leaf_at, seg_at, surface_at}
+use Rattle.level_rules.specs.Levels.{leaf_at, surface_at}
 use Rattle.art_rules.specs.Books.{book_lumps}
-use Rattle.walk_rules.specs.declared.TheConstants.{MAX_DRAWSEGS}
-use Rattle.walk_rules.specs.Drawsegs.{drawsegs, last_leaf, leaves_entered}
+use Rattle.walk_rules.specs.Drawsegs.{last_leaf, leaves_entered}
 use Rattle.walk_rules.specs.Events.{Event}
-use Rattle.walk_rules.specs.Events.Event.{LeafEvent, FragmentEvent}
-use Rattle.walk_rules.proofs.DrawsegLemmas.{drawsegs-within, last_leaf-append, leaves_entered-append}
+use Rattle.walk_rules.specs.Events.Event.{LeafEvent}
+use Rattle.walk_rules.proofs.DrawsegLemmas.{last_leaf-append, leaves_entered-append}
 use Rattle.plane_rules.specs.declared.PlaneKey.{PlaneKey}
 use Rattle.plane_rules.specs.Keys.{ceiling_key, floor_key}
 use Rattle.plane_rules.specs.Planes.{Plane}
 use Rattle.plane_rules.specs.Built.{PlanesNow, after_event, no_planes}
-use Rattle.wall_rules.specs.declared.WallFacts.{WallFacts}
-use Rattle.wall_rules.specs.Notes.{notes_from, openings_list, saved_by, saved_from, view_notes}
-use Rattle.wall_rules.specs.Openings.{openings_of}
-use Rattle.wall_rules.specs.Walls.{Wall, wall_of}
-use Rattle.wall_rules.proofs.NoteLemmas.{length-saved_openings, openings_list-more}
+use Rattle.wall_rules.specs.Notes.{openings_list, saved_from}
+use Rattle.wall_rules.specs.Walls.{Wall}
 use Rattle.sprite_rules.specs.declared.SpriteEntry.{SpriteEntry}
 use Rattle.scene_rules.specs.Scenes.{SceneValue}
 use Rattle.picture_rules.specs.declared.Limits.{Limits}
-use Rattle.picture_rules.specs.declared.OverLimit.{OverLimit}
-use Rattle.picture_rules.specs.Scene.{Scene, facts_of, leaf_sector, leaf_surface}
-use Rattle.picture_rules.specs.Walls.{fragment_wall, walls_of}
-use Rattle.picture_rules.specs.Planes.{Step, leaf_step, wall_step}
+use Rattle.picture_rules.specs.Scene.{Scene, leaf_sector, leaf_surface}
+use Rattle.picture_rules.specs.Walls.{walls_of}
+use Rattle.picture_rules.specs.Planes.{Step, leaf_step}
 use Rattle.picture_rules.specs.Things.{first_mentions, is_entered, sectors_entered, view_entries, with_sectors}
-use Rattle.picture_rules.specs.Counts.{openings_after, openings_past, steps_over, view_steps}
-use Rattle.picture_rules.proofs.ThingLemmas.{view_entries-again, view_entries-fragment, view_entries-new}
+use Rattle.picture_rules.specs.Counts.{openings_past, steps_over, view_steps}
+use Rattle.picture_rules.proofs.ThingLemmas.{view_entries-again, view_entries-new}
 use Rattle.visplanes.specs.Planes.{PlanesView}
 use Rattle.vissprites.specs.Bounds.{has_lump_below, lies_within}
-use Rattle.wall_columns.specs.Built.{IsBuilt, limits_of, step_of_leaf, step_of_wall, step_over, with_wall}
+use Rattle.wall_columns.specs.Built.{IsBuilt, limits_of, step_of_leaf, step_over}
 use Rattle.wall_columns.specs.Faults.{limit_of_fault, limit_of_result}
 use Rattle.wall_columns.specs.Walls.{WallsView}
 use Rattle.wall_columns.specs.declared.fault.DrawFault.{DrawFault}
 use Rattle.frame_core.specs.declared.bench.Bench.{Bench}
 use Rattle.frame_core.specs.Entered.{has_entered}
 use Rattle.frame_core.specs.Scenes.{lists_of, scene_of}
-use Rattle.frame_core.specs.Walked.{HasWalked, IsEventIn, IsPlaneIn, next_wall, planes_after, with_sector}
-use Rattle.frame_core.proofs.PlaneStepLemmas.{planes-leaf, planes-wall}
-use Rattle.frame_core.proofs.StepLemmas.{OneMore, one_more-leaf, one_more-room, openings-none, over-none, planes_after-full, planes_after-none, steps-full, walls-full, walls-leaf, walls-none, walls-room}
+use Rattle.frame_core.specs.Walked.{HasWalked, IsEventIn, IsPlaneIn, planes_after, with_sector}
+use Rattle.frame_core.proofs.PlaneStepLemmas.{planes-leaf}
+use Rattle.frame_core.proofs.StepLemmas.{OneMore, one_more-leaf, openings-none, over-none, planes_after-none, walls-leaf, walls-none}
 
 -- a bench of these parts
 abbrev pub bench_of : PlanesView → WallsView → List SpriteEntry → List Bool → ℕ → Bench
 bench_of planes walls sprites entered sector =
     record { planes = planes; walls = walls; sprites = sprites; entered = entered; sector = sector }
 
-built_as : (v : ViewValue) (ws us : List Wall) (s t : PlanesNow) (walls : WallsView) (ps qs : List Plane) → us ≡ ws → t ≡ s → qs ≡ ps → IsBuilt v ws s walls ps → IsBuilt v us t walls qs
+pub built_as : (v : ViewValue) (ws us : List Wall) (s t : PlanesNow) (walls : WallsView) (ps qs : List Plane) → us ≡ ws → t ≡ s → qs ≡ ps → IsBuilt v ws s walls ps → IsBuilt v us t walls qs
 built_as v ws us s t walls ps qs e f g h =
     subst (λ (xs : List Wall). IsBuilt v xs t walls qs) (sym e)
     (subst (λ (now : PlanesNow). IsBuilt v ws now walls qs) (sym f) (subst (IsBuilt v ws s walls) (sym g) h))
@@ -130,7 +124,7 @@ over-step v bytes scene most events more e old h one =
     ∙ ap (λ (n : ℕ). step_over most (planes_after v S events) n e) h.openings
     ∙ sym (one.over most h.within)
 
-walked_step : (v : ViewValue) (bytes : ℕ → List ℕ) (scene : SceneValue) (most : Limits) (events : List Event) (event : Event) (e : Step) (old new : Bench) → HasWalked v bytes scene most events old →
+pub walked_step : (v : ViewValue) (bytes : ℕ → List ℕ) (scene : SceneValue) (most : Limits) (events : List Event) (event : Event) (e : Step) (old new : Bench) → HasWalked v bytes scene most events old →
     IsBuiltOn v bytes scene events event e old new → IsSeen v bytes scene (events ++ event ∷ []) new → HasWalked v bytes scene most (events ++ event ∷ []) new
 walked_step v bytes scene most events event e old new h on seen =
     let S = scene_of bytes scene in
@@ -150,7 +144,7 @@ walked_step v bytes scene most events event e old new h on seen =
     }
 
 -- the planes so far lie in the view
-planes_so_far : (v : ViewValue) (bytes : ℕ → List ℕ) (scene : SceneValue) (most : Limits) (events : List Event) (b : Bench) → HasWalked v bytes scene most events b →
+pub planes_so_far : (v : ViewValue) (bytes : ℕ → List ℕ) (scene : SceneValue) (most : Limits) (events : List Event) (b : Bench) → HasWalked v bytes scene most events b →
     All (IsPlaneIn v.shape scene) (planes_after v (scene_of bytes scene) events).planes
 planes_so_far v bytes scene most events b h = subst (All (IsPlaneIn v.shape scene)) h.built.planes h.planes
 
@@ -171,11 +165,6 @@ entered_leaf scene es n sector =
     ∙ list_any-append (λ m. m == sector) (map (leaf_sector scene) (leaves_entered es)) (leaf_sector scene n ∷ [])
     ∙ ap (λ (b : Bool). list_any (λ m. m == sector) (map (leaf_sector scene) (leaves_entered es)) || b) (or_false (leaf_sector scene n == sector))
 
-entered_fragment : (scene : Scene) (es : List Event) (seg first last sector : ℕ) → is_entered scene (es ++ FragmentEvent seg first last ∷ []) sector ≡ is_entered scene es sector
-unfolding is_entered leaves_entered
-entered_fragment scene es seg first last sector =
-    ap (λ (ls : List ℕ). list_any (λ m. m == sector) (map (leaf_sector scene) ls)) (leaves_entered-append es (FragmentEvent seg first last ∷ []) ∙ append-nil (leaves_entered es))
-
 entered_by : (scene : Scene) (es : List Event) (n s : ℕ) (now : Bool) (own : ℕ) (t : Bool) → own ≡ leaf_sector scene n → (own == s) ≡ t →
     ((own == s) ≡ true → now ≡ true) → ((own == s) ≡ false → now ≡ is_entered scene es s) → now ≡ is_entered scene (es ++ LeafEvent n ∷ []) s
 entered_by scene es n s now own true e t same other =
@@ -186,10 +175,6 @@ entered_by scene es n s now own false e t same other =
 last_of_leaf : (es : List Event) (n : ℕ) → n ≡ last_leaf 0 (es ++ LeafEvent n ∷ [])
 unfolding last_leaf
 last_of_leaf es n = sym (last_leaf-append 0 es (LeafEvent n ∷ []))
-
-last_of_fragment : (es : List Event) (seg first last : ℕ) → last_leaf 0 es ≡ last_leaf 0 (es ++ FragmentEvent seg first last ∷ [])
-unfolding last_leaf
-last_of_fragment es seg first last = sym (last_leaf-append 0 es (FragmentEvent seg first last ∷ []))
 
 -- the sprites after a leaf
 sprites_leaf : (v : ViewValue) (scene : Scene) (es : List Event) (n : ℕ) (b : Bool) → is_entered scene es (leaf_sector scene n) ≡ b →
@@ -279,173 +264,6 @@ walked-leaf v bytes scene most events n sector floor ceiling old new enters h =
           (λ t. enters.others k t ∙ h.entered k l);
       sector = enters.now ∙ own ∙ ap (leaf_sector S) (last_of_leaf events n);
     })
-
--- what stays seen of a fragment more
-pub seen-fragment : (v : ViewValue) (bytes : ℕ → List ℕ) (scene : SceneValue) (most : Limits) (events : List Event) (seg first last : ℕ) (old : Bench) (planes : PlanesView) (walls : WallsView) →
-    HasWalked v bytes scene most events old → IsSeen v bytes scene (events ++ FragmentEvent seg first last ∷ []) (bench_of planes walls old.sprites old.entered old.sector)
-seen-fragment v bytes scene most events seg first last old planes walls h =
-    let S = scene_of bytes scene in
-    record {
-      sprites = h.sprites ∙ sym (view_entries-fragment v S events seg first last);
-      columns = h.columns;
-      lumps = h.lumps;
-      entered = λ sector l. h.entered sector l ∙ sym (entered_fragment S events seg first last sector);
-      sector = h.sector ∙ ap (leaf_sector S) (last_of_fragment events seg first last);
-    }
-
--- a fragment past the most that a view keeps
-walked_full : (v : ViewValue) (bytes : ℕ → List ℕ) (scene : SceneValue) (most : Limits) (events : List Event) (seg first last : ℕ) (old : Bench) (planes : PlanesView) (walls : WallsView) →
-    IsEventIn v scene (FragmentEvent seg first last) → MAX_DRAWSEGS ≤ length (walls_of v (scene_of bytes scene) events) → planes ≡ old.planes → walls ≡ old.walls →
-    HasWalked v bytes scene most events old → HasWalked v bytes scene most (events ++ FragmentEvent seg first last ∷ []) (bench_of planes walls old.sprites old.entered old.sector)
-walked_full v bytes scene most events seg first last old planes walls there full same_planes same_walls h =
-    let S = scene_of bytes scene in
-    let es = events ++ FragmentEvent seg first last ∷ [] in
-    let seen = seen-fragment v bytes scene most events seg first last old planes walls h in
-    let steps = steps-full v S events seg first last full in
-    record {
-      there = All-push (IsEventIn v scene) events (FragmentEvent seg first last) h.there there;
-      built = built_as v (walls_of v S events) (walls_of v S es) (planes_after v S events) (planes_after v S es) walls old.planes.planes planes.planes
-          (walls-full v S events seg first last full) (planes_after-full v S events seg first last full) (ap (λ (p : PlanesView). p.planes) same_planes)
-          (subst (λ (w : WallsView). IsBuilt v (walls_of v S events) (planes_after v S events) w old.planes.planes) (sym same_walls) h.built);
-      openings = ap (λ (w : WallsView). length w.openings) same_walls ∙ h.openings ∙ ap (openings_after 0) (sym steps);
-      limits = ap (λ (w : WallsView). limits_of w planes) same_walls ∙ ap (limits_of old.walls) same_planes ∙ h.limits;
-      within = ap (steps_over most) steps ∙ h.within;
-      planes = subst (λ (p : PlanesView). All (IsPlaneIn v.shape scene) p.planes) (sym same_planes) h.planes;
-      sprites = seen.sprites;
-      columns = seen.columns;
-      lumps = seen.lumps;
-      entered = seen.entered;
-      sector = seen.sector;
-    }
-
--- the facts of a seg from the sector of the bench make the next wall
-pub next_wall-facts : (v : ViewValue) (bytes : ℕ → List ℕ) (scene : SceneValue) (events : List Event) (seg first last sector : ℕ) (facts : WallFacts) → sector ≡ leaf_sector (scene_of bytes scene) (last_leaf 0 events) →
-    facts ≡ facts_of (scene_of bytes scene) (surface_at (lists_of scene) sector) seg (seg_at (lists_of scene) seg) →
-    wall_of v facts first last ≡ next_wall v (scene_of bytes scene) events seg first last
-unfolding next_wall leaf_surface scene_of
-next_wall-facts v bytes scene events seg first last sector facts e f =
-    ap (λ (g : WallFacts). wall_of v g first last) f
-    ∙ ap (λ (k : ℕ). wall_of v (facts_of (scene_of bytes scene) (surface_at (lists_of scene) k) seg (seg_at (lists_of scene) seg)) first last) e
-
-next_first : (v : ViewValue) (scene : Scene) (events : List Event) (seg first last : ℕ) → first ≡ (next_wall v scene events seg first last).first
-unfolding next_wall wall_of
-next_first v scene events seg first last = refl
-
-next_last : (v : ViewValue) (scene : Scene) (events : List Event) (seg first last : ℕ) → last ≡ (next_wall v scene events seg first last).last
-unfolding next_wall wall_of
-next_last v scene events seg first last = refl
-
-openings_more : (v : ViewValue) (walls : List Wall) (w : Wall) → length (openings_list v (with_wall walls w)) ≡ length (openings_list v walls) + openings_of w
-openings_more v walls w =
-    ap length (openings_list-more v walls w) ∙ length-append (openings_list v walls) (saved_by v (with_wall walls w) (length walls) w)
-    ∙ ap (λ (n : ℕ). length (openings_list v walls) + n) (length-saved_openings v (with_wall walls w) (length walls) w)
-
-notes_counted : (v : ViewValue) (walls : List Wall) (place : ℕ) → length (notes_from v place walls) ≡ length walls
-unfolding notes_from
-notes_counted v [] place = refl
-notes_counted v (w ∷ ws) place = ap suc (notes_counted v ws _)
-
--- what the calls of a fragment give
-pub record TakesFragment (v : ViewValue) (scene : SceneValue) (seg first last : ℕ) (facts : WallFacts) (old : Bench) (planes : PlanesView) (walls : WallsView) (answer : Option OverLimit) : Type 0 where
-  pub there : IsEventIn v scene (FragmentEvent seg first last)
-  pub facts_are : (bytes : ℕ → List ℕ) → facts ≡ facts_of (scene_of bytes scene) (surface_at (lists_of scene) old.sector) seg (seg_at (lists_of scene) seg)
-  pub limit : (ws : List Wall) (s : PlanesNow) → IsBuilt v ws s old.walls old.planes.planes → length ws < MAX_DRAWSEGS →
-      answer ≡ step_over (limits_of old.walls old.planes) s (length old.walls.openings) (step_of_wall v ws (wall_of v facts first last))
-  pub limits : limits_of walls planes ≡ limits_of old.walls old.planes
-  pub full : length old.walls.notes ≡ MAX_DRAWSEGS → (answer ≡ None) × ((planes ≡ old.planes) × (walls ≡ old.walls))
-
-walls_within : (v : ViewValue) (scene : Scene) (es : List Event) → length (walls_of v scene es) ≤ MAX_DRAWSEGS
-unfolding walls_of
-walls_within v scene es = let e = length-map (drawsegs es) (fragment_wall v scene) in let l = drawsegs-within es in omega arith
-
--- where no fragment more is drawn the notes are as many as a view keeps
-pub notes_full : (v : ViewValue) (scene : Scene) (es : List Event) (s : PlanesNow) (walls : WallsView) (planes : List Plane) → IsBuilt v (walls_of v scene es) s walls planes → MAX_DRAWSEGS ≤ length (walls_of v scene es) →
-    length walls.notes ≡ MAX_DRAWSEGS
-unfolding view_notes
-notes_full v scene es s walls planes built full =
-    let l = walls_within v scene es in
-    let e : length walls.notes ≡ length (walls_of v scene es) = ap length built.notes ∙ notes_counted v (walls_of v scene es) 0 in
-    omega arith
-
--- the first limit that a fragment passes
-pub over-fragment : (v : ViewValue) (bytes : ℕ → List ℕ) (scene : SceneValue) (most : Limits) (events : List Event) (seg first last : ℕ) (facts : WallFacts) (old : Bench) (planes : PlanesView) (walls : WallsView) (answer : Option OverLimit) →
-    TakesFragment v scene seg first last facts old planes walls answer → HasWalked v bytes scene most events old →
-    answer ≡ steps_over most (view_steps v (scene_of bytes scene) (events ++ FragmentEvent seg first last ∷ []))
-over-fragment v bytes scene most events seg first last facts old planes walls answer takes h =
-    let S = scene_of bytes scene in
-    let ws = walls_of v S events in
-    let s = planes_after v S events in
-    let es = events ++ FragmentEvent seg first last ∷ [] in
-    elim (cases_lt (length ws) MAX_DRAWSEGS) [
-      | inl room ↦
-          takes.limit ws s h.built room
-          ∙ ap (λ (w : Wall). step_over (limits_of old.walls old.planes) s (length old.walls.openings) (step_of_wall v ws w)) (next_wall-facts v bytes scene events seg first last old.sector facts h.sector (takes.facts_are bytes))
-          ∙ over-step v bytes scene most events es (step_of_wall v ws (next_wall v S events seg first last)) old h (one_more-room v S events seg first last room)
-      | inr full ↦
-          (takes.full (notes_full v S events s old.walls old.planes.planes h.built full)).0 ∙ sym h.within ∙ ap (steps_over most) (sym (steps-full v S events seg first last full))
-    ]
-
--- what is built where the fragment is drawn
-abbrev pub BuildsFragment : ViewValue → Wall → Bench → PlanesView → WallsView → Type 0
-BuildsFragment v w old planes walls = (ws : List Wall) (s : PlanesNow) → IsBuilt v ws s old.walls old.planes.planes → length ws < MAX_DRAWSEGS →
-    IsBuilt v (with_wall ws w) (after_event s (step_of_wall v ws w).event) walls planes.planes
-
-walked_room : (v : ViewValue) (bytes : ℕ → List ℕ) (scene : SceneValue) (most : Limits) (events : List Event) (seg first last : ℕ) (facts : WallFacts) (old : Bench) (planes : PlanesView) (walls : WallsView) →
-    v.shape.height ≤ FRAME_HEIGHT → TakesFragment v scene seg first last facts old planes walls None → BuildsFragment v (wall_of v facts first last) old planes walls → HasWalked v bytes scene most events old →
-    length (walls_of v (scene_of bytes scene) events) < MAX_DRAWSEGS → HasWalked v bytes scene most (events ++ FragmentEvent seg first last ∷ []) (bench_of planes walls old.sprites old.entered old.sector)
-unfolding openings_past wall_step
-walked_room v bytes scene most events seg first last facts old planes walls tall takes builds h room =
-    let S = scene_of bytes scene in
-    let ws = walls_of v S events in
-    let s = planes_after v S events in
-    let w = next_wall v S events seg first last in
-    let e : Step = step_of_wall v ws w in
-    let new = bench_of planes walls old.sprites old.entered old.sector in
-    let same = next_wall-facts v bytes scene events seg first last old.sector facts h.sector (takes.facts_are bytes) in
-    let P : Wall → Type 0 = λ u. IsBuilt v (with_wall ws u) (after_event s (step_of_wall v ws u).event) walls planes.planes in
-    let built : IsBuilt v (with_wall ws w) (after_event s e.event) walls planes.planes = subst P same (builds ws s h.built room) in
-    let a = next_first v S events seg first last in
-    let b = next_last v S events seg first last in
-    let columns = takes.there.1 in
-    let ordered = columns.0 in
-    let within = columns.1 in
-    let all : All (IsPlaneIn v.shape scene) (after_event s e.event).planes =
-    planes-wall v scene (with_wall ws w) (length ws) w s tall (omega arith) (omega arith) (planes_so_far v bytes scene most events old h) in
-    walked_step v bytes scene most events (FragmentEvent seg first last) e old new h
-    (record {
-      more = one_more-room v S events seg first last room;
-      there = takes.there;
-      built = subst (λ (us : List Wall). IsBuilt v us (after_event s e.event) walls planes.planes) (sym (walls-room v S events seg first last room)) built;
-      openings = ap length built.openings ∙ openings_more v ws w ∙ ap (λ (n : ℕ). n + openings_of w) (sym (ap length h.built.openings));
-      limits = takes.limits;
-      within = takes.limit ws s h.built room
-          ∙ ap (λ (u : Wall). step_over (limits_of old.walls old.planes) s (length old.walls.openings) (step_of_wall v ws u)) same;
-      planes = all;
-    })
-    (seen-fragment v bytes scene most events seg first last old planes walls h)
-
--- a fragment more
-pub walked-fragment : (v : ViewValue) (bytes : ℕ → List ℕ) (scene : SceneValue) (most : Limits) (events : List Event) (seg first last : ℕ) (facts : WallFacts) (old : Bench) (planes : PlanesView) (walls : WallsView) →
-    v.shape.height ≤ FRAME_HEIGHT → TakesFragment v scene seg first last facts old planes walls None → BuildsFragment v (wall_of v facts first last) old planes walls → HasWalked v bytes scene most events old →
-    HasWalked v bytes scene most (events ++ FragmentEvent seg first last ∷ []) (bench_of planes walls old.sprites old.entered old.sector)
-walked-fragment v bytes scene most events seg first last facts old planes walls tall takes builds h =
-    let S = scene_of bytes scene in
-    elim (cases_lt (length (walls_of v S events)) MAX_DRAWSEGS) [
-      | inl room ↦ walked_room v bytes scene most events seg first last facts old planes walls tall takes builds h room
-      | inr full ↦
-          let same = (takes.full (notes_full v S events (planes_after v S events) old.walls old.planes.planes h.built full)).1 in
-          walked_full v bytes scene most events seg first last old planes walls takes.there full same.0 same.1 h
-    ]
-
--- by the answer of the call
-pub walked-range : (v : ViewValue) (bytes : ℕ → List ℕ) (scene : SceneValue) (most : Limits) (events : List Event) (seg first last : ℕ) (facts : WallFacts) (old : Bench) (planes : PlanesView) (walls : WallsView) (result : Result (Unit {0}) DrawFault) →
-    v.shape.height ≤ FRAME_HEIGHT → TakesFragment v scene seg first last facts old planes walls (limit_of_result result) →
-    ((ws : List Wall) (s : PlanesNow) → IsBuilt v ws s old.walls old.planes.planes → length ws < MAX_DRAWSEGS →
-    OnOk result (IsBuilt v (with_wall ws (wall_of v facts first last)) (after_event s (step_of_wall v ws (wall_of v facts first last)).event) walls planes.planes)) →
-    HasWalked v bytes scene most events old → OnOk result (HasWalked v bytes scene most (events ++ FragmentEvent seg first last ∷ []) (bench_of planes walls old.sprites old.entered old.sector))
-walked-range v bytes scene most events seg first last facts old planes walls (Ok value) tall takes builds h =
-    walked-fragment v bytes scene most events seg first last facts old planes walls tall takes builds h
-walked-range v bytes scene most events seg first last facts old planes walls (Err fault) tall takes builds h = tt
 
 -- there is as much room as before
 pub same_limits : (a b : WallsView) (p q : PlanesView) → b.room ≡ a.room → q.room ≡ p.room → limits_of b q ≡ limits_of a p

@@ -1,5 +1,5 @@
 -- The faults of a view as those of any layer, which refuses what passes a limit.
-use Rattle.std.specs.Prelude.{Option, Some, None, Result, Ok, Err, ⊤}
+use Rattle.std.specs.Prelude.{Option, Some, None}
 use Rattle.outside.specs.declared.fault.Fault.{Fault}
 use Rattle.outside.specs.declared.fault.Fault.TheVariants as fault
 use Rattle.lump_cache.specs.declared.fault.CacheFault.{CacheFault}

@@ -1,5 +1,5 @@
 -- The walls, planes and vissprites of a view as a list of events makes them.
-use Rattle.std.specs.Prelude.{◌≡◌, ◌≤◌, ◌<◌, ◌⊎◌, ◌||◌, ◌++◌, ◌∷◌, ℕ, Bool, true, false, nat_lt, cond, List, [], All, Option, Some, None, length, map}
+use Rattle.std.specs.Prelude.{◌≡◌, ◌≤◌, ◌<◌, ◌⊎◌, ◌||◌, ℕ, Bool, true, false, nat_lt, cond, List, [], All, None, length, map}
 use Rattle.std.specs.List.{AllPass}
 use Rattle.view_rules.specs.View.{ViewValue}
 use Rattle.view_rules.specs.declared.ViewShape.{ViewShape}

@@ -31,7 +31,8 @@ impl<'a> Visitor for ViewCounter<'a> {
     ghost Start = { CounterValue };
 
     ghost stands = { λ p start events. HasCounted start
-        (counter_value p.view.now p.scene.now.scene p.bench.now p.bench.ghost_name) events (Ok tt) };
+        (counter_value p.view.now p.scene.now.scene p.bench.now p.bench.ghost_name) events
+        (Ok tt) };
 
     ghost stopped = { λ p start events stop. HasCounted start
         (counter_value p.view.now p.scene.now.scene p.bench.now p.bench.ghost_name) events

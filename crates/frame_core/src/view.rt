@@ -1,8 +1,13 @@
 // One view, drawn and counted.
 //
 // Rules: `picture_rules`, Paints, Picture and Counts. The original: `R_RenderPlayerView`, r_main.c.
-ghost use Rattle.std.specs.Prelude.{◌≡◌, ◌≤◌, ℕ, List, None, Some, IfErr, IfOk, IfSome, OnOk, length};
+ghost use Rattle.std.specs.Prelude.{◌≡◌, ◌≤◌, ℕ, List, None, Some, IfErr, IfOk, IfSome, IsSome, OnOk, length};
+ghost use Rattle.outside.specs.Causes.{FaultsRose};
 ghost use Rattle.lump_rules.specs.Contents.{lump_bytes};
+ghost use Rattle.lump_rules.specs.Lookups.{lump_at};
+ghost use Rattle.lump_cache.specs.Calls.{IfFull};
+ghost use Rattle.scene_rules.specs.Scenes.{art_of};
+ghost use Rattle.scene_rules.specs.Sizes.{enough};
 ghost use Rattle.view_rules.specs.View.{view_of};
 ghost use Rattle.view_rules.specs.Sound.{IsWithinFrame};
 ghost use Rattle.picture_rules.specs.Counts.{view_counts, view_over};
@@ -43,9 +48,11 @@ use wad_dir::Directory;
 ///
 /// Errors: `Limit` only where a count of the view passes its limit, with the first count that does;
 /// where one does, never Ok. `ZoneFull` only if no gap of the zone held the block of a lump or a
-/// texture of the scene; `ReadFault` only if the shelf's count of faults rose. After any of them the
-/// frame's bytes are not told, and the next call is as a first one: after any answer a cache that
-/// was at rest is at rest, and one that was faithful is faithful.
+/// texture of the scene, and never in a zone that is large enough for the scene (`enough`);
+/// `ReadFault` only if the shelf's count of faults rose. In such a zone, where it did not rise, the
+/// answer is Ok or a limit (`complete`). After an error the frame's bytes are not told; after any
+/// answer the next call finds what a first call finds: a cache that was at rest and held the bytes
+/// of its files is at rest and holds them (`again`).
 ///
 /// The original: `R_RenderPlayerView`, r_main.c.
 pub fn draw_view<S: Shelf>(
@@ -79,6 +86,24 @@ pub fn draw_view<S: Shelf>(
     ensures draws { DrawsWith view_fault (IsViewTexture scene.now.scene)
         (IsViewLump dir.now.lumps scene.now.scene) (S.view shelf.old) (S.view shelf.new)
         dir.now (textures_view scene.now.scene) cache.old cache.new result }
+    ensures enough { (contents : List (List ℕ)) (count : ℕ) →
+        HoldsArt (S.view shelf.old) dir.now (textures_view scene.now.scene) contents
+        scene.now.scene.base.colormap count cache.old →
+        (lump_at dir.now.lumps scene.now.scene.base.colormap).size ≡ count →
+        enough dir.now.lumps (art_of scene.now.scene) ≤ cache.old.size →
+        IfErr result (λ fault. IfFull (view_fault fault) (λ wanted widest. ⊥)) }
+    ensures complete { (contents : List (List ℕ)) (count : ℕ) →
+        HoldsArt (S.view shelf.old) dir.now (textures_view scene.now.scene) contents
+        scene.now.scene.base.colormap count cache.old →
+        (lump_at dir.now.lumps scene.now.scene.base.colormap).size ≡ count →
+        enough dir.now.lumps (art_of scene.now.scene) ≤ cache.old.size →
+        (FaultsRose (S.view shelf.old).faults (S.view shelf.new).faults → ⊥) →
+        IfErr result (λ fault. IsSome (limit_of_view fault)) }
+    ensures again { (contents : List (List ℕ)) (count : ℕ) →
+        HoldsArt (S.view shelf.old) dir.now (textures_view scene.now.scene) contents
+        scene.now.scene.base.colormap count cache.old →
+        HoldsArt (S.view shelf.new) dir.now (textures_view scene.now.scene) contents
+        scene.now.scene.base.colormap count cache.new }
     ensures limits { shop.new.limits ≡ shop.old.limits }
 {
     shop.frame.clear();
@@ -124,6 +149,24 @@ pub fn draw_view_on<S: Shelf, C: Canvas>(
         (view_state (S.view shelf.old) cache.old
         (placed_at v.shape.left v.shape.top (C.view canvas.old)))
         (view_state (S.view shelf.new) cache.new (C.view canvas.new)) result }
+    ensures enough { (contents : List (List ℕ)) (count : ℕ) →
+        HoldsArt (S.view shelf.old) dir.now (textures_view scene.now.scene) contents
+        scene.now.scene.base.colormap count cache.old →
+        (lump_at dir.now.lumps scene.now.scene.base.colormap).size ≡ count →
+        enough dir.now.lumps (art_of scene.now.scene) ≤ cache.old.size →
+        IfErr result (λ fault. IfFull (view_fault fault) (λ wanted widest. ⊥)) }
+    ensures complete { (contents : List (List ℕ)) (count : ℕ) →
+        HoldsArt (S.view shelf.old) dir.now (textures_view scene.now.scene) contents
+        scene.now.scene.base.colormap count cache.old →
+        (lump_at dir.now.lumps scene.now.scene.base.colormap).size ≡ count →
+        enough dir.now.lumps (art_of scene.now.scene) ≤ cache.old.size →
+        (FaultsRose (S.view shelf.old).faults (S.view shelf.new).faults → ⊥) →
+        IfErr result (λ fault. IsSome (limit_of_view fault)) }
+    ensures again { (contents : List (List ℕ)) (count : ℕ) →
+        HoldsArt (S.view shelf.old) dir.now (textures_view scene.now.scene) contents
+        scene.now.scene.base.colormap count cache.old →
+        HoldsArt (S.view shelf.new) dir.now (textures_view scene.now.scene) contents
+        scene.now.scene.base.colormap count cache.new }
     ensures limits { shop.new.limits ≡ shop.old.limits }
     ensures frame { shop.new.frame ≡ shop.old.frame }
 {

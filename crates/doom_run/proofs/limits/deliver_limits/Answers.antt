@@ -1,4 +1,4 @@
-use Rattle.std.proofs.Common.{◌≡◌, ◌≤◌, ◌+◌, ℕ, List, [], length, refl, ap, ◌∙◌, sym, arith}
+use Rattle.std.proofs.Common.{◌≡◌, ◌≤◌, ◌+◌, ℕ, List, [], length, refl, ap, ◌∙◌, arith}
 use Rattle.doom_run.specs.Renders.{ready_views}
 use Rattle.doom_run.proofs.LimitLemmas.{all_written, length_views, more_written, none_written, prefix_of_lines, ready_same, same_lines}
 use Rattle.doom_run.proofs.limits.deliver_limits.Goals as goal

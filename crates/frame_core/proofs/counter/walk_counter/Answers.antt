@@ -1,5 +1,5 @@
 -- The whole walk, of a counter that no event was given.
-use Rattle.std.proofs.Common.{◌≡◌, List, ℕ, length, sym, ap, ◌∙◌}
+use Rattle.std.proofs.Common.{length, sym, ap, ◌∙◌}
 use Rattle.map_rules.specs.Levels.{LevelValue}
 use Rattle.frame_core.proofs.CounterLemmas.{counted-bench, counted-over, counter-viewed}
 use Rattle.frame_core.proofs.PainterLemmas.{lists-walked}

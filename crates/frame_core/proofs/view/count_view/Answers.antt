@@ -1,5 +1,5 @@
 -- The bench that the view was walked in is counted.
-use Rattle.std.proofs.Common.{◌≡◌, ◌≤◌, List, ap, ◌∙◌, subst, arith}
+use Rattle.std.proofs.Common.{◌≡◌, List, ap, ◌∙◌, subst, arith}
 use Rattle.std.specs.Prelude.{None, length}
 use Rattle.view_rules.specs.View.{ViewValue}
 use Rattle.wall_rules.specs.declared.FragmentNote.{FragmentNote}

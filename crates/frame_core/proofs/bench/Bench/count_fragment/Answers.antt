@@ -2,7 +2,8 @@ use Rattle.std.proofs.Common.{◌≤◌, subst, ap, arith}
 use Rattle.view_rules.specs.declared.TheConstants.{FRAME_HEIGHT}
 use Rattle.view_rules.specs.declared.ViewShape.{ViewShape}
 use Rattle.wall_columns.specs.Faults.{limit_of_result}
-use Rattle.frame_core.proofs.WalkedLemmas.{TakesFragment, over-fragment, same_limits, walked-range}
+use Rattle.frame_core.proofs.WalkedLemmas.{same_limits}
+use Rattle.frame_core.proofs.WalkedFragmentLemmas.{TakesFragment, over-fragment, walked-range}
 use Rattle.frame_core.proofs.bench.Bench.count_fragment.Goals as goal
 
 -- what the call of the walls gives

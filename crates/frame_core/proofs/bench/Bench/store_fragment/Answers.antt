@@ -5,7 +5,8 @@ use Rattle.wall_columns.specs.Faults.{limit_of_result}
 use Rattle.frame_core.specs.Scenes.{lists_of}
 use Rattle.frame_core.specs.Views.{view_scene, view_state}
 use Rattle.frame_core.proofs.FragmentLemmas.{can_draw-facts, facts-ready, mapped-err, mapped-ok, ok-through, paints-fragment, told-over}
-use Rattle.frame_core.proofs.WalkedLemmas.{TakesFragment, over-fragment, same_limits, walked-range}
+use Rattle.frame_core.proofs.WalkedLemmas.{same_limits}
+use Rattle.frame_core.proofs.WalkedFragmentLemmas.{TakesFragment, over-fragment, walked-range}
 use Rattle.frame_core.proofs.bench.Bench.store_fragment.Goals as goal
 
 pub store_range-requires-clause-textures : goal.store_range-requires-clause-textures

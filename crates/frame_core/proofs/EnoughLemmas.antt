@@ -1,0 +1,336 @@
+-- For which block a zone is full while a scene is drawn, and that such a zone is smaller than enough.
+use Rattle.std.proofs.Common.{◌≡◌, ◌≢◌, ℕ, zero, suc, ◌+◌, ◌*◌, ◌<◌, ◌≤◌, Bool, true, false, List, [], ◌∷◌, ◌++◌, length, Option, Some, None, Result, Ok, Err, refl, sym, ap, subst, ◌∙◌, arith, inl, inr, eq-eqb}
+use Rattle.std.specs.Prelude.{◌⊎◌, ◌||◌, ◌==◌, cond, All, Contains, IfErr, IfSome, IsSome, slice_index_or, nat_lt, filter, unwrap_or}
+use Rattle.std.specs.List.{list_any, range_with_len}
+use Rattle.std.proofs.lemmas.Bool.{cases_lt, false≢true}
+use Rattle.std.proofs.lemmas.Bool.Decides.{nat_tests}
+use Rattle.std.proofs.lemmas.List.{append-nil, get_or_past}
+use Rattle.std.proofs.lemmas.List.Elements.{All-contains, All-contains_itself, All-filter, All-head, Contains-get_or}
+use Rattle.std.proofs.lemmas.List.Folds.{list_any-append}
+use Rattle.outside.specs.Causes.{FaultsRose}
+use Rattle.outside.specs.Faults.{HasCauseAt}
+use Rattle.outside.specs.Shelf.{ShelfView}
+use Rattle.lump_rules.specs.declared.wad.Lump.{Lump}
+use Rattle.lump_rules.specs.Contents.{lump_bytes}
+use Rattle.lump_rules.specs.Lookups.{lump_at}
+use Rattle.zone_rules.specs.declared.TheConstants.{MIN_FRAGMENT}
+use Rattle.zone_rules.specs.Zones.{Heap, Owner, block_size}
+use Rattle.wad_dir.specs.DirectoryView.{DirectoryView}
+use Rattle.lump_cache.specs.Caches.{IsAtRest}
+use Rattle.lump_cache.specs.Calls.{IfFull, IsFullFor}
+use Rattle.lump_cache.proofs.CallLemmas.{full_at}
+use Rattle.art_rules.specs.declared.ColumnLookup.{ColumnLookup}
+use Rattle.art_rules.specs.declared.ColumnLookup.TheVariants.{Empty}
+use Rattle.art_rules.specs.declared.PlacedPatch.{PlacedPatch}
+use Rattle.art_rules.specs.Books.{book_lumps}
+use Rattle.art_rules.specs.Columns.{composed_columns, composed_count, composite_place, composite_size, is_composed, patches_in, stands_in}
+use Rattle.art_rules.specs.Lookups.{column_lookup, lookup_of}
+use Rattle.art_rules.specs.Wanted.{PreparedTexture, is_patch_of, is_patch_of_any}
+use Rattle.art_rules.proofs.LookupLemmas.{column_lookups-read}
+use Rattle.scene_rules.specs.Scenes.{SceneValue, art_of}
+use Rattle.scene_rules.specs.Sizes.{SceneArt, block_or_none, composite_block, enough, greatest_by, has_flat, is_needed, lump_block}
+use Rattle.texture_build.specs.Asked.{IsAskedByColumn, IsPatch, IsSmall, IsSmallBeside, size_of}
+use Rattle.texture_build.specs.Draws.{DrawsWith, HoldsArt, IsFullForTexture}
+use Rattle.texture_build.specs.Sources.{IsComposedColumn, column_index, own_lookup}
+use Rattle.texture_build.specs.Views.{AllThere, ArePatchesThere, AreTexturesOf, IsPrepared, prepared_at, prepared_texture, unprepared}
+use Rattle.texture_build.proofs.TexelLemmas.{prepared_is}
+use Rattle.texture_build.proofs.ViewLemmas.{HasColumns, textures_columns}
+use Rattle.level_audit.specs.Sound.{art_with, textures_view}
+use Rattle.level_audit.proofs.MarkLemmas.{any_passed}
+use Rattle.level_audit.proofs.MemberLemmas.{among_cases, among_none, any_among}
+use Rattle.level_audit.proofs.NeededLemmas.{needed_there}
+use Rattle.frame_core.specs.declared.fault.ViewFault.{ViewFault}
+use Rattle.frame_core.specs.declared.fault.ViewFault.TheVariants.{Limit, ZoneFull, ReadFault}
+use Rattle.frame_core.specs.Faults.{limit_of_view, view_fault}
+use Rattle.frame_core.specs.Views.{CanDrawView, IsViewLump, IsViewTexture}
+use Rattle.frame_core.proofs.RowLemmas.{textures_rows}
+
+-- none is greater than the greatest
+contained_greatest : {X : Type 0} (f : X → ℕ) (xs : List X) (x : X) → Contains xs x → f x ≤ greatest_by f xs
+unfolding greatest_by
+contained_greatest f [] x has = among_none x has
+contained_greatest f (y ∷ xs) x has = elim (among_cases y xs x has) [
+  | inl same ↦ let at : f y ≡ f x = ap f same in omega (arith, at)
+  | inr later ↦ omega (arith, contained_greatest f xs x later)
+]
+
+-- a list with an item that passes has an item
+some_of : (p : ℕ → Bool) (xs : List ℕ) → list_any p xs ≡ true → 0 < length xs
+some_of p [] on = cc
+some_of p (x ∷ xs) on = omega arith
+
+product_some : (a b : ℕ) → 0 < a → 0 < b → 0 < a * b
+product_some zero b l m = absurd (omega (arith, l))
+product_some (suc a) zero l m = absurd (omega (arith, m))
+product_some (suc a) (suc b) l m = omega arith
+
+-- a column in which several patches stand is counted
+composed_some : (patches : List PlacedPatch) (width x : ℕ) → x < width → 1 < length (patches_in patches x) → 0 < composed_count patches width
+unfolding composed_count composed_columns is_composed
+composed_some patches width x l many =
+    let on : nat_lt 1 (length (patches_in patches x)) ≡ true = grind (arith, nat_tests) in
+    some_of (λ m. m == x) (filter (is_composed patches) (range_with_len 0 width)) (any_passed (is_composed patches) 0 width x (omega arith) (omega (arith, l)) ∙ on)
+
+-- the size of one of a texture's patches, or of its composite, which has bytes
+abbrev IsOfTexture : List Lump → PreparedTexture → ℕ → Type 0
+IsOfTexture lumps t size =
+    ((patch : PlacedPatch) × Contains t.patches patch × (size ≡ (lump_at lumps patch.lump).size))
+    ⊎ ((size ≡ size_of t) × (0 < size_of t))
+
+module _ (lumps : List Lump) (number : ℕ) (t : PreparedTexture) (owner : Owner) (size : ℕ) where
+  module _ (bytes : ℕ → List ℕ) (start x : ℕ) where
+    asked_of : (standing : List PlacedPatch) → All (Contains t.patches) standing → (1 < length standing → 0 < size_of t) → IsAskedByColumn lumps number t (lookup_of bytes start x standing) owner size → IsOfTexture lumps t size
+    unfolding lookup_of
+    asked_of [] all some asked = absurd asked
+    asked_of (patch ∷ []) all some asked = inl (patch, All-head (Contains t.patches) patch [] all, asked.1)
+    asked_of (a ∷ b ∷ rest) all some (inl composite) = inr (composite.1, some (omega arith))
+    asked_of (a ∷ b ∷ rest) all some (inr patch) = inl (patch.0, patch.1, patch.3)
+
+    composed_of : (standing : List PlacedPatch) → (1 < length standing → 0 < size_of t) → IsComposedColumn (lookup_of bytes start x standing) → 0 < size_of t
+    unfolding lookup_of
+    composed_of [] some is = absurd is
+    composed_of (patch ∷ []) some is = absurd is
+    composed_of (a ∷ b ∷ rest) some is = some (omega arith)
+
+  module _ (bytes : ℕ → List ℕ) (has : HasColumns bytes t) (high : 0 < t.height) (x : ℕ) where
+    size_some : x < length t.columns → 1 < length (patches_in t.patches x) → 0 < size_of t
+    unfolding composite_size
+    size_some l many = product_some t.height (composed_count t.patches (length t.columns)) high (composed_some t.patches (length t.columns) x l many)
+
+    lookup_is : x < length t.columns → own_lookup t x ≡ lookup_of bytes (composite_place t.patches t.height x) x (patches_in t.patches x)
+    unfolding column_lookup
+    lookup_is l = ap (λ (xs : List ColumnLookup). slice_index_or xs x Empty) has.are ∙ column_lookups-read bytes t.patches (length t.columns) t.height x Empty l
+
+    standing_are : All (Contains t.patches) (patches_in t.patches x)
+    unfolding patches_in
+    standing_are = All-filter (stands_in x) (Contains t.patches) t.patches (All-contains_itself t.patches)
+
+    -- a column of a prepared texture asks for these alone
+    column_asked : IsAskedByColumn lumps number t (own_lookup t x) owner size → IsOfTexture lumps t size
+    column_asked asked = elim (cases_lt x (length t.columns)) [
+      | inl l ↦ asked_of bytes (composite_place t.patches t.height x) x (patches_in t.patches x) standing_are (size_some l)
+          (subst (λ (lookup : ColumnLookup). IsAskedByColumn lumps number t lookup owner size) (lookup_is l) asked)
+      | inr past ↦ absurd (subst (λ (lookup : ColumnLookup). IsAskedByColumn lumps number t lookup owner size) (get_or_past t.columns x Empty past) asked)
+    ]
+
+    -- where a column is composed, the composite has bytes
+    column_composed : IsComposedColumn (own_lookup t x) → 0 < size_of t
+    column_composed is = elim (cases_lt x (length t.columns)) [
+      | inl l ↦ composed_of bytes (composite_place t.patches t.height x) x (patches_in t.patches x) (size_some l) (subst IsComposedColumn (lookup_is l) is)
+      | inr past ↦ absurd (subst IsComposedColumn (get_or_past t.columns x Empty past) is)
+    ]
+
+-- the block of a composite with bytes
+not_none : (n : ℕ) → 0 < n → (n == 0) ≡ false
+not_none n l = grind (arith, nat_tests)
+
+block_of : (t : PreparedTexture) → 0 < size_of t → composite_block (Some t) ≡ block_size (size_of t)
+unfolding composite_block block_or_none
+block_of t some = ap (λ b. cond b 0 (block_size (size_of t))) (not_none (size_of t) some)
+
+block_some : (n : ℕ) → block_size n ≢ 0
+block_some n = omega arith
+
+-- of two further lists the one or the other
+or_more : (x f g h : Bool) → (f || g) ≡ true → (x || f || (g || h)) ≡ true
+or_more true f g h on = refl
+or_more false true g h on = refl
+or_more false false true h on = refl
+or_more false false false h on = absurd (cc)
+
+or_patch : (x p f g : Bool) → p ≡ true → (x || p || f || g) ≡ true
+or_patch true p f g on = refl
+or_patch false true f g on = refl
+or_patch false false f g on = absurd (cc)
+
+-- what a scene needs with the pictures of its book and of others
+module _ (lumps : List Lump) (scene : SceneValue) (more : List ℕ) where
+  needed_drawn : (lump : ℕ) → IsViewLump lumps scene lump → is_needed lumps (art_with scene (book_lumps scene.book ++ more)) lump ≡ true
+  unfolding is_needed
+  needed_drawn lump is =
+      rw (list_any-append (λ n. n == lump) (book_lumps scene.book) more)
+      (or_more _ (list_any (has_flat lump) scene.faces.flats) (list_any (λ n. n == lump) (book_lumps scene.book)) (list_any (λ n. n == lump) more) is.drawn)
+
+needed_patch : (lumps : List Lump) (art : SceneArt) (t : PreparedTexture) (patch : PlacedPatch) → Contains art.prepared (Some t) → Contains t.patches patch → is_needed lumps art patch.lump ≡ true
+unfolding is_needed is_patch_of_any is_patch_of
+needed_patch lumps art t patch prepared among =
+    or_patch _ (list_any (is_patch_of patch.lump) art.prepared) _ _
+    (any_among (is_patch_of patch.lump) art.prepared (Some t) prepared
+    (any_among (λ (one : PlacedPatch). one.lump == patch.lump) t.patches patch among (eq-eqb patch.lump patch.lump refl)))
+
+-- a patch of a prepared texture is a lump of the directory
+patch_there : (lumps : List Lump) (scene : SceneValue) (t : PreparedTexture) (patch : PlacedPatch) → AllThere lumps (textures_view scene) → Contains scene.prepared (Some t) → Contains t.patches patch → patch.lump < length lumps
+patch_there lumps scene t patch all prepared among =
+    All-contains (λ (p : PlacedPatch). p.lump < length lumps) t.patches patch (All-contains (λ (o : Option PreparedTexture). IfSome o (ArePatchesThere lumps)) scene.prepared (Some t) all prepared) among
+
+-- A zone is full for a lump that is needed: it does not hold it beside COLORMAP.
+pub record IsLumpFull (lumps : List Lump) (art : SceneArt) (zone wanted : ℕ) : Type 0 where
+  pub lump : ℕ
+  pub there : lump < length lumps
+  pub needed : is_needed lumps art lump ≡ true
+  pub is : wanted ≡ lump_block lumps lump
+  pub small : zone < lump_block lumps art.colormap + wanted + MIN_FRAGMENT
+
+-- for the composite of a texture
+pub record IsCompositeFull (lumps : List Lump) (art : SceneArt) (zone wanted : ℕ) : Type 0 where
+  pub texture : PreparedTexture
+  pub prepared : Contains art.prepared (Some texture)
+  pub is : wanted ≡ composite_block (Some texture)
+  pub some : wanted ≢ 0
+  pub small : zone < lump_block lumps art.colormap + wanted + MIN_FRAGMENT
+
+-- for a patch of a texture whose composite is built, which has to stand beside it and COLORMAP
+pub record IsPatchFull (lumps : List Lump) (art : SceneArt) (zone wanted : ℕ) : Type 0 where
+  pub texture : PreparedTexture
+  pub prepared : Contains art.prepared (Some texture)
+  pub patch : PlacedPatch
+  pub among : Contains texture.patches patch
+  pub there : patch.lump < length lumps
+  pub needed : is_needed lumps art patch.lump ≡ true
+  pub is : wanted ≡ lump_block lumps patch.lump
+  pub built : composite_block (Some texture) ≢ 0
+  pub small : zone < lump_block lumps art.colormap + composite_block (Some texture) + 2 * wanted + 2 * MIN_FRAGMENT
+
+abbrev pub IsArtFull : List Lump → SceneArt → ℕ → ℕ → Type 0
+IsArtFull lumps art zone wanted =
+    IsLumpFull lumps art zone wanted ⊎ (IsCompositeFull lumps art zone wanted ⊎ IsPatchFull lumps art zone wanted)
+
+-- it is smaller than enough
+pub full-small : (lumps : List Lump) (art : SceneArt) (zone wanted : ℕ) → IsArtFull lumps art zone wanted → zone < enough lumps art
+unfolding enough
+full-small lumps art zone wanted (inl f) = omega (arith, f.small, f.is, needed_there lumps art f.lump f.needed f.there)
+full-small lumps art zone wanted (inr (inl f)) =
+    omega (arith, f.small, f.is, contained_greatest composite_block art.prepared (Some f.texture) f.prepared)
+full-small lumps art zone wanted (inr (inr f)) = omega (
+  arith,
+  f.small,
+  f.is,
+  contained_greatest composite_block art.prepared (Some f.texture) f.prepared,
+  needed_there lumps art f.patch.lump f.needed f.there,
+)
+
+-- the texture of a number that is prepared is among those that are
+among_prepared : (prepared : List (Option PreparedTexture)) (number : ℕ) → IsSome (prepared_at prepared number) → Contains prepared (Some (unwrap_or (prepared_at prepared number) unprepared))
+among_prepared prepared number some = elim (cases_lt number (length prepared)) [
+  | inl l ↦ subst (λ (o : Option PreparedTexture). Contains prepared o) (prepared_is (prepared_at prepared number) some) (Contains-get_or prepared number None l)
+  | inr past ↦ absurd (false≢true (subst IsSome (get_or_past prepared number None past) some))
+]
+
+-- a cache at rest, in which a scene is drawn that needs the pictures of its book and others
+module _ (contents : List (List ℕ)) (dir : DirectoryView) (scene : SceneValue) (more : List ℕ) (z : Heap) (can : CanDrawView dir.lumps scene z) (textures : AreTexturesOf contents dir.lumps (textures_view scene))
+    (rest : IsAtRest scene.base.colormap (lump_at dir.lumps scene.base.colormap).size z) (wanted : ℕ) where
+  abbrev art : SceneArt
+  art = art_with scene (book_lumps scene.book ++ more)
+
+  abbrev count : ℕ
+  count = (lump_at dir.lumps scene.base.colormap).size
+
+  module _ (t : PreparedTexture) (prepared : Contains scene.prepared (Some t)) (size : ℕ) (wanted_is : wanted ≡ block_size size) where
+    -- no room for a patch or a composite
+    alone_full : IsOfTexture dir.lumps t size → IsSmall z.size count wanted → IsArtFull dir.lumps art z.size wanted
+    unfolding lump_block
+    alone_full (inl patch) small = inl (record {
+      lump = patch.0.lump;
+      there = patch_there dir.lumps scene t patch.0 can.whole.art.patches prepared patch.1;
+      needed = needed_patch dir.lumps art t patch.0 prepared patch.1;
+      is = wanted_is ∙ ap (λ n. block_size n) patch.2;
+      small = small;
+    })
+    alone_full (inr composite) small = inr (inl (record {
+      texture = t;
+      prepared = prepared;
+      is = wanted_is ∙ ap (λ n. block_size n) composite.0 ∙ sym (block_of t composite.1);
+      some = subst (λ n. n ≢ 0) (sym wanted_is) (block_some size);
+      small = small;
+    }))
+
+    -- none for a patch beside the composite
+    beside_full : (patch : PlacedPatch) → Contains t.patches patch → size ≡ (lump_at dir.lumps patch.lump).size → 0 < size_of t → IsSmallBeside z.size count (size_of t) wanted → IsArtFull dir.lumps art z.size wanted
+    unfolding lump_block
+    beside_full patch among same some small =
+        let built : composite_block (Some t) ≡ block_size (size_of t) = block_of t some in
+        inr (inr (record {
+          texture = t;
+          prepared = prepared;
+          patch = patch;
+          among = among;
+          there = patch_there dir.lumps scene t patch can.whole.art.patches prepared among;
+          needed = needed_patch dir.lumps art t patch prepared among;
+          is = wanted_is ∙ ap (λ n. block_size n) same;
+          built = subst (λ n. n ≢ 0) (sym built) (block_some (size_of t));
+          small = subst (λ n. z.size < block_size count + n + 2 * wanted + 2 * MIN_FRAGMENT) (sym built) small;
+        }))
+
+  -- none for what a column asks for
+  module _ (number x : ℕ) (some : IsPrepared (textures_view scene) number) (owner : Owner) (size : ℕ) (wanted_is : wanted ≡ block_size size) where
+    abbrev t : PreparedTexture
+    t = prepared_texture (textures_view scene) number
+
+    prepared_as : prepared_at scene.prepared number ≡ Some t
+    prepared_as = prepared_is (prepared_at scene.prepared number) some
+
+    its_columns : HasColumns (lump_bytes contents dir.lumps) t
+    its_columns = textures_columns contents dir.lumps (textures_view scene) number t textures prepared_as
+
+    its_rows : 0 < t.height
+    its_rows = textures_rows contents dir.lumps (textures_view scene) number t textures prepared_as
+
+    column_full : IsAskedByColumn dir.lumps number t (own_lookup t x) owner size →
+        IsSmall z.size count wanted ⊎ (IsComposedColumn (own_lookup t x) × IsPatch dir.lumps t owner size × IsSmallBeside z.size count (size_of t) wanted) → IsArtFull dir.lumps art z.size wanted
+    column_full asked (inl small) =
+        alone_full t (among_prepared scene.prepared number some) size wanted_is
+        (column_asked dir.lumps number t owner size (lump_bytes contents dir.lumps) its_columns its_rows x asked) small
+    column_full asked (inr beside) =
+        beside_full t (among_prepared scene.prepared number some) size wanted_is beside.1.0 beside.1.1 beside.1.3
+        (column_composed dir.lumps number t owner size (lump_bytes contents dir.lumps) its_columns its_rows x beside.0) beside.2
+
+  module _ (widest : ℕ) where
+    texture_full : IsFullForTexture (IsViewTexture scene) dir.lumps (textures_view scene) z wanted widest → IsArtFull dir.lumps art z.size wanted
+    texture_full k =
+        let full = k.full in
+        column_full k.number (column_index (prepared_texture (textures_view scene) k.number) k.column) k.is full.owner full.size full.wanted_is full.asked (full.room scene.base.colormap count rest)
+
+    -- none for a flat or a picture
+    lump_full : IsFullFor (IsViewLump dir.lumps scene) dir z wanted widest → IsArtFull dir.lumps art z.size wanted
+    unfolding lump_block
+    lump_full full = inl (record {
+      lump = full.lump;
+      there = full.asked.there;
+      needed = needed_drawn dir.lumps scene more full.lump full.asked;
+      is = full.wanted_is;
+      small = full.room scene.base.colormap count rest;
+    })
+
+    -- a zone that was full for a texture or a lump of a view
+    pub view_full : IsFullForTexture (IsViewTexture scene) dir.lumps (textures_view scene) z wanted widest ⊎ IsFullFor (IsViewLump dir.lumps scene) dir z wanted widest → IsArtFull dir.lumps art z.size wanted
+    view_full (inl texture) = texture_full texture
+    view_full (inr lump) = lump_full lump
+
+-- a fault that is no full zone, where no read failed, tells a limit
+complete_at : (before now : ℕ) (fault : ViewFault) → IfFull (view_fault fault) (λ wanted widest. ⊥) → HasCauseAt before now (view_fault fault) → (FaultsRose before now → ⊥) → IsSome (limit_of_view fault)
+complete_at before now (Limit kind number) full cause none = refl
+complete_at before now (ZoneFull wanted widest) full cause none = absurd full
+complete_at before now ReadFault full cause none = absurd (none cause)
+
+-- So a zone that is enough for a scene is never full for a view of it.
+module _ {v : ShelfView} {dir : DirectoryView} {scene : SceneValue} {x : Heap} (can : CanDrawView dir.lumps scene x) (contents : List (List ℕ)) (count : ℕ) (hold : HoldsArt v dir (textures_view scene) contents scene.base.colormap count x)
+    (is : (lump_at dir.lumps scene.base.colormap).size ≡ count) (room : enough dir.lumps (art_of scene) ≤ x.size) where
+  never_full : (wanted widest : ℕ) → IsFullForTexture (IsViewTexture scene) dir.lumps (textures_view scene) x wanted widest ⊎ IsFullFor (IsViewLump dir.lumps scene) dir x wanted widest → ⊥
+  unfolding art_of
+  never_full wanted widest full =
+      let rest : IsAtRest scene.base.colormap (lump_at dir.lumps scene.base.colormap).size x = subst (λ n. IsAtRest scene.base.colormap n x) (sym is) hold.rest in
+      let small = full-small dir.lumps (art_with scene (book_lumps scene.book ++ [])) x.size wanted (view_full contents dir scene [] x can hold.prepared rest wanted widest full) in
+      let less : x.size < enough dir.lumps (art_with scene (book_lumps scene.book)) = subst (λ pictures. x.size < enough dir.lumps (art_with scene pictures)) (append-nil (book_lumps scene.book)) small in
+      let held : enough dir.lumps (art_with scene (book_lumps scene.book)) ≤ x.size = room in
+      omega (arith, less, held)
+
+  pub enough-view : {A : Type 0} {w : ShelfView} {y : Heap} (result : Result A ViewFault) → DrawsWith view_fault (IsViewTexture scene) (IsViewLump dir.lumps scene) v w dir (textures_view scene) x y result →
+      IfErr result (λ fault. IfFull (view_fault fault) (λ wanted widest. ⊥))
+  enough-view (Ok answer) draws = tt
+  enough-view (Err fault) draws = full_at (view_fault fault) never_full draws.full
+
+  -- where no read failed either, a limit ends it
+  pub complete-view : {A : Type 0} {w : ShelfView} {y : Heap} (result : Result A ViewFault) → DrawsWith view_fault (IsViewTexture scene) (IsViewLump dir.lumps scene) v w dir (textures_view scene) x y result → (FaultsRose v.faults w.faults → ⊥) →
+      IfErr result (λ fault. IsSome (limit_of_view fault))
+  complete-view (Ok answer) draws none = tt
+  complete-view {w = w} (Err fault) draws none = complete_at v.faults w.faults fault (enough-view (Err fault) draws) draws.causes.err none
