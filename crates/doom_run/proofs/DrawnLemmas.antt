@@ -45,7 +45,7 @@ scene_textures contents lumps lines name skill scene e =
     record { wanted = is_wanted_texture scene.faces.sides scene.faces.sky; lists = base_lists (lump_bytes contents lumps) lumps name scene.base parts.base; prepared = parts.prepared }
 
 -- so are those of a scene that is loaded
-loaded_textures : (level : LevelJobValue) (wads : List (List ℕ)) (files : List File) (loaded : LoadedValue) → load_in level wads files ≡ Ok loaded → AreTexturesOf (wad_contents wads files) loaded.files.lumps (textures_view loaded.scene)
+pub loaded_textures : (level : LevelJobValue) (wads : List (List ℕ)) (files : List File) (loaded : LoadedValue) → load_in level wads files ≡ Ok loaded → AreTexturesOf (wad_contents wads files) loaded.files.lumps (textures_view loaded.scene)
 unfolding load_in
 loaded_textures level wads files loaded e =
     let a = and_then-ok (files_in level.files wads level.settings.size files) _ loaded e in

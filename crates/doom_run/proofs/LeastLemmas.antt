@@ -3,7 +3,7 @@ use Rattle.std.proofs.Common.{◌≡◌, ◌≢◌, ℕ, zero, suc, ◌+◌, ◌
 use Rattle.std.specs.Prelude.{◌⊎◌, ◌||◌, ◌==◌, slice_get, unwrap_or}
 use Rattle.std.specs.List.{AllByRecursion, range_with_len}
 use Rattle.std.specs.Option.{option_map_or}
-use Rattle.std.proofs.lemmas.Bool.{cases_lt}
+use Rattle.std.proofs.lemmas.Bool.{cases_lt, or_cases}
 use Rattle.std.proofs.lemmas.Bool.Decides.{nat_tests}
 use Rattle.outside.specs.Shelf.{File}
 use Rattle.outside.specs.Stops.{Stop}
@@ -33,7 +33,6 @@ use Rattle.scene_rules.specs.Scenes.{LevelBase}
 use Rattle.scene_rules.specs.Sizes.{greatest_by, is_last, is_list, is_map_lump, lump_block}
 use Rattle.level_audit.specs.Asked.{IsOfBase}
 use Rattle.level_audit.specs.Sound.{textures_view}
-use Rattle.level_audit.proofs.MemberLemmas.{or_cases}
 use Rattle.level_audit.proofs.SceneLemmas.{IsBaseOf, and_then-ok, base_parts, scene_parts}
 use Rattle.scene_load.specs.Files.{files_in}
 use Rattle.scene_load.specs.Fulls.{IsBaseWithin}
@@ -65,7 +64,7 @@ module _ {X : Type 0} (f : X → ℕ) (m zone : ℕ) (least : m ≤ zone) where
 range_beside : (f : ℕ → ℕ) (m zone first n : ℕ) → m ≤ zone → ((k : ℕ) → m + f k ≤ zone) → m + greatest_by f (range_with_len first n) ≤ zone
 unfolding greatest_by
 range_beside f m zone first zero least each = omega (arith, least)
-range_beside f m zone first (suc n) least each = omega (arith, each first, range_beside f m zone (suc first) n least each)
+range_beside f m zone first (suc n) least each = omega (arith, each first, range_beside f m zone (first + 1) n least each)
 
 -- a sum with one of two numbers, by a test
 by_test : (b : Bool) (m x y zone : ℕ) → (b ≡ true → m + x ≤ zone) → (b ≡ false → m + y ≤ zone) → m + cond b x y ≤ zone

@@ -42,16 +42,16 @@ after_all (ZoneFull wanted widest) f p = p
 after_all OutOfMemory f p = f p
 
 -- a fault of drawing that ends a view
-fault_after : {P : Type 0} (k : ℕ) (f : ViewFault) → InOrderAt (view_fault f) P → InOrderAfter (status_of_view k f) P
-fault_after k (view.Limit kind count) p = p
-fault_after k (view.ZoneFull wanted widest) p = p
-fault_after k view.ReadFault p = tt
+fault_after : (P : Type 0) (k : ℕ) (f : ViewFault) → InOrderAt (view_fault f) P → InOrderAfter (status_of_view k f) P
+fault_after P k (view.Limit kind count) p = p
+fault_after P k (view.ZoneFull wanted widest) p = p
+fault_after P k view.ReadFault p = tt
 
-pub drawn_after : {P : Type 0} (k : ℕ) (drawn : Result (Unit {0}) ViewFault) (f : ViewFault) (status : Status) → drawn ≡ Err f → status ≡ status_of_view k f →
+pub drawn_after : (P : Type 0) (k : ℕ) (drawn : Result (Unit {0}) ViewFault) (f : ViewFault) (status : Status) → drawn ≡ Err f → status ≡ status_of_view k f →
     MatchResult drawn (λ _. P) (λ fault. InOrderAt (view_fault fault) P) → InOrderAfter status P
-drawn_after {P} k drawn f status was is order =
+drawn_after P k drawn f status was is order =
     let now : InOrderAt (view_fault f) P = rw was at order in
-    rw is (fault_after k f now)
+    rw is (fault_after P k f now)
 
 asked_for : (items : List Item) (files files' : SceneFiles) (scene scene' : SoundValue) → files' ≡ files → scene' ≡ scene →
     HasTexturesAsked items (IsViewTexture scene.scene) files.dir.lumps (textures_view scene.scene) × HasAll items files.dir (IsViewLump files.dir.lumps scene.scene) →
@@ -65,31 +65,31 @@ asked-later {x = x} {y} items keeps asked =
     record { textures = both.0; lumps = both.1 }
 
 -- no read failed
-loaded_fault : {i j before after : ℕ} (level : LevelJobValue) (wads : List (List ℕ)) (files : List File) (expected : LoadedValue) (f : Fault Refusal) → (FaultsRose i j → ⊥) → HasCauses {B = Unit {0}} itself i j (Err f) →
+loaded_fault : {i j : ℕ} (before after : ℕ) (level : LevelJobValue) (wads : List (List ℕ)) (files : List File) (expected : LoadedValue) (f : Fault Refusal) → (FaultsRose i j → ⊥) → HasCauses {B = Unit {0}} itself i j (Err f) →
     InOrderAt f (after ≤ before + (files_size level.files wads files + lumps_size expected)) → after ≤ before + (files_size level.files wads files + lumps_size expected)
-loaded_fault level wads files expected (fault.Refused refusal) none causes read = read
-loaded_fault level wads files expected fault.ReadFault none causes read = absurd (none causes.err)
-loaded_fault level wads files expected (fault.ZoneFull wanted widest) none causes read = absurd read
-loaded_fault level wads files expected fault.OutOfMemory none causes read = read
+loaded_fault before after level wads files expected (fault.Refused refusal) none causes read = read
+loaded_fault before after level wads files expected fault.ReadFault none causes read = absurd (none causes.err)
+loaded_fault before after level wads files expected (fault.ZoneFull wanted widest) none causes read = absurd read
+loaded_fault before after level wads files expected fault.OutOfMemory none causes read = read
 
 -- what loading read
-pub loads_taken : {A : Type 0} {i j before after : ℕ} (cache : A → Heap) (level : LevelJobValue) (wads : List (List ℕ)) (files : List File) (expected : LoadedValue) (result : Result A (Fault Refusal)) →
+pub loads_taken : {A : Type 0} {i j : ℕ} (before after : ℕ) (cache : A → Heap) (level : LevelJobValue) (wads : List (List ℕ)) (files : List File) (expected : LoadedValue) (result : Result A (Fault Refusal)) →
     LoadsOnce cache level wads files expected before after result → HasCauses itself i j result → (FaultsRose i j → ⊥) → after ≤ before + (files_size level.files wads files + lumps_size expected)
-loads_taken cache level wads files expected (Ok loaded) once causes none = omega (arith, once.taken, items_read expected (cache loaded).blocks)
-loads_taken cache level wads files expected (Err f) once causes none = loaded_fault level wads files expected f none (record { err = causes.err }) once
+loads_taken before after cache level wads files expected (Ok loaded) once causes none = omega (arith, once.taken, items_read expected (cache loaded).blocks)
+loads_taken before after cache level wads files expected (Err f) once causes none = loaded_fault before after level wads files expected f none (record { err = causes.err }) once
 
 -- what loading and then drawing read
 drawn_taken : {before loaded after : ℕ} (level : LevelJobValue) (wads : List (List ℕ)) (files : List File) (expected : LoadedValue) (y z : Heap) → IsLoadedInOrder level wads files expected before loaded y → KeepsOrder (loaded_items expected) y z loaded after →
     after ≤ before + (files_size level.files wads files + lumps_size expected)
 drawn_taken level wads files expected y z once keeps = omega (arith, once.taken, keeps.taken, items_read expected z.blocks)
 
-pub renders_taken : {before loaded after : ℕ} (level : LevelJobValue) (wads : List (List ℕ)) (files : List File) (expected : LoadedValue) (y z : Heap) (status : Status) → IsLoadedInOrder level wads files expected before loaded y →
+pub renders_taken : {loaded : ℕ} (before after : ℕ) (level : LevelJobValue) (wads : List (List ℕ)) (files : List File) (expected : LoadedValue) (y z : Heap) (status : Status) → IsLoadedInOrder level wads files expected before loaded y →
     InOrderAfter status (KeepsOrder (loaded_items expected) y z loaded after) → (status ≡ ReadFault → ⊥) → after ≤ before + (files_size level.files wads files + lumps_size expected)
-renders_taken level wads files expected y z Done once keeps read = drawn_taken level wads files expected y z once keeps
-renders_taken level wads files expected y z Usage once keeps read = drawn_taken level wads files expected y z once keeps
-renders_taken level wads files expected y z (Refused refusal) once keeps read = drawn_taken level wads files expected y z once keeps
-renders_taken level wads files expected y z ReadFault once keeps read = absurd (read refl)
-renders_taken level wads files expected y z WriteFault once keeps read = drawn_taken level wads files expected y z once keeps
-renders_taken level wads files expected y z (Limit view kind count) once keeps read = drawn_taken level wads files expected y z once keeps
-renders_taken level wads files expected y z (ZoneFull wanted widest) once keeps read = absurd keeps
-renders_taken level wads files expected y z OutOfMemory once keeps read = drawn_taken level wads files expected y z once keeps
+renders_taken before after level wads files expected y z Done once keeps read = drawn_taken level wads files expected y z once keeps
+renders_taken before after level wads files expected y z Usage once keeps read = drawn_taken level wads files expected y z once keeps
+renders_taken before after level wads files expected y z (Refused refusal) once keeps read = drawn_taken level wads files expected y z once keeps
+renders_taken before after level wads files expected y z ReadFault once keeps read = absurd (read refl)
+renders_taken before after level wads files expected y z WriteFault once keeps read = drawn_taken level wads files expected y z once keeps
+renders_taken before after level wads files expected y z (Limit view kind count) once keeps read = drawn_taken level wads files expected y z once keeps
+renders_taken before after level wads files expected y z (ZoneFull wanted widest) once keeps read = absurd keeps
+renders_taken before after level wads files expected y z OutOfMemory once keeps read = drawn_taken level wads files expected y z once keeps

@@ -16,7 +16,7 @@ use Rattle.lump_rules.specs.Lookups.{lump_at}
 use Rattle.zone_rules.specs.declared.TheConstants.{MIN_FRAGMENT}
 use Rattle.zone_rules.specs.Zones.{Heap, Owner, block_size}
 use Rattle.wad_dir.specs.DirectoryView.{DirectoryView}
-use Rattle.lump_cache.specs.Caches.{IsAtRest}
+use Rattle.lump_cache.specs.Caches.{IsAtRest, composite_owner, lump_owner}
 use Rattle.lump_cache.specs.Calls.{IfFull, IsFullFor}
 use Rattle.lump_cache.proofs.CallLemmas.{full_at}
 use Rattle.art_rules.specs.declared.ColumnLookup.{ColumnLookup}
@@ -71,20 +71,20 @@ composed_some patches width x l many =
     let on : nat_lt 1 (length (patches_in patches x)) ≡ true = grind (arith, nat_tests) in
     some_of (λ m. m == x) (filter (is_composed patches) (range_with_len 0 width)) (any_passed (is_composed patches) 0 width x (omega arith) (omega (arith, l)) ∙ on)
 
--- the size of one of a texture's patches, or of its composite, which has bytes
-abbrev IsOfTexture : List Lump → PreparedTexture → ℕ → Type 0
-IsOfTexture lumps t size =
-    ((patch : PlacedPatch) × Contains t.patches patch × (size ≡ (lump_at lumps patch.lump).size))
-    ⊎ ((size ≡ size_of t) × (0 < size_of t))
+-- for whom, and how many bytes: one of a texture's patches, or its composite, which has bytes
+abbrev pub IsOfTexture : List Lump → ℕ → PreparedTexture → Owner → ℕ → Type 0
+IsOfTexture lumps number t owner size =
+    ((patch : PlacedPatch) × Contains t.patches patch × (owner ≡ lump_owner patch.lump) × (size ≡ (lump_at lumps patch.lump).size))
+    ⊎ ((owner ≡ composite_owner number) × (size ≡ size_of t) × (0 < size_of t))
 
 module _ (lumps : List Lump) (number : ℕ) (t : PreparedTexture) (owner : Owner) (size : ℕ) where
   module _ (bytes : ℕ → List ℕ) (start x : ℕ) where
-    asked_of : (standing : List PlacedPatch) → All (Contains t.patches) standing → (1 < length standing → 0 < size_of t) → IsAskedByColumn lumps number t (lookup_of bytes start x standing) owner size → IsOfTexture lumps t size
+    asked_of : (standing : List PlacedPatch) → All (Contains t.patches) standing → (1 < length standing → 0 < size_of t) → IsAskedByColumn lumps number t (lookup_of bytes start x standing) owner size → IsOfTexture lumps number t owner size
     unfolding lookup_of
     asked_of [] all some asked = absurd asked
-    asked_of (patch ∷ []) all some asked = inl (patch, All-head (Contains t.patches) patch [] all, asked.1)
-    asked_of (a ∷ b ∷ rest) all some (inl composite) = inr (composite.1, some (omega arith))
-    asked_of (a ∷ b ∷ rest) all some (inr patch) = inl (patch.0, patch.1, patch.3)
+    asked_of (patch ∷ []) all some asked = inl (patch, All-head (Contains t.patches) patch [] all, asked.0, asked.1)
+    asked_of (a ∷ b ∷ rest) all some (inl composite) = inr (composite.0, composite.1, some (omega arith))
+    asked_of (a ∷ b ∷ rest) all some (inr patch) = inl (patch.0, patch.1, patch.2, patch.3)
 
     composed_of : (standing : List PlacedPatch) → (1 < length standing → 0 < size_of t) → IsComposedColumn (lookup_of bytes start x standing) → 0 < size_of t
     unfolding lookup_of
@@ -106,7 +106,7 @@ module _ (lumps : List Lump) (number : ℕ) (t : PreparedTexture) (owner : Owner
     standing_are = All-filter (stands_in x) (Contains t.patches) t.patches (All-contains_itself t.patches)
 
     -- a column of a prepared texture asks for these alone
-    column_asked : IsAskedByColumn lumps number t (own_lookup t x) owner size → IsOfTexture lumps t size
+    pub column_asked : IsAskedByColumn lumps number t (own_lookup t x) owner size → IsOfTexture lumps number t owner size
     column_asked asked = elim (cases_lt x (length t.columns)) [
       | inl l ↦ asked_of bytes (composite_place t.patches t.height x) x (patches_in t.patches x) standing_are (size_some l)
           (subst (λ (lookup : ColumnLookup). IsAskedByColumn lumps number t lookup owner size) (lookup_is l) asked)
@@ -145,13 +145,13 @@ or_patch false false f g on = absurd (cc)
 
 -- what a scene needs with the pictures of its book and of others
 module _ (lumps : List Lump) (scene : SceneValue) (more : List ℕ) where
-  needed_drawn : (lump : ℕ) → IsViewLump lumps scene lump → is_needed lumps (art_with scene (book_lumps scene.book ++ more)) lump ≡ true
+  pub needed_drawn : (lump : ℕ) → IsViewLump lumps scene lump → is_needed lumps (art_with scene (book_lumps scene.book ++ more)) lump ≡ true
   unfolding is_needed
   needed_drawn lump is =
       rw (list_any-append (λ n. n == lump) (book_lumps scene.book) more)
       (or_more _ (list_any (has_flat lump) scene.faces.flats) (list_any (λ n. n == lump) (book_lumps scene.book)) (list_any (λ n. n == lump) more) is.drawn)
 
-needed_patch : (lumps : List Lump) (art : SceneArt) (t : PreparedTexture) (patch : PlacedPatch) → Contains art.prepared (Some t) → Contains t.patches patch → is_needed lumps art patch.lump ≡ true
+pub needed_patch : (lumps : List Lump) (art : SceneArt) (t : PreparedTexture) (patch : PlacedPatch) → Contains art.prepared (Some t) → Contains t.patches patch → is_needed lumps art patch.lump ≡ true
 unfolding is_needed is_patch_of_any is_patch_of
 needed_patch lumps art t patch prepared among =
     or_patch _ (list_any (is_patch_of patch.lump) art.prepared) _ _
@@ -159,7 +159,7 @@ needed_patch lumps art t patch prepared among =
     (any_among (λ (one : PlacedPatch). one.lump == patch.lump) t.patches patch among (eq-eqb patch.lump patch.lump refl)))
 
 -- a patch of a prepared texture is a lump of the directory
-patch_there : (lumps : List Lump) (scene : SceneValue) (t : PreparedTexture) (patch : PlacedPatch) → AllThere lumps (textures_view scene) → Contains scene.prepared (Some t) → Contains t.patches patch → patch.lump < length lumps
+pub patch_there : (lumps : List Lump) (scene : SceneValue) (t : PreparedTexture) (patch : PlacedPatch) → AllThere lumps (textures_view scene) → Contains scene.prepared (Some t) → Contains t.patches patch → patch.lump < length lumps
 patch_there lumps scene t patch all prepared among =
     All-contains (λ (p : PlacedPatch). p.lump < length lumps) t.patches patch (All-contains (λ (o : Option PreparedTexture). IfSome o (ArePatchesThere lumps)) scene.prepared (Some t) all prepared) among
 
@@ -210,7 +210,7 @@ full-small lumps art zone wanted (inr (inr f)) = omega (
 )
 
 -- the texture of a number that is prepared is among those that are
-among_prepared : (prepared : List (Option PreparedTexture)) (number : ℕ) → IsSome (prepared_at prepared number) → Contains prepared (Some (unwrap_or (prepared_at prepared number) unprepared))
+pub among_prepared : (prepared : List (Option PreparedTexture)) (number : ℕ) → IsSome (prepared_at prepared number) → Contains prepared (Some (unwrap_or (prepared_at prepared number) unprepared))
 among_prepared prepared number some = elim (cases_lt number (length prepared)) [
   | inl l ↦ subst (λ (o : Option PreparedTexture). Contains prepared o) (prepared_is (prepared_at prepared number) some) (Contains-get_or prepared number None l)
   | inr past ↦ absurd (false≢true (subst IsSome (get_or_past prepared number None past) some))
@@ -227,19 +227,19 @@ module _ (contents : List (List ℕ)) (dir : DirectoryView) (scene : SceneValue)
 
   module _ (t : PreparedTexture) (prepared : Contains scene.prepared (Some t)) (size : ℕ) (wanted_is : wanted ≡ block_size size) where
     -- no room for a patch or a composite
-    alone_full : IsOfTexture dir.lumps t size → IsSmall z.size count wanted → IsArtFull dir.lumps art z.size wanted
+    alone_full : {number : ℕ} {owner : Owner} → IsOfTexture dir.lumps number t owner size → IsSmall z.size count wanted → IsArtFull dir.lumps art z.size wanted
     unfolding lump_block
     alone_full (inl patch) small = inl (record {
       lump = patch.0.lump;
       there = patch_there dir.lumps scene t patch.0 can.whole.art.patches prepared patch.1;
       needed = needed_patch dir.lumps art t patch.0 prepared patch.1;
-      is = wanted_is ∙ ap (λ n. block_size n) patch.2;
+      is = wanted_is ∙ ap (λ n. block_size n) patch.3;
       small = small;
     })
     alone_full (inr composite) small = inr (inl (record {
       texture = t;
       prepared = prepared;
-      is = wanted_is ∙ ap (λ n. block_size n) composite.0 ∙ sym (block_of t composite.1);
+      is = wanted_is ∙ ap (λ n. block_size n) composite.1 ∙ sym (block_of t composite.2);
       some = subst (λ n. n ≢ 0) (sym wanted_is) (block_some size);
       small = small;
     }))

@@ -27,7 +27,7 @@ returns-in-Err-write_frame-clause-ends g c contents count holds =
 
 pub returns-in-Err-clause-order : goal.returns-in-Err-clause-order
 returns-in-Err-clause-order g c items asked order =
-    drawn_after c.args.number c.draw_at.result c.in-Err.fault c.status_of_view.result c.in-Err.is c.status_of_view.ensures (c.draw_at.ensures.draws.order items asked.textures asked.lumps order)
+    drawn_after _ c.args.number c.draw_at.result c.in-Err.fault c.status_of_view.result c.in-Err.is c.status_of_view.ensures (c.draw_at.ensures.draws.order items asked.textures asked.lumps order)
 
 pub returns-in-Ok-write_frame-clause-fits : goal.returns-in-Ok-write_frame-clause-fits
 returns-in-Ok-write_frame-clause-fits g c contents count holds = rw c.in-Ok.is at (c.draw_at.ensures.fits contents count holds)

@@ -34,7 +34,7 @@ returns-in-Level-clause-least g c files end held =
 
 pub returns-in-Level-clause-taken : goal.returns-in-Level-clause-taken
 returns-in-Level-clause-taken g c files held calm =
-    rw c.in-Level.is (c.perform_level.ensures.taken files (λ asked. held (rw c.in-Level.is asked)) calm)
+    rw (c.in-Level.is, ← c.deref.ensures.value) (c.perform_level.ensures.taken files (λ asked. held (rw c.in-Level.is asked)) calm)
 
 pub returns-in-Exercise-clause-least : goal.returns-in-Exercise-clause-least
 returns-in-Exercise-clause-least g c files end held = rw c.in-Exercise.is (c.perform_exercise.ensures.least end)

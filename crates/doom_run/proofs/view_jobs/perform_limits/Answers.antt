@@ -53,7 +53,7 @@ returns-in-Ok-clause-taken g c files held calm expected is room =
     let level = level_job_value c.args.level.now in
     let wads = map (λ wad. wad.now) c.args.wads.now in
     let named = loaded_named level wads files expected is in
-    loads_taken (λ ready. ready.loaded.cache) level wads files expected c.prepare_views.result (c.prepare_views.ensures.order files named.contents expected held named.named is room) c.prepare_views.ensures.causes calm
+    loads_taken _ _ (λ ready. ready.loaded.cache) level wads files expected c.prepare_views.result (c.prepare_views.ensures.order files named.contents expected held named.named is room) c.prepare_views.ensures.causes calm
 
 pub returns-in-Err-clause-least : goal.returns-in-Err-clause-least
 returns-in-Err-clause-least g c files end held = absurd (fault_no_end c.in-Err.fault (rw c.of.ensures at end))
@@ -63,4 +63,4 @@ returns-in-Err-clause-taken g c files held calm expected is room =
     let level = level_job_value c.args.level.now in
     let wads = map (λ wad. wad.now) c.args.wads.now in
     let named = loaded_named level wads files expected is in
-    loads_taken (λ ready. ready.loaded.cache) level wads files expected c.prepare_views.result (c.prepare_views.ensures.order files named.contents expected held named.named is room) c.prepare_views.ensures.causes calm
+    loads_taken _ _ (λ ready. ready.loaded.cache) level wads files expected c.prepare_views.result (c.prepare_views.ensures.order files named.contents expected held named.named is room) c.prepare_views.ensures.causes calm

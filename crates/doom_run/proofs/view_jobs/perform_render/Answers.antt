@@ -72,7 +72,7 @@ returns-in-Ok-clause-taken g c files held calm expected is room =
     let once = c.in-Ok.ensures.order files named.contents expected there named.named is room in
     let asked : HasReadyAsked (loaded_items expected) c.in-Ok.ready =
     subst (λ l. HasReadyAsked (loaded_items l) c.in-Ok.ready) (same_value (loaded_value c.in-Ok.ready.loaded) expected loaded is) (ready_asked level wads files c.in-Ok.ready loaded c.in-Ok.ensures.ready) in
-    renders_taken level wads files expected c.in-Ok.ready.loaded.cache c.deliver_render.new.ready.loaded.cache c.deliver_render.result once
+    renders_taken _ _ level wads files expected c.in-Ok.ready.loaded.cache c.deliver_render.new.ready.loaded.cache c.deliver_render.result once
     (c.deliver_render.ensures.order (loaded_items expected) asked once.order)
     (λ fault. calm (omega (arith, c.in-Ok.ensures.follows.faults, c.deliver_render.ensures.read_fault fault)))
 
@@ -87,4 +87,4 @@ returns-in-Err-clause-taken g c files held calm expected is room =
     let none : is_some level.files.weapon ≡ false = same_weapon (λ (w : Bor (List ℕ)). w.now) c.args.level.now.files.weapon ∙ bare in
     let there = held (unarmed_asks level.files.weapon none) in
     let named = loaded_named level wads files expected is in
-    loads_taken (λ ready. ready.loaded.cache) level wads files expected c.prepare_views.result (c.prepare_views.ensures.order files named.contents expected there named.named is room) c.prepare_views.ensures.causes calm
+    loads_taken _ _ (λ ready. ready.loaded.cache) level wads files expected c.prepare_views.result (c.prepare_views.ensures.order files named.contents expected there named.named is room) c.prepare_views.ensures.causes calm
