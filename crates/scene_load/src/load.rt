@@ -1,6 +1,7 @@
 // The files and the scene of a job over a level.
 //
-// Rules: specs, Loads and Fulls. The original: `D_DoomMain`, d_main.c, `P_SetupLevel`, p_setup.c.
+// Rules: specs, Loads, Fulls and Orders. The original: `D_DoomMain`, d_main.c, `P_SetupLevel`,
+// p_setup.c.
 ghost use Rattle.std.specs.Prelude.{◌≡◌, ◌<◌, ◌≤◌, ◌+◌, ◌^◌, ℕ, List, length, map, IfOk, IfErr, MatchResult};
 ghost use Rattle.outside.specs.Shelf.{NameFiles, File, IsLaterShelf, Holds};
 ghost use Rattle.outside.specs.Faults.{ResultIs, HasCauses, from_below, itself};
@@ -66,9 +67,10 @@ pub struct LoadedScene {
 /// After Ok over any shelf, the scene has all that drawing asks of it (`whole`); over one that holds
 /// the WADs, the lumps and composites in the cache and the textures are what their bytes give (`art`).
 ///
-/// In a zone that is large enough for all that the level needs (`roomy`), each file that is read
-/// whole, the header and the directory of each WAD, and each needed lump are read at most once; the
-/// zone is not full, and after Ok the cache is in order for all that drawing may ask for (`order`).
+/// In a zone that is large enough for all that the level needs (`roomy`), `ZoneFull` does not come;
+/// unless a read failed, no more bytes are read than the files that are read whole, the header and
+/// the directory of each WAD and the needed lumps have, each once; and after Ok the cache is in
+/// order for all that drawing may ask for (`order`).
 ///
 /// The original: `D_DoomMain`, d_main.c, with `R_Init`, r_main.c, and `P_SetupLevel`, p_setup.c.
 pub fn load_scene<S: Shelf>(

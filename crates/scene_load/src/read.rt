@@ -38,10 +38,10 @@ pub struct SceneFiles {
 ///
 /// Each file is asked for and read in its turn: tables of angles, things, path, and the weapon
 /// layers where they are named. Then all WADs are asked for, and after that their directories are
-/// read; the lumps are not. The length of a table's file is looked at first, so that however long it
-/// is, no more is read of it than a table may have. No more is read than each of these files once,
-/// with the header and the directory of each WAD (`taken_of`). Takes memory for each table's file
-/// while it is checked, for what the tables hold, and for the directory.
+/// read; the lumps are not. The length of a table's file is looked at first, so that however long
+/// it is, no more is read of it than a table may have. No more bytes are read than these files
+/// have, and the header and the directory of each WAD, each once (`taken_of`). Takes memory for
+/// each table's file while it is checked, for what the tables hold, and for the directory.
 ///
 /// Errors: `Refused` with the first refusal, by the step at which it came. `ReadFault` only where a
 /// call of the shelf failed; over a steady shelf only where the step's file is not held.
