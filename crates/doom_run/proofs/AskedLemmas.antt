@@ -1,25 +1,22 @@
 -- The list of all that a level needs has what drawing its views may ask for.
-use Rattle.std.proofs.Common.{◌≡◌, ◌<◌, ℕ, ℤ, true, length, List, Option, Some, Ok, IfSome, arith, inl, inr}
-use Rattle.std.specs.Prelude.{Contains}
-use Rattle.std.proofs.lemmas.List.Elements.{All-contains}
+use Rattle.std.proofs.Common.{◌≡◌, ℕ, ℤ, true, List, Some, Ok, inl, inr}
 use Rattle.outside.specs.Shelf.{File}
 use Rattle.lump_rules.specs.Contents.{lump_bytes}
 use Rattle.zone_rules.specs.Zones.{Owner}
-use Rattle.zone_rules.specs.Orders.{Item, has_item}
+use Rattle.zone_rules.specs.Orders.{has_item}
 use Rattle.lump_cache.specs.Calls.{HasAll}
 use Rattle.art_rules.specs.Wanted.{PreparedTexture}
 use Rattle.texture_build.specs.Asked.{IsAskedByColumn}
-use Rattle.texture_build.specs.Draws.{HasTexturesAsked}
 use Rattle.texture_build.specs.Sources.{column_in, column_index}
-use Rattle.texture_build.specs.Views.{ArePatchesThere, AreTexturesOf, IsPrepared, prepared_at, prepared_texture}
+use Rattle.texture_build.specs.Views.{AreTexturesOf, IsPrepared, prepared_at, prepared_texture}
 use Rattle.texture_build.proofs.TexelLemmas.{prepared_is}
-use Rattle.texture_build.proofs.ViewLemmas.{HasColumns, textures_columns}
+use Rattle.texture_build.proofs.ViewLemmas.{textures_columns}
 use Rattle.command_line.specs.LevelJobs.{LevelJobValue}
 use Rattle.level_audit.specs.Sound.{art_with, textures_view}
 use Rattle.scene_load.specs.Loads.{load_in, loaded_pictures, loaded_value, wad_contents, weapon_lumps}
 use Rattle.scene_load.specs.Orders.{loaded_items}
 use Rattle.scene_load.proofs.OrderLemmas.{items_composite, items_lump}
-use Rattle.frame_core.specs.Views.{IsViewLump, IsViewTexture}
+use Rattle.frame_core.specs.Views.{IsViewLump}
 use Rattle.frame_core.proofs.EnoughLemmas.{IsOfTexture, among_prepared, column_asked, needed_drawn, needed_patch, patch_there}
 use Rattle.doom_run.specs.declared.render.ReadyViews.{ReadyViews}
 use Rattle.doom_run.specs.Renders.{HasReadyAsked, IsReady}

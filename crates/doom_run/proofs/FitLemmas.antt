@@ -1,5 +1,5 @@
 -- What the frames that are due are painted from stands beside COLORMAP.
-use Rattle.std.proofs.Common.{◌≡◌, ◌<◌, ℕ, Bool, List, length, Option, Some, None, IfSome, slice_get, unwrap_or, Result, Ok, Err, refl, sym, ap, subst, ◌∙◌}
+use Rattle.std.proofs.Common.{◌≡◌, ◌<◌, ℕ, Bool, List, length, Option, Some, None, IfSome, slice_get, unwrap_or, Result, Err, sym, subst}
 use Rattle.std.specs.Prelude.{option_map}
 use Rattle.outside.specs.Shelf.{ShelfView}
 use Rattle.lump_rules.specs.Contents.{lump_bytes}

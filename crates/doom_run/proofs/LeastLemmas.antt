@@ -1,6 +1,6 @@
 -- Where all of which a least zone is the greatest stands beside COLORMAP, the zone is no smaller.
-use Rattle.std.proofs.Common.{◌≡◌, ◌≢◌, ℕ, zero, suc, ◌+◌, ◌<◌, ◌≤◌, Bool, true, false, cond, List, [], ◌∷◌, length, max, take, Option, Some, None, Result, Ok, IfSome, refl, sym, ap, subst, ◌∙◌, arith, inl, inr, eq-eqb, eqb-true}
-use Rattle.std.specs.Prelude.{◌⊎◌, ◌||◌, ◌==◌, slice_get, unwrap_or}
+use Rattle.std.proofs.Common.{◌≡◌, ◌≢◌, ℕ, zero, suc, ◌+◌, ◌<◌, ◌≤◌, Bool, true, false, cond, List, [], ◌∷◌, length, take, Option, Some, None, Result, Ok, IfSome, refl, sym, ap, subst, ◌∙◌, arith, inl, inr, eq-eqb, eqb-true}
+use Rattle.std.specs.Prelude.{◌||◌, ◌==◌, slice_get, unwrap_or}
 use Rattle.std.specs.List.{AllByRecursion, range_with_len}
 use Rattle.std.specs.Option.{option_map_or}
 use Rattle.std.proofs.lemmas.Bool.{cases_lt, or_cases}
@@ -8,7 +8,6 @@ use Rattle.std.proofs.lemmas.Bool.Decides.{nat_tests}
 use Rattle.outside.specs.Shelf.{File}
 use Rattle.outside.specs.Stops.{Stop}
 use Rattle.lump_rules.specs.declared.wad.Lump.{Lump}
-use Rattle.lump_rules.specs.declared.names.TheConstants.{MAP_LUMPS}
 use Rattle.lump_rules.specs.Lookups.{last_of, lump_at}
 use Rattle.lump_cache.specs.Named.{IsLast}
 use Rattle.zone_rules.specs.Zones.{block_size}
@@ -19,11 +18,9 @@ use Rattle.pixel_rules.specs.declared.TheConstants.{COMPOSITE, LUMP}
 use Rattle.pixel_rules.specs.Dots.{Dot}
 use Rattle.picture_rules.specs.Paints.{view_paints}
 use Rattle.picture_rules.specs.Scene.{Scene}
-use Rattle.level_scene.specs.Asked.{IsLumpOfMap}
 use Rattle.texture_lists.specs.Asked.{IsListLump}
-use Rattle.texture_build.specs.Asked.{size_of}
 use Rattle.texture_build.specs.Draws.{FitBeside, FitsBeside}
-use Rattle.texture_build.specs.Views.{TexturesView, prepared_texture}
+use Rattle.texture_build.specs.Views.{TexturesView}
 use Rattle.command_line.specs.LevelJobs.{LevelJobValue}
 use Rattle.command_line.specs.declared.command.Format.{Format}
 use Rattle.command_line.specs.declared.command.LevelTask.{LevelTask}
@@ -107,24 +104,24 @@ is_last_named lumps name lump e = last_named (last_of lumps name) lump e
 
 list_named : (lumps : List Lump) (lump : ℕ) → is_list lumps lump ≡ true → IsListLump lumps lump
 unfolding is_list
-list_named lumps lump on = elim (or_cases (is_last lumps PNAMES lump) _ on) [
-  | inl names ↦ inl (is_last_named lumps PNAMES lump names)
-  | inr more ↦ elim (or_cases (is_last lumps TEXTURE1 lump) _ more) [
-      | inl first ↦ inr (inl (is_last_named lumps TEXTURE1 lump first))
-      | inr second ↦ inr (inr (is_last_named lumps TEXTURE2 lump second))
+list_named lumps lump on = elim (or_cases (is_last lumps PNAMES lump || is_last lumps TEXTURE1 lump) (is_last lumps TEXTURE2 lump) on) [
+  | inl more ↦ elim (or_cases (is_last lumps PNAMES lump) (is_last lumps TEXTURE1 lump) more) [
+      | inl names ↦ inl (is_last_named lumps PNAMES lump names)
+      | inr first ↦ inr (inl (is_last_named lumps TEXTURE1 lump first))
     ]
+  | inr second ↦ inr (inr (is_last_named lumps TEXTURE2 lump second))
 ]
 
 module _ (lumps : List Lump) (name : List ℕ) (base : LevelBase) (parts : IsBaseOf lumps name base) where
   -- a lump of the base is one that is asked for
   base_asked : (lump : ℕ) → is_base_lump lumps base lump ≡ true → IsOfBase lumps name lump
   unfolding is_base_lump
-  base_asked lump on = elim (or_cases (base.playpal == lump) _ on) [
-    | inl palette ↦ inl (parts.playpal ∙ ap (λ (k : ℕ). Ok k) (eqb-true base.playpal lump palette))
-    | inr more ↦ elim (or_cases (is_map_lump base.label lump) _ more) [
-        | inl map ↦ inr (inl (record { label = base.label; is = parts.label; among = map }))
-        | inr list ↦ inr (inr (list_named lumps lump list))
+  base_asked lump on = elim (or_cases ((base.playpal == lump) || is_map_lump base.label lump) (is_list lumps lump) on) [
+    | inl more ↦ elim (or_cases (base.playpal == lump) (is_map_lump base.label lump) more) [
+        | inl palette ↦ inl (parts.playpal ∙ ap (λ (k : ℕ). Ok k) (eqb-true base.playpal lump palette))
+        | inr map ↦ inr (inl (record { label = base.label; is = parts.label; among = map }))
       ]
+    | inr list ↦ inr (inr (list_named lumps lump list))
   ]
 
   module _ (zone : ℕ) (within : (lump : ℕ) → IsOfBase lumps name lump → lump ≢ base.colormap → lump_block lumps base.colormap + lump_block lumps lump ≤ zone) where

@@ -1,22 +1,19 @@
 -- How many bytes are read while a zone stays in order.
-use Rattle.std.proofs.Common.{◌≡◌, ◌≤◌, ◌+◌, ℕ, List, Result, Ok, Err, refl, sym, ap, subst, ◌∙◌, arith, MatchResult}
-use Rattle.std.specs.Prelude.{IfErr}
+use Rattle.std.proofs.Common.{◌≡◌, ◌≤◌, ◌+◌, ℕ, List, Result, Ok, Err, refl, arith, MatchResult}
 use Rattle.outside.specs.Causes.{FaultsRose}
 use Rattle.outside.specs.Shelf.{File, ShelfView}
 use Rattle.outside.specs.Faults.{HasCauses, itself}
 use Rattle.outside.specs.declared.fault.Fault.{Fault}
 use Rattle.outside.specs.declared.fault.Fault.TheVariants as fault
 use Rattle.zone_rules.specs.Zones.{Heap}
-use Rattle.zone_rules.specs.Orders.{Item, IsInOrder, KeepsOrder, live_sum, lump_size}
-use Rattle.zone_rules.proofs.OrderLemmas.{order_then}
+use Rattle.zone_rules.specs.Orders.{Item, KeepsOrder}
 use Rattle.lump_cache.specs.Calls.{HasAll, InOrderAt}
 use Rattle.texture_build.specs.Draws.{HasTexturesAsked}
 use Rattle.level_audit.specs.Sound.{SoundValue, textures_view}
-use Rattle.level_audit.proofs.SceneLemmas.{same_value}
 use Rattle.command_line.specs.LevelJobs.{LevelJobValue}
 use Rattle.refusals.specs.declared.refusal.Refusal.{Refusal}
 use Rattle.scene_load.specs.declared.read.SceneFiles.{SceneFiles}
-use Rattle.scene_load.specs.Loads.{LoadedValue, load_in, loaded_value}
+use Rattle.scene_load.specs.Loads.{LoadedValue}
 use Rattle.scene_load.specs.Orders.{IsLoadedInOrder, files_size, loaded_items, lumps_size}
 use Rattle.scene_load.proofs.OrderLemmas.{items_read}
 use Rattle.frame_core.specs.declared.fault.ViewFault.{ViewFault}
@@ -28,7 +25,7 @@ use Rattle.doom_run.specs.declared.status.Status.{Status}
 use Rattle.doom_run.specs.declared.status.Status.TheVariants.{Done, Usage, Refused, ReadFault, WriteFault, Limit, ZoneFull, OutOfMemory}
 use Rattle.doom_run.specs.Frames.{KeepsReady, status_of_view}
 use Rattle.doom_run.specs.Renders.{HasReadyAsked}
-use Rattle.doom_run.specs.Takes.{InOrderAfter, LoadsOnce, TakesOnce}
+use Rattle.doom_run.specs.Takes.{InOrderAfter, LoadsOnce}
 
 -- what is said after a status, of more
 pub after_all : {P Q : Type 0} (status : Status) → (P → Q) → InOrderAfter status P → InOrderAfter status Q

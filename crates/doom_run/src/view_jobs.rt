@@ -1,5 +1,5 @@
 // The jobs that draw or count views: `render`, `limits` and `exercise`.
-ghost use Rattle.std.specs.Prelude.{◌≡◌, ◌≤◌, ◌⊎◌, ℕ, Bool, List, [], map, Err, IsTrue};
+ghost use Rattle.std.specs.Prelude.{◌≡◌, ◌≤◌, ◌⊎◌, ℕ, Bool, false, List, [], map, Err, IsTrue};
 ghost use Rattle.outside.specs.Causes.{FaultsRose};
 ghost use Rattle.outside.specs.Shelf.{File, Holds};
 ghost use Rattle.outside.specs.Sink.{Grew};

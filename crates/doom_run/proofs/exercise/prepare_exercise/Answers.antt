@@ -1,4 +1,4 @@
-use Rattle.std.proofs.Common.{[], ◌∷◌, length, ap, sym, ◌∙◌, arith, inl, inr, List, ℕ, subst, refl}
+use Rattle.std.proofs.Common.{[], ◌∷◌, length, ap, sym, ◌∙◌, arith, inl, inr, List, ℕ, subst}
 use Rattle.command_line.specs.declared.command.MakeJob.TheVariants.{Wad}
 use Rattle.scene_load.specs.Fulls.{IsFullLoad}
 use Rattle.scene_load.specs.Loads.{loaded_value}
