@@ -1,9 +1,9 @@
 //! One view of a scene: its walls, planes and masked pass on a canvas, and what it counts.
 //!
 //! Rules: `picture_rules`; what of a scene a picture is made from in this crate's Scenes. Proved:
-//! the frame is the picture of the view, byte for byte; a count that passes its limit ends the view,
-//! and only that one; what a call keeps of the cache, and when the zone is full: never where it is
-//! enough for the scene. Only `Workshop::new` takes memory. The original: R_RenderPlayerView,
+//! the frame is the picture of the view, byte for byte; a count that passes its limit ends the
+//! view, and only that one; what a call keeps of the cache, and when the zone is full: never where
+//! it is enough for the scene. Only `Workshop::new` takes memory. The original: R_RenderPlayerView,
 //! r_main.c.
 #![tactic(auto)]
 

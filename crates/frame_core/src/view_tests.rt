@@ -1,5 +1,5 @@
-// Values from outside: pixels, counts, limits and the sums of whole frames, over the made WAD with a
-// level beside it. A sum is the FNV-1a of the frame's 64,000 bytes.
+// Values from outside: pixels, counts, limits and the sums of whole frames, over the made WAD with
+// a level beside it. A sum is the FNV-1a of the frame's 64,000 bytes.
 ghost use Rattle.std.specs.Prelude.{◌≤◌, IfOk};
 ghost use Rattle.view_rules.specs.declared.TheConstants.{MIN_SIZE, MAX_SIZE};
 ghost use Rattle.plane_rules.specs.declared.TheConstants.{MOST_VISPLANES};
