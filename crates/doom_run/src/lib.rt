@@ -17,6 +17,8 @@
 mod audit;
 mod exercise;
 mod flat;
+#[cfg(test)]
+mod hostile_tests;
 mod limits;
 mod lumps;
 mod make;
@@ -30,6 +32,8 @@ mod tiling;
 mod top;
 #[cfg(test)]
 mod view_tests;
+#[cfg(test)]
+mod wad_tests;
 
 pub use notes::put_note;
 pub use picture_rules::LimitKind;
