@@ -18,6 +18,8 @@
 mod audit;
 mod exercise;
 mod flat;
+#[cfg(test)]
+mod hostile_tests;
 mod limits;
 mod lumps;
 mod make;
@@ -32,6 +34,8 @@ mod top;
 mod view_jobs;
 #[cfg(test)]
 mod view_tests;
+#[cfg(test)]
+mod wad_tests;
 
 pub use notes::put_note;
 pub use picture_rules::LimitKind;

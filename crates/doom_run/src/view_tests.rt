@@ -1,16 +1,13 @@
 // Values from outside: frames, counts and statuses of made levels, by what is told of a run. A sum is
 // the FNV-1a of all that was written.
-use crate::{Status, run};
+use crate::Status;
+use crate::tests::{Ended, run_shelf};
 use level_maker::{make_path, make_tables, make_things, make_wad};
-use outside::{MemoryFile, MemoryShelf, MemorySink, PutFault};
+use outside::{MemoryFile, MemoryShelf, PutFault};
 use std::alloc::{AllocError, Global};
 use std::test::Fail;
 
-const OUT_ROOM: usize = 6_000_000;
-
-const LINE_ROOM: usize = 100;
-
-const NOTHING: u64 = 0xcbf2_9ce4_8422_2325;
+pub(crate) const NOTHING: u64 = 0xcbf2_9ce4_8422_2325;
 
 const FRAMES_OF_10: u64 = 0x8255_4244_4dc5_4d3b;
 
@@ -22,7 +19,15 @@ struct Told {
     sum: u64,
 }
 
-fn sum_of(bytes: &[u8]) -> u64 {
+fn tell(ended: &Ended) -> Told {
+    Told {
+        status: ended.status,
+        length: ended.out.bytes().len(),
+        sum: sum_of(ended.out.bytes()),
+    }
+}
+
+pub(crate) fn sum_of(bytes: &[u8]) -> u64 {
     let mut sum = NOTHING;
     for byte in bytes {
         sum = (sum ^ *byte as u64).wrapping_mul(0x100_0000_01b3);
@@ -30,21 +35,13 @@ fn sum_of(bytes: &[u8]) -> u64 {
     sum
 }
 
-fn file_of(alloc: Global, name: &str, bytes: Vec<u8>) -> Result<MemoryFile, AllocError> {
+pub(crate) fn file_of(alloc: Global, name: &str, bytes: Vec<u8>) -> Result<MemoryFile, AllocError> {
     let name = name.to_string(alloc)?;
     Ok(MemoryFile { name, bytes })
 }
 
-fn words_of(alloc: Global, text: &str) -> Result<Vec<String>, AllocError> {
-    let mut words = Vec::new(alloc);
-    for word in text.split_whitespace() {
-        words.push(word.to_string(alloc)?)?;
-    }
-    Ok(words)
-}
-
 // The made WAD of a number.
-fn wad_of(alloc: Global, n: u32) -> Result<MemoryFile, Fail> {
+pub(crate) fn wad_of(alloc: Global, n: u32) -> Result<MemoryFile, Fail> {
     if n < 1 || n > 32 {
         return Err("a number of made files".into());
     }
@@ -52,7 +49,7 @@ fn wad_of(alloc: Global, n: u32) -> Result<MemoryFile, Fail> {
 }
 
 // The made path of a number.
-fn path_of(alloc: Global, n: u32) -> Result<Vec<u8>, Fail> {
+pub(crate) fn path_of(alloc: Global, n: u32) -> Result<Vec<u8>, Fail> {
     if n < 1 || n > 32 {
         return Err("a number of made files".into());
     }
@@ -68,19 +65,23 @@ fn things_of(alloc: Global) -> Result<MemoryFile, Fail> {
 }
 
 // The WAD and the path of a made level, as two files.
-fn level_files(alloc: Global, n: u32, path: Vec<u8>) -> Result<Vec<MemoryFile>, Fail> {
+pub(crate) fn level_files(alloc: Global, n: u32, path: Vec<u8>) -> Result<Vec<MemoryFile>, Fail> {
     let wad = wad_of(alloc, n)?;
     let path = file_of(alloc, "p", path)?;
     Ok(vec![in alloc; wad, path]?)
 }
 
 // A shelf of these two with the tables and the things, whose calls of these numbers fail.
-fn shelf_of(alloc: Global, level: Vec<MemoryFile>, failing: Vec<u64>) -> Result<MemoryShelf, Fail> {
+pub(crate) fn shelf_of(
+    alloc: Global,
+    level: Vec<MemoryFile>,
+    failing: Vec<u64>,
+) -> Result<MemoryShelf, Fail> {
     let mut files = level;
     files.push(tables_of(alloc)?)?;
     files.push(things_of(alloc)?)?;
-    if files.len() > 4 {
-        return Err("four files".into());
+    if files.len() > 5 {
+        return Err("five files".into());
     }
     Ok(MemoryShelf::new(files, failing))
 }
@@ -93,15 +94,8 @@ fn run_over(
     faults: Vec<PutFault>,
 ) -> Result<Told, Fail> {
     let mut shelf = shelf;
-    let words = words_of(alloc, words)?;
-    let mut out = MemorySink::new(alloc, OUT_ROOM, faults)?;
-    let mut notes = MemorySink::new(alloc, LINE_ROOM, Vec::new(alloc))?;
-    let status = run(alloc, &words, &mut shelf, &mut out, &mut notes);
-    Ok(Told {
-        status,
-        length: out.bytes().len(),
-        sum: sum_of(out.bytes()),
-    })
+    let ended = run_shelf(alloc, words, &mut shelf, faults)?;
+    Ok(tell(&ended))
 }
 
 // The same over the made files of a number, with this path.

@@ -1,0 +1,117 @@
+#!/usr/bin/env python3
+"""Refuses each request for memory of a run in turn, and prints a table.
+
+memory.py PROGRAM       of flat over a tiny WAD, and of render over the made files of 1
+
+PROGRAM takes doomview's words, and is linked to the GNU C library when it starts. Each run has to end with
+status 7 and its line, and nothing written, or with status 0 and the whole output. The last run of a job is
+the first in which nothing was refused. Ends with 1 where a run ended otherwise."""
+import argparse
+import os
+import shutil
+import struct
+import subprocess
+import sys
+import tempfile
+
+HERE = os.path.dirname(os.path.abspath(__file__))
+OUT_OF_MEMORY = (7, b'', b'doomview: out of memory\n')
+SECONDS = 60
+
+
+def fail(text):
+    sys.exit(f'memory: {text}')
+
+
+def write(folder, name, data):
+    path = os.path.join(folder, name)
+    with open(path, 'wb') as file:
+        file.write(data)
+    return path
+
+
+def tiny_wad():
+    """PLAYPAL, whose colour i is i, 255 - i, 7i, and the flat TILE."""
+    palette = bytes(it % 256 for i in range(256) for it in (i, 255 - i, 7 * i))
+    lumps = ((b'PLAYPAL', palette), (b'F_START', b''), (b'TILE', bytes(range(1, 11))), (b'F_END', b''))
+    data, directory = b'', b''
+    for name, lump in lumps:
+        directory += struct.pack('<II8s', 12 + len(data), len(lump), name)
+        data += lump
+    return b'IWAD' + struct.pack('<II', len(lumps), 12 + len(data)) + data + directory
+
+
+def made_files(folder, program):
+    """The made files of 1, as words of `render`."""
+    paths = {}
+    for what, words in (('wad', ['1']), ('path', ['1']), ('things', []), ('tables', [])):
+        made = subprocess.run([program, 'make', what, *words], stdout=subprocess.PIPE)
+        if made.returncode:
+            fail(f'status {made.returncode} of {program} make {what}')
+        paths[what] = write(folder, what, made.stdout)
+    return [paths['wad'], '--tables', paths['tables'], '--things', paths['things'], '--path', paths['path']]
+
+
+def compiled(folder):
+    """The library that refuses a request."""
+    library = os.path.join(folder, 'refuse.so')
+    if not shutil.which('cc'):
+        fail('the command cc is missing')
+    source = os.path.join(HERE, 'refuse.c')
+    if subprocess.run(['cc', '-shared', '-fPIC', '-O1', '-o', library, source, '-ldl']).returncode:
+        fail('refuse.c does not compile')
+    return library
+
+
+class Refusals:
+    def __init__(self, library, folder):
+        self.library, self.mark = library, os.path.join(folder, 'mark')
+
+    def run(self, words, number):
+        """How a run ends in which the request of that number is refused, and whether there was one."""
+        environment = {'LD_PRELOAD': self.library, 'REFUSE_NUMBER': str(number), 'REFUSE_MARK': self.mark}
+        if os.path.exists(self.mark):
+            os.remove(self.mark)
+        run = subprocess.run(words, capture_output=True, env=environment, timeout=SECONDS)
+        return (run.returncode, run.stdout, run.stderr), os.path.exists(self.mark)
+
+    def job(self, name, words):
+        """Refuses each request of a run in turn; whether all ended as they have to."""
+        whole, _ = self.run(words, 0)
+        if whole[0] or not whole[1]:
+            fail(f'status {whole[0]} of {" ".join(words)}')
+        number, ends = 0, {}
+        while True:
+            number += 1
+            end, refused = self.run(words, number)
+            kind = 'out of memory' if end == OUT_OF_MEMORY else 'done' if end == whole else 'otherwise'
+            if kind == 'otherwise' or not refused and kind != 'done':
+                said = f'status {end[0]}, {len(end[1])} bytes, {end[2]!r}'
+                print(f'memory: {name}: request {number}: {said}', file=sys.stderr)
+            if not refused:
+                break
+            ends.setdefault(kind, []).append(number)
+        if number == 1:
+            fail('no request was seen: is the program linked to the C library when it starts?')
+        counts = [str(len(ends.get(it, []))) for it in ('out of memory', 'done', 'otherwise')]
+        print(f'| {name} | {number - 1} | ' + ' | '.join(counts) + ' |')
+        return 'otherwise' not in ends and kind == 'done'
+
+
+def main():
+    reader = argparse.ArgumentParser(usage=__doc__)
+    reader.add_argument('program')
+    program = os.path.abspath(reader.parse_args().program)
+    if not os.access(program, os.X_OK):
+        fail(f'{program} is no program')
+    with tempfile.TemporaryDirectory() as folder:
+        refusals = Refusals(compiled(folder), folder)
+        jobs = (('flat', ['TILE', write(folder, 'tiny.wad', tiny_wad())]),
+                ('render', ['MAP01', *made_files(folder, program)]))
+        print('| Job | Requests | Out of memory | Done | Otherwise |\n|---|---|---|---|---|')
+        well = [refusals.job(name, [program, name, *words]) for name, words in jobs]
+    sys.exit(not all(well))
+
+
+if __name__ == '__main__':
+    main()
