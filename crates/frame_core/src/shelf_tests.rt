@@ -1,17 +1,17 @@
 // Values from outside: the sums of two views of the made path of 1 over the made WAD of 1, and of
 // the first over that WAD with other art. A sum is the FNV-1a of the frame's 64,000 bytes.
-ghost use Rattle.std.specs.Prelude.{IfOk};
+ghost use Rattle.std.specs.Prelude.{◌≡◌, IfOk};
 ghost use Rattle.frame_core.specs.Views.{CanDrawView};
 
 use crate::test_levels::room_wad;
 use crate::view_tests::{
-    Assets, COMPOSITE_SLOTS, LIMITS, ZONE, draw, load_assets, shelf_of, sum_of,
+    Assets, COMPOSITE_SLOTS, LIMITS, ZONE, draw, load_assets, made_angles, shelf_of, sum_of,
 };
 use crate::{ViewFault, Workshop, draw_view, draw_view_on};
 use angle_tables::Tables;
 use art_rules::{byte_at, half_at, word_at};
 use level_audit::SoundScene;
-use level_maker::{make_tables, make_wad};
+use level_maker::make_wad;
 use lump_cache::LumpCache;
 use lump_rules::Name8;
 use outside::{MemoryShelf, Shelf};
@@ -129,10 +129,6 @@ fn made_assets(alloc: Global) -> Result<Assets, Fail>
     load_assets(alloc, made_shelf(alloc, make_wad(alloc, 1)?)?, "MAP01")
 }
 
-fn made_angles(alloc: Global) -> Result<Tables, Fail> {
-    Ok(Tables::from_bytes(alloc, &make_tables(alloc)?, MAX_SIZE)?)
-}
-
 // The bytes of the made WAD, with other art.
 fn turned_wad(alloc: Global, dir: &Directory) -> Result<Vec<u8>, Fail> {
     let mut made = make_wad(alloc, 1)?;
@@ -179,7 +175,9 @@ fn sum_drawn(
     eye: Eye,
 ) -> Result<u64, ViewFault>
     requires { CanDrawView assets.old.dir.lumps assets.old.scene.scene assets.old.cache }
-    ensures { CanDrawView assets.new.dir.lumps assets.new.scene.scene assets.new.cache }
+    ensures drawable { CanDrawView assets.new.dir.lumps assets.new.scene.scene assets.new.cache }
+    ensures dir { assets.new.dir ≡ assets.old.dir }
+    ensures scene { assets.new.scene ≡ assets.old.scene }
 {
     draw(assets, tables, shop, eye)?;
     Ok(sum_of(shop.frame()))
@@ -232,20 +230,25 @@ fn sum_on(
 
 // The sums of the first view over the made WAD, over its other art, and over the made WAD again.
 fn sums_over_both(alloc: Global) -> Result<[Result<u64, ViewFault>; 3], Fail> {
-    let assets = made_assets(alloc)?;
+    let mut assets = made_assets(alloc)?;
     let mut turned = turned_source(alloc, &assets)?;
-    let tables = made_angles(alloc)?;
+    sums_by_turns(alloc, &mut assets, &mut turned)
+}
+
+// The sums of the first view in a scene, over other art, and over its own again, in one workshop.
+fn sums_by_turns(
+    alloc: Global,
+    assets: &mut Assets,
+    turned: &mut Source,
+) -> Result<[Result<u64, ViewFault>; 3], Fail>
+    requires made { CanDrawView assets.old.dir.lumps assets.old.scene.scene assets.old.cache }
+    requires turned { CanDrawView assets.old.dir.lumps assets.old.scene.scene turned.old.cache }
+{
+    let tables = made_angles(alloc, MAX_SIZE)?;
     let mut shop = Workshop::new(alloc, LIMITS)?;
-    let Assets {
-        dir,
-        cache,
-        shelf,
-        scene,
-    } = assets;
-    let mut made = Source { cache, shelf };
-    let first = sum_over(&scene, &dir, &mut made, &tables, &mut shop);
-    let other = sum_over(&scene, &dir, &mut turned, &tables, &mut shop);
-    let again = sum_over(&scene, &dir, &mut made, &tables, &mut shop);
+    let first = sum_drawn(assets, &tables, &mut shop, FIRST);
+    let other = sum_over(&assets.scene, &assets.dir, turned, &tables, &mut shop);
+    let again = sum_drawn(assets, &tables, &mut shop, FIRST);
     Ok([first, other, again])
 }
 
@@ -253,14 +256,33 @@ fn sums_over_both(alloc: Global) -> Result<[Result<u64, ViewFault>; 3], Fail> {
 // the first is drawn on, and of the workshop's after that.
 fn sums_beside(alloc: Global) -> Result<[Result<u64, ViewFault>; 4], Fail> {
     let mut assets = made_assets(alloc)?;
-    let tables = made_angles(alloc)?;
+    sums_beside_in(alloc, &mut assets)
+}
+
+// The same in a scene.
+fn sums_beside_in(alloc: Global, assets: &mut Assets) -> Result<[Result<u64, ViewFault>; 4], Fail>
+    requires { CanDrawView assets.old.dir.lumps assets.old.scene.scene assets.old.cache }
+{
+    let tables = made_angles(alloc, MAX_SIZE)?;
     let mut shop = Workshop::new(alloc, LIMITS)?;
     let mut frame = Frame::new(alloc)?;
-    let first = sum_drawn(&mut assets, &tables, &mut shop, FIRST);
-    let second = sum_drawn(&mut assets, &tables, &mut shop, SECOND);
-    let beside = sum_on(&mut assets, &mut frame, &tables, &mut shop);
+    Ok(sums_with(assets, &tables, &mut shop, &mut frame))
+}
+
+// The same, with the workshop and the other frame.
+fn sums_with(
+    assets: &mut Assets,
+    tables: &Tables,
+    shop: &mut Workshop,
+    frame: &mut Frame,
+) -> [Result<u64, ViewFault>; 4]
+    requires { CanDrawView assets.old.dir.lumps assets.old.scene.scene assets.old.cache }
+{
+    let first = sum_drawn(assets, tables, shop, FIRST);
+    let second = sum_drawn(assets, tables, shop, SECOND);
+    let beside = sum_on(assets, frame, tables, shop);
     let kept = sum_of(shop.frame());
-    Ok([first, second, beside, Ok(kept)])
+    [first, second, beside, Ok(kept)]
 }
 
 #[test]

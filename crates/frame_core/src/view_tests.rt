@@ -1,10 +1,11 @@
 // Values from outside: pixels, counts, limits and the sums of whole frames, over the made WAD with
 // a level beside it. A sum is the FNV-1a of the frame's 64,000 bytes.
-ghost use Rattle.std.specs.Prelude.{◌≤◌, IfOk};
+ghost use Rattle.std.specs.Prelude.{◌≡◌, ◌≤◌, ◌<◌, ◌^◌, IfOk, length};
 ghost use Rattle.view_rules.specs.declared.TheConstants.{MIN_SIZE, MAX_SIZE};
 ghost use Rattle.plane_rules.specs.declared.TheConstants.{MOST_VISPLANES};
 ghost use Rattle.wall_rules.specs.declared.TheConstants.{MOST_OPENINGS};
 ghost use Rattle.frame_core.specs.Views.{CanDrawView};
+ghost use Rattle.frame_core.specs.declared.view_tests.TheConstants.{COMPOSITE_SLOTS};
 
 use crate::test_levels::{hall_wad, room_wad};
 use crate::{Counts, LimitKind, Limits, OverLimit, ViewFault, Workshop, count_view, draw_view};
@@ -66,22 +67,45 @@ pub(crate) fn load_assets(alloc: Global, shelf: MemoryShelf, map: &str) -> Resul
     ensures { IfOk result (λ a. CanDrawView a.dir.lumps a.scene.scene a.cache) }
 {
     let mut shelf = shelf;
-    let made = shelf.find("made.wad")?;
-    let level = shelf.find("level.wad")?;
-    let dir = Directory::load(alloc, &mut shelf, &[made, level])?;
+    let dir = load_directory(alloc, &mut shelf)?;
     let mut cache = LumpCache::new(alloc, &dir, ZONE, COMPOSITE_SLOTS)?;
-    let things = ThingTable::read(alloc, &make_things(alloc)?)?;
-    let map = Name8::from_text(map).ok_or("a name")?;
-    let scene = audit(alloc, &dir, &mut cache, &mut shelf, &things, &map, 3)?;
-    if scene.colormap().0 as u32 >= dir.count() {
-        return Err("a lump of colour maps".into());
-    }
+    let scene = load_scene(alloc, &dir, &mut cache, &mut shelf, map)?;
     Ok(Assets {
         dir,
         cache,
         shelf,
         scene,
     })
+}
+
+// The directory of the two files.
+fn load_directory(alloc: Global, shelf: &mut MemoryShelf) -> Result<Directory, Fail>
+    ensures { IfOk result (λ dir. length dir.lumps < 2 ^ 16) }
+{
+    let made = shelf.find("made.wad")?;
+    let level = shelf.find("level.wad")?;
+    Ok(Directory::load(alloc, shelf, &[made, level])?)
+}
+
+// The scene of a map, with the made things.
+fn load_scene(
+    alloc: Global,
+    dir: &Directory,
+    cache: &mut LumpCache,
+    shelf: &mut MemoryShelf,
+    map: &str,
+) -> Result<SoundScene, Fail>
+    requires slots { length dir.now.lumps ≤ cache.old.lumps }
+    requires composites { cache.old.composites ≡ COMPOSITE_SLOTS }
+    ensures { IfOk result (λ scene. CanDrawView dir.now.lumps scene.scene cache.new) }
+{
+    let things = ThingTable::read(alloc, &make_things(alloc)?)?;
+    let map = Name8::from_text(map).ok_or("a name")?;
+    let scene = audit(alloc, dir, cache, shelf, &things, &map, 3)?;
+    if scene.colormap().0 as u32 >= dir.count() {
+        return Err("a lump of colour maps".into());
+    }
+    Ok(scene)
 }
 
 // Draws a view in the workshop.
@@ -92,7 +116,9 @@ pub(crate) fn draw(
     eye: Eye,
 ) -> Result<(), ViewFault>
     requires { CanDrawView assets.old.dir.lumps assets.old.scene.scene assets.old.cache }
-    ensures { CanDrawView assets.new.dir.lumps assets.new.scene.scene assets.new.cache }
+    ensures drawable { CanDrawView assets.new.dir.lumps assets.new.scene.scene assets.new.cache }
+    ensures dir { assets.new.dir ≡ assets.old.dir }
+    ensures scene { assets.new.scene ≡ assets.old.scene }
 {
     draw_view(
         &assets.scene,
@@ -144,14 +170,59 @@ fn drawn(
     requires least { MIN_SIZE ≤ size }
     requires greatest { size ≤ MAX_SIZE }
 {
-    let shelf = shelf_of(alloc, make_wad(alloc, 1)?, level)?;
-    let mut assets = load_assets(alloc, shelf, "MAP02")?;
-    let tables = Tables::from_bytes(alloc, &make_tables(alloc)?, size)?;
+    let mut assets = level_assets(alloc, level)?;
+    drawn_of(alloc, &mut assets, limits, size, eye, row)
+}
+
+// What is seen of the view of an eye in a scene.
+fn drawn_of(
+    alloc: Global,
+    assets: &mut Assets,
+    limits: Limits,
+    size: u8,
+    eye: Eye,
+    row: usize,
+) -> Result<Result<Seen, ViewFault>, Fail>
+    requires drawable { CanDrawView assets.old.dir.lumps assets.old.scene.scene
+        assets.old.cache }
+    requires planes { limits.planes ≤ MOST_VISPLANES }
+    requires openings { limits.openings ≤ MOST_OPENINGS }
+    requires least { MIN_SIZE ≤ size }
+    requires greatest { size ≤ MAX_SIZE }
+{
+    let tables = made_angles(alloc, size)?;
     let mut shop = Workshop::new(alloc, limits)?;
-    match draw(&mut assets, &tables, &mut shop, eye) {
-        Ok(()) => Ok(Ok((pixel(shop.frame(), row), sum_of(shop.frame())))),
-        Err(fault) => Ok(Err(fault)),
-    }
+    Ok(seen(assets, &tables, &mut shop, eye, row))
+}
+
+// What is seen of the view of an eye in a scene, drawn in the workshop.
+fn seen(
+    assets: &mut Assets,
+    tables: &Tables,
+    shop: &mut Workshop,
+    eye: Eye,
+    row: usize,
+) -> Result<Seen, ViewFault>
+    requires { CanDrawView assets.old.dir.lumps assets.old.scene.scene assets.old.cache }
+{
+    draw(assets, tables, shop, eye)?;
+    Ok((pixel(shop.frame(), row), sum_of(shop.frame())))
+}
+
+// The scene of the level beside the made WAD.
+fn level_assets(alloc: Global, level: Vec<u8>) -> Result<Assets, Fail>
+    ensures { IfOk result (λ a. CanDrawView a.dir.lumps a.scene.scene a.cache) }
+{
+    let shelf = shelf_of(alloc, make_wad(alloc, 1)?, level)?;
+    load_assets(alloc, shelf, "MAP02")
+}
+
+// The made tables of angles for a view of that size.
+pub(crate) fn made_angles(alloc: Global, size: u8) -> Result<Tables, Fail>
+    requires least { MIN_SIZE ≤ size }
+    requires greatest { size ≤ MAX_SIZE }
+{
+    Ok(Tables::from_bytes(alloc, &make_tables(alloc)?, size)?)
 }
 
 // What the view of an eye counts in the level beside the made WAD.
@@ -164,11 +235,25 @@ fn counted(
     requires planes { limits.planes ≤ MOST_VISPLANES }
     requires openings { limits.openings ≤ MOST_OPENINGS }
 {
-    let shelf = shelf_of(alloc, make_wad(alloc, 1)?, level)?;
-    let assets = load_assets(alloc, shelf, "MAP02")?;
-    let tables = Tables::from_bytes(alloc, &make_tables(alloc)?, MAX_SIZE)?;
+    let assets = level_assets(alloc, level)?;
+    counted_of(alloc, &assets, limits, eye)
+}
+
+// What the view of an eye counts in a scene.
+fn counted_of(
+    alloc: Global,
+    assets: &Assets,
+    limits: Limits,
+    eye: Eye,
+) -> Result<Result<Counts, OverLimit>, Fail>
+    requires drawable { CanDrawView assets.now.dir.lumps assets.now.scene.scene
+        assets.now.cache }
+    requires planes { limits.planes ≤ MOST_VISPLANES }
+    requires openings { limits.openings ≤ MOST_OPENINGS }
+{
+    let tables = made_angles(alloc, MAX_SIZE)?;
     let mut shop = Workshop::new(alloc, limits)?;
-    Ok(count(&assets, &tables, &mut shop, eye))
+    Ok(count(assets, &tables, &mut shop, eye))
 }
 
 // What a view counts, in the workshop.
