@@ -106,9 +106,9 @@ list_named : (lumps : List Lump) (lump : ℕ) → is_list lumps lump ≡ true �
 unfolding is_list
 list_named lumps lump on = elim (or_cases (is_last lumps PNAMES lump || is_last lumps TEXTURE1 lump) (is_last lumps TEXTURE2 lump) on) [
   | inl more ↦ elim (or_cases (is_last lumps PNAMES lump) (is_last lumps TEXTURE1 lump) more) [
-      | inl names ↦ inl (is_last_named lumps PNAMES lump names)
-      | inr first ↦ inr (inl (is_last_named lumps TEXTURE1 lump first))
-    ]
+    | inl names ↦ inl (is_last_named lumps PNAMES lump names)
+    | inr first ↦ inr (inl (is_last_named lumps TEXTURE1 lump first))
+  ]
   | inr second ↦ inr (inr (is_last_named lumps TEXTURE2 lump second))
 ]
 
@@ -118,9 +118,9 @@ module _ (lumps : List Lump) (name : List ℕ) (base : LevelBase) (parts : IsBas
   unfolding is_base_lump
   base_asked lump on = elim (or_cases ((base.playpal == lump) || is_map_lump base.label lump) (is_list lumps lump) on) [
     | inl more ↦ elim (or_cases (base.playpal == lump) (is_map_lump base.label lump) more) [
-        | inl palette ↦ inl (parts.playpal ∙ ap (λ (k : ℕ). Ok k) (eqb-true base.playpal lump palette))
-        | inr map ↦ inr (inl (record { label = base.label; is = parts.label; among = map }))
-      ]
+      | inl palette ↦ inl (parts.playpal ∙ ap (λ (k : ℕ). Ok k) (eqb-true base.playpal lump palette))
+      | inr map ↦ inr (inl (record { label = base.label; is = parts.label; among = map }))
+    ]
     | inr list ↦ inr (inr (list_named lumps lump list))
   ]
 

@@ -9,8 +9,8 @@
 //! large a zone has to be for a level), Views (the frames and the counts of a path, and the first
 //! view over a limit), Exercises (the made files, rendered), Made (the bytes of a made file), Steps
 //! (where a run stops), Verdict (what a run comes to, and its output), Ends (what a status says),
-//! Fulls (when a zone is full), Leasts (the smallest zone in which a run ends), Takes (how many bytes
-//! are read), Lines (what is noted). Proved: what `run` writes, each status and its
+//! Fulls (when a zone is full), Leasts (the smallest zone in which a run ends), Takes (how many
+//! bytes are read), Lines (what is noted). Proved: what `run` writes, each status and its
 //! cause, and the line for each status. Tested only: that memory is found. The original: none;
 //! `D_DoomMain`, d_main.c, stands in its place there.
 #![tactic(auto)]
