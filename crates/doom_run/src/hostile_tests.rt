@@ -4,16 +4,12 @@ ghost use Rattle.outside.specs.MemoryShelf.{memory_view};
 ghost use Rattle.std.specs.Prelude.{refl};
 
 use crate::Status;
-use crate::tests::{Ended, run_shelf};
-use crate::view_tests::{level_files, path_of, shelf_of, sum_of};
+use crate::tests::{AUDIT, Ended, run_shelf};
+use crate::view_tests::{RENDER, level_files, path_of, shelf_of, sum_of};
 use outside::{Failed, FileNo, MemoryShelf, PutFault, Shelf};
 use std::alloc::Global;
 use std::process::Abort;
 use std::test::Fail;
-
-const AUDIT: &str = "audit MAP01 made.wad --tables t --things h --path p";
-
-const RENDER: &str = "render MAP01 made.wad --tables t --things h --path p";
 
 const RENDER_PPMS: &str = "render MAP01 made.wad --tables t --things h --path p --format ppm";
 
@@ -27,12 +23,15 @@ const FRAMES: u64 = 0x8708_5517_a532_4607;
 
 const PPMS: u64 = 0x81ad_38e1_ba55_f5c4;
 
-// No zone below the least is enough for a run that is done, and each from the second on is.
+// In a zone below the least no run is done, in one of `enough` or more each is.
 const LEAST: u32 = 17_016;
 
 const ENOUGH: u32 = 30_064;
 
-// More calls and puts than a run in a roomy zone makes.
+// A run in a roomy zone finds four files and reads more than twenty lumps. It makes fewer calls, or
+// puts, than the second number.
+const LEAST_CALLS: u64 = 24;
+
 const MOST_CALLS: u64 = 200;
 
 const MOST_BYTES_READ: u64 = 108_391;
@@ -137,24 +136,25 @@ fn a_call_that_fails_leaves_a_part_of_the_frames(rt: HostRuntime) -> Result<(), 
     let whole = whole.out.bytes();
     let call = Failing::Call;
     let last = first_not_made(&rt, alloc, RENDER_IN_ROOMY, call, MOST_CALLS, whole)?;
-    assert!(rt; last.is_some());
+    assert!(rt; last.ok_or("a run that is done")? > LEAST_CALLS);
     first_not_made(&rt, alloc, RENDER_IN_ENOUGH, call, 64, whole)?;
     Ok(())
 }
 
+// Each of three frames goes out in one put, as a PPM in six.
 #[test]
 fn a_put_that_fails_leaves_a_part_of_the_output(rt: HostRuntime) -> Result<(), Fail> {
     let alloc = rt.alloc();
-    for (words, passed) in [
-        (RENDER, 0),
-        (RENDER, 1000),
-        (RENDER_PPMS, 0),
-        (RENDER_PPMS, 1000),
+    for (words, passed, puts) in [
+        (RENDER, 0, 3),
+        (RENDER, 1000, 3),
+        (RENDER_PPMS, 0, 18),
+        (RENDER_PPMS, 1000, 18),
     ] {
         let whole = run_made(alloc, words)?;
         let put = Failing::Put { passed };
         let last = first_not_made(&rt, alloc, words, put, MOST_CALLS, whole.out.bytes())?;
-        assert!(rt; last.is_some(), "{words}");
+        assert_eq!(rt; last, Some(puts + 1), "{words}");
     }
     Ok(())
 }

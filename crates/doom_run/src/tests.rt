@@ -16,7 +16,7 @@ const LINE_ROOM: usize = 100;
 const SHELF_CALLS: u64 = 6;
 
 // An audit of the map of the made files, one of a map that they lack, and some in other zones.
-const AUDIT: &str = "audit MAP01 made.wad --tables t --things h --path p";
+pub(crate) const AUDIT: &str = "audit MAP01 made.wad --tables t --things h --path p";
 
 const AUDIT_OF_MAP02: &str = "audit MAP02 made.wad --tables t --things h --path p";
 

@@ -7,7 +7,9 @@ use outside::{MemoryFile, MemoryShelf, PutFault};
 use std::alloc::{AllocError, Global};
 use std::test::Fail;
 
-pub(crate) const NOTHING: u64 = 0xcbf2_9ce4_8422_2325;
+pub(crate) const RENDER: &str = "render MAP01 made.wad --tables t --things h --path p";
+
+const NOTHING: u64 = 0xcbf2_9ce4_8422_2325;
 
 const FRAMES_OF_10: u64 = 0x8255_4244_4dc5_4d3b;
 
@@ -120,13 +122,7 @@ fn frames_and_counts_of_made_levels(rt: HostRuntime) -> Result<(), Fail> {
         widest: 48020,
     };
     for (n, words, status, length, sum) in [
-        (
-            10,
-            "render MAP01 made.wad --tables t --things h --path p",
-            Status::Done,
-            1_920_000,
-            FRAMES_OF_10,
-        ),
+        (10, RENDER, Status::Done, 1_920_000, FRAMES_OF_10),
         (
             10,
             "render MAP01 made.wad --tables t --things h --path p --zone 108512",
@@ -185,7 +181,6 @@ fn frames_and_counts_of_made_levels(rt: HostRuntime) -> Result<(), Fail> {
 #[test]
 fn a_path_of_no_view_and_one_on_a_vertex(rt: HostRuntime) -> Result<(), Fail> {
     let alloc = rt.alloc();
-    let words = "render MAP01 made.wad --tables t --things h --path p";
     for (path, length, sum) in [
         ("x,y,z,angle\n", 0, NOTHING),
         (
@@ -195,7 +190,7 @@ fn a_path_of_no_view_and_one_on_a_vertex(rt: HostRuntime) -> Result<(), Fail> {
         ),
     ] {
         let path = path.as_bytes().to_vec(alloc)?;
-        let seen = run_made(alloc, 1, path, words, Vec::new(alloc), Vec::new(alloc))?;
+        let seen = run_made(alloc, 1, path, RENDER, Vec::new(alloc), Vec::new(alloc))?;
         let expected = Told {
             status: Status::Done,
             length,
@@ -209,13 +204,12 @@ fn a_path_of_no_view_and_one_on_a_vertex(rt: HostRuntime) -> Result<(), Fail> {
 #[test]
 fn a_call_and_a_put_that_fail_end_a_render(rt: HostRuntime) -> Result<(), Fail> {
     let alloc = rt.alloc();
-    let words = "render MAP01 made.wad --tables t --things h --path p";
     let failing = vec![in alloc; 3u64]?;
     let seen = run_made(
         alloc,
         1,
         path_of(alloc, 1)?,
-        words,
+        RENDER,
         failing,
         Vec::new(alloc),
     )?;
@@ -227,7 +221,7 @@ fn a_call_and_a_put_that_fail_end_a_render(rt: HostRuntime) -> Result<(), Fail> 
     };
     let faults = vec![in alloc; fault]?;
     let path = path_of(alloc, 1)?;
-    let seen = run_made(alloc, 1, path, words, Vec::new(alloc), faults)?;
+    let seen = run_made(alloc, 1, path, RENDER, Vec::new(alloc), faults)?;
     assert_eq!(rt; seen.status, Status::WriteFault);
     assert_eq!(rt; seen.length, 64100);
     Ok(())

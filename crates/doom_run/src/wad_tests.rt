@@ -1,16 +1,12 @@
 // Values from outside: made levels whose WAD is changed, and a second WAD beside one. A sum is the
 // FNV-1a of all that was written.
-use crate::tests::{Ended, run_shelf};
-use crate::view_tests::{NOTHING, file_of, path_of, shelf_of, sum_of, wad_of};
+use crate::tests::{AUDIT, Ended, run_shelf};
+use crate::view_tests::{RENDER, file_of, path_of, shelf_of, sum_of, wad_of};
 use outside::MemoryFile;
 use std::alloc::{AllocError, Global};
 use std::test::Fail;
 
-const AUDIT: &str = "audit MAP01 made.wad --tables t --things h --path p";
-
 const LIMITS: &str = "limits MAP01 made.wad --tables t --things h --path p";
-
-const RENDER: &str = "render MAP01 made.wad --tables t --things h --path p";
 
 const RENDER_IN_32112: &str = "render MAP01 made.wad --tables t --things h --path p --zone 32112";
 
