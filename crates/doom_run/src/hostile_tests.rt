@@ -28,8 +28,8 @@ const LEAST: u32 = 17_016;
 
 const ENOUGH: u32 = 30_064;
 
-// A run in a roomy zone finds four files, reads twenty lumps and more, and makes fewer calls, or puts,
-// than the second number.
+// A run in a roomy zone finds four files and reads more than twenty lumps. It makes fewer calls, or
+// puts, than the second number.
 const LEAST_CALLS: u64 = 24;
 
 const MOST_CALLS: u64 = 200;
