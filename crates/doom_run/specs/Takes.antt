@@ -1,5 +1,5 @@
 -- How many bytes of files a job over a level reads at most, where its zone has room for all that the level
--- needs: no lump is read twice.
+-- needs: each needed lump counts once.
 use Rattle.std.specs.Prelude.{◌≡◌, ◌≤◌, ◌+◌, ℕ, List, MatchResult, Result, Ok, ⊤}
 use Rattle.outside.specs.Shelf.{File}
 use Rattle.outside.specs.declared.fault.Fault.{Fault}
@@ -27,8 +27,8 @@ CommandTakes (level_job task level wads) files before after = TakesOnce level wa
 CommandTakes (make job) files before after = ⊤
 CommandTakes (exercise n zone format) files before after = ⊤
 
--- Loading in a roomy zone: a cache that stands in order, or a fault, which is no full zone; and no lump was read
--- twice, unless a read failed.
+-- Loading in a roomy zone: a cache that stands in order, or a fault, which is no full zone; and, unless a read
+-- failed, no more was read than the files and each needed lump once.
 abbrev pub LoadsOnce : {A : Type 0} → (A → Heap) → LevelJobValue → List (List ℕ) → List File → LoadedValue → ℕ → ℕ → Result A (Fault Refusal) → Type 0
 LoadsOnce cache level wads files expected before after result =
     MatchResult result (λ loaded. IsLoadedInOrder level wads files expected before after (cache loaded))

@@ -110,7 +110,8 @@ pub fn run<S: Shelf, K: Sink, N: Sink>(
         IfSome (command_of (texts words.now)) (λ command.
         command_least command files ≤ command_zone command) }
 
-    // In a zone with room for all that a level needs, no lump of it is read twice.
+    // In a zone with room for all that a level needs, no more is read than the files and each lump
+    // of it once.
     ensures taken { (files : List File) →
         WhereAsked (texts words.now) (Holds (S.view shelf.old) files) →
         (FaultsRose (S.view shelf.old).faults (S.view shelf.new).faults → ⊥) →

@@ -11,8 +11,6 @@ pub(crate) const RENDER: &str = "render MAP01 made.wad --tables t --things h --p
 
 const NOTHING: u64 = 0xcbf2_9ce4_8422_2325;
 
-const FRAMES_OF_10: u64 = 0x8255_4244_4dc5_4d3b;
-
 // How a run ended, how many bytes it wrote, and their sum.
 #[derive(Clone, Copy, Debug, PartialEq, Eq)]
 struct Told {
@@ -20,6 +18,45 @@ struct Told {
     length: usize,
     sum: u64,
 }
+
+const FRAMES_OF_10: Told = Told {
+    status: Status::Done,
+    length: 1_920_000,
+    sum: 0x8255_4244_4dc5_4d3b,
+};
+
+const PPMS_OF_10: Told = Told {
+    status: Status::Done,
+    length: 5_760_450,
+    sum: 0xa9ee_ff00_f210_bf55,
+};
+
+const COUNTS_OF_10: Told = Told {
+    status: Status::Done,
+    length: 1525,
+    sum: 0x6610_24dd_a2c2_711c,
+};
+
+const SMALL_FRAMES: Told = Told {
+    status: Status::Done,
+    length: 192_000,
+    sum: 0xbadb_a51e_14df_16ed,
+};
+
+const FULL: Told = Told {
+    status: Status::ZoneFull {
+        wanted: 48024,
+        widest: 48020,
+    },
+    length: 0,
+    sum: NOTHING,
+};
+
+const NO_COMMAND: Told = Told {
+    status: Status::Usage,
+    length: 0,
+    sum: NOTHING,
+};
 
 fn tell(ended: &Ended) -> Told {
     Told {
@@ -117,62 +154,20 @@ fn run_made(
 #[test]
 fn frames_and_counts_of_made_levels(rt: HostRuntime) -> Result<(), Fail> {
     let alloc = rt.alloc();
-    let full = Status::ZoneFull {
-        wanted: 48024,
-        widest: 48020,
-    };
-    for (n, words, status, length, sum) in [
-        (10, RENDER, Status::Done, 1_920_000, FRAMES_OF_10),
-        (
-            10,
-            "render MAP01 made.wad --tables t --things h --path p --zone 108512",
-            Status::Done,
-            1_920_000,
-            FRAMES_OF_10,
-        ),
-        (
-            10,
-            "render MAP01 made.wad --tables t --things h --path p --format ppm",
-            Status::Done,
-            5_760_450,
-            0xa9ee_ff00_f210_bf55,
-        ),
-        (
-            10,
-            "render MAP01 made.wad --tables t --things h --path p --zone 56236",
-            full,
-            0,
-            NOTHING,
-        ),
-        (
-            10,
-            "limits MAP01 made.wad --tables t --things h --path p",
-            Status::Done,
-            1525,
-            0x6610_24dd_a2c2_711c,
-        ),
-        (
-            1,
-            "render MAP01 made.wad --tables t --things h --path p --size 5",
-            Status::Done,
-            192_000,
-            0xbadb_a51e_14df_16ed,
-        ),
-        (
-            1,
-            "render MAP01 made.wad --tables t --things h --path p --weapon h",
-            Status::Usage,
-            0,
-            NOTHING,
-        ),
+    for (n, job, options, expected) in [
+        (10, "render", "", FRAMES_OF_10),
+        (10, "render", " --zone 108512", FRAMES_OF_10),
+        (10, "render", " --format ppm", PPMS_OF_10),
+        (10, "render", " --zone 56236", FULL),
+        (10, "limits", "", COUNTS_OF_10),
+        (1, "render", " --size 5", SMALL_FRAMES),
+        (1, "render", " --weapon h", NO_COMMAND),
     ] {
         let path = path_of(alloc, n)?;
-        let seen = run_made(alloc, n, path, words, Vec::new(alloc), Vec::new(alloc))?;
-        let expected = Told {
-            status,
-            length,
-            sum,
-        };
+        let words = format!(in alloc;
+            "{job} MAP01 made.wad --tables t --things h --path p{options}"
+        )?;
+        let seen = run_made(alloc, n, path, &words, Vec::new(alloc), Vec::new(alloc))?;
         assert_eq!(rt; seen, expected);
     }
     Ok(())
