@@ -1,19 +1,16 @@
--- Rows: the room's east wall in the frame.
-use Rattle.std.specs.Prelude.{◌≡◌, ℕ, pos, List, [], ◌∷◌, None, Some, true, false, refl}
+-- What rows are evaluated by, and their made values; the rows stand in `whole_tests`.
+use Rattle.std.specs.Prelude.{ℕ, pos, List, [], ◌∷◌, None}
 use Rattle.view_rules.specs.View.{ViewValue}
 use Rattle.view_rules.specs.Shape.{shape_of_size}
-use Rattle.view_rules.specs.Rows.{view_unfolded}
 use Rattle.view_rules.specs.Made.{row_view}
 use Rattle.walk_rules.specs.Rows.{walk_unfolded, room, room_seg, room_surface}
 use Rattle.wall_rules.specs.Rows.{walls_unfolded}
 use Rattle.wall_rules.specs.Walls.{Wall, wall_edges}
 use Rattle.wall_rules.specs.declared.Edges.{Edges}
-use Rattle.wall_rules.specs.Clips.{open_clip, ceiling_rows, middle_rows, floor_rows}
 use Rattle.wall_rules.specs.Strips.{wall_column}
-use Rattle.pixel_rules.specs.Dots.{Dot, colour_at, last_dot}
+use Rattle.pixel_rules.specs.Dots.{Dot}
 use Rattle.pixel_rules.specs.Rows.{pixels_unfolded, row_art, patch_byte}
 use Rattle.picture_rules.specs.Scene.{Scene, no_side, side_at, textures_at, wall_texture, leaf_sector, leaf_surface, facts_of, fragment_facts}
-use Rattle.picture_rules.specs.Picture.{is_in_window}
 use Rattle.picture_rules.specs.Walls.{fragment_wall, walls_of, walls_from, walls_dots}
 
 -- for rows by evaluation: who unfolds it unfolds the rules of walls and those below
@@ -46,46 +43,6 @@ sized_view size = record row_view { shape = shape_of_size size }
 unfoldable pub lit_view : ℕ → ℕ → ViewValue
 lit_view extralight colormap = record row_view { eye = record { x = pos 0; y = pos 0; z = pos 2686976; angle = 0; extralight = extralight; colormap = colormap } }
 
-pub top_pixel_row : colour_at (east_column row_view) 160 46 ≡ 128
-unfolding picture_unfolded row_scene east_wall east_column
-top_pixel_row = refl
-
-pub bottom_pixel_row : colour_at (east_column row_view) 160 125 ≡ 45
-unfolding picture_unfolded row_scene east_wall east_column
-bottom_pixel_row = refl
-
--- in a view of size 10 the wall has rows 30 to 109
-pub smaller_row : colour_at (east_column (sized_view 10)) 160 30 ≡ 128
-unfolding picture_unfolded row_scene east_wall east_column sized_view
-smaller_row = refl
-
-pub smaller_bottom_row : colour_at (east_column (sized_view 10)) 160 109 ≡ 45
-unfolding picture_unfolded row_scene east_wall east_column sized_view
-smaller_bottom_row = refl
-
--- with one more of extra light the colormap is 8, with a fixed one it is 5
-pub extralight_row : colour_at (east_column (lit_view 1 0)) 160 46 ≡ 153
-unfolding picture_unfolded row_scene east_wall east_column lit_view
-extralight_row = refl
-
-pub fixed_map_row : colour_at (east_column (lit_view 0 5)) 160 46 ≡ 172
-unfolding picture_unfolded row_scene east_wall east_column lit_view
-fixed_map_row = refl
-
 -- there the ceiling has rows 0 to 29, the wall 30 to 109, the floor 110 to 167, and the frame's rows from 168 on are outside
 unfoldable pub smaller_edges : Edges
 smaller_edges = wall_edges (shape_of_size 10) (east_wall (sized_view 10)) 160
-
-pub smaller_rows_row : ceiling_rows (open_clip 168) smaller_edges ∷ middle_rows (open_clip 168) smaller_edges ∷ floor_rows (open_clip 168) smaller_edges ∷ []
-    ≡ record { first = pos 0; last = pos 29 } ∷ record { first = pos 30; last = pos 109 } ∷ record { first = pos 110; last = pos 167 } ∷ []
-unfolding picture_unfolded row_scene east_wall sized_view smaller_edges
-smaller_rows_row = refl
-
-pub smaller_window_row : is_in_window (shape_of_size 10) 160 167 ∷ is_in_window (shape_of_size 10) 160 168 ∷ [] ≡ true ∷ false ∷ []
-unfolding view_unfolded is_in_window
-smaller_window_row = refl
-
--- the dot of the wall's upper pixel names fragment 0 and lump 4
-pub painter_row : last_dot 160 46 (east_column row_view) ≡ Some (record { x = 160; y = 46; colour = 128; painter = record { kind = 1; number = 0; source_kind = 1; source = 4 } })
-unfolding picture_unfolded row_scene east_wall east_column
-painter_row = refl

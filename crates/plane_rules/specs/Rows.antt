@@ -1,5 +1,5 @@
--- Rows of the planes of a view.
-use Rattle.std.specs.Prelude.{◌≡◌, ℕ, pos, true, slice_index_or, [], ◌∷◌, map, length, Option, Some, None, refl}
+-- What rows are evaluated by, and their made values; the rows stand in `whole_tests`.
+use Rattle.std.specs.Prelude.{ℕ, pos, true, slice_index_or, [], ◌∷◌, Option, Some, None}
 use Rattle.word_rules.specs.Words.{words_unfolded}
 use Rattle.level_rules.specs.declared.Surface.{Surface}
 use Rattle.plane_rules.specs.Keys.{same_flat, same_key, is_sky_key, key_of, floor_key, ceiling_key}
@@ -31,22 +31,3 @@ sky_wall = record { first = 3; last = 4; ceiling_mark = true; floor_mark = true;
 
 unfoldable pub sky_wall_event : PlaneEvent
 sky_wall_event = Draws sky_wall
-
--- floor and ceiling have one plane
-pub one_sky_row : length (planes_of (sky_leaf ∷ sky_wall_event ∷ [])) ≡ 1
-unfolding built_unfolded sky_leaf sky_room sky_wall rows_at_four sky_wall_event
-one_sky_row = refl
-
--- where both have rows the floor's run stays
-pub floor_stays_row : map (λ p. column p 4) (planes_of (sky_leaf ∷ sky_wall_event ∷ [])) ≡ Some (20, 29) ∷ []
-unfolding built_unfolded sky_leaf sky_room sky_wall rows_at_four sky_wall_event
-floor_stays_row = refl
-
-pub ceiling_row : map (λ p. column p 3) (planes_of (sky_leaf ∷ sky_wall_event ∷ [])) ≡ Some (0, 9) ∷ []
-unfolding built_unfolded sky_leaf sky_room sky_wall rows_at_four sky_wall_event
-ceiling_row = refl
-
--- a second fragment over a marked column: the ceiling's check makes a new plane, and so does the floor's
-pub new_planes_row : length (planes_of (sky_leaf ∷ sky_wall_event ∷ sky_wall_event ∷ [])) ≡ 3
-unfolding built_unfolded sky_leaf sky_room sky_wall rows_at_four sky_wall_event
-new_planes_row = refl

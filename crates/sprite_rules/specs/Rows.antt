@@ -1,11 +1,8 @@
--- Rows of sprites and weapons.
-use Rattle.std.specs.Prelude.{◌≡◌, ℕ, ℤ, pos, true, false, [], ◌∷◌, map, length, None, refl}
-use Rattle.word_rules.specs.Words.{minus_one}
+-- What rows are evaluated by, and their made values; the rows stand in `whole_tests`.
+use Rattle.std.specs.Prelude.{ℕ, ℤ, pos, true, false, map, None}
 use Rattle.word_rules.specs.Least.{greatest}
 use Rattle.word_rules.specs.Steps.{step_at}
-use Rattle.view_rules.specs.Made.{row_view}
 use Rattle.view_rules.specs.Rows.{view_unfolded}
-use Rattle.pixel_rules.specs.Dots.{colour_at}
 use Rattle.pixel_rules.specs.Rows.{pixels_unfolded, row_art, patch_byte, picture_column_posts}
 use Rattle.sprite_rules.specs.declared.Placed.{Placed}
 use Rattle.sprite_rules.specs.declared.Shape5.{Shape5}
@@ -35,30 +32,6 @@ weapon_at sx = record {
   light = pos 160;
 }
 
-pub weapon_columns_row : weapon_first row_view (weapon_at (pos 10485760)) ≡ pos 144
-unfolding sprites_unfolded weapon_at
-weapon_columns_row = refl
-
-pub weapon_last_row : weapon_last row_view (weapon_at (pos 10485760)) ≡ pos 175
-unfolding sprites_unfolded weapon_at
-weapon_last_row = refl
-
-pub weapon_corner_row : colour_at (weapon_column row_view row_art (weapon_at (pos 10485760)) (pos 144) 144) 144 36 ≡ 120
-unfolding sprites_unfolded weapon_at
-weapon_corner_row = refl
-
-pub weapon_far_corner_row : colour_at (weapon_column row_view row_art (weapon_at (pos 10485760)) (pos 144) 175) 175 99 ≡ 16
-unfolding sprites_unfolded weapon_at
-weapon_far_corner_row = refl
-
-pub weapon_rows_row : length (weapon_column row_view row_art (weapon_at (pos 10485760)) (pos 144) 144) ≡ 64
-unfolding sprites_unfolded weapon_at
-weapon_rows_row = refl
-
-pub weapon_left_row : colour_at (weapon_dots row_view row_art (weapon_at (pos 0))) 0 36 ≡ 168
-unfolding sprites_unfolded weapon_at
-weapon_left_row = refl
-
 -- a thing 256 map units ahead in the room: scale 40960, in the middle of the view
 unfoldable pub row_thing : Placed
 row_thing = record { x = pos 16777216; y = pos 0; z = pos 0; angle = 0; bright = true; light = 10 }
@@ -66,17 +39,8 @@ row_thing = record { x = pos 16777216; y = pos 0; z = pos 0; angle = 0; bright =
 unfoldable pub row_shape : Shape5
 row_shape = record { lump = 9; flip = false; width = 32; left = pos 16; top = pos 64 }
 
-pub rotation_row : rotation row_view row_thing ≡ 4
-unfolding sprites_unfolded row_thing
-rotation_row = refl
-
 unfoldable pub entry_scaled : ℕ → ℤ → SpriteEntry
 entry_scaled n scale = record { number = n; first = pos 0; last = pos 9; a1 = pos 0; x = pos 0; y = pos 0; gz = pos 0; gzt = pos 0; mid = pos 0; scale = scale; iscale = pos 65536; flip = false; width = 32; lump = 9; map = 0 }
-
--- the least scale comes first, and of equal ones the one made first
-pub order_row : map (λ e. e.number) (draw_order (entry_scaled 0 (pos 7) ∷ entry_scaled 1 (pos 5) ∷ entry_scaled 2 (pos 7) ∷ entry_scaled 3 (pos 5) ∷ [])) ≡ 1 ∷ 3 ∷ 0 ∷ 2 ∷ []
-unfolding sprites_unfolded entry_scaled
-order_row = refl
 
 -- a fragment that stands in front of each sprite in columns 0 to 9, with bottom height 100 and top height 200, cut at row 50 and row 20
 unfoldable pub front_seg : Drawseg
@@ -102,30 +66,3 @@ front_seg = record {
 
 unfoldable pub entry_between : ℤ → ℤ → SpriteEntry
 entry_between gz gzt = record { number = 0; first = pos 0; last = pos 9; a1 = pos 0; x = pos 0; y = pos 0; gz = gz; gzt = gzt; mid = pos 0; scale = pos 5; iscale = pos 65536; flip = false; width = 32; lump = 9; map = 0 }
-
--- a sprite whose feet are at the bottom height is not cut there, and one just below it is
-pub feet_at_height_row : sprite_bottom 200 (front_seg ∷ []) (entry_between (pos 100) (pos 300)) 4 ≡ pos 200
-unfolding sprites_unfolded front_seg entry_between
-feet_at_height_row = refl
-
-pub feet_below_height_row : sprite_bottom 200 (front_seg ∷ []) (entry_between (pos 99) (pos 300)) 4 ≡ pos 50
-unfolding sprites_unfolded front_seg entry_between
-feet_below_height_row = refl
-
--- one whose top is at the top height is not cut there, and one just above it is
-pub head_at_height_row : sprite_top (front_seg ∷ []) (entry_between (pos 0) (pos 200)) 4 ≡ minus_one
-unfolding sprites_unfolded front_seg entry_between
-head_at_height_row = refl
-
-pub head_above_height_row : sprite_top (front_seg ∷ []) (entry_between (pos 0) (pos 201)) 4 ≡ pos 20
-unfolding sprites_unfolded front_seg entry_between
-head_above_height_row = refl
-
--- a fragment of the sprite's own scale is not behind it
-pub same_scale_row : is_behind front_seg (entry_scaled 0 (pos 9)) ≡ false
-unfolding sprites_unfolded front_seg entry_scaled
-same_scale_row = refl
-
-pub smaller_fragment_row : is_behind front_seg (entry_scaled 0 (pos 10)) ≡ true
-unfolding sprites_unfolded front_seg entry_scaled
-smaller_fragment_row = refl

@@ -1,6 +1,5 @@
--- Rows: the walk of a room of one leaf, whose walls are 256 map units away.
-use Rattle.std.specs.Prelude.{◌≡◌, ℕ, ◌*◌, ℤ, pos, negsuc, [], ◌∷◌, None, refl}
-use Rattle.view_rules.specs.Made.{row_view}
+-- What rows are evaluated by, and their made values; the rows stand in `whole_tests`.
+use Rattle.std.specs.Prelude.{ℕ, ◌*◌, ℤ, pos, negsuc, [], ◌∷◌, None}
 use Rattle.view_rules.specs.Rows.{view_unfolded}
 use Rattle.level_rules.specs.declared.Seg.{Seg}
 use Rattle.level_rules.specs.declared.Surface.{Surface}
@@ -11,7 +10,6 @@ use Rattle.walk_rules.specs.Boxes.{partition_of, eye_side, box_on, near_child, f
 use Rattle.walk_rules.specs.Segs.{seg_range, back_of, middle_of, is_closed, is_solid, heights_differ, faces_differ, is_pass}
 use Rattle.walk_rules.specs.Walk.{walk_start, shows, covers, at_columns, at_range, at_seg_of, at_seg, at_segs, enters, at_leaf_of, at_leaf, at_far, at_node, walk_child, view_events}
 use Rattle.walk_rules.specs.Drawsegs.{last_leaf, leaf_fragments, drawsegs, leaves_entered}
-use Rattle.walk_rules.specs.Events.Event.{LeafEvent, FragmentEvent}
 
 -- for rows by evaluation: who unfolds it unfolds the rules of the walk and those below
 unfoldable pub walk_unfolded : ℕ
@@ -43,8 +41,3 @@ room = record {
   surfaces = room_surface ∷ [];
   middles = 1 ∷ [];
 }
-
--- the east seg has columns 1 to 319, the north seg the column that is left
-pub events_row : view_events row_view room ≡ LeafEvent 0 ∷ FragmentEvent 0 1 319 ∷ FragmentEvent 3 0 0 ∷ []
-unfolding walk_unfolded room_seg room_surface room
-events_row = refl

@@ -1,8 +1,7 @@
--- Rows: the wall_room whose east wall is 256 map units away.
-use Rattle.std.specs.Prelude.{◌≡◌, ℕ, ◌*◌, pos, negsuc, ◌-◌, None, refl}
+-- What rows are evaluated by, and their made values; the rows stand in `whole_tests`.
+use Rattle.std.specs.Prelude.{ℕ, ◌*◌, pos, negsuc, ◌-◌, None}
 use Rattle.word_rules.specs.Steps.{step_at}
 use Rattle.view_rules.specs.Made.{row_view}
-use Rattle.view_rules.specs.Lights.{scale_map}
 use Rattle.view_rules.specs.Rows.{view_unfolded}
 use Rattle.level_rules.specs.declared.Seg.{Seg}
 use Rattle.level_rules.specs.declared.Surface.{Surface}
@@ -40,49 +39,9 @@ unfoldable pub walls_unfolded : ℕ
 unfolding view_unfolded step_at seg_normal vertex_angle vertex_dist normal_turn offset_angle seg_distance scale_of_column scale_step both_sky world_high world_low world_top world_bottom shuts_bottom shuts_top bottom_by_step top_by_step with_masked bottom_silhouette top_silhouette bottom_is_constant top_is_constant is_closed floors_differ ceilings_differ floor_shows ceiling_shows floor_mark ceiling_mark has_texture top_is_unpegged bottom_is_unpegged mid_from middle_mid middle_part top_mid top_part bottom_mid bottom_part is_masked seg_contrast seg_light numbers_by fragment_numbers centre_edge edge_first edge_step edge_at edges_at edges_first edges_step edges_plus quarter_of foot_offset signed_foot texture_offset column_tangent texture_column open_clip row_from row_to below_clip above_clip wall_first wall_last ceiling_rows floor_rows middle_rows top_last top_rows ceiling_past_top ceiling_past_none ceiling_after bottom_first bottom_rows floor_past_bottom floor_past_none floor_after shut_clip narrowed_clip clip_after wall_of has_column wall_edges past_wall past_some clip_before clip_past some_has wall_has last_wall clip_by saves_top saves_bottom openings_of top_clip bottom_clip saved_if middle_columns top_clips bottom_clips saved_by saved_from openings_list room_if silhouette_of clip_note place_if note_at notes_from view_notes clip_row_at strip_of wall_strips wall_colour strip_dots wall_column_by wall_column wall_dots marked_rows ceiling_marks floor_marks
 walls_unfolded = 0
 
--- in the first and in the last column of its fragment it has one scale
-pub first_scale_row : scale_of_column row_view east_seg 1 ≡ pos 40928
-unfolding walls_unfolded east_seg
-first_scale_row = refl
-
-pub last_scale_row : scale_of_column row_view east_seg 319 ≡ pos 40928
-unfolding walls_unfolded east_seg
-last_scale_row = refl
-
 -- its numbers and its edges at a column, by that scale
 unfoldable pub east_numbers : FragmentNumbers
 east_numbers = numbers_by row_view east_facts 318 (pos 40928) (pos 40928)
 
 unfoldable pub east_edges : Edges
 east_edges = edges_at row_view.shape east_numbers 159
-
-pub step_row : east_numbers.step ≡ pos 0
-unfolding walls_unfolded east_seg wall_room east_facts east_numbers
-step_row = refl
-
--- the ceiling has rows 0 to 45, the wall 46 to 125, the floor 126 to 199
-pub ceiling_rows_row : ceiling_rows (open_clip 200) east_edges ≡ record { first = pos 0; last = pos 45 }
-unfolding walls_unfolded east_seg wall_room east_facts east_numbers east_edges
-ceiling_rows_row = refl
-
-pub middle_rows_row : middle_rows (open_clip 200) east_edges ≡ record { first = pos 46; last = pos 125 }
-unfolding walls_unfolded east_seg wall_room east_facts east_numbers east_edges
-middle_rows_row = refl
-
-pub floor_rows_row : floor_rows (open_clip 200) east_edges ≡ record { first = pos 126; last = pos 199 }
-unfolding walls_unfolded east_seg wall_room east_facts east_numbers east_edges
-floor_rows_row = refl
-
--- nothing is open behind it
-pub clip_row : clip_after 200 east_numbers (open_clip 200) east_edges ≡ shut_clip 200
-unfolding walls_unfolded east_seg wall_room east_facts east_numbers east_edges
-clip_row = refl
-
--- at column 160 it has texture column 255 and colormap 12
-pub texture_column_row : texture_column row_view east_facts 160 ≡ pos 255
-unfolding walls_unfolded east_seg wall_room east_facts
-texture_column_row = refl
-
-pub map_row : scale_map row_view east_numbers.light east_edges.scale ≡ 12
-unfolding walls_unfolded east_seg wall_room east_facts east_numbers east_edges
-map_row = refl

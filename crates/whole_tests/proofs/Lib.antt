@@ -1,1 +1,7 @@
+pub mod PictureRows
+pub mod PlaneRows
 pub mod RecorderLemmas
+pub mod SpriteRows
+pub mod ViewRows
+pub mod WalkRows
+pub mod WallRows

@@ -150,8 +150,8 @@ pub fn clear_way(
     ensures len { length region.new ≡ length region.old }
     ensures homes { length homes.new ≡ length homes.old }
     ensures home { AreHome lumps homes.new (blocks_in region.new) }
-    ensures search { SearchIs wanted rover (blocks_in region.old) result.place (blocks_in region.new)
-        result.purges }
+    ensures search { SearchIs wanted rover (blocks_in region.old) result.place
+        (blocks_in region.new) result.purges }
     ensures room { IfSome result.place (λ p. RoomAt p wanted (join_free (blocks_in region.new))) }
 {
     let start = start_place(region, rover);
