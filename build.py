@@ -1,8 +1,8 @@
 """Builds doomview by the command rt, and then runs it with the words given: the script doomview calls it.
 
-All crates that the program stands on are proved, as many side by side as there are processors: `rt all`
-starts a crate once those below it are done. At the end few crates can go on at a time; then each is
-built with all processors. The program gets its place, out/doomview, as the last step, so no half-built
+All crates that the program stands on are proved side by side: `rt all` starts a crate once those below it
+are done, and of those that go on at a time the ones with much still to come above them go first. At the
+end few crates can go on at a time; then each is built with all processors. The program gets its place, out/doomview, as the last step, so no half-built
 one is ever run, and a build that was interrupted goes on where it was.
 
 Ends with 70 if the build fails, with 128 and the signal's number if a signal stops it, else with the
@@ -14,6 +14,7 @@ import shutil
 import signal
 import subprocess
 import sys
+import threading
 import time
 from collections import Counter
 
@@ -55,11 +56,52 @@ def crates_below(name):
     return found
 
 
-def count_jobs():
-    """As many as there are processors, and as memory allows."""
+def count_jobs(most):
+    """As many as are asked for, and as memory allows."""
     with open('/proc/meminfo') as file:
         free = 1024 * int(re.search(r'MemAvailable:\s+(\d+)', file.read())[1])
-    return max(1, min(len(os.sched_getaffinity(0)), free // CRATE_MEMORY))
+    return max(1, min(most, free // CRATE_MEMORY))
+
+
+def count_lines(crate):
+    """How much there is to prove: the lines of its code and of its proofs."""
+    found = 0
+    for folder, _, files in os.walk(os.path.join(TOP, 'crates', crate)):
+        for name in files:
+            if name.endswith(('.rt', '.antt')):
+                with open(os.path.join(folder, name), 'rb') as file:
+                    found += file.read().count(b'\n')
+    return found
+
+
+def niceness(crates):
+    """How far a crate's proof gives way to others: 0 on the longest chain of crates, and up to 19 where the
+    longest chain through the crate is much shorter."""
+    work = {crate: count_lines(crate) for crate in crates}
+    below, above = {}, {}
+    for crate in crates:
+        below[crate] = work[crate] + max((below[it] for it in crates[crate]), default=0)
+    for crate in reversed(list(crates)):
+        above[crate] = work[crate] + max((above[it] for it in crates if crate in crates[it]), default=0)
+    chain = {crate: below[crate] + above[crate] - work[crate] for crate in crates}
+    most = max(chain.values())
+    return {crate: min(19, 40 * (most - chain[crate]) // max(1, most)) for crate in crates}
+
+
+def give_way(nice, ended):
+    """Sets how nice the processes are that prove crates, until an event ends it."""
+    folders = {os.path.realpath(os.path.join(TOP, 'crates', crate)): value for crate, value in nice.items()}
+    while not ended.wait(1):
+        for pid in filter(str.isdigit, os.listdir('/proc')):
+            try:
+                value = folders.get(os.readlink(f'/proc/{pid}/cwd'), 0)
+                with open(f'/proc/{pid}/cmdline') as file:
+                    is_proof = '--crate-name' in file.read().split('\0')
+                for thread in map(int, os.listdir(f'/proc/{pid}/task') if value and is_proof else []):
+                    if os.getpriority(os.PRIO_PROCESS, thread) < value:
+                        os.setpriority(os.PRIO_PROCESS, thread, value)
+            except OSError:
+                pass  # it has ended, or is not ours
 
 
 def rt(crate, *words):
@@ -69,8 +111,12 @@ def rt(crate, *words):
 
 
 class Build:
-    def __init__(self, crates, jobs):
-        self.crates, self.jobs, self.done = crates, jobs, []
+    def __init__(self, crates):
+        processors = len(os.sched_getaffinity(0))
+        self.crates, self.done = crates, []
+        self.jobs = count_jobs(processors)
+        # `rt all` counts a crate that waits for those below it as one that runs
+        self.slots = count_jobs(3 * processors)
         self.run = None
 
     def finish(self, crate):
@@ -88,7 +134,7 @@ class Build:
         return 2 * width <= self.jobs and all(last in self.crates[it] for it, n in levels.items() if n == 1)
 
     def side_by_side(self):
-        self.run = rt(PROGRAM, 'all', 'check', '--jobs', str(self.jobs))
+        self.run = rt(PROGRAM, 'all', 'check', '--jobs', str(self.slots))
         said = {'': []}
         crate = ''
         for line in self.run.stdout:
@@ -135,14 +181,16 @@ def put_in_place(began):
 def build():
     began = time.time()
     crates = crates_below(PROGRAM)
-    jobs = count_jobs()
-    say(f'building: {len(crates)} crates are proved, up to {jobs} side by side. The first time '
+    say(f'building: {len(crates)} crates are proved, side by side. The first time '
         'took 34 minutes on four processors that did nothing else')
-    work = Build(crates, jobs)
+    work = Build(crates)
+    ended = threading.Event()
+    threading.Thread(target=give_way, args=(niceness(crates), ended), daemon=True).start()
     try:
         work.side_by_side()
         work.one_by_one()
     finally:
+        ended.set()
         work.stop()
     put_in_place(began)
 

@@ -5,7 +5,7 @@ use Rattle.numerals.specs.Numerals.{numeral}
 use Rattle.command_line.specs.declared.command.Format.{Format}
 use Rattle.command_line.specs.declared.command.Format.TheVariants.{Index, Ppm}
 use Rattle.command_line.specs.declared.command.Settings.{Settings}
-use Rattle.command_line.specs.declared.choices.TheConstants.{DEFAULT_OPENINGS, DEFAULT_PLANES, DEFAULT_SIZE, DEFAULT_SKILL, DEFAULT_ZONE, MAX_OPENINGS, MAX_PLANES, MAX_SIZE, MAX_SKILL, MAX_ZONE, MIN_OPENINGS, MIN_PLANES, MIN_SIZE, MIN_SKILL, MIN_ZONE, ZONE_STEP}
+use Rattle.command_line.specs.declared.choices.TheConstants.{DEFAULT_OPENINGS, DEFAULT_PLANES, DEFAULT_SIZE, DEFAULT_SKILL, DEFAULT_ZONE, MOST_OPENINGS, MAX_PLANES, MAX_SIZE, MAX_SKILL, MAX_ZONE, MIN_OPENINGS, MIN_PLANES, MIN_SIZE, MIN_SKILL, MIN_ZONE, ZONE_STEP}
 
 -- a number from low to high
 pub record IsWithin (low high n : ℕ) : Type 0 where
@@ -24,7 +24,7 @@ pub record AreSettings (numbers : Settings) : Type 0 where
   pub skill : IsWithin MIN_SKILL MAX_SKILL numbers.skill
   pub size : IsWithin MIN_SIZE MAX_SIZE numbers.size
   pub planes : IsWithin MIN_PLANES MAX_PLANES numbers.planes
-  pub openings : IsWithin MIN_OPENINGS MAX_OPENINGS numbers.openings
+  pub openings : IsWithin MIN_OPENINGS MOST_OPENINGS numbers.openings
 
 -- the number that a word writes, from low to high
 unfoldable pub number_within : ℕ → ℕ → Text → Option ℕ
@@ -51,7 +51,7 @@ settings_in rows =
     option_and_then (λ planes.
     option_and_then (λ openings.
     Some (record { zone = zone; skill = skill; size = size; planes = planes; openings = openings }))
-    (number_option MIN_OPENINGS MAX_OPENINGS DEFAULT_OPENINGS (first_of (codes "openings") rows)))
+    (number_option MIN_OPENINGS MOST_OPENINGS DEFAULT_OPENINGS (first_of (codes "openings") rows)))
     (number_option MIN_PLANES MAX_PLANES DEFAULT_PLANES (first_of (codes "planes") rows)))
     (number_option MIN_SIZE MAX_SIZE DEFAULT_SIZE (first_of (codes "size") rows)))
     (number_option MIN_SKILL MAX_SKILL DEFAULT_SKILL (first_of (codes "skill") rows)))

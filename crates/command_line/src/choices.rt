@@ -44,7 +44,7 @@ pub const DEFAULT_PLANES: u32 = 128;
 /// The most openings of a view.
 pub const MIN_OPENINGS: u32 = 20_480;
 
-pub const MAX_OPENINGS: u32 = 245_760;
+pub const MOST_OPENINGS: u32 = 245_760;
 
 pub const DEFAULT_OPENINGS: u32 = 20_480;
 
@@ -120,7 +120,7 @@ pub(crate) fn settings_in(found: &ArgMatches<'_>) -> Option<Settings>
     )?;
     let openings = number_option(
         MIN_OPENINGS,
-        MAX_OPENINGS,
+        MOST_OPENINGS,
         DEFAULT_OPENINGS,
         value(found, "openings"),
     )?;
