@@ -15,10 +15,9 @@ use crate::fault::ViewFault;
 use crate::tools::ViewTools;
 use level_audit::SoundScene;
 use lump_cache::LumpCache;
-use node_walk::{Visitor, WalkScene, walk};
+use node_walk::{Cover, Visitor, WalkScene, walk};
 use outside::Shelf;
 use pixel_strips::Canvas;
-use solid_segs::Cover;
 use view_frame::View;
 use wad_dir::Directory;
 

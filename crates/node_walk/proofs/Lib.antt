@@ -1,5 +1,7 @@
-pub mod VisitLemmas
-pub mod PartLemmas
-pub mod ListLemmas
-pub mod FragmentLemmas
 pub mod DepthLemmas
+pub mod FragmentLemmas
+pub mod GapLemmas
+pub mod ListLemmas
+pub mod PartLemmas
+pub mod RangeLemmas
+pub mod VisitLemmas

@@ -1,2 +1,3 @@
-pub mod Visits
 pub mod Lists
+pub mod Ranges
+pub mod Visits

@@ -5,8 +5,8 @@ ghost use Rattle.view_rules.specs.declared.ColumnRange.{ColumnRange};
 ghost use Rattle.level_rules.specs.Levels.{child_on};
 ghost use Rattle.walk_rules.specs.Boxes.{partition_of, eye_side, box_on, box_column, box_row, corners_above, corners_beside, corners_below, box_corners, corners_range, range_is_open, is_within_box, box_passes};
 
+use crate::cover::Cover;
 use level_rules::{Box4, Child, Node, Partition4};
-use solid_segs::Cover;
 use view_frame::{ColumnRange, Partition, View, side_of};
 use walk_rules::Corners;
 

@@ -6,11 +6,11 @@ ghost use Rattle.node_walk.specs.Lists.{walk_lists, part_start, IsThere};
 ghost use Rattle.node_walk.specs.Visits.{Visits, TakesAll, Walks};
 
 use crate::boxes::{box_on, box_passes, child_on, eye_side};
+use crate::cover::Cover;
 use crate::scene::{Lists, WalkScene};
 use crate::segs::visit_seg;
 use crate::visitor::Visitor;
 use level_rules::{Child, Leaf, MAX_DEPTH, Surface};
-use solid_segs::Cover;
 use view_frame::View;
 
 /// Gives the visitor the leaves and fragments of a view, in order.

@@ -9,11 +9,11 @@ ghost use Rattle.walk_rules.specs.Walk.{at_seg, at_columns};
 ghost use Rattle.node_walk.specs.Lists.{IsSegOf, part_start};
 ghost use Rattle.node_walk.specs.Visits.{Visits, TakesAll, Walks};
 
+use crate::cover::Cover;
 use crate::scene::Lists;
 use crate::visitor::Visitor;
 use fx_words::same_word;
 use level_rules::{Seg, Surface};
-use solid_segs::Cover;
 use view_frame::{ColumnRange, View};
 
 // The columns in which a seg is seen.

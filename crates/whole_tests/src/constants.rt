@@ -23,7 +23,6 @@ fn a_frame_is_320_by_200(rt: HostRuntime) {
         (320, 200)
     );
     assert_eq!(rt; (FRAME_BYTES, FRAME_CELLS), (64000, 64000));
-    assert_eq!(rt; solid_segs::MAX_WIDTH, 320);
     assert_eq!(rt; (MIN_SIZE, MAX_SIZE), (3, 11));
 }
 
