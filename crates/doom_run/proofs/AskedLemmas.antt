@@ -12,7 +12,7 @@ use Rattle.texture_build.specs.Views.{AreTexturesOf, IsPrepared, prepared_at, pr
 use Rattle.texture_build.proofs.TexelLemmas.{prepared_is}
 use Rattle.texture_build.proofs.ViewLemmas.{textures_columns}
 use Rattle.command_line.specs.LevelJobs.{LevelJobValue}
-use Rattle.level_audit.specs.Sound.{art_with, textures_view}
+use Rattle.sound_scene.specs.Sound.{art_with, textures_view}
 use Rattle.scene_load.specs.Loads.{load_in, loaded_pictures, loaded_value, wad_contents, weapon_lumps}
 use Rattle.scene_load.specs.Orders.{loaded_items}
 use Rattle.scene_load.proofs.OrderLemmas.{items_composite, items_lump}

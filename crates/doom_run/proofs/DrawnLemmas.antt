@@ -13,8 +13,8 @@ use Rattle.scene_rules.specs.declared.refusal.AuditRefusal.TheVariants.{Art, Map
 use Rattle.scene_rules.specs.Scenes.{LevelBase, SceneValue, base_in, base_over, colormap_of, level_in, lists_in, playpal_of, scene_in}
 use Rattle.scene_rules.specs.Sides.{is_wanted_texture}
 use Rattle.scene_rules.specs.Sizes.{SceneArt, lump_block, zone_sizes}
-use Rattle.level_audit.specs.Sound.{art_with, textures_view}
-use Rattle.level_audit.proofs.SceneLemmas.{and_then-ok, from_below-ok, scene_parts}
+use Rattle.sound_scene.specs.Sound.{art_with, textures_view}
+use Rattle.sound_scene.proofs.SceneLemmas.{and_then-ok, from_below-ok, scene_parts}
 use Rattle.level_rules.specs.declared.ThingLine.{ThingLine}
 use Rattle.frame_core.proofs.EnoughLemmas.{IsArtFull, full-small, view_full}
 use Rattle.scene_load.specs.Files.{files_in}

@@ -14,7 +14,7 @@ use Rattle.command_line.specs.declared.command.Format.{Format}
 use Rattle.command_line.specs.declared.command.LevelTask.TheVariants.{Limits, Render}
 use Rattle.command_line.specs.LevelJobs.{LevelJobValue}
 use Rattle.refusals.specs.declared.refusal.Refusal.{Refusal}
-use Rattle.level_audit.proofs.SceneLemmas.{and_then-ok}
+use Rattle.sound_scene.proofs.SceneLemmas.{and_then-ok}
 use Rattle.scene_load.specs.Files.{files_in, files_named}
 use Rattle.scene_load.specs.Loads.{LoadedValue, load_in, loaded_value, wad_bytes, wad_contents}
 use Rattle.scene_load.proofs.AcceptedLemmas.{wads_accepted}

@@ -8,7 +8,7 @@ use Rattle.view_rules.specs.View.{ViewValue, view_of}
 use Rattle.picture_rules.specs.declared.OverLimit.{OverLimit}
 use Rattle.picture_rules.specs.Paints.{view_paints}
 use Rattle.texture_build.specs.Draws.{FitBeside}
-use Rattle.level_audit.specs.Sound.{SoundValue, textures_view}
+use Rattle.sound_scene.specs.Sound.{SoundValue, textures_view}
 use Rattle.command_line.specs.declared.command.Format.{Format}
 use Rattle.scene_load.specs.declared.read.SceneFiles.{SceneFiles}
 use Rattle.frame_core.specs.Scenes.{scene_of}

@@ -11,7 +11,7 @@ use Rattle.command_line.specs.declared.command.LevelTask.{LevelTask}
 use Rattle.command_line.specs.declared.command.LevelTask.TheVariants.{Render, Audit, Limits, Trim, Trace}
 use Rattle.command_line.specs.declared.command.Settings.{Settings}
 use Rattle.refusals.specs.declared.refusal.Refusal.{Refusal}
-use Rattle.level_audit.proofs.SceneLemmas.{same_value}
+use Rattle.sound_scene.proofs.SceneLemmas.{same_value}
 use Rattle.scene_load.specs.Fulls.{IsFullLoad}
 use Rattle.scene_load.specs.Loads.{LoadedValue, load_in, loaded_sizes, wad_bytes}
 use Rattle.doom_run.specs.Exercises.{made_files, made_level, made_wads}

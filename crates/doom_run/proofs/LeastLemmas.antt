@@ -29,8 +29,8 @@ use Rattle.refusals.specs.declared.refusal.Refusal.{Refusal}
 use Rattle.scene_rules.specs.Scenes.{LevelBase}
 use Rattle.scene_rules.specs.Sizes.{greatest_by, is_last, is_list, is_map_lump, lump_block}
 use Rattle.level_audit.specs.Asked.{IsOfBase}
-use Rattle.level_audit.specs.Sound.{textures_view}
-use Rattle.level_audit.proofs.SceneLemmas.{IsBaseOf, and_then-ok, base_parts, scene_parts}
+use Rattle.sound_scene.specs.Sound.{textures_view}
+use Rattle.sound_scene.proofs.SceneLemmas.{IsBaseOf, and_then-ok, base_parts, scene_parts}
 use Rattle.scene_load.specs.Files.{files_in}
 use Rattle.scene_load.specs.Fulls.{IsBaseWithin}
 use Rattle.scene_load.specs.Loads.{LoadedValue, load_in, loaded_value, wad_bytes}

@@ -26,7 +26,7 @@ use Rattle.refusals.specs.declared.refusal.Refusal.{Refusal}
 use Rattle.refusals.specs.declared.refusal.Refusal.TheVariants as refusal
 use Rattle.refusals.specs.Groups.{of_audit}
 use Rattle.picture_rules.specs.declared.Limits.{Limits}
-use Rattle.level_audit.proofs.SceneLemmas.{and_then-ok, from_below-ok}
+use Rattle.sound_scene.proofs.SceneLemmas.{and_then-ok, from_below-ok}
 use Rattle.scene_load.specs.declared.texts.TextTables.{TextTables}
 use Rattle.scene_load.specs.Files.{FilesValue, files_in, files_named, in_file, in_optional_file, lumps_in, path_file, tables_file, texts_in, things_file, wad_files, weapons_file}
 use Rattle.scene_load.specs.Loads.{LoadedValue, audited_in, load_in, loaded_sizes, loaded_value, wad_bytes}

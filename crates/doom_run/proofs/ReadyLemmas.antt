@@ -16,7 +16,7 @@ use Rattle.texture_build.specs.Sources.{IsComposedColumn, column_in}
 use Rattle.texture_build.specs.Views.{TexturesView, prepared_texture}
 use Rattle.texture_build.specs.Draws.{HoldsArt, IsFullForTexture, KeepsArt}
 use Rattle.texture_build.proofs.DrawLemmas.{holds_art-later, keeps_art-none, keeps_art-then}
-use Rattle.level_audit.specs.Sound.{SoundValue, textures_view}
+use Rattle.sound_scene.specs.Sound.{SoundValue, textures_view}
 use Rattle.scene_load.specs.declared.read.SceneFiles.{SceneFiles}
 use Rattle.scene_load.specs.Files.{value_of}
 use Rattle.scene_load.specs.Loads.{loaded_sizes}

@@ -9,7 +9,7 @@ use Rattle.zone_rules.specs.Zones.{Heap}
 use Rattle.zone_rules.specs.Orders.{Item, KeepsOrder}
 use Rattle.lump_cache.specs.Calls.{HasAll, InOrderAt}
 use Rattle.texture_build.specs.Draws.{HasTexturesAsked}
-use Rattle.level_audit.specs.Sound.{SoundValue, textures_view}
+use Rattle.sound_scene.specs.Sound.{SoundValue, textures_view}
 use Rattle.command_line.specs.LevelJobs.{LevelJobValue}
 use Rattle.refusals.specs.declared.refusal.Refusal.{Refusal}
 use Rattle.scene_load.specs.declared.read.SceneFiles.{SceneFiles}

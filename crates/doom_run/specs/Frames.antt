@@ -4,7 +4,7 @@ use Rattle.std.specs.Option.{option_map_or}
 use Rattle.outside.specs.Shelf.{ShelfView}
 use Rattle.outside.specs.Sink.{Grew, GrewByPrefix}
 use Rattle.texture_build.specs.Draws.{KeepsArt}
-use Rattle.level_audit.specs.Sound.{textures_view}
+use Rattle.sound_scene.specs.Sound.{textures_view}
 use Rattle.picture_rules.specs.Picture.{picture}
 use Rattle.command_line.specs.declared.command.Format.{Format}
 use Rattle.frame_core.specs.declared.fault.ViewFault.{ViewFault}

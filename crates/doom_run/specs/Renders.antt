@@ -8,7 +8,7 @@ use Rattle.lump_cache.specs.Calls.{HasAll, IsFullFor}
 use Rattle.texture_build.specs.Draws.{FitBeside, HasTexturesAsked, IsFullForTexture}
 use Rattle.picture_rules.specs.Paints.{view_paints}
 use Rattle.view_rules.specs.View.{view_of}
-use Rattle.level_audit.specs.Sound.{textures_view}
+use Rattle.sound_scene.specs.Sound.{textures_view}
 use Rattle.command_line.specs.LevelJobs.{LevelJobValue}
 use Rattle.scene_load.specs.Loads.{load_in, loaded_sizes, loaded_value}
 use Rattle.frame_core.specs.Scenes.{scene_of}

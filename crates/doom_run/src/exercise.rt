@@ -11,7 +11,7 @@ ghost use Rattle.lump_rules.specs.Lookups.{lump_at};
 ghost use Rattle.lump_cache.specs.Calls.{IfFull};
 ghost use Rattle.csv_tables.specs.declared.path.TheConstants.{MAX_VIEWS};
 ghost use Rattle.texture_build.specs.Draws.{HoldsArt};
-ghost use Rattle.level_audit.specs.Sound.{textures_view};
+ghost use Rattle.sound_scene.specs.Sound.{textures_view};
 ghost use Rattle.command_line.specs.Commands.{IsCount};
 ghost use Rattle.command_line.specs.declared.command.LevelTask.TheVariants.{Render};
 ghost use Rattle.scene_load.specs.Files.{files_named};

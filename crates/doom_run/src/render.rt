@@ -10,7 +10,7 @@ ghost use Rattle.lump_rules.specs.Lookups.{lump_at};
 ghost use Rattle.zone_rules.specs.Orders.{Item, IsInOrder, KeepsOrder};
 ghost use Rattle.lump_cache.specs.Calls.{IfFull};
 ghost use Rattle.texture_build.specs.Draws.{DrawsWith, HoldsArt};
-ghost use Rattle.level_audit.specs.Sound.{textures_view};
+ghost use Rattle.sound_scene.specs.Sound.{textures_view};
 ghost use Rattle.command_line.specs.LevelJobs.{level_job_value};
 ghost use Rattle.command_line.specs.Choices.{AreSettings};
 ghost use Rattle.scene_load.specs.Files.{files_named};

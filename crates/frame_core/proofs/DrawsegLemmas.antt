@@ -35,7 +35,7 @@ use Rattle.scene_rules.specs.SectorFlats.{surface_of, surfaces_of}
 use Rattle.picture_rules.specs.Masked.{drawseg_of, drawsegs_from, own_front, own_mid, view_drawsegs}
 use Rattle.picture_rules.specs.Scene.{facts_of, fragment_facts, no_textures, side_at, textures_at, wall_texture}
 use Rattle.picture_rules.specs.Walls.{fragment_wall, walls_of}
-use Rattle.level_audit.specs.Sound.{middles_of, textures_view}
+use Rattle.sound_scene.specs.Sound.{middles_of, textures_view}
 use Rattle.masked_draw.specs.Lists.{MaskedLists, heights_of, lists_of as lists_by, middle_by, no_sector, note_mid, note_seg, noted_drawseg, noted_drawsegs, saved_column, sector_by, side_by}
 use Rattle.frame_core.specs.Scenes.{scene_of}
 use Rattle.frame_core.proofs.AlikeLemmas.{as_read, masked_dots-read}

@@ -35,10 +35,10 @@ use Rattle.texture_build.specs.Sources.{IsComposedColumn, column_index, own_look
 use Rattle.texture_build.specs.Views.{AllThere, ArePatchesThere, AreTexturesOf, IsPrepared, prepared_at, prepared_texture, unprepared}
 use Rattle.texture_build.proofs.TexelLemmas.{prepared_is}
 use Rattle.texture_build.proofs.ViewLemmas.{HasColumns, textures_columns}
-use Rattle.level_audit.specs.Sound.{art_with, textures_view}
-use Rattle.level_audit.proofs.MarkLemmas.{any_passed}
-use Rattle.level_audit.proofs.MemberLemmas.{among_cases, among_none, any_among}
-use Rattle.level_audit.proofs.NeededLemmas.{needed_there}
+use Rattle.sound_scene.specs.Sound.{art_with, textures_view}
+use Rattle.sound_scene.proofs.MarkLemmas.{any_passed}
+use Rattle.sound_scene.proofs.MemberLemmas.{among_cases, among_none, any_among}
+use Rattle.sound_scene.proofs.NeededLemmas.{needed_there}
 use Rattle.frame_core.specs.declared.fault.ViewFault.{ViewFault}
 use Rattle.frame_core.specs.declared.fault.ViewFault.TheVariants.{Limit, ZoneFull, ReadFault}
 use Rattle.frame_core.specs.Faults.{limit_of_view, view_fault}

@@ -49,7 +49,7 @@ use Rattle.texture_build.specs.Draws.{CanDraw, DrawsWith, FitBeside, HoldsArt}
 use Rattle.texture_build.specs.Views.{ArePatchesThere, IsPrepared, TexturesView, prepared_at, unprepared}
 use Rattle.texture_build.proofs.DrawLemmas.{draws-above, draws-wider}
 use Rattle.plane_draw.specs.Planes.{CanDrawPlane, HasFlat, IsFlatOf, IsSky}
-use Rattle.level_audit.specs.Sound.{textures_view}
+use Rattle.sound_scene.specs.Sound.{textures_view}
 use Rattle.frame_core.specs.declared.bench.Bench.{Bench}
 use Rattle.frame_core.specs.declared.fault.ViewFault.{ViewFault}
 use Rattle.frame_core.specs.Faults.{from_cache, view_fault}

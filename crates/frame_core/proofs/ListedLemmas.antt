@@ -34,8 +34,8 @@ use Rattle.picture_rules.specs.Scene.{facts_of, fragment_facts, no_textures, tex
 use Rattle.picture_rules.specs.Walls.{fragment_wall, walls_of}
 use Rattle.texture_build.specs.Draws.{CanDraw}
 use Rattle.texture_build.specs.Views.{ArePatchesThere, IsPrepared, prepared_at, prepared_texture, unprepared}
-use Rattle.level_audit.specs.Sound.{middles_of, textures_view}
-use Rattle.level_audit.specs.Whole.{AllColumnsSingle, IsNoneOrSingle, IsWholeScene}
+use Rattle.sound_scene.specs.Sound.{middles_of, textures_view}
+use Rattle.sound_scene.specs.Whole.{AllColumnsSingle, IsNoneOrSingle, IsWholeScene}
 use Rattle.masked_draw.specs.Lists.{middle_by, note_seg}
 use Rattle.masked_draw.specs.Ready.{CanDrawMiddle, IsListed, IsNotedMiddle}
 use Rattle.frame_core.specs.Scenes.{scene_of}

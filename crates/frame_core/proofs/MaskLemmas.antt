@@ -39,7 +39,7 @@ use Rattle.texture_build.specs.Arts.{view_art}
 use Rattle.texture_build.specs.Draws.{DrawsWith, FitBeside, HoldsArt}
 use Rattle.texture_build.specs.Views.{TexturesView}
 use Rattle.texture_build.proofs.DrawLemmas.{draws-above, draws-wider}
-use Rattle.level_audit.specs.Sound.{middles_of, textures_view}
+use Rattle.sound_scene.specs.Sound.{middles_of, textures_view}
 use Rattle.vissprites.specs.Bounds.{has_lump_below, lies_within}
 use Rattle.wall_columns.specs.Built.{IsBuilt}
 use Rattle.masked_draw.specs.Lists.{MaskedLists, lists_of as lists_by, noted_drawsegs}

@@ -12,7 +12,7 @@ use Rattle.texture_build.specs.Draws.{FitBeside}
 use Rattle.texture_build.proofs.DrawLemmas.{holds_art-later, draws-none, draws-then, draws-stop, draws-value}
 use Rattle.texture_build.proofs.BesideLemmas.{fit_beside-append}
 use Rattle.lump_cache.specs.Caches.{KeepsCounts}
-use Rattle.level_audit.specs.Sound.{textures_view}
+use Rattle.sound_scene.specs.Sound.{textures_view}
 use Rattle.frame_core.specs.declared.fault.ViewFault.{ViewFault}
 use Rattle.frame_core.specs.Views.{CanDrawView, PaintsView, ViewScene, ViewState, held_scene}
 

@@ -26,7 +26,7 @@ use Rattle.pixel_strips.specs.Dotted.{PlacedAlike}
 use Rattle.pixel_strips.proofs.DottedLemmas.{placed-none}
 use Rattle.scene_rules.specs.Scenes.{SceneValue}
 use Rattle.scene_rules.specs.SectorFlats.{surfaces_of}
-use Rattle.level_audit.specs.Sound.{middles_of, textures_view}
+use Rattle.sound_scene.specs.Sound.{middles_of, textures_view}
 use Rattle.picture_rules.specs.declared.Limits.{Limits}
 use Rattle.picture_rules.specs.declared.OverLimit.{OverLimit}
 use Rattle.picture_rules.specs.declared.LimitKind.{LimitKind}

@@ -20,7 +20,7 @@ use Rattle.art_rules.specs.Columns.{composite_size}
 use Rattle.art_rules.specs.Textures.{Texture, TextureLists, texture_lists, patch_names, both_lists, first_list, second_list, joined_textures, unless_wrong, first_wrong, is_wrong, later_wrong, later_textures, wrong_record, textures_in, texture_in, texture_place, list_count, unlisted}
 use Rattle.art_rules.specs.Wanted.{PreparedTexture, placed_patches, texture_of, unless_too_big, unless_missing, prepared, prepared_if, prepared_from, prepared_textures}
 use Rattle.texture_build.specs.Views.{AreTexturesOf, TexturesView, prepared_at}
-use Rattle.level_audit.proofs.SceneLemmas.{and_then-ok}
+use Rattle.sound_scene.proofs.SceneLemmas.{and_then-ok}
 
 last_false : (b c : Bool) → b || c ≡ false → c ≡ false
 last_false true c e = absurd (false≢true (sym e))

@@ -25,8 +25,8 @@ use Rattle.scene_rules.specs.Sides.{found_sky, side_textures, sky_texture}
 use Rattle.scene_rules.specs.Skies.{has_sky, is_sky_name, shows_sky, sky_name}
 use Rattle.texture_build.specs.Views.{IsPrepared}
 use Rattle.level_scene.specs.Bounds.{IsNoneOrBelow, IsThere}
-use Rattle.level_audit.specs.Sound.{middles_of, textures_view}
-use Rattle.level_audit.specs.Whole.{IsNoneOrPrepared, IsWholeScene}
+use Rattle.sound_scene.specs.Sound.{middles_of, textures_view}
+use Rattle.sound_scene.specs.Whole.{IsNoneOrPrepared, IsWholeScene}
 use Rattle.wall_rules.specs.declared.WallFacts.{WallFacts}
 use Rattle.picture_rules.specs.Scene.{facts_of, no_textures, textures_at, wall_texture}
 use Rattle.frame_core.specs.Scenes.{lists_of, scene_of}

@@ -9,7 +9,7 @@ use Rattle.scene_rules.specs.SectorFlats.{surfaces_of}
 use Rattle.scene_rules.specs.Places.{things_of}
 use Rattle.scene_rules.specs.Scenes.{SceneValue}
 use Rattle.texture_build.specs.Arts.{view_art}
-use Rattle.level_audit.specs.Sound.{middles_of, textures_view}
+use Rattle.sound_scene.specs.Sound.{middles_of, textures_view}
 use Rattle.picture_rules.specs.Scene.{Scene}
 
 -- the lists that the walk reads

@@ -21,8 +21,8 @@ use Rattle.pixel_strips.specs.Canvases.{CanvasView}
 use Rattle.pixel_strips.specs.Dotted.{HasDots, PlacedAlike}
 use Rattle.texture_build.specs.Views.{IsPrepared}
 use Rattle.texture_build.specs.Draws.{HoldsArt, FitBeside, DrawsWith}
-use Rattle.level_audit.specs.Sound.{textures_view}
-use Rattle.level_audit.specs.Whole.{IsWholeScene}
+use Rattle.sound_scene.specs.Sound.{textures_view}
+use Rattle.sound_scene.specs.Whole.{IsWholeScene}
 use Rattle.frame_core.specs.declared.fault.ViewFault.{ViewFault}
 use Rattle.frame_core.specs.Faults.{view_fault}
 use Rattle.frame_core.specs.Scenes.{scene_of}

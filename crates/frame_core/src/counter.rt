@@ -10,9 +10,9 @@ ghost use Rattle.frame_core.specs.Painters.{HasWalkedView, limits_in};
 
 use crate::bench::Bench;
 use crate::fault::over_limit;
-use level_audit::SoundScene;
 use node_walk::{Cover, Visitor, WalkScene, walk};
 use picture_rules::OverLimit;
+use sound_scene::SoundScene;
 use view_frame::View;
 
 /// Counts each leaf and fragment of a view as it comes.

@@ -6,8 +6,8 @@ ghost use Rattle.walk_rules.specs.Segs.{back_of};
 ghost use Rattle.picture_rules.specs.Scene.{facts_of, side_at, textures_at, wall_texture};
 ghost use Rattle.frame_core.specs.Scenes.{lists_of, scene_of};
 
-use level_audit::SoundScene;
 use level_rules::{Seg, Side, SideTextures, Surface};
+use sound_scene::SoundScene;
 use texture_build::TexNo;
 use wall_rules::{WallFacts, WallTexture};
 

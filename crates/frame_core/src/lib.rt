@@ -17,16 +17,10 @@ mod keys;
 mod masks;
 mod painter;
 #[cfg(test)]
-mod shelf_tests;
-#[cfg(test)]
-mod test_levels;
-#[cfg(test)]
 mod tests;
 mod things;
 mod tools;
 mod view;
-#[cfg(test)]
-mod view_tests;
 mod workshop;
 
 pub use fault::ViewFault;

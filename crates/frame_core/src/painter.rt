@@ -13,11 +13,11 @@ ghost use Rattle.frame_core.specs.Painters.{HasWalkedView, IsPlacedIn, drawn_wal
 use crate::bench::Bench;
 use crate::fault::ViewFault;
 use crate::tools::ViewTools;
-use level_audit::SoundScene;
 use lump_cache::LumpCache;
 use node_walk::{Cover, Visitor, WalkScene, walk};
 use outside::Shelf;
 use pixel_strips::Canvas;
+use sound_scene::SoundScene;
 use view_frame::View;
 use wad_dir::Directory;
 

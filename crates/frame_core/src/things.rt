@@ -13,8 +13,8 @@ ghost use Rattle.vissprites.specs.Bounds.{lies_within, has_lump_below};
 ghost use Rattle.frame_core.specs.Scenes.{drawn_shape, lists_of, scene_of};
 
 use crate::facts::surface_at;
-use level_audit::SoundScene;
 use level_rules::PlacedThing;
+use sound_scene::SoundScene;
 use sprite_book::Shape;
 use sprite_rules::{Placed, Seen, Shape5};
 use view_frame::View;

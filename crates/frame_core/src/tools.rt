@@ -1,9 +1,9 @@
 // What a view is drawn with.
 
-use level_audit::SoundScene;
 use lump_cache::LumpCache;
 use outside::Shelf;
 use pixel_strips::Canvas;
+use sound_scene::SoundScene;
 use view_frame::View;
 use wad_dir::Directory;
 

@@ -34,7 +34,7 @@ use Rattle.scene_rules.specs.declared.refusal.AuditRefusal.TheVariants.{Texture}
 use Rattle.scene_rules.specs.Places.{need_of}
 use Rattle.scene_rules.specs.Scenes.{book_in}
 use Rattle.scene_rules.specs.Sides.{is_sky_texture, is_wanted_texture, shows_texture}
-use Rattle.level_audit.specs.Whole.{AreSidePrepared, IsNoneOrPrepared}
+use Rattle.sound_scene.specs.Whole.{AreSidePrepared, IsNoneOrPrepared}
 
 -- the wanted textures are those of sides and sky
 pub textures_wanted : {B : Type 0} {v w : ShelfView} {dir : DirectoryView} {a b : Heap} {value : B → List (Option PreparedTexture)} (lists : TextureLists) (sides : List SideTextures) (sky : Option ℕ) (wanted : List TexNo) (result : Result B (Fault TexRefusal)) →

@@ -11,15 +11,15 @@ use Rattle.outside.specs.declared.fault.Fault.{Fault}
 use Rattle.scene_rules.specs.declared.refusal.AuditRefusal.{AuditRefusal}
 use Rattle.outside.specs.declared.fault.Fault.TheVariants.{OutOfMemory}
 use Rattle.scene_rules.specs.Scenes.{base_in, scene_in, scene_on}
-use Rattle.level_audit.specs.declared.base.ReadBase.{ReadBase}
+use Rattle.sound_scene.specs.declared.parts.ReadBase.{ReadBase}
 use Rattle.level_audit.specs.Asked.{IsOfBase}
-use Rattle.level_audit.specs.Bases.{base_of}
-use Rattle.level_audit.specs.declared.scene.ReadScene.{ReadScene}
+use Rattle.sound_scene.specs.Bases.{base_of}
+use Rattle.sound_scene.specs.declared.parts.ReadScene.{ReadScene}
 use Rattle.level_audit.specs.Asked.{IsOfScene}
-use Rattle.level_audit.specs.Scenes.{scene_value}
+use Rattle.sound_scene.specs.Scenes.{scene_value}
 use Rattle.level_audit.specs.Reads.{IsReadLater}
-use Rattle.level_audit.specs.Sound.{SoundValue}
-use Rattle.level_audit.proofs.SceneLemmas.{scene_in-more, scene_in-stop}
+use Rattle.sound_scene.specs.Sound.{SoundValue}
+use Rattle.sound_scene.proofs.SceneLemmas.{scene_in-more, scene_in-stop}
 
 module _ {v : ShelfView} {dir : DirectoryView} {a : Heap} (lines : List ThingLine) (name : List ℕ) (skill : ℕ) where
   -- the base was not read

@@ -26,7 +26,7 @@ use Rattle.scene_rules.specs.declared.refusal.AuditRefusal.{AuditRefusal}
 use Rattle.scene_rules.specs.Scenes.{SceneValue, colormap_of}
 use Rattle.level_audit.specs.Asked.{IsOfBase}
 use Rattle.level_audit.specs.Reads.{IsFullAudit, IsReadLater}
-use Rattle.level_audit.specs.Sound.{SoundValue}
+use Rattle.sound_scene.specs.Sound.{SoundValue}
 
 -- the contents are told after a fetch
 pub told_after : {v w : ShelfView} {dir : DirectoryView} {a b : Heap} → IsLaterShelf v w → ((contents : List (List ℕ)) → NameFiles v dir.files contents → IsFaithful contents dir.lumps a → IsFaithful contents dir.lumps b) → (contents : List (List ℕ)) → HoldContents v dir a contents → HoldContents w dir b contents

@@ -17,7 +17,7 @@ use Rattle.texture_build.specs.Sources.{own_lookup}
 use Rattle.texture_build.specs.Views.{TexturesView, is_marked}
 use Rattle.scene_rules.specs.Sides.{three_textures}
 use Rattle.scene_rules.specs.Middles.{bad_middle, is_all_single, is_bad_middle, is_bad_side, is_seen_through, middle_of}
-use Rattle.level_audit.specs.Whole.{AllColumnsSingle, IsMiddleSingle, IsNoneOrSingle}
+use Rattle.sound_scene.specs.Whole.{AllColumnsSingle, IsMiddleSingle, IsNoneOrSingle}
 
 range_all : (p : ℕ → Bool) (a n : ℕ) → ((k : ℕ) → k < a + n → p k ≡ true) → list_all p (range_with_len a n) ≡ true
 range_all p a zero all = refl

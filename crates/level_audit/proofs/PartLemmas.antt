@@ -23,8 +23,8 @@ use Rattle.level_audit.specs.Faults.{above_scene}
 use Rattle.std.proofs.lemmas.Result.{err_from_is_err_and}
 use Rattle.outside.specs.declared.fault.Fault.{Fault}
 use Rattle.outside.proofs.ThroughLemmas.{IsThrough}
-use Rattle.level_audit.specs.declared.names.ReadFaces.{ReadFaces}
-use Rattle.level_audit.specs.Scenes.{faces_of}
+use Rattle.sound_scene.specs.declared.parts.ReadFaces.{ReadFaces}
+use Rattle.sound_scene.specs.Scenes.{faces_of}
 
 -- a call of a layer below whose refusal is named here
 through_above : {B R Q : Type 0} (lift : R → Q) (one : Result B (Fault R)) (result : Result B (Fault Q)) → IsThrough (λ e f. f ≡ fault_above lift e) one result → result ≡ result_above (fault_above lift) one

@@ -16,12 +16,12 @@ use Rattle.scene_rules.specs.declared.Placed.{Placed}
 use Rattle.scene_rules.specs.declared.refusal.AuditRefusal.{AuditRefusal}
 use Rattle.scene_rules.specs.Places.{placed_things}
 use Rattle.scene_rules.specs.Scenes.{LevelBase, Faces, faces_in}
-use Rattle.level_audit.specs.declared.base.ReadBase.{ReadBase}
-use Rattle.level_audit.specs.declared.names.ReadFaces.{ReadFaces}
-use Rattle.level_audit.specs.declared.scene.ReadScene.{ReadScene}
-use Rattle.level_audit.specs.Bases.{base_of}
-use Rattle.level_audit.specs.Scenes.{faces_of, scene_value}
-use Rattle.level_audit.specs.Whole.{AreSidePrepared, IsMiddleSingle, IsWholeArt, IsWholeScene}
+use Rattle.sound_scene.specs.declared.parts.ReadBase.{ReadBase}
+use Rattle.sound_scene.specs.declared.parts.ReadFaces.{ReadFaces}
+use Rattle.sound_scene.specs.declared.parts.ReadScene.{ReadScene}
+use Rattle.sound_scene.specs.Bases.{base_of}
+use Rattle.sound_scene.specs.Scenes.{faces_of, scene_value}
+use Rattle.sound_scene.specs.Whole.{AreSidePrepared, IsMiddleSingle, IsWholeArt, IsWholeScene}
 
 -- the middles of sides that are lent are none or prepared
 pub middles_prepared : (textures : TexturesView) (sides seen : List SideTextures) → seen ≡ sides → All (AreSidePrepared textures) sides →

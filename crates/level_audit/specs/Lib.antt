@@ -1,9 +1,4 @@
 pub mod Asked
-pub mod Bases
 pub mod Faults
 pub mod Reads
-pub mod Scenes
-pub mod Sound
-pub mod Views
 pub mod Weapons
-pub mod Whole

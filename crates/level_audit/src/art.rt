@@ -16,7 +16,7 @@ ghost use Rattle.scene_rules.specs.declared.refusal.AuditRefusal.TheVariants.{Sp
 ghost use Rattle.scene_rules.specs.Places.{need_of};
 ghost use Rattle.scene_rules.specs.Scenes.{book_in};
 ghost use Rattle.scene_rules.specs.Sides.{is_wanted_texture};
-ghost use Rattle.level_audit.specs.Whole.{AreSidePrepared};
+ghost use Rattle.sound_scene.specs.Whole.{AreSidePrepared};
 
 use crate::AuditFault;
 use crate::fault::{above_sprites, above_textures};

@@ -16,7 +16,7 @@ ghost use Rattle.lump_cache.specs.Sizes.{HasSizes, StandsBeside};
 ghost use Rattle.scene_rules.specs.Scenes.{SceneValue, art_of, colormap_of, scene_in, sizes_of};
 ghost use Rattle.scene_rules.specs.Sizes.{needed_lumps};
 ghost use Rattle.level_audit.specs.Asked.{IsOfBase};
-ghost use Rattle.level_audit.specs.Whole.{IsWholeScene};
+ghost use Rattle.sound_scene.specs.Whole.{IsWholeScene};
 ghost use Rattle.level_audit.specs.Reads.{IsFullAudit, IsReadBy, IsReadLater};
 
 use crate::base::read_base;

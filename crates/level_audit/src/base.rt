@@ -15,7 +15,7 @@ ghost use Rattle.scene_rules.specs.declared.refusal.AuditRefusal.TheVariants.{Ma
 ghost use Rattle.scene_rules.specs.Scenes.{base_in, base_over, colormap_of, label_of, level_in, lists_in};
 ghost use Rattle.scene_rules.specs.Sizes.{is_map_lump};
 ghost use Rattle.level_audit.specs.Asked.{IsOfBase, IsOfMap};
-ghost use Rattle.level_audit.specs.Bases.{base_of};
+ghost use Rattle.sound_scene.specs.Bases.{base_of};
 
 use crate::colours::{find_playpal, read_palette};
 use crate::fault::{above_level, above_textures};
@@ -24,23 +24,10 @@ use level_scene::{Level, read_level};
 use lump_cache::LumpCache;
 use lump_rules::Name8;
 use outside::{Fault, Shelf};
+use sound_scene::ReadBase;
 use std::alloc::Global;
 use texture_build::Textures;
 use wad_dir::{Directory, LumpNo};
-
-/// What a level stands on: the lumps of colours, the first palette, the label of the map, the level,
-/// and the lists of textures, none of which is prepared yet.
-///
-/// The original: the globals that `R_InitData`, r_data.c, and `P_SetupLevel`, p_setup.c, set.
-#[derive(Drop)]
-pub struct ReadBase {
-    pub colormap: LumpNo,
-    pub playpal: LumpNo,
-    pub palette: Vec<u8>,
-    pub label: LumpNo,
-    pub level: Level,
-    pub textures: Textures,
-}
 
 /// What a level stands on, where COLORMAP is found already.
 ///

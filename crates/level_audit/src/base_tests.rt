@@ -1,5 +1,5 @@
 // Values from outside: the made file of 1, whose lumps and colours `made_rules` defines.
-use crate::base::{ReadBase, read_base};
+use crate::base::read_base;
 use crate::colours::find_colormap;
 use crate::{ArtRefusal, AuditFault, AuditRefusal};
 use level_maker::make_wad;
@@ -7,6 +7,7 @@ use level_scene::MapRefusal;
 use lump_cache::LumpCache;
 use lump_rules::Name8;
 use outside::{MemoryFile, MemoryShelf, Shelf};
+use sound_scene::ReadBase;
 use std::alloc::Global;
 use std::test::Fail;
 use wad_dir::{Directory, LumpNo};

@@ -9,7 +9,7 @@ ghost use Rattle.texture_build.specs.Views.{IsPrepared};
 ghost use Rattle.level_scene.specs.Faults.{scene_fault};
 ghost use Rattle.scene_rules.specs.Middles.{bad_middle};
 ghost use Rattle.scene_rules.specs.Scenes.{checked, texture_by};
-ghost use Rattle.level_audit.specs.Whole.{IsMiddleSingle};
+ghost use Rattle.sound_scene.specs.Whole.{IsMiddleSingle};
 
 use crate::SceneRefusal;
 use crate::middles::find_bad_middle;

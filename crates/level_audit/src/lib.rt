@@ -1,12 +1,11 @@
 //! The audit of a level: a scene that every drawing layer may rely on, or the first thing that is
 //! wrong with the lumps.
 //!
-//! Rules: `scene_rules`, Scenes (`scene_in`, the order of all checks) and Sizes; what contracts see
-//! of a sound scene is in `specs/Sound`, what drawing asks of it in `specs/Whole`, which lumps an
-//! audit reads in `specs/Reads`, weapons in `specs/Weapons`. Proved: what an audit answers over any
-//! shelf, that a sound scene has what drawing asks of it, what an audit keeps and leaves of the
-//! cache, how small a zone was that had no room, and what a sound scene lends. Tested only: that
-//! memory is found. The original: `P_SetupLevel`, p_setup.c, `R_InitData` and `R_PrecacheLevel`,
+//! Rules: `scene_rules`, Scenes (`scene_in`, the order of all checks); what a sound scene is and
+//! lends is in `sound_scene`, which lumps an audit reads in `specs/Reads`, weapons in
+//! `specs/Weapons`. Proved: what an audit answers over any shelf, that a sound scene has what drawing
+//! asks of it, what an audit keeps and leaves of the cache, and how small a zone was that had no
+//! room. Tested only: that memory is found. The original: `P_SetupLevel`, p_setup.c, `R_InitData` and `R_PrecacheLevel`,
 //! r_data.c, `R_InitSprites`, r_things.c, which end the program at what is refused here.
 #![tactic(auto)]
 
@@ -18,14 +17,9 @@ mod base_tests;
 mod checks;
 mod colours;
 mod fault;
-mod marks;
 mod middles;
 mod names;
-mod needed;
-mod needs;
 mod scene;
-mod sizes;
-mod sound;
 #[cfg(test)]
 mod tests;
 mod weapons;
@@ -33,9 +27,6 @@ mod weapons;
 pub use audit_steps::audit;
 pub use colours::find_playpal;
 pub use fault::AuditFault;
-pub use level_rules::{PlacedThing, SideTextures, Surface};
-pub use scene_rules::{
-    ArtRefusal, AuditRefusal, Flat, SceneRefusal, SectorFlats, WeaponRefusal, ZoneSizes,
-};
-pub use sound::SoundScene;
+pub use scene_rules::{ArtRefusal, AuditRefusal, SceneRefusal, WeaponRefusal};
+pub use sound_scene::{SoundScene, ZoneSizes};
 pub use weapons::audit_weapons;

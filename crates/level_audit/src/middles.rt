@@ -7,12 +7,12 @@ ghost use Rattle.word_rules.specs.Least.{least};
 ghost use Rattle.texture_build.specs.Views.{IsPrepared, is_marked, prepared_texture};
 ghost use Rattle.scene_rules.specs.Middles.{bad_middle, is_all_single, is_bad_middle, is_seen_through, middle_of};
 ghost use Rattle.scene_rules.specs.Scenes.{texture_by};
-ghost use Rattle.level_audit.specs.Views.{AddsMarks};
-ghost use Rattle.level_audit.specs.Whole.{AllColumnsSingle, IsMiddleSingle, IsNoneOrSingle};
+ghost use Rattle.sound_scene.specs.Views.{AddsMarks};
+ghost use Rattle.sound_scene.specs.Whole.{AllColumnsSingle, IsMiddleSingle, IsNoneOrSingle};
 
-use crate::marks::Marks;
 use level_rules::{Seg, SideTextures};
 use outside::OutOfMemory;
+use sound_scene::Marks;
 use std::alloc::Global;
 use texture_build::{TexNo, Textures};
 

@@ -7,26 +7,14 @@ ghost use Rattle.outside.specs.Faults.{ResultIs};
 ghost use Rattle.level_scene.specs.Bounds.{AreBelow, AreThere};
 ghost use Rattle.level_scene.specs.Faults.{scene_fault};
 ghost use Rattle.scene_rules.specs.Scenes.{faces_in};
-ghost use Rattle.level_audit.specs.Scenes.{faces_of};
+ghost use Rattle.sound_scene.specs.Scenes.{faces_of};
 
-use level_rules::SideTextures;
 use level_scene::{Level, SceneFault, find_flats, find_sky, number_sides};
 use lump_rules::Name8;
-use scene_rules::SectorFlats;
+use sound_scene::ReadFaces;
 use std::alloc::Global;
 use texture_lists::{ListedTextures, TexNo};
 use wad_dir::Directory;
-
-/// What the names in a level mean: the numbers of the textures of its sides, its sky, and the flats
-/// of its sectors, in the order of their lumps.
-///
-/// The original: `textures` of `side_t`, `skytexture`, `floorpic` and `ceilingpic` of `sector_t`.
-#[derive(Drop)]
-pub struct ReadFaces {
-    pub sides: Vec<SideTextures>,
-    pub sky: Option<TexNo>,
-    pub flats: Vec<SectorFlats>,
-}
 
 // The faces of a level: textures of sides, sky, flats. The first refusal comes, in this order.
 #[tactic(auto, unfolding(scene_rules::specs::Scenes::faces_in))]

@@ -12,37 +12,24 @@ ghost use Rattle.sprite_book.specs.Calls.{IsWanted};
 ghost use Rattle.level_scene.specs.Bounds.{AreBelow};
 ghost use Rattle.scene_rules.specs.Places.{need_of};
 ghost use Rattle.scene_rules.specs.Scenes.{scene_on, scene_over, scene_with};
-ghost use Rattle.level_audit.specs.Bases.{base_of};
+ghost use Rattle.sound_scene.specs.Bases.{base_of};
 ghost use Rattle.level_audit.specs.Asked.{IsOfArt, IsOfScene};
-ghost use Rattle.level_audit.specs.Scenes.{faces_of, scene_value};
-ghost use Rattle.level_audit.specs.Whole.{IsMiddleSingle, IsWholeArt, IsWholeScene};
+ghost use Rattle.sound_scene.specs.Scenes.{faces_of, scene_value};
+ghost use Rattle.sound_scene.specs.Whole.{IsMiddleSingle, IsWholeArt, IsWholeScene};
 
 use crate::AuditFault;
 use crate::art::{prepare_faces, read_book};
-use crate::base::ReadBase;
 use crate::checks::check_scene;
 use crate::fault::above_scene;
-use crate::names::{ReadFaces, find_faces};
+use crate::names::find_faces;
 use csv_tables::ThingTable;
 use level_scene::{PlacedThings, place_things};
 use lump_cache::LumpCache;
 use lump_rules::Name8;
 use outside::Shelf;
-use sprite_book::SpriteBook;
+use sound_scene::{ReadBase, ReadFaces, ReadScene};
 use std::alloc::Global;
 use wad_dir::Directory;
-
-/// A scene: its base with the wanted textures prepared, what the names in the level mean, the
-/// things that stand there, and the pictures of the frames that they need.
-///
-/// The original: the globals that `P_SetupLevel`, p_setup.c, and `R_PrecacheLevel`, r_data.c, set.
-#[derive(Drop)]
-pub struct ReadScene {
-    pub base: ReadBase,
-    pub faces: ReadFaces,
-    pub placed: PlacedThings,
-    pub book: SpriteBook,
-}
 
 /// A map by name, the looks of things, and a skill of 1 to 5.
 #[derive(Clone, Copy)]

@@ -6,15 +6,15 @@ ghost use Rattle.outside.specs.Faults.{from_below, itself};
 ghost use Rattle.lump_cache.specs.Calls.{ReadsLumps};
 ghost use Rattle.sprite_book.specs.Calls.{IsWanted};
 ghost use Rattle.scene_rules.specs.declared.refusal.AuditRefusal.TheVariants.{WeaponArt};
-ghost use Rattle.level_audit.specs.Sound.{with_book};
+ghost use Rattle.sound_scene.specs.Sound.{with_book};
 ghost use Rattle.level_audit.specs.Weapons.{need_of_row, weapon_book, weapon_fault, weapon_needs, weapon_refusal};
 
-use crate::needs::find_needed;
 use crate::{AuditFault, AuditRefusal, SoundScene, WeaponRefusal};
 use art_rules::SpriteRefusal;
 use csv_tables::{WeaponRow, WeaponTable};
 use lump_cache::LumpCache;
 use outside::{Fault, OutOfMemory, Shelf};
+use sound_scene::find_needed;
 use sprite_book::{Need, SpriteBook, SpriteFault};
 use std::alloc::Global;
 use wad_dir::{Directory, LumpNo};

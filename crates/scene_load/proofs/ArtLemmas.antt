@@ -19,8 +19,8 @@ use Rattle.refusals.specs.Groups.{of_audit}
 use Rattle.scene_rules.specs.declared.refusal.AuditRefusal.TheVariants.{Art, Map, Texture}
 use Rattle.scene_rules.specs.Scenes.{LevelBase, SceneValue, base_in, base_over, colormap_of, level_in, lists_in, playpal_of, scene_in}
 use Rattle.scene_rules.specs.Sides.{is_wanted_texture}
-use Rattle.level_audit.specs.Sound.{textures_view}
-use Rattle.level_audit.proofs.SceneLemmas.{and_then-ok, from_below-ok, scene_parts}
+use Rattle.sound_scene.specs.Sound.{textures_view}
+use Rattle.sound_scene.proofs.SceneLemmas.{and_then-ok, from_below-ok, scene_parts}
 use Rattle.scene_load.specs.Files.{FilesValue}
 use Rattle.scene_load.specs.Loads.{LoadedValue, audited_in}
 use Rattle.scene_load.proofs.AuditedLemmas.{audited_by}

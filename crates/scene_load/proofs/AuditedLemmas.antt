@@ -13,8 +13,8 @@ use Rattle.art_rules.specs.declared.shapes.Frame.{Frame}
 use Rattle.command_line.specs.LevelJobs.{LevelJobValue}
 use Rattle.scene_load.specs.Files.{FilesValue}
 use Rattle.scene_rules.specs.Scenes.{SceneValue, scene_in}
-use Rattle.level_audit.specs.Sound.{SoundValue, with_book}
-use Rattle.level_audit.proofs.SceneLemmas.{and_then-ok}
+use Rattle.sound_scene.specs.Sound.{SoundValue, with_book}
+use Rattle.sound_scene.proofs.SceneLemmas.{and_then-ok}
 use Rattle.scene_load.specs.Loads.{LoadedValue, audited_in, audited_value, weapons_of, with_layers}
 
 -- what is told of a step that stops is told of all steps

@@ -20,8 +20,8 @@ use Rattle.scene_rules.specs.Scenes.{SceneValue, colormap_of, scene_in, sizes_of
 use Rattle.outside.specs.declared.fault.Fault.{Fault}
 use Rattle.outside.specs.declared.fault.Fault.TheVariants.{Refused, ReadFault, ZoneFull, OutOfMemory}
 use Rattle.level_audit.specs.Reads.{IsFullAudit}
-use Rattle.level_audit.specs.Sound.{SoundValue}
-use Rattle.level_audit.proofs.SceneLemmas.{colormap_there, same_value}
+use Rattle.sound_scene.specs.Sound.{SoundValue}
+use Rattle.sound_scene.proofs.SceneLemmas.{colormap_there, same_value}
 use Rattle.scene_load.specs.Fulls.{IsFullLoad, IsFullOver, IsOfLayers}
 use Rattle.scene_load.specs.Loads.{loaded_sizes, wad_bytes}
 use Rattle.scene_load.proofs.AuditedLemmas.{audited_by}

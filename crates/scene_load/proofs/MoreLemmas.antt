@@ -17,11 +17,11 @@ use Rattle.scene_load.specs.Files.{FilesValue}
 use Rattle.scene_rules.specs.declared.refusal.AuditRefusal.TheVariants.{WeaponArt}
 use Rattle.scene_rules.specs.Scenes.{SceneValue, art_of, sizes_of}
 use Rattle.scene_rules.specs.Sizes.{enough, greatest_by, is_needed, lump_block, needed_lumps, zone_sizes}
-use Rattle.level_audit.specs.Sound.{SoundValue, art_with, with_book}
+use Rattle.sound_scene.specs.Sound.{SoundValue, art_with, with_book}
 use Rattle.level_audit.specs.Weapons.{weapon_book, weapon_needs, weapon_refusal}
-use Rattle.level_audit.proofs.NeededLemmas.{for_colormap, for_picture, needed_there, past_block}
+use Rattle.sound_scene.proofs.NeededLemmas.{for_colormap, for_picture, needed_there, past_block}
 use Rattle.level_audit.proofs.NeededPictureLemmas.{needed_picture}
-use Rattle.level_audit.proofs.SceneLemmas.{and_then-ok, from_below-ok}
+use Rattle.sound_scene.proofs.SceneLemmas.{and_then-ok, from_below-ok}
 use Rattle.scene_load.specs.Fulls.{IsOfLayers}
 use Rattle.scene_load.specs.Loads.{LoadedValue, audited_value, loaded_lumps, loaded_pictures, loaded_sizes, weapon_lumps, weapons_of, with_layers}
 

@@ -16,8 +16,8 @@ use Rattle.art_rules.specs.Wanted.{PreparedTexture}
 use Rattle.texture_build.specs.Asked.{size_of}
 use Rattle.texture_build.specs.Views.{prepared_at}
 use Rattle.scene_rules.specs.Sizes.{block_or_none, composite_block, is_needed, lump_block, needed_lumps, roomy, zone_sizes}
-use Rattle.level_audit.specs.Sound.{art_with}
-use Rattle.level_audit.proofs.MarkLemmas.{any_passed}
+use Rattle.sound_scene.specs.Sound.{art_with}
+use Rattle.sound_scene.proofs.MarkLemmas.{any_passed}
 use Rattle.scene_load.specs.Loads.{LoadedValue, loaded_lumps, loaded_pictures, loaded_sizes}
 use Rattle.scene_load.specs.Orders.{composite_item, composite_items, loaded_items, lump_item, lumps_size}
 

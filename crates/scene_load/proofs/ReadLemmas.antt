@@ -28,10 +28,11 @@ use Rattle.scene_rules.specs.Scenes.{SceneValue, art_of, if_long, label_of, long
 use Rattle.scene_rules.specs.Sizes.{is_map_lump, is_needed}
 use Rattle.level_audit.specs.Asked.{IsOfArt, IsOfBase}
 use Rattle.level_audit.specs.Reads.{IsAfterColormap, IsReadBy}
-use Rattle.level_audit.specs.Sound.{art_with}
+use Rattle.sound_scene.specs.Sound.{art_with}
 use Rattle.level_audit.specs.Weapons.{weapon_needs}
-use Rattle.level_audit.proofs.NeededLemmas.{for_colormap, for_picture, needed_later}
-use Rattle.level_audit.proofs.SceneLemmas.{base_parts, colormap_there, same_value, scene_parts}
+use Rattle.level_audit.proofs.AskedLemmas.{needed_later}
+use Rattle.sound_scene.proofs.NeededLemmas.{for_colormap, for_picture}
+use Rattle.sound_scene.proofs.SceneLemmas.{base_parts, colormap_there, same_value, scene_parts}
 use Rattle.scene_load.specs.Files.{FilesValue}
 use Rattle.scene_load.specs.Fulls.{IsOfLayers, IsReadFor}
 use Rattle.scene_load.specs.Loads.{LoadedValue, audited_in, loaded_pictures, weapon_lumps, weapons_of}

@@ -17,7 +17,7 @@ use Rattle.scene_rules.specs.declared.refusal.AuditRefusal.{AuditRefusal}
 use Rattle.scene_rules.specs.declared.refusal.AuditRefusal.TheVariants.{WeaponArt}
 use Rattle.scene_rules.specs.Scenes.{SceneValue, scene_in}
 use Rattle.scene_rules.specs.Sizes.{needed_lumps, zone_sizes}
-use Rattle.level_audit.specs.Sound.{SoundValue, art_with, with_book}
+use Rattle.sound_scene.specs.Sound.{SoundValue, art_with, with_book}
 use Rattle.level_audit.specs.Weapons.{weapon_book}
 use Rattle.refusals.specs.Groups.{of_audit}
 use Rattle.scene_load.specs.declared.load.LoadedScene.{LoadedScene}

@@ -9,9 +9,15 @@ mod constants;
 #[cfg(test)]
 mod messages;
 #[cfg(test)]
+mod shelf_tests;
+#[cfg(test)]
+mod test_levels;
+#[cfg(test)]
 mod tests;
 #[cfg(test)]
 mod things;
+#[cfg(test)]
+mod view_tests;
 #[cfg(test)]
 mod walks;
 #[cfg(test)]

@@ -4,7 +4,7 @@ use Rattle.std.proofs.Common.{◌<◌, ◌≤◌, ℕ, List}
 use Rattle.lump_rules.specs.Contents.{lump_bytes}
 use Rattle.zone_rules.specs.Orders.{Item, IsInOrder, KeepsOrder}
 use Rattle.texture_build.specs.Draws.{HoldsArt}
-use Rattle.level_audit.specs.Sound.{textures_view}
+use Rattle.sound_scene.specs.Sound.{textures_view}
 use Rattle.doom_run.specs.Frames.{KeepsReady}
 use Rattle.doom_run.specs.Renders.{FitsAt, HasReadyAsked, ready_views}
 use Rattle.doom_run.proofs.FrameLemmas.{Rendered}

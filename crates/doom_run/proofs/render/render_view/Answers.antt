@@ -1,7 +1,7 @@
 -- A view that is drawn is written, or a fault ends it.
 use Rattle.std.proofs.Common.{ap}
 use Rattle.lump_rules.specs.Contents.{lump_bytes}
-use Rattle.level_audit.specs.Sound.{SoundValue}
+use Rattle.sound_scene.specs.Sound.{SoundValue}
 use Rattle.doom_run.proofs.TakeLemmas.{drawn_after}
 use Rattle.doom_run.specs.Renders.{ready_views}
 use Rattle.doom_run.proofs.FrameLemmas.{view_fails, view_put, view_put_failed}

@@ -6,7 +6,7 @@ use Rattle.lump_rules.specs.Contents.{lump_bytes}
 use Rattle.lump_rules.specs.Lookups.{lump_at}
 use Rattle.scene_load.specs.Loads.{loaded_value}
 use Rattle.scene_load.specs.Orders.{loaded_items}
-use Rattle.level_audit.proofs.SceneLemmas.{same_value}
+use Rattle.sound_scene.proofs.SceneLemmas.{same_value}
 use Rattle.doom_run.proofs.AskedLemmas.{ready_asked}
 use Rattle.doom_run.proofs.TakeLemmas.{loads_taken, renders_taken}
 use Rattle.doom_run.proofs.LeastLemmas.{least_render}

@@ -4,7 +4,7 @@ use Rattle.std.specs.Prelude.{None, Some, IfErr, IfSome}
 use Rattle.view_rules.specs.View.{ViewValue}
 use Rattle.view_rules.specs.Sound.{IsWithinFrame}
 use Rattle.wad_dir.specs.DirectoryView.{DirectoryView}
-use Rattle.level_audit.specs.Sound.{SoundValue}
+use Rattle.sound_scene.specs.Sound.{SoundValue}
 use Rattle.picture_rules.specs.declared.Limits.{Limits}
 use Rattle.picture_rules.specs.declared.OverLimit.{OverLimit}
 use Rattle.picture_rules.specs.Counts.{view_over}

@@ -12,8 +12,8 @@ use Rattle.scene_rules.specs.declared.refusal.AuditRefusal.TheVariants.{Art}
 use Rattle.scene_rules.specs.Scenes.{scene_in, sizes_of}
 use Rattle.level_audit.specs.Reads.{IsFullAudit}
 use Rattle.level_audit.proofs.FetchLemmas.{answers_after, answers_none, fits_after, full_above, full_after, full_both, full_first, order_after, rest_after, room_after, told_after}
-use Rattle.level_audit.proofs.NeededLemmas.{enough_after, small_first}
-use Rattle.level_audit.proofs.SceneLemmas.{same_value, scene_in-none}
+use Rattle.level_audit.proofs.AskedLemmas.{enough_after, small_first}
+use Rattle.sound_scene.proofs.SceneLemmas.{same_value, scene_in-none}
 use Rattle.level_audit.proofs.audit_steps.audit.Goals as goal
 
 pub returns-in-Err-clause-answers : goal.returns-in-Err-clause-answers

@@ -1,8 +1,8 @@
 use Rattle.std.proofs.Common.{◌<◌, ◌∙◌, length, sym, ap, subst}
 use Rattle.scene_rules.specs.Scenes.{LevelBase}
-use Rattle.level_audit.specs.Whole.{IsWholeScene}
+use Rattle.sound_scene.specs.Whole.{IsWholeScene}
 use Rattle.level_audit.proofs.AuditLemmas.{base_stopped, scene_stopped, sound_passed, sound_stopped}
-use Rattle.level_audit.proofs.SceneLemmas.{colormap_there}
+use Rattle.sound_scene.proofs.SceneLemmas.{colormap_there}
 use Rattle.level_audit.proofs.audit_steps.audit_rest.Goals as goal
 
 pub returns-in_err-base-clause-tells : goal.returns-in_err-base-clause-tells

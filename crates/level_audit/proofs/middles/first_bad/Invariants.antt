@@ -3,7 +3,7 @@ use Rattle.std.specs.Prelude.{◌&&◌}
 use Rattle.texture_build.specs.Views.{is_marked}
 use Rattle.scene_rules.specs.Middles.{is_bad_middle, middle_of}
 use Rattle.scene_rules.specs.Scenes.{texture_by}
-use Rattle.level_audit.specs.Whole.{IsNoneOrSingle}
+use Rattle.sound_scene.specs.Whole.{IsNoneOrSingle}
 use Rattle.level_audit.proofs.middles.first_bad.Given as goal
 
 -- no side so far, and the middles of those that are marked are of single columns

@@ -1,7 +1,7 @@
 use Rattle.std.proofs.Common.{◌≡◌, length, take}
 use Rattle.std.specs.List.{list_any}
 use Rattle.scene_rules.specs.Middles.{is_seen_through}
-use Rattle.level_audit.specs.Views.{AddsMarks}
+use Rattle.sound_scene.specs.Views.{AddsMarks}
 use Rattle.level_audit.proofs.middles.mark_sides.Given as goal
 
 -- the sides of the segs so far

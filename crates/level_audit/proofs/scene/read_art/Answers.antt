@@ -6,10 +6,10 @@ use Rattle.sprite_book.specs.Calls.{IsWanted}
 use Rattle.scene_rules.specs.declared.Placed.{Placed}
 use Rattle.scene_rules.specs.Places.{need_of}
 use Rattle.outside.specs.declared.fault.Fault.TheVariants.{OutOfMemory}
-use Rattle.level_audit.specs.Bases.{base_of}
-use Rattle.level_audit.specs.declared.base.ReadBase.{ReadBase}
-use Rattle.level_audit.specs.Whole.{AreSidePrepared}
-use Rattle.level_audit.specs.Scenes.{faces_of}
+use Rattle.sound_scene.specs.Bases.{base_of}
+use Rattle.sound_scene.specs.declared.parts.ReadBase.{ReadBase}
+use Rattle.sound_scene.specs.Whole.{AreSidePrepared}
+use Rattle.sound_scene.specs.Scenes.{faces_of}
 use Rattle.scene_rules.specs.Scenes.{scene_with}
 use Rattle.level_audit.proofs.ArtLemmas.{sides_told}
 use Rattle.level_audit.proofs.StepLemmas.{scene_with-more, scene_with-stop}

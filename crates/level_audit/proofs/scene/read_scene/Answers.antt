@@ -4,10 +4,10 @@ use Rattle.lump_cache.proofs.CallLemmas.{reads_stop_first, reads_then}
 use Rattle.art_rules.specs.Textures.{TextureLists}
 use Rattle.scene_rules.specs.Scenes.{faces_in, scene_on}
 use Rattle.level_audit.specs.Faults.{above_scene}
-use Rattle.level_audit.specs.Bases.{base_of}
-use Rattle.level_audit.specs.declared.names.ReadFaces.{ReadFaces}
+use Rattle.sound_scene.specs.Bases.{base_of}
+use Rattle.sound_scene.specs.declared.parts.ReadFaces.{ReadFaces}
 use Rattle.level_audit.specs.Asked.{IsOfScene}
-use Rattle.level_audit.specs.Scenes.{faces_of}
+use Rattle.sound_scene.specs.Scenes.{faces_of}
 use Rattle.level_audit.proofs.PartLemmas.{faces_told}
 use Rattle.level_audit.proofs.StepLemmas.{scene_on-more, scene_on-stop}
 use Rattle.level_audit.proofs.WholeLemmas.{faces_over, scene_after}

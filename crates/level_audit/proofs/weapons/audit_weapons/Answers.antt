@@ -3,9 +3,9 @@ use Rattle.art_rules.specs.declared.shapes.Frame.{Frame}
 use Rattle.art_rules.specs.Books.{book_lumps}
 use Rattle.scene_rules.specs.Scenes.{SceneValue}
 use Rattle.scene_rules.specs.Sizes.{needed_lumps, zone_sizes}
-use Rattle.level_audit.specs.Views.{numbers_of}
-use Rattle.level_audit.specs.Sound.{art_with}
-use Rattle.level_audit.proofs.PictureLemmas.{HaveSame, books_same, with_book_is}
+use Rattle.sound_scene.specs.Views.{numbers_of}
+use Rattle.sound_scene.specs.Sound.{art_with}
+use Rattle.sound_scene.proofs.PictureLemmas.{HaveSame, books_same, with_book_is}
 use Rattle.level_audit.proofs.weapons.audit_weapons.Goals as goal
 
 pub returns-clause-scene : goal.returns-clause-scene

@@ -9,10 +9,10 @@ use Rattle.lump_cache.specs.Caches.{IsAtRest}
 use Rattle.command_line.specs.LevelJobs.{level_job_value}
 use Rattle.scene_load.specs.Files.{value_of}
 use Rattle.scene_rules.specs.Scenes.{SceneValue}
-use Rattle.level_audit.specs.Sound.{SoundValue}
-use Rattle.level_audit.specs.Whole.{IsWholeScene}
+use Rattle.sound_scene.specs.Sound.{SoundValue}
+use Rattle.sound_scene.specs.Whole.{IsWholeScene}
 use Rattle.level_audit.proofs.FetchLemmas.{order_after, told_after}
-use Rattle.level_audit.proofs.SceneLemmas.{colormap_there}
+use Rattle.sound_scene.proofs.SceneLemmas.{colormap_there}
 use Rattle.scene_load.specs.Fulls.{IsBaseWithin, IsFullOver}
 use Rattle.scene_load.specs.Loads.{audited_value, loaded_lumps, loaded_sizes}
 use Rattle.scene_load.specs.Orders.{loaded_items}

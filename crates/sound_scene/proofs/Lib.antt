@@ -1,0 +1,6 @@
+pub mod MarkLemmas
+pub mod MemberLemmas
+pub mod NeededLemmas
+pub mod PictureLemmas
+pub mod SceneLemmas
+pub mod SizeLemmas

@@ -1,0 +1,24 @@
+use Rattle.std.proofs.Common.{refl, arith}
+use Rattle.std.specs.Prelude.{None}
+use Rattle.scene_rules.specs.Sizes.{composite_block}
+use Rattle.sound_scene.proofs.SizeLemmas.{composite_block-none, greatest_none, greatest_step, sum_step}
+use Rattle.sound_scene.proofs.sizes.composite_blocks.Goals as goal
+
+pub loop-number-init : goal.loop-number-init
+loop-number-init c = record {
+  greatest = greatest_none composite_block;
+  sum = refl;
+  greatest_fits = omega arith;
+  sum_fits = omega arith;
+}
+
+pub loop-number-preserved : goal.loop-number-preserved
+loop-number-preserved c =
+    let prepared = c.args.textures.now.prepared in
+    let i = c.loop-number.number in
+    record {
+      greatest = greatest_step composite_block prepared i None _ _ _ (λ l. composite_block-none) c.loop-number.invariant.greatest c.composite_block.ensures.value c.with_block-blocks.ensures.greatest;
+      sum = sum_step composite_block prepared i None _ _ _ (λ l. composite_block-none) c.loop-number.invariant.sum c.composite_block.ensures.value c.with_block-blocks.ensures.sum;
+      greatest_fits = omega (arith, c.composite_block.ensures.fits);
+      sum_fits = omega (arith, c.composite_block.ensures.fits);
+    }

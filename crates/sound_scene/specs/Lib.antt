@@ -1,0 +1,5 @@
+pub mod Bases
+pub mod Scenes
+pub mod Sound
+pub mod Views
+pub mod Whole

@@ -1,0 +1,71 @@
+// Marks by number.
+//
+// Rules: `specs/Views`.
+ghost use Rattle.std.specs.Prelude.{◌≡◌, ◌<◌, ◌==◌, ◌^◌, false, ℕ, length, filter, IfOk};
+ghost use Rattle.std.specs.List.{range_with_len};
+ghost use Rattle.texture_build.specs.Views.{is_marked};
+ghost use Rattle.sound_scene.specs.Views.{AddsMarks, numbers_of};
+
+use outside::OutOfMemory;
+use std::alloc::Global;
+use std::marker::Model;
+use wad_dir::LumpNo;
+
+// A mark for each number below a count. Contracts see the list of marks.
+#[derive(Drop)]
+pub struct Marks {
+    list: Vec<bool>,
+}
+
+impl Model for Marks {
+    ghost use Rattle.std.specs.Prelude.{Bool, List};
+
+    ghost Value = { List Bool };
+
+    ghost view = { λ marks. marks.list.items };
+}
+
+impl Marks {
+    // So many marks, none set.
+    pub fn none(alloc: Global, count: usize) -> Result<Marks, OutOfMemory>
+        ensures count { IfOk result (λ marks. length marks ≡ count) }
+        ensures none { IfOk result (λ marks. (number : ℕ) → is_marked marks number ≡ false) }
+    {
+        let list = vec![in alloc; false; count]?;
+        Ok(Marks { list })
+    }
+
+    // Sets a mark, where there is one of that number.
+    pub fn set(&mut self, number: usize)
+        ensures count { length self.new ≡ length self.old }
+        ensures marked { AddsMarks self.old self.new (λ n. number == n) }
+    {
+        if number < self.list.len() {
+            self.list[number] = true;
+        }
+    }
+
+    // Whether a mark is set.
+    pub fn has(&self, number: usize) -> bool
+        requires { number < length self.now }
+        ensures { result ≡ is_marked self.now number }
+    {
+        self.list[number]
+    }
+
+    // The lumps whose numbers are marked, ascending.
+    pub fn lumps(&self, alloc: Global) -> Result<Vec<LumpNo>, OutOfMemory>
+        requires { length self.now < 2 ^ 16 }
+        ensures { IfOk result (λ lumps.
+            numbers_of lumps.items ≡ filter (is_marked self.now)
+            (range_with_len 0 (length self.now))) }
+    {
+        let mut lumps = Vec::new(alloc);
+        for (number, marked) in self.list.iter().enumerate() {
+            if *marked {
+                lumps.push(LumpNo(number as u16))?;
+            }
+        }
+        Ok(lumps)
+    }
+}

@@ -1,0 +1,51 @@
+// The lumps that a scene needs with these pictures, and how large a zone has to be for them.
+//
+// Rules: `scene_rules`, Sizes. The original: `R_PrecacheLevel`, r_data.c, which reads them.
+ghost use Rattle.std.specs.Prelude.{◌≡◌, ◌<◌, length, IfOk};
+ghost use Rattle.scene_rules.specs.Sizes.{needed_lumps, zone_sizes};
+ghost use Rattle.sound_scene.specs.Views.{numbers_of};
+ghost use Rattle.sound_scene.specs.Scenes.{scene_value};
+ghost use Rattle.sound_scene.specs.Sound.{art_with};
+
+use crate::needed::{NeededArt, needed_lumps};
+use crate::parts::ReadScene;
+use crate::sizes::zone_sizes;
+use outside::OutOfMemory;
+use scene_rules::ZoneSizes;
+use std::alloc::Global;
+use wad_dir::{Directory, LumpNo};
+
+// The lumps that are needed, and the sizes of a zone for them.
+#[derive(Drop)]
+pub struct Needed {
+    pub lumps: Vec<LumpNo>,
+    pub sizes: ZoneSizes,
+}
+
+// What a scene needs, with the pictures of these lumps.
+pub fn find_needed(
+    alloc: Global,
+    dir: &Directory,
+    scene: &ReadScene,
+    pictures: &[LumpNo],
+) -> Result<Needed, OutOfMemory>
+    requires { scene.now.base.colormap.0 < length dir.now.lumps }
+    ensures lumps { IfOk result (λ needed.
+        numbers_of needed.lumps.items ≡ needed_lumps dir.now.lumps
+        (art_with (scene_value scene.now) (numbers_of pictures.now))) }
+    ensures sizes { IfOk result (λ needed.
+        needed.sizes ≡ zone_sizes dir.now.lumps
+        (art_with (scene_value scene.now) (numbers_of pictures.now))) }
+{
+    let art = NeededArt {
+        colormap: scene.base.colormap,
+        playpal: scene.base.playpal,
+        label: scene.base.label,
+        textures: &scene.base.textures,
+        flats: &scene.faces.flats,
+        pictures,
+    };
+    let lumps = needed_lumps(alloc, dir, &art)?;
+    let sizes = zone_sizes(dir, &art, &lumps);
+    Ok(Needed { lumps, sizes })
+}
