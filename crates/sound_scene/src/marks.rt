@@ -11,7 +11,7 @@ use std::alloc::Global;
 use std::marker::Model;
 use wad_dir::LumpNo;
 
-// A mark for each number below a count. Contracts see the list of marks.
+/// A mark for each number below a count. Contracts see the list of marks.
 #[derive(Drop)]
 pub struct Marks {
     list: Vec<bool>,
@@ -26,7 +26,7 @@ impl Model for Marks {
 }
 
 impl Marks {
-    // So many marks, none set.
+    /// So many marks, none set.
     pub fn none(alloc: Global, count: usize) -> Result<Marks, OutOfMemory>
         ensures count { IfOk result (λ marks. length marks ≡ count) }
         ensures none { IfOk result (λ marks. (number : ℕ) → is_marked marks number ≡ false) }
@@ -35,7 +35,7 @@ impl Marks {
         Ok(Marks { list })
     }
 
-    // Sets a mark, where there is one of that number.
+    /// Sets a mark, where there is one of that number.
     pub fn set(&mut self, number: usize)
         ensures count { length self.new ≡ length self.old }
         ensures marked { AddsMarks self.old self.new (λ n. number == n) }
@@ -45,7 +45,7 @@ impl Marks {
         }
     }
 
-    // Whether a mark is set.
+    /// Whether a mark is set.
     pub fn has(&self, number: usize) -> bool
         requires { number < length self.now }
         ensures { result ≡ is_marked self.now number }
@@ -53,7 +53,7 @@ impl Marks {
         self.list[number]
     }
 
-    // The lumps whose numbers are marked, ascending.
+    /// The lumps whose numbers are marked, ascending.
     pub fn lumps(&self, alloc: Global) -> Result<Vec<LumpNo>, OutOfMemory>
         requires { length self.now < 2 ^ 16 }
         ensures { IfOk result (λ lumps.

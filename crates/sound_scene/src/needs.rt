@@ -15,14 +15,14 @@ use scene_rules::ZoneSizes;
 use std::alloc::Global;
 use wad_dir::{Directory, LumpNo};
 
-// The lumps that are needed, and the sizes of a zone for them.
+/// The lumps that are needed, and the sizes of a zone for them.
 #[derive(Drop)]
 pub struct Needed {
     pub lumps: Vec<LumpNo>,
     pub sizes: ZoneSizes,
 }
 
-// What a scene needs, with the pictures of these lumps.
+/// What a scene needs, with the pictures of these lumps.
 pub fn find_needed(
     alloc: Global,
     dir: &Directory,

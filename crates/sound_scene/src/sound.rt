@@ -55,8 +55,10 @@ impl Model for SoundScene {
 }
 
 impl SoundScene {
-    // A scene with what is made of it once: the middle textures of its sides, the surfaces of its
-    // sectors, the lumps that it needs and the sizes of a zone for them.
+    /// The scene with what is made of it once: the middle textures of its sides, the surfaces of its
+    /// sectors, the lumps that it needs and the sizes of a zone for them. Takes memory for these.
+    ///
+    /// Errors: `OutOfMemory`. This project's own; `audit` of `level_audit` calls it.
     pub fn new(alloc: Global, dir: &Directory, scene: ReadScene) -> Result<SoundScene, OutOfMemory>
         requires flats { length scene.faces.flats.items ≡ length scene.base.level.sectors }
         requires colormap { scene.base.colormap.0 < length dir.now.lumps }
@@ -67,25 +69,27 @@ impl SoundScene {
         ensures sizes { IfOk result (λ sound.
             sound.sizes ≡ sizes_of dir.now.lumps (scene_value scene)) }
     {
-        let needed = find_needed(alloc, dir, &scene, scene.book.pictures())?;
-        let middles = middles_of(alloc, &scene.faces.sides)?;
-        let surfaces = make_surfaces(alloc, scene.base.level.sectors(), &scene.faces.flats)?;
+        let parts = make_parts(alloc, dir, &scene)?;
         Ok(SoundScene {
             scene,
-            middles,
-            surfaces,
-            needed,
+            middles: parts.middles,
+            surfaces: parts.surfaces,
+            needed: parts.needed,
         })
     }
 
-    // The scene as it was read.
+    /// The scene as it was read.
+    ///
+    /// This project's own.
     pub fn read(&self) -> &ReadScene
         ensures { scene_value result.now ≡ self.now.scene }
     {
         &self.scene
     }
 
-    // Takes what is needed, and how large a zone has to be for it, in place of what was.
+    /// Replaces the needed lumps and the zone sizes.
+    ///
+    /// This project's own: weapon layers need the pictures of their frames too.
     pub fn set_needed(&mut self, needed: Needed)
         ensures { self.new ≡ record self.old
             { named = numbers_of needed.lumps.items; sizes = needed.sizes } }
@@ -211,6 +215,34 @@ impl SoundScene {
     {
         sector_at(&self.scene.base.level, x, y)
     }
+}
+
+// What is made of a scene once.
+#[derive(Drop)]
+struct SceneParts {
+    middles: Vec<u16>,
+    surfaces: Vec<Surface>,
+    needed: Needed,
+}
+
+// It owns no scene, since each `?` drops what its function owns.
+fn make_parts(alloc: Global, dir: &Directory, scene: &ReadScene) -> Result<SceneParts, OutOfMemory>
+    requires flats { length scene.now.faces.flats.items ≡ length scene.now.base.level.sectors }
+    requires colormap { scene.now.base.colormap.0 < length dir.now.lumps }
+    ensures middles { IfOk result (λ parts.
+        parts.middles.items ≡ middles_of scene.now.faces.sides.items) }
+    ensures surfaces { IfOk result (λ parts. parts.surfaces.items
+        ≡ surfaces_of scene.now.base.level.sectors scene.now.faces.flats.items) }
+    ensures named { IfOk result (λ parts. numbers_of parts.needed.lumps.items
+        ≡ needed_lumps dir.now.lumps (art_of (scene_value scene.now))) }
+    ensures sizes { IfOk result (λ parts.
+        parts.needed.sizes ≡ sizes_of dir.now.lumps (scene_value scene.now)) }
+{
+    Ok(SceneParts {
+        needed: find_needed(alloc, dir, scene, scene.book.pictures())?,
+        middles: middles_of(alloc, &scene.faces.sides)?,
+        surfaces: make_surfaces(alloc, scene.base.level.sectors(), &scene.faces.flats)?,
+    })
 }
 
 // The middle texture of each side.
