@@ -2,7 +2,7 @@ use Rattle.std.proofs.Common.{ap, ◌∙◌}
 use Rattle.texture_build.specs.Sources.{column_view}
 use Rattle.texture_build.proofs.TexelLemmas.{prepared_is, texels_lent}
 use Rattle.texture_build.specs.Views.{prepared_at, prepared_texture}
-use Rattle.texture_build.proofs.textures.columns.Textures.column_at.Goals as goal
+use Rattle.texture_build.proofs.textures.Textures.column_at.Goals as goal
 
 pub returns-clause-texel : goal.returns-clause-texel
 returns-clause-texel c = λ col contents lumps is there faithful composites are.
