@@ -12,12 +12,12 @@ use Rattle.view_rules.specs.View.{ViewValue}
 use Rattle.pixel_rules.specs.Art.{Art}
 use Rattle.pixel_rules.specs.Dots.{Dot}
 use Rattle.pixel_rules.specs.Strips.{rows_between}
-use Rattle.sprite_rules.specs.declared.SpriteEntry.{SpriteEntry}
-use Rattle.sprite_rules.specs.Drawsegs.{Drawseg, DrawAlike, drawseg_has, is_behind}
-use Rattle.sprite_rules.specs.Clips.{gives_bottom, gives_top, passes_at, greatest_that, clip_of_some, clip_of_number, sprite_bottom, sprite_top, sprite_in_front}
-use Rattle.sprite_rules.specs.Sprites.{sprite_masked, sprite_column, sprite_dots}
-use Rattle.sprite_rules.specs.Middles.{drawseg_scale, middle_masked, middle_by, middle_column, same_number, columns_at, middles_of, middles_at, sprite_step, sprites_from, masked_dots}
-use Rattle.sprite_rules.proofs.MaskedLemmas.{masked_dots-alike}
+use Rattle.picture_rules.specs.declared.sprite.SpriteEntry.{SpriteEntry}
+use Rattle.picture_rules.specs.sprite.Drawsegs.{Drawseg, DrawAlike, drawseg_has, is_behind}
+use Rattle.picture_rules.specs.sprite.Clips.{gives_bottom, gives_top, passes_at, greatest_that, clip_of_some, clip_of_number, sprite_bottom, sprite_top, sprite_in_front}
+use Rattle.picture_rules.specs.sprite.Sprites.{sprite_masked, sprite_column, sprite_dots}
+use Rattle.picture_rules.specs.sprite.Middles.{drawseg_scale, middle_masked, middle_by, middle_column, same_number, columns_at, middles_of, middles_at, sprite_step, sprites_from, masked_dots}
+use Rattle.picture_rules.proofs.sprite.MaskedLemmas.{masked_dots-alike}
 
 -- a fragment with nothing where the masked pass does not read
 abbrev pub as_read : Drawseg → Drawseg

@@ -5,14 +5,14 @@ use Rattle.std.proofs.lemmas.Bool.Decides.{nat_tests}
 use Rattle.std.proofs.lemmas.Int.{ints}
 use Rattle.std.proofs.lemmas.List.Elements.{All-push, All-set}
 use Rattle.word_rules.specs.Words.{natural}
-use Rattle.wall_rules.specs.declared.RowRange.{RowRange}
-use Rattle.wall_rules.specs.Strips.{marked_rows}
-use Rattle.plane_rules.specs.declared.PlaneKey.{PlaneKey}
-use Rattle.plane_rules.specs.Planes.{Plane, add, check, check_plane, check_some, column, empty_plane, find, is_free, mark, mark_some, number_of, number_or_add, with_run}
-use Rattle.plane_rules.specs.Spans.{holds, holds_row}
-use Rattle.plane_rules.specs.Built.{PlaneWall, PlanesNow, after_event, ceiling_checked, ceiling_found, checked_plane, column_marked, columns_marked, floor_checked, floor_found, set_run, wall_marked, with_ceiling, with_floor}
-use Rattle.plane_rules.specs.Built.PlaneEvent.{Draws, Finds}
-use Rattle.plane_rules.proofs.PlaneLemmas.{column-empty_plane}
+use Rattle.picture_rules.specs.declared.wall.RowRange.{RowRange}
+use Rattle.picture_rules.specs.wall.Strips.{marked_rows}
+use Rattle.picture_rules.specs.declared.plane.PlaneKey.{PlaneKey}
+use Rattle.picture_rules.specs.plane.Planes.{Plane, add, check, check_plane, check_some, column, empty_plane, find, is_free, mark, mark_some, number_of, number_or_add, with_run}
+use Rattle.picture_rules.specs.plane.Spans.{holds, holds_row}
+use Rattle.picture_rules.specs.plane.Built.{PlaneWall, PlanesNow, after_event, ceiling_checked, ceiling_found, checked_plane, column_marked, columns_marked, floor_checked, floor_found, set_run, wall_marked, with_ceiling, with_floor}
+use Rattle.picture_rules.specs.plane.Built.PlaneEvent.{Draws, Finds}
+use Rattle.picture_rules.proofs.plane.PlaneLemmas.{column-empty_plane}
 
 -- a plane that is there is one of the planes
 get_is : (planes : List Plane) (i : ℕ) (p : Plane) → slice_get planes i ≡ Some p → (i < length planes) × (get_or planes i p ≡ p)

@@ -8,12 +8,12 @@ use Rattle.walk_rules.specs.declared.TheConstants.{MAX_DRAWSEGS}
 use Rattle.walk_rules.specs.Drawsegs.{drawsegs, leaf_fragments}
 use Rattle.walk_rules.specs.Events.{Event}
 use Rattle.walk_rules.specs.Walk.{view_events}
-use Rattle.wall_rules.specs.Walls.{Wall}
-use Rattle.wall_rules.specs.Openings.{openings_of}
-use Rattle.wall_rules.specs.Notes.{notes_from, openings_list, saved_by, saved_from, view_notes}
-use Rattle.wall_rules.proofs.NoteLemmas.{length-saved_openings}
-use Rattle.plane_rules.specs.Built.{planes_of}
-use Rattle.plane_rules.specs.Planes.{Plane}
+use Rattle.picture_rules.specs.wall.Walls.{Wall}
+use Rattle.picture_rules.specs.wall.Openings.{openings_of}
+use Rattle.picture_rules.specs.wall.Notes.{notes_from, openings_list, saved_by, saved_from, view_notes}
+use Rattle.picture_rules.proofs.wall.NoteLemmas.{length-saved_openings}
+use Rattle.picture_rules.specs.plane.Built.{planes_of}
+use Rattle.picture_rules.specs.plane.Planes.{Plane}
 use Rattle.scene_rules.specs.Scenes.{SceneValue}
 use Rattle.picture_rules.specs.declared.Counts.{Counts}
 use Rattle.picture_rules.specs.Planes.{view_planes}

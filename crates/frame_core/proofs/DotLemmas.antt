@@ -8,8 +8,8 @@ use Rattle.walk_rules.specs.declared.TheConstants.{MAX_DRAWSEGS}
 use Rattle.walk_rules.specs.Events.{Event}
 use Rattle.walk_rules.specs.Events.Event.{LeafEvent, FragmentEvent}
 use Rattle.walk_rules.specs.Drawsegs.{drawsegs, leaf_fragments}
-use Rattle.wall_rules.specs.Strips.{wall_dots}
-use Rattle.wall_rules.proofs.PaintLemmas.{wall_dots-front}
+use Rattle.picture_rules.specs.wall.Strips.{wall_dots}
+use Rattle.picture_rules.proofs.wall.PaintLemmas.{wall_dots-front}
 use Rattle.pixel_rules.specs.Dots.{Dot}
 use Rattle.picture_rules.specs.Scene.{Scene}
 use Rattle.picture_rules.specs.Walls.{walls_dots, walls_from, walls_of}

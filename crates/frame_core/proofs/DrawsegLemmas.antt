@@ -15,20 +15,20 @@ use Rattle.walk_rules.specs.Drawsegs.{LeafFragment, drawsegs}
 use Rattle.walk_rules.specs.Events.{Event}
 use Rattle.walk_rules.specs.Segs.{back_of}
 use Rattle.pixel_rules.specs.Art.{Art}
-use Rattle.wall_rules.specs.declared.FragmentNote.{FragmentNote}
-use Rattle.wall_rules.specs.declared.FragmentNumbers.{FragmentNumbers}
-use Rattle.wall_rules.specs.declared.TheConstants.{SIL_BOTTOM, SIL_TOP}
-use Rattle.wall_rules.specs.declared.WallFacts.{WallFacts}
-use Rattle.wall_rules.specs.declared.WallTexture.{WallTexture}
-use Rattle.wall_rules.specs.Notes.{note_at, notes_from, openings_list, place_if, room_if, saved_by, saved_from, silhouette_of, view_notes}
-use Rattle.wall_rules.specs.Numbers.{seg_light}
-use Rattle.wall_rules.specs.Openings.{saves_bottom, saves_top}
-use Rattle.wall_rules.specs.Walls.{Wall, wall_of}
-use Rattle.wall_rules.proofs.NoteLemmas.{length-saved_by, note-bottom_clip, note-middle_column, note-top_clip}
+use Rattle.picture_rules.specs.declared.wall.FragmentNote.{FragmentNote}
+use Rattle.picture_rules.specs.declared.wall.FragmentNumbers.{FragmentNumbers}
+use Rattle.picture_rules.specs.declared.wall.TheConstants.{SIL_BOTTOM, SIL_TOP}
+use Rattle.picture_rules.specs.declared.wall.WallFacts.{WallFacts}
+use Rattle.picture_rules.specs.declared.wall.WallTexture.{WallTexture}
+use Rattle.picture_rules.specs.wall.Notes.{note_at, notes_from, openings_list, place_if, room_if, saved_by, saved_from, silhouette_of, view_notes}
+use Rattle.picture_rules.specs.wall.Numbers.{seg_light}
+use Rattle.picture_rules.specs.wall.Openings.{saves_bottom, saves_top}
+use Rattle.picture_rules.specs.wall.Walls.{Wall, wall_of}
+use Rattle.picture_rules.proofs.wall.NoteLemmas.{length-saved_by, note-bottom_clip, note-middle_column, note-top_clip}
 use Rattle.art_rules.specs.Textures.{texture_at}
-use Rattle.sprite_rules.specs.declared.SpriteEntry.{SpriteEntry}
-use Rattle.sprite_rules.specs.Drawsegs.{DrawAlike}
-use Rattle.sprite_rules.specs.Middles.{masked_dots, masked_mid, middle_hangs, middle_stands}
+use Rattle.picture_rules.specs.declared.sprite.SpriteEntry.{SpriteEntry}
+use Rattle.picture_rules.specs.sprite.Drawsegs.{DrawAlike}
+use Rattle.picture_rules.specs.sprite.Middles.{masked_dots, masked_mid, middle_hangs, middle_stands}
 use Rattle.scene_rules.specs.declared.SectorFlats.{SectorFlats}
 use Rattle.scene_rules.specs.Scenes.{SceneValue}
 use Rattle.scene_rules.specs.SectorFlats.{surface_of, surfaces_of}

@@ -14,13 +14,13 @@ use Rattle.walk_rules.specs.Events.{Event}
 use Rattle.art_rules.specs.declared.shapes.Frame.{Frame}
 use Rattle.art_rules.specs.declared.shapes.Shape.{Shape}
 use Rattle.art_rules.specs.Books.{book_lumps, is_frame, picked, shape_lumps}
-use Rattle.sprite_rules.specs.declared.TheConstants.{MAX_VISSPRITES}
-use Rattle.sprite_rules.specs.declared.Placed.{Placed}
-use Rattle.sprite_rules.specs.declared.Seen.{Seen}
-use Rattle.sprite_rules.specs.declared.Shape5.{Shape5}
-use Rattle.sprite_rules.specs.declared.SpriteEntry.{SpriteEntry}
-use Rattle.sprite_rules.specs.Entries.{add_entry, entry_for, entry_of, entry_within, with_entry}
-use Rattle.sprite_rules.specs.Projection.{project}
+use Rattle.picture_rules.specs.declared.sprite.TheConstants.{MAX_VISSPRITES}
+use Rattle.picture_rules.specs.declared.sprite.Placed.{Placed}
+use Rattle.picture_rules.specs.declared.sprite.Seen.{Seen}
+use Rattle.picture_rules.specs.declared.sprite.Shape5.{Shape5}
+use Rattle.picture_rules.specs.declared.sprite.SpriteEntry.{SpriteEntry}
+use Rattle.picture_rules.specs.sprite.Entries.{add_entry, entry_for, entry_of, entry_within, with_entry}
+use Rattle.picture_rules.specs.sprite.Projection.{project}
 use Rattle.scene_rules.specs.Scenes.{SceneValue}
 use Rattle.picture_rules.specs.Things.{placed_of, sectors_entered, view_entries, with_sectors, with_seen, with_shape, with_thing, with_things}
 use Rattle.frame_core.specs.Scenes.{drawn_shape, scene_of}

@@ -28,10 +28,10 @@ use Rattle.pixel_rules.specs.declared.Painter.{Painter}
 use Rattle.pixel_rules.specs.Dots.{Dot}
 use Rattle.pixel_strips.specs.Canvases.{CanvasView}
 use Rattle.pixel_strips.specs.Dotted.{HasDots, PlacedAlike}
-use Rattle.plane_rules.specs.declared.Flat4.{Flat4}
-use Rattle.plane_rules.specs.declared.Flat4.TheVariants as flat
-use Rattle.plane_rules.specs.Built.{planes_of}
-use Rattle.plane_rules.specs.Planes.{Plane}
+use Rattle.picture_rules.specs.declared.plane.Flat4.{Flat4}
+use Rattle.picture_rules.specs.declared.plane.Flat4.TheVariants as flat
+use Rattle.picture_rules.specs.plane.Built.{planes_of}
+use Rattle.picture_rules.specs.plane.Planes.{Plane}
 use Rattle.scene_rules.specs.declared.SectorFlats.{SectorFlats}
 use Rattle.scene_rules.specs.Scenes.{SceneValue}
 use Rattle.scene_rules.specs.SectorFlats.{flat_number, surface_of}

@@ -11,7 +11,7 @@ use Rattle.zone_rules.specs.Zones.{Heap}
 use Rattle.view_rules.specs.View.{ViewValue}
 use Rattle.level_rules.specs.declared.Surface.{Surface}
 use Rattle.level_rules.specs.Levels.{seg_at, surface_at}
-use Rattle.map_rules.specs.Sound.{IsSound}
+use Rattle.level_rules.specs.maps.Sound.{IsSound}
 use Rattle.art_rules.specs.Wanted.{PreparedTexture}
 use Rattle.walk_rules.specs.declared.TheConstants.{MAX_DRAWSEGS}
 use Rattle.walk_rules.specs.Events.{Event}
@@ -20,10 +20,10 @@ use Rattle.pixel_rules.specs.Dots.{Dot}
 use Rattle.pixel_strips.specs.Canvases.{CanvasView}
 use Rattle.pixel_strips.specs.Dotted.{HasDots, PlacedAlike}
 use Rattle.pixel_strips.proofs.DottedLemmas.{has_dots-none}
-use Rattle.plane_rules.specs.Built.{PlanesNow}
-use Rattle.wall_rules.specs.declared.WallFacts.{WallFacts}
-use Rattle.wall_rules.specs.Strips.{wall_dots}
-use Rattle.wall_rules.specs.Walls.{Wall, wall_of}
+use Rattle.picture_rules.specs.plane.Built.{PlanesNow}
+use Rattle.picture_rules.specs.declared.wall.WallFacts.{WallFacts}
+use Rattle.picture_rules.specs.wall.Strips.{wall_dots}
+use Rattle.picture_rules.specs.wall.Walls.{Wall, wall_of}
 use Rattle.scene_rules.specs.Scenes.{SceneValue}
 use Rattle.picture_rules.specs.declared.Limits.{Limits}
 use Rattle.picture_rules.specs.declared.OverLimit.{OverLimit}

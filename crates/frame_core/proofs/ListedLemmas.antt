@@ -13,19 +13,19 @@ use Rattle.level_rules.specs.declared.SideTextures.{SideTextures}
 use Rattle.level_rules.specs.declared.Surface.{Surface}
 use Rattle.level_rules.specs.declared.ThingLine.{ThingLine}
 use Rattle.level_rules.specs.Levels.{no_seg, seg_at, surface_at}
-use Rattle.map_rules.specs.Sound.{IsSound}
+use Rattle.level_rules.specs.maps.Sound.{IsSound}
 use Rattle.walk_rules.specs.declared.TheConstants.{MAX_DRAWSEGS}
 use Rattle.walk_rules.specs.Drawsegs.{LeafFragment, drawsegs, leaf_fragments}
 use Rattle.walk_rules.specs.Events.{Event}
 use Rattle.walk_rules.specs.Events.Event.{LeafEvent, FragmentEvent}
 use Rattle.walk_rules.specs.Segs.{back_of}
-use Rattle.wall_rules.specs.declared.FragmentNote.{FragmentNote}
-use Rattle.wall_rules.specs.declared.WallFacts.{WallFacts}
-use Rattle.wall_rules.specs.Notes.{note_at, notes_from, place_if, room_if, view_notes}
-use Rattle.wall_rules.specs.Numbers.{fragment_numbers, numbers_by}
-use Rattle.wall_rules.specs.Openings.{saves_bottom, saves_top}
-use Rattle.wall_rules.specs.Parts.{is_masked}
-use Rattle.wall_rules.specs.Walls.{Wall, wall_of}
+use Rattle.picture_rules.specs.declared.wall.FragmentNote.{FragmentNote}
+use Rattle.picture_rules.specs.declared.wall.WallFacts.{WallFacts}
+use Rattle.picture_rules.specs.wall.Notes.{note_at, notes_from, place_if, room_if, view_notes}
+use Rattle.picture_rules.specs.wall.Numbers.{fragment_numbers, numbers_by}
+use Rattle.picture_rules.specs.wall.Openings.{saves_bottom, saves_top}
+use Rattle.picture_rules.specs.wall.Parts.{is_masked}
+use Rattle.picture_rules.specs.wall.Walls.{Wall, wall_of}
 use Rattle.art_rules.specs.declared.PlacedPatch.{PlacedPatch}
 use Rattle.art_rules.specs.Wanted.{PreparedTexture}
 use Rattle.scene_rules.specs.Scenes.{SceneValue}

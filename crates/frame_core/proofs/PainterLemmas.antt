@@ -15,7 +15,7 @@ use Rattle.texture_build.proofs.DrawLemmas.{keeps_art-none}
 use Rattle.view_rules.specs.View.{ViewValue}
 use Rattle.level_rules.specs.declared.Surface.{Surface}
 use Rattle.level_rules.specs.Levels.{LevelLists}
-use Rattle.map_rules.specs.Levels.{LevelValue}
+use Rattle.level_rules.specs.maps.Levels.{LevelValue}
 use Rattle.walk_rules.specs.Events.{Event}
 use Rattle.walk_rules.specs.Events.Event.{LeafEvent, FragmentEvent}
 use Rattle.walk_rules.specs.Walk.{view_events}

@@ -15,21 +15,21 @@ use Rattle.pixel_rules.specs.declared.Painter.{Painter}
 use Rattle.pixel_rules.specs.Art.{Art}
 use Rattle.pixel_rules.specs.Dots.{Dot}
 use Rattle.pixel_rules.specs.Strips.{column_dots, rows_between}
-use Rattle.plane_rules.specs.declared.Flat4.{Flat4}
-use Rattle.plane_rules.specs.declared.Flat4.TheVariants.{Sky, Lump}
-use Rattle.plane_rules.specs.Floors.{run_dots, floor_dots}
-use Rattle.plane_rules.specs.Planes.{Plane, column}
-use Rattle.plane_rules.specs.Skies.{sky_dots, plane_dots_by, plane_dots}
-use Rattle.plane_rules.specs.Spans.{holds_row, holds}
-use Rattle.wall_rules.specs.declared.ColumnClip.{ColumnClip}
-use Rattle.wall_rules.specs.declared.Edges.{Edges}
-use Rattle.wall_rules.specs.declared.FragmentNumbers.{FragmentNumbers}
-use Rattle.wall_rules.specs.declared.Part.{Part}
-use Rattle.wall_rules.specs.declared.RowRange.{RowRange}
-use Rattle.wall_rules.specs.Clips.{middle_rows, top_rows, bottom_rows}
-use Rattle.wall_rules.specs.Parts.{has_texture}
-use Rattle.wall_rules.specs.Strips.{WallStrip, strip_of, wall_strips, strip_dots, wall_column_by, wall_column, wall_dots}
-use Rattle.wall_rules.specs.Walls.{Wall, wall_edges, clip_before}
+use Rattle.picture_rules.specs.declared.plane.Flat4.{Flat4}
+use Rattle.picture_rules.specs.declared.plane.Flat4.TheVariants.{Sky, Lump}
+use Rattle.picture_rules.specs.plane.Floors.{run_dots, floor_dots}
+use Rattle.picture_rules.specs.plane.Planes.{Plane, column}
+use Rattle.picture_rules.specs.plane.Skies.{sky_dots, plane_dots_by, plane_dots}
+use Rattle.picture_rules.specs.plane.Spans.{holds_row, holds}
+use Rattle.picture_rules.specs.declared.wall.ColumnClip.{ColumnClip}
+use Rattle.picture_rules.specs.declared.wall.Edges.{Edges}
+use Rattle.picture_rules.specs.declared.wall.FragmentNumbers.{FragmentNumbers}
+use Rattle.picture_rules.specs.declared.wall.Part.{Part}
+use Rattle.picture_rules.specs.declared.wall.RowRange.{RowRange}
+use Rattle.picture_rules.specs.wall.Clips.{middle_rows, top_rows, bottom_rows}
+use Rattle.picture_rules.specs.wall.Parts.{has_texture}
+use Rattle.picture_rules.specs.wall.Strips.{WallStrip, strip_of, wall_strips, strip_dots, wall_column_by, wall_column, wall_dots}
+use Rattle.picture_rules.specs.wall.Walls.{Wall, wall_edges, clip_before}
 use Rattle.picture_rules.specs.Picture.{AreInView}
 use Rattle.picture_rules.specs.Planes.{planes_from, planes_dots}
 use Rattle.picture_rules.specs.Scene.{Scene}

@@ -6,14 +6,14 @@ use Rattle.view_rules.specs.declared.TheConstants.{FRAME_HEIGHT}
 use Rattle.view_rules.specs.declared.ViewShape.{ViewShape}
 use Rattle.level_rules.specs.declared.Surface.{Surface}
 use Rattle.level_rules.specs.Levels.{is_sky, surface_at}
-use Rattle.wall_rules.specs.Clips.{ceiling_rows, floor_rows}
-use Rattle.wall_rules.specs.Strips.{ceiling_marks, floor_marks}
-use Rattle.wall_rules.specs.Walls.{Wall, clip_before, wall_edges}
-use Rattle.plane_rules.specs.declared.Flat4.TheVariants.{Sky, Lump}
-use Rattle.plane_rules.specs.declared.PlaneKey.{PlaneKey}
-use Rattle.plane_rules.specs.Keys.{ceiling_key, floor_key, key_of}
-use Rattle.plane_rules.specs.Planes.{Plane, empty_plane, with_run}
-use Rattle.plane_rules.specs.Built.{PlanesNow, after_event}
+use Rattle.picture_rules.specs.wall.Clips.{ceiling_rows, floor_rows}
+use Rattle.picture_rules.specs.wall.Strips.{ceiling_marks, floor_marks}
+use Rattle.picture_rules.specs.wall.Walls.{Wall, clip_before, wall_edges}
+use Rattle.picture_rules.specs.declared.plane.Flat4.TheVariants.{Sky, Lump}
+use Rattle.picture_rules.specs.declared.plane.PlaneKey.{PlaneKey}
+use Rattle.picture_rules.specs.plane.Keys.{ceiling_key, floor_key, key_of}
+use Rattle.picture_rules.specs.plane.Planes.{Plane, empty_plane, with_run}
+use Rattle.picture_rules.specs.plane.Built.{PlanesNow, after_event}
 use Rattle.scene_rules.specs.Scenes.{SceneValue}
 use Rattle.picture_rules.specs.Planes.{leaf_step, plane_wall, wall_step}
 use Rattle.wall_columns.proofs.ClipLemmas.{ceiling_rows-in, clip_before-in, edges_at-words, floor_rows-in}

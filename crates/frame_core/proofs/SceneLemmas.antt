@@ -12,8 +12,8 @@ use Rattle.level_rules.specs.declared.Surface.{Surface}
 use Rattle.level_rules.specs.declared.ThingLine.{ThingLine}
 use Rattle.level_rules.specs.declared.TheConstants.{SKY_FLAT}
 use Rattle.level_rules.specs.Levels.{is_sky, no_seg, no_surface, seg_at, surface_at}
-use Rattle.map_rules.specs.Levels.{LevelValue}
-use Rattle.map_rules.specs.Sound.{IsSound}
+use Rattle.level_rules.specs.maps.Levels.{LevelValue}
+use Rattle.level_rules.specs.maps.Sound.{IsSound}
 use Rattle.art_rules.specs.Textures.{TextureLists, texture_number}
 use Rattle.scene_rules.specs.declared.Flat.{Flat}
 use Rattle.scene_rules.specs.declared.Flat.TheVariants.{Sky, Lump as LumpFlat}
@@ -27,7 +27,7 @@ use Rattle.texture_build.specs.Views.{IsPrepared}
 use Rattle.level_scene.specs.Bounds.{IsNoneOrBelow, IsThere}
 use Rattle.sound_scene.specs.Sound.{middles_of, textures_view}
 use Rattle.sound_scene.specs.Whole.{IsNoneOrPrepared, IsWholeScene}
-use Rattle.wall_rules.specs.declared.WallFacts.{WallFacts}
+use Rattle.picture_rules.specs.declared.wall.WallFacts.{WallFacts}
 use Rattle.picture_rules.specs.Scene.{facts_of, no_textures, textures_at, wall_texture}
 use Rattle.frame_core.specs.Scenes.{lists_of, scene_of}
 

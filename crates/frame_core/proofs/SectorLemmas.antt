@@ -1,7 +1,7 @@
 -- Laws of the vissprites after a sector's things: where it was entered before, and where it was not.
 use Rattle.std.proofs.Common.{◌≡◌, ℕ, Bool, true, false, not, List, refl}
 use Rattle.view_rules.specs.View.{ViewValue}
-use Rattle.sprite_rules.specs.declared.SpriteEntry.{SpriteEntry}
+use Rattle.picture_rules.specs.declared.sprite.SpriteEntry.{SpriteEntry}
 use Rattle.scene_rules.specs.Places.{things_of}
 use Rattle.scene_rules.specs.Scenes.{SceneValue}
 use Rattle.picture_rules.specs.Things.{with_things}

@@ -10,9 +10,9 @@ use Rattle.walk_rules.specs.declared.TheConstants.{MAX_DRAWSEGS}
 use Rattle.walk_rules.specs.Drawsegs.{drawsegs, last_leaf, leaf_fragments}
 use Rattle.walk_rules.specs.Events.{Event}
 use Rattle.walk_rules.specs.Events.Event.{LeafEvent, FragmentEvent}
-use Rattle.wall_rules.specs.Walls.{Wall}
-use Rattle.plane_rules.specs.Built.{after_event, after_events, no_planes, plane_counts}
-use Rattle.plane_rules.proofs.BuiltLemmas.{after_events-more}
+use Rattle.picture_rules.specs.wall.Walls.{Wall}
+use Rattle.picture_rules.specs.plane.Built.{after_event, after_events, no_planes, plane_counts}
+use Rattle.picture_rules.proofs.plane.BuiltLemmas.{after_events-more}
 use Rattle.picture_rules.specs.declared.Limits.{Limits}
 use Rattle.picture_rules.specs.declared.OverLimit.{OverLimit}
 use Rattle.picture_rules.specs.Scene.{Scene, fragment_facts, leaf_surface}

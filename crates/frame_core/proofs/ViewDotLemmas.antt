@@ -18,15 +18,15 @@ use Rattle.pixel_rules.specs.declared.Post.{Post}
 use Rattle.pixel_rules.specs.Art.{Art}
 use Rattle.pixel_rules.specs.Posts.{picture_top, post_top, post_bottom, post_first, post_last, post_rows, post_colour, post_dots, posts_dots}
 use Rattle.pixel_rules.specs.Strips.{rows_between}
-use Rattle.wall_rules.specs.declared.ColumnClip.{ColumnClip}
-use Rattle.wall_rules.specs.Openings.{top_clip, bottom_clip}
-use Rattle.wall_rules.specs.Walls.{Wall, clip_past}
-use Rattle.sprite_rules.specs.declared.SpriteEntry.{SpriteEntry}
-use Rattle.sprite_rules.specs.Clips.{gives_bottom, gives_top, greatest_that, clip_of_some, clip_of_number, sprite_bottom, sprite_top}
-use Rattle.sprite_rules.specs.Drawsegs.{Drawseg}
-use Rattle.sprite_rules.specs.Middles.{middle_masked, middle_by, middle_column, columns_at, middles_of, middles_at, sprite_step, sprites_from, masked_dots}
-use Rattle.sprite_rules.specs.Order.{draw_order}
-use Rattle.sprite_rules.specs.Sprites.{sprite_masked, sprite_column, sprite_dots}
+use Rattle.picture_rules.specs.declared.wall.ColumnClip.{ColumnClip}
+use Rattle.picture_rules.specs.wall.Openings.{top_clip, bottom_clip}
+use Rattle.picture_rules.specs.wall.Walls.{Wall, clip_past}
+use Rattle.picture_rules.specs.declared.sprite.SpriteEntry.{SpriteEntry}
+use Rattle.picture_rules.specs.sprite.Clips.{gives_bottom, gives_top, greatest_that, clip_of_some, clip_of_number, sprite_bottom, sprite_top}
+use Rattle.picture_rules.specs.sprite.Drawsegs.{Drawseg}
+use Rattle.picture_rules.specs.sprite.Middles.{middle_masked, middle_by, middle_column, columns_at, middles_of, middles_at, sprite_step, sprites_from, masked_dots}
+use Rattle.picture_rules.specs.sprite.Order.{draw_order}
+use Rattle.picture_rules.specs.sprite.Sprites.{sprite_masked, sprite_column, sprite_dots}
 use Rattle.picture_rules.specs.Counts.{view_steps}
 use Rattle.picture_rules.specs.Masked.{drawseg_of, drawsegs_from, view_drawsegs}
 use Rattle.picture_rules.specs.Noted.{least_clip, greatest_clip}

@@ -15,12 +15,12 @@ use Rattle.pixel_rules.specs.declared.TheConstants.{FRAME_CELLS}
 use Rattle.pixel_rules.specs.Dots.{Dot}
 use Rattle.pixel_strips.specs.Canvases.{CanvasView, marked_by_colour, placed_at}
 use Rattle.pixel_strips.specs.Dotted.{HasDots, PlacedAlike}
-use Rattle.plane_rules.specs.Built.{planes_of}
-use Rattle.plane_rules.specs.Planes.{Plane}
+use Rattle.picture_rules.specs.plane.Built.{planes_of}
+use Rattle.picture_rules.specs.plane.Planes.{Plane}
 use Rattle.wad_dir.specs.DirectoryView.{DirectoryView}
-use Rattle.sprite_rules.specs.declared.SpriteEntry.{SpriteEntry}
-use Rattle.sprite_rules.specs.Middles.{masked_dots}
-use Rattle.sprite_rules.specs.Order.{draw_order}
+use Rattle.picture_rules.specs.declared.sprite.SpriteEntry.{SpriteEntry}
+use Rattle.picture_rules.specs.sprite.Middles.{masked_dots}
+use Rattle.picture_rules.specs.sprite.Order.{draw_order}
 use Rattle.vissprites.specs.Bounds.{lies_within}
 use Rattle.vissprites.proofs.BoundLemmas.{draw_order-all}
 use Rattle.scene_rules.specs.Scenes.{SceneValue}

@@ -13,13 +13,13 @@ use Rattle.walk_rules.specs.Drawsegs.{drawsegs, last_leaf, leaves_entered}
 use Rattle.walk_rules.specs.Events.{Event}
 use Rattle.walk_rules.specs.Events.Event.{FragmentEvent}
 use Rattle.walk_rules.proofs.DrawsegLemmas.{drawsegs-within, last_leaf-append, leaves_entered-append}
-use Rattle.plane_rules.specs.Planes.{Plane}
-use Rattle.plane_rules.specs.Built.{PlanesNow, after_event}
-use Rattle.wall_rules.specs.declared.WallFacts.{WallFacts}
-use Rattle.wall_rules.specs.Notes.{notes_from, openings_list, saved_by, view_notes}
-use Rattle.wall_rules.specs.Openings.{openings_of}
-use Rattle.wall_rules.specs.Walls.{Wall, wall_of}
-use Rattle.wall_rules.proofs.NoteLemmas.{length-saved_openings, openings_list-more}
+use Rattle.picture_rules.specs.plane.Planes.{Plane}
+use Rattle.picture_rules.specs.plane.Built.{PlanesNow, after_event}
+use Rattle.picture_rules.specs.declared.wall.WallFacts.{WallFacts}
+use Rattle.picture_rules.specs.wall.Notes.{notes_from, openings_list, saved_by, view_notes}
+use Rattle.picture_rules.specs.wall.Openings.{openings_of}
+use Rattle.picture_rules.specs.wall.Walls.{Wall, wall_of}
+use Rattle.picture_rules.proofs.wall.NoteLemmas.{length-saved_openings, openings_list-more}
 use Rattle.scene_rules.specs.Scenes.{SceneValue}
 use Rattle.picture_rules.specs.declared.Limits.{Limits}
 use Rattle.picture_rules.specs.declared.OverLimit.{OverLimit}

@@ -13,13 +13,13 @@ use Rattle.walk_rules.specs.Drawsegs.{last_leaf, leaves_entered}
 use Rattle.walk_rules.specs.Events.{Event}
 use Rattle.walk_rules.specs.Events.Event.{LeafEvent}
 use Rattle.walk_rules.proofs.DrawsegLemmas.{last_leaf-append, leaves_entered-append}
-use Rattle.plane_rules.specs.declared.PlaneKey.{PlaneKey}
-use Rattle.plane_rules.specs.Keys.{ceiling_key, floor_key}
-use Rattle.plane_rules.specs.Planes.{Plane}
-use Rattle.plane_rules.specs.Built.{PlanesNow, after_event, no_planes}
-use Rattle.wall_rules.specs.Notes.{openings_list, saved_from}
-use Rattle.wall_rules.specs.Walls.{Wall}
-use Rattle.sprite_rules.specs.declared.SpriteEntry.{SpriteEntry}
+use Rattle.picture_rules.specs.declared.plane.PlaneKey.{PlaneKey}
+use Rattle.picture_rules.specs.plane.Keys.{ceiling_key, floor_key}
+use Rattle.picture_rules.specs.plane.Planes.{Plane}
+use Rattle.picture_rules.specs.plane.Built.{PlanesNow, after_event, no_planes}
+use Rattle.picture_rules.specs.wall.Notes.{openings_list, saved_from}
+use Rattle.picture_rules.specs.wall.Walls.{Wall}
+use Rattle.picture_rules.specs.declared.sprite.SpriteEntry.{SpriteEntry}
 use Rattle.scene_rules.specs.Scenes.{SceneValue}
 use Rattle.picture_rules.specs.declared.Limits.{Limits}
 use Rattle.picture_rules.specs.Scene.{Scene, leaf_sector, leaf_surface}

@@ -4,7 +4,7 @@ use Rattle.level_rules.specs.Levels.{LevelLists}
 use Rattle.art_rules.specs.declared.shapes.Shape.{Shape}
 use Rattle.art_rules.specs.Books.{picked}
 use Rattle.art_rules.specs.Textures.{texture_at}
-use Rattle.sprite_rules.specs.declared.Shape5.{Shape5}
+use Rattle.picture_rules.specs.declared.sprite.Shape5.{Shape5}
 use Rattle.scene_rules.specs.SectorFlats.{surfaces_of}
 use Rattle.scene_rules.specs.Places.{things_of}
 use Rattle.scene_rules.specs.Scenes.{SceneValue}

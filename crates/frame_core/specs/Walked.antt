@@ -11,14 +11,14 @@ use Rattle.walk_rules.specs.Drawsegs.{last_leaf}
 use Rattle.walk_rules.specs.Events.{Event}
 use Rattle.walk_rules.specs.Events.Event.{LeafEvent, FragmentEvent}
 use Rattle.pixel_rules.specs.Dots.{Dot}
-use Rattle.plane_rules.specs.declared.Flat4.{Flat4}
-use Rattle.plane_rules.specs.declared.Flat4.TheVariants.{Sky, Lump}
-use Rattle.plane_rules.specs.Built.{PlanesNow, IsAmongPlanes, after_events, no_planes}
-use Rattle.plane_rules.specs.Planes.{Plane}
-use Rattle.plane_rules.specs.Spans.{holds}
-use Rattle.wall_rules.specs.Walls.{Wall, wall_of}
-use Rattle.wall_rules.specs.Strips.{wall_dots}
-use Rattle.sprite_rules.specs.declared.SpriteEntry.{SpriteEntry}
+use Rattle.picture_rules.specs.declared.plane.Flat4.{Flat4}
+use Rattle.picture_rules.specs.declared.plane.Flat4.TheVariants.{Sky, Lump}
+use Rattle.picture_rules.specs.plane.Built.{PlanesNow, IsAmongPlanes, after_events, no_planes}
+use Rattle.picture_rules.specs.plane.Planes.{Plane}
+use Rattle.picture_rules.specs.plane.Spans.{holds}
+use Rattle.picture_rules.specs.wall.Walls.{Wall, wall_of}
+use Rattle.picture_rules.specs.wall.Strips.{wall_dots}
+use Rattle.picture_rules.specs.declared.sprite.SpriteEntry.{SpriteEntry}
 use Rattle.scene_rules.specs.Scenes.{SceneValue}
 use Rattle.picture_rules.specs.declared.Limits.{Limits}
 use Rattle.picture_rules.specs.Scene.{Scene, facts_of, leaf_sector, leaf_surface}

@@ -7,17 +7,17 @@ ghost use Rattle.std.specs.Prelude.{◌≡◌, ◌≤◌, ◌<◌, ◌+◌, ◌+
 ghost use Rattle.std.specs.List.{AllPass};
 ghost use Rattle.view_rules.specs.declared.TheConstants.{FRAME_WIDTH, FRAME_HEIGHT};
 ghost use Rattle.level_rules.specs.Levels.{leaf_at, seg_at, surface_at};
-ghost use Rattle.map_rules.specs.Sound.{IsSound};
+ghost use Rattle.level_rules.specs.maps.Sound.{IsSound};
 ghost use Rattle.art_rules.specs.Books.{book_lumps};
-ghost use Rattle.plane_rules.specs.declared.TheConstants.{MOST_VISPLANES};
-ghost use Rattle.plane_rules.specs.Keys.{ceiling_key, floor_key};
+ghost use Rattle.picture_rules.specs.declared.plane.TheConstants.{MOST_VISPLANES};
+ghost use Rattle.picture_rules.specs.plane.Keys.{ceiling_key, floor_key};
 ghost use Rattle.walk_rules.specs.Events.{Event};
 ghost use Rattle.walk_rules.specs.Events.Event.{LeafEvent, FragmentEvent};
 ghost use Rattle.picture_rules.specs.declared.Limits.{Limits};
 ghost use Rattle.picture_rules.specs.Counts.{steps_over, view_steps};
 ghost use Rattle.picture_rules.specs.Scene.{facts_of};
 ghost use Rattle.vissprites.specs.Bounds.{lies_within, has_lump_below};
-ghost use Rattle.wall_rules.specs.declared.TheConstants.{MOST_OPENINGS};
+ghost use Rattle.picture_rules.specs.declared.wall.TheConstants.{MOST_OPENINGS};
 ghost use Rattle.wall_columns.specs.Built.{limits_of};
 ghost use Rattle.wall_columns.specs.Faults.{limit_of_result, IsLimitFault};
 ghost use Rattle.lump_cache.specs.Caches.{KeepsCounts};
@@ -35,7 +35,7 @@ use crate::keys::{ceiling_key, floor_key};
 use crate::things::add_things;
 use crate::tools::ViewTools;
 use outside::Shelf;
-use picture_rules::Limits;
+use picture_rules::{Limits, WallFacts};
 use pixel_strips::Canvas;
 use sound_scene::SoundScene;
 use std::alloc::{AllocError, Global};
@@ -44,7 +44,6 @@ use view_rules::FRAME_HEIGHT;
 use visplanes::Planes;
 use vissprites::Sprites;
 use wall_columns::{DrawFault, LeafPlanes, WallState, WallTools};
-use wall_rules::WallFacts;
 
 /// What a view is built in. `sector` is that of the leaf that was entered last.
 #[derive(Drop)]

@@ -1,15 +1,15 @@
 // What a seg is drawn from: rules `picture_rules`, Scene.
 ghost use Rattle.std.specs.Prelude.{◌≡◌, ◌<◌, ℕ, List, length};
 ghost use Rattle.level_rules.specs.Levels.{seg_at, surface_at};
-ghost use Rattle.map_rules.specs.Sound.{IsSegIn};
+ghost use Rattle.level_rules.specs.maps.Sound.{IsSegIn};
 ghost use Rattle.walk_rules.specs.Segs.{back_of};
 ghost use Rattle.picture_rules.specs.Scene.{facts_of, side_at, textures_at, wall_texture};
 ghost use Rattle.frame_core.specs.Scenes.{lists_of, scene_of};
 
 use level_rules::{Seg, Side, SideTextures, Surface};
+use picture_rules::{WallFacts, WallTexture};
 use sound_scene::SoundScene;
 use texture_build::TexNo;
-use wall_rules::{WallFacts, WallTexture};
 
 /// What seg `seg_no` is drawn from, seen from a sector: the seg, both sectors, the side's offsets
 /// (texels, 16.16) and its textures.

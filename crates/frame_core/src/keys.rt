@@ -1,13 +1,13 @@
-// The planes that a leaf finds: rules `plane_rules`, Keys.
+// The planes that a leaf finds: rules `picture_rules/plane`, Keys.
 ghost use Rattle.std.specs.Prelude.{◌≡◌, ◌≤◌};
 ghost use Rattle.level_rules.specs.declared.TheConstants.{SKY_FLAT};
-ghost use Rattle.plane_rules.specs.Keys.{ceiling_key, floor_key, key_of};
+ghost use Rattle.picture_rules.specs.plane.Keys.{ceiling_key, floor_key, key_of};
 
 use level_rules::{SKY_FLAT, Surface};
-use plane_rules::{Flat4, PlaneKey};
+use picture_rules::{Flat4, PlaneKey};
 
 // The key of a plane at that height; all sky has one.
-#[tactic(auto, unfolding(plane_rules::specs::Keys::key_of))]
+#[tactic(auto, unfolding(picture_rules::specs::plane::Keys::key_of))]
 fn key_of(height: i32, flat: u32, light: i16) -> PlaneKey
     requires { flat ≤ SKY_FLAT }
     ensures { result ≡ key_of height flat light }
@@ -31,7 +31,7 @@ fn key_of(height: i32, flat: u32, light: i16) -> PlaneKey
 /// 16.16); None where it is not seen.
 ///
 /// The original: `R_Subsector`, r_bsp.c.
-#[tactic(auto, unfolding(plane_rules::specs::Keys::floor_key))]
+#[tactic(auto, unfolding(picture_rules::specs::plane::Keys::floor_key))]
 pub fn floor_key(eye_z: i32, surface: &Surface) -> Option<PlaneKey>
     requires { surface.now.floor_flat ≤ SKY_FLAT }
     ensures { result ≡ floor_key eye_z surface.now }
@@ -47,7 +47,7 @@ pub fn floor_key(eye_z: i32, surface: &Surface) -> Option<PlaneKey>
 /// 16.16) or sky; None where it is not seen.
 ///
 /// The original: `R_Subsector`, r_bsp.c.
-#[tactic(auto, unfolding(plane_rules::specs::Keys::ceiling_key))]
+#[tactic(auto, unfolding(picture_rules::specs::plane::Keys::ceiling_key))]
 pub fn ceiling_key(eye_z: i32, surface: &Surface) -> Option<PlaneKey>
     requires { surface.now.ceiling_flat ≤ SKY_FLAT }
     ensures { result ≡ ceiling_key eye_z surface.now }

@@ -3,8 +3,8 @@
 // Rules: `picture_rules`, Masked and Paints. The original: `R_DrawMasked`, r_things.c.
 ghost use Rattle.std.specs.Prelude.{◌≡◌, ◌≤◌, None, IfErr, length};
 ghost use Rattle.walk_rules.specs.Walk.{view_events};
-ghost use Rattle.sprite_rules.specs.Middles.{masked_dots};
-ghost use Rattle.sprite_rules.specs.Order.{draw_order};
+ghost use Rattle.picture_rules.specs.sprite.Middles.{masked_dots};
+ghost use Rattle.picture_rules.specs.sprite.Order.{draw_order};
 ghost use Rattle.picture_rules.specs.Masked.{view_drawsegs};
 ghost use Rattle.picture_rules.specs.Things.{view_entries};
 ghost use Rattle.picture_rules.specs.Walls.{walls_of};

@@ -6,7 +6,7 @@ ghost use Rattle.view_rules.specs.Lights.{light_number};
 ghost use Rattle.level_rules.specs.Levels.{surface_at};
 ghost use Rattle.art_rules.specs.Books.{book_lumps};
 ghost use Rattle.scene_rules.specs.Places.{things_of};
-ghost use Rattle.sprite_rules.specs.Projection.{project};
+ghost use Rattle.picture_rules.specs.sprite.Projection.{project};
 ghost use Rattle.picture_rules.specs.Things.{with_seen, with_thing, with_things};
 ghost use Rattle.vissprites.specs.declared.seen.TheConstants.{ROTATIONS};
 ghost use Rattle.vissprites.specs.Bounds.{lies_within, has_lump_below};
@@ -14,9 +14,9 @@ ghost use Rattle.frame_core.specs.Scenes.{drawn_shape, lists_of, scene_of};
 
 use crate::facts::surface_at;
 use level_rules::PlacedThing;
+use picture_rules::{Placed, Seen, Shape5};
 use sound_scene::SoundScene;
 use sprite_book::Shape;
-use sprite_rules::{Placed, Seen, Shape5};
 use view_frame::View;
 use vissprites::{Sprites, project};
 

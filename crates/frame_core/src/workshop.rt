@@ -1,7 +1,7 @@
 // All the memory of drawing.
 ghost use Rattle.std.specs.Prelude.{◌≡◌, ◌≤◌, length, IfOk};
-ghost use Rattle.plane_rules.specs.declared.TheConstants.{MOST_VISPLANES};
-ghost use Rattle.wall_rules.specs.declared.TheConstants.{MOST_OPENINGS};
+ghost use Rattle.picture_rules.specs.declared.plane.TheConstants.{MOST_VISPLANES};
+ghost use Rattle.picture_rules.specs.declared.wall.TheConstants.{MOST_OPENINGS};
 ghost use Rattle.pixel_rules.specs.declared.TheConstants.{FRAME_CELLS};
 ghost use Rattle.pixel_strips.specs.Canvases.{blank};
 

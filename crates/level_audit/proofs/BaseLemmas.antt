@@ -3,7 +3,7 @@ use Rattle.std.proofs.Common.{◌≡◌, ℕ, true, List, take, Result, Ok, Err,
 use Rattle.outside.specs.Faults.{and_then, from_below}
 use Rattle.lump_rules.specs.declared.wad.Lump.{Lump}
 use Rattle.zone_rules.specs.Zones.{Heap}
-use Rattle.map_rules.specs.Levels.{LevelValue}
+use Rattle.level_rules.specs.maps.Levels.{LevelValue}
 use Rattle.art_rules.specs.Textures.{TextureLists}
 use Rattle.lump_cache.specs.Sizes.{StandsBeside}
 use Rattle.level_scene.specs.Asked.{IsLumpOfMap}

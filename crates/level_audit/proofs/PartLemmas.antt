@@ -8,7 +8,7 @@ use Rattle.lump_cache.specs.Calls.{ReadsLumps}
 use Rattle.lump_cache.proofs.CallLemmas.{result_above, reads_above, reads_known, reads_memory, reads_refused}
 use Rattle.level_rules.specs.declared.Seg.{Seg}
 use Rattle.level_rules.specs.declared.SideTextures.{SideTextures}
-use Rattle.map_rules.specs.Levels.{LevelValue}
+use Rattle.level_rules.specs.maps.Levels.{LevelValue}
 use Rattle.art_rules.specs.Textures.{TextureLists}
 use Rattle.art_rules.specs.Wanted.{PreparedTexture}
 use Rattle.level_scene.specs.declared.fault.SceneFault.{SceneFault}

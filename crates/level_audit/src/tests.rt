@@ -3,9 +3,9 @@ use crate::{ArtRefusal, AuditFault, AuditRefusal, SceneRefusal, SoundScene, Zone
 use art_rules::{SpriteRefusal, TexRefusal};
 use csv_tables::ThingTable;
 use level_maker::make_wad;
+use level_rules::MapRefusal;
 use lump_cache::LumpCache;
 use lump_rules::Name8;
-use map_rules::MapRefusal;
 use outside::{MemoryFile, MemoryShelf, Shelf};
 use std::alloc::Global;
 use std::test::Fail;

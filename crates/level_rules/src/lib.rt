@@ -1,11 +1,16 @@
 //! The records of a level, and its entries by number.
 //!
-//! Records, look-ups and the limits that they share: how the bytes of the eight map lumps give
-//! them stands in `map_rules`. A leaf is the field's subsector. Nothing here is proved or tested.
+//! Records, look-ups and the limits that they share; and in the folder `maps` how the bytes of the
+//! eight map lumps give them. A leaf is the field's subsector. Rules only.
 //! The original: r_defs.h, doomdata.h.
 #![tactic(auto)]
 
+pub mod maps;
+
 use lump_rules::Name8;
+pub use maps::{
+    LEAF_BIT, MAX_RECORDS, MapLeaf, MapLine, MapLump, MapRefusal, MapSeg, MapVertex, NO_SIDE,
+};
 
 /// The flat of a surface that is sky; no lump has this number.
 pub const SKY_FLAT: u32 = 65536;

@@ -5,10 +5,10 @@ use Rattle.outside.specs.Shelf.{ShelfView}
 use Rattle.lump_rules.specs.Contents.{lump_bytes}
 use Rattle.zone_rules.specs.Zones.{Heap}
 use Rattle.wad_dir.specs.DirectoryView.{DirectoryView}
-use Rattle.map_rules.specs.declared.lumps.MapLump.{MapLump}
-use Rattle.map_rules.specs.declared.refusal.MapRefusal.{MapRefusal}
-use Rattle.map_rules.specs.Levels.{unless}
-use Rattle.map_rules.specs.Lumps.{size_refusal}
+use Rattle.level_rules.specs.declared.maps.lumps.MapLump.{MapLump}
+use Rattle.level_rules.specs.declared.maps.refusal.MapRefusal.{MapRefusal}
+use Rattle.level_rules.specs.maps.Levels.{unless}
+use Rattle.level_rules.specs.maps.Lumps.{size_refusal}
 use Rattle.map_lumps.specs.declared.fault.MapFault.{MapFault}
 use Rattle.map_lumps.specs.declared.fault.MapFault.TheVariants.{Refused, OutOfMemory}
 use Rattle.map_lumps.specs.Builders.{BuilderValue, with_lump}

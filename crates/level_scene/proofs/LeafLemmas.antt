@@ -6,8 +6,8 @@ use Rattle.level_rules.specs.declared.Node.{Node}
 use Rattle.level_rules.specs.declared.Child.{Child}
 use Rattle.level_rules.specs.declared.Child.TheVariants.{Node as NodeChild, Leaf as LeafChild}
 use Rattle.level_rules.specs.Levels.{child_on}
-use Rattle.map_rules.specs.Ranges.{is_there}
-use Rattle.map_rules.specs.Trees.{is_within}
+use Rattle.level_rules.specs.maps.Ranges.{is_there}
+use Rattle.level_rules.specs.maps.Trees.{is_within}
 use Rattle.view_rules.specs.Sides.{side_of}
 use Rattle.walk_rules.specs.Boxes.{partition_of}
 use Rattle.scene_rules.specs.Places.{leaf_below, leaf_from}

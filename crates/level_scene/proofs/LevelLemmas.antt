@@ -10,12 +10,12 @@ use Rattle.lump_rules.specs.Lookups.{map_of}
 use Rattle.zone_rules.specs.Zones.{Heap}
 use Rattle.wad_dir.specs.DirectoryView.{DirectoryView}
 use Rattle.lump_rules.specs.declared.wad.LumpNo.{LumpNo}
-use Rattle.map_rules.specs.declared.lumps.MapLump.{MapLump}
-use Rattle.map_rules.specs.declared.lumps.MapLump.TheVariants.{Things, Linedefs, Sidedefs, Vertexes, Segs, Ssectors, Nodes, Sectors}
-use Rattle.map_rules.specs.declared.refusal.MapRefusal.{MapRefusal}
-use Rattle.map_rules.specs.declared.refusal.MapRefusal.TheVariants.{NoMap}
-use Rattle.map_rules.specs.Levels.{LevelValue, level_from, level_of, map_refusal, records_of, sizes_refusal, unless}
-use Rattle.map_rules.specs.Lumps.{size_refusal}
+use Rattle.level_rules.specs.declared.maps.lumps.MapLump.{MapLump}
+use Rattle.level_rules.specs.declared.maps.lumps.MapLump.TheVariants.{Things, Linedefs, Sidedefs, Vertexes, Segs, Ssectors, Nodes, Sectors}
+use Rattle.level_rules.specs.declared.maps.refusal.MapRefusal.{MapRefusal}
+use Rattle.level_rules.specs.declared.maps.refusal.MapRefusal.TheVariants.{NoMap}
+use Rattle.level_rules.specs.maps.Levels.{LevelValue, level_from, level_of, map_refusal, records_of, sizes_refusal, unless}
+use Rattle.level_rules.specs.maps.Lumps.{size_refusal}
 use Rattle.map_lumps.specs.declared.fault.MapFault.{MapFault}
 use Rattle.map_lumps.specs.declared.fault.MapFault.TheVariants.{Refused, OutOfMemory}
 use Rattle.map_lumps.specs.Builders.{BuilderValue, empty_builder, with_lump, with_records}

@@ -7,9 +7,9 @@ use Rattle.std.proofs.lemmas.Bool.Decides.{nat_tests}
 use Rattle.std.proofs.lemmas.List.{get_or-map, length-map}
 use Rattle.std.proofs.lemmas.List.FromFn.{get_or-range_with_len, length-range_with_len}
 use Rattle.outside.specs.Faults.{and_then}
-use Rattle.map_rules.specs.declared.lumps.MapLump.{MapLump}
-use Rattle.map_rules.specs.declared.refusal.MapRefusal.{MapRefusal}
-use Rattle.map_rules.specs.Lumps.{lump_no}
+use Rattle.level_rules.specs.declared.maps.lumps.MapLump.{MapLump}
+use Rattle.level_rules.specs.declared.maps.refusal.MapRefusal.{MapRefusal}
+use Rattle.level_rules.specs.maps.Lumps.{lump_no}
 use Rattle.map_lumps.specs.Builders.{BuilderValue, is_added}
 use Rattle.scene_rules.specs.Sizes.{is_map_lump}
 use Rattle.level_scene.specs.Lumps.{lump_added, lumps_from}

@@ -2,7 +2,7 @@
 use Rattle.std.proofs.Common.{◌≡◌, ℕ, ◌+◌, ◌<◌, ◌≤◌, List, ◌++◌, length, drop, get_or, ◌∙◌, refl, ap, sym, append_assoc, append-nil, add-one}
 use Rattle.std.proofs.lemmas.List.{at_drop_more, at_drop_all}
 use Rattle.level_rules.specs.declared.Thing.{Thing}
-use Rattle.map_rules.specs.Levels.{LevelValue}
+use Rattle.level_rules.specs.maps.Levels.{LevelValue}
 use Rattle.level_rules.specs.declared.ThingLine.{ThingLine}
 use Rattle.scene_rules.specs.declared.Placed.{Placed}
 use Rattle.scene_rules.specs.Places.{placed_from, placed_if, placed_row}

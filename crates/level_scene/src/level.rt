@@ -1,11 +1,11 @@
 // A level from the lumps of its map.
 //
-// Rules: `map_rules`, Levels; `scene_rules`, Scenes. The original: `P_SetupLevel`, p_setup.c.
+// Rules: `level_rules/maps`, Levels; `scene_rules`, Scenes. The original: `P_SetupLevel`, p_setup.c.
 ghost use Rattle.outside.specs.Faults.{itself};
 ghost use Rattle.std.specs.Prelude.{◌≡◌, ◌<◌, ◌≤◌, ◌+◌, ◌^◌, ℕ, length, true, Ok, Err, IfOk, MatchResult};
 ghost use Rattle.lump_cache.specs.Calls.{ReadsLumps};
 ghost use Rattle.lump_cache.specs.Sizes.{StandsBeside};
-ghost use Rattle.map_rules.specs.Levels.{level_of};
+ghost use Rattle.level_rules.specs.maps.Levels.{level_of};
 ghost use Rattle.scene_rules.specs.Scenes.{label_of, level_in, map_bytes};
 ghost use Rattle.scene_rules.specs.Sizes.{is_map_lump};
 ghost use Rattle.level_scene.specs.Asked.{IsLumpOfMap};

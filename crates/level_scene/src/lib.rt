@@ -2,7 +2,7 @@
 //! textures, the thing table and the directory give without a lump being read: the textures of sides,
 //! the flats of sectors, and where things stand.
 //!
-//! Rules: `map_rules`, Levels; `scene_rules`, Scenes (`level_in`), Skies, Sides, SectorFlats and
+//! Rules: `level_rules/maps`, Levels; `scene_rules`, Scenes (`level_in`), Skies, Sides, SectorFlats and
 //! Places; which lumps are asked for is in `specs/Asked`, what a builder has after some of them in
 //! `specs/Lumps`. Proved: what `read_level` answers over any shelf and what it keeps of the cache;
 //! that after Ok, from a cache at rest whose live lumps have the directory's sizes, the zone has room

@@ -5,7 +5,7 @@
 ghost use Rattle.outside.specs.Faults.{itself};
 ghost use Rattle.std.specs.Prelude.{◌≡◌, ◌<◌, ◌≤◌, ◌+◌, ◌^◌, ℕ, List, length, map, true, false, Ok, Some, IfOk, OnOk, slice_set};
 ghost use Rattle.std.specs.List.{range_with_len};
-ghost use Rattle.map_rules.specs.Lumps.{lump_no};
+ghost use Rattle.level_rules.specs.maps.Lumps.{lump_no};
 ghost use Rattle.map_lumps.specs.Builders.{all_added, empty_builder, is_added};
 ghost use Rattle.lump_rules.specs.Contents.{lump_bytes};
 ghost use Rattle.zone_rules.specs.Zones.{IsLive, bytes_of};

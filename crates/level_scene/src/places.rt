@@ -6,8 +6,8 @@ ghost use Rattle.std.specs.Prelude.{◌≡◌, ◌<◌, ◌≤◌, ◌+◌, ◌-
 ghost use Rattle.level_rules.specs.declared.TheConstants.{MAX_DEPTH};
 ghost use Rattle.level_rules.specs.declared.Child.TheVariants.{Node as NodeChild};
 ghost use Rattle.level_rules.specs.Levels.{child_on};
-ghost use Rattle.map_rules.specs.Sound.{IsChildIn, IsNodeIn};
-ghost use Rattle.map_rules.specs.Trees.{is_within};
+ghost use Rattle.level_rules.specs.maps.Sound.{IsChildIn, IsNodeIn};
+ghost use Rattle.level_rules.specs.maps.Trees.{is_within};
 ghost use Rattle.walk_rules.specs.Boxes.{partition_of};
 ghost use Rattle.scene_rules.specs.declared.Placed.{Placed};
 ghost use Rattle.scene_rules.specs.Places.{first_shadow, is_in_skill, is_shadow, leaf_from, need_of, placed_if, placed_in, placed_row, placed_thing, placed_things, sector_at, skill_option, thing_angle, thing_height, things_of};

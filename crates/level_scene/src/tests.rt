@@ -66,7 +66,7 @@ fn bytes_of(alloc: Global, lump: MapLump) -> Result<Vec<u8>, AllocError> {
     Ok(bytes)
 }
 
-#[tactic(auto, unfolding(map_lumps::specs::Builders::empty_builder, map_lumps::specs::Builders::is_added, map_lumps::specs::Builders::with_lump, map_rules::specs::Lumps::lump_no))]
+#[tactic(auto, unfolding(map_lumps::specs::Builders::empty_builder, map_lumps::specs::Builders::is_added, map_lumps::specs::Builders::with_lump, level_rules::specs::maps::Lumps::lump_no))]
 fn level(alloc: Global) -> Result<Level, MapFault> {
     let mut builder = LevelBuilder::new();
     builder.add(alloc, MapLump::Things, &bytes_of(alloc, MapLump::Things)?)?;

@@ -3,11 +3,11 @@ use Rattle.std.proofs.Common.{◌≡◌, ◌∙◌, List, None, subst, sym, ap}
 use Rattle.level_rules.specs.declared.Child.{Child}
 use Rattle.level_rules.specs.declared.Leaf.{Leaf}
 use Rattle.level_rules.specs.declared.Seg.{Seg}
-use Rattle.map_rules.specs.Levels.{LevelValue, MapRecords, joined_leaves, joined_level, joined_segs, records_refusal}
-use Rattle.map_rules.specs.Sound.{HasFewRecords, IsSound}
-use Rattle.map_rules.specs.Trees.{root_of}
-use Rattle.map_rules.proofs.JoinLemmas.{joined_level-lists}
-use Rattle.map_rules.proofs.SoundLemmas.{joined_level-sound}
+use Rattle.level_rules.specs.maps.Levels.{LevelValue, MapRecords, joined_leaves, joined_level, joined_segs, records_refusal}
+use Rattle.level_rules.specs.maps.Sound.{HasFewRecords, IsSound}
+use Rattle.level_rules.specs.maps.Trees.{root_of}
+use Rattle.level_rules.proofs.maps.JoinLemmas.{joined_level-lists}
+use Rattle.level_rules.proofs.maps.SoundLemmas.{joined_level-sound}
 use Rattle.map_lumps.specs.declared.lists.MapLists.TheInside.{Inside}
 use Rattle.map_lumps.specs.Views.{listed_records}
 

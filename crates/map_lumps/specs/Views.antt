@@ -1,6 +1,6 @@
 -- What a contract sees of the private fields of `Level`, `LevelBuilder` and the lists between them.
 use Rattle.std.specs.Prelude.{Vec, List, [], ◌∷◌, Option, Some, None, is_some}
-use Rattle.map_rules.specs.Levels.{LevelValue, MapRecords}
+use Rattle.level_rules.specs.maps.Levels.{LevelValue, MapRecords}
 use Rattle.map_lumps.specs.Builders.{BuilderValue}
 use Rattle.map_lumps.specs.declared.builder.LevelBuilder.TheInside.{Inside as BuilderFields}
 use Rattle.map_lumps.specs.declared.level.Level.TheInside.{Inside as LevelFields}

@@ -1,9 +1,9 @@
-// A level built from its lumps, one after the other. Rules: `map_rules`, Lumps and Levels.
+// A level built from its lumps, one after the other. Rules: `level_rules/maps`, Lumps and Levels.
 ghost use Rattle.std.specs.Prelude.{◌≡◌, ◌↔◌, false, OnOk, OnErr, IfOk, Option, Some, None, Ok, Err};
-ghost use Rattle.map_rules.specs.declared.refusal.MapRefusal.{MapRefusal};
-ghost use Rattle.map_rules.specs.Levels.{level_from};
-ghost use Rattle.map_rules.specs.Lumps.{size_refusal};
-ghost use Rattle.map_rules.specs.Sound.{IsSound};
+ghost use Rattle.level_rules.specs.declared.maps.refusal.MapRefusal.{MapRefusal};
+ghost use Rattle.level_rules.specs.maps.Levels.{level_from};
+ghost use Rattle.level_rules.specs.maps.Lumps.{size_refusal};
+ghost use Rattle.level_rules.specs.maps.Sound.{IsSound};
 ghost use Rattle.map_lumps.specs.Builders.{all_added, empty_builder, is_added, with_lump};
 
 use crate::fault::MapFault;
@@ -11,8 +11,9 @@ use crate::level::Level;
 use crate::lists::MapLists;
 use crate::records::read_records;
 use crate::sizes::size_refusal;
-use level_rules::{Node, Sector, Side, Thing};
-use map_rules::{MapLeaf, MapLine, MapLump, MapRefusal, MapSeg, MapVertex};
+use level_rules::{
+    MapLeaf, MapLine, MapLump, MapRefusal, MapSeg, MapVertex, Node, Sector, Side, Thing,
+};
 use std::alloc::Global;
 use std::marker::Model;
 
@@ -37,7 +38,7 @@ impl Model for LevelBuilder {
 
     ghost Value = { BuilderValue };
 
-    ghost use Rattle.map_rules.specs.Sound.{HasFewRecords};
+    ghost use Rattle.level_rules.specs.maps.Sound.{HasFewRecords};
     ghost use Rattle.map_lumps.specs.Views.{added_records, builder_value};
 
     ghost view = { builder_value };
@@ -74,7 +75,7 @@ impl LevelBuilder {
     ///
     /// The original: P_LoadThings, P_LoadLineDefs, P_LoadSideDefs, P_LoadVertexes, P_LoadSegs,
     /// P_LoadSubsectors, P_LoadNodes, P_LoadSectors, p_setup.c.
-    #[tactic(auto, unfolding(crate::specs::Builders::with_lump, crate::specs::Builders::with_records, map_rules::specs::Lumps::lump_no, map_rules::specs::Lumps::record_size, map_rules::specs::Records::things_in, map_rules::specs::Records::lines_in, map_rules::specs::Records::sides_in, map_rules::specs::Records::vertexes_in, map_rules::specs::Records::segs_in, map_rules::specs::Records::leaves_in, map_rules::specs::Records::nodes_in, map_rules::specs::Records::sectors_in))]
+    #[tactic(auto, unfolding(crate::specs::Builders::with_lump, crate::specs::Builders::with_records, level_rules::specs::maps::Lumps::lump_no, level_rules::specs::maps::Lumps::record_size, level_rules::specs::maps::Records::things_in, level_rules::specs::maps::Records::lines_in, level_rules::specs::maps::Records::sides_in, level_rules::specs::maps::Records::vertexes_in, level_rules::specs::maps::Records::segs_in, level_rules::specs::maps::Records::leaves_in, level_rules::specs::maps::Records::nodes_in, level_rules::specs::maps::Records::sectors_in))]
     pub fn add(&mut self, alloc: Global, lump: MapLump, bytes: &[u8]) -> Result<(), MapFault>
         requires { is_added self.old lump ≡ false }
         ensures ok { OnOk result (self.new ≡ with_lump self.old lump bytes.now) }

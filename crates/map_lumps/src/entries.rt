@@ -1,14 +1,13 @@
-// Entries by number. Rules: `map_rules`, Lumps and Ranges; `level_rules`, Levels.
+// Entries by number. Rules: `level_rules/maps`, Lumps and Ranges; `level_rules`, Levels.
 ghost use Rattle.std.specs.Prelude.{◌≡◌, ◌<◌, length};
 ghost use Rattle.level_rules.specs.Levels.{child_on};
-ghost use Rattle.map_rules.specs.Lumps.{lump_no};
-ghost use Rattle.map_rules.specs.Ranges.{line_by, side_on};
+ghost use Rattle.level_rules.specs.maps.Lumps.{lump_no};
+ghost use Rattle.level_rules.specs.maps.Ranges.{line_by, side_on};
 
-use level_rules::{Child, Node};
-use map_rules::{MapLine, MapLump};
+use level_rules::{Child, MapLine, MapLump, Node};
 
 // A line by its number.
-#[tactic(auto, unfolding(map_rules::specs::Ranges::line_by))]
+#[tactic(auto, unfolding(level_rules::specs::maps::Ranges::line_by))]
 pub(crate) fn line_by(lines: &[MapLine], n: u16) -> MapLine
     requires { n < length lines.now }
     ensures { result ≡ line_by lines.now n }
@@ -17,7 +16,7 @@ pub(crate) fn line_by(lines: &[MapLine], n: u16) -> MapLine
 }
 
 // Side 0 or side 1 of a line.
-#[tactic(auto, unfolding(map_rules::specs::Ranges::side_on))]
+#[tactic(auto, unfolding(level_rules::specs::maps::Ranges::side_on))]
 pub(crate) fn side_on(line: MapLine, side: u16) -> u16
     ensures { result ≡ side_on line side }
 {
@@ -34,7 +33,7 @@ pub(crate) fn child_on(node: Node, side: usize) -> Child
 }
 
 // The number of a lump.
-#[tactic(auto, unfolding(map_rules::specs::Lumps::lump_no))]
+#[tactic(auto, unfolding(level_rules::specs::maps::Lumps::lump_no))]
 pub(crate) fn lump_no(lump: MapLump) -> u64
     ensures { result ≡ lump_no lump }
 {

@@ -1,5 +1,5 @@
 // Why there is no level.
-use map_rules::MapRefusal;
+use level_rules::MapRefusal;
 use std::alloc::{AllocError, AllocFailed};
 use thiserror::Error;
 

@@ -1,15 +1,15 @@
-// The fields of a record, read from its bytes. Rules: `map_rules`, Fields.
+// The fields of a record, read from its bytes. Rules: `level_rules/maps`, Fields.
 ghost use Rattle.std.specs.Prelude.{◌≡◌, ◌≤◌, ◌+◌, ℕ, length};
 ghost use Rattle.word_rules.specs.Words.{fixed};
-ghost use Rattle.map_rules.specs.Fields.{angle_field, fixed_at, name_field, signed_half_at, half_at};
+ghost use Rattle.level_rules.specs.maps.Fields.{angle_field, fixed_at, name_field, signed_half_at, half_at};
 
 use byteorder::{ByteOrder, LittleEndian};
+use level_rules::maps::layout::{NAME_SIZE, WORD_SIZE};
 use lump_rules::Name8;
-use map_rules::layout::{NAME_SIZE, WORD_SIZE};
 use word_rules::{FRACTION_BITS, FRACTION_UNIT};
 
 // The unsigned number at `offset`.
-#[tactic(auto, unfolding(map_rules::specs::Fields::half_at))]
+#[tactic(auto, unfolding(level_rules::specs::maps::Fields::half_at))]
 pub(crate) fn half_at(entry: &[u8], offset: usize) -> u16
     requires { offset + WORD_SIZE ≤ length entry.now }
     ensures { result ≡ half_at entry.now offset }
@@ -18,7 +18,7 @@ pub(crate) fn half_at(entry: &[u8], offset: usize) -> u16
 }
 
 // The number with a sign at `offset`.
-#[tactic(auto, unfolding(map_rules::specs::Fields::signed_half_at))]
+#[tactic(auto, unfolding(level_rules::specs::maps::Fields::signed_half_at))]
 pub(crate) fn signed_half_at(entry: &[u8], offset: usize) -> i16
     requires { offset + WORD_SIZE ≤ length entry.now }
     ensures { result ≡ signed_half_at entry.now offset }
@@ -35,7 +35,7 @@ fn fixed(whole: i16) -> i32
 }
 
 // Whole map units at `offset`, in 16.16 fixed point.
-#[tactic(auto, unfolding(map_rules::specs::Fields::fixed_at))]
+#[tactic(auto, unfolding(level_rules::specs::maps::Fields::fixed_at))]
 pub(crate) fn fixed_at(entry: &[u8], offset: usize) -> i32
     requires { offset + WORD_SIZE ≤ length entry.now }
     ensures { result ≡ fixed_at entry.now offset }
@@ -44,7 +44,7 @@ pub(crate) fn fixed_at(entry: &[u8], offset: usize) -> i32
 }
 
 // The upper half of an angle at `offset`, as BAM.
-#[tactic(auto, unfolding(map_rules::specs::Fields::angle_field))]
+#[tactic(auto, unfolding(level_rules::specs::maps::Fields::angle_field))]
 pub(crate) fn angle_field(entry: &[u8], offset: usize) -> u32
     requires { offset + WORD_SIZE ≤ length entry.now }
     ensures { result ≡ angle_field entry.now offset }
@@ -53,7 +53,7 @@ pub(crate) fn angle_field(entry: &[u8], offset: usize) -> u32
 }
 
 // The name at `offset`.
-#[tactic(auto, unfolding(map_rules::specs::Fields::name_field))]
+#[tactic(auto, unfolding(level_rules::specs::maps::Fields::name_field))]
 pub(crate) fn name_field(entry: &[u8], offset: usize) -> Name8
     requires { offset + NAME_SIZE ≤ length entry.now }
     ensures { result ≡ name_field entry.now offset }

@@ -1,17 +1,16 @@
 // The segs and leaves of a level, with what they name by number joined to them. Rules:
-// `map_rules`, Levels.
+// `level_rules/maps`, Levels.
 ghost use Rattle.std.specs.Prelude.{◌≡◌, ◌<◌, ℕ, true, length, map, IfOk, Option, None};
-ghost use Rattle.map_rules.specs.Firsts.{first_refusal};
-ghost use Rattle.map_rules.specs.Levels.{back_sector, has_back, leaf_of, sector_of, seg_between, seg_of, vertex_by};
-ghost use Rattle.map_rules.specs.Ranges.{has_side, leaf_refusal, line_by, line_field, line_refusal, seg_field, seg_refusal};
+ghost use Rattle.level_rules.specs.maps.Firsts.{first_refusal};
+ghost use Rattle.level_rules.specs.maps.Levels.{back_sector, has_back, leaf_of, sector_of, seg_between, seg_of, vertex_by};
+ghost use Rattle.level_rules.specs.maps.Ranges.{has_side, leaf_refusal, line_by, line_field, line_refusal, seg_field, seg_refusal};
 
 use crate::entries::{line_by, side_on};
-use level_rules::{Leaf, Seg, Side, TWO_SIDED};
-use map_rules::{MapLeaf, MapLine, MapSeg, MapVertex, NO_SIDE};
+use level_rules::{Leaf, MapLeaf, MapLine, MapSeg, MapVertex, NO_SIDE, Seg, Side, TWO_SIDED};
 use std::alloc::{AllocError, Global};
 
 // The segs of a level, of records that are not refused.
-#[tactic(auto, using(map_rules::proofs::JoinLemmas::joining))]
+#[tactic(auto, using(level_rules::proofs::JoinLemmas::joining))]
 pub(crate) fn join_segs(
     alloc: Global,
     sides: &[Side],
@@ -31,7 +30,7 @@ pub(crate) fn join_segs(
 }
 
 // The leaves of a level, of records that are not refused, and its segs.
-#[tactic(auto, using(map_rules::proofs::JoinLemmas::joining))]
+#[tactic(auto, using(level_rules::proofs::JoinLemmas::joining))]
 pub(crate) fn join_leaves(
     alloc: Global,
     segs: &[Seg],
@@ -48,7 +47,7 @@ pub(crate) fn join_leaves(
 }
 
 // A seg, whose vertices, line and side are there.
-#[tactic(auto, using(map_rules::proofs::RangeLemmas::segs_in_range), unfolding(map_rules::specs::Levels::seg_of))]
+#[tactic(auto, using(level_rules::proofs::RangeLemmas::segs_in_range), unfolding(level_rules::specs::maps::Levels::seg_of))]
 fn seg_of(sides: &[Side], lines: &[MapLine], vertexes: &[MapVertex], seg: MapSeg) -> Seg
     requires seg { seg_field (length vertexes.now) lines.now seg ≡ None }
     requires line { line_field (length sides.now) (line_by lines.now seg.line) ≡ None }
@@ -61,7 +60,7 @@ fn seg_of(sides: &[Side], lines: &[MapLine], vertexes: &[MapVertex], seg: MapSeg
 }
 
 // A seg of a line, between two vertices.
-#[tactic(auto, using(map_rules::proofs::RangeLemmas::segs_in_range), unfolding(map_rules::specs::Levels::seg_between))]
+#[tactic(auto, using(level_rules::proofs::RangeLemmas::segs_in_range), unfolding(level_rules::specs::maps::Levels::seg_between))]
 fn seg_between(sides: &[Side], line: MapLine, v1: MapVertex, v2: MapVertex, seg: MapSeg) -> Seg
     requires line { line_field (length sides.now) line ≡ None }
     requires side { has_side line seg.side ≡ true }
@@ -83,7 +82,7 @@ fn seg_between(sides: &[Side], line: MapLine, v1: MapVertex, v2: MapVertex, seg:
 }
 
 // The sector behind side 0 or 1 of a line, where one is seen.
-#[tactic(auto, using(map_rules::proofs::RangeLemmas::segs_in_range), unfolding(map_rules::specs::Levels::back_sector))]
+#[tactic(auto, using(level_rules::proofs::RangeLemmas::segs_in_range), unfolding(level_rules::specs::maps::Levels::back_sector))]
 fn back_sector(sides: &[Side], line: MapLine, side: u16) -> Option<u16>
     requires line { line_field (length sides.now) line ≡ None }
     requires side { side < 2 }
@@ -97,7 +96,7 @@ fn back_sector(sides: &[Side], line: MapLine, side: u16) -> Option<u16>
 }
 
 // Whether a sector is seen behind side 0 or 1 of a line.
-#[tactic(auto, unfolding(map_rules::specs::Levels::has_back))]
+#[tactic(auto, unfolding(level_rules::specs::maps::Levels::has_back))]
 fn has_back(line: MapLine, side: u16) -> bool
     requires { side < 2 }
     ensures { result ≡ has_back line side }
@@ -106,7 +105,7 @@ fn has_back(line: MapLine, side: u16) -> bool
 }
 
 // A leaf, whose first seg is there.
-#[tactic(auto, using(map_rules::proofs::RangeLemmas::segs_in_range), unfolding(map_rules::specs::Levels::leaf_of))]
+#[tactic(auto, using(level_rules::proofs::RangeLemmas::segs_in_range), unfolding(level_rules::specs::maps::Levels::leaf_of))]
 fn leaf_of(segs: &[Seg], leaf: MapLeaf) -> Leaf
     requires { leaf.first < length segs.now }
     ensures { result ≡ leaf_of segs.now leaf }
@@ -119,7 +118,7 @@ fn leaf_of(segs: &[Seg], leaf: MapLeaf) -> Leaf
 }
 
 // The number of a side's sector.
-#[tactic(auto, unfolding(map_rules::specs::Levels::sector_of))]
+#[tactic(auto, unfolding(level_rules::specs::maps::Levels::sector_of))]
 fn sector_of(sides: &[Side], n: u16) -> u16
     requires { n < length sides.now }
     ensures { result ≡ sector_of sides.now n }
@@ -128,7 +127,7 @@ fn sector_of(sides: &[Side], n: u16) -> u16
 }
 
 // A vertex by its number.
-#[tactic(auto, unfolding(map_rules::specs::Levels::vertex_by))]
+#[tactic(auto, unfolding(level_rules::specs::maps::Levels::vertex_by))]
 fn vertex_by(vertexes: &[MapVertex], n: u16) -> MapVertex
     requires { n < length vertexes.now }
     ensures { result ≡ vertex_by vertexes.now n }

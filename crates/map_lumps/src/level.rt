@@ -1,7 +1,7 @@
-// A level: its lists, with everything that they name by number in range. Rules: `map_rules`,
+// A level: its lists, with everything that they name by number in range. Rules: `level_rules/maps`,
 // Levels and Sound.
 ghost use Rattle.std.specs.Prelude.{◌≡◌};
-ghost use Rattle.map_rules.specs.Sound.{IsSound};
+ghost use Rattle.level_rules.specs.maps.Sound.{IsSound};
 
 use level_rules::{Child, Leaf, Node, Sector, Seg, Side, Thing};
 use std::marker::Model;
@@ -23,11 +23,11 @@ pub struct Level {
 }
 
 impl Model for Level {
-    ghost use Rattle.map_rules.specs.Levels.{LevelValue};
+    ghost use Rattle.level_rules.specs.maps.Levels.{LevelValue};
 
     ghost Value = { LevelValue };
 
-    ghost use Rattle.map_rules.specs.Sound.{IsSound};
+    ghost use Rattle.level_rules.specs.maps.Sound.{IsSound};
     ghost use Rattle.map_lumps.specs.Views.{level_value};
 
     ghost view = { level_value };

@@ -1,9 +1,9 @@
-// The records of all eight lumps, and the level that they give. Rules: `map_rules`, Levels.
+// The records of all eight lumps, and the level that they give. Rules: `level_rules/maps`, Levels.
 ghost use Rattle.std.specs.Prelude.{◌≡◌, OnOk, IfOk, Option, Some, None, Ok, Err};
-ghost use Rattle.map_rules.specs.declared.refusal.MapRefusal.{MapRefusal};
-ghost use Rattle.map_rules.specs.Levels.{joined_leaves, joined_level, joined_segs, level_from, no_leaf_refusal, range_refusal, records_refusal};
-ghost use Rattle.map_rules.specs.Sound.{IsSound};
-ghost use Rattle.map_rules.specs.Trees.{root_of};
+ghost use Rattle.level_rules.specs.declared.maps.refusal.MapRefusal.{MapRefusal};
+ghost use Rattle.level_rules.specs.maps.Levels.{joined_leaves, joined_level, joined_segs, level_from, no_leaf_refusal, range_refusal, records_refusal};
+ghost use Rattle.level_rules.specs.maps.Sound.{IsSound};
+ghost use Rattle.level_rules.specs.maps.Trees.{root_of};
 
 use crate::fault::MapFault;
 use crate::join::{join_leaves, join_segs};
@@ -13,8 +13,9 @@ use crate::ranges::{
     first_side_refusal,
 };
 use crate::tree::{check_tree, root_of};
-use level_rules::{Child, Leaf, Node, Sector, Seg, Side, Thing};
-use map_rules::{MapLeaf, MapLine, MapRefusal, MapSeg, MapVertex};
+use level_rules::{
+    Child, Leaf, MapLeaf, MapLine, MapRefusal, MapSeg, MapVertex, Node, Sector, Seg, Side, Thing,
+};
 use std::alloc::{AllocError, Global};
 use std::marker::Model;
 
@@ -32,11 +33,11 @@ pub(crate) struct MapLists {
 }
 
 impl Model for MapLists {
-    ghost use Rattle.map_rules.specs.Levels.{MapRecords};
+    ghost use Rattle.level_rules.specs.maps.Levels.{MapRecords};
 
     ghost Value = { MapRecords };
 
-    ghost use Rattle.map_rules.specs.Sound.{HasFewRecords};
+    ghost use Rattle.level_rules.specs.maps.Sound.{HasFewRecords};
     ghost use Rattle.map_lumps.specs.Views.{listed_records};
 
     ghost view = { listed_records };
@@ -46,7 +47,7 @@ impl Model for MapLists {
 
 impl MapLists {
     // The level, unless something is refused.
-    #[tactic(auto, unfolding(map_rules::specs::Levels::level_from, map_rules::specs::Levels::unless))]
+    #[tactic(auto, unfolding(level_rules::specs::maps::Levels::level_from, level_rules::specs::maps::Levels::unless))]
     pub(crate) fn level(self, alloc: Global) -> Result<Level, MapFault>
         ensures ok { IfOk result (λ level. level_from self ≡ Ok level) }
         ensures refused { (r : MapRefusal) → result ≡ Err (MapFault.Refused r) →
@@ -85,7 +86,7 @@ impl MapLists {
     }
 
     // The segs of the level.
-    #[tactic(auto, unfolding(map_rules::specs::Levels::joined_segs))]
+    #[tactic(auto, unfolding(level_rules::specs::maps::Levels::joined_segs))]
     fn joined_segs(&self, alloc: Global) -> Result<Vec<Seg>, AllocError>
         requires { records_refusal self.now ≡ None }
         ensures { IfOk result (λ v. v.items ≡ joined_segs self.now) }
@@ -94,7 +95,7 @@ impl MapLists {
     }
 
     // The leaves of the level, which has these segs.
-    #[tactic(auto, unfolding(map_rules::specs::Levels::joined_leaves))]
+    #[tactic(auto, unfolding(level_rules::specs::maps::Levels::joined_leaves))]
     fn joined_leaves(&self, alloc: Global, segs: &[Seg]) -> Result<Vec<Leaf>, AllocError>
         requires right { records_refusal self.now ≡ None }
         requires segs { segs.now ≡ joined_segs self.now }
@@ -111,7 +112,7 @@ impl MapLists {
     }
 
     // Whether nothing is refused, and else what is.
-    #[tactic(auto, unfolding(map_rules::specs::Levels::records_refusal))]
+    #[tactic(auto, unfolding(level_rules::specs::maps::Levels::records_refusal))]
     fn check(&self, alloc: Global) -> Result<(), MapFault>
         ensures ok { OnOk result (records_refusal self.now ≡ None) }
         ensures refused { (r : MapRefusal) → result ≡ Err (MapFault.Refused r)
@@ -127,7 +128,7 @@ impl MapLists {
     }
 
     // The refusal of a map without a leaf.
-    #[tactic(auto, unfolding(map_rules::specs::Levels::no_leaf_refusal))]
+    #[tactic(auto, unfolding(level_rules::specs::maps::Levels::no_leaf_refusal))]
     fn no_leaf_refusal(&self) -> Option<MapRefusal>
         ensures { result ≡ no_leaf_refusal self.now.leaves }
     {
@@ -138,7 +139,7 @@ impl MapLists {
     }
 
     // The first number that is out of range.
-    #[tactic(auto, unfolding(map_rules::specs::Levels::range_refusal))]
+    #[tactic(auto, unfolding(level_rules::specs::maps::Levels::range_refusal))]
     fn range_refusal(&self) -> Option<MapRefusal>
         ensures { result ≡ range_refusal self.now }
     {

@@ -1,12 +1,14 @@
-// The records of a map lump. Rules: `map_rules`, Records.
+// The records of a map lump. Rules: `level_rules/maps`, Records.
 ghost use Rattle.std.specs.Prelude.{◌≡◌, ◌<◌, ◌≤◌, ◌+◌, ◌*◌, ◌/◌, ℕ, List, length, IfOk};
-ghost use Rattle.map_rules.specs.Fields.{record_at, records_in};
-ghost use Rattle.map_rules.specs.Records.{box_at, child_at, child_of, leaf_in, line_at, line_in, node_in, sector_in, seg_in, side_in, thing_in, vertex_in};
+ghost use Rattle.level_rules.specs.maps.Fields.{record_at, records_in};
+ghost use Rattle.level_rules.specs.maps.Records.{box_at, child_at, child_of, leaf_in, line_at, line_in, node_in, sector_in, seg_in, side_in, thing_in, vertex_in};
 
 use crate::fields::{angle_field, fixed_at, half_at, name_field, signed_half_at};
-use level_rules::{Box4, Child, Node, Partition4, Sector, Side, Thing};
-use map_rules::layout::*;
-use map_rules::{LEAF_BIT, MAX_RECORDS, MapLeaf, MapLine, MapSeg, MapVertex};
+use level_rules::maps::layout::*;
+use level_rules::{
+    Box4, Child, LEAF_BIT, MAX_RECORDS, MapLeaf, MapLine, MapSeg, MapVertex, Node, Partition4,
+    Sector, Side, Thing,
+};
 use std::alloc::{AllocError, Global};
 
 // A record of a map lump, which has `SIZE` bytes.
@@ -26,7 +28,7 @@ pub(crate) trait MapRecord: Sized + Drop {
 }
 
 // The whole records of a lump. Bytes after the last of them are not read.
-#[tactic(auto, using(word_rules::proofs::ListedLemmas::listing), unfolding(map_rules::specs::Fields::records_in))]
+#[tactic(auto, using(word_rules::proofs::ListedLemmas::listing), unfolding(level_rules::specs::maps::Fields::records_in))]
 pub(crate) fn read_records<R: MapRecord>(alloc: Global, bytes: &[u8]) -> Result<Vec<R>, AllocError>
     requires { length bytes.now / R.SIZE ≤ MAX_RECORDS }
     ensures items { IfOk result (λ v. v.items ≡ records_in R.record_in R.SIZE bytes.now) }
@@ -40,7 +42,7 @@ pub(crate) fn read_records<R: MapRecord>(alloc: Global, bytes: &[u8]) -> Result<
 }
 
 // The bytes of record n, where each has `size` bytes.
-#[tactic(auto, unfolding(map_rules::specs::Fields::record_at))]
+#[tactic(auto, unfolding(level_rules::specs::maps::Fields::record_at))]
 fn entry_at(bytes: &[u8], size: usize, n: usize) -> &[u8]
     requires { size * n + size ≤ length bytes.now }
     ensures value { result.now ≡ record_at size bytes.now n }
@@ -52,8 +54,8 @@ fn entry_at(bytes: &[u8], size: usize, n: usize) -> &[u8]
 impl MapRecord for Thing {
     ghost use Rattle.std.specs.Prelude.{ℕ};
     ghost use Rattle.std.proofs.Common.{rules};
-    ghost use Rattle.map_rules.specs.declared.layout.TheConstants.{THING_SIZE};
-    ghost use Rattle.map_rules.specs.Records.{thing_in};
+    ghost use Rattle.level_rules.specs.declared.maps.layout.TheConstants.{THING_SIZE};
+    ghost use Rattle.level_rules.specs.maps.Records.{thing_in};
 
     ghost SIZE = { THING_SIZE };
 
@@ -61,7 +63,7 @@ impl MapRecord for Thing {
 
     ghost record_in = { thing_in };
 
-    #[tactic(auto, unfolding(map_rules::specs::Records::thing_in))]
+    #[tactic(auto, unfolding(level_rules::specs::maps::Records::thing_in))]
     fn read(entry: &[u8]) -> Thing {
         Thing {
             x: fixed_at(entry, THING_X),
@@ -78,8 +80,8 @@ impl MapRecord for Thing {
 impl MapRecord for MapLine {
     ghost use Rattle.std.specs.Prelude.{ℕ};
     ghost use Rattle.std.proofs.Common.{rules};
-    ghost use Rattle.map_rules.specs.declared.layout.TheConstants.{LINE_SIZE};
-    ghost use Rattle.map_rules.specs.Records.{line_in};
+    ghost use Rattle.level_rules.specs.declared.maps.layout.TheConstants.{LINE_SIZE};
+    ghost use Rattle.level_rules.specs.maps.Records.{line_in};
 
     ghost SIZE = { LINE_SIZE };
 
@@ -87,7 +89,7 @@ impl MapRecord for MapLine {
 
     ghost record_in = { line_in };
 
-    #[tactic(auto, unfolding(map_rules::specs::Records::line_in))]
+    #[tactic(auto, unfolding(level_rules::specs::maps::Records::line_in))]
     fn read(entry: &[u8]) -> MapLine {
         MapLine {
             flags: half_at(entry, LINE_FLAGS),
@@ -102,8 +104,8 @@ impl MapRecord for MapLine {
 impl MapRecord for Side {
     ghost use Rattle.std.specs.Prelude.{ℕ};
     ghost use Rattle.std.proofs.Common.{rules};
-    ghost use Rattle.map_rules.specs.declared.layout.TheConstants.{SIDE_SIZE};
-    ghost use Rattle.map_rules.specs.Records.{side_in};
+    ghost use Rattle.level_rules.specs.declared.maps.layout.TheConstants.{SIDE_SIZE};
+    ghost use Rattle.level_rules.specs.maps.Records.{side_in};
 
     ghost SIZE = { SIDE_SIZE };
 
@@ -111,7 +113,7 @@ impl MapRecord for Side {
 
     ghost record_in = { side_in };
 
-    #[tactic(auto, unfolding(map_rules::specs::Records::side_in))]
+    #[tactic(auto, unfolding(level_rules::specs::maps::Records::side_in))]
     fn read(entry: &[u8]) -> Side {
         Side {
             x_offset: fixed_at(entry, SIDE_X_OFFSET),
@@ -129,8 +131,8 @@ impl MapRecord for Side {
 impl MapRecord for MapVertex {
     ghost use Rattle.std.specs.Prelude.{ℕ};
     ghost use Rattle.std.proofs.Common.{rules};
-    ghost use Rattle.map_rules.specs.declared.layout.TheConstants.{VERTEX_SIZE};
-    ghost use Rattle.map_rules.specs.Records.{vertex_in};
+    ghost use Rattle.level_rules.specs.declared.maps.layout.TheConstants.{VERTEX_SIZE};
+    ghost use Rattle.level_rules.specs.maps.Records.{vertex_in};
 
     ghost SIZE = { VERTEX_SIZE };
 
@@ -138,7 +140,7 @@ impl MapRecord for MapVertex {
 
     ghost record_in = { vertex_in };
 
-    #[tactic(auto, unfolding(map_rules::specs::Records::vertex_in))]
+    #[tactic(auto, unfolding(level_rules::specs::maps::Records::vertex_in))]
     fn read(entry: &[u8]) -> MapVertex {
         MapVertex {
             x: fixed_at(entry, VERTEX_X),
@@ -152,8 +154,8 @@ impl MapRecord for MapVertex {
 impl MapRecord for MapSeg {
     ghost use Rattle.std.specs.Prelude.{ℕ};
     ghost use Rattle.std.proofs.Common.{rules};
-    ghost use Rattle.map_rules.specs.declared.layout.TheConstants.{SEG_SIZE};
-    ghost use Rattle.map_rules.specs.Records.{seg_in};
+    ghost use Rattle.level_rules.specs.declared.maps.layout.TheConstants.{SEG_SIZE};
+    ghost use Rattle.level_rules.specs.maps.Records.{seg_in};
 
     ghost SIZE = { SEG_SIZE };
 
@@ -161,7 +163,7 @@ impl MapRecord for MapSeg {
 
     ghost record_in = { seg_in };
 
-    #[tactic(auto, unfolding(map_rules::specs::Records::seg_in))]
+    #[tactic(auto, unfolding(level_rules::specs::maps::Records::seg_in))]
     fn read(entry: &[u8]) -> MapSeg {
         MapSeg {
             start: half_at(entry, SEG_START),
@@ -179,8 +181,8 @@ impl MapRecord for MapSeg {
 impl MapRecord for MapLeaf {
     ghost use Rattle.std.specs.Prelude.{ℕ};
     ghost use Rattle.std.proofs.Common.{rules};
-    ghost use Rattle.map_rules.specs.declared.layout.TheConstants.{LEAF_SIZE};
-    ghost use Rattle.map_rules.specs.Records.{leaf_in};
+    ghost use Rattle.level_rules.specs.declared.maps.layout.TheConstants.{LEAF_SIZE};
+    ghost use Rattle.level_rules.specs.maps.Records.{leaf_in};
 
     ghost SIZE = { LEAF_SIZE };
 
@@ -188,7 +190,7 @@ impl MapRecord for MapLeaf {
 
     ghost record_in = { leaf_in };
 
-    #[tactic(auto, unfolding(map_rules::specs::Records::leaf_in))]
+    #[tactic(auto, unfolding(level_rules::specs::maps::Records::leaf_in))]
     fn read(entry: &[u8]) -> MapLeaf {
         MapLeaf {
             count: half_at(entry, LEAF_COUNT),
@@ -202,8 +204,8 @@ impl MapRecord for MapLeaf {
 impl MapRecord for Node {
     ghost use Rattle.std.specs.Prelude.{ℕ};
     ghost use Rattle.std.proofs.Common.{rules};
-    ghost use Rattle.map_rules.specs.declared.layout.TheConstants.{NODE_SIZE};
-    ghost use Rattle.map_rules.specs.Records.{node_in};
+    ghost use Rattle.level_rules.specs.declared.maps.layout.TheConstants.{NODE_SIZE};
+    ghost use Rattle.level_rules.specs.maps.Records.{node_in};
 
     ghost SIZE = { NODE_SIZE };
 
@@ -211,7 +213,7 @@ impl MapRecord for Node {
 
     ghost record_in = { node_in };
 
-    #[tactic(auto, unfolding(map_rules::specs::Records::node_in))]
+    #[tactic(auto, unfolding(level_rules::specs::maps::Records::node_in))]
     fn read(entry: &[u8]) -> Node {
         Node {
             line: line_at(entry),
@@ -226,8 +228,8 @@ impl MapRecord for Node {
 impl MapRecord for Sector {
     ghost use Rattle.std.specs.Prelude.{ℕ};
     ghost use Rattle.std.proofs.Common.{rules};
-    ghost use Rattle.map_rules.specs.declared.layout.TheConstants.{SECTOR_SIZE};
-    ghost use Rattle.map_rules.specs.Records.{sector_in};
+    ghost use Rattle.level_rules.specs.declared.maps.layout.TheConstants.{SECTOR_SIZE};
+    ghost use Rattle.level_rules.specs.maps.Records.{sector_in};
 
     ghost SIZE = { SECTOR_SIZE };
 
@@ -235,7 +237,7 @@ impl MapRecord for Sector {
 
     ghost record_in = { sector_in };
 
-    #[tactic(auto, unfolding(map_rules::specs::Records::sector_in))]
+    #[tactic(auto, unfolding(level_rules::specs::maps::Records::sector_in))]
     fn read(entry: &[u8]) -> Sector {
         Sector {
             floor: fixed_at(entry, SECTOR_FLOOR),
@@ -250,7 +252,7 @@ impl MapRecord for Sector {
 }
 
 // The partition line in a record of NODES.
-#[tactic(auto, unfolding(map_rules::specs::Records::line_at))]
+#[tactic(auto, unfolding(level_rules::specs::maps::Records::line_at))]
 fn line_at(entry: &[u8]) -> Partition4
     requires { length entry.now ≡ NODE_SIZE }
     ensures { result ≡ line_at entry.now }
@@ -264,7 +266,7 @@ fn line_at(entry: &[u8]) -> Partition4
 }
 
 // The box at `offset`.
-#[tactic(auto, unfolding(map_rules::specs::Records::box_at))]
+#[tactic(auto, unfolding(level_rules::specs::maps::Records::box_at))]
 fn box_at(entry: &[u8], offset: usize) -> Box4
     requires { offset + BOX_RIGHT + WORD_SIZE ≤ length entry.now }
     ensures { result ≡ box_at entry.now offset }
@@ -278,7 +280,7 @@ fn box_at(entry: &[u8], offset: usize) -> Box4
 }
 
 // The child at `offset`.
-#[tactic(auto, unfolding(map_rules::specs::Records::child_at))]
+#[tactic(auto, unfolding(level_rules::specs::maps::Records::child_at))]
 fn child_at(entry: &[u8], offset: usize) -> Child
     requires { offset + WORD_SIZE ≤ length entry.now }
     ensures { result ≡ child_at entry.now offset }
@@ -287,7 +289,7 @@ fn child_at(entry: &[u8], offset: usize) -> Child
 }
 
 // The child of a number, in which the leaf bit marks a leaf.
-#[tactic(auto, unfolding(map_rules::specs::Records::child_of))]
+#[tactic(auto, unfolding(level_rules::specs::maps::Records::child_of))]
 fn child_of(number: u16) -> Child
     ensures { result ≡ child_of number }
 {

@@ -1,17 +1,16 @@
-// The tree of the nodes under the root. Rules: `map_rules`, Trees.
+// The tree of the nodes under the root. Rules: `level_rules/maps`, Trees.
 ghost use Rattle.std.specs.Prelude.{◌≡◌, ◌<◌, ◌≤◌, ◌+◌, ◌-◌, ℕ, true, false, length, slice_get, slice_set, slice_index_or, OnOk, IfNone, Option, Some, None, Ok, Err};
-ghost use Rattle.map_rules.specs.declared.refusal.MapRefusal.{MapRefusal};
-ghost use Rattle.map_rules.specs.Trees.{preorder, reached_after, root_of, tree_refusal, visit_refusal, visits_refusal};
+ghost use Rattle.level_rules.specs.declared.maps.refusal.MapRefusal.{MapRefusal};
+ghost use Rattle.level_rules.specs.maps.Trees.{preorder, reached_after, root_of, tree_refusal, visit_refusal, visits_refusal};
 
 use crate::entries::child_on;
 use crate::fault::MapFault;
-use level_rules::{Child, MAX_DEPTH, Node};
-use map_rules::{MAX_RECORDS, MapRefusal};
+use level_rules::{Child, MAX_DEPTH, MAX_RECORDS, MapRefusal, Node};
 use std::alloc::Global;
 
 // Whether the nodes are a tree under the last of them, at most `MAX_DEPTH` deep. Each node is
 // visited once at most before the answer, and the calls are no deeper than the tree may be.
-#[tactic(auto, unfolding(map_rules::specs::Trees::tree_refusal))]
+#[tactic(auto, unfolding(level_rules::specs::maps::Trees::tree_refusal))]
 pub(crate) fn check_tree(alloc: Global, nodes: &[Node]) -> Result<(), MapFault>
     requires { length nodes.now ≤ MAX_RECORDS }
     ensures ok { OnOk result (tree_refusal nodes.now ≡ None) }
@@ -26,7 +25,7 @@ pub(crate) fn check_tree(alloc: Global, nodes: &[Node]) -> Result<(), MapFault>
 }
 
 // The root: the last node, or leaf 0 where there is none.
-#[tactic(auto, unfolding(map_rules::specs::Trees::root_of))]
+#[tactic(auto, unfolding(level_rules::specs::maps::Trees::root_of))]
 pub(crate) fn root_of(nodes: &[Node]) -> Child
     requires { length nodes.now ≤ MAX_RECORDS }
     ensures { result ≡ root_of nodes.now }
@@ -40,7 +39,7 @@ pub(crate) fn root_of(nodes: &[Node]) -> Child
 
 // Reaches the nodes from a child at `depth` on, child 0 before child 1, up to the first that is
 // refused.
-#[tactic(auto, using(map_rules::proofs::VisitLemmas::visiting), unfolding(map_rules::specs::Trees::visits_of))]
+#[tactic(auto, using(level_rules::proofs::VisitLemmas::visiting), unfolding(level_rules::specs::maps::Trees::visits_of))]
 fn visit(nodes: &[Node], child: Child, depth: u32, reached: &mut [bool]) -> Option<MapRefusal>
     requires { depth ≤ MAX_DEPTH + 1 }
     ensures refusal { let visits = preorder nodes.now (MAX_DEPTH + 2 - depth) depth child in
@@ -65,7 +64,7 @@ fn visit(nodes: &[Node], child: Child, depth: u32, reached: &mut [bool]) -> Opti
 }
 
 // What is wrong with a node that is reached at this depth.
-#[tactic(auto, unfolding(map_rules::specs::Trees::visit_refusal))]
+#[tactic(auto, unfolding(level_rules::specs::maps::Trees::visit_refusal))]
 fn visit_refusal(reached: &[bool], node: u16, depth: u32) -> Option<MapRefusal>
     ensures value { result ≡ visit_refusal reached.now (record { node = node; depth = depth }) }
     ensures deep { result ≡ None → depth ≤ MAX_DEPTH }

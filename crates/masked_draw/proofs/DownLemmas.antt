@@ -9,13 +9,13 @@ use Rattle.pixel_rules.specs.Dots.{Dot}
 use Rattle.pixel_rules.specs.Art.{Art}
 use Rattle.pixel_rules.specs.Strips.{rows_between}
 use Rattle.pixel_rules.proofs.StripLemmas.{rows_between-none}
-use Rattle.wall_rules.specs.declared.FragmentNote.{FragmentNote}
-use Rattle.sprite_rules.specs.declared.SpriteEntry.{SpriteEntry}
-use Rattle.sprite_rules.specs.Drawsegs.{Drawseg, entry_has, is_behind}
-use Rattle.sprite_rules.specs.Clips.{sprite_in_front}
-use Rattle.sprite_rules.specs.Sprites.{sprite_column, sprite_dots}
-use Rattle.sprite_rules.specs.Middles.{middle_column, columns_at, middles_of, middles_at, same_number, sprite_step}
-use Rattle.sprite_rules.proofs.MaskedLemmas.{middles_at-more}
+use Rattle.picture_rules.specs.declared.wall.FragmentNote.{FragmentNote}
+use Rattle.picture_rules.specs.declared.sprite.SpriteEntry.{SpriteEntry}
+use Rattle.picture_rules.specs.sprite.Drawsegs.{Drawseg, entry_has, is_behind}
+use Rattle.picture_rules.specs.sprite.Clips.{sprite_in_front}
+use Rattle.picture_rules.specs.sprite.Sprites.{sprite_column, sprite_dots}
+use Rattle.picture_rules.specs.sprite.Middles.{middle_column, columns_at, middles_of, middles_at, same_number, sprite_step}
+use Rattle.picture_rules.proofs.sprite.MaskedLemmas.{middles_at-more}
 use Rattle.masked_draw.specs.Marks.{is_passed, is_before, AreBefore, MarkedTo}
 use Rattle.masked_draw.proofs.MomentLemmas.{front-now, front-more}
 use Rattle.masked_draw.proofs.MarkLemmas.{range_none}

@@ -6,11 +6,11 @@ use Rattle.std.proofs.lemmas.Bool.Decides.{nat_tests}
 use Rattle.std.proofs.lemmas.Int.{ints}
 use Rattle.view_rules.specs.View.{ViewValue}
 use Rattle.pixel_rules.specs.Art.{Art}
-use Rattle.wall_rules.specs.declared.TheConstants.{SIL_BOTTOM, SIL_TOP}
-use Rattle.wall_rules.specs.declared.FragmentNote.{FragmentNote}
-use Rattle.sprite_rules.specs.declared.SpriteEntry.{SpriteEntry}
-use Rattle.sprite_rules.specs.Drawsegs.{Drawseg, drawseg_has, entry_has, is_behind}
-use Rattle.sprite_rules.specs.Clips.{gives_bottom, gives_top}
+use Rattle.picture_rules.specs.declared.wall.TheConstants.{SIL_BOTTOM, SIL_TOP}
+use Rattle.picture_rules.specs.declared.wall.FragmentNote.{FragmentNote}
+use Rattle.picture_rules.specs.declared.sprite.SpriteEntry.{SpriteEntry}
+use Rattle.picture_rules.specs.sprite.Drawsegs.{Drawseg, drawseg_has, entry_has, is_behind}
+use Rattle.picture_rules.specs.sprite.Clips.{gives_bottom, gives_top}
 use Rattle.vissprites.specs.Bounds.{lies_within}
 use Rattle.masked_draw.specs.Clipped.{clips_bottom, clips_top, row_after}
 use Rattle.masked_draw.specs.Marks.{AreOwnMarked, MarksBy, MissesColumns, is_between, is_passed, unmarked_dots}

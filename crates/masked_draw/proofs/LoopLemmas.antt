@@ -9,11 +9,11 @@ use Rattle.view_rules.specs.View.{ViewValue}
 use Rattle.pixel_rules.specs.declared.Painter.{Painter}
 use Rattle.pixel_rules.specs.Dots.{Dot}
 use Rattle.pixel_rules.specs.Art.{Art}
-use Rattle.wall_rules.specs.declared.FragmentNote.{FragmentNote}
-use Rattle.sprite_rules.specs.declared.SpriteEntry.{SpriteEntry}
-use Rattle.sprite_rules.specs.Drawsegs.{entry_has}
-use Rattle.sprite_rules.specs.Clips.{gives_bottom, gives_top}
-use Rattle.sprite_rules.specs.Middles.{middles_at, middles_of}
+use Rattle.picture_rules.specs.declared.wall.FragmentNote.{FragmentNote}
+use Rattle.picture_rules.specs.declared.sprite.SpriteEntry.{SpriteEntry}
+use Rattle.picture_rules.specs.sprite.Drawsegs.{entry_has}
+use Rattle.picture_rules.specs.sprite.Clips.{gives_bottom, gives_top}
+use Rattle.picture_rules.specs.sprite.Middles.{middles_at, middles_of}
 use Rattle.picture_rules.specs.Noted.{IsWholeNote, greatest_clip, least_clip}
 use Rattle.masked_draw.specs.declared.clips.SpriteClips.{SpriteClips}
 use Rattle.masked_draw.specs.declared.scene.MaskScene.{MaskScene}

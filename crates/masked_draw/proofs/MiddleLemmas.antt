@@ -30,10 +30,10 @@ use Rattle.pixel_rules.specs.declared.TheConstants.{LUMP, MIDDLE}
 use Rattle.pixel_rules.specs.Art.{painter_of}
 use Rattle.pixel_rules.specs.Posts.{post_dots, post_colour, post_rows, posts_dots}
 use Rattle.pixel_rules.specs.Strips.{shade}
-use Rattle.wall_rules.specs.Numbers.{seg_light}
-use Rattle.wall_rules.specs.declared.FragmentNote.{FragmentNote}
-use Rattle.sprite_rules.specs.Drawsegs.{Drawseg}
-use Rattle.sprite_rules.specs.Middles.{drawseg_scale, middle_by as dots_by, middle_column, middle_masked}
+use Rattle.picture_rules.specs.wall.Numbers.{seg_light}
+use Rattle.picture_rules.specs.declared.wall.FragmentNote.{FragmentNote}
+use Rattle.picture_rules.specs.sprite.Drawsegs.{Drawseg}
+use Rattle.picture_rules.specs.sprite.Middles.{drawseg_scale, middle_by as dots_by, middle_column, middle_masked}
 use Rattle.texture_build.specs.Arts.{view_art}
 use Rattle.texture_build.specs.Sources.{column_in, column_index}
 use Rattle.texture_build.specs.Views.{TexturesView, prepared_texture}

@@ -5,11 +5,11 @@ use Rattle.std.proofs.lemmas.Bool.{lt-ltb}
 use Rattle.std.proofs.lemmas.Bool.Decides.{nat_tests}
 use Rattle.word_rules.specs.Least.{least, or_else}
 use Rattle.word_rules.proofs.LeastLemmas.{least-more, least-is}
-use Rattle.sprite_rules.specs.declared.SpriteEntry.{SpriteEntry}
-use Rattle.sprite_rules.specs.Drawsegs.{Drawseg}
-use Rattle.sprite_rules.specs.Clips.{sprite_in_front, stands_in_front}
-use Rattle.sprite_rules.specs.Middles.{same_number}
-use Rattle.sprite_rules.proofs.ClipLemmas.{sprite_in_front-least}
+use Rattle.picture_rules.specs.declared.sprite.SpriteEntry.{SpriteEntry}
+use Rattle.picture_rules.specs.sprite.Drawsegs.{Drawseg}
+use Rattle.picture_rules.specs.sprite.Clips.{sprite_in_front, stands_in_front}
+use Rattle.picture_rules.specs.sprite.Middles.{same_number}
+use Rattle.picture_rules.proofs.sprite.ClipLemmas.{sprite_in_front-least}
 use Rattle.masked_draw.specs.Marks.{is_passed, is_before}
 
 below_now : (j n : ℕ) → j < n → nat_lt j n ≡ true

@@ -10,13 +10,13 @@ use Rattle.lump_cache.specs.declared.fault.CacheFault.{CacheFault}
 use Rattle.pixel_rules.specs.declared.Painter.{Painter}
 use Rattle.pixel_rules.specs.Dots.{Dot}
 use Rattle.pixel_rules.specs.Art.{Art}
-use Rattle.wall_rules.specs.declared.FragmentNote.{FragmentNote}
-use Rattle.sprite_rules.specs.declared.SpriteEntry.{SpriteEntry}
-use Rattle.sprite_rules.specs.Drawsegs.{Drawseg}
-use Rattle.sprite_rules.specs.Order.{draw_order}
-use Rattle.sprite_rules.specs.Middles.{masked_dots, middles_at, sprites_from}
-use Rattle.sprite_rules.proofs.MaskedLemmas.{sprites_from-more}
-use Rattle.sprite_rules.proofs.OrderLemmas.{draw_order-permutation}
+use Rattle.picture_rules.specs.declared.wall.FragmentNote.{FragmentNote}
+use Rattle.picture_rules.specs.declared.sprite.SpriteEntry.{SpriteEntry}
+use Rattle.picture_rules.specs.sprite.Drawsegs.{Drawseg}
+use Rattle.picture_rules.specs.sprite.Order.{draw_order}
+use Rattle.picture_rules.specs.sprite.Middles.{masked_dots, middles_at, sprites_from}
+use Rattle.picture_rules.proofs.sprite.MaskedLemmas.{sprites_from-more}
+use Rattle.picture_rules.proofs.sprite.OrderLemmas.{draw_order-permutation}
 use Rattle.vissprites.specs.Bounds.{has_lump_below, lies_within}
 use Rattle.masked_draw.specs.declared.scene.MaskScene.{MaskScene}
 use Rattle.masked_draw.specs.Marks.{AreBefore, MarkedTo, mark_in}

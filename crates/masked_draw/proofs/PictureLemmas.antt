@@ -26,8 +26,8 @@ use Rattle.pixel_strips.specs.Canvases.{CanvasView, with_dots, with_painter}
 use Rattle.pixel_strips.specs.Dotted.{HasDots}
 use Rattle.pixel_strips.proofs.CanvasLemmas.{dots_none}
 use Rattle.pixel_strips.proofs.DottedLemmas.{has_dots-as, has_dots-painted}
-use Rattle.sprite_rules.specs.declared.SpriteEntry.{SpriteEntry}
-use Rattle.sprite_rules.specs.Sprites.{picture_column}
+use Rattle.picture_rules.specs.declared.sprite.SpriteEntry.{SpriteEntry}
+use Rattle.picture_rules.specs.sprite.Sprites.{picture_column}
 use Rattle.texture_build.specs.Arts.{own_posts, view_art}
 use Rattle.texture_build.specs.Draws.{FitBeside, FitsBeside}
 use Rattle.texture_build.specs.Views.{TexturesView}

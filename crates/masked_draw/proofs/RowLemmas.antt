@@ -4,9 +4,9 @@ use Rattle.std.specs.Prelude.{slice_get, IfSome, unwrap_or, option_map}
 use Rattle.word_rules.specs.Words.{minus_one}
 use Rattle.word_rules.specs.Least.{greatest, or_else}
 use Rattle.word_rules.proofs.LeastLemmas.{greatest-more}
-use Rattle.sprite_rules.specs.declared.SpriteEntry.{SpriteEntry}
-use Rattle.sprite_rules.specs.Drawsegs.{Drawseg}
-use Rattle.sprite_rules.specs.Clips.{gives_bottom, gives_top, passes_at, greatest_that, clip_of_some, clip_of_number, sprite_bottom, sprite_top}
+use Rattle.picture_rules.specs.declared.sprite.SpriteEntry.{SpriteEntry}
+use Rattle.picture_rules.specs.sprite.Drawsegs.{Drawseg}
+use Rattle.picture_rules.specs.sprite.Clips.{gives_bottom, gives_top, passes_at, greatest_that, clip_of_some, clip_of_number, sprite_bottom, sprite_top}
 use Rattle.masked_draw.specs.Clipped.{row_in, row_after}
 
 -- the clip of the greatest fragment below m that passes

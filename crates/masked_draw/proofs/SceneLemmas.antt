@@ -15,10 +15,10 @@ use Rattle.view_rules.specs.declared.ViewShape.{ViewShape}
 use Rattle.pixel_rules.specs.declared.Painter.{Painter}
 use Rattle.pixel_rules.specs.Dots.{Dot}
 use Rattle.pixel_rules.specs.Art.{Art}
-use Rattle.wall_rules.specs.declared.FragmentNote.{FragmentNote}
-use Rattle.sprite_rules.specs.declared.SpriteEntry.{SpriteEntry}
-use Rattle.sprite_rules.specs.Drawsegs.{Drawseg, drawseg_has, is_behind}
-use Rattle.sprite_rules.specs.Clips.{gives_bottom, gives_top}
+use Rattle.picture_rules.specs.declared.wall.FragmentNote.{FragmentNote}
+use Rattle.picture_rules.specs.declared.sprite.SpriteEntry.{SpriteEntry}
+use Rattle.picture_rules.specs.sprite.Drawsegs.{Drawseg, drawseg_has, is_behind}
+use Rattle.picture_rules.specs.sprite.Clips.{gives_bottom, gives_top}
 use Rattle.picture_rules.specs.Noted.{AreNoted, IsWholeNote, least_clip, greatest_clip}
 use Rattle.texture_build.specs.Views.{TexturesView}
 use Rattle.masked_draw.specs.declared.scene.MaskScene.{MaskScene}

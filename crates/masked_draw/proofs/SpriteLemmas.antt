@@ -10,11 +10,11 @@ use Rattle.pixel_rules.specs.declared.Painter.{Painter}
 use Rattle.pixel_rules.specs.Dots.{Dot}
 use Rattle.pixel_rules.specs.Art.{Art}
 use Rattle.pixel_rules.specs.Strips.{rows_between}
-use Rattle.wall_rules.specs.declared.FragmentNote.{FragmentNote}
-use Rattle.sprite_rules.specs.declared.SpriteEntry.{SpriteEntry}
-use Rattle.sprite_rules.specs.Drawsegs.{entry_has}
-use Rattle.sprite_rules.specs.Sprites.{sprite_column, sprite_dots, sprite_masked}
-use Rattle.sprite_rules.specs.Middles.{middles_at, sprite_step}
+use Rattle.picture_rules.specs.declared.wall.FragmentNote.{FragmentNote}
+use Rattle.picture_rules.specs.declared.sprite.SpriteEntry.{SpriteEntry}
+use Rattle.picture_rules.specs.sprite.Drawsegs.{entry_has}
+use Rattle.picture_rules.specs.sprite.Sprites.{sprite_column, sprite_dots, sprite_masked}
+use Rattle.picture_rules.specs.sprite.Middles.{middles_at, sprite_step}
 use Rattle.masked_draw.specs.declared.clips.SpriteClips.{SpriteClips}
 use Rattle.masked_draw.specs.declared.scene.MaskScene.{MaskScene}
 use Rattle.masked_draw.specs.Clipped.{AreSpriteRows, clipped_column, clipped_dots, clipped_masked}

@@ -14,14 +14,14 @@ use Rattle.pixel_rules.specs.Strips.{rows_between, shade}
 use Rattle.pixel_rules.specs.Posts.{posts_dots}
 use Rattle.art_rules.specs.Bytes.{byte_at}
 use Rattle.texture_build.specs.Arts.{own_posts}
-use Rattle.wall_rules.specs.declared.TheConstants.{SIL_BOTTOM, SIL_TOP}
-use Rattle.wall_rules.specs.declared.Clip.{Clip}
-use Rattle.wall_rules.specs.declared.Clip.TheVariants.{Absent, Constant, Saved}
-use Rattle.wall_rules.specs.declared.FragmentNote.{FragmentNote}
-use Rattle.sprite_rules.specs.declared.SpriteEntry.{SpriteEntry}
-use Rattle.sprite_rules.specs.Drawsegs.{Drawseg}
-use Rattle.sprite_rules.specs.Clips.{gives_bottom, gives_top, sprite_bottom, sprite_top}
-use Rattle.sprite_rules.specs.Sprites.{picture_column}
+use Rattle.picture_rules.specs.declared.wall.TheConstants.{SIL_BOTTOM, SIL_TOP}
+use Rattle.picture_rules.specs.declared.wall.Clip.{Clip}
+use Rattle.picture_rules.specs.declared.wall.Clip.TheVariants.{Absent, Constant, Saved}
+use Rattle.picture_rules.specs.declared.wall.FragmentNote.{FragmentNote}
+use Rattle.picture_rules.specs.declared.sprite.SpriteEntry.{SpriteEntry}
+use Rattle.picture_rules.specs.sprite.Drawsegs.{Drawseg}
+use Rattle.picture_rules.specs.sprite.Clips.{gives_bottom, gives_top, sprite_bottom, sprite_top}
+use Rattle.picture_rules.specs.sprite.Sprites.{picture_column}
 use Rattle.picture_rules.specs.Noted.{least_clip, greatest_clip}
 use Rattle.masked_draw.specs.declared.clips.SpriteClips.{SpriteClips}
 use Rattle.masked_draw.specs.declared.middles.Middle.{Middle}

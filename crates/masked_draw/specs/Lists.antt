@@ -7,12 +7,12 @@ use Rattle.level_rules.specs.declared.Sector.{Sector}
 use Rattle.level_rules.specs.declared.Surface.{Surface}
 use Rattle.level_rules.specs.Levels.{no_seg}
 use Rattle.art_rules.specs.Textures.{texture_at}
-use Rattle.wall_rules.specs.declared.TheConstants.{SIL_BOTTOM, SIL_TOP}
-use Rattle.wall_rules.specs.declared.FragmentNote.{FragmentNote}
-use Rattle.wall_rules.specs.Numbers.{seg_light}
-use Rattle.wall_rules.specs.Notes.{clip_row_at}
-use Rattle.sprite_rules.specs.Drawsegs.{Drawseg}
-use Rattle.sprite_rules.specs.Middles.{masked_mid}
+use Rattle.picture_rules.specs.declared.wall.TheConstants.{SIL_BOTTOM, SIL_TOP}
+use Rattle.picture_rules.specs.declared.wall.FragmentNote.{FragmentNote}
+use Rattle.picture_rules.specs.wall.Numbers.{seg_light}
+use Rattle.picture_rules.specs.wall.Notes.{clip_row_at}
+use Rattle.picture_rules.specs.sprite.Drawsegs.{Drawseg}
+use Rattle.picture_rules.specs.sprite.Middles.{masked_mid}
 use Rattle.picture_rules.specs.Scene.{no_side}
 use Rattle.texture_build.specs.Views.{TexturesView}
 

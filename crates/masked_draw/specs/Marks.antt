@@ -4,11 +4,11 @@ use Rattle.word_rules.specs.Listed.{listed_from, joined_lists}
 use Rattle.view_rules.specs.View.{ViewValue}
 use Rattle.pixel_rules.specs.Dots.{Dot}
 use Rattle.pixel_rules.specs.Art.{Art}
-use Rattle.wall_rules.specs.declared.FragmentNote.{FragmentNote}
-use Rattle.sprite_rules.specs.declared.SpriteEntry.{SpriteEntry}
-use Rattle.sprite_rules.specs.Drawsegs.{Drawseg, entry_has, is_behind}
-use Rattle.sprite_rules.specs.Clips.{sprite_in_front}
-use Rattle.sprite_rules.specs.Middles.{middle_column}
+use Rattle.picture_rules.specs.declared.wall.FragmentNote.{FragmentNote}
+use Rattle.picture_rules.specs.declared.sprite.SpriteEntry.{SpriteEntry}
+use Rattle.picture_rules.specs.sprite.Drawsegs.{Drawseg, entry_has, is_behind}
+use Rattle.picture_rules.specs.sprite.Clips.{sprite_in_front}
+use Rattle.picture_rules.specs.sprite.Middles.{middle_column}
 
 -- the mark at a place, not set past the end
 abbrev pub mark_in : List Bool → ℕ → Bool

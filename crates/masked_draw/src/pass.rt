@@ -1,16 +1,16 @@
 // Sprites in drawing order, and the masked mid textures between and behind them.
 //
-// Rules: `sprite_rules`, Clips and Middles; `specs/Lists`, `specs/Ready`. The original:
+// Rules: `picture_rules/sprite`, Clips and Middles; `specs/Lists`, `specs/Ready`. The original:
 // `R_DrawMasked` and `R_DrawSprite`, r_things.c.
 ghost use Rattle.std.specs.Prelude.{◌≡◌, ◌<◌, ◌≤◌, ◌+◌, ◌^◌, ◌≤ℤ◌, ◌<ℤ◌, ℕ, pos, true, false, List, All, OnOk, Some, None, length, slice_get};
 ghost use Rattle.std.specs.List.{AllPass};
 ghost use Rattle.view_rules.specs.declared.TheConstants.{FRAME_WIDTH, FRAME_HEIGHT};
 ghost use Rattle.lump_rules.specs.Contents.{lump_bytes};
 ghost use Rattle.lump_cache.specs.Caches.{cache_fault};
-ghost use Rattle.sprite_rules.specs.declared.SpriteEntry.{SpriteEntry};
-ghost use Rattle.sprite_rules.specs.Drawsegs.{entry_has};
-ghost use Rattle.sprite_rules.specs.Order.{draw_order};
-ghost use Rattle.sprite_rules.specs.Middles.{masked_dots, middles_at, sprites_from};
+ghost use Rattle.picture_rules.specs.declared.sprite.SpriteEntry.{SpriteEntry};
+ghost use Rattle.picture_rules.specs.sprite.Drawsegs.{entry_has};
+ghost use Rattle.picture_rules.specs.sprite.Order.{draw_order};
+ghost use Rattle.picture_rules.specs.sprite.Middles.{masked_dots, middles_at, sprites_from};
 ghost use Rattle.vissprites.specs.Bounds.{lies_within, has_lump_below};
 ghost use Rattle.picture_rules.specs.Noted.{AreNoted, IsWholeNote};
 ghost use Rattle.pixel_strips.specs.Dotted.{HasDots, PlacedAlike};
@@ -30,10 +30,9 @@ use crate::sprites::{column_of, paint_sprite};
 use crate::tools::MaskedTools;
 use lump_cache::CacheFault;
 use outside::Shelf;
+use picture_rules::{FragmentNote, SpriteEntry};
 use pixel_strips::Canvas;
-use sprite_rules::SpriteEntry;
 use vissprites::Sprites;
-use wall_rules::FragmentNote;
 
 /// Draws the sprites, the least scale first, each after the masked mid textures that are behind it,
 /// and at last the masked columns that are left. Takes no memory.

@@ -18,7 +18,7 @@ use level_rules::{Sector, Seg, Side};
 use lump_cache::{CacheFault, LumpCache};
 use lump_rules::Name8;
 use outside::{MemoryFile, MemoryShelf, Shelf};
-use sprite_rules::{Placed, Shape5};
+use picture_rules::{Placed, Shape5};
 use std::alloc::{AllocError, Global};
 use std::test::Fail;
 use texture_build::{TexNo, Textures};

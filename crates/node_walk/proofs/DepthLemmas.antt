@@ -12,7 +12,7 @@ use Rattle.level_rules.specs.declared.Node.{Node}
 use Rattle.level_rules.specs.declared.Child.{Child}
 use Rattle.level_rules.specs.declared.Child.TheVariants.{Node as NodeChild, Leaf as LeafChild}
 use Rattle.level_rules.specs.Levels.{LevelLists, node_at, child_on}
-use Rattle.map_rules.specs.Trees.{is_within}
+use Rattle.level_rules.specs.maps.Trees.{is_within}
 use Rattle.walk_rules.specs.Boxes.{partition_of, eye_side, near_child, far_child, far_box, box_passes}
 use Rattle.walk_rules.specs.Events.{WalkState}
 use Rattle.walk_rules.specs.Walk.{at_far, at_node, walk_child}

@@ -10,9 +10,9 @@ use Rattle.level_rules.specs.declared.Surface.{Surface}
 use Rattle.level_rules.specs.declared.Child.{Child}
 use Rattle.level_rules.specs.declared.Child.TheVariants.{Node as NodeChild, Leaf as LeafChild}
 use Rattle.level_rules.specs.Levels.{LevelLists, child_on}
-use Rattle.map_rules.specs.Levels.{LevelValue}
-use Rattle.map_rules.specs.Ranges.{is_there}
-use Rattle.map_rules.specs.Sound.{IsSegIn, IsLeafIn, IsNodeIn, IsSound}
+use Rattle.level_rules.specs.maps.Levels.{LevelValue}
+use Rattle.level_rules.specs.maps.Ranges.{is_there}
+use Rattle.level_rules.specs.maps.Sound.{IsSegIn, IsLeafIn, IsNodeIn, IsSound}
 use Rattle.node_walk.specs.Lists.{walk_lists, IsThere, IsSegOf, IsLeafOf, IsNodeOf, AreWhole}
 
 there_child : (l : LevelLists) (child : Child) → is_there (length l.nodes) (length l.leaves) child ≡ true → IsThere l child

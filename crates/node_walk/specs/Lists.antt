@@ -10,9 +10,9 @@ use Rattle.level_rules.specs.declared.Child.{Child}
 use Rattle.level_rules.specs.declared.Child.TheVariants.{Node as NodeChild, Leaf as LeafChild}
 use Rattle.level_rules.specs.Levels.{LevelLists, child_on}
 use Rattle.level_rules.specs.declared.TheConstants.{MAX_DEPTH}
-use Rattle.map_rules.specs.declared.lumps.TheConstants.{MAX_RECORDS}
-use Rattle.map_rules.specs.Levels.{LevelValue}
-use Rattle.map_rules.specs.Trees.{is_within}
+use Rattle.level_rules.specs.declared.maps.lumps.TheConstants.{MAX_RECORDS}
+use Rattle.level_rules.specs.maps.Levels.{LevelValue}
+use Rattle.level_rules.specs.maps.Trees.{is_within}
 use Rattle.walk_rules.specs.Events.{WalkState}
 use Rattle.node_walk.specs.declared.scene.Lists.TheInside.{Inside}
 

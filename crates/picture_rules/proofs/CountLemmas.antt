@@ -1,7 +1,7 @@
 -- Laws of the counts of a list of steps to which one more is added.
 use Rattle.std.proofs.Common.{◌≡◌, ℕ, List, [], ◌∷◌, ◌++◌, map, refl, ap, sym, ◌∙◌}
 use Rattle.std.proofs.lemmas.List.{append-nil, append_assoc}
-use Rattle.plane_rules.specs.Built.{PlanesNow, after_event, after_events, plane_counts}
+use Rattle.picture_rules.specs.plane.Built.{PlanesNow, after_event, after_events, plane_counts}
 use Rattle.picture_rules.specs.declared.OverLimit.{OverLimit}
 use Rattle.picture_rules.specs.Planes.{Step}
 use Rattle.picture_rules.specs.Counts.{planes_count, openings_past, openings_after, openings_counts, counts_from}

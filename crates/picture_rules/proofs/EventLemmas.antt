@@ -7,14 +7,14 @@ use Rattle.walk_rules.specs.Events.{Event}
 use Rattle.walk_rules.specs.Events.Event.{LeafEvent, FragmentEvent}
 use Rattle.walk_rules.specs.Drawsegs.{last_leaf, leaf_fragments, drawsegs, leaves_entered}
 use Rattle.walk_rules.proofs.DrawsegLemmas.{drawsegs-leaf, drawsegs-room, drawsegs-full, room-drawsegs, full-drawsegs}
-use Rattle.wall_rules.specs.Walls.{Wall}
-use Rattle.wall_rules.specs.Strips.{wall_dots, ceiling_marks, floor_marks}
-use Rattle.wall_rules.specs.Openings.{openings_of}
-use Rattle.wall_rules.proofs.PaintLemmas.{ceiling_marks-front, floor_marks-front, wall_dots-front}
-use Rattle.plane_rules.specs.Built.{PlaneWall, after_events, planes_of}
-use Rattle.plane_rules.specs.Built.PlaneEvent.{Draws}
-use Rattle.sprite_rules.specs.Order.{draw_order}
-use Rattle.sprite_rules.specs.Middles.{middles_at, sprites_from, masked_dots}
+use Rattle.picture_rules.specs.wall.Walls.{Wall}
+use Rattle.picture_rules.specs.wall.Strips.{wall_dots, ceiling_marks, floor_marks}
+use Rattle.picture_rules.specs.wall.Openings.{openings_of}
+use Rattle.picture_rules.proofs.wall.PaintLemmas.{ceiling_marks-front, floor_marks-front, wall_dots-front}
+use Rattle.picture_rules.specs.plane.Built.{PlaneWall, after_events, planes_of}
+use Rattle.picture_rules.specs.plane.Built.PlaneEvent.{Draws}
+use Rattle.picture_rules.specs.sprite.Order.{draw_order}
+use Rattle.picture_rules.specs.sprite.Middles.{middles_at, sprites_from, masked_dots}
 use Rattle.pixel_rules.specs.Dots.{Dot}
 use Rattle.picture_rules.specs.Scene.{Scene, leaf_surface}
 use Rattle.picture_rules.specs.Walls.{fragment_wall, walls_of, walls_from, walls_dots}

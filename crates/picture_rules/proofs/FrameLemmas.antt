@@ -13,7 +13,7 @@ use Rattle.pixel_rules.specs.declared.Painter.{Painter}
 use Rattle.pixel_rules.specs.declared.TheConstants.{FRAME_CELLS}
 use Rattle.pixel_rules.specs.Dots.{Dot, put_dots, is_at, last_dot_from, last_dot, colour_of, mark_or, AreInFrame}
 use Rattle.pixel_rules.proofs.DotLemmas.{length-put_dots, cell_beside-put_dots, cell_any-put_dots}
-use Rattle.sprite_rules.specs.Weapons.{WeaponLayer}
+use Rattle.picture_rules.specs.sprite.Weapons.{WeaponLayer}
 use Rattle.picture_rules.specs.Scene.{Scene}
 use Rattle.picture_rules.specs.Paints.{view_paints, overlaid_paints}
 use Rattle.picture_rules.specs.Picture.{is_in_window, frame_dot, frame_dots, frame_of, picture, overlaid_picture, overlaid_trace, FitsFrame, AreInView}

@@ -9,7 +9,7 @@ use Rattle.walk_rules.specs.Events.{Event}
 use Rattle.walk_rules.specs.Events.Event.{LeafEvent, FragmentEvent}
 use Rattle.walk_rules.specs.Drawsegs.{leaves_entered}
 use Rattle.walk_rules.proofs.DrawsegLemmas.{leaves_entered-append}
-use Rattle.sprite_rules.specs.declared.SpriteEntry.{SpriteEntry}
+use Rattle.picture_rules.specs.declared.sprite.SpriteEntry.{SpriteEntry}
 use Rattle.picture_rules.specs.Scene.{Scene, leaf_sector}
 use Rattle.picture_rules.specs.Things.{first_mentions, sectors_entered, is_entered, with_things, with_sectors, view_entries}
 

@@ -4,11 +4,11 @@ use Rattle.word_rules.specs.Words.{minus_one}
 use Rattle.word_rules.specs.Steps.{step_at}
 use Rattle.view_rules.specs.declared.ViewShape.{ViewShape}
 use Rattle.walk_rules.specs.declared.TheConstants.{MAX_DRAWSEGS}
-use Rattle.wall_rules.specs.declared.TheConstants.{SIL_BOTTOM, SIL_TOP}
-use Rattle.wall_rules.specs.declared.Clip.{Clip}
-use Rattle.wall_rules.specs.declared.Clip.TheVariants.{Absent, Constant, Saved}
-use Rattle.wall_rules.specs.declared.FragmentNote.{FragmentNote}
-use Rattle.wall_rules.specs.Notes.{clip_row_at}
+use Rattle.picture_rules.specs.declared.wall.TheConstants.{SIL_BOTTOM, SIL_TOP}
+use Rattle.picture_rules.specs.declared.wall.Clip.{Clip}
+use Rattle.picture_rules.specs.declared.wall.Clip.TheVariants.{Absent, Constant, Saved}
+use Rattle.picture_rules.specs.declared.wall.FragmentNote.{FragmentNote}
+use Rattle.picture_rules.specs.wall.Notes.{clip_row_at}
 
 -- the clip of a column is a row between these
 unfoldable pub greatest_clip : ℤ

@@ -1,13 +1,13 @@
 -- All that a view draws, in order: walls, planes, sprites with the masked mid textures (R_RenderPlayerView, r_main.c).
 use Rattle.std.specs.Prelude.{List, ◌++◌}
 use Rattle.word_rules.specs.Listed.{joined_lists}
-use Rattle.sprite_rules.specs.Weapons.{WeaponLayer, weapon_dots}
+use Rattle.picture_rules.specs.sprite.Weapons.{WeaponLayer, weapon_dots}
 use Rattle.view_rules.specs.View.{ViewValue}
 use Rattle.walk_rules.specs.Events.{Event}
 use Rattle.walk_rules.specs.Walk.{view_events}
-use Rattle.wall_rules.specs.Walls.{Wall}
-use Rattle.sprite_rules.specs.Order.{draw_order}
-use Rattle.sprite_rules.specs.Middles.{masked_dots}
+use Rattle.picture_rules.specs.wall.Walls.{Wall}
+use Rattle.picture_rules.specs.sprite.Order.{draw_order}
+use Rattle.picture_rules.specs.sprite.Middles.{masked_dots}
 use Rattle.pixel_rules.specs.Dots.{Dot}
 use Rattle.picture_rules.specs.Scene.{Scene}
 use Rattle.picture_rules.specs.Walls.{walls_of, walls_dots}

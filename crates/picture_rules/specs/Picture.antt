@@ -7,7 +7,7 @@ use Rattle.view_rules.specs.declared.ViewShape.{ViewShape}
 use Rattle.view_rules.specs.declared.TheConstants.{FRAME_WIDTH, FRAME_HEIGHT}
 use Rattle.pixel_rules.specs.declared.TheConstants.{FRAME_CELLS}
 use Rattle.pixel_rules.specs.Dots.{Dot, last_dot, colour_of}
-use Rattle.sprite_rules.specs.Weapons.{WeaponLayer}
+use Rattle.picture_rules.specs.sprite.Weapons.{WeaponLayer}
 use Rattle.picture_rules.specs.Scene.{Scene}
 use Rattle.picture_rules.specs.Paints.{view_paints, overlaid_paints}
 

@@ -4,10 +4,10 @@ use Rattle.view_rules.specs.View.{ViewValue}
 use Rattle.view_rules.specs.Shape.{shape_of_size}
 use Rattle.view_rules.specs.Made.{row_view}
 use Rattle.walk_rules.specs.Rows.{walk_unfolded, room, room_seg, room_surface}
-use Rattle.wall_rules.specs.Rows.{walls_unfolded}
-use Rattle.wall_rules.specs.Walls.{Wall, wall_edges}
-use Rattle.wall_rules.specs.declared.Edges.{Edges}
-use Rattle.wall_rules.specs.Strips.{wall_column}
+use Rattle.picture_rules.specs.wall.Rows.{walls_unfolded}
+use Rattle.picture_rules.specs.wall.Walls.{Wall, wall_edges}
+use Rattle.picture_rules.specs.declared.wall.Edges.{Edges}
+use Rattle.picture_rules.specs.wall.Strips.{wall_column}
 use Rattle.pixel_rules.specs.Dots.{Dot}
 use Rattle.pixel_rules.specs.Rows.{pixels_unfolded, row_art, patch_byte}
 use Rattle.picture_rules.specs.Scene.{Scene, no_side, side_at, textures_at, wall_texture, leaf_sector, leaf_surface, facts_of, fragment_facts}

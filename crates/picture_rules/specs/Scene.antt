@@ -7,9 +7,9 @@ use Rattle.level_rules.specs.declared.PlacedThing.{PlacedThing}
 use Rattle.level_rules.specs.declared.Surface.{Surface}
 use Rattle.level_rules.specs.Levels.{LevelLists, seg_at, leaf_at, surface_at}
 use Rattle.pixel_rules.specs.Art.{Art}
-use Rattle.sprite_rules.specs.declared.Shape5.{Shape5}
-use Rattle.wall_rules.specs.declared.WallFacts.{WallFacts}
-use Rattle.wall_rules.specs.declared.WallTexture.{WallTexture}
+use Rattle.picture_rules.specs.declared.sprite.Shape5.{Shape5}
+use Rattle.picture_rules.specs.declared.wall.WallFacts.{WallFacts}
+use Rattle.picture_rules.specs.declared.wall.WallTexture.{WallTexture}
 use Rattle.walk_rules.specs.Drawsegs.{LeafFragment}
 use Rattle.walk_rules.specs.Segs.{back_of}
 

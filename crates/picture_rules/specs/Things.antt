@@ -7,12 +7,12 @@ use Rattle.level_rules.specs.declared.PlacedThing.{PlacedThing}
 use Rattle.level_rules.specs.Levels.{surface_at}
 use Rattle.walk_rules.specs.Events.{Event}
 use Rattle.walk_rules.specs.Drawsegs.{leaves_entered}
-use Rattle.sprite_rules.specs.declared.Placed.{Placed}
-use Rattle.sprite_rules.specs.declared.Seen.{Seen}
-use Rattle.sprite_rules.specs.declared.Shape5.{Shape5}
-use Rattle.sprite_rules.specs.declared.SpriteEntry.{SpriteEntry}
-use Rattle.sprite_rules.specs.Projection.{project}
-use Rattle.sprite_rules.specs.Entries.{add_entry}
+use Rattle.picture_rules.specs.declared.sprite.Placed.{Placed}
+use Rattle.picture_rules.specs.declared.sprite.Seen.{Seen}
+use Rattle.picture_rules.specs.declared.sprite.Shape5.{Shape5}
+use Rattle.picture_rules.specs.declared.sprite.SpriteEntry.{SpriteEntry}
+use Rattle.picture_rules.specs.sprite.Projection.{project}
+use Rattle.picture_rules.specs.sprite.Entries.{add_entry}
 use Rattle.picture_rules.specs.Scene.{Scene, leaf_sector}
 
 -- the numbers without those that came before

@@ -3,8 +3,8 @@ use Rattle.std.specs.Prelude.{ℕ, ◌+◌, List, [], ◌∷◌, ◌++◌, map}
 use Rattle.view_rules.specs.View.{ViewValue}
 use Rattle.walk_rules.specs.Events.{Event}
 use Rattle.walk_rules.specs.Drawsegs.{LeafFragment, drawsegs}
-use Rattle.wall_rules.specs.Walls.{Wall, wall_of}
-use Rattle.wall_rules.specs.Strips.{wall_dots}
+use Rattle.picture_rules.specs.wall.Walls.{Wall, wall_of}
+use Rattle.picture_rules.specs.wall.Strips.{wall_dots}
 use Rattle.pixel_rules.specs.Dots.{Dot}
 use Rattle.picture_rules.specs.Scene.{Scene, fragment_facts}
 

@@ -3,9 +3,25 @@
 //! Rules only: records, and in `specs/` what a picture is made from (Scene), the drawn fragments
 //! and their dots (Walls), the planes (Planes), the fragments as the masked pass needs them
 //! (Masked), the vissprites (Things), the list of all paints (Paints), the frame and its trace
-//! (Picture), and the counts (Counts). A paint is what one layer writes; a dot one pixel of it.
+//! (Picture), and the counts (Counts). The rules of one wall, one plane and one sprite stand in the
+//! folders `wall`, `plane` and `sprite`. A paint is what one layer writes; a dot one pixel of it.
 //! The original: R_RenderPlayerView, r_main.c.
 #![tactic(auto)]
+
+mod plane;
+mod sprite;
+mod wall;
+
+pub use plane::{Flat4, MAX_VISPLANES, MOST_VISPLANES, PlaneKey, SKY_MAP, SKY_MID, SKY_SHIFT};
+pub use sprite::{
+    MAX_VISSPRITES, MIN_DEPTH, Placed, ROTATION_SHIFT, ROTATION_TURN, SIDE_SHIFT, Seen, Shape5,
+    SpriteEntry, WEAPON_CENTRE, WEAPON_MID,
+};
+pub use wall::{
+    Clip, ColumnClip, EDGE_BITS, Edges, FragmentNote, FragmentNumbers, HEIGHT_SHIFT,
+    MAX_EDGE_FRACTION, MAX_OPENINGS, MOST_OPENINGS, Part, RowRange, SIL_BOTTOM, SIL_TOP,
+    Silhouette, WallFacts, WallTexture,
+};
 
 /// How many planes and openings a view may have.
 ///

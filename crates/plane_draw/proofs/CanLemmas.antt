@@ -4,11 +4,11 @@ use Rattle.std.specs.Prelude.{nat_le, IfSome}
 use Rattle.std.proofs.lemmas.Bool.{and_from, le-leb}
 use Rattle.std.proofs.lemmas.List.Elements.{All-get_or, Contains-get_or}
 use Rattle.view_rules.specs.declared.ViewShape.{ViewShape}
-use Rattle.plane_rules.specs.declared.Flat4.{Flat4}
-use Rattle.plane_rules.specs.declared.Flat4.TheVariants as flat
-use Rattle.plane_rules.specs.Keys.{is_sky_key, same_flat}
-use Rattle.plane_rules.specs.Planes.{Plane, column}
-use Rattle.plane_rules.specs.Spans.{holds, holds_row}
+use Rattle.picture_rules.specs.declared.plane.Flat4.{Flat4}
+use Rattle.picture_rules.specs.declared.plane.Flat4.TheVariants as flat
+use Rattle.picture_rules.specs.plane.Keys.{is_sky_key, same_flat}
+use Rattle.picture_rules.specs.plane.Planes.{Plane, column}
+use Rattle.picture_rules.specs.plane.Spans.{holds, holds_row}
 use Rattle.visplanes.specs.Planes.{no_plane, plane_at}
 use Rattle.visplanes.specs.Spans.{IsSeen}
 use Rattle.texture_lists.specs.declared.number.TexNo.{TexNo}

@@ -8,9 +8,9 @@ use Rattle.pixel_rules.specs.Strips.{shade}
 use Rattle.pixel_strips.specs.Canvases.{CanvasView, with_dots, with_painter}
 use Rattle.pixel_strips.specs.Dotted.{HasDots, PlacedAlike}
 use Rattle.pixel_strips.proofs.DottedLemmas.{has_dots-painted, placed-has_dots}
-use Rattle.plane_rules.specs.declared.Flat4.TheVariants as flat
-use Rattle.plane_rules.specs.Planes.{Plane}
-use Rattle.plane_rules.specs.Skies.{plane_dots}
+use Rattle.picture_rules.specs.declared.plane.Flat4.TheVariants as flat
+use Rattle.picture_rules.specs.plane.Planes.{Plane}
+use Rattle.picture_rules.specs.plane.Skies.{plane_dots}
 use Rattle.visplanes.specs.Planes.{flat_lump}
 use Rattle.visplanes.specs.Spans.{GivesFlat}
 use Rattle.art_rules.specs.Bytes.{byte_at}

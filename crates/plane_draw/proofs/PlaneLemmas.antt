@@ -12,11 +12,11 @@ use Rattle.pixel_rules.specs.Dots.{Dot}
 use Rattle.pixel_rules.specs.Art.{Art, lump_source, painter_of}
 use Rattle.pixel_rules.specs.Strips.{column_dots}
 use Rattle.pixel_rules.proofs.StripLemmas.{column_dots-none}
-use Rattle.plane_rules.specs.declared.Flat4.{Flat4}
-use Rattle.plane_rules.specs.declared.Flat4.TheVariants as flat
-use Rattle.plane_rules.specs.Planes.{Plane, column}
-use Rattle.plane_rules.specs.Floors.{floor_colour, floor_dots, run_dots}
-use Rattle.plane_rules.specs.Skies.{plane_dots, plane_dots_by, sky_colour, sky_column, sky_dots}
+use Rattle.picture_rules.specs.declared.plane.Flat4.{Flat4}
+use Rattle.picture_rules.specs.declared.plane.Flat4.TheVariants as flat
+use Rattle.picture_rules.specs.plane.Planes.{Plane, column}
+use Rattle.picture_rules.specs.plane.Floors.{floor_colour, floor_dots, run_dots}
+use Rattle.picture_rules.specs.plane.Skies.{plane_dots, plane_dots_by, sky_colour, sky_column, sky_dots}
 use Rattle.picture_rules.specs.Scene.{Scene}
 use Rattle.picture_rules.specs.Planes.{planes_dots, planes_from}
 use Rattle.visplanes.specs.Planes.{plane_at}

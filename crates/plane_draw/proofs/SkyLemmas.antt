@@ -14,9 +14,9 @@ use Rattle.pixel_strips.specs.Dotted.{HasDots}
 use Rattle.pixel_strips.specs.Strips.{column_strip_dots, strip_colour}
 use Rattle.pixel_strips.proofs.DottedLemmas.{has_dots-as, has_dots-painted}
 use Rattle.pixel_strips.proofs.RowLemmas.{row_shade, strip-rows}
-use Rattle.plane_rules.specs.declared.TheConstants.{SKY_MAP, SKY_MID}
-use Rattle.plane_rules.specs.Floors.{run_dots}
-use Rattle.plane_rules.specs.Skies.{sky_colour, sky_column}
+use Rattle.picture_rules.specs.declared.plane.TheConstants.{SKY_MAP, SKY_MID}
+use Rattle.picture_rules.specs.plane.Floors.{run_dots}
+use Rattle.picture_rules.specs.plane.Skies.{sky_colour, sky_column}
 use Rattle.texture_build.specs.Arts.{column_texel, lookup_source, view_art}
 use Rattle.texture_build.specs.Draws.{FitsBeside}
 use Rattle.texture_build.specs.Sources.{column_in}

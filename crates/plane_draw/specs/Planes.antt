@@ -1,9 +1,9 @@
 -- What drawing planes asks of them, and with whose bytes it draws.
 use Rattle.std.specs.Prelude.{◌≡◌, ◌<◌, ℕ, List, Contains, Option, IfSome, IsSome}
 use Rattle.view_rules.specs.declared.ViewShape.{ViewShape}
-use Rattle.plane_rules.specs.declared.Flat4.{Flat4}
-use Rattle.plane_rules.specs.declared.Flat4.TheVariants as flat
-use Rattle.plane_rules.specs.Planes.{Plane}
+use Rattle.picture_rules.specs.declared.plane.Flat4.{Flat4}
+use Rattle.picture_rules.specs.declared.plane.Flat4.TheVariants as flat
+use Rattle.picture_rules.specs.plane.Planes.{Plane}
 use Rattle.visplanes.specs.Spans.{IsSeen}
 use Rattle.texture_lists.specs.declared.number.TexNo.{TexNo}
 

@@ -14,9 +14,9 @@ use Rattle.pixel_rules.specs.Dots.{Dot}
 use Rattle.pixel_rules.specs.Art.{Art, painter_of}
 use Rattle.pixel_strips.specs.Canvases.{CanvasView}
 use Rattle.pixel_strips.specs.Dotted.{HasDots, PlacedAlike}
-use Rattle.plane_rules.specs.Planes.{Plane, column}
-use Rattle.plane_rules.specs.Floors.{run_dots}
-use Rattle.plane_rules.specs.Skies.{plane_dots, sky_colour, sky_column}
+use Rattle.picture_rules.specs.plane.Planes.{Plane, column}
+use Rattle.picture_rules.specs.plane.Floors.{run_dots}
+use Rattle.picture_rules.specs.plane.Skies.{plane_dots, sky_colour, sky_column}
 use Rattle.visplanes.specs.Planes.{plane_at}
 use Rattle.texture_build.specs.Arts.{view_art}
 use Rattle.texture_build.specs.Draws.{HoldsArt, FitBeside, DrawsWith, CanDraw}

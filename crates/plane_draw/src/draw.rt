@@ -10,7 +10,7 @@ ghost use Rattle.picture_rules.specs.Planes.{planes_dots};
 ghost use Rattle.pixel_strips.specs.Dotted.{HasDots, PlacedAlike};
 ghost use Rattle.texture_build.specs.Arts.{view_art};
 ghost use Rattle.texture_build.specs.Draws.{CanDraw, HoldsArt, FitBeside, DrawsWith};
-ghost use Rattle.plane_rules.specs.Skies.{plane_dots};
+ghost use Rattle.picture_rules.specs.plane.Skies.{plane_dots};
 ghost use Rattle.visplanes.specs.Planes.{plane_at};
 ghost use Rattle.plane_draw.specs.Planes.{CanDrawPlane, IsSky, IsFlatOf};
 ghost use Rattle.plane_draw.specs.Scenes.{CanDrawPlanes, PaintsPlanes, first_planes, plane_state};
@@ -21,8 +21,8 @@ use crate::sky::draw_sky;
 use crate::tools::PlaneTools;
 use lump_cache::CacheFault;
 use outside::Shelf;
+use picture_rules::Flat4;
 use pixel_strips::Canvas;
-use plane_rules::Flat4;
 use visplanes::{PlaneNo, Planes};
 use wad_dir::LumpNo;
 

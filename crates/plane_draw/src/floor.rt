@@ -1,13 +1,13 @@
 // The pixels of a plane that is not sky.
 //
-// Rules: `plane_rules`, Floors. The original: `R_DrawPlanes`, r_plane.c.
+// Rules: `picture_rules/plane`, Floors. The original: `R_DrawPlanes`, r_plane.c.
 ghost use Rattle.std.specs.Prelude.{◌≡◌, ◌<◌, ℕ, List, length};
 ghost use Rattle.outside.specs.Shelf.{ShelfView};
 ghost use Rattle.zone_rules.specs.Zones.{IsLive};
 ghost use Rattle.lump_cache.specs.Caches.{lump_owner};
 ghost use Rattle.pixel_strips.specs.Dotted.{HasDots, PlacedAlike};
-ghost use Rattle.plane_rules.specs.declared.Flat4.TheVariants.{Lump};
-ghost use Rattle.plane_rules.specs.Skies.{plane_dots};
+ghost use Rattle.picture_rules.specs.declared.plane.Flat4.TheVariants.{Lump};
+ghost use Rattle.picture_rules.specs.plane.Skies.{plane_dots};
 ghost use Rattle.visplanes.specs.Planes.{plane_at};
 ghost use Rattle.texture_build.specs.Draws.{HoldsArt, FitBeside};
 ghost use Rattle.plane_draw.specs.Scenes.{CanDrawPlanes, PaintsPlanes, plane_art, plane_state};

@@ -1,6 +1,6 @@
 //! The planes of a view drawn: floors and ceilings by their flats, and the sky.
 //!
-//! Rules: `plane_rules`, Floors and Skies; `picture_rules`, Planes. Proved: a canvas is given
+//! Rules: `picture_rules/plane`, Floors and Skies; `picture_rules`, Planes. Proved: a canvas is given
 //! exactly the pixels of the planes in order of making; what a call keeps of the cache, and when
 //! the zone is full. No call takes memory. The original: `R_DrawPlanes`, r_plane.c.
 #![tactic(auto)]

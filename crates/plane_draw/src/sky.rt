@@ -1,6 +1,6 @@
 // The pixels of a sky plane.
 //
-// Rules: `plane_rules`, Skies. The original: `R_DrawPlanes`, r_plane.c.
+// Rules: `picture_rules/plane`, Skies. The original: `R_DrawPlanes`, r_plane.c.
 ghost use Rattle.std.specs.Prelude.{◌≡◌, ◌<◌, ◌≤◌, ℕ, List, Some, length};
 ghost use Rattle.outside.specs.Shelf.{ShelfView};
 ghost use Rattle.art_rules.specs.declared.ColumnLookup.{ColumnLookup};
@@ -8,10 +8,10 @@ ghost use Rattle.pixel_rules.specs.declared.TheConstants.{SKY};
 ghost use Rattle.pixel_rules.specs.Art.{painter_of};
 ghost use Rattle.pixel_rules.specs.Strips.{row_fraction};
 ghost use Rattle.pixel_strips.specs.Dotted.{HasDots, PlacedAlike};
-ghost use Rattle.plane_rules.specs.declared.Flat4.TheVariants.{Sky};
-ghost use Rattle.plane_rules.specs.declared.TheConstants.{SKY_MAP, SKY_MID};
-ghost use Rattle.plane_rules.specs.Planes.{column};
-ghost use Rattle.plane_rules.specs.Skies.{plane_dots, sky_column};
+ghost use Rattle.picture_rules.specs.declared.plane.Flat4.TheVariants.{Sky};
+ghost use Rattle.picture_rules.specs.declared.plane.TheConstants.{SKY_MAP, SKY_MID};
+ghost use Rattle.picture_rules.specs.plane.Planes.{column};
+ghost use Rattle.picture_rules.specs.plane.Skies.{plane_dots, sky_column};
 ghost use Rattle.visplanes.specs.Planes.{plane_at};
 ghost use Rattle.texture_build.specs.Arts.{lookup_source};
 ghost use Rattle.texture_build.specs.Sources.{IsColumnLive, IsColumnThere, column_in, source_of};
@@ -24,9 +24,9 @@ use art_rules::ColumnLookup;
 use fx_words::{minus, plus, times, turn};
 use lump_cache::CacheFault;
 use outside::Shelf;
+use picture_rules::{SKY_MAP, SKY_MID, SKY_SHIFT};
 use pixel_rules::{COMPOSITE, LUMP, NO_SOURCE, Painter, SKY};
 use pixel_strips::{Canvas, ColumnStrip, paint_column};
-use plane_rules::{SKY_MAP, SKY_MID, SKY_SHIFT};
 use texture_build::{Column, ColumnSource, TexNo};
 use view_frame::View;
 use visplanes::PlaneNo;
@@ -62,7 +62,7 @@ fn sky_painter(number: u16, source: ColumnSource) -> Painter
 }
 
 // The column of the sky's texture at column `x`.
-#[tactic(auto, unfolding(plane_rules::specs::Skies::sky_column))]
+#[tactic(auto, unfolding(picture_rules::specs::plane::Skies::sky_column))]
 fn sky_column(view: &View<'_>, x: u16) -> i32
     requires { x < view.now.shape.width }
     ensures { result ≡ sky_column view.now x }

@@ -6,8 +6,8 @@ use Rattle.lump_rules.specs.declared.wad.DirRefusal.{DirRefusal}
 use Rattle.lump_rules.specs.declared.wad.DirRefusal.TheVariants as wad
 use Rattle.scene_rules.specs.declared.refusal.ArtRefusal.{ArtRefusal}
 use Rattle.scene_rules.specs.declared.refusal.ArtRefusal.TheVariants as art
-use Rattle.map_rules.specs.declared.refusal.MapRefusal.{MapRefusal}
-use Rattle.map_rules.specs.declared.refusal.MapRefusal.TheVariants as map
+use Rattle.level_rules.specs.declared.maps.refusal.MapRefusal.{MapRefusal}
+use Rattle.level_rules.specs.declared.maps.refusal.MapRefusal.TheVariants as map
 use Rattle.art_rules.specs.declared.refusal.TexRefusal.{TexRefusal}
 use Rattle.art_rules.specs.declared.refusal.TexRefusal.TheVariants as texture
 use Rattle.art_rules.specs.declared.refusal.SpriteRefusal.{SpriteRefusal}

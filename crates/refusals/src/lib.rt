@@ -13,9 +13,9 @@ mod tests;
 
 pub use art_rules::{SpriteRefusal, TexRefusal};
 pub use csv_tables::CsvRefusal;
+pub use level_rules::MapRefusal;
 pub use lines::{put_labelled, put_numbers_of};
 pub use lump_rules::DirRefusal;
-pub use map_rules::MapRefusal;
 pub use refusal::Refusal;
 pub use scene_rules::{ArtRefusal, SceneRefusal, WeaponRefusal};
 pub use view_rules::TablesRefusal;

@@ -4,8 +4,8 @@ ghost use Rattle.refusals.specs.Groups.{of_audit};
 
 use art_rules::{SpriteRefusal, TexRefusal};
 use csv_tables::CsvRefusal;
+use level_rules::MapRefusal;
 use lump_rules::DirRefusal;
-use map_rules::MapRefusal;
 use scene_rules::{ArtRefusal, AuditRefusal, SceneRefusal, WeaponRefusal};
 use thiserror::Error;
 use view_rules::TablesRefusal;

@@ -6,9 +6,9 @@ use Rattle.lump_rules.specs.declared.wad.Lump.{Lump}
 use Rattle.lump_rules.specs.Lookups.{last_of, map_of, lump_at}
 use Rattle.lump_rules.specs.Contents.{named_bytes}
 use Rattle.level_rules.specs.declared.SideTextures.{SideTextures}
-use Rattle.map_rules.specs.declared.refusal.MapRefusal.{MapRefusal}
-use Rattle.map_rules.specs.declared.refusal.MapRefusal.TheVariants.{NoMap}
-use Rattle.map_rules.specs.Levels.{MapBytes, LevelValue, level_of}
+use Rattle.level_rules.specs.declared.maps.refusal.MapRefusal.{MapRefusal}
+use Rattle.level_rules.specs.declared.maps.refusal.MapRefusal.TheVariants.{NoMap}
+use Rattle.level_rules.specs.maps.Levels.{MapBytes, LevelValue, level_of}
 use Rattle.level_rules.specs.declared.ThingLine.{ThingLine}
 use Rattle.art_rules.specs.declared.TheConstants.{PNAMES, TEXTURE1, TEXTURE2}
 use Rattle.art_rules.specs.declared.refusal.TexRefusal.{TexRefusal}

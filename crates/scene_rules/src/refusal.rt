@@ -1,6 +1,6 @@
 // Why a scene is refused.
 use art_rules::{SpriteRefusal, TexRefusal};
-use map_rules::MapRefusal;
+use level_rules::MapRefusal;
 use thiserror::Error;
 
 /// Which lump of colours is not there, or is too short.

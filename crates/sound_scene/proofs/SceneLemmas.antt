@@ -20,7 +20,7 @@ use Rattle.scene_rules.specs.Middles.{bad_middle}
 use Rattle.scene_rules.specs.Places.{placed_things}
 use Rattle.scene_rules.specs.Scenes.{Faces, LevelBase, SceneValue, book_in, checked, colormap_of, faces_in, base_in, base_over, if_long, label_of, level_in, lists_in, long_lump, playpal_of, scene_in, scene_on, scene_over, scene_with, texture_by}
 use Rattle.scene_rules.specs.Sides.{is_wanted_texture}
-use Rattle.map_rules.specs.Levels.{level_of}
+use Rattle.level_rules.specs.maps.Levels.{level_of}
 
 -- a step that was passed
 pub and_then-ok : {A B R : Type 0} (r : Result A R) (next : A → Result B R) (y : B) → and_then r next ≡ Ok y → (x : A) × (r ≡ Ok x) × (next x ≡ Ok y)

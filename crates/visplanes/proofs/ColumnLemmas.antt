@@ -8,9 +8,9 @@ use Rattle.std.proofs.lemmas.List.Folds.{list_all_at}
 use Rattle.word_rules.specs.Listed.{listed}
 use Rattle.word_rules.proofs.ListedLemmas.{length-listed, get_or-listed, listed-all}
 use Rattle.view_rules.specs.declared.TheConstants.{FRAME_WIDTH, FRAME_HEIGHT}
-use Rattle.plane_rules.specs.declared.PlaneKey.{PlaneKey}
-use Rattle.plane_rules.specs.Planes.{Plane, empty_plane, is_free, with_run, column}
-use Rattle.plane_rules.specs.Spans.{holds_row, holds}
+use Rattle.picture_rules.specs.declared.plane.PlaneKey.{PlaneKey}
+use Rattle.picture_rules.specs.plane.Planes.{Plane, empty_plane, is_free, with_run, column}
+use Rattle.picture_rules.specs.plane.Spans.{holds_row, holds}
 use Rattle.visplanes.specs.declared.columns.TheConstants.{NO_RUN}
 use Rattle.visplanes.specs.Columns.{run_at, runs_of, plane_of, IsKept, HasRun}
 

@@ -8,9 +8,9 @@ use Rattle.view_rules.specs.declared.ViewShape.{ViewShape}
 use Rattle.pixel_rules.specs.declared.Painter.{Painter}
 use Rattle.pixel_rules.specs.Dots.{Dot, last_dot}
 use Rattle.pixel_rules.proofs.DotLemmas.{last_dot-append, last_dot-none, put_dots-append, in_frame-append}
-use Rattle.plane_rules.specs.Planes.{Plane}
-use Rattle.plane_rules.specs.Spans.{holds_row, holds, span_start}
-use Rattle.plane_rules.proofs.SpanLemmas.{span_start-on, span_start-off, span_start-zero, span_start-within, span_start-passes, span_start-least, span_start-is}
+use Rattle.picture_rules.specs.plane.Planes.{Plane}
+use Rattle.picture_rules.specs.plane.Spans.{holds_row, holds, span_start}
+use Rattle.picture_rules.proofs.plane.SpanLemmas.{span_start-on, span_start-off, span_start-zero, span_start-within, span_start-passes, span_start-least, span_start-is}
 use Rattle.pixel_strips.specs.Canvases.{CanvasView, with_dots}
 use Rattle.pixel_strips.proofs.CanvasLemmas.{dots_none}
 use Rattle.visplanes.specs.declared.rows.Rows.{Rows}

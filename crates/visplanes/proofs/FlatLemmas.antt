@@ -16,14 +16,14 @@ use Rattle.pixel_rules.specs.Strips.{flat_place, shade, span_colour}
 use Rattle.pixel_rules.proofs.DotLemmas.{put_dots-same, last_dot-none, in_frame-append}
 use Rattle.pixel_rules.proofs.StripLemmas.{in_frame-column_dots, column_dots-none}
 use Rattle.pixel_rules.proofs.ColumnLemmas.{last_dot-no_column}
-use Rattle.plane_rules.specs.declared.Flat4.{Flat4}
-use Rattle.plane_rules.specs.declared.Flat4.TheVariants.{Sky, Lump}
-use Rattle.plane_rules.specs.Keys.{same_flat, is_sky_key}
-use Rattle.plane_rules.specs.Planes.{Plane, column}
-use Rattle.plane_rules.specs.Spans.{holds_row, holds, span_start}
-use Rattle.plane_rules.specs.Floors.{row_distance, pixel_x, pixel_y, flat_colour, floor_colour, run_dots, floor_dots}
-use Rattle.plane_rules.specs.Skies.{plane_dots_by, plane_dots}
-use Rattle.plane_rules.proofs.FloorLemmas.{in_column-run_dots, last_dot-floor_dots}
+use Rattle.picture_rules.specs.declared.plane.Flat4.{Flat4}
+use Rattle.picture_rules.specs.declared.plane.Flat4.TheVariants.{Sky, Lump}
+use Rattle.picture_rules.specs.plane.Keys.{same_flat, is_sky_key}
+use Rattle.picture_rules.specs.plane.Planes.{Plane, column}
+use Rattle.picture_rules.specs.plane.Spans.{holds_row, holds, span_start}
+use Rattle.picture_rules.specs.plane.Floors.{row_distance, pixel_x, pixel_y, flat_colour, floor_colour, run_dots, floor_dots}
+use Rattle.picture_rules.specs.plane.Skies.{plane_dots_by, plane_dots}
+use Rattle.picture_rules.proofs.plane.FloorLemmas.{in_column-run_dots, last_dot-floor_dots}
 use Rattle.pixel_strips.specs.Canvases.{CanvasView, with_dots}
 use Rattle.visplanes.specs.Planes.{flat_lump}
 use Rattle.visplanes.specs.Spans.{distance_at, light_at, pixel_colour, plane_dot, IsSeen, HasSpans, GivesFlat}

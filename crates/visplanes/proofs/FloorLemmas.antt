@@ -5,7 +5,7 @@ use Rattle.word_rules.specs.Words.{mul}
 use Rattle.view_rules.specs.Lights.{distance_map}
 use Rattle.pixel_rules.specs.declared.Painter.{Painter}
 use Rattle.pixel_rules.specs.Strips.{span_dots}
-use Rattle.plane_rules.specs.Floors.{base_x, base_y, span_x, span_y, pixel_x, pixel_y}
+use Rattle.picture_rules.specs.plane.Floors.{base_x, base_y, span_x, span_y, pixel_x, pixel_y}
 use Rattle.pixel_strips.specs.Strips.{row_colour}
 use Rattle.visplanes.specs.Spans.{FloorView, distance_at, light_at, pixel_colour, row_dots}
 

@@ -4,9 +4,9 @@ use Rattle.std.specs.Prelude.{slice_get}
 use Rattle.std.proofs.lemmas.List.{get_or-take, length-set, length-take, length-replicate}
 use Rattle.std.proofs.lemmas.List.Elements.{All-set, All-push}
 use Rattle.view_rules.specs.declared.TheConstants.{FRAME_WIDTH}
-use Rattle.plane_rules.specs.declared.PlaneKey.{PlaneKey}
-use Rattle.plane_rules.specs.Planes.{Plane, empty_plane, add, is_free, check, check_plane, mark, with_run, AreWide}
-use Rattle.plane_rules.proofs.PlaneLemmas.{check-some, mark-some}
+use Rattle.picture_rules.specs.declared.plane.PlaneKey.{PlaneKey}
+use Rattle.picture_rules.specs.plane.Planes.{Plane, empty_plane, add, is_free, check, check_plane, mark, with_run, AreWide}
+use Rattle.picture_rules.proofs.plane.PlaneLemmas.{check-some, mark-some}
 use Rattle.visplanes.specs.Planes.{PlanesView}
 
 pub length-empty_plane : (key : PlaneKey) → length (empty_plane key).runs ≡ FRAME_WIDTH

@@ -3,7 +3,7 @@ use Rattle.std.proofs.Common.{◌≡◌, ℕ, ◌<◌, ◌≤◌, ◌+◌, Bool,
 use Rattle.std.specs.Prelude.{◌&&◌, ◌⊎◌, nat_le, nat_lt}
 use Rattle.std.proofs.lemmas.Bool.{cases_lt, le-leb, lt-leb, lt-ltb, le-ltb, leb-true, ltb-true, and_from, and_right, and_parts, both_ways}
 use Rattle.visplanes.specs.declared.rows.Rows.{Rows}
-use Rattle.plane_rules.specs.Spans.{holds_row}
+use Rattle.picture_rules.specs.plane.Spans.{holds_row}
 use Rattle.visplanes.specs.Spans.{rows_of, is_in}
 
 pub is_in-from : (rows : Rows) (y : ℕ) → rows.begin ≤ y → y < rows.end → is_in rows y ≡ true

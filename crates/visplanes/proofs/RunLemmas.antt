@@ -6,9 +6,9 @@ use Rattle.std.proofs.lemmas.List.{drop_more, get_or-drop, get_or_past, length-m
 use Rattle.view_rules.specs.declared.TheConstants.{FRAME_WIDTH}
 use Rattle.walk_rules.specs.Covered.{runs, fragments, is_covered}
 use Rattle.walk_rules.proofs.CoverLemmas.{runs-open}
-use Rattle.plane_rules.specs.Planes.{Plane}
-use Rattle.plane_rules.specs.Spans.{holds_row, holds, plane_gaps, row_runs}
-use Rattle.plane_rules.proofs.SpanLemmas.{covered-gaps}
+use Rattle.picture_rules.specs.plane.Planes.{Plane}
+use Rattle.picture_rules.specs.plane.Spans.{holds_row, holds, plane_gaps, row_runs}
+use Rattle.picture_rules.proofs.plane.SpanLemmas.{covered-gaps}
 use Rattle.visplanes.specs.Spans.{runs_from}
 
 length-gaps : (p : Plane) (y : ℕ) → length (plane_gaps p y) ≡ length p.runs

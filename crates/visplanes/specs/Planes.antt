@@ -1,8 +1,8 @@
 -- What a contract sees of planes: their list, and the room that was taken for them.
 use Rattle.std.specs.Prelude.{ℕ, pos, List, slice_index_or}
-use Rattle.plane_rules.specs.declared.Flat4.{Flat4}
-use Rattle.plane_rules.specs.declared.Flat4.TheVariants.{Sky, Lump}
-use Rattle.plane_rules.specs.Planes.{Plane, empty_plane}
+use Rattle.picture_rules.specs.declared.plane.Flat4.{Flat4}
+use Rattle.picture_rules.specs.declared.plane.Flat4.TheVariants.{Sky, Lump}
+use Rattle.picture_rules.specs.plane.Planes.{Plane, empty_plane}
 
 pub record PlanesView : Type 0 where
   pub planes : List Plane

@@ -10,10 +10,10 @@ use Rattle.pixel_rules.specs.declared.Painter.{Painter}
 use Rattle.pixel_rules.specs.Dots.{Dot, last_dot, AreInFrame}
 use Rattle.pixel_rules.specs.Art.{Art}
 use Rattle.pixel_rules.specs.Strips.{shade, span_colour, span_dots}
-use Rattle.plane_rules.specs.declared.PlaneKey.{PlaneKey}
-use Rattle.plane_rules.specs.Planes.{Plane, column}
-use Rattle.plane_rules.specs.Spans.{holds, span_start, plane_gaps}
-use Rattle.plane_rules.specs.Floors.{row_distance, pixel_x, pixel_y}
+use Rattle.picture_rules.specs.declared.plane.PlaneKey.{PlaneKey}
+use Rattle.picture_rules.specs.plane.Planes.{Plane, column}
+use Rattle.picture_rules.specs.plane.Spans.{holds, span_start, plane_gaps}
+use Rattle.picture_rules.specs.plane.Floors.{row_distance, pixel_x, pixel_y}
 use Rattle.pixel_strips.specs.Canvases.{CanvasView, with_dots}
 use Rattle.visplanes.specs.declared.rows.Rows.{Rows}
 

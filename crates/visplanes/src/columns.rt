@@ -1,11 +1,11 @@
 // The columns of a plane.
 ghost use Rattle.std.specs.Prelude.{◌≡◌, ℕ, ◌+◌, ◌<◌, ◌≤◌, ◌↔◌, IfSome, None, true, false, length, slice_index};
 ghost use Rattle.view_rules.specs.declared.TheConstants.{FRAME_WIDTH, FRAME_HEIGHT};
-ghost use Rattle.plane_rules.specs.Planes.{empty_plane, is_free, with_run, column};
-ghost use Rattle.plane_rules.specs.Spans.{holds};
+ghost use Rattle.picture_rules.specs.plane.Planes.{empty_plane, is_free, with_run, column};
+ghost use Rattle.picture_rules.specs.plane.Spans.{holds};
 ghost use Rattle.visplanes.specs.Columns.{HasRun};
 
-use plane_rules::PlaneKey;
+use picture_rules::PlaneKey;
 use std::marker::Model;
 use view_rules::FRAME_WIDTH;
 
@@ -27,7 +27,7 @@ pub struct Visplane {
 }
 
 impl Model for Visplane {
-    ghost use Rattle.plane_rules.specs.Planes.{Plane};
+    ghost use Rattle.picture_rules.specs.plane.Planes.{Plane};
     ghost use Rattle.visplanes.specs.Columns.{plane_of, IsKept};
 
     ghost Value = { Plane };

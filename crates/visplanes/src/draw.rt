@@ -3,10 +3,10 @@ ghost use Rattle.std.specs.Prelude.{◌≡◌, ℕ, ◌+◌, ◌-◌, ◌<◌, �
 ghost use Rattle.view_rules.specs.declared.TheConstants.{FRAME_WIDTH, FRAME_HEIGHT};
 ghost use Rattle.pixel_rules.specs.declared.TheConstants.{PLANE};
 ghost use Rattle.pixel_rules.specs.Art.{Art, lump_source, painter_of};
-ghost use Rattle.plane_rules.specs.declared.Flat4.{Flat4};
-ghost use Rattle.plane_rules.specs.Keys.{is_sky_key};
-ghost use Rattle.plane_rules.specs.Spans.{holds, span_start};
-ghost use Rattle.plane_rules.specs.Skies.{plane_dots};
+ghost use Rattle.picture_rules.specs.declared.plane.Flat4.{Flat4};
+ghost use Rattle.picture_rules.specs.plane.Keys.{is_sky_key};
+ghost use Rattle.picture_rules.specs.plane.Spans.{holds, span_start};
+ghost use Rattle.picture_rules.specs.plane.Skies.{plane_dots};
 ghost use Rattle.pixel_strips.specs.Canvases.{with_painter, with_dots};
 ghost use Rattle.visplanes.specs.Planes.{plane_at, flat_lump};
 ghost use Rattle.visplanes.specs.Spans.{is_in, closed_rows, closed_dots, CanPaint, IsSeen, HasSpans, GivesFlat};
@@ -16,9 +16,9 @@ use crate::floor::Floor;
 use crate::keys::flat_lump;
 use crate::planes::{PlaneNo, Planes};
 use crate::rows::{NO_ROWS, Rows, rows_of};
+use picture_rules::Flat4;
 use pixel_rules::{LUMP, PLANE, Painter};
 use pixel_strips::Canvas;
-use plane_rules::Flat4;
 use view_frame::View;
 use view_rules::FRAME_HEIGHT;
 

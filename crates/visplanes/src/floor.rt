@@ -4,14 +4,14 @@ ghost use Rattle.word_rules.specs.Words.{plus, minus, mul, neg_word};
 ghost use Rattle.view_rules.specs.Angles.{sine_at, cosine_at};
 ghost use Rattle.word_rules.specs.declared.TheConstants.{FINE_ANGLES};
 ghost use Rattle.view_rules.specs.declared.TheConstants.{FRAME_WIDTH, FRAME_HEIGHT};
-ghost use Rattle.plane_rules.specs.Floors.{base_angle, base_x, base_y, row_distance, span_length, span_angle, span_x, span_y};
+ghost use Rattle.picture_rules.specs.plane.Floors.{base_angle, base_x, base_y, row_distance, span_length, span_angle, span_x, span_y};
 ghost use Rattle.pixel_strips.specs.Canvases.{with_dots};
 ghost use Rattle.visplanes.specs.Spans.{row_dots};
 
 use angle_tables::projection;
 use fx_words::{abs_word, div, fine_angle, minus, mul, neg_word, plus, turn, turn_back};
+use picture_rules::PlaneKey;
 use pixel_strips::{Canvas, SpanStrip, paint_span};
-use plane_rules::PlaneKey;
 use std::marker::Model;
 use view_frame::View;
 use word_rules::ANG90;
@@ -33,7 +33,7 @@ impl<'a, 'b> Model for Floor<'a, 'b> {
     ghost use Rattle.std.specs.Prelude.{◌≡◌, ◌<◌, pos};
     ghost use Rattle.view_rules.specs.Lights.{light_number};
     ghost use Rattle.view_rules.specs.declared.TheConstants.{LIGHT_LEVELS};
-    ghost use Rattle.plane_rules.specs.Floors.{base_x, base_y};
+    ghost use Rattle.picture_rules.specs.plane.Floors.{base_x, base_y};
     ghost use Rattle.visplanes.specs.Spans.{FloorView};
 
     ghost Value = { FloorView };
@@ -111,7 +111,7 @@ impl<'a, 'b> Floor<'a, 'b> {
 }
 
 // A quarter turn right of the view's angle, as a fine angle.
-#[tactic(auto, unfolding(plane_rules::specs::Floors::base_angle))]
+#[tactic(auto, unfolding(picture_rules::specs::plane::Floors::base_angle))]
 fn base_angle(view: &View<'_>) -> usize
     ensures value { result ≡ base_angle view.now }
     ensures bound { result < FINE_ANGLES }
@@ -120,7 +120,7 @@ fn base_angle(view: &View<'_>) -> usize
 }
 
 // What a column to the right gains in x at distance 1, 16.16.
-#[tactic(auto, unfolding(plane_rules::specs::Floors::base_x))]
+#[tactic(auto, unfolding(picture_rules::specs::plane::Floors::base_x))]
 fn base_x(view: &View<'_>) -> i32
     ensures { result ≡ base_x view.now }
 {
@@ -131,7 +131,7 @@ fn base_x(view: &View<'_>) -> i32
 }
 
 // What a column to the right gains in y at distance 1, 16.16.
-#[tactic(auto, unfolding(plane_rules::specs::Floors::base_y))]
+#[tactic(auto, unfolding(picture_rules::specs::plane::Floors::base_y))]
 fn base_y(view: &View<'_>) -> i32
     ensures { result ≡ base_y view.now }
 {
@@ -142,7 +142,7 @@ fn base_y(view: &View<'_>) -> i32
 }
 
 // The distance of row `y` of a plane of that height.
-#[tactic(auto, unfolding(plane_rules::specs::Floors::row_distance))]
+#[tactic(auto, unfolding(picture_rules::specs::plane::Floors::row_distance))]
 fn row_distance(view: &View<'_>, height: i32, y: u16) -> i32
     requires { y < view.now.shape.height }
     ensures { result ≡ row_distance view.now height y }
@@ -152,7 +152,7 @@ fn row_distance(view: &View<'_>, height: i32, y: u16) -> i32
 }
 
 // How far along column `x0` a row at that distance is.
-#[tactic(auto, unfolding(plane_rules::specs::Floors::span_length))]
+#[tactic(auto, unfolding(picture_rules::specs::plane::Floors::span_length))]
 fn span_length(view: &View<'_>, distance: i32, x0: u16) -> i32
     requires { x0 < view.now.shape.width }
     ensures { result ≡ span_length view.now distance x0 }
@@ -161,7 +161,7 @@ fn span_length(view: &View<'_>, distance: i32, x0: u16) -> i32
 }
 
 // The fine angle of column `x0`.
-#[tactic(auto, unfolding(plane_rules::specs::Floors::span_angle))]
+#[tactic(auto, unfolding(picture_rules::specs::plane::Floors::span_angle))]
 fn span_angle(view: &View<'_>, x0: u16) -> usize
     requires { x0 < view.now.shape.width }
     ensures value { result ≡ span_angle view.now x0 }
@@ -172,7 +172,7 @@ fn span_angle(view: &View<'_>, x0: u16) -> usize
 
 // The fractions at column `x0` of a row at that distance.
 #[inline(always)]
-#[tactic(auto, unfolding(plane_rules::specs::Floors::span_x, plane_rules::specs::Floors::span_y))]
+#[tactic(auto, unfolding(picture_rules::specs::plane::Floors::span_x, picture_rules::specs::plane::Floors::span_y))]
 fn span_origin(view: &View<'_>, distance: i32, x0: u16) -> (i32, i32)
     requires { x0 < view.now.shape.width }
     ensures x { result.0 ≡ span_x view.now distance x0 }

@@ -1,13 +1,13 @@
 // The keys of planes, compared.
 ghost use Rattle.std.specs.Prelude.{◌≡◌};
-ghost use Rattle.plane_rules.specs.Keys.{same_flat, same_key};
+ghost use Rattle.picture_rules.specs.plane.Keys.{same_flat, same_key};
 ghost use Rattle.visplanes.specs.Planes.{flat_lump};
 
 use fx_words::same_word;
-use plane_rules::{Flat4, PlaneKey};
+use picture_rules::{Flat4, PlaneKey};
 
 /// Whether two keys are equal.
-#[tactic(auto, unfolding(plane_rules::specs::Keys::same_key))]
+#[tactic(auto, unfolding(picture_rules::specs::plane::Keys::same_key))]
 pub fn same_key(a: PlaneKey, b: PlaneKey) -> bool
     ensures { result ≡ same_key a b }
 {
@@ -16,7 +16,7 @@ pub fn same_key(a: PlaneKey, b: PlaneKey) -> bool
         && same_word(a.light as i32, b.light as i32)
 }
 
-#[tactic(auto, unfolding(plane_rules::specs::Keys::same_flat))]
+#[tactic(auto, unfolding(picture_rules::specs::plane::Keys::same_flat))]
 fn same_flat(a: Flat4, b: Flat4) -> bool
     ensures { result ≡ same_flat a b }
 {
@@ -26,7 +26,7 @@ fn same_flat(a: Flat4, b: Flat4) -> bool
     }
 }
 
-#[tactic(auto, unfolding(plane_rules::specs::Keys::same_flat))]
+#[tactic(auto, unfolding(picture_rules::specs::plane::Keys::same_flat))]
 fn is_sky(flat: Flat4) -> bool
     ensures { result ≡ same_flat Flat4.Sky flat }
 {
@@ -36,7 +36,7 @@ fn is_sky(flat: Flat4) -> bool
     }
 }
 
-#[tactic(auto, unfolding(plane_rules::specs::Keys::same_flat))]
+#[tactic(auto, unfolding(picture_rules::specs::plane::Keys::same_flat))]
 fn is_lump(flat: Flat4, n: u16) -> bool
     ensures { result ≡ same_flat (Flat4.Lump n) flat }
 {

@@ -1,6 +1,6 @@
 //! The visplanes of a view: areas of floor and ceiling, each a run of rows in some columns.
 //!
-//! Rules: `plane_rules`, Planes, Spans and Floors. Proved: each call is its definition, and
+//! Rules: `picture_rules/plane`, Planes, Spans and Floors. Proved: each call is its definition, and
 //! `PlanesFull` comes exactly where a new plane is wanted and there is no room for one; a canvas is
 //! given exactly a plane's pixels, each by the fractions of its span's first column. How a plane
 //! keeps its runs (`specs/Columns`) and that spans are opened and closed from column to column are
@@ -18,6 +18,6 @@ mod rows;
 mod tests;
 
 pub use draw::draw_plane;
-pub use plane_rules::{Flat4, PlaneKey};
+pub use picture_rules::{Flat4, PlaneKey};
 pub use planes::{PlaneNo, Planes, PlanesFull};
 pub use row_runs::RowRuns;

@@ -1,15 +1,15 @@
 // The planes of a view.
 ghost use Rattle.std.specs.Prelude.{◌≡◌, ℕ, ◌+◌, ◌<◌, ◌≤◌, ◌↔◌, true, [], None, length, position, IfOk, IfErr, IfSome, IsErr, OnOk, OnErr};
 ghost use Rattle.view_rules.specs.declared.TheConstants.{FRAME_WIDTH, FRAME_HEIGHT};
-ghost use Rattle.plane_rules.specs.declared.TheConstants.{MOST_VISPLANES};
-ghost use Rattle.plane_rules.specs.Planes.{find, check, mark, add, column, number_of, AreWide};
-ghost use Rattle.plane_rules.specs.Spans.{holds, row_runs};
+ghost use Rattle.picture_rules.specs.declared.plane.TheConstants.{MOST_VISPLANES};
+ghost use Rattle.picture_rules.specs.plane.Planes.{find, check, mark, add, column, number_of, AreWide};
+ghost use Rattle.picture_rules.specs.plane.Spans.{holds, row_runs};
 ghost use Rattle.visplanes.specs.Planes.{PlanesView, with_planes, plane_at};
 
 use crate::columns::Visplane;
 use crate::keys::same_key;
 use crate::row_runs::RowRuns;
-use plane_rules::{Flat4, MOST_VISPLANES, PlaneKey};
+use picture_rules::{Flat4, MOST_VISPLANES, PlaneKey};
 use std::alloc::{AllocError, Global};
 use std::marker::Model;
 use thiserror::Error;
@@ -37,8 +37,8 @@ pub struct Planes {
 
 impl Model for Planes {
     ghost use Rattle.std.specs.Prelude.{take, length, ◌≤◌};
-    ghost use Rattle.plane_rules.specs.declared.TheConstants.{MOST_VISPLANES};
-    ghost use Rattle.plane_rules.specs.Planes.{AreWide};
+    ghost use Rattle.picture_rules.specs.declared.plane.TheConstants.{MOST_VISPLANES};
+    ghost use Rattle.picture_rules.specs.plane.Planes.{AreWide};
     ghost use Rattle.visplanes.specs.Planes.{PlanesView};
 
     ghost Value = { PlanesView };
@@ -210,7 +210,7 @@ impl Planes {
     }
 
     // The number of the first plane of equal key.
-    #[tactic(auto, unfolding(plane_rules::specs::Planes::number_of))]
+    #[tactic(auto, unfolding(picture_rules::specs::plane::Planes::number_of))]
     fn number_of(&self, key: PlaneKey) -> Option<usize>
         ensures value { result ≡ number_of self.now.planes key }
         ensures small { IfSome result (λ number. number < MOST_VISPLANES) }
@@ -222,7 +222,7 @@ impl Planes {
     }
 
     // A new plane behind the others.
-    #[tactic(auto, unfolding(plane_rules::specs::Planes::add))]
+    #[tactic(auto, unfolding(picture_rules::specs::plane::Planes::add))]
     fn add(&mut self, key: PlaneKey) -> Result<PlaneNo, PlanesFull>
         ensures ok { OnOk result
             (self.new ≡ with_planes (add self.old.planes key).planes self.old) }

@@ -2,7 +2,7 @@
 ghost use Rattle.std.specs.Prelude.{◌≡◌, ℕ, ◌+◌, ◌-◌, ◌<◌, ◌≤◌, ◌∷◌, length, true};
 ghost use Rattle.std.specs.Iterator.{YieldsFirst, item_count};
 ghost use Rattle.view_rules.specs.declared.TheConstants.{FRAME_WIDTH};
-ghost use Rattle.plane_rules.specs.Spans.{holds, row_runs};
+ghost use Rattle.picture_rules.specs.plane.Spans.{holds, row_runs};
 ghost use Rattle.visplanes.specs.Spans.{runs_from};
 
 use crate::columns::Visplane;

@@ -1,7 +1,7 @@
 // The rows of a column, and those that one column has and another has not.
 ghost use Rattle.std.specs.Prelude.{◌≡◌, ◌+◌, ◌<◌, ◌≤◌, IfSome};
 ghost use Rattle.view_rules.specs.declared.TheConstants.{FRAME_HEIGHT};
-ghost use Rattle.plane_rules.specs.Spans.{holds_row};
+ghost use Rattle.picture_rules.specs.plane.Spans.{holds_row};
 ghost use Rattle.visplanes.specs.Spans.{rows_of};
 
 /// The rows from `begin` on, before `end`.
@@ -31,7 +31,7 @@ pub fn rows_of(run: Option<(u8, u8)>) -> Rows
 }
 
 /// Whether a run holds row `y`.
-#[tactic(auto, unfolding(plane_rules::specs::Spans::holds_row))]
+#[tactic(auto, unfolding(picture_rules::specs::plane::Spans::holds_row))]
 pub fn holds_row(run: Option<(u8, u8)>, y: u8) -> bool
     ensures { result ≡ holds_row run y }
 {

@@ -10,14 +10,14 @@ use Rattle.std.proofs.lemmas.List.Elements.{All-push}
 use Rattle.std.proofs.lemmas.List.Sorted.{All-permutation}
 use Rattle.word_rules.specs.Words.{minus, greater_word, lesser_word}
 use Rattle.view_rules.specs.View.{ViewValue}
-use Rattle.sprite_rules.specs.declared.TheConstants.{MAX_VISSPRITES}
-use Rattle.sprite_rules.specs.declared.Placed.{Placed}
-use Rattle.sprite_rules.specs.declared.Seen.{Seen}
-use Rattle.sprite_rules.specs.declared.Shape5.{Shape5}
-use Rattle.sprite_rules.specs.declared.SpriteEntry.{SpriteEntry}
-use Rattle.sprite_rules.specs.Entries.{entry_of, entry_within, entry_for, with_entry, add_entry}
-use Rattle.sprite_rules.specs.Order.{draw_order}
-use Rattle.sprite_rules.proofs.OrderLemmas.{draw_order-permutation}
+use Rattle.picture_rules.specs.declared.sprite.TheConstants.{MAX_VISSPRITES}
+use Rattle.picture_rules.specs.declared.sprite.Placed.{Placed}
+use Rattle.picture_rules.specs.declared.sprite.Seen.{Seen}
+use Rattle.picture_rules.specs.declared.sprite.Shape5.{Shape5}
+use Rattle.picture_rules.specs.declared.sprite.SpriteEntry.{SpriteEntry}
+use Rattle.picture_rules.specs.sprite.Entries.{entry_of, entry_within, entry_for, with_entry, add_entry}
+use Rattle.picture_rules.specs.sprite.Order.{draw_order}
+use Rattle.picture_rules.proofs.sprite.OrderLemmas.{draw_order-permutation}
 use Rattle.vissprites.specs.Bounds.{lies_within, has_lump_below}
 
 -- what holds of each entry holds of each in drawing order

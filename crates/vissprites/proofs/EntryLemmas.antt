@@ -8,13 +8,13 @@ use Rattle.word_rules.specs.declared.TheConstants.{FRACTION_UNIT}
 use Rattle.view_rules.specs.View.{ViewValue}
 use Rattle.view_rules.specs.Sound.{IsWithinFrame}
 use Rattle.view_rules.proofs.ColumnLemmas.{projection_is}
-use Rattle.sprite_rules.specs.declared.TheConstants.{MIN_DEPTH}
-use Rattle.sprite_rules.specs.declared.Placed.{Placed}
-use Rattle.sprite_rules.specs.declared.Seen.{Seen}
-use Rattle.sprite_rules.specs.declared.Shape5.{Shape5}
-use Rattle.sprite_rules.specs.declared.SpriteEntry.{SpriteEntry}
-use Rattle.sprite_rules.specs.Projection.{depth, side, sprite_scale, seen_at, seen_within, project}
-use Rattle.sprite_rules.specs.Entries.{sprite_map, picture_height, entry_of, entry_within, entry_for}
+use Rattle.picture_rules.specs.declared.sprite.TheConstants.{MIN_DEPTH}
+use Rattle.picture_rules.specs.declared.sprite.Placed.{Placed}
+use Rattle.picture_rules.specs.declared.sprite.Seen.{Seen}
+use Rattle.picture_rules.specs.declared.sprite.Shape5.{Shape5}
+use Rattle.picture_rules.specs.declared.sprite.SpriteEntry.{SpriteEntry}
+use Rattle.picture_rules.specs.sprite.Projection.{depth, side, sprite_scale, seen_at, seen_within, project}
+use Rattle.picture_rules.specs.sprite.Entries.{sprite_map, picture_height, entry_of, entry_within, entry_for}
 
 -- the scale of what is not too near is not negative
 div_positive : (n : ℕ) (d : ℤ) → n ≤ 160 → int_lt d MIN_DEPTH ≡ false → pos 0 ≤ℤ div (pos (n * 65536)) d

@@ -3,14 +3,14 @@ use Rattle.std.proofs.Common.{◌≡◌, ℕ, suc, ◌+◌, ◌<◌, ◌≤◌, 
 use Rattle.std.specs.Prelude.{nat_lt, ◌&&◌}
 use Rattle.std.proofs.lemmas.Bool.Decides.{nat_tests}
 use Rattle.view_rules.specs.View.{ViewValue}
-use Rattle.sprite_rules.specs.declared.TheConstants.{MAX_VISSPRITES}
-use Rattle.sprite_rules.specs.declared.Placed.{Placed}
-use Rattle.sprite_rules.specs.declared.Seen.{Seen}
-use Rattle.sprite_rules.specs.declared.Shape5.{Shape5}
-use Rattle.sprite_rules.specs.declared.SpriteEntry.{SpriteEntry}
-use Rattle.sprite_rules.specs.Order.{draw_order, is_smaller, insert_last}
-use Rattle.sprite_rules.proofs.OrderLemmas.{draw_order-more, length-draw_order}
-use Rattle.sprite_rules.specs.Entries.{entry_for, with_entry, add_entry}
+use Rattle.picture_rules.specs.declared.sprite.TheConstants.{MAX_VISSPRITES}
+use Rattle.picture_rules.specs.declared.sprite.Placed.{Placed}
+use Rattle.picture_rules.specs.declared.sprite.Seen.{Seen}
+use Rattle.picture_rules.specs.declared.sprite.Shape5.{Shape5}
+use Rattle.picture_rules.specs.declared.sprite.SpriteEntry.{SpriteEntry}
+use Rattle.picture_rules.specs.sprite.Order.{draw_order, is_smaller, insert_last}
+use Rattle.picture_rules.proofs.sprite.OrderLemmas.{draw_order-more, length-draw_order}
+use Rattle.picture_rules.specs.sprite.Entries.{entry_for, with_entry, add_entry}
 use Rattle.vissprites.specs.Kept.{insert_made, made_order, are_below, IsKept, count_before}
 
 both_true : (a b : Bool) → (a && b) ≡ true → (a ≡ true) × (b ≡ true)

@@ -1,6 +1,6 @@
 -- What who draws entries asks of them.
 use Rattle.std.specs.Prelude.{ℕ, ◌&&◌, int_le, int_lt, nat_lt, pos, Bool}
-use Rattle.sprite_rules.specs.declared.SpriteEntry.{SpriteEntry}
+use Rattle.picture_rules.specs.declared.sprite.SpriteEntry.{SpriteEntry}
 
 -- the columns lie in a view of that width
 unfoldable pub lies_within : ℕ → SpriteEntry → Bool

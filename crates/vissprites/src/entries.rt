@@ -2,17 +2,17 @@
 
 ghost use Rattle.std.specs.Prelude.{◌≡◌, ◌<◌, ◌≤ℤ◌, pos, Some};
 ghost use Rattle.view_rules.specs.declared.TheConstants.{LIGHT_LEVELS};
-ghost use Rattle.sprite_rules.specs.Projection.{project};
-ghost use Rattle.sprite_rules.specs.Entries.{left_edge, right_edge, edge_column, picture_first, picture_last, misses_view, sprite_map, picture_height, entry_of, entry_within, entry_for};
+ghost use Rattle.picture_rules.specs.sprite.Projection.{project};
+ghost use Rattle.picture_rules.specs.sprite.Entries.{left_edge, right_edge, edge_column, picture_first, picture_last, misses_view, sprite_map, picture_height, entry_of, entry_within, entry_for};
 
 use angle_tables::projection;
 use fx_words::{div, fixed, greater_word, lesser_word, minus, mul, plus, shr_word};
-use sprite_rules::{Placed, Seen, Shape5, SpriteEntry};
+use picture_rules::{Placed, Seen, Shape5, SpriteEntry};
 use view_frame::View;
 use word_rules::{FRACTION_BITS, FRACTION_UNIT};
 
 /// The entry of this number of a thing that is seen, None where its picture misses the view.
-#[tactic(auto, unfolding(sprite_rules::specs::Entries::entry_for))]
+#[tactic(auto, unfolding(picture_rules::specs::sprite::Entries::entry_for))]
 pub fn entry_for(
     view: &View<'_>,
     number: u16,
@@ -29,7 +29,7 @@ pub fn entry_for(
     entry_within(view, number, thing, seen, shape, first, last)
 }
 
-#[tactic(auto, unfolding(sprite_rules::specs::Entries::entry_within))]
+#[tactic(auto, unfolding(picture_rules::specs::sprite::Entries::entry_within))]
 fn entry_within(
     view: &View<'_>,
     number: u16,
@@ -49,7 +49,7 @@ fn entry_within(
     Some(entry_of(view, number, thing, seen, shape, first, last))
 }
 
-#[tactic(auto, unfolding(sprite_rules::specs::Entries::entry_of))]
+#[tactic(auto, unfolding(picture_rules::specs::sprite::Entries::entry_of))]
 fn entry_of(
     view: &View<'_>,
     number: u16,
@@ -84,7 +84,7 @@ fn entry_of(
 }
 
 /// The colormap of a thing at a scale.
-#[tactic(auto, unfolding(sprite_rules::specs::Entries::sprite_map))]
+#[tactic(auto, unfolding(picture_rules::specs::sprite::Entries::sprite_map))]
 fn sprite_map(view: &View<'_>, thing: &Placed, scale: i32) -> u8
     requires light { thing.now.light < LIGHT_LEVELS }
     requires scale { pos 0 ≤ℤ scale }
@@ -98,7 +98,7 @@ fn sprite_map(view: &View<'_>, thing: &Placed, scale: i32) -> u8
 }
 
 /// The top of the picture (map units, 16.16).
-#[tactic(auto, unfolding(sprite_rules::specs::Entries::picture_height))]
+#[tactic(auto, unfolding(picture_rules::specs::sprite::Entries::picture_height))]
 fn picture_height(thing: &Placed, shape: Shape5) -> i32
     ensures { result ≡ picture_height thing.now shape }
 {
@@ -106,7 +106,7 @@ fn picture_height(thing: &Placed, shape: Shape5) -> i32
 }
 
 /// Whether the picture lies right of the view, or left of it.
-#[tactic(auto, unfolding(sprite_rules::specs::Entries::misses_view))]
+#[tactic(auto, unfolding(picture_rules::specs::sprite::Entries::misses_view))]
 fn misses_view(view: &View<'_>, first: i32, last: i32) -> bool
     ensures { result ≡ misses_view view.now first last }
 {
@@ -114,7 +114,7 @@ fn misses_view(view: &View<'_>, first: i32, last: i32) -> bool
 }
 
 /// The picture's first column, which may lie outside the view.
-#[tactic(auto, unfolding(sprite_rules::specs::Entries::picture_first))]
+#[tactic(auto, unfolding(picture_rules::specs::sprite::Entries::picture_first))]
 fn picture_first(view: &View<'_>, seen: Seen, shape: Shape5) -> i32
     ensures { result ≡ picture_first view.now seen shape }
 {
@@ -122,7 +122,7 @@ fn picture_first(view: &View<'_>, seen: Seen, shape: Shape5) -> i32
 }
 
 /// The picture's last column.
-#[tactic(auto, unfolding(sprite_rules::specs::Entries::picture_last))]
+#[tactic(auto, unfolding(picture_rules::specs::sprite::Entries::picture_last))]
 fn picture_last(view: &View<'_>, seen: Seen, shape: Shape5) -> i32
     ensures { result ≡ picture_last view.now seen shape }
 {
@@ -134,7 +134,7 @@ fn picture_last(view: &View<'_>, seen: Seen, shape: Shape5) -> i32
 
 /// The column of an edge (map units 16.16, to the right) at a scale.
 #[inline(always)]
-#[tactic(auto, unfolding(sprite_rules::specs::Entries::edge_column))]
+#[tactic(auto, unfolding(picture_rules::specs::sprite::Entries::edge_column))]
 fn edge_column(view: &View<'_>, edge: i32, scale: i32) -> i32
     ensures { result ≡ edge_column view.now edge scale }
 {
@@ -144,7 +144,7 @@ fn edge_column(view: &View<'_>, edge: i32, scale: i32) -> i32
 
 /// The left edge of the picture of a thing that is seen so far to the right.
 #[inline(always)]
-#[tactic(auto, unfolding(sprite_rules::specs::Entries::left_edge))]
+#[tactic(auto, unfolding(picture_rules::specs::sprite::Entries::left_edge))]
 fn left_edge(side: i32, shape: Shape5) -> i32
     ensures { result ≡ left_edge side shape }
 {
@@ -153,7 +153,7 @@ fn left_edge(side: i32, shape: Shape5) -> i32
 
 /// The right edge.
 #[inline(always)]
-#[tactic(auto, unfolding(sprite_rules::specs::Entries::right_edge))]
+#[tactic(auto, unfolding(picture_rules::specs::sprite::Entries::right_edge))]
 fn right_edge(side: i32, shape: Shape5) -> i32
     ensures { result ≡ right_edge side shape }
 {

@@ -1,6 +1,6 @@
 //! The vissprites of a view: things projected, and kept in the order in which they are drawn.
 //!
-//! Rules: `sprite_rules`, Projection, Entries and Order. Proved: each call is its definition; past
+//! Rules: `picture_rules/sprite`, Projection, Entries and Order. Proved: each call is its definition; past
 //! the most entries of a view `add` changes nothing; drawing order is sorted by scale, and entries
 //! of one scale keep their order. A contract sees `Sprites` as its entries (vissprites) in order of
 //! making; that they lie in drawing order is the code's own way (`specs/Kept`). Tested only: that
@@ -12,7 +12,7 @@ mod seen;
 mod sorted;
 mod sprites;
 
+pub use picture_rules::{MAX_VISSPRITES, Placed, Seen, Shape5, SpriteEntry};
 pub use seen::{ROTATIONS, project};
 pub use sorted::SortedSprites;
-pub use sprite_rules::{MAX_VISSPRITES, Placed, Seen, Shape5, SpriteEntry};
 pub use sprites::Sprites;

@@ -1,11 +1,11 @@
 // Where a thing is seen, before its picture is known.
 
 ghost use Rattle.std.specs.Prelude.{◌≡◌, ◌<◌, IfSome};
-ghost use Rattle.sprite_rules.specs.Projection.{view_sine, view_cosine, depth, side, sprite_scale, rotation, seen_at, seen_within, project};
+ghost use Rattle.picture_rules.specs.sprite.Projection.{view_sine, view_cosine, depth, side, sprite_scale, rotation, seen_at, seen_within, project};
 
 use angle_tables::projection;
 use fx_words::{abs_word, div, fine_angle, minus, mul, neg_word, plus, shl_word, turn, turn_back};
-use sprite_rules::{MIN_DEPTH, Placed, ROTATION_SHIFT, ROTATION_TURN, SIDE_SHIFT, Seen};
+use picture_rules::{MIN_DEPTH, Placed, ROTATION_SHIFT, ROTATION_TURN, SIDE_SHIFT, Seen};
 use view_frame::View;
 
 /// The pictures of a thing by its turn to the viewpoint.
@@ -18,7 +18,7 @@ pub const ROTATIONS: u8 = 8;
 /// Takes no memory.
 ///
 /// The original: the first half of `R_ProjectSprite`, r_things.c.
-#[tactic(auto, unfolding(sprite_rules::specs::Projection::project))]
+#[tactic(auto, unfolding(picture_rules::specs::sprite::Projection::project))]
 pub fn project(view: &View<'_>, thing: &Placed) -> Option<Seen>
     ensures value { result ≡ project view.now thing.now }
     ensures rotation { IfSome result (λ seen. seen.rotation < ROTATIONS) }
@@ -28,7 +28,7 @@ pub fn project(view: &View<'_>, thing: &Placed) -> Option<Seen>
     seen_within(view, thing, depth, side)
 }
 
-#[tactic(auto, unfolding(sprite_rules::specs::Projection::seen_within))]
+#[tactic(auto, unfolding(picture_rules::specs::sprite::Projection::seen_within))]
 fn seen_within(view: &View<'_>, thing: &Placed, depth: i32, side: i32) -> Option<Seen>
     ensures value { result ≡ seen_within view.now thing.now depth side }
     ensures rotation { IfSome result (λ seen. seen.rotation < ROTATIONS) }
@@ -42,7 +42,7 @@ fn seen_within(view: &View<'_>, thing: &Placed, depth: i32, side: i32) -> Option
     Some(seen_at(view, thing, depth, side))
 }
 
-#[tactic(auto, unfolding(sprite_rules::specs::Projection::seen_at))]
+#[tactic(auto, unfolding(picture_rules::specs::sprite::Projection::seen_at))]
 fn seen_at(view: &View<'_>, thing: &Placed, depth: i32, side: i32) -> Seen
     ensures value { result ≡ seen_at view.now thing.now depth side }
     ensures rotation { result.rotation < ROTATIONS }
@@ -55,14 +55,14 @@ fn seen_at(view: &View<'_>, thing: &Placed, depth: i32, side: i32) -> Seen
 }
 
 #[inline(always)]
-#[tactic(auto, unfolding(sprite_rules::specs::Projection::sprite_scale))]
+#[tactic(auto, unfolding(picture_rules::specs::sprite::Projection::sprite_scale))]
 fn sprite_scale(view: &View<'_>, depth: i32) -> i32
     ensures { result ≡ sprite_scale view.now depth }
 {
     div(projection(view.shape()), depth)
 }
 
-#[tactic(auto, unfolding(sprite_rules::specs::Projection::rotation))]
+#[tactic(auto, unfolding(picture_rules::specs::sprite::Projection::rotation))]
 fn rotation(view: &View<'_>, thing: &Placed) -> u8
     ensures value { result ≡ rotation view.now thing.now }
     ensures bound { result < ROTATIONS }
@@ -73,7 +73,7 @@ fn rotation(view: &View<'_>, thing: &Placed) -> u8
 
 /// How far a place is along the view's direction.
 #[inline(always)]
-#[tactic(auto, unfolding(sprite_rules::specs::Projection::depth))]
+#[tactic(auto, unfolding(picture_rules::specs::sprite::Projection::depth))]
 fn depth(view: &View<'_>, x: i32, y: i32) -> i32
     ensures { result ≡ depth view.now x y }
 {
@@ -86,7 +86,7 @@ fn depth(view: &View<'_>, x: i32, y: i32) -> i32
 
 /// And across it, to the right.
 #[inline(always)]
-#[tactic(auto, unfolding(sprite_rules::specs::Projection::side))]
+#[tactic(auto, unfolding(picture_rules::specs::sprite::Projection::side))]
 fn side(view: &View<'_>, x: i32, y: i32) -> i32
     ensures { result ≡ side view.now x y }
 {
@@ -98,7 +98,7 @@ fn side(view: &View<'_>, x: i32, y: i32) -> i32
 }
 
 #[inline(always)]
-#[tactic(auto, unfolding(sprite_rules::specs::Projection::view_sine))]
+#[tactic(auto, unfolding(picture_rules::specs::sprite::Projection::view_sine))]
 fn view_sine(view: &View<'_>) -> i32
     ensures { result ≡ view_sine view.now }
 {
@@ -106,7 +106,7 @@ fn view_sine(view: &View<'_>) -> i32
 }
 
 #[inline(always)]
-#[tactic(auto, unfolding(sprite_rules::specs::Projection::view_cosine))]
+#[tactic(auto, unfolding(picture_rules::specs::sprite::Projection::view_cosine))]
 fn view_cosine(view: &View<'_>) -> i32
     ensures { result ≡ view_cosine view.now }
 {

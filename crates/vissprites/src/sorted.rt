@@ -3,7 +3,7 @@
 ghost use Rattle.std.specs.Prelude.{◌≡◌};
 ghost use Rattle.std.specs.Iterator.{YieldsFirst, item_count};
 
-use sprite_rules::SpriteEntry;
+use picture_rules::SpriteEntry;
 use std::marker::Model;
 
 /// The entries that are still to be drawn, the first to be drawn first.
@@ -14,7 +14,7 @@ pub struct SortedSprites<'a> {
 
 impl<'a> Model for SortedSprites<'a> {
     ghost use Rattle.std.specs.Prelude.{List};
-    ghost use Rattle.sprite_rules.specs.declared.SpriteEntry.{SpriteEntry};
+    ghost use Rattle.picture_rules.specs.declared.sprite.SpriteEntry.{SpriteEntry};
 
     ghost Value = { List SpriteEntry };
 

@@ -4,17 +4,17 @@ ghost use Rattle.std.specs.Prelude.{◌≡◌, [], ◌<◌, ◌≤◌, ℕ, Bool
 ghost use Rattle.std.specs.List.{AllPass};
 ghost use Rattle.std.specs.List.Sorted.{IsSortedBy, IsStableBy};
 ghost use Rattle.view_rules.specs.declared.TheConstants.{LIGHT_LEVELS};
-ghost use Rattle.sprite_rules.specs.declared.TheConstants.{MAX_VISSPRITES};
-ghost use Rattle.sprite_rules.specs.Projection.{project};
-ghost use Rattle.sprite_rules.specs.Entries.{add_entry, with_entry};
-ghost use Rattle.sprite_rules.specs.Order.{is_smaller, insert_last, draw_order};
-ghost use Rattle.sprite_rules.specs.declared.SpriteEntry.{SpriteEntry};
+ghost use Rattle.picture_rules.specs.declared.sprite.TheConstants.{MAX_VISSPRITES};
+ghost use Rattle.picture_rules.specs.sprite.Projection.{project};
+ghost use Rattle.picture_rules.specs.sprite.Entries.{add_entry, with_entry};
+ghost use Rattle.picture_rules.specs.sprite.Order.{is_smaller, insert_last, draw_order};
+ghost use Rattle.picture_rules.specs.declared.sprite.SpriteEntry.{SpriteEntry};
 ghost use Rattle.vissprites.specs.Kept.{made_order, IsKept, count_before};
 ghost use Rattle.vissprites.specs.Bounds.{lies_within, has_lump_below};
 
 use crate::entries::entry_for;
 use crate::sorted::SortedSprites;
-use sprite_rules::{MAX_VISSPRITES, Placed, Seen, Shape5, SpriteEntry};
+use picture_rules::{MAX_VISSPRITES, Placed, Seen, Shape5, SpriteEntry};
 use std::alloc::{AllocError, Global};
 use std::marker::Model;
 use view_frame::View;
@@ -29,8 +29,8 @@ pub struct Sprites {
 
 impl Model for Sprites {
     ghost use Rattle.std.specs.Prelude.{List, ◌≤◌, vec_capacity};
-    ghost use Rattle.sprite_rules.specs.declared.TheConstants.{MAX_VISSPRITES};
-    ghost use Rattle.sprite_rules.specs.declared.SpriteEntry.{SpriteEntry};
+    ghost use Rattle.picture_rules.specs.declared.sprite.TheConstants.{MAX_VISSPRITES};
+    ghost use Rattle.picture_rules.specs.declared.sprite.SpriteEntry.{SpriteEntry};
     ghost use Rattle.vissprites.specs.Kept.{made_order, IsKept};
 
     ghost Value = { List SpriteEntry };
@@ -153,7 +153,7 @@ fn count_before(kept: &[SpriteEntry], entry: &SpriteEntry) -> usize
 }
 
 #[inline(always)]
-#[tactic(auto, unfolding(sprite_rules::specs::Order::is_smaller))]
+#[tactic(auto, unfolding(picture_rules::specs::sprite::Order::is_smaller))]
 fn is_smaller(entry: &SpriteEntry, other: &SpriteEntry) -> bool
     ensures { result ≡ is_smaller entry.now other.now }
 {

@@ -7,25 +7,25 @@ use Rattle.std.proofs.lemmas.List.Elements.{All-nil, All-push}
 use Rattle.view_rules.specs.View.{ViewValue}
 use Rattle.view_rules.specs.declared.TheConstants.{FRAME_WIDTH}
 use Rattle.view_rules.specs.declared.ViewShape.{ViewShape}
-use Rattle.wall_rules.specs.declared.ColumnClip.{ColumnClip}
-use Rattle.wall_rules.specs.declared.FragmentNote.{FragmentNote}
-use Rattle.wall_rules.specs.declared.FragmentNumbers.{FragmentNumbers}
-use Rattle.wall_rules.specs.declared.WallFacts.{WallFacts}
-use Rattle.wall_rules.specs.Clips.{open_clip, clip_after, ceiling_rows, floor_rows}
-use Rattle.wall_rules.specs.Columns.{texture_column}
-use Rattle.wall_rules.specs.Edges.{edges_at}
-use Rattle.wall_rules.specs.Openings.{saves_top, saves_bottom}
-use Rattle.wall_rules.specs.Notes.{room_if, middle_columns, top_clips, bottom_clips, saved_by, saved_from, notes_from, openings_list, view_notes, note_at}
-use Rattle.wall_rules.specs.Numbers.{fragment_numbers}
-use Rattle.wall_rules.specs.Strips.{marked_rows, ceiling_marks, floor_marks}
-use Rattle.wall_rules.specs.Walls.{Wall, wall_of, has_column, wall_edges, past_wall, clip_before, clip_past}
-use Rattle.wall_rules.proofs.NoteLemmas.{openings_list-more, view_notes-more}
-use Rattle.wall_rules.proofs.WallLemmas.{clip_past-next, clip_before-front}
-use Rattle.plane_rules.specs.declared.PlaneKey.{PlaneKey}
-use Rattle.plane_rules.specs.Planes.{Plane}
-use Rattle.plane_rules.specs.Built.{PlaneWall, PlanesNow, no_planes, floor_found, ceiling_found, ceiling_checked, floor_checked, columns_marked, wall_marked, after_event, MarkAlike}
-use Rattle.plane_rules.specs.Built.PlaneEvent.{Finds, Draws}
-use Rattle.plane_rules.proofs.BuiltLemmas.{after_event-alike, sound-after_event}
+use Rattle.picture_rules.specs.declared.wall.ColumnClip.{ColumnClip}
+use Rattle.picture_rules.specs.declared.wall.FragmentNote.{FragmentNote}
+use Rattle.picture_rules.specs.declared.wall.FragmentNumbers.{FragmentNumbers}
+use Rattle.picture_rules.specs.declared.wall.WallFacts.{WallFacts}
+use Rattle.picture_rules.specs.wall.Clips.{open_clip, clip_after, ceiling_rows, floor_rows}
+use Rattle.picture_rules.specs.wall.Columns.{texture_column}
+use Rattle.picture_rules.specs.wall.Edges.{edges_at}
+use Rattle.picture_rules.specs.wall.Openings.{saves_top, saves_bottom}
+use Rattle.picture_rules.specs.wall.Notes.{room_if, middle_columns, top_clips, bottom_clips, saved_by, saved_from, notes_from, openings_list, view_notes, note_at}
+use Rattle.picture_rules.specs.wall.Numbers.{fragment_numbers}
+use Rattle.picture_rules.specs.wall.Strips.{marked_rows, ceiling_marks, floor_marks}
+use Rattle.picture_rules.specs.wall.Walls.{Wall, wall_of, has_column, wall_edges, past_wall, clip_before, clip_past}
+use Rattle.picture_rules.proofs.wall.NoteLemmas.{openings_list-more, view_notes-more}
+use Rattle.picture_rules.proofs.wall.WallLemmas.{clip_past-next, clip_before-front}
+use Rattle.picture_rules.specs.declared.plane.PlaneKey.{PlaneKey}
+use Rattle.picture_rules.specs.plane.Planes.{Plane}
+use Rattle.picture_rules.specs.plane.Built.{PlaneWall, PlanesNow, no_planes, floor_found, ceiling_found, ceiling_checked, floor_checked, columns_marked, wall_marked, after_event, MarkAlike}
+use Rattle.picture_rules.specs.plane.Built.PlaneEvent.{Finds, Draws}
+use Rattle.picture_rules.proofs.plane.BuiltLemmas.{after_event-alike, sound-after_event}
 use Rattle.picture_rules.specs.Planes.{plane_wall, wall_step}
 use Rattle.visplanes.specs.Planes.{PlanesView}
 use Rattle.wall_edges.specs.Fragments.{FragmentValue, fragment_of}

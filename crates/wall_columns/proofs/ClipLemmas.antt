@@ -7,14 +7,14 @@ use Rattle.word_rules.specs.Words.{plus, minus, shr_word, greater_word, lesser_w
 use Rattle.word_rules.specs.Steps.{step_at}
 use Rattle.view_rules.specs.declared.TheConstants.{FRAME_HEIGHT}
 use Rattle.view_rules.specs.declared.ViewShape.{ViewShape}
-use Rattle.wall_rules.specs.declared.TheConstants.{MAX_EDGE_FRACTION}
-use Rattle.wall_rules.specs.declared.ColumnClip.{ColumnClip}
-use Rattle.wall_rules.specs.declared.Edges.{Edges}
-use Rattle.wall_rules.specs.declared.FragmentNumbers.{FragmentNumbers}
-use Rattle.wall_rules.specs.Parts.{has_texture}
-use Rattle.wall_rules.specs.Edges.{edge_at, edges_at}
-use Rattle.wall_rules.specs.Clips.{open_clip, row_from, row_to, below_clip, above_clip, wall_first, wall_last, ceiling_rows, floor_rows, middle_rows, top_last, top_rows, ceiling_past_top, ceiling_past_none, ceiling_after, bottom_first, bottom_rows, floor_past_bottom, floor_past_none, floor_after, shut_clip, narrowed_clip, clip_after}
-use Rattle.wall_rules.specs.Walls.{Wall, has_column, wall_edges, past_wall, past_some, clip_before}
+use Rattle.picture_rules.specs.declared.wall.TheConstants.{MAX_EDGE_FRACTION}
+use Rattle.picture_rules.specs.declared.wall.ColumnClip.{ColumnClip}
+use Rattle.picture_rules.specs.declared.wall.Edges.{Edges}
+use Rattle.picture_rules.specs.declared.wall.FragmentNumbers.{FragmentNumbers}
+use Rattle.picture_rules.specs.wall.Parts.{has_texture}
+use Rattle.picture_rules.specs.wall.Edges.{edge_at, edges_at}
+use Rattle.picture_rules.specs.wall.Clips.{open_clip, row_from, row_to, below_clip, above_clip, wall_first, wall_last, ceiling_rows, floor_rows, middle_rows, top_last, top_rows, ceiling_past_top, ceiling_past_none, ceiling_after, bottom_first, bottom_rows, floor_past_bottom, floor_past_none, floor_after, shut_clip, narrowed_clip, clip_after}
+use Rattle.picture_rules.specs.wall.Walls.{Wall, has_column, wall_edges, past_wall, past_some, clip_before}
 use Rattle.picture_rules.specs.Noted.{least_clip, greatest_clip}
 use Rattle.wall_columns.specs.Windows.{IsClipIn}
 use Rattle.wall_columns.specs.Plans.{AreEdgeWords, AreRowsIn}

@@ -19,15 +19,15 @@ use Rattle.lump_cache.specs.Caches.{KeepsCounts}
 use Rattle.pixel_rules.specs.declared.Painter.{Painter}
 use Rattle.pixel_rules.specs.Art.{Art}
 use Rattle.pixel_rules.specs.Dots.{Dot}
-use Rattle.wall_rules.specs.declared.ColumnClip.{ColumnClip}
-use Rattle.wall_rules.specs.declared.Edges.{Edges}
-use Rattle.wall_rules.specs.declared.FragmentNumbers.{FragmentNumbers}
-use Rattle.wall_rules.specs.declared.WallFacts.{WallFacts}
-use Rattle.wall_rules.specs.Columns.{texture_column}
-use Rattle.wall_rules.specs.Edges.{edges_at}
-use Rattle.wall_rules.specs.Numbers.{fragment_numbers}
-use Rattle.wall_rules.specs.Walls.{Wall, wall_of, wall_edges, clip_before}
-use Rattle.wall_rules.specs.Strips.{WallStrip, strip_dots, wall_strips, wall_column_by, wall_column, wall_dots}
+use Rattle.picture_rules.specs.declared.wall.ColumnClip.{ColumnClip}
+use Rattle.picture_rules.specs.declared.wall.Edges.{Edges}
+use Rattle.picture_rules.specs.declared.wall.FragmentNumbers.{FragmentNumbers}
+use Rattle.picture_rules.specs.declared.wall.WallFacts.{WallFacts}
+use Rattle.picture_rules.specs.wall.Columns.{texture_column}
+use Rattle.picture_rules.specs.wall.Edges.{edges_at}
+use Rattle.picture_rules.specs.wall.Numbers.{fragment_numbers}
+use Rattle.picture_rules.specs.wall.Walls.{Wall, wall_of, wall_edges, clip_before}
+use Rattle.picture_rules.specs.wall.Strips.{WallStrip, strip_dots, wall_strips, wall_column_by, wall_column, wall_dots}
 use Rattle.wall_edges.specs.Fragments.{FragmentValue, fragment_of}
 use Rattle.pixel_strips.specs.Canvases.{CanvasView}
 use Rattle.pixel_strips.specs.Dotted.{HasDots, PlacedAlike}

@@ -3,14 +3,14 @@
 use Rattle.std.proofs.Common.{◌≡◌, ℕ, ◌<◌, ◌≤◌, Bool, true, false, List, Option, Some, None, Result, Ok, Err, IsErr, IsErrAnd, length, refl, ap, sym, ◌∙◌, arith}
 use Rattle.std.specs.Prelude.{nat_lt}
 use Rattle.std.proofs.lemmas.Bool.Decides.{nat_tests}
-use Rattle.plane_rules.specs.declared.PlaneKey.{PlaneKey}
-use Rattle.plane_rules.specs.Planes.{Plane, PlaneChoice, find}
-use Rattle.plane_rules.specs.Built.{PlanesNow, floor_found, ceiling_found, checked_plane, with_ceiling, with_floor, IsAmongPlanes}
-use Rattle.plane_rules.proofs.PlaneLemmas.{length-find}
+use Rattle.picture_rules.specs.declared.plane.PlaneKey.{PlaneKey}
+use Rattle.picture_rules.specs.plane.Planes.{Plane, PlaneChoice, find}
+use Rattle.picture_rules.specs.plane.Built.{PlanesNow, floor_found, ceiling_found, checked_plane, with_ceiling, with_floor, IsAmongPlanes}
+use Rattle.picture_rules.proofs.plane.PlaneLemmas.{length-find}
 use Rattle.picture_rules.specs.declared.OverLimit.{OverLimit}
 use Rattle.picture_rules.specs.Counts.{planes_count, openings_count}
 use Rattle.visplanes.specs.Planes.{PlanesView, with_planes}
-use Rattle.wall_rules.specs.declared.FragmentNumbers.{FragmentNumbers}
+use Rattle.picture_rules.specs.declared.wall.FragmentNumbers.{FragmentNumbers}
 use Rattle.wall_columns.specs.declared.fault.DrawFault.{DrawFault}
 use Rattle.wall_columns.specs.Faults.{limit_of_fault, limit_of_result}
 use Rattle.wall_columns.specs.Leaves.{planes_found, number_found, planes_checked, number_checked, ceiling_check, floor_check, planes_over, openings_over, leaf_over, checks_over}

@@ -4,17 +4,17 @@ use Rattle.std.specs.Prelude.{nat_le, nat_lt, ◌&&◌}
 use Rattle.std.proofs.lemmas.Bool.Decides.{nat_tests}
 use Rattle.view_rules.specs.View.{ViewValue}
 use Rattle.view_rules.specs.declared.TheConstants.{FRAME_WIDTH}
-use Rattle.wall_rules.specs.declared.ColumnClip.{ColumnClip}
-use Rattle.wall_rules.specs.declared.Edges.{Edges}
-use Rattle.wall_rules.specs.declared.FragmentNumbers.{FragmentNumbers}
-use Rattle.wall_rules.specs.declared.WallFacts.{WallFacts}
-use Rattle.wall_rules.specs.Clips.{clip_after, ceiling_rows, floor_rows}
-use Rattle.wall_rules.specs.Columns.{texture_column}
-use Rattle.wall_rules.specs.Edges.{edges_at}
-use Rattle.wall_rules.specs.Strips.{marked_rows}
-use Rattle.plane_rules.specs.Planes.{Plane}
-use Rattle.plane_rules.specs.Built.{set_run, column_marked, columns_marked}
-use Rattle.plane_rules.proofs.BuiltLemmas.{columns_marked-none, columns_marked-more}
+use Rattle.picture_rules.specs.declared.wall.ColumnClip.{ColumnClip}
+use Rattle.picture_rules.specs.declared.wall.Edges.{Edges}
+use Rattle.picture_rules.specs.declared.wall.FragmentNumbers.{FragmentNumbers}
+use Rattle.picture_rules.specs.declared.wall.WallFacts.{WallFacts}
+use Rattle.picture_rules.specs.wall.Clips.{clip_after, ceiling_rows, floor_rows}
+use Rattle.picture_rules.specs.wall.Columns.{texture_column}
+use Rattle.picture_rules.specs.wall.Edges.{edges_at}
+use Rattle.picture_rules.specs.wall.Strips.{marked_rows}
+use Rattle.picture_rules.specs.plane.Planes.{Plane}
+use Rattle.picture_rules.specs.plane.Built.{set_run, column_marked, columns_marked}
+use Rattle.picture_rules.proofs.plane.BuiltLemmas.{columns_marked-none, columns_marked-more}
 use Rattle.visplanes.specs.Planes.{PlanesView, with_planes}
 use Rattle.wall_edges.specs.Fragments.{FragmentValue, fragment_of}
 use Rattle.wall_columns.specs.declared.clips.ColumnPlan.{ColumnPlan}

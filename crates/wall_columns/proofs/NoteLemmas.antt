@@ -2,14 +2,14 @@
 use Rattle.std.proofs.Common.{◌≡◌, ℕ, ◌+◌, ◌-◌, ◌≤◌, Bool, true, false, ℤ, pos, Option, refl, ap, sym, subst, ◌∙◌, arith}
 use Rattle.word_rules.specs.Words.{minus_one}
 use Rattle.view_rules.specs.View.{ViewValue}
-use Rattle.wall_rules.specs.declared.Clip.{Clip}
-use Rattle.wall_rules.specs.declared.FragmentNote.{FragmentNote}
-use Rattle.wall_rules.specs.declared.FragmentNumbers.{FragmentNumbers}
-use Rattle.wall_rules.specs.declared.WallFacts.{WallFacts}
-use Rattle.wall_rules.specs.Openings.{saves_top, saves_bottom}
-use Rattle.wall_rules.specs.Numbers.{fragment_numbers}
-use Rattle.wall_rules.specs.Notes.{silhouette_of, clip_note, place_if, note_at, room_if}
-use Rattle.wall_rules.specs.Walls.{wall_of}
+use Rattle.picture_rules.specs.declared.wall.Clip.{Clip}
+use Rattle.picture_rules.specs.declared.wall.FragmentNote.{FragmentNote}
+use Rattle.picture_rules.specs.declared.wall.FragmentNumbers.{FragmentNumbers}
+use Rattle.picture_rules.specs.declared.wall.WallFacts.{WallFacts}
+use Rattle.picture_rules.specs.wall.Openings.{saves_top, saves_bottom}
+use Rattle.picture_rules.specs.wall.Numbers.{fragment_numbers}
+use Rattle.picture_rules.specs.wall.Notes.{silhouette_of, clip_note, place_if, note_at, room_if}
+use Rattle.picture_rules.specs.wall.Walls.{wall_of}
 use Rattle.wall_columns.specs.declared.notes.SavePlaces.{SavePlaces}
 use Rattle.wall_columns.specs.Places.{room_of, places_of, clip_noted}
 use Rattle.wall_columns.specs.Columns.{IsPlaceIn, ArePlacesIn}

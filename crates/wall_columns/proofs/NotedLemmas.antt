@@ -13,17 +13,17 @@ use Rattle.view_rules.specs.View.{ViewValue}
 use Rattle.view_rules.specs.declared.TheConstants.{FRAME_HEIGHT}
 use Rattle.view_rules.specs.declared.ViewShape.{ViewShape}
 use Rattle.level_rules.specs.declared.Surface.{Surface}
-use Rattle.wall_rules.specs.declared.TheConstants.{SIL_BOTTOM, SIL_TOP}
-use Rattle.wall_rules.specs.declared.ColumnClip.{ColumnClip}
-use Rattle.wall_rules.specs.declared.FragmentNote.{FragmentNote}
-use Rattle.wall_rules.specs.declared.FragmentNumbers.{FragmentNumbers}
-use Rattle.wall_rules.specs.declared.WallFacts.{WallFacts}
-use Rattle.wall_rules.specs.Numbers.{numbers_by, fragment_numbers}
-use Rattle.wall_rules.specs.Parts.{is_masked}
-use Rattle.wall_rules.specs.Openings.{saves_top, saves_bottom, top_clip, bottom_clip}
-use Rattle.wall_rules.specs.Notes.{silhouette_of, saved_by, saved_from, openings_list, room_if, clip_note, place_if, note_at, notes_from, view_notes}
-use Rattle.wall_rules.specs.Walls.{Wall, wall_of, clip_past}
-use Rattle.wall_rules.proofs.NoteLemmas.{length-saved_by, note-top_clip, note-bottom_clip}
+use Rattle.picture_rules.specs.declared.wall.TheConstants.{SIL_BOTTOM, SIL_TOP}
+use Rattle.picture_rules.specs.declared.wall.ColumnClip.{ColumnClip}
+use Rattle.picture_rules.specs.declared.wall.FragmentNote.{FragmentNote}
+use Rattle.picture_rules.specs.declared.wall.FragmentNumbers.{FragmentNumbers}
+use Rattle.picture_rules.specs.declared.wall.WallFacts.{WallFacts}
+use Rattle.picture_rules.specs.wall.Numbers.{numbers_by, fragment_numbers}
+use Rattle.picture_rules.specs.wall.Parts.{is_masked}
+use Rattle.picture_rules.specs.wall.Openings.{saves_top, saves_bottom, top_clip, bottom_clip}
+use Rattle.picture_rules.specs.wall.Notes.{silhouette_of, saved_by, saved_from, openings_list, room_if, clip_note, place_if, note_at, notes_from, view_notes}
+use Rattle.picture_rules.specs.wall.Walls.{Wall, wall_of, clip_past}
+use Rattle.picture_rules.proofs.wall.NoteLemmas.{length-saved_by, note-top_clip, note-bottom_clip}
 use Rattle.picture_rules.specs.Noted.{greatest_clip, least_clip, IsListAt, IsClipAmong, IsClip, IsWholeNote, ListsApart, AreNoted}
 use Rattle.walk_rules.specs.declared.TheConstants.{MAX_DRAWSEGS}
 use Rattle.wall_columns.specs.Windows.{IsClipIn}

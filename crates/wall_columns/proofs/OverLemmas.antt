@@ -2,15 +2,15 @@
 use Rattle.std.proofs.Common.{◌≡◌, ℕ, ◌+◌, ◌-◌, Bool, true, false, cond, List, Option, Some, None, Result, Ok, Err, OnOk, length, refl, ap, sym, ◌∙◌, arith}
 use Rattle.std.specs.Prelude.{nat_lt}
 use Rattle.view_rules.specs.View.{ViewValue}
-use Rattle.wall_rules.specs.declared.FragmentNumbers.{FragmentNumbers}
-use Rattle.wall_rules.specs.declared.WallFacts.{WallFacts}
-use Rattle.wall_rules.specs.Numbers.{fragment_numbers}
-use Rattle.wall_rules.specs.Notes.{room_if}
-use Rattle.wall_rules.specs.Openings.{openings_of}
-use Rattle.wall_rules.specs.Walls.{Wall, wall_of}
-use Rattle.wall_rules.proofs.NoteLemmas.{length-saved_by, length-saved_openings}
-use Rattle.plane_rules.specs.declared.PlaneKey.{PlaneKey}
-use Rattle.plane_rules.specs.Built.{PlanesNow, ceiling_checked, floor_checked, plane_counts}
+use Rattle.picture_rules.specs.declared.wall.FragmentNumbers.{FragmentNumbers}
+use Rattle.picture_rules.specs.declared.wall.WallFacts.{WallFacts}
+use Rattle.picture_rules.specs.wall.Numbers.{fragment_numbers}
+use Rattle.picture_rules.specs.wall.Notes.{room_if}
+use Rattle.picture_rules.specs.wall.Openings.{openings_of}
+use Rattle.picture_rules.specs.wall.Walls.{Wall, wall_of}
+use Rattle.picture_rules.proofs.wall.NoteLemmas.{length-saved_by, length-saved_openings}
+use Rattle.picture_rules.specs.declared.plane.PlaneKey.{PlaneKey}
+use Rattle.picture_rules.specs.plane.Built.{PlanesNow, ceiling_checked, floor_checked, plane_counts}
 use Rattle.picture_rules.specs.declared.OverLimit.{OverLimit}
 use Rattle.picture_rules.specs.Counts.{openings_counts, planes_count, openings_count, passes_limit, limit_of}
 use Rattle.picture_rules.specs.Planes.{plane_wall, wall_step}
@@ -22,7 +22,7 @@ use Rattle.wall_columns.specs.Places.{places_of}
 use Rattle.wall_columns.specs.Faults.{limit_of_fault, IsLimitFault}
 use Rattle.visplanes.specs.declared.planes.PlaneNo.{PlaneNo}
 use Rattle.wall_columns.specs.declared.column_state.ColumnState.{ColumnState}
-use Rattle.wall_rules.specs.declared.FragmentNote.{FragmentNote}
+use Rattle.picture_rules.specs.declared.wall.FragmentNote.{FragmentNote}
 use Rattle.wall_edges.specs.Fragments.{FragmentValue, fragment_of}
 use Rattle.wall_columns.specs.States.{walls_view}
 use Rattle.wall_columns.specs.Columns.{plane_number}

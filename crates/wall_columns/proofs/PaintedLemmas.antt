@@ -32,9 +32,9 @@ use Rattle.texture_build.specs.Views.{TexturesView, prepared_texture}
 use Rattle.texture_build.specs.Draws.{CanDraw, DrawsWith, FitBeside, FitsBeside, HoldsArt}
 use Rattle.texture_build.proofs.BesideLemmas.{fit_beside-none, fit_beside-append, fit_beside-as, fit_beside-column_dots}
 use Rattle.texture_build.proofs.DrawLemmas.{draws-none, draws-then, draws-wider, holds_art-later}
-use Rattle.wall_rules.specs.declared.Part.{Part}
-use Rattle.wall_rules.specs.declared.RowRange.{RowRange}
-use Rattle.wall_rules.specs.Strips.{WallStrip, strip_dots, wall_colour}
+use Rattle.picture_rules.specs.declared.wall.Part.{Part}
+use Rattle.picture_rules.specs.declared.wall.RowRange.{RowRange}
+use Rattle.picture_rules.specs.wall.Strips.{WallStrip, strip_dots, wall_colour}
 use Rattle.wall_columns.specs.declared.fault.DrawFault.{DrawFault}
 use Rattle.wall_columns.specs.declared.paint.ColumnLook.{ColumnLook}
 use Rattle.wall_columns.specs.Draws.{IsNoPicture}

@@ -7,11 +7,11 @@ use Rattle.std.proofs.lemmas.List.{length-set, length-take, length-append, lengt
 use Rattle.std.proofs.lemmas.List.Elements.{All-set, All-replicate}
 use Rattle.word_rules.specs.Words.{minus_one}
 use Rattle.view_rules.specs.declared.TheConstants.{FRAME_WIDTH, FRAME_HEIGHT}
-use Rattle.plane_rules.specs.declared.PlaneKey.{PlaneKey}
-use Rattle.plane_rules.specs.Planes.{Plane, empty_plane, add, is_free, check_plane, check_some, check, number_of, find}
-use Rattle.plane_rules.proofs.PlaneLemmas.{length-check, length-find}
+use Rattle.picture_rules.specs.declared.plane.PlaneKey.{PlaneKey}
+use Rattle.picture_rules.specs.plane.Planes.{Plane, empty_plane, add, is_free, check_plane, check_some, check, number_of, find}
+use Rattle.picture_rules.proofs.plane.PlaneLemmas.{length-check, length-find}
 use Rattle.picture_rules.specs.Noted.{least_clip, greatest_clip}
-use Rattle.wall_rules.specs.declared.ColumnClip.{ColumnClip}
+use Rattle.picture_rules.specs.declared.wall.ColumnClip.{ColumnClip}
 use Rattle.wall_columns.specs.Walls.{AreClips}
 use Rattle.wall_columns.specs.Saved.{OpeningsView, with_saved}
 use Rattle.wall_columns.specs.Windows.{IsClipIn}

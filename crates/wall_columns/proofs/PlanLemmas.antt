@@ -13,14 +13,14 @@ use Rattle.view_rules.specs.declared.TheConstants.{FRAME_HEIGHT}
 use Rattle.pixel_rules.specs.Dots.{Dot}
 use Rattle.pixel_rules.specs.Art.{Art}
 use Rattle.pixel_rules.specs.Strips.{rows_between, column_dots}
-use Rattle.wall_rules.specs.declared.ColumnClip.{ColumnClip}
-use Rattle.wall_rules.specs.declared.Edges.{Edges}
-use Rattle.wall_rules.specs.declared.FragmentNumbers.{FragmentNumbers}
-use Rattle.wall_rules.specs.declared.Part.{Part}
-use Rattle.wall_rules.specs.declared.RowRange.{RowRange}
-use Rattle.wall_rules.specs.Parts.{has_texture}
-use Rattle.wall_rules.specs.Clips.{middle_rows, top_rows, bottom_rows, ceiling_rows, floor_rows}
-use Rattle.wall_rules.specs.Strips.{WallStrip, strip_of, wall_strips, strip_dots}
+use Rattle.picture_rules.specs.declared.wall.ColumnClip.{ColumnClip}
+use Rattle.picture_rules.specs.declared.wall.Edges.{Edges}
+use Rattle.picture_rules.specs.declared.wall.FragmentNumbers.{FragmentNumbers}
+use Rattle.picture_rules.specs.declared.wall.Part.{Part}
+use Rattle.picture_rules.specs.declared.wall.RowRange.{RowRange}
+use Rattle.picture_rules.specs.wall.Parts.{has_texture}
+use Rattle.picture_rules.specs.wall.Clips.{middle_rows, top_rows, bottom_rows, ceiling_rows, floor_rows}
+use Rattle.picture_rules.specs.wall.Strips.{WallStrip, strip_of, wall_strips, strip_dots}
 use Rattle.wall_columns.specs.Windows.{IsClipIn}
 use Rattle.wall_columns.specs.declared.clips.ColumnPlan.{ColumnPlan}
 use Rattle.wall_columns.specs.Plans.{no_rows, rows_if, plan_of, strips_by, HasRows, AreRowsIn, IsInRows, IsPartTexture, AreEdgeWords}

@@ -12,9 +12,9 @@ use Rattle.pixel_rules.specs.Art.{Art}
 use Rattle.pixel_rules.specs.Strips.{rows_between, column_dots}
 use Rattle.texture_build.specs.Views.{TexturesView}
 use Rattle.texture_build.specs.Draws.{CanDraw}
-use Rattle.wall_rules.specs.declared.FragmentNumbers.{FragmentNumbers}
-use Rattle.wall_rules.specs.declared.RowRange.{RowRange}
-use Rattle.wall_rules.specs.Strips.{strip_dots}
+use Rattle.picture_rules.specs.declared.wall.FragmentNumbers.{FragmentNumbers}
+use Rattle.picture_rules.specs.declared.wall.RowRange.{RowRange}
+use Rattle.picture_rules.specs.wall.Strips.{strip_dots}
 use Rattle.wall_columns.specs.declared.clips.ColumnPlan.{ColumnPlan}
 use Rattle.wall_columns.specs.Plans.{HasNoRows, HasRows, IsInRows, strips_by}
 

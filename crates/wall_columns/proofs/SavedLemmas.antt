@@ -6,10 +6,10 @@ use Rattle.std.proofs.lemmas.Bool.Decides.{nat_tests}
 use Rattle.std.proofs.lemmas.List.{append_assoc, append-nil, length-append, length-set, length-drop, length-take-le, take-append-drop, set-append_left, set-append_right, get_or-set_same, get_or-set_other}
 use Rattle.word_rules.specs.Listed.{listed, listed_from}
 use Rattle.word_rules.proofs.ListedLemmas.{listed-all, length-listed_from, get_or-listed_from}
-use Rattle.wall_rules.specs.declared.ColumnClip.{ColumnClip}
-use Rattle.wall_rules.specs.declared.FragmentNumbers.{FragmentNumbers}
-use Rattle.wall_rules.specs.Openings.{saves_top, saves_bottom}
-use Rattle.wall_rules.specs.Notes.{place_if, saved_if}
+use Rattle.picture_rules.specs.declared.wall.ColumnClip.{ColumnClip}
+use Rattle.picture_rules.specs.declared.wall.FragmentNumbers.{FragmentNumbers}
+use Rattle.picture_rules.specs.wall.Openings.{saves_top, saves_bottom}
+use Rattle.picture_rules.specs.wall.Notes.{place_if, saved_if}
 use Rattle.wall_columns.specs.Places.{room_of, places_of}
 use Rattle.wall_columns.specs.Saved.{with_saved, column_saved, columns_saved}
 

@@ -15,11 +15,11 @@ use Rattle.view_rules.specs.Bearings.{scale_at, scale_by}
 use Rattle.view_rules.specs.Lights.{light_number}
 use Rattle.level_rules.specs.declared.Seg.{Seg}
 use Rattle.level_rules.specs.declared.Surface.{Surface}
-use Rattle.wall_rules.specs.declared.WallFacts.{WallFacts}
-use Rattle.wall_rules.specs.Scales.{scale_of_column, scale_step}
-use Rattle.wall_rules.specs.Parts.{middle_part, top_part, bottom_part, no_part}
-use Rattle.wall_rules.specs.Numbers.{seg_light, numbers_by, fragment_numbers}
-use Rattle.wall_rules.specs.declared.Part.{Part}
+use Rattle.picture_rules.specs.declared.wall.WallFacts.{WallFacts}
+use Rattle.picture_rules.specs.wall.Scales.{scale_of_column, scale_step}
+use Rattle.picture_rules.specs.wall.Parts.{middle_part, top_part, bottom_part, no_part}
+use Rattle.picture_rules.specs.wall.Numbers.{seg_light, numbers_by, fragment_numbers}
+use Rattle.picture_rules.specs.declared.wall.Part.{Part}
 use Rattle.wall_columns.specs.Plans.{IsPartTexture}
 
 -- a scale is held within these

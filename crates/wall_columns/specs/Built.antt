@@ -1,12 +1,12 @@
 -- The walls of a view and its planes as the drawn fragments so far make them.
 use Rattle.std.specs.Prelude.{◌≡◌, ◌≤◌, ◌<◌, ◌++◌, ℕ, List, [], ◌∷◌, All, Option, None, find, length, map}
 use Rattle.view_rules.specs.View.{ViewValue}
-use Rattle.wall_rules.specs.Walls.{Wall, wall_of, clip_before}
-use Rattle.wall_rules.specs.Notes.{view_notes, openings_list}
-use Rattle.plane_rules.specs.declared.PlaneKey.{PlaneKey}
-use Rattle.plane_rules.specs.Planes.{Plane}
-use Rattle.plane_rules.specs.Built.{PlanesNow, IsSoundNow, plane_counts}
-use Rattle.plane_rules.specs.Built.PlaneEvent.{Finds}
+use Rattle.picture_rules.specs.wall.Walls.{Wall, wall_of, clip_before}
+use Rattle.picture_rules.specs.wall.Notes.{view_notes, openings_list}
+use Rattle.picture_rules.specs.declared.plane.PlaneKey.{PlaneKey}
+use Rattle.picture_rules.specs.plane.Planes.{Plane}
+use Rattle.picture_rules.specs.plane.Built.{PlanesNow, IsSoundNow, plane_counts}
+use Rattle.picture_rules.specs.plane.Built.PlaneEvent.{Finds}
 use Rattle.picture_rules.specs.declared.Limits.{Limits}
 use Rattle.picture_rules.specs.declared.OverLimit.{OverLimit}
 use Rattle.picture_rules.specs.Counts.{openings_counts, planes_count, passes_limit}

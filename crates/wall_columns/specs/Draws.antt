@@ -2,7 +2,7 @@
 use Rattle.std.specs.Prelude.{◌≡◌, ◌≢◌, ◌⊎◌, ℕ}
 use Rattle.outside.specs.Shelf.{ShelfView}
 use Rattle.zone_rules.specs.Zones.{Heap}
-use Rattle.wall_rules.specs.declared.WallFacts.{WallFacts}
+use Rattle.picture_rules.specs.declared.wall.WallFacts.{WallFacts}
 use Rattle.pixel_strips.specs.Canvases.{CanvasView}
 use Rattle.visplanes.specs.Planes.{PlanesView}
 

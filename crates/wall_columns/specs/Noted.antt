@@ -1,7 +1,7 @@
 -- What the notes say of the fragments that they are of.
 use Rattle.std.specs.Prelude.{ℕ, List, IfSome, IsSome, slice_get}
-use Rattle.wall_rules.specs.Walls.{Wall}
-use Rattle.wall_rules.specs.declared.FragmentNote.{FragmentNote}
+use Rattle.picture_rules.specs.wall.Walls.{Wall}
+use Rattle.picture_rules.specs.declared.wall.FragmentNote.{FragmentNote}
 
 -- behind the seg of a masked note there is a sector
 pub record HaveBacks (walls : List Wall) (notes : List FragmentNote) : Type 0 where

@@ -11,9 +11,9 @@ use Rattle.pixel_rules.specs.declared.TheConstants.{WALL}
 use Rattle.pixel_rules.specs.Art.{Art, painter_of}
 use Rattle.pixel_rules.specs.Dots.{Dot}
 use Rattle.pixel_rules.specs.Strips.{texel_row, row_fraction, rows_between, column_dots}
-use Rattle.wall_rules.specs.declared.Part.{Part}
-use Rattle.wall_rules.specs.declared.RowRange.{RowRange}
-use Rattle.wall_rules.specs.Strips.{WallStrip}
+use Rattle.picture_rules.specs.declared.wall.Part.{Part}
+use Rattle.picture_rules.specs.declared.wall.RowRange.{RowRange}
+use Rattle.picture_rules.specs.wall.Strips.{WallStrip}
 use Rattle.pixel_strips.specs.Canvases.{CanvasView}
 use Rattle.pixel_strips.specs.Dotted.{HasDots, PlacedAlike}
 use Rattle.texture_build.specs.Arts.{view_art}

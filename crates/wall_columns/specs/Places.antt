@@ -1,10 +1,10 @@
 -- Where a fragment saves its lists among the openings.
 use Rattle.std.specs.Prelude.{ℕ, ◌+◌, ℤ, Bool, cond, Option, Some, None}
-use Rattle.wall_rules.specs.declared.Clip.{Clip}
-use Rattle.wall_rules.specs.declared.Clip.TheVariants.{Absent, Constant, Saved}
-use Rattle.wall_rules.specs.declared.FragmentNumbers.{FragmentNumbers}
-use Rattle.wall_rules.specs.Openings.{saves_top, saves_bottom}
-use Rattle.wall_rules.specs.Notes.{place_if}
+use Rattle.picture_rules.specs.declared.wall.Clip.{Clip}
+use Rattle.picture_rules.specs.declared.wall.Clip.TheVariants.{Absent, Constant, Saved}
+use Rattle.picture_rules.specs.declared.wall.FragmentNumbers.{FragmentNumbers}
+use Rattle.picture_rules.specs.wall.Openings.{saves_top, saves_bottom}
+use Rattle.picture_rules.specs.wall.Notes.{place_if}
 use Rattle.wall_columns.specs.declared.notes.SavePlaces.{SavePlaces}
 
 -- how many openings a list takes, where it is saved

@@ -2,13 +2,13 @@
 use Rattle.std.specs.Prelude.{◌≡◌, ◌⊎◌, ◌≤ℤ◌, ◌<ℤ◌, ℕ, pos, Bool, cond, List, [], ◌∷◌, FitsSigned}
 use Rattle.std.specs.Int.{w32}
 use Rattle.word_rules.specs.Words.{minus_one}
-use Rattle.wall_rules.specs.declared.ColumnClip.{ColumnClip}
-use Rattle.wall_rules.specs.declared.Edges.{Edges}
-use Rattle.wall_rules.specs.declared.FragmentNumbers.{FragmentNumbers}
-use Rattle.wall_rules.specs.declared.RowRange.{RowRange}
-use Rattle.wall_rules.specs.Parts.{has_texture}
-use Rattle.wall_rules.specs.Clips.{ceiling_rows, floor_rows, middle_rows, top_rows, bottom_rows, clip_after}
-use Rattle.wall_rules.specs.Strips.{WallStrip}
+use Rattle.picture_rules.specs.declared.wall.ColumnClip.{ColumnClip}
+use Rattle.picture_rules.specs.declared.wall.Edges.{Edges}
+use Rattle.picture_rules.specs.declared.wall.FragmentNumbers.{FragmentNumbers}
+use Rattle.picture_rules.specs.declared.wall.RowRange.{RowRange}
+use Rattle.picture_rules.specs.wall.Parts.{has_texture}
+use Rattle.picture_rules.specs.wall.Clips.{ceiling_rows, floor_rows, middle_rows, top_rows, bottom_rows, clip_after}
+use Rattle.picture_rules.specs.wall.Strips.{WallStrip}
 use Rattle.wall_columns.specs.declared.clips.ColumnPlan.{ColumnPlan}
 
 -- no row, and rows that a part has only where it is there

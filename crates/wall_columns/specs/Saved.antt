@@ -1,6 +1,6 @@
 -- The openings of a view, and what a fragment saves among them column by column.
 use Rattle.std.specs.Prelude.{ℕ, zero, suc, ◌+◌, ℤ, List, Option, Some, None, slice_set}
-use Rattle.wall_rules.specs.declared.ColumnClip.{ColumnClip}
+use Rattle.picture_rules.specs.declared.wall.ColumnClip.{ColumnClip}
 use Rattle.wall_columns.specs.declared.notes.SavePlaces.{SavePlaces}
 
 -- the openings that are saved, and how many there is room for

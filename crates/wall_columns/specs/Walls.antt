@@ -3,8 +3,8 @@ use Rattle.std.specs.Prelude.{◌≡◌, ◌≤◌, ◌≤ℤ◌, ℕ, ℤ, pos,
 use Rattle.word_rules.specs.Words.{minus_one}
 use Rattle.view_rules.specs.declared.TheConstants.{FRAME_WIDTH, FRAME_HEIGHT}
 use Rattle.picture_rules.specs.Noted.{least_clip, greatest_clip}
-use Rattle.wall_rules.specs.declared.ColumnClip.{ColumnClip}
-use Rattle.wall_rules.specs.declared.FragmentNote.{FragmentNote}
+use Rattle.picture_rules.specs.declared.wall.ColumnClip.{ColumnClip}
+use Rattle.picture_rules.specs.declared.wall.FragmentNote.{FragmentNote}
 
 pub record WallsView : Type 0 where
   -- the notes of the drawn fragments, the openings that they saved, and how many there is room for

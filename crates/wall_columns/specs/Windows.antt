@@ -2,7 +2,7 @@
 use Rattle.std.specs.Prelude.{◌≤ℤ◌, ℕ, ℤ, pos, List, slice_index_or, slice_set}
 use Rattle.word_rules.specs.Words.{minus_one}
 use Rattle.picture_rules.specs.Noted.{least_clip, greatest_clip}
-use Rattle.wall_rules.specs.declared.ColumnClip.{ColumnClip}
+use Rattle.picture_rules.specs.declared.wall.ColumnClip.{ColumnClip}
 
 -- the two clips of each column, and the rows of the view
 pub record WindowsView : Type 0 where

@@ -4,12 +4,12 @@
 ghost use Rattle.std.specs.Prelude.{◌≡◌, ◌≢◌, ◌<◌, ◌≤◌, ◌+◌, ◌-◌, ℕ, [], None, Some, IfOk, IfErr, IsErr, OnOk, OnErr, length, take};
 ghost use Rattle.view_rules.specs.View.{ViewValue};
 ghost use Rattle.view_rules.specs.declared.TheConstants.{FRAME_WIDTH, FRAME_HEIGHT};
-ghost use Rattle.wall_rules.specs.declared.TheConstants.{MOST_OPENINGS};
-ghost use Rattle.wall_rules.specs.declared.WallFacts.{WallFacts};
-ghost use Rattle.wall_rules.specs.Clips.{open_clip, ceiling_rows, floor_rows};
-ghost use Rattle.wall_rules.specs.Columns.{texture_column};
-ghost use Rattle.wall_rules.specs.Strips.{marked_rows};
-ghost use Rattle.plane_rules.specs.Built.{PlanesNow, IsAmongPlanes, set_run, floor_found, ceiling_found};
+ghost use Rattle.picture_rules.specs.declared.wall.TheConstants.{MOST_OPENINGS};
+ghost use Rattle.picture_rules.specs.declared.wall.WallFacts.{WallFacts};
+ghost use Rattle.picture_rules.specs.wall.Clips.{open_clip, ceiling_rows, floor_rows};
+ghost use Rattle.picture_rules.specs.wall.Columns.{texture_column};
+ghost use Rattle.picture_rules.specs.wall.Strips.{marked_rows};
+ghost use Rattle.picture_rules.specs.plane.Built.{PlanesNow, IsAmongPlanes, set_run, floor_found, ceiling_found};
 ghost use Rattle.visplanes.specs.Planes.{with_planes};
 ghost use Rattle.wall_edges.specs.Fragments.{fragment_of};
 ghost use Rattle.wall_columns.specs.Faults.{limit_of_result, IsPlanesFault, IsLimitFault};
@@ -27,11 +27,11 @@ use crate::leaf::{LeafPlanes, check_plane, find_plane};
 use crate::notes::{SavePlaces, save_places};
 use crate::openings::Openings;
 use crate::windows::Windows;
+use picture_rules::{ColumnClip, Edges, FragmentNumbers};
 use std::alloc::{AllocError, Global};
 use view_frame::View;
 use visplanes::{PlaneNo, Planes};
 use wall_edges::{Fragment, Stepper};
-use wall_rules::{ColumnClip, Edges, FragmentNumbers};
 
 /// What a fragment is drawn among: what is open of each column, the openings that are saved, and
 /// the planes of the leaf that is entered.

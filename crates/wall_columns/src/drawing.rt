@@ -1,6 +1,6 @@
 // The columns of a fragment, drawn from left to right: this crate's Columns and Drawn.
 ghost use Rattle.std.specs.Prelude.{◌≡◌, None, OnOk, length};
-ghost use Rattle.plane_rules.specs.Built.{IsAmongPlanes};
+ghost use Rattle.picture_rules.specs.plane.Built.{IsAmongPlanes};
 ghost use Rattle.wall_columns.specs.Faults.{limit_of_result};
 ghost use Rattle.wall_columns.specs.Windows.{window_at};
 ghost use Rattle.wall_columns.specs.Columns.{plane_number, columns_of, HasMarked, HasSaved, ArePlacesIn};
@@ -12,9 +12,9 @@ use crate::notes::SavePlaces;
 use crate::paint::paint_plan;
 use crate::tools::WallTools;
 use outside::Shelf;
+use picture_rules::FragmentNumbers;
 use pixel_strips::Canvas;
 use wall_edges::{Fragment, Stepper};
-use wall_rules::FragmentNumbers;
 
 impl ColumnState {
     /// Marks, paints and saves the columns of fragment `number`, from left to right.

@@ -1,13 +1,13 @@
 // The planes of a leaf: found where the leaf is entered, checked where a fragment marks them.
 ghost use Rattle.std.specs.Prelude.{◌≡◌, ◌<◌, ◌≤◌, ◌↔◌, IfOk, IfErr, IsErr, OnOk, length};
 ghost use Rattle.view_rules.specs.declared.TheConstants.{FRAME_WIDTH};
-ghost use Rattle.plane_rules.specs.Built.{IsAmongPlanes, checked_plane};
+ghost use Rattle.picture_rules.specs.plane.Built.{IsAmongPlanes, checked_plane};
 ghost use Rattle.visplanes.specs.Planes.{with_planes};
 ghost use Rattle.wall_columns.specs.Columns.{plane_number};
 ghost use Rattle.wall_columns.specs.Leaves.{planes_found, number_found, planes_checked, number_checked};
 
 use crate::fault::DrawFault;
-use plane_rules::PlaneKey;
+use picture_rules::PlaneKey;
 use visplanes::{PlaneNo, Planes};
 
 /// The planes that a leaf finds: None where its floor or its ceiling is not seen.
@@ -55,7 +55,7 @@ pub fn find_plane(planes: &mut Planes, key: Option<PlaneKey>) -> Result<Option<P
 /// the fragment's columns.
 ///
 /// Errors: `Planes` exactly where a new plane is wanted and the room is full, with the count.
-#[tactic(auto, using(crate::proofs::PartLemmas::counts), unfolding(crate::specs::Leaves::planes_checked, crate::specs::Leaves::number_checked, plane_rules::specs::Built::checked_plane))]
+#[tactic(auto, using(crate::proofs::PartLemmas::counts), unfolding(crate::specs::Leaves::planes_checked, crate::specs::Leaves::number_checked, picture_rules::specs::plane::Built::checked_plane))]
 pub fn check_plane(
     planes: &mut Planes,
     plane: Option<PlaneNo>,

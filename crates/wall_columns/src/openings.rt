@@ -1,6 +1,6 @@
 // The openings of a view: this crate's Saved.
 ghost use Rattle.std.specs.Prelude.{◌≡◌, ◌<◌, ◌≤◌, ◌+◌, ◌↔◌, [], IfOk, IfErr, IfSome, IsErr, OnOk, OnErr, length, take};
-ghost use Rattle.wall_rules.specs.declared.TheConstants.{MOST_OPENINGS};
+ghost use Rattle.picture_rules.specs.declared.wall.TheConstants.{MOST_OPENINGS};
 ghost use Rattle.wall_columns.specs.Saved.{with_saved};
 
 use crate::fault::DrawFault;
@@ -18,7 +18,7 @@ pub struct Openings {
 
 impl Model for Openings {
     ghost use Rattle.std.specs.Prelude.{◌≤◌, take, length};
-    ghost use Rattle.wall_rules.specs.declared.TheConstants.{MOST_OPENINGS};
+    ghost use Rattle.picture_rules.specs.declared.wall.TheConstants.{MOST_OPENINGS};
     ghost use Rattle.wall_columns.specs.Saved.{OpeningsView};
 
     ghost Value = { OpeningsView };

@@ -5,10 +5,10 @@ ghost use Rattle.std.specs.Prelude.{◌≡◌, ◌<◌, ◌≤◌, ◌+◌, ◌�
 ghost use Rattle.view_rules.specs.declared.TheConstants.{FRAME_WIDTH, FRAME_HEIGHT};
 ghost use Rattle.view_rules.specs.View.{ViewValue};
 ghost use Rattle.walk_rules.specs.declared.TheConstants.{MAX_DRAWSEGS};
-ghost use Rattle.wall_rules.specs.declared.TheConstants.{MOST_OPENINGS};
-ghost use Rattle.wall_rules.specs.Walls.{Wall, wall_of};
-ghost use Rattle.wall_rules.specs.Strips.{wall_dots};
-ghost use Rattle.plane_rules.specs.Built.{PlanesNow, IsAmongPlanes, no_planes, after_event};
+ghost use Rattle.picture_rules.specs.declared.wall.TheConstants.{MOST_OPENINGS};
+ghost use Rattle.picture_rules.specs.wall.Walls.{Wall, wall_of};
+ghost use Rattle.picture_rules.specs.wall.Strips.{wall_dots};
+ghost use Rattle.picture_rules.specs.plane.Built.{PlanesNow, IsAmongPlanes, no_planes, after_event};
 ghost use Rattle.picture_rules.specs.Noted.{AreNoted};
 ghost use Rattle.texture_build.specs.Arts.{view_art};
 ghost use Rattle.texture_build.specs.Draws.{HoldsArt, FitBeside, CanDraw, DrawsWith};
@@ -26,6 +26,7 @@ use crate::leaf::LeafPlanes;
 use crate::notes::note_of;
 use crate::tools::WallTools;
 use outside::Shelf;
+use picture_rules::{FragmentNote, WallFacts};
 use pixel_strips::Canvas;
 use std::alloc::{AllocError, Global};
 use std::marker::Model;
@@ -33,7 +34,6 @@ use view_frame::View;
 use visplanes::Planes;
 use walk_rules::MAX_DRAWSEGS;
 use wall_edges::Fragment;
-use wall_rules::{FragmentNote, WallFacts};
 
 /// The walls of a view as far as they are drawn: the notes of the drawn fragments, the openings
 /// that they saved, the clips of each column, and the planes of the leaf that is entered. Contracts

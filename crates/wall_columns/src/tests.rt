@@ -2,7 +2,7 @@
 // units up, through the made tables, with texture WALL1 of the made WAD on its walls.
 ghost use Rattle.std.specs.Prelude.{◌≡◌, ◌<◌, ◌≤◌, ◌+◌, ℕ, IfOk, OnOk, length};
 ghost use Rattle.view_rules.specs.declared.TheConstants.{FRAME_WIDTH, FRAME_HEIGHT};
-ghost use Rattle.plane_rules.specs.Built.{IsAmongPlanes};
+ghost use Rattle.picture_rules.specs.plane.Built.{IsAmongPlanes};
 ghost use Rattle.texture_build.specs.Draws.{CanDraw};
 ghost use Rattle.wall_columns.specs.Draws.{IsWallTexture};
 
@@ -13,8 +13,8 @@ use level_rules::{SKY_FLAT, Seg, Surface};
 use lump_cache::LumpCache;
 use lump_rules::Name8;
 use outside::{MemoryFile, MemoryShelf, Shelf};
+use picture_rules::{Flat4, MAX_OPENINGS, PlaneKey, WallTexture};
 use pixel_strips::{Canvas, Frame};
-use plane_rules::{Flat4, PlaneKey};
 use std::alloc::Global;
 use std::test::Fail;
 use texture_build::{TexNo, Textures};
@@ -22,7 +22,6 @@ use view_frame::View;
 use view_rules::{Eye, FRAME_WIDTH};
 use visplanes::{PlaneNo, Planes};
 use wad_dir::{Directory, LumpNo};
-use wall_rules::{MAX_OPENINGS, WallTexture};
 use zone_heap::Tag;
 
 const EYE: Eye = Eye {

@@ -1,13 +1,13 @@
 // What is open of each column of a frame, and the rows of the view: this crate's Windows.
 ghost use Rattle.std.specs.Prelude.{◌≡◌, ◌≢◌, ◌<◌, ◌≤◌, ℕ};
 ghost use Rattle.view_rules.specs.declared.TheConstants.{FRAME_WIDTH, FRAME_HEIGHT};
-ghost use Rattle.wall_rules.specs.Clips.{open_clip};
+ghost use Rattle.picture_rules.specs.wall.Clips.{open_clip};
 ghost use Rattle.wall_columns.specs.Windows.{window_at, with_window, IsClipIn};
 
+use picture_rules::ColumnClip;
 use std::alloc::{AllocError, Global};
 use std::marker::Model;
 use view_rules::FRAME_WIDTH;
-use wall_rules::ColumnClip;
 
 /// What is open of each column of a frame, and the rows of the view. Contracts see `WindowsView`.
 ///
@@ -46,7 +46,7 @@ impl Windows {
     }
 
     /// Opens each column of a view of `height` rows.
-    #[tactic(auto, using(crate::proofs::PartLemmas::opened), unfolding(crate::specs::Windows::window_at, wall_rules::specs::Clips::open_clip))]
+    #[tactic(auto, using(crate::proofs::PartLemmas::opened), unfolding(crate::specs::Windows::window_at, picture_rules::specs::wall::Clips::open_clip))]
     pub fn open(&mut self, height: u16)
         requires { height ≤ FRAME_HEIGHT }
         ensures height { self.new.height ≡ height }

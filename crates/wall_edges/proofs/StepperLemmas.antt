@@ -3,9 +3,9 @@ use Rattle.std.proofs.Common.{◌≡◌, ℕ, zero, suc, ◌+◌, ◌-◌, ◌<�
 use Rattle.std.specs.Int.{w32}
 use Rattle.std.proofs.lemmas.Bool.Decides.{nat_tests}
 use Rattle.view_rules.specs.declared.TheConstants.{FRAME_WIDTH}
-use Rattle.wall_rules.specs.declared.Edges.{Edges}
-use Rattle.wall_rules.specs.Edges.{edges_at, edges_first, edges_step, edges_plus}
-use Rattle.wall_rules.proofs.EdgeLemmas.{edges_at-zero, edges_at-more}
+use Rattle.picture_rules.specs.declared.wall.Edges.{Edges}
+use Rattle.picture_rules.specs.wall.Edges.{edges_at, edges_first, edges_step, edges_plus}
+use Rattle.picture_rules.proofs.wall.EdgeLemmas.{edges_at-zero, edges_at-more}
 use Rattle.wall_edges.specs.declared.stepper.Stepper.{Stepper}
 use Rattle.wall_edges.specs.Fragments.{FragmentValue}
 use Rattle.wall_edges.specs.Steppers.{next_edges, one_column_on, next_stepper, stepper_after, IsAt}

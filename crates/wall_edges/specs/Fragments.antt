@@ -2,10 +2,10 @@
 use Rattle.std.specs.Prelude.{ℕ, ℤ, Bool}
 use Rattle.view_rules.specs.View.{ViewValue}
 use Rattle.view_rules.specs.declared.ViewShape.{ViewShape}
-use Rattle.wall_rules.specs.declared.WallFacts.{WallFacts}
-use Rattle.wall_rules.specs.declared.FragmentNumbers.{FragmentNumbers}
-use Rattle.wall_rules.specs.Numbers.{fragment_numbers}
-use Rattle.wall_rules.specs.Notes.{silhouette_of}
+use Rattle.picture_rules.specs.declared.wall.WallFacts.{WallFacts}
+use Rattle.picture_rules.specs.declared.wall.FragmentNumbers.{FragmentNumbers}
+use Rattle.picture_rules.specs.wall.Numbers.{fragment_numbers}
+use Rattle.picture_rules.specs.wall.Notes.{silhouette_of}
 use Rattle.wall_edges.specs.declared.line.SegLine.{SegLine}
 use Rattle.wall_edges.specs.Lines.{seg_line_of}
 

@@ -1,13 +1,13 @@
-// The angles at which columns look, and the texture columns of a line: rules `wall_rules`, Columns.
+// The angles at which columns look, and the texture columns of a line: rules `picture_rules/wall`, Columns.
 
 ghost use Rattle.std.specs.Prelude.{◌≡◌, ◌<◌};
 ghost use Rattle.view_rules.specs.Tables.{angle_of_column};
 ghost use Rattle.level_rules.specs.declared.Seg.{Seg};
-ghost use Rattle.wall_rules.specs.declared.WallFacts.{WallFacts};
+ghost use Rattle.picture_rules.specs.declared.wall.WallFacts.{WallFacts};
 ghost use Rattle.view_rules.specs.declared.TheConstants.{TANGENTS};
 ghost use Rattle.view_rules.specs.Angles.{tangent_at};
-ghost use Rattle.wall_rules.specs.Scales.{seg_normal};
-ghost use Rattle.wall_rules.specs.Columns.{column_tangent, texture_column};
+ghost use Rattle.picture_rules.specs.wall.Scales.{seg_normal};
+ghost use Rattle.picture_rules.specs.wall.Columns.{column_tangent, texture_column};
 ghost use Rattle.wall_edges.specs.Lines.{seg_line_of};
 
 use crate::line::SegLine;
@@ -36,7 +36,7 @@ fn tangent(view: &View<'_>, fine: usize) -> i32
 
 /// The fine angle between a normal and the look of column `x`.
 #[inline(always)]
-#[tactic(auto, unfolding(wall_rules::specs::Columns::column_tangent))]
+#[tactic(auto, unfolding(picture_rules::specs::wall::Columns::column_tangent))]
 fn column_tangent(view: &View<'_>, normal: u32, x: u16) -> usize
     requires { x < view.now.shape.width }
     ensures value { (seg : Seg) → normal ≡ seg_normal seg → result ≡ column_tangent view.now seg x }
@@ -48,7 +48,7 @@ fn column_tangent(view: &View<'_>, normal: u32, x: u16) -> usize
 
 /// The texture column of a line at column `x`.
 #[inline(always)]
-#[tactic(auto, unfolding(wall_rules::specs::Columns::texture_column))]
+#[tactic(auto, unfolding(picture_rules::specs::wall::Columns::texture_column))]
 pub fn texture_column(view: &View<'_>, line: SegLine, x: u16) -> i32
     requires { x < view.now.shape.width }
     ensures { (facts : WallFacts) → line ≡ seg_line_of view.now facts →

@@ -1,14 +1,14 @@
-// The edges of a fragment at a column: rules `wall_rules`, Edges.
+// The edges of a fragment at a column: rules `picture_rules/wall`, Edges.
 
 ghost use Rattle.std.specs.Prelude.{◌≡◌};
 ghost use Rattle.word_rules.specs.Words.{shr_word};
 ghost use Rattle.word_rules.specs.Steps.{step_at};
-ghost use Rattle.wall_rules.specs.declared.TheConstants.{HEIGHT_SHIFT};
-ghost use Rattle.wall_rules.specs.Edges.{centre_edge, edge_first, edge_step, edge_at, edges_at, edges_first, edges_step, edges_plus};
+ghost use Rattle.picture_rules.specs.declared.wall.TheConstants.{HEIGHT_SHIFT};
+ghost use Rattle.picture_rules.specs.wall.Edges.{centre_edge, edge_first, edge_step, edge_at, edges_at, edges_first, edges_step, edges_plus};
 
 use fx_words::{fixed, minus, mul, neg_word, plus, shr_word, times};
+use picture_rules::{Edges, FragmentNumbers, HEIGHT_SHIFT};
 use view_rules::ViewShape;
-use wall_rules::{Edges, FragmentNumbers, HEIGHT_SHIFT};
 
 // The value after `k` steps.
 #[tactic(auto, unfolding(word_rules::specs::Steps::step_at))]
@@ -19,7 +19,7 @@ fn step_at(first: i32, step: i32, k: u16) -> i32
 }
 
 // The centre row.
-#[tactic(auto, unfolding(wall_rules::specs::Edges::centre_edge))]
+#[tactic(auto, unfolding(picture_rules::specs::wall::Edges::centre_edge))]
 fn centre_edge(shape: ViewShape) -> i32
     ensures { result ≡ centre_edge shape }
 {
@@ -27,7 +27,7 @@ fn centre_edge(shape: ViewShape) -> i32
 }
 
 // The edge of a shifted height at a scale.
-#[tactic(auto, unfolding(wall_rules::specs::Edges::edge_first))]
+#[tactic(auto, unfolding(picture_rules::specs::wall::Edges::edge_first))]
 fn edge_first(shape: ViewShape, w: i32, scale: i32) -> i32
     ensures { result ≡ edge_first shape w scale }
 {
@@ -35,7 +35,7 @@ fn edge_first(shape: ViewShape, w: i32, scale: i32) -> i32
 }
 
 // What that edge gains a column.
-#[tactic(auto, unfolding(wall_rules::specs::Edges::edge_step))]
+#[tactic(auto, unfolding(picture_rules::specs::wall::Edges::edge_step))]
 fn edge_step(w: i32, step: i32) -> i32
     ensures { result ≡ edge_step w step }
 {
@@ -43,7 +43,7 @@ fn edge_step(w: i32, step: i32) -> i32
 }
 
 // The edge of a height above the viewpoint at the column number `k` of a fragment.
-#[tactic(auto, unfolding(wall_rules::specs::Edges::edge_at))]
+#[tactic(auto, unfolding(picture_rules::specs::wall::Edges::edge_at))]
 fn edge_at(shape: ViewShape, height: i32, scale: i32, step: i32, k: u16) -> i32
     ensures { result ≡ edge_at shape height scale step k }
 {
@@ -52,7 +52,7 @@ fn edge_at(shape: ViewShape, height: i32, scale: i32, step: i32, k: u16) -> i32
 }
 
 /// The edges at the column number `k` of a fragment.
-#[tactic(auto, unfolding(wall_rules::specs::Edges::edges_at))]
+#[tactic(auto, unfolding(picture_rules::specs::wall::Edges::edges_at))]
 pub fn edges_at(shape: ViewShape, numbers: &FragmentNumbers, k: u16) -> Edges
     ensures { result ≡ edges_at shape numbers.now k }
 {
@@ -82,7 +82,7 @@ fn height_step(height: i32, step: i32) -> i32
 }
 
 /// The edges at the first column.
-#[tactic(auto, unfolding(wall_rules::specs::Edges::edges_first))]
+#[tactic(auto, unfolding(picture_rules::specs::wall::Edges::edges_first))]
 pub fn edges_first(shape: ViewShape, numbers: &FragmentNumbers) -> Edges
     ensures { result ≡ edges_first shape numbers.now }
 {
@@ -97,7 +97,7 @@ pub fn edges_first(shape: ViewShape, numbers: &FragmentNumbers) -> Edges
 }
 
 /// What the edges gain a column.
-#[tactic(auto, unfolding(wall_rules::specs::Edges::edges_step))]
+#[tactic(auto, unfolding(picture_rules::specs::wall::Edges::edges_step))]
 pub fn edges_step(numbers: &FragmentNumbers) -> Edges
     ensures { result ≡ edges_step numbers.now }
 {
@@ -112,7 +112,7 @@ pub fn edges_step(numbers: &FragmentNumbers) -> Edges
 }
 
 /// The sums of the edges and what they gain.
-#[tactic(auto, unfolding(wall_rules::specs::Edges::edges_plus))]
+#[tactic(auto, unfolding(picture_rules::specs::wall::Edges::edges_plus))]
 pub fn edges_plus(a: Edges, b: Edges) -> Edges
     ensures { result ≡ edges_plus a b }
 {

@@ -1,19 +1,19 @@
 // A fragment: a visible piece of a seg, and what it is drawn with.
 
 ghost use Rattle.std.specs.Prelude.{◌≡◌, ℕ, ◌-◌, ◌<◌, ◌≤◌};
-ghost use Rattle.wall_rules.specs.declared.WallFacts.{WallFacts};
-ghost use Rattle.wall_rules.specs.Edges.{edges_at};
-ghost use Rattle.wall_rules.specs.Columns.{texture_column};
+ghost use Rattle.picture_rules.specs.declared.wall.WallFacts.{WallFacts};
+ghost use Rattle.picture_rules.specs.wall.Edges.{edges_at};
+ghost use Rattle.picture_rules.specs.wall.Columns.{texture_column};
 ghost use Rattle.wall_edges.specs.Fragments.{fragment_of};
 
 use crate::columns::texture_column;
 use crate::edges::edges_at;
 use crate::line::{SegLine, seg_line_of};
 use crate::numbers::{fragment_numbers, silhouette_of};
+use picture_rules::{Edges, FragmentNumbers, WallFacts};
 use std::marker::Model;
 use view_frame::View;
 use view_rules::ViewShape;
-use wall_rules::{Edges, FragmentNumbers, WallFacts};
 
 /// The columns from a first to a last one in which a seg is seen, and what they are drawn with.
 ///

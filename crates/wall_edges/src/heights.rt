@@ -1,8 +1,8 @@
-// The heights of a fragment's sectors above the viewpoint: rules `wall_rules`, Heights.
+// The heights of a fragment's sectors above the viewpoint: rules `picture_rules/wall`, Heights.
 
 ghost use Rattle.std.specs.Prelude.{◌≡◌};
 ghost use Rattle.level_rules.specs.Levels.{is_sky};
-ghost use Rattle.wall_rules.specs.Heights.{both_sky, world_high, world_low, world_top, world_bottom};
+ghost use Rattle.picture_rules.specs.wall.Heights.{both_sky, world_high, world_low, world_top, world_bottom};
 
 use fx_words::minus;
 use level_rules::{SKY_FLAT, Surface};
@@ -14,7 +14,7 @@ pub fn is_sky(flat: u32) -> bool
     flat == SKY_FLAT
 }
 
-#[tactic(auto, unfolding(wall_rules::specs::Heights::both_sky))]
+#[tactic(auto, unfolding(picture_rules::specs::wall::Heights::both_sky))]
 fn both_sky(front: Surface, back: Surface) -> bool
     ensures { result ≡ both_sky front back }
 {
@@ -22,7 +22,7 @@ fn both_sky(front: Surface, back: Surface) -> bool
 }
 
 /// The height of the ceiling behind, 0 where there is none.
-#[tactic(auto, unfolding(wall_rules::specs::Heights::world_high))]
+#[tactic(auto, unfolding(picture_rules::specs::wall::Heights::world_high))]
 pub fn world_high(eye_z: i32, back: Option<Surface>) -> i32
     ensures { result ≡ world_high eye_z back }
 {
@@ -33,7 +33,7 @@ pub fn world_high(eye_z: i32, back: Option<Surface>) -> i32
 }
 
 /// The height of the floor behind, 0 where there is none.
-#[tactic(auto, unfolding(wall_rules::specs::Heights::world_low))]
+#[tactic(auto, unfolding(picture_rules::specs::wall::Heights::world_low))]
 pub fn world_low(eye_z: i32, back: Option<Surface>) -> i32
     ensures { result ≡ world_low eye_z back }
 {
@@ -44,7 +44,7 @@ pub fn world_low(eye_z: i32, back: Option<Surface>) -> i32
 }
 
 /// The height of the ceiling in front; where sky meets sky, that of the ceiling behind.
-#[tactic(auto, unfolding(wall_rules::specs::Heights::world_top))]
+#[tactic(auto, unfolding(picture_rules::specs::wall::Heights::world_top))]
 pub fn world_top(eye_z: i32, front: Surface, back: Option<Surface>) -> i32
     ensures { result ≡ world_top eye_z front back }
 {
@@ -61,7 +61,7 @@ pub fn world_top(eye_z: i32, front: Surface, back: Option<Surface>) -> i32
 }
 
 /// The height of the floor in front.
-#[tactic(auto, unfolding(wall_rules::specs::Heights::world_bottom))]
+#[tactic(auto, unfolding(picture_rules::specs::wall::Heights::world_bottom))]
 pub fn world_bottom(eye_z: i32, front: Surface) -> i32
     ensures { result ≡ world_bottom eye_z front }
 {

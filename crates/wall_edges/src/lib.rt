@@ -2,7 +2,7 @@
 //! column to column.
 //!
 //! A drawn fragment is the field's drawseg; `top`, `bottom`, `high` and `low` are its topfrac,
-//! bottomfrac, pixhigh and pixlow, and a mid its texturemid. Rules: `wall_rules`, Scales, Heights,
+//! bottomfrac, pixhigh and pixlow, and a mid its texturemid. Rules: `picture_rules/wall`, Scales, Heights,
 //! Silhouettes, Marks, Parts, Numbers, Edges and Columns; what a fragment keeps and how a stepper
 //! goes on in this crate's Fragments and Steppers. Proved: each number of a fragment, its edges
 //! and its texture columns are their definitions, and a stepper answers the edges of each column
@@ -23,7 +23,7 @@ mod stepper;
 
 pub use fragment::Fragment;
 pub use numbers::seg_light;
-pub use stepper::Stepper;
-pub use wall_rules::{
+pub use picture_rules::{
     Clip, Edges, FragmentNote, FragmentNumbers, Part, Silhouette, WallFacts, WallTexture,
 };
+pub use stepper::Stepper;

@@ -1,17 +1,17 @@
-// The line of a seg as a view sees it: rules `wall_rules`, Scales and Columns.
+// The line of a seg as a view sees it: rules `picture_rules/wall`, Scales and Columns.
 
 ghost use Rattle.std.specs.Prelude.{◌≡◌, ◌<◌, min, cond, nat_lt, unsigned_abs};
 ghost use Rattle.word_rules.specs.declared.TheConstants.{FINE_ANGLES};
 ghost use Rattle.word_rules.specs.Words.{mul, abs_word, signed_of, neg_word, turn_back, ang90, ang180, fine_angle};
 ghost use Rattle.view_rules.specs.Angles.{sine_at};
-ghost use Rattle.wall_rules.specs.Scales.{seg_normal, vertex_angle, vertex_dist, normal_turn};
-ghost use Rattle.wall_rules.specs.Columns.{quarter_of, texture_offset};
+ghost use Rattle.picture_rules.specs.wall.Scales.{seg_normal, vertex_angle, vertex_dist, normal_turn};
+ghost use Rattle.picture_rules.specs.wall.Columns.{quarter_of, texture_offset};
 ghost use Rattle.wall_edges.specs.Lines.{seg_line_of};
 
 use fx_words::{abs_word, fine_angle, mul, neg_word, plus, signed_of, turn, turn_back};
 use level_rules::Seg;
+use picture_rules::WallFacts;
 use view_frame::View;
-use wall_rules::WallFacts;
 use word_rules::{ANG90, ANG180};
 
 /// The line of a seg as a view sees it: the angle of its normal (BAM), its distance (map units,
@@ -24,7 +24,7 @@ pub struct SegLine {
 }
 
 /// The line of the seg of `facts`.
-#[tactic(auto, unfolding(wall_rules::specs::Scales::offset_angle, wall_rules::specs::Scales::seg_distance))]
+#[tactic(auto, unfolding(picture_rules::specs::wall::Scales::offset_angle, picture_rules::specs::wall::Scales::seg_distance))]
 pub fn seg_line_of(view: &View<'_>, facts: &WallFacts) -> SegLine
     ensures { result ≡ seg_line_of view.now facts.now }
 {
@@ -38,7 +38,7 @@ pub fn seg_line_of(view: &View<'_>, facts: &WallFacts) -> SegLine
 }
 
 /// The angle at which the seg's front looks.
-#[tactic(auto, unfolding(wall_rules::specs::Scales::seg_normal))]
+#[tactic(auto, unfolding(picture_rules::specs::wall::Scales::seg_normal))]
 pub fn seg_normal(seg: &Seg) -> u32
     ensures { result ≡ seg_normal seg.now }
 {
@@ -46,7 +46,7 @@ pub fn seg_normal(seg: &Seg) -> u32
 }
 
 /// The angle of the first vertex.
-#[tactic(auto, unfolding(wall_rules::specs::Scales::vertex_angle))]
+#[tactic(auto, unfolding(picture_rules::specs::wall::Scales::vertex_angle))]
 fn vertex_angle(view: &View<'_>, seg: &Seg) -> u32
     ensures { result ≡ vertex_angle view.now seg.now }
 {
@@ -54,7 +54,7 @@ fn vertex_angle(view: &View<'_>, seg: &Seg) -> u32
 }
 
 /// The distance of the first vertex.
-#[tactic(auto, unfolding(wall_rules::specs::Scales::vertex_dist))]
+#[tactic(auto, unfolding(picture_rules::specs::wall::Scales::vertex_dist))]
 fn vertex_dist(view: &View<'_>, seg: &Seg) -> i32
     ensures { result ≡ vertex_dist view.now seg.now }
 {
@@ -62,7 +62,7 @@ fn vertex_dist(view: &View<'_>, seg: &Seg) -> i32
 }
 
 /// How far the first vertex is from the normal, as an angle with wrap.
-#[tactic(auto, unfolding(wall_rules::specs::Scales::normal_turn))]
+#[tactic(auto, unfolding(picture_rules::specs::wall::Scales::normal_turn))]
 fn normal_turn(view: &View<'_>, seg: &Seg) -> u32
     ensures { result ≡ normal_turn view.now seg.now }
 {
@@ -96,7 +96,7 @@ fn distance_by(view: &View<'_>, off: u32, dist: i32) -> i32
 }
 
 /// A turn without its sign, at most a quarter turn.
-#[tactic(auto, unfolding(wall_rules::specs::Columns::quarter_of))]
+#[tactic(auto, unfolding(picture_rules::specs::wall::Columns::quarter_of))]
 fn quarter_of(off: u32) -> u32
     ensures { result ≡ quarter_of off }
 {
@@ -119,7 +119,7 @@ fn signed_by(off: u32, foot: i32) -> i32
 }
 
 /// The texture column at the foot, by the first vertex's distance and its turn off the normal.
-#[tactic(auto, unfolding(wall_rules::specs::Columns::foot_offset, wall_rules::specs::Columns::signed_foot, wall_rules::specs::Columns::texture_offset))]
+#[tactic(auto, unfolding(picture_rules::specs::wall::Columns::foot_offset, picture_rules::specs::wall::Columns::signed_foot, picture_rules::specs::wall::Columns::texture_offset))]
 fn texture_offset(view: &View<'_>, facts: &WallFacts, off: u32, dist: i32) -> i32
     requires off { off ≡ normal_turn view.now facts.now.seg }
     requires dist { dist ≡ vertex_dist view.now facts.now.seg }

@@ -1,22 +1,22 @@
-// Whether a fragment marks rows of its leaf's planes: rules `wall_rules`, Marks.
+// Whether a fragment marks rows of its leaf's planes: rules `picture_rules/wall`, Marks.
 
 ghost use Rattle.std.specs.Prelude.{◌≡◌};
 ghost use Rattle.walk_rules.specs.Segs.{is_closed};
-ghost use Rattle.wall_rules.specs.Marks.{floors_differ, ceilings_differ, floor_shows, ceiling_shows, floor_mark, ceiling_mark};
+ghost use Rattle.picture_rules.specs.wall.Marks.{floors_differ, ceilings_differ, floor_shows, ceiling_shows, floor_mark, ceiling_mark};
 
 use crate::heights::{is_sky, world_bottom, world_high, world_low, world_top};
 use crate::silhouettes::{shuts_bottom, shuts_top};
 use level_rules::Surface;
 
 // Nothing is seen through the line.
-#[tactic(auto, unfolding(walk_rules::specs::Segs::is_closed, wall_rules::specs::Silhouettes::shuts_bottom, wall_rules::specs::Silhouettes::shuts_top))]
+#[tactic(auto, unfolding(walk_rules::specs::Segs::is_closed, picture_rules::specs::wall::Silhouettes::shuts_bottom, picture_rules::specs::wall::Silhouettes::shuts_top))]
 fn is_closed(front: Surface, back: Surface) -> bool
     ensures { result ≡ is_closed front back }
 {
     shuts_bottom(front, back) || shuts_top(front, back)
 }
 
-#[tactic(auto, unfolding(wall_rules::specs::Marks::floors_differ, word_rules::specs::Words::same_word))]
+#[tactic(auto, unfolding(picture_rules::specs::wall::Marks::floors_differ, word_rules::specs::Words::same_word))]
 fn floors_differ(eye_z: i32, front: Surface, back: Surface) -> bool
     ensures { result ≡ floors_differ eye_z front back }
 {
@@ -25,7 +25,7 @@ fn floors_differ(eye_z: i32, front: Surface, back: Surface) -> bool
         || front.light != back.light
 }
 
-#[tactic(auto, unfolding(wall_rules::specs::Marks::ceilings_differ, word_rules::specs::Words::same_word))]
+#[tactic(auto, unfolding(picture_rules::specs::wall::Marks::ceilings_differ, word_rules::specs::Words::same_word))]
 fn ceilings_differ(eye_z: i32, front: Surface, back: Surface) -> bool
     ensures { result ≡ ceilings_differ eye_z front back }
 {
@@ -34,7 +34,7 @@ fn ceilings_differ(eye_z: i32, front: Surface, back: Surface) -> bool
         || front.light != back.light
 }
 
-#[tactic(auto, unfolding(wall_rules::specs::Marks::floor_shows))]
+#[tactic(auto, unfolding(picture_rules::specs::wall::Marks::floor_shows))]
 fn floor_shows(eye_z: i32, front: Surface, back: Option<Surface>) -> bool
     ensures { result ≡ floor_shows eye_z front back }
 {
@@ -44,7 +44,7 @@ fn floor_shows(eye_z: i32, front: Surface, back: Option<Surface>) -> bool
     }
 }
 
-#[tactic(auto, unfolding(wall_rules::specs::Marks::ceiling_shows))]
+#[tactic(auto, unfolding(picture_rules::specs::wall::Marks::ceiling_shows))]
 fn ceiling_shows(eye_z: i32, front: Surface, back: Option<Surface>) -> bool
     ensures { result ≡ ceiling_shows eye_z front back }
 {
@@ -55,7 +55,7 @@ fn ceiling_shows(eye_z: i32, front: Surface, back: Option<Surface>) -> bool
 }
 
 /// Whether rows of the floor are marked: not where it is at or above the viewpoint.
-#[tactic(auto, unfolding(wall_rules::specs::Marks::floor_mark))]
+#[tactic(auto, unfolding(picture_rules::specs::wall::Marks::floor_mark))]
 pub fn floor_mark(eye_z: i32, front: Surface, back: Option<Surface>) -> bool
     ensures { result ≡ floor_mark eye_z front back }
 {
@@ -63,7 +63,7 @@ pub fn floor_mark(eye_z: i32, front: Surface, back: Option<Surface>) -> bool
 }
 
 /// Whether rows of the ceiling are marked: at or below the viewpoint only where it is sky.
-#[tactic(auto, unfolding(wall_rules::specs::Marks::ceiling_mark))]
+#[tactic(auto, unfolding(picture_rules::specs::wall::Marks::ceiling_mark))]
 pub fn ceiling_mark(eye_z: i32, front: Surface, back: Option<Surface>) -> bool
     ensures { result ≡ ceiling_mark eye_z front back }
 {

@@ -1,10 +1,10 @@
-// The numbers of a fragment: rules `wall_rules`, Scales and Numbers.
+// The numbers of a fragment: rules `picture_rules/wall`, Scales and Numbers.
 
 ghost use Rattle.std.specs.Prelude.{◌≡◌, ◌<◌, ◌≤◌};
 ghost use Rattle.view_rules.specs.declared.TheConstants.{LIGHT_LEVELS};
-ghost use Rattle.wall_rules.specs.Scales.{seg_distance, scale_of_column, scale_step};
-ghost use Rattle.wall_rules.specs.Numbers.{seg_contrast, seg_light, numbers_by, fragment_numbers};
-ghost use Rattle.wall_rules.specs.Notes.{silhouette_of};
+ghost use Rattle.picture_rules.specs.wall.Scales.{seg_distance, scale_of_column, scale_step};
+ghost use Rattle.picture_rules.specs.wall.Numbers.{seg_contrast, seg_light, numbers_by, fragment_numbers};
+ghost use Rattle.picture_rules.specs.wall.Notes.{silhouette_of};
 
 use crate::columns::angle_of_column;
 use crate::heights::{world_bottom, world_high, world_low, world_top};
@@ -14,11 +14,11 @@ use crate::parts::{bottom_part, is_masked, middle_part, top_part};
 use crate::silhouettes::{bottom_is_constant, bottom_silhouette, top_is_constant, top_silhouette};
 use fx_words::{minus, same_word, turn};
 use level_rules::Seg;
+use picture_rules::{FragmentNumbers, SIL_BOTTOM, SIL_TOP, WallFacts};
 use view_frame::View;
-use wall_rules::{FragmentNumbers, SIL_BOTTOM, SIL_TOP, WallFacts};
 
 /// The scale of a seg, whose line is `distance` off, at column `x`.
-#[tactic(auto, unfolding(wall_rules::specs::Scales::scale_of_column))]
+#[tactic(auto, unfolding(picture_rules::specs::wall::Scales::scale_of_column))]
 fn scale_of_column(view: &View<'_>, seg: &Seg, distance: i32, x: u16) -> i32
     requires within { x < view.now.shape.width }
     requires distance { distance ≡ seg_distance view.now seg.now }
@@ -29,7 +29,7 @@ fn scale_of_column(view: &View<'_>, seg: &Seg, distance: i32, x: u16) -> i32
 }
 
 /// What the scale gains a column over `n` steps; 0 for one column.
-#[tactic(auto, unfolding(wall_rules::specs::Scales::scale_step))]
+#[tactic(auto, unfolding(picture_rules::specs::wall::Scales::scale_step))]
 fn scale_step(scale1: i32, scale2: i32, n: u16) -> i32
     ensures { result ≡ scale_step scale1 scale2 n }
 {
@@ -41,7 +41,7 @@ fn scale_step(scale1: i32, scale2: i32, n: u16) -> i32
 }
 
 // A wall along the x axis is darker, one along the y axis brighter.
-#[tactic(auto, unfolding(wall_rules::specs::Numbers::seg_contrast))]
+#[tactic(auto, unfolding(picture_rules::specs::wall::Numbers::seg_contrast))]
 fn seg_contrast(seg: &Seg) -> i8
     ensures { result ≡ seg_contrast seg.now }
 {
@@ -61,7 +61,7 @@ fn seg_contrast(seg: &Seg) -> i8
 ///
 /// The original: `lightnum` and `walllights`, `R_StoreWallRange` and `R_RenderMaskedSegRange`,
 /// r_segs.c.
-#[tactic(auto, unfolding(wall_rules::specs::Numbers::seg_light))]
+#[tactic(auto, unfolding(picture_rules::specs::wall::Numbers::seg_light))]
 pub fn seg_light(view: &View<'_>, seg: &Seg, light: i16) -> u8
     ensures value { result ≡ seg_light view.now seg.now light }
     ensures bound { result < LIGHT_LEVELS }
@@ -70,7 +70,7 @@ pub fn seg_light(view: &View<'_>, seg: &Seg, light: i16) -> u8
 }
 
 // The numbers by the two scales and the number of steps between them.
-#[tactic(auto, unfolding(wall_rules::specs::Numbers::numbers_by))]
+#[tactic(auto, unfolding(picture_rules::specs::wall::Numbers::numbers_by))]
 fn numbers_by(
     view: &View<'_>,
     facts: &WallFacts,
@@ -105,7 +105,7 @@ fn numbers_by(
 }
 
 /// The numbers of the fragment from column `first` to column `last`, whose line is `distance` off.
-#[tactic(auto, unfolding(wall_rules::specs::Numbers::fragment_numbers))]
+#[tactic(auto, unfolding(picture_rules::specs::wall::Numbers::fragment_numbers))]
 pub fn fragment_numbers(
     view: &View<'_>,
     facts: &WallFacts,
@@ -124,7 +124,7 @@ pub fn fragment_numbers(
 }
 
 /// The two silhouettes as bits.
-#[tactic(auto, unfolding(wall_rules::specs::Notes::silhouette_of))]
+#[tactic(auto, unfolding(picture_rules::specs::wall::Notes::silhouette_of))]
 pub fn silhouette_of(numbers: &FragmentNumbers) -> u8
     ensures { result ≡ silhouette_of numbers.now }
 {

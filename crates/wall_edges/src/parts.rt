@@ -1,13 +1,13 @@
-// The textures of a fragment, and their texel rows at the view's centre row: rules `wall_rules`,
+// The textures of a fragment, and their texel rows at the view's centre row: rules `picture_rules/wall`,
 // Parts.
 
 ghost use Rattle.std.specs.Prelude.{◌≡◌};
-ghost use Rattle.wall_rules.specs.Parts.{no_part, top_is_unpegged, bottom_is_unpegged, mid_from, middle_mid, middle_part, top_mid, top_part, bottom_mid, bottom_part, is_masked};
+ghost use Rattle.picture_rules.specs.wall.Parts.{no_part, top_is_unpegged, bottom_is_unpegged, mid_from, middle_mid, middle_part, top_mid, top_part, bottom_mid, bottom_part, is_masked};
 
 use crate::heights::{world_bottom, world_high, world_low, world_top};
 use fx_words::{fixed, minus, plus};
 use level_rules::{BOTTOM_UNPEGGED, Seg, Surface, TOP_UNPEGGED};
-use wall_rules::{Part, WallFacts, WallTexture};
+use picture_rules::{Part, WallFacts, WallTexture};
 
 fn no_part() -> Part
     ensures { result ≡ no_part }
@@ -15,14 +15,14 @@ fn no_part() -> Part
     Part { number: 0, mid: 0 }
 }
 
-#[tactic(auto, unfolding(wall_rules::specs::Parts::top_is_unpegged))]
+#[tactic(auto, unfolding(picture_rules::specs::wall::Parts::top_is_unpegged))]
 fn top_is_unpegged(seg: &Seg) -> bool
     ensures { result ≡ top_is_unpegged seg.now }
 {
     seg.flags & TOP_UNPEGGED != 0
 }
 
-#[tactic(auto, unfolding(wall_rules::specs::Parts::bottom_is_unpegged))]
+#[tactic(auto, unfolding(picture_rules::specs::wall::Parts::bottom_is_unpegged))]
 fn bottom_is_unpegged(seg: &Seg) -> bool
     ensures { result ≡ bottom_is_unpegged seg.now }
 {
@@ -30,14 +30,14 @@ fn bottom_is_unpegged(seg: &Seg) -> bool
 }
 
 // The mid of a texture that stands with its bottom at height `z`.
-#[tactic(auto, unfolding(wall_rules::specs::Parts::mid_from))]
+#[tactic(auto, unfolding(picture_rules::specs::wall::Parts::mid_from))]
 fn mid_from(eye_z: i32, z: i32, texture: WallTexture) -> i32
     ensures { result ≡ mid_from eye_z z texture }
 {
     minus(plus(z, fixed(texture.height as i32)), eye_z)
 }
 
-#[tactic(auto, unfolding(wall_rules::specs::Parts::middle_mid))]
+#[tactic(auto, unfolding(picture_rules::specs::wall::Parts::middle_mid))]
 fn middle_mid(eye_z: i32, facts: &WallFacts) -> i32
     ensures { result ≡ middle_mid eye_z facts.now }
 {
@@ -49,7 +49,7 @@ fn middle_mid(eye_z: i32, facts: &WallFacts) -> i32
 }
 
 /// The wall of a line with one side.
-#[tactic(auto, unfolding(wall_rules::specs::Parts::middle_part))]
+#[tactic(auto, unfolding(picture_rules::specs::wall::Parts::middle_part))]
 pub fn middle_part(eye_z: i32, facts: &WallFacts, back: Option<Surface>) -> Part
     ensures { result ≡ middle_part eye_z facts.now back }
 {
@@ -62,7 +62,7 @@ pub fn middle_part(eye_z: i32, facts: &WallFacts, back: Option<Surface>) -> Part
     }
 }
 
-#[tactic(auto, unfolding(wall_rules::specs::Parts::top_mid))]
+#[tactic(auto, unfolding(picture_rules::specs::wall::Parts::top_mid))]
 fn top_mid(eye_z: i32, facts: &WallFacts, back: Surface) -> i32
     ensures { result ≡ top_mid eye_z facts.now back }
 {
@@ -74,7 +74,7 @@ fn top_mid(eye_z: i32, facts: &WallFacts, back: Surface) -> i32
 }
 
 /// The upper wall, where the ceiling behind is lower.
-#[tactic(auto, unfolding(wall_rules::specs::Parts::top_part))]
+#[tactic(auto, unfolding(picture_rules::specs::wall::Parts::top_part))]
 pub fn top_part(eye_z: i32, facts: &WallFacts, back: Option<Surface>) -> Part
     ensures { result ≡ top_part eye_z facts.now back }
 {
@@ -93,7 +93,7 @@ pub fn top_part(eye_z: i32, facts: &WallFacts, back: Option<Surface>) -> Part
     }
 }
 
-#[tactic(auto, unfolding(wall_rules::specs::Parts::bottom_mid))]
+#[tactic(auto, unfolding(picture_rules::specs::wall::Parts::bottom_mid))]
 fn bottom_mid(eye_z: i32, facts: &WallFacts) -> i32
     ensures { result ≡ bottom_mid eye_z facts.now }
 {
@@ -105,7 +105,7 @@ fn bottom_mid(eye_z: i32, facts: &WallFacts) -> i32
 }
 
 /// The lower wall, where the floor behind is higher.
-#[tactic(auto, unfolding(wall_rules::specs::Parts::bottom_part))]
+#[tactic(auto, unfolding(picture_rules::specs::wall::Parts::bottom_part))]
 pub fn bottom_part(eye_z: i32, facts: &WallFacts, back: Option<Surface>) -> Part
     ensures { result ≡ bottom_part eye_z facts.now back }
 {
@@ -125,7 +125,7 @@ pub fn bottom_part(eye_z: i32, facts: &WallFacts, back: Option<Surface>) -> Part
 }
 
 /// Whether the middle texture is seen through.
-#[tactic(auto, unfolding(wall_rules::specs::Parts::is_masked))]
+#[tactic(auto, unfolding(picture_rules::specs::wall::Parts::is_masked))]
 pub fn is_masked(facts: &WallFacts, back: Option<Surface>) -> bool
     ensures { result ≡ is_masked facts.now back }
 {

@@ -1,10 +1,10 @@
-// Where a fragment clips what is behind it: rules `wall_rules`, Silhouettes.
+// Where a fragment clips what is behind it: rules `picture_rules/wall`, Silhouettes.
 
 ghost use Rattle.std.specs.Prelude.{◌≡◌};
-ghost use Rattle.wall_rules.specs.Silhouettes.{silhouette_at, no_silhouette, shuts_bottom, shuts_top, bottom_by_step, top_by_step, with_masked, bottom_silhouette, top_silhouette, bottom_is_constant, top_is_constant};
+ghost use Rattle.picture_rules.specs.wall.Silhouettes.{silhouette_at, no_silhouette, shuts_bottom, shuts_top, bottom_by_step, top_by_step, with_masked, bottom_silhouette, top_silhouette, bottom_is_constant, top_is_constant};
 
 use level_rules::Surface;
-use wall_rules::Silhouette;
+use picture_rules::Silhouette;
 
 // Nothing is clipped.
 fn no_silhouette() -> Silhouette
@@ -27,7 +27,7 @@ fn silhouette_at(height: i32) -> Silhouette
 }
 
 /// Whether the ceiling behind is not above the floor in front.
-#[tactic(auto, unfolding(wall_rules::specs::Silhouettes::shuts_bottom))]
+#[tactic(auto, unfolding(picture_rules::specs::wall::Silhouettes::shuts_bottom))]
 pub fn shuts_bottom(front: Surface, back: Surface) -> bool
     ensures { result ≡ shuts_bottom front back }
 {
@@ -35,14 +35,14 @@ pub fn shuts_bottom(front: Surface, back: Surface) -> bool
 }
 
 /// Whether the floor behind is not below the ceiling in front.
-#[tactic(auto, unfolding(wall_rules::specs::Silhouettes::shuts_top))]
+#[tactic(auto, unfolding(picture_rules::specs::wall::Silhouettes::shuts_top))]
 pub fn shuts_top(front: Surface, back: Surface) -> bool
     ensures { result ≡ shuts_top front back }
 {
     front.ceiling <= back.floor
 }
 
-#[tactic(auto, unfolding(wall_rules::specs::Silhouettes::bottom_by_step))]
+#[tactic(auto, unfolding(picture_rules::specs::wall::Silhouettes::bottom_by_step))]
 fn bottom_by_step(eye_z: i32, front: Surface, back: Surface) -> Silhouette
     ensures { result ≡ bottom_by_step eye_z front back }
 {
@@ -55,7 +55,7 @@ fn bottom_by_step(eye_z: i32, front: Surface, back: Surface) -> Silhouette
     }
 }
 
-#[tactic(auto, unfolding(wall_rules::specs::Silhouettes::top_by_step))]
+#[tactic(auto, unfolding(picture_rules::specs::wall::Silhouettes::top_by_step))]
 fn top_by_step(eye_z: i32, front: Surface, back: Surface) -> Silhouette
     ensures { result ≡ top_by_step eye_z front back }
 {
@@ -69,7 +69,7 @@ fn top_by_step(eye_z: i32, front: Surface, back: Surface) -> Silhouette
 }
 
 // A masked fragment has the silhouette in any case.
-#[tactic(auto, unfolding(wall_rules::specs::Silhouettes::with_masked))]
+#[tactic(auto, unfolding(picture_rules::specs::wall::Silhouettes::with_masked))]
 fn with_masked(masked: bool, height: i32, s: Silhouette) -> Silhouette
     ensures { result ≡ with_masked masked height s }
 {
@@ -83,7 +83,7 @@ fn with_masked(masked: bool, height: i32, s: Silhouette) -> Silhouette
 }
 
 /// How the fragment clips from below.
-#[tactic(auto, unfolding(wall_rules::specs::Silhouettes::bottom_silhouette))]
+#[tactic(auto, unfolding(picture_rules::specs::wall::Silhouettes::bottom_silhouette))]
 pub fn bottom_silhouette(
     eye_z: i32,
     front: Surface,
@@ -105,7 +105,7 @@ pub fn bottom_silhouette(
 }
 
 /// How the fragment clips from above.
-#[tactic(auto, unfolding(wall_rules::specs::Silhouettes::top_silhouette))]
+#[tactic(auto, unfolding(picture_rules::specs::wall::Silhouettes::top_silhouette))]
 pub fn top_silhouette(eye_z: i32, front: Surface, back: Option<Surface>, masked: bool) -> Silhouette
     ensures { result ≡ top_silhouette eye_z front back masked }
 {
@@ -122,7 +122,7 @@ pub fn top_silhouette(eye_z: i32, front: Surface, back: Option<Surface>, masked:
 }
 
 /// Whether the clip from below is the same in each column.
-#[tactic(auto, unfolding(wall_rules::specs::Silhouettes::bottom_is_constant))]
+#[tactic(auto, unfolding(picture_rules::specs::wall::Silhouettes::bottom_is_constant))]
 pub fn bottom_is_constant(front: Surface, back: Option<Surface>) -> bool
     ensures { result ≡ bottom_is_constant front back }
 {
@@ -133,7 +133,7 @@ pub fn bottom_is_constant(front: Surface, back: Option<Surface>) -> bool
 }
 
 /// Whether the clip from above is the same in each column.
-#[tactic(auto, unfolding(wall_rules::specs::Silhouettes::top_is_constant))]
+#[tactic(auto, unfolding(picture_rules::specs::wall::Silhouettes::top_is_constant))]
 pub fn top_is_constant(front: Surface, back: Option<Surface>) -> bool
     ensures { result ≡ top_is_constant front back }
 {

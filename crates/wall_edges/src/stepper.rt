@@ -1,13 +1,13 @@
 // The edges of a fragment, stepped from column to column.
 
 ghost use Rattle.std.specs.Prelude.{◌≡◌, ℕ, ◌+◌, IfSome, IfNone};
-ghost use Rattle.wall_rules.specs.Edges.{edges_at};
+ghost use Rattle.picture_rules.specs.wall.Edges.{edges_at};
 ghost use Rattle.wall_edges.specs.Fragments.{FragmentValue};
 ghost use Rattle.wall_edges.specs.Steppers.{next_edges, next_stepper, IsAt};
 
 use crate::edges::{edges_first, edges_plus, edges_step};
 use crate::fragment::Fragment;
-use wall_rules::Edges;
+use picture_rules::Edges;
 
 /// The columns of a fragment that are still to come, from left to right.
 ///

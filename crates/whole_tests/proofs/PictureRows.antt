@@ -3,7 +3,7 @@ use Rattle.std.specs.Prelude.{◌≡◌, pos, [], ◌∷◌, Some, true, false, 
 use Rattle.view_rules.specs.Shape.{shape_of_size}
 use Rattle.view_rules.specs.Rows.{view_unfolded}
 use Rattle.view_rules.specs.Made.{row_view}
-use Rattle.wall_rules.specs.Clips.{open_clip, ceiling_rows, middle_rows, floor_rows}
+use Rattle.picture_rules.specs.wall.Clips.{open_clip, ceiling_rows, middle_rows, floor_rows}
 use Rattle.pixel_rules.specs.Dots.{colour_at, last_dot}
 use Rattle.picture_rules.specs.Picture.{is_in_window}
 use Rattle.picture_rules.specs.Rows.{picture_unfolded, row_scene, east_wall, east_column, sized_view, lit_view, smaller_edges}

@@ -1,8 +1,8 @@
 -- Rows of the planes of a view, by evaluation.
 use Rattle.std.specs.Prelude.{◌≡◌, [], ◌∷◌, map, length, Some, refl}
-use Rattle.plane_rules.specs.Planes.{check, column}
-use Rattle.plane_rules.specs.Built.{planes_of}
-use Rattle.plane_rules.specs.Rows.{built_unfolded, sky_room, sky_leaf, rows_at_four, sky_wall, sky_wall_event}
+use Rattle.picture_rules.specs.plane.Planes.{check, column}
+use Rattle.picture_rules.specs.plane.Built.{planes_of}
+use Rattle.picture_rules.specs.plane.Rows.{built_unfolded, sky_room, sky_leaf, rows_at_four, sky_wall, sky_wall_event}
 
 -- floor and ceiling have one plane
 pub one_sky_row : length (planes_of (sky_leaf ∷ sky_wall_event ∷ [])) ≡ 1

@@ -4,12 +4,12 @@ use Rattle.word_rules.specs.Words.{minus_one}
 use Rattle.view_rules.specs.Made.{row_view}
 use Rattle.pixel_rules.specs.Dots.{colour_at}
 use Rattle.pixel_rules.specs.Rows.{row_art}
-use Rattle.sprite_rules.specs.Projection.{rotation}
-use Rattle.sprite_rules.specs.Order.{draw_order}
-use Rattle.sprite_rules.specs.Drawsegs.{is_behind}
-use Rattle.sprite_rules.specs.Clips.{sprite_bottom, sprite_top}
-use Rattle.sprite_rules.specs.Weapons.{weapon_first, weapon_last, weapon_column, weapon_dots}
-use Rattle.sprite_rules.specs.Rows.{sprites_unfolded, weapon_at, row_thing, entry_scaled, front_seg, entry_between}
+use Rattle.picture_rules.specs.sprite.Projection.{rotation}
+use Rattle.picture_rules.specs.sprite.Order.{draw_order}
+use Rattle.picture_rules.specs.sprite.Drawsegs.{is_behind}
+use Rattle.picture_rules.specs.sprite.Clips.{sprite_bottom, sprite_top}
+use Rattle.picture_rules.specs.sprite.Weapons.{weapon_first, weapon_last, weapon_column, weapon_dots}
+use Rattle.picture_rules.specs.sprite.Rows.{sprites_unfolded, weapon_at, row_thing, entry_scaled, front_seg, entry_between}
 
 pub weapon_columns_row : weapon_first row_view (weapon_at (pos 10485760)) ≡ pos 144
 unfolding sprites_unfolded weapon_at

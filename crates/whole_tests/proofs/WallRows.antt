@@ -2,10 +2,10 @@
 use Rattle.std.specs.Prelude.{◌≡◌, pos, ◌-◌, refl}
 use Rattle.view_rules.specs.Made.{row_view}
 use Rattle.view_rules.specs.Lights.{scale_map}
-use Rattle.wall_rules.specs.Scales.{scale_of_column}
-use Rattle.wall_rules.specs.Columns.{texture_column}
-use Rattle.wall_rules.specs.Clips.{open_clip, ceiling_rows, floor_rows, middle_rows, shut_clip, clip_after}
-use Rattle.wall_rules.specs.Rows.{east_seg, wall_room, east_facts, walls_unfolded, east_numbers, east_edges}
+use Rattle.picture_rules.specs.wall.Scales.{scale_of_column}
+use Rattle.picture_rules.specs.wall.Columns.{texture_column}
+use Rattle.picture_rules.specs.wall.Clips.{open_clip, ceiling_rows, floor_rows, middle_rows, shut_clip, clip_after}
+use Rattle.picture_rules.specs.wall.Rows.{east_seg, wall_room, east_facts, walls_unfolded, east_numbers, east_edges}
 
 -- in the first and in the last column of its fragment it has one scale
 pub first_scale_row : scale_of_column row_view east_seg 1 ≡ pos 40928

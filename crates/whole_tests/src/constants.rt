@@ -3,16 +3,15 @@
 use art_rules::{MAX_COMPOSITE, MAX_TEXTURES};
 use csv_tables::MAX_TABLE_BYTES;
 use frame_writer::{FRAME_BYTES, PALETTE_BYTES};
-use level_rules::{BOTTOM_UNPEGGED, MAX_DEPTH, SKY_FLAT, TOP_UNPEGGED, TWO_SIDED};
+use level_rules::{BOTTOM_UNPEGGED, MAX_DEPTH, MAX_RECORDS, SKY_FLAT, TOP_UNPEGGED, TWO_SIDED};
 use lump_rules::MAX_LUMPS;
-use map_rules::MAX_RECORDS;
+use picture_rules::{
+    MAX_OPENINGS, MAX_VISPLANES, MAX_VISSPRITES, MOST_OPENINGS, MOST_VISPLANES, SIL_BOTTOM, SIL_TOP,
+};
 use pixel_rules::FRAME_CELLS;
-use plane_rules::{MAX_VISPLANES, MOST_VISPLANES};
 use scene_rules::COLORMAP_SIZE;
-use sprite_rules::MAX_VISSPRITES;
 use view_rules::{FRAME_HEIGHT, FRAME_WIDTH, MAX_SIZE, MIN_SIZE, TABLES_BYTES};
 use walk_rules::MAX_DRAWSEGS;
-use wall_rules::{MAX_OPENINGS, MOST_OPENINGS, SIL_BOTTOM, SIL_TOP};
 use zone_rules::{HEADER_SIZE, MAX_ZONE_SIZE, MIN_FRAGMENT, MIN_ZONE_SIZE};
 
 #[test]

@@ -2,8 +2,8 @@
 // a level beside it. A sum is the FNV-1a of the frame's 64,000 bytes.
 ghost use Rattle.std.specs.Prelude.{◌≡◌, ◌≤◌, ◌<◌, ◌^◌, IfOk, length};
 ghost use Rattle.view_rules.specs.declared.TheConstants.{MIN_SIZE, MAX_SIZE};
-ghost use Rattle.plane_rules.specs.declared.TheConstants.{MOST_VISPLANES};
-ghost use Rattle.wall_rules.specs.declared.TheConstants.{MOST_OPENINGS};
+ghost use Rattle.picture_rules.specs.declared.plane.TheConstants.{MOST_VISPLANES};
+ghost use Rattle.picture_rules.specs.declared.wall.TheConstants.{MOST_OPENINGS};
 ghost use Rattle.frame_core.specs.Views.{CanDrawView};
 ghost use Rattle.whole_tests.specs.declared.view_tests.TheConstants.{COMPOSITE_SLOTS};
 

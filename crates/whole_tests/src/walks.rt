@@ -148,7 +148,7 @@ fn lumps(alloc: Global) -> Result<[Vec<u8>; 8], AllocError> {
 }
 
 // The level of eight lumps.
-#[tactic(auto, unfolding(map_lumps::specs::Builders::empty_builder, map_lumps::specs::Builders::is_added, map_lumps::specs::Builders::with_lump, map_rules::specs::Lumps::lump_no))]
+#[tactic(auto, unfolding(map_lumps::specs::Builders::empty_builder, map_lumps::specs::Builders::is_added, map_lumps::specs::Builders::with_lump, level_rules::specs::maps::Lumps::lump_no))]
 fn level(alloc: Global, lumps: &[Vec<u8>; 8]) -> Result<Level, MapFault> {
     let mut builder = LevelBuilder::new();
     builder.add(alloc, MapLump::Things, &lumps[0])?;

@@ -1,7 +1,7 @@
 use Rattle.std.proofs.Common.{subst, arith}
 use Rattle.level_rules.specs.Levels.{no_seg}
-use Rattle.map_rules.specs.Levels.{LevelValue}
-use Rattle.map_rules.specs.Sound.{IsSound}
+use Rattle.level_rules.specs.maps.Levels.{LevelValue}
+use Rattle.level_rules.specs.maps.Sound.{IsSound}
 use Rattle.frame_core.proofs.bench.first_sector.Goals as goal
 
 pub returns-in-None-clause-there : goal.returns-in-None-clause-there

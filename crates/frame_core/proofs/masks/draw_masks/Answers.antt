@@ -1,7 +1,7 @@
 -- What the masked pass asks is there, and what it paints is what the picture has.
 use Rattle.std.proofs.Common.{◌≤◌, arith, refl, subst}
 use Rattle.view_rules.specs.declared.TheConstants.{FRAME_WIDTH, FRAME_HEIGHT}
-use Rattle.map_rules.specs.Sound.{IsSound}
+use Rattle.level_rules.specs.maps.Sound.{IsSound}
 use Rattle.frame_core.proofs.MaskLemmas.{masks-above, parts-listed, parts-noted, parts-same, sprites-below, sprites-within, walls-built}
 use Rattle.frame_core.proofs.PaintLemmas.{paints-stop}
 use Rattle.frame_core.proofs.masks.draw_masks.Goals as goal

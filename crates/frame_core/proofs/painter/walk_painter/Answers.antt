@@ -1,6 +1,6 @@
 -- The whole walk, of a painter that no event was given.
 use Rattle.std.proofs.Common.{length, sym, ap, ◌∙◌}
-use Rattle.map_rules.specs.Levels.{LevelValue}
+use Rattle.level_rules.specs.maps.Levels.{LevelValue}
 use Rattle.frame_core.specs.Painters.{PainterNames}
 use Rattle.frame_core.proofs.PainterLemmas.{bench-walked, fault-over, lists-walked, painter-viewed}
 use Rattle.frame_core.proofs.SceneLemmas.{surface_counts}

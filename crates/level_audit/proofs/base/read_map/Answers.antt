@@ -2,7 +2,7 @@ use Rattle.std.proofs.Common.{ℕ, Ok, ap, inl, inr}
 use Rattle.outside.specs.Faults.{and_then}
 use Rattle.lump_cache.proofs.CallLemmas.{reads_as, reads_stop_first, reads_then}
 use Rattle.lump_cache.proofs.SizeLemmas.{either_beside}
-use Rattle.map_rules.specs.Levels.{LevelValue}
+use Rattle.level_rules.specs.maps.Levels.{LevelValue}
 use Rattle.scene_rules.specs.Scenes.{base_over}
 use Rattle.sound_scene.specs.declared.parts.ReadBase.{ReadBase}
 use Rattle.level_audit.proofs.BaseLemmas.{base_over-stop, base_over-more, map_beside, then_lists, with_colours}

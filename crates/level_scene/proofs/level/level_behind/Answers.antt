@@ -1,7 +1,7 @@
 use Rattle.std.proofs.Common.{refl}
 use Rattle.outside.proofs.ThroughLemmas.{if_ok}
-use Rattle.map_rules.specs.Levels.{level_of}
-use Rattle.map_rules.specs.Lumps.{lump_no}
+use Rattle.level_rules.specs.maps.Levels.{level_of}
+use Rattle.level_rules.specs.maps.Lumps.{lump_no}
 use Rattle.scene_rules.specs.Scenes.{map_bytes}
 use Rattle.lump_cache.proofs.CallLemmas.{reads_stop_first}
 use Rattle.level_scene.proofs.LevelLemmas.{level_of-stop, finish_done}

@@ -1,7 +1,7 @@
 use Rattle.std.proofs.Common.{◌≡◌, ◌-◌, ap, ◌∙◌, rules}
 use Rattle.level_rules.specs.declared.Child.{Child}
 use Rattle.level_rules.specs.Levels.{child_on}
-use Rattle.map_rules.specs.Trees.{is_within}
+use Rattle.level_rules.specs.maps.Trees.{is_within}
 use Rattle.view_rules.specs.Sides.{side_of}
 use Rattle.walk_rules.specs.Boxes.{partition_of}
 use Rattle.scene_rules.specs.Places.{leaf_from}

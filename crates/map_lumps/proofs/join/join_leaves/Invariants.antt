@@ -1,5 +1,5 @@
 use Rattle.std.proofs.Common.{◌≡◌, map, take}
-use Rattle.map_rules.specs.Levels.{leaf_of}
+use Rattle.level_rules.specs.maps.Levels.{leaf_of}
 use Rattle.map_lumps.proofs.join.join_leaves.Given as goal
 
 abbrev pub invariant-loop-leaf : goal.invariant-loop-leaf

@@ -1,5 +1,5 @@
 use Rattle.std.proofs.Common.{◌≡◌, map, take}
-use Rattle.map_rules.specs.Levels.{seg_of}
+use Rattle.level_rules.specs.maps.Levels.{seg_of}
 use Rattle.map_lumps.proofs.join.join_segs.Given as goal
 
 abbrev pub invariant-loop-seg : goal.invariant-loop-seg

@@ -1,6 +1,6 @@
 use Rattle.std.proofs.Common.{◌≡◌, drop}
-use Rattle.map_rules.specs.Firsts.{first_refusal}
-use Rattle.map_rules.specs.Ranges.{line_refusal}
+use Rattle.level_rules.specs.maps.Firsts.{first_refusal}
+use Rattle.level_rules.specs.maps.Ranges.{line_refusal}
 use Rattle.map_lumps.proofs.ranges.first_line_refusal.Given as goal
 
 -- what is refused of the rest is refused of all

@@ -1,6 +1,6 @@
 use Rattle.std.proofs.Common.{◌≡◌}
 use Rattle.word_rules.specs.Listed.{listed}
-use Rattle.map_rules.specs.Fields.{record_at}
+use Rattle.level_rules.specs.maps.Fields.{record_at}
 use Rattle.map_lumps.proofs.records.read_records.Given as goal
 
 abbrev pub invariant-loop-n : goal.invariant-loop-n

@@ -1,6 +1,6 @@
 use Rattle.std.proofs.Common.{◌+◌, ◌-◌, arith, rules}
 use Rattle.level_rules.specs.declared.TheConstants.{MAX_DEPTH}
-use Rattle.map_rules.proofs.VisitLemmas.{visits_refusal-child_1}
+use Rattle.level_rules.proofs.maps.VisitLemmas.{visits_refusal-child_1}
 use Rattle.map_lumps.proofs.tree.+visit.Goals as goal
 
 pub returns-in_default-visit-clause-refusal : goal.returns-in_default-visit-clause-refusal

@@ -4,8 +4,8 @@ use Rattle.std.specs.Prelude.{◌&&◌, ◌||◌, int_lt, ◌==◌}
 use Rattle.std.proofs.lemmas.Int.{to_z-of_z}
 use Rattle.word_rules.specs.Words.{greater_word, lesser_word}
 use Rattle.view_rules.specs.Sides.{side_of}
-use Rattle.sprite_rules.specs.declared.SpriteEntry.{SpriteEntry}
-use Rattle.sprite_rules.specs.Drawsegs.{Drawseg, is_behind, is_in_front, seg_line}
+use Rattle.picture_rules.specs.declared.sprite.SpriteEntry.{SpriteEntry}
+use Rattle.picture_rules.specs.sprite.Drawsegs.{Drawseg, is_behind, is_in_front, seg_line}
 use Rattle.masked_draw.proofs.clips.is_behind.Goals as goal
 
 -- the test in its three cases, by the greater scale, the lesser one and the side

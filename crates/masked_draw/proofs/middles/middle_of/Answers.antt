@@ -10,9 +10,9 @@ use Rattle.view_rules.specs.declared.Eye.{Eye}
 use Rattle.level_rules.specs.declared.Sector.{Sector}
 use Rattle.level_rules.specs.declared.Seg.{Seg}
 use Rattle.level_rules.specs.declared.Surface.{Surface}
-use Rattle.wall_rules.specs.Numbers.{seg_light}
-use Rattle.wall_rules.specs.declared.FragmentNote.{FragmentNote}
-use Rattle.sprite_rules.specs.Middles.{masked_mid}
+use Rattle.picture_rules.specs.wall.Numbers.{seg_light}
+use Rattle.picture_rules.specs.declared.wall.FragmentNote.{FragmentNote}
+use Rattle.picture_rules.specs.sprite.Middles.{masked_mid}
 use Rattle.art_rules.specs.Textures.{texture_at}
 use Rattle.texture_build.specs.Views.{TexturesView}
 use Rattle.masked_draw.specs.Lists.{MaskedLists, heights_of, middle_by, no_sector, note_mid, note_seg, noted_drawseg, sector_by, side_by}

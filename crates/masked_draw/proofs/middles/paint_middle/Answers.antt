@@ -2,9 +2,9 @@
 use Rattle.std.proofs.Common.{◌≡◌, ℕ, ◌+◌, ◌≤◌, Bool, List, ◌++◌, Some, refl, sym, ap, ◌∙◌, arith}
 use Rattle.pixel_rules.specs.Art.{Art}
 use Rattle.view_rules.specs.View.{ViewValue}
-use Rattle.wall_rules.specs.declared.FragmentNote.{FragmentNote}
-use Rattle.sprite_rules.specs.Drawsegs.{Drawseg}
-use Rattle.sprite_rules.specs.Middles.{middle_column}
+use Rattle.picture_rules.specs.declared.wall.FragmentNote.{FragmentNote}
+use Rattle.picture_rules.specs.sprite.Drawsegs.{Drawseg}
+use Rattle.picture_rules.specs.sprite.Middles.{middle_column}
 use Rattle.masked_draw.specs.Marks.{MarksBy, if_unmarked, is_between, mark_of, unmarked_dots}
 use Rattle.masked_draw.specs.Scenes.{scene_drawseg}
 use Rattle.masked_draw.proofs.MarkLemmas.{between, marks-here, marks-more, marks-start, unmarked-more, unmarked-plain, unmarked-start}

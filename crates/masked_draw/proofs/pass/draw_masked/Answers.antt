@@ -1,5 +1,5 @@
 -- The sprites, and then the columns that are left.
-use Rattle.sprite_rules.specs.Order.{draw_order}
+use Rattle.picture_rules.specs.sprite.Order.{draw_order}
 use Rattle.masked_draw.proofs.PassLemmas.{pass-end}
 use Rattle.masked_draw.proofs.SceneLemmas.{can_pass-later}
 use Rattle.masked_draw.proofs.pass.draw_masked.Goals as goal

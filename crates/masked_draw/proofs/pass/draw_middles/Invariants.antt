@@ -1,6 +1,6 @@
 -- The fragments from k on are done.
 use Rattle.std.proofs.Common.{◌≡◌, length, List}
-use Rattle.sprite_rules.specs.declared.SpriteEntry.{SpriteEntry}
+use Rattle.picture_rules.specs.declared.sprite.SpriteEntry.{SpriteEntry}
 use Rattle.masked_draw.specs.Marks.{MarkedTo}
 use Rattle.masked_draw.specs.Scenes.{CanPass, scene_drawseg, state}
 use Rattle.masked_draw.proofs.LoopLemmas.{LeavesMiddles}

@@ -3,8 +3,8 @@ use Rattle.std.proofs.Common.{◌≡◌, ◌+◌, ◌^◌, ◌<◌, ◌≤◌, �
 use Rattle.std.specs.Prelude.{None, int_lt, nat_le, nat_lt}
 use Rattle.std.proofs.lemmas.Bool.{and_parts, leb-true, ltb-true}
 use Rattle.std.proofs.lemmas.Int.{ints, to_z-of_z}
-use Rattle.sprite_rules.specs.declared.SpriteEntry.{SpriteEntry}
-use Rattle.sprite_rules.specs.Drawsegs.{entry_has}
+use Rattle.picture_rules.specs.declared.sprite.SpriteEntry.{SpriteEntry}
+use Rattle.picture_rules.specs.sprite.Drawsegs.{entry_has}
 use Rattle.masked_draw.specs.Clipped.{row_in}
 use Rattle.masked_draw.proofs.EntryLemmas.{entry-between, entry-numbers, entry-within}
 use Rattle.masked_draw.proofs.SpriteLemmas.{has-column, sprite-none, sprite-then}

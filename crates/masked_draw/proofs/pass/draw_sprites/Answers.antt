@@ -2,9 +2,9 @@
 use Rattle.std.proofs.Common.{◌≡◌, ℕ, List, length, refl, sym, ap, ◌∙◌, subst}
 use Rattle.std.proofs.lemmas.List.{length_push, map-id}
 use Rattle.std.proofs.lemmas.Iterator.Consumers.{YieldsList-end, YieldsList-from_first, YieldsList-turn}
-use Rattle.sprite_rules.specs.declared.SpriteEntry.{SpriteEntry}
-use Rattle.sprite_rules.specs.Order.{draw_order}
-use Rattle.sprite_rules.specs.Middles.{sprites_from}
+use Rattle.picture_rules.specs.declared.sprite.SpriteEntry.{SpriteEntry}
+use Rattle.picture_rules.specs.sprite.Order.{draw_order}
+use Rattle.picture_rules.specs.sprite.Middles.{sprites_from}
 use Rattle.masked_draw.specs.Marks.{MarkedTo}
 use Rattle.masked_draw.specs.Scenes.{scene_drawseg, scene_drawsegs}
 use Rattle.masked_draw.proofs.PassLemmas.{marked-first, sprite-get, sprite-lies, sprite-lump, sprites-more, sprites-start, sprites-stop}

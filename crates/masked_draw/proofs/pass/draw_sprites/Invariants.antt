@@ -1,8 +1,8 @@
 -- The sprites that the loop came to are drawn.
 use Rattle.std.proofs.Common.{◌≡◌, length}
 use Rattle.std.specs.Prelude.{Ok}
-use Rattle.sprite_rules.specs.Order.{draw_order}
-use Rattle.sprite_rules.specs.Middles.{sprites_from}
+use Rattle.picture_rules.specs.sprite.Order.{draw_order}
+use Rattle.picture_rules.specs.sprite.Middles.{sprites_from}
 use Rattle.masked_draw.specs.Marks.{MarkedTo}
 use Rattle.masked_draw.specs.Ready.{IsNotedMiddle, IsSpriteLump}
 use Rattle.masked_draw.specs.Scenes.{CanPass, PaintsDots, scene_drawseg, scene_drawsegs, scene_lists, state}

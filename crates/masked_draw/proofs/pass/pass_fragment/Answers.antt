@@ -2,11 +2,11 @@
 use Rattle.std.proofs.Common.{◌≡◌, ℕ, ◌≤◌, max, min, ◌^◌, ℤ, pos, ◌≤ℤ◌, ◌<ℤ◌, Bool, true, false, List, Option, refl, sym, ap, ◌∙◌, subst, arith, rules, w32}
 use Rattle.std.specs.Prelude.{◌&&◌}
 use Rattle.std.proofs.lemmas.Int.{to_z-of_z}
-use Rattle.wall_rules.specs.declared.FragmentNote.{FragmentNote}
-use Rattle.sprite_rules.specs.declared.SpriteEntry.{SpriteEntry}
-use Rattle.sprite_rules.specs.Drawsegs.{Drawseg, is_behind}
-use Rattle.sprite_rules.specs.Drawsegs.{entry_has}
-use Rattle.sprite_rules.specs.Clips.{gives_bottom, gives_top}
+use Rattle.picture_rules.specs.declared.wall.FragmentNote.{FragmentNote}
+use Rattle.picture_rules.specs.declared.sprite.SpriteEntry.{SpriteEntry}
+use Rattle.picture_rules.specs.sprite.Drawsegs.{Drawseg, is_behind}
+use Rattle.picture_rules.specs.sprite.Drawsegs.{entry_has}
+use Rattle.picture_rules.specs.sprite.Clips.{gives_bottom, gives_top}
 use Rattle.view_rules.specs.View.{ViewValue}
 use Rattle.pixel_rules.specs.Art.{Art}
 use Rattle.masked_draw.specs.Clipped.{clips_bottom, clips_top, row_after}

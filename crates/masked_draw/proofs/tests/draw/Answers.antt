@@ -8,7 +8,7 @@ use Rattle.level_rules.specs.declared.Seg.{Seg}
 use Rattle.level_rules.specs.declared.Side.{Side}
 use Rattle.level_rules.specs.declared.Sector.{Sector}
 use Rattle.level_rules.specs.Levels.{no_seg}
-use Rattle.wall_rules.specs.declared.FragmentNote.{FragmentNote}
+use Rattle.picture_rules.specs.declared.wall.FragmentNote.{FragmentNote}
 use Rattle.texture_build.specs.Views.{TexturesView, prepared_texture}
 use Rattle.texture_build.specs.Draws.{CanDraw}
 use Rattle.masked_draw.specs.Lists.{MaskedLists, lists_of, note_seg, middle_by}

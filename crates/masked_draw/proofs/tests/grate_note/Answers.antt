@@ -6,7 +6,7 @@ use Rattle.std.proofs.Math.IntN.{◌+ℤ◌, ◌*ℤ◌, *ℤ-zero, +ℤ_idr}
 use Rattle.std.proofs.lemmas.Int.{ints, to_z-of_z, int_wrap-add_right, int_wrap_fits}
 use Rattle.word_rules.specs.Words.{plus, times}
 use Rattle.word_rules.specs.Steps.{step_at}
-use Rattle.wall_rules.specs.Notes.{clip_row_at}
+use Rattle.picture_rules.specs.wall.Notes.{clip_row_at}
 use Rattle.picture_rules.specs.Noted.{greatest_clip, least_clip}
 use Rattle.masked_draw.proofs.tests.grate_note.Goals as goal
 

@@ -1,7 +1,7 @@
 use Rattle.std.proofs.Common.{ℕ, zero, suc, ◌<◌, ℤ, List, [], ◌∷◌, sym, subst, arith}
 use Rattle.std.specs.Prelude.{IfSome, slice_get}
 use Rattle.view_rules.specs.declared.ViewShape.{ViewShape}
-use Rattle.wall_rules.specs.declared.FragmentNote.{FragmentNote}
+use Rattle.picture_rules.specs.declared.wall.FragmentNote.{FragmentNote}
 use Rattle.picture_rules.specs.Noted.{AreNoted, IsWholeNote, ListsApart}
 use Rattle.masked_draw.proofs.tests.notes_of.Goals as goal
 

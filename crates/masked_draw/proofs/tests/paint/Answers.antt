@@ -1,7 +1,7 @@
 -- The notes are those of this view.
 use Rattle.std.proofs.Common.{◌≡◌, ◌<◌, List, ap, sym, subst, arith}
 use Rattle.view_rules.specs.declared.ViewShape.{ViewShape}
-use Rattle.wall_rules.specs.declared.FragmentNote.{FragmentNote}
+use Rattle.picture_rules.specs.declared.wall.FragmentNote.{FragmentNote}
 use Rattle.picture_rules.specs.Noted.{AreNoted}
 use Rattle.masked_draw.specs.declared.tests.TheConstants.{LAST}
 use Rattle.masked_draw.proofs.tests.paint.Goals as goal

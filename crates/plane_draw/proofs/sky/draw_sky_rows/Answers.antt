@@ -1,7 +1,7 @@
 -- The column is made live, and then painted.
 use Rattle.std.proofs.Common.{◌≡◌, ◌<◌, w32, rules, ap, ◌∙◌, arith, to_z-of_z}
 use Rattle.std.proofs.lemmas.Bool.Decides.{nat_tests}
-use Rattle.plane_rules.specs.Skies.{sky_column}
+use Rattle.picture_rules.specs.plane.Skies.{sky_column}
 use Rattle.texture_build.specs.Sources.{column_in}
 use Rattle.texture_build.specs.Views.{prepared_texture}
 use Rattle.texture_build.proofs.DrawLemmas.{draws-wider}

@@ -3,7 +3,7 @@ use Rattle.std.proofs.Common.{◌≡◌, ◌+◌, ℕ, List, Option, Some, sym, 
 use Rattle.lump_rules.specs.Contents.{lump_bytes}
 use Rattle.art_rules.specs.Bytes.{byte_at}
 use Rattle.pixel_rules.specs.declared.TheConstants.{SKY}
-use Rattle.plane_rules.specs.Skies.{sky_column}
+use Rattle.picture_rules.specs.plane.Skies.{sky_column}
 use Rattle.texture_build.proofs.ColumnLemmas.{single_slot}
 use Rattle.texture_build.proofs.LentLemmas.{colormap_lent, fits-column}
 use Rattle.plane_draw.specs.Scenes.{plane_art}

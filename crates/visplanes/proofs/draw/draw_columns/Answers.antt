@@ -2,8 +2,8 @@ use Rattle.std.proofs.Common.{◌≡◌, ℕ, ◌+◌, ◌<◌, true, false, ap,
 use Rattle.std.specs.Prelude.{slice_index}
 use Rattle.std.proofs.lemmas.Bool.{cases_Bool, both_ways, false_from_ne_true}
 use Rattle.view_rules.specs.declared.TheConstants.{FRAME_WIDTH}
-use Rattle.plane_rules.specs.Planes.{Plane, column}
-use Rattle.plane_rules.specs.Spans.{holds, span_start}
+use Rattle.picture_rules.specs.plane.Planes.{Plane, column}
+use Rattle.picture_rules.specs.plane.Spans.{holds, span_start}
 use Rattle.pixel_strips.specs.Canvases.{CanvasView}
 use Rattle.visplanes.specs.declared.rows.Rows.{Rows}
 use Rattle.visplanes.specs.Spans.{rows_of, is_in, CanPaint}

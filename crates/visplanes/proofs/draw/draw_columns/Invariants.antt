@@ -1,7 +1,7 @@
 use Rattle.std.proofs.Common.{◌≡◌, ℕ, ◌≤◌, true}
 use Rattle.std.specs.Prelude.{slice_index}
 use Rattle.view_rules.specs.declared.TheConstants.{FRAME_HEIGHT}
-use Rattle.plane_rules.specs.Spans.{holds, span_start}
+use Rattle.picture_rules.specs.plane.Spans.{holds, span_start}
 use Rattle.visplanes.specs.Spans.{is_in, HasSpans}
 use Rattle.visplanes.proofs.DrawLemmas.{held_before}
 use Rattle.visplanes.proofs.draw.draw_columns.Given as goal

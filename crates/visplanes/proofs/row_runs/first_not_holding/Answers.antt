@@ -1,6 +1,6 @@
 use Rattle.std.proofs.Common.{◌≡◌, ℕ, true, false, Option, ap, sym, ◌∙◌, arith, inl, inr}
 use Rattle.std.proofs.lemmas.Bool.{cases_lt}
-use Rattle.plane_rules.specs.Spans.{holds_row, holds}
+use Rattle.picture_rules.specs.plane.Spans.{holds_row, holds}
 use Rattle.visplanes.proofs.RunLemmas.{runs_from-run}
 use Rattle.visplanes.proofs.row_runs.first_not_holding.Goals as goal
 

@@ -1,10 +1,10 @@
 use Rattle.std.proofs.Common.{◌≡◌, ap, sym, ◌∙◌, arith}
 use Rattle.view_rules.specs.declared.TheConstants.{FRAME_WIDTH, FRAME_HEIGHT}
 use Rattle.view_rules.specs.declared.ViewShape.{ViewShape}
-use Rattle.plane_rules.specs.declared.PlaneKey.{PlaneKey}
-use Rattle.plane_rules.specs.declared.Flat4.{Flat4}
-use Rattle.plane_rules.specs.declared.Flat4.TheVariants.{Sky}
-use Rattle.plane_rules.specs.Keys.{same_flat, is_sky_key}
+use Rattle.picture_rules.specs.declared.plane.PlaneKey.{PlaneKey}
+use Rattle.picture_rules.specs.declared.plane.Flat4.{Flat4}
+use Rattle.picture_rules.specs.declared.plane.Flat4.TheVariants.{Sky}
+use Rattle.picture_rules.specs.plane.Keys.{same_flat, is_sky_key}
 use Rattle.pixel_strips.specs.Canvases.{CanvasView}
 use Rattle.visplanes.proofs.tests.floor_seen.Goals as goal
 

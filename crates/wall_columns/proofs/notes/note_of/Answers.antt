@@ -2,9 +2,9 @@
 use Rattle.std.proofs.Common.{rules, arith, ◌≡◌, ◌∙◌, ap, sym, refl, to_z, w32}
 use Rattle.std.proofs.lemmas.Int.{to_z-of_z, ints}
 use Rattle.word_rules.specs.Words.{minus_one}
-use Rattle.wall_rules.specs.declared.FragmentNumbers.{FragmentNumbers}
-use Rattle.wall_rules.specs.Notes.{silhouette_of}
-use Rattle.wall_rules.specs.Numbers.{fragment_numbers}
+use Rattle.picture_rules.specs.declared.wall.FragmentNumbers.{FragmentNumbers}
+use Rattle.picture_rules.specs.wall.Notes.{silhouette_of}
+use Rattle.picture_rules.specs.wall.Numbers.{fragment_numbers}
 use Rattle.wall_edges.specs.Fragments.{FragmentValue}
 use Rattle.wall_columns.proofs.NoteLemmas.{note_of-parts}
 use Rattle.wall_columns.proofs.notes.note_of.Goals as goal

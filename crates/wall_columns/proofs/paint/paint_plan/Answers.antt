@@ -10,8 +10,8 @@ use Rattle.texture_build.proofs.BesideLemmas.{fit_beside-as, fit_beside-none}
 use Rattle.word_rules.specs.Words.{inverse_word}
 use Rattle.word_rules.specs.Listed.{joined_lists}
 use Rattle.view_rules.specs.Lights.{scale_map}
-use Rattle.wall_rules.specs.Columns.{texture_column}
-use Rattle.wall_rules.specs.Strips.{strip_dots}
+use Rattle.picture_rules.specs.wall.Columns.{texture_column}
+use Rattle.picture_rules.specs.wall.Strips.{strip_dots}
 use Rattle.wall_columns.specs.declared.paint.ColumnLook.{ColumnLook}
 use Rattle.wall_columns.specs.Painted.{strips_dots}
 use Rattle.wall_columns.specs.Plans.{strips_by}

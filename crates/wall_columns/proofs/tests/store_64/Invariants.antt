@@ -1,5 +1,5 @@
 use Rattle.std.proofs.Common.{◌≡◌, ◌<◌, ◌≤◌, length}
-use Rattle.plane_rules.specs.Built.{IsAmongPlanes}
+use Rattle.picture_rules.specs.plane.Built.{IsAmongPlanes}
 use Rattle.wall_columns.proofs.tests.store_64.Given as goal
 
 -- the next fragment may be drawn

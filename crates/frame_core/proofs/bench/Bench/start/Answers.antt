@@ -1,8 +1,8 @@
 use Rattle.std.proofs.Common.{◌≡◌, ◌≤◌, ◌<◌, List, length, subst, ap, sym, ◌∙◌, arith, rules}
 use Rattle.view_rules.specs.declared.ViewShape.{ViewShape}
 use Rattle.view_rules.specs.declared.TheConstants.{FRAME_WIDTH}
-use Rattle.map_rules.specs.Levels.{LevelValue}
-use Rattle.map_rules.specs.Sound.{IsSound}
+use Rattle.level_rules.specs.maps.Levels.{LevelValue}
+use Rattle.level_rules.specs.maps.Sound.{IsSound}
 use Rattle.level_rules.specs.declared.Sector.{Sector}
 use Rattle.frame_core.proofs.WalkedLemmas.{walked-none}
 use Rattle.frame_core.proofs.bench.Bench.start.Goals as goal

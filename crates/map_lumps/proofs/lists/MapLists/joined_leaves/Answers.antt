@@ -1,5 +1,5 @@
 use Rattle.std.proofs.Common.{◌≡◌, ◌∙◌, length, ap}
-use Rattle.map_rules.proofs.JoinLemmas.{length-joined_segs, records_refusal-none}
+use Rattle.level_rules.proofs.maps.JoinLemmas.{length-joined_segs, records_refusal-none}
 use Rattle.map_lumps.specs.Views.{listed_records}
 use Rattle.map_lumps.proofs.lists.MapLists.joined_leaves.Goals as goal
 

@@ -1,4 +1,4 @@
-use Rattle.map_rules.proofs.JoinLemmas.{records_refusal-none}
+use Rattle.level_rules.proofs.maps.JoinLemmas.{records_refusal-none}
 use Rattle.map_lumps.specs.Views.{listed_records}
 use Rattle.map_lumps.proofs.lists.MapLists.joined_segs.Goals as goal
 

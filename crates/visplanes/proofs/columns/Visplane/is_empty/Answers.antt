@@ -1,7 +1,7 @@
 use Rattle.std.proofs.Common.{◌≡◌, ◌<◌, None, ap, sym, ◌∙◌, arith, inl, inr}
 use Rattle.std.proofs.lemmas.Bool.{cases_eq, eq-eqb, eqb-true}
 use Rattle.view_rules.specs.declared.TheConstants.{FRAME_WIDTH}
-use Rattle.plane_rules.specs.Planes.{Plane, column}
+use Rattle.picture_rules.specs.plane.Planes.{Plane, column}
 use Rattle.visplanes.specs.Columns.{plane_of}
 use Rattle.visplanes.proofs.ColumnLemmas.{kept-blank, kept-run}
 use Rattle.visplanes.proofs.columns.Visplane.is_empty.Goals as goal

@@ -1,6 +1,6 @@
 use Rattle.std.proofs.Common.{ap, ◌∙◌}
-use Rattle.plane_rules.specs.Planes.{Plane}
-use Rattle.plane_rules.specs.Spans.{holds}
+use Rattle.picture_rules.specs.plane.Planes.{Plane}
+use Rattle.picture_rules.specs.plane.Spans.{holds}
 use Rattle.visplanes.proofs.ColumnLemmas.{kept-frame}
 use Rattle.visplanes.proofs.columns.Visplane.key.Goals as goal
 

@@ -1,6 +1,6 @@
 use Rattle.std.proofs.Common.{ap, sym, ◌∙◌, subst, arith}
 use Rattle.std.proofs.Common.{ℕ, max, set}
-use Rattle.plane_rules.specs.Planes.{Plane, with_run}
+use Rattle.picture_rules.specs.plane.Planes.{Plane, with_run}
 use Rattle.visplanes.specs.Columns.{IsKept}
 use Rattle.visplanes.proofs.ColumnLemmas.{plane_of-marked, kept-more}
 use Rattle.visplanes.proofs.columns.Visplane.mark.Goals as goal

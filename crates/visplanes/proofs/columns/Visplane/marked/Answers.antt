@@ -1,7 +1,7 @@
 use Rattle.std.proofs.Common.{ap, sym, ◌∙◌}
 use Rattle.std.proofs.Common.{length}
-use Rattle.plane_rules.specs.Planes.{Plane}
-use Rattle.plane_rules.specs.Spans.{holds}
+use Rattle.picture_rules.specs.plane.Planes.{Plane}
+use Rattle.picture_rules.specs.plane.Spans.{holds}
 use Rattle.visplanes.proofs.ColumnLemmas.{kept-marked, length-runs_of}
 use Rattle.visplanes.proofs.columns.Visplane.marked.Goals as goal
 

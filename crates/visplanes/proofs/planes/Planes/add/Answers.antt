@@ -1,6 +1,6 @@
 use Rattle.std.proofs.Common.{ap, ◌∙◌, arith}
 use Rattle.std.proofs.Common.{length, length-set}
-use Rattle.plane_rules.specs.Planes.{Plane}
+use Rattle.picture_rules.specs.plane.Planes.{Plane}
 use Rattle.visplanes.proofs.ListLemmas.{wide-put, length-empty_plane}
 use Rattle.visplanes.proofs.planes.Planes.add.Goals as goal
 

@@ -1,7 +1,7 @@
 use Rattle.std.proofs.Common.{◌≡◌, ◌<◌, ◌≤◌, length, ap, sym, ◌∙◌, subst, arith}
 use Rattle.std.specs.Prelude.{IsErr, IfOk, OnOk}
 use Rattle.std.proofs.lemmas.Bool.{false≢true}
-use Rattle.plane_rules.specs.Planes.{PlaneChoice, check, add}
+use Rattle.picture_rules.specs.plane.Planes.{PlaneChoice, check, add}
 use Rattle.visplanes.specs.Planes.{with_planes}
 use Rattle.visplanes.proofs.ListLemmas.{read_plane, within_room, check-free, check-taken}
 use Rattle.visplanes.proofs.planes.Planes.check.Goals as goal

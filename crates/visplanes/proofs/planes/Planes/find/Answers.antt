@@ -1,9 +1,9 @@
 use Rattle.std.proofs.Common.{◌≡◌, ◌<◌, length, ap, sym, subst, arith}
 use Rattle.std.specs.Prelude.{IsErr, IfOk, OnOk}
 use Rattle.std.proofs.lemmas.Bool.{false≢true}
-use Rattle.plane_rules.specs.Planes.{PlaneChoice}
+use Rattle.picture_rules.specs.plane.Planes.{PlaneChoice}
 use Rattle.visplanes.specs.Planes.{with_planes}
-use Rattle.plane_rules.proofs.PlaneLemmas.{find-some, find-none, find-within}
+use Rattle.picture_rules.proofs.plane.PlaneLemmas.{find-some, find-none, find-within}
 use Rattle.visplanes.proofs.planes.Planes.find.Goals as goal
 
 pub returns-in-Some-clause-ok : goal.returns-in-Some-clause-ok

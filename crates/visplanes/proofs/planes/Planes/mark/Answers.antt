@@ -1,7 +1,7 @@
 use Rattle.std.proofs.Common.{ℕ, ◌<◌, List, length, ap, ◌∙◌, arith}
 use Rattle.std.proofs.Common.{length-set, set, take}
 use Rattle.std.proofs.lemmas.List.{length-take}
-use Rattle.plane_rules.specs.Planes.{Plane, mark}
+use Rattle.picture_rules.specs.plane.Planes.{Plane, mark}
 use Rattle.visplanes.specs.Planes.{PlanesView, with_planes}
 use Rattle.visplanes.proofs.ListLemmas.{mark-taken, wide-put, wide-marked}
 use Rattle.visplanes.proofs.planes.Planes.mark.Goals as goal

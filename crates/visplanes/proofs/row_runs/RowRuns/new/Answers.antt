@@ -1,6 +1,6 @@
 use Rattle.std.proofs.Common.{arith}
 use Rattle.std.proofs.lemmas.Bool.{false_from_ne_true}
-use Rattle.plane_rules.specs.Spans.{holds}
+use Rattle.picture_rules.specs.plane.Spans.{holds}
 use Rattle.visplanes.proofs.RunLemmas.{row_runs-skipped}
 use Rattle.visplanes.proofs.row_runs.RowRuns.new.Goals as goal
 

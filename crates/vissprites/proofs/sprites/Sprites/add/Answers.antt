@@ -1,7 +1,7 @@
 use Rattle.std.proofs.Common.{◌≡◌, List, length, vec_len, Some, rules, ap, sym, subst, ◌∙◌}
 use Rattle.std.specs.List.{AllPass}
-use Rattle.sprite_rules.specs.declared.SpriteEntry.{SpriteEntry}
-use Rattle.sprite_rules.specs.Entries.{with_entry}
+use Rattle.picture_rules.specs.declared.sprite.SpriteEntry.{SpriteEntry}
+use Rattle.picture_rules.specs.sprite.Entries.{with_entry}
 use Rattle.vissprites.specs.Bounds.{lies_within, has_lump_below}
 use Rattle.vissprites.proofs.BoundLemmas.{add-all, entry_for-lies_within, entry_for-lump}
 use Rattle.vissprites.proofs.KeptLemmas.{length-made_order, with_entry-none, add-entry}

@@ -1,5 +1,5 @@
 use Rattle.std.proofs.Common.{List, ap, sym, subst, ◌∙◌, arith}
-use Rattle.sprite_rules.specs.declared.SpriteEntry.{SpriteEntry}
+use Rattle.picture_rules.specs.declared.sprite.SpriteEntry.{SpriteEntry}
 use Rattle.vissprites.specs.Kept.{made_order, IsKept}
 use Rattle.vissprites.proofs.KeptLemmas.{none_kept, made_order-none}
 use Rattle.vissprites.proofs.sprites.Sprites.clear.Goals as goal

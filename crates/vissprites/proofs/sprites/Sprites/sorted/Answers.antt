@@ -1,9 +1,9 @@
 use Rattle.std.proofs.Common.{List, sym, subst, rules, ◌≡◌}
 use Rattle.std.specs.List.{AllPass}
 use Rattle.std.specs.List.Sorted.{IsSortedBy, IsStableBy}
-use Rattle.sprite_rules.specs.declared.SpriteEntry.{SpriteEntry}
-use Rattle.sprite_rules.specs.Order.{draw_order, is_smaller}
-use Rattle.sprite_rules.proofs.OrderLemmas.{draw_order-sorted, draw_order-stable}
+use Rattle.picture_rules.specs.declared.sprite.SpriteEntry.{SpriteEntry}
+use Rattle.picture_rules.specs.sprite.Order.{draw_order, is_smaller}
+use Rattle.picture_rules.proofs.sprite.OrderLemmas.{draw_order-sorted, draw_order-stable}
 use Rattle.vissprites.proofs.BoundLemmas.{draw_order-all}
 use Rattle.vissprites.proofs.sprites.Sprites.sorted.Goals as goal
 

@@ -2,10 +2,10 @@
 use Rattle.std.proofs.Common.{◌≡◌, ◌<◌, ◌+◌, ℕ, length, ap, sym, refl, subst, ◌∙◌, arith}
 use Rattle.view_rules.specs.View.{ViewValue}
 use Rattle.view_rules.specs.declared.TheConstants.{FRAME_WIDTH}
-use Rattle.wall_rules.specs.declared.Edges.{Edges}
-use Rattle.wall_rules.specs.declared.WallFacts.{WallFacts}
-use Rattle.wall_rules.specs.Columns.{texture_column}
-use Rattle.wall_rules.specs.Edges.{edges_at}
+use Rattle.picture_rules.specs.declared.wall.Edges.{Edges}
+use Rattle.picture_rules.specs.declared.wall.WallFacts.{WallFacts}
+use Rattle.picture_rules.specs.wall.Columns.{texture_column}
+use Rattle.picture_rules.specs.wall.Edges.{edges_at}
 use Rattle.visplanes.specs.Planes.{PlanesView}
 use Rattle.wall_edges.specs.Fragments.{FragmentValue, fragment_of}
 use Rattle.wall_columns.specs.declared.column_state.ColumnState.{ColumnState}

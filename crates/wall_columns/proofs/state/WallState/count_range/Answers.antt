@@ -2,9 +2,9 @@
 use Rattle.std.proofs.Common.{◌≡◌, ◌≤◌, ◌++◌, ◌∷◌, [], List, length, ap, sym, refl, subst, ◌∙◌, arith}
 use Rattle.view_rules.specs.declared.TheConstants.{FRAME_WIDTH}
 use Rattle.view_rules.specs.declared.ViewShape.{ViewShape}
-use Rattle.wall_rules.specs.declared.FragmentNote.{FragmentNote}
-use Rattle.wall_rules.specs.Walls.{wall_of}
-use Rattle.plane_rules.specs.Built.{after_event}
+use Rattle.picture_rules.specs.declared.wall.FragmentNote.{FragmentNote}
+use Rattle.picture_rules.specs.wall.Walls.{wall_of}
+use Rattle.picture_rules.specs.plane.Built.{after_event}
 use Rattle.wall_columns.specs.Built.{IsBuilt, with_wall, step_of_wall}
 use Rattle.wall_columns.specs.States.{walls_view}
 use Rattle.wall_columns.specs.Walls.{WallsView}

@@ -3,9 +3,9 @@ use Rattle.std.proofs.Common.{◌≡◌, ◌≤◌, ◌++◌, ◌∷◌, [], ℕ
 use Rattle.lump_rules.specs.Contents.{lump_bytes}
 use Rattle.view_rules.specs.declared.TheConstants.{FRAME_WIDTH}
 use Rattle.view_rules.specs.declared.ViewShape.{ViewShape}
-use Rattle.wall_rules.specs.declared.FragmentNote.{FragmentNote}
-use Rattle.wall_rules.specs.Walls.{wall_of}
-use Rattle.plane_rules.specs.Built.{after_event}
+use Rattle.picture_rules.specs.declared.wall.FragmentNote.{FragmentNote}
+use Rattle.picture_rules.specs.wall.Walls.{wall_of}
+use Rattle.picture_rules.specs.plane.Built.{after_event}
 use Rattle.pixel_strips.proofs.DottedLemmas.{has_dots-as}
 use Rattle.texture_build.specs.Arts.{view_art}
 use Rattle.texture_build.proofs.BesideLemmas.{fit_beside-as}

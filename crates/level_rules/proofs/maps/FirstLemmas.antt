@@ -1,0 +1,52 @@
+-- Laws of `first_refusal`.
+use Rattle.std.proofs.Common.{◌≡◌, ℕ, zero, suc, arith, ◌+◌, ◌<◌, ◌≤◌, List, [], ◌∷◌, length, drop, get_or, Option, Some, None, refl, ◌∙◌}
+use Rattle.std.proofs.lemmas.List.{at_drop_more, at_drop_all}
+use Rattle.word_rules.specs.Least.{or_else}
+use Rattle.level_rules.specs.declared.maps.refusal.MapRefusal.{MapRefusal}
+use Rattle.level_rules.specs.maps.Firsts.{first_refusal}
+
+pub first_refusal-step : {R : Type 0} (refusal : ℕ → R → Option MapRefusal) (i : ℕ) (rs : List R) (d : R) → i < length rs → first_refusal refusal i (drop i rs) ≡ or_else (refusal i (get_or rs i d)) (first_refusal refusal (i + 1) (drop (i + 1) rs))
+unfolding first_refusal
+first_refusal-step refusal i rs d l = at_drop_more (first_refusal refusal i) rs i d l
+
+-- a record that is refused
+pub first_refusal-found : {R : Type 0} (refusal : ℕ → R → Option MapRefusal) (i : ℕ) (rs : List R) (r d : R) (v : MapRefusal) → i < length rs → get_or rs i d ≡ r → refusal i r ≡ Some v → first_refusal refusal i (drop i rs) ≡ Some v
+first_refusal-found refusal i rs r d v l g e = first_refusal-step refusal i rs d l ∙ rw (g, e) refl
+
+-- one that is not
+pub first_refusal-next : {R : Type 0} (refusal : ℕ → R → Option MapRefusal) (i : ℕ) (rs : List R) (r d : R) → i < length rs → get_or rs i d ≡ r → refusal i r ≡ None → first_refusal refusal i (drop i rs) ≡ first_refusal refusal (i + 1) (drop (i + 1) rs)
+first_refusal-next refusal i rs r d l g e = first_refusal-step refusal i rs d l ∙ rw (g, e) refl
+
+-- the end
+pub first_refusal-end : {R : Type 0} (refusal : ℕ → R → Option MapRefusal) (i : ℕ) (rs : List R) → length rs ≤ i → first_refusal refusal i (drop i rs) ≡ None
+unfolding first_refusal
+first_refusal-end refusal i rs l = at_drop_all (first_refusal refusal i) rs i l
+
+pub or_else-none : {X : Type 0} (a b : Option X) → or_else a b ≡ None → (a ≡ None) × (b ≡ None)
+or_else-none None b e = (refl, e)
+or_else-none (Some v) b e = cc
+
+-- where nothing is refused, no record is
+pub first_refusal-none : {R : Type 0} (refusal : ℕ → R → Option MapRefusal) (n : ℕ) (rs : List R) → first_refusal refusal n rs ≡ None → (k : ℕ) (d : R) → k < length rs → refusal (n + k) (get_or rs k d) ≡ None
+unfolding first_refusal
+first_refusal-none refusal n [] e k d l = absurd (omega arith)
+first_refusal-none refusal n (r ∷ rs) e zero d l = let s : n + 0 ≡ n = omega arith in rw s (or_else-none _ _ e).0
+first_refusal-none refusal n (r ∷ rs) e (suc k) d l =
+    let s : n + suc k ≡ n + 1 + k = omega arith in
+    rw s (first_refusal-none refusal (n + 1) rs (or_else-none _ _ e).1 k d (omega arith))
+
+first_refusal-from : {R : Type 0} (refusal : ℕ → R → Option MapRefusal) (n : ℕ) (rs : List R) (k : ℕ) (d : R) (v : MapRefusal) → k < length rs → refusal (n + k) (get_or rs k d) ≡ Some v → ((j : ℕ) → j < k → refusal (n + j) (get_or rs j d) ≡ None) → first_refusal refusal n rs ≡ Some v
+unfolding first_refusal
+first_refusal-from refusal n [] k d v l e before = absurd (omega arith)
+first_refusal-from refusal n (r ∷ rs) zero d v l e before = let s : n + 0 ≡ n = omega arith in let f : refusal n r ≡ Some v = rw s at e in rw f refl
+first_refusal-from refusal n (r ∷ rs) (suc k) d v l e before =
+    let s : n + 0 ≡ n = omega arith in
+    let first : refusal n r ≡ None = rw s at (before zero (omega arith)) in
+    rw first (first_refusal-from refusal (n + 1) rs k d v (omega arith) (let t : n + 1 + k ≡ n + suc k = omega arith in rw t e) (λ j m. let t : n + 1 + j ≡ n + suc j = omega arith in rw t (before (suc j) (omega arith))))
+
+-- what is refused is the refusal of a record, and of none before it
+pub first_refusal-some : {R : Type 0} (refusal : ℕ → R → Option MapRefusal) (rs : List R) (k : ℕ) (d : R) (v : MapRefusal) → k < length rs → refusal k (get_or rs k d) ≡ Some v → ((j : ℕ) → j < k → refusal j (get_or rs j d) ≡ None) → first_refusal refusal 0 rs ≡ Some v
+first_refusal-some refusal rs k d v l e before = first_refusal-from refusal 0 rs k d v l (let s : 0 + k ≡ k = omega arith in rw s e) (λ j m. let s : 0 + j ≡ j = omega arith in rw s (before j m))
+
+-- for `grind`: a loop over the records
+pub ruleset first_refusals = (first_refusal-found, first_refusal-next, first_refusal-end)

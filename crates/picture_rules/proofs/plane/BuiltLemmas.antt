@@ -1,0 +1,160 @@
+-- Laws of the planes that events build: one event more, one column more, and that equal rows mark equally.
+use Rattle.std.proofs.Common.{◌≡◌, ℕ, zero, suc, ◌+◌, ◌-◌, ◌≤◌, Bool, true, false, List, [], ◌∷◌, ◌++◌, Option, Some, None, length, refl, ap, ◌∙◌, arith}
+use Rattle.picture_rules.specs.declared.plane.PlaneKey.{PlaneKey}
+use Rattle.picture_rules.specs.plane.Planes.{Plane, find, check, AreWide}
+use Rattle.picture_rules.specs.plane.Built.{PlaneWall, PlaneEvent, PlanesNow, floor_found, ceiling_found, checked_plane, with_ceiling, with_floor, ceiling_checked, floor_checked, set_run, column_marked, columns_marked, wall_marked, after_event, after_events, MarkAlike, IsAmongPlanes, IsSoundNow}
+use Rattle.picture_rules.specs.plane.Built.PlaneEvent.{Finds, Draws}
+use Rattle.picture_rules.proofs.plane.PlaneLemmas.{wide-find, wide-check, wide-mark, find-within, check-within, length-find, length-check, length-mark}
+
+-- first the one list of events, then the other
+pub after_events-append : (s : PlanesNow) (xs ys : List PlaneEvent) → after_events s (xs ++ ys) ≡ after_events (after_events s xs) ys
+unfolding after_events
+after_events-append s [] ys = refl
+after_events-append s (e ∷ es) ys = after_events-append (after_event s e) es ys
+
+-- one event more
+pub after_events-more : (s : PlanesNow) (es : List PlaneEvent) (e : PlaneEvent) → after_events s (es ++ e ∷ []) ≡ after_event (after_events s es) e
+unfolding after_events
+after_events-more s [] e = refl
+after_events-more s (f ∷ fs) e = after_events-more (after_event s f) fs e
+
+pub after_events-none : (s : PlanesNow) → after_events s [] ≡ s
+unfolding after_events
+after_events-none s = refl
+
+-- no column, and one column more
+pub columns_marked-none : (w : PlaneWall) (ceiling floor : Option ℕ) (n : ℕ) (planes : List Plane) → n ≡ 0 → planes ≡ columns_marked w ceiling floor n planes
+unfolding columns_marked
+columns_marked-none w ceiling floor n planes e = rw e
+
+pub columns_marked-more : (w : PlaneWall) (ceiling floor : Option ℕ) (k n : ℕ) (planes : List Plane) → k + 1 ≡ n →
+    column_marked w ceiling floor (w.first + k) (columns_marked w ceiling floor k planes) ≡ columns_marked w ceiling floor n planes
+unfolding columns_marked
+columns_marked-more w ceiling floor k n planes e = let f : suc k ≡ n = omega arith in ap (λ (m : ℕ). columns_marked w ceiling floor m planes) f
+
+column_alike : (a b : PlaneWall) → MarkAlike a b → (ceiling floor : Option ℕ) (x : ℕ) (planes : List Plane) → a.first ≤ x → x ≤ a.last → column_marked a ceiling floor x planes ≡ column_marked b ceiling floor x planes
+unfolding column_marked
+column_alike a b h ceiling floor x planes l m =
+    ap (λ (r : Option (ℕ × ℕ)). set_run (set_run planes ceiling x r) floor x (a.floor_rows x)) (h.ceiling_rows x l m)
+    ∙ ap (set_run (set_run planes ceiling x (b.ceiling_rows x)) floor x) (h.floor_rows x l m)
+
+columns_alike : (a b : PlaneWall) → MarkAlike a b → (ceiling floor : Option ℕ) (n : ℕ) (planes : List Plane) → a.first + n ≤ a.last + 1 → columns_marked a ceiling floor n planes ≡ columns_marked b ceiling floor n planes
+unfolding columns_marked
+columns_alike a b h ceiling floor zero planes l = refl
+columns_alike a b h ceiling floor (suc n) planes l =
+    column_alike a b h ceiling floor (a.first + n) (columns_marked a ceiling floor n planes) (omega arith) (omega arith)
+    ∙ ap (column_marked b ceiling floor (a.first + n)) (columns_alike a b h ceiling floor n planes (omega arith))
+    ∙ ap (λ (f : ℕ). column_marked b ceiling floor (f + n) (columns_marked b ceiling floor n planes)) h.first
+
+marked_alike : (a b : PlaneWall) → MarkAlike a b → a.first ≤ a.last + 1 → (s : PlanesNow) → wall_marked a s ≡ wall_marked b s
+unfolding wall_marked
+marked_alike a b h l s =
+    ap (λ (p : List Plane). record { planes = p; floor = s.floor; ceiling = s.ceiling })
+    (columns_alike a b h s.ceiling s.floor (a.last + 1 - a.first) s.planes (omega arith)
+    ∙ (let e : a.last + 1 - a.first ≡ b.last + 1 - b.first = (let f = h.first in let g = h.last in omega arith) in ap (λ (n : ℕ). columns_marked b s.ceiling s.floor n s.planes) e))
+
+ceiling_alike : (a b : PlaneWall) → MarkAlike a b → (s : PlanesNow) → ceiling_checked a s ≡ ceiling_checked b s
+unfolding ceiling_checked
+ceiling_alike a b h s = let c = h.ceiling_mark in let f = h.first in let g = h.last in cc
+
+floor_alike : (a b : PlaneWall) → MarkAlike a b → (s : PlanesNow) → floor_checked a s ≡ floor_checked b s
+unfolding floor_checked
+floor_alike a b h s = let c = h.floor_mark in let f = h.first in let g = h.last in cc
+
+pub after_event-alike : (s : PlanesNow) (a b : PlaneWall) → MarkAlike a b → a.first ≤ a.last + 1 → after_event s (Draws a) ≡ after_event s (Draws b)
+unfolding after_event
+after_event-alike s a b h l =
+    marked_alike a b h l (floor_checked a (ceiling_checked a s))
+    ∙ ap (wall_marked b) (floor_alike a b h (ceiling_checked a s) ∙ ap (floor_checked b) (ceiling_alike a b h s))
+
+more_planes : (ps qs : List Plane) (o : Option ℕ) → length ps ≤ length qs → IsAmongPlanes ps o → IsAmongPlanes qs o
+more_planes ps qs None l h = tt
+more_planes ps qs (Some i) l h = omega arith
+
+longer_find : (planes : List Plane) (key : PlaneKey) → length planes ≤ length (find planes key).planes
+longer_find planes key = omega (arith, length-find planes key)
+
+sound-floor_found : (o : Option PlaneKey) (s : PlanesNow) → IsSoundNow s → IsSoundNow (floor_found o s)
+unfolding floor_found
+sound-floor_found None s h = record { wide = h.wide; floor = tt; ceiling = h.ceiling }
+sound-floor_found (Some key) s h = record {
+  wide = wide-find s.planes key h.wide;
+  floor = find-within s.planes key;
+  ceiling = more_planes s.planes (find s.planes key).planes s.ceiling (longer_find s.planes key) h.ceiling;
+}
+
+sound-ceiling_found : (o : Option PlaneKey) (s : PlanesNow) → IsSoundNow s → IsSoundNow (ceiling_found o s)
+unfolding ceiling_found
+sound-ceiling_found None s h = record { wide = h.wide; floor = h.floor; ceiling = tt }
+sound-ceiling_found (Some key) s h = record {
+  wide = wide-find s.planes key h.wide;
+  floor = more_planes s.planes (find s.planes key).planes s.floor (longer_find s.planes key) h.floor;
+  ceiling = find-within s.planes key;
+}
+
+sound_ceiling : (m : Bool) (o : Option ℕ) (first last : ℕ) (s : PlanesNow) → IsAmongPlanes s.planes o → IsSoundNow s → IsSoundNow (with_ceiling (checked_plane m s.planes o first last) s)
+unfolding with_ceiling checked_plane
+sound_ceiling false o first last s a h = h
+sound_ceiling true None first last s a h = h
+sound_ceiling true (Some i) first last s a h = record {
+  wide = wide-check s.planes i first last h.wide;
+  floor = more_planes s.planes (check s.planes i first last).planes s.floor (length-check s.planes i first last) h.floor;
+  ceiling = check-within s.planes i first last a;
+}
+
+sound_floor : (m : Bool) (o : Option ℕ) (first last : ℕ) (s : PlanesNow) → IsAmongPlanes s.planes o → IsSoundNow s → IsSoundNow (with_floor (checked_plane m s.planes o first last) s)
+unfolding with_floor checked_plane
+sound_floor false o first last s a h = h
+sound_floor true None first last s a h = h
+sound_floor true (Some i) first last s a h = record {
+  wide = wide-check s.planes i first last h.wide;
+  floor = check-within s.planes i first last a;
+  ceiling = more_planes s.planes (check s.planes i first last).planes s.ceiling (length-check s.planes i first last) h.ceiling;
+}
+
+wide_set : (planes : List Plane) (o : Option ℕ) (x : ℕ) (rows : Option (ℕ × ℕ)) → AreWide planes → AreWide (set_run planes o x rows)
+unfolding set_run
+wide_set planes None x rows w = w
+wide_set planes (Some i) x None w = w
+wide_set planes (Some i) x (Some rows) w = wide-mark planes i x rows w
+
+length_set : (planes : List Plane) (o : Option ℕ) (x : ℕ) (rows : Option (ℕ × ℕ)) → length (set_run planes o x rows) ≡ length planes
+unfolding set_run
+length_set planes None x rows = refl
+length_set planes (Some i) x None = refl
+length_set planes (Some i) x (Some rows) = length-mark planes i x rows
+
+wide_columns : (w : PlaneWall) (ceiling floor : Option ℕ) (n : ℕ) (planes : List Plane) → AreWide planes → AreWide (columns_marked w ceiling floor n planes)
+unfolding columns_marked column_marked
+wide_columns w ceiling floor zero planes h = h
+wide_columns w ceiling floor (suc n) planes h =
+    wide_set (set_run (columns_marked w ceiling floor n planes) ceiling (w.first + n) (w.ceiling_rows (w.first + n))) floor (w.first + n) (w.floor_rows (w.first + n))
+    (wide_set (columns_marked w ceiling floor n planes) ceiling (w.first + n) (w.ceiling_rows (w.first + n)) (wide_columns w ceiling floor n planes h))
+
+length_columns : (w : PlaneWall) (ceiling floor : Option ℕ) (n : ℕ) (planes : List Plane) → length (columns_marked w ceiling floor n planes) ≡ length planes
+unfolding columns_marked column_marked
+length_columns w ceiling floor zero planes = refl
+length_columns w ceiling floor (suc n) planes =
+    length_set (set_run (columns_marked w ceiling floor n planes) ceiling (w.first + n) (w.ceiling_rows (w.first + n))) floor (w.first + n) (w.floor_rows (w.first + n))
+    ∙ length_set (columns_marked w ceiling floor n planes) ceiling (w.first + n) (w.ceiling_rows (w.first + n)) ∙ length_columns w ceiling floor n planes
+
+sound-wall_marked : (w : PlaneWall) (s : PlanesNow) → IsSoundNow s → IsSoundNow (wall_marked w s)
+unfolding wall_marked
+sound-wall_marked w s h = record {
+  wide = wide_columns w s.ceiling s.floor (w.last + 1 - w.first) s.planes h.wide;
+  floor = more_planes s.planes (columns_marked w s.ceiling s.floor (w.last + 1 - w.first) s.planes) s.floor (omega (arith, length_columns w s.ceiling s.floor (w.last + 1 - w.first) s.planes)) h.floor;
+  ceiling = more_planes s.planes (columns_marked w s.ceiling s.floor (w.last + 1 - w.first) s.planes) s.ceiling (omega (arith, length_columns w s.ceiling s.floor (w.last + 1 - w.first) s.planes)) h.ceiling;
+}
+
+pub sound-after_event : (s : PlanesNow) (e : PlaneEvent) → IsSoundNow s → IsSoundNow (after_event s e)
+unfolding after_event ceiling_checked floor_checked
+sound-after_event s (Finds floor ceiling) h = sound-ceiling_found ceiling (floor_found floor s) (sound-floor_found floor s h)
+sound-after_event s (Draws w) h =
+    let c : IsSoundNow (ceiling_checked w s) = sound_ceiling w.ceiling_mark s.ceiling w.first w.last s h.ceiling h in
+    sound-wall_marked w (floor_checked w (ceiling_checked w s))
+    (sound_floor w.floor_mark (ceiling_checked w s).floor w.first w.last (ceiling_checked w s) c.floor c)
+
+pub sound-after_events : (s : PlanesNow) (es : List PlaneEvent) → IsSoundNow s → IsSoundNow (after_events s es)
+unfolding after_events
+sound-after_events s [] h = h
+sound-after_events s (e ∷ es) h = sound-after_events (after_event s e) es (sound-after_event s e h)
