@@ -8,9 +8,9 @@
 //! The original: R_RenderPlayerView, r_main.c.
 #![tactic(auto)]
 
-mod plane;
-mod sprite;
-mod wall;
+pub mod plane;
+pub mod sprite;
+pub mod wall;
 
 pub use plane::{Flat4, MAX_VISPLANES, MOST_VISPLANES, PlaneKey, SKY_MAP, SKY_MID, SKY_SHIFT};
 pub use sprite::{
