@@ -3,3 +3,4 @@ pub mod CutLemmas
 pub mod FillLemmas
 pub mod DottedLemmas
 pub mod RowLemmas
+pub mod PlaceLemmas

@@ -1,3 +1,4 @@
 pub mod Canvases
 pub mod Strips
 pub mod Dotted
+pub mod Places

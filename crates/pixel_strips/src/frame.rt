@@ -8,8 +8,7 @@ ghost use Rattle.pixel_strips.specs.Canvases.{CanvasView, blank, marked_by_colou
 ghost use Rattle.pixel_strips.specs.Strips.{cut_colour, cut_span_colour};
 
 use crate::canvas::{Canvas, CutColumn, CutSpan};
-use crate::texels::{cut_colour, cut_span_colour};
-use fx_words::plus;
+use crate::places::{flat_place_at, packed_after, packed_place, place_after, row_at, texel_place};
 use pixel_rules::{FRAME_CELLS, Painter};
 use std::alloc::{AllocError, Global};
 use std::marker::Model;
@@ -131,11 +130,12 @@ fn fill_column(cells: &mut [u8], start: usize, count: usize, cut: &CutColumn<'_>
         (λ k. cut_colour cut.now.texels.now cut.now.shades.now
         (step_at cut.now.fraction cut.now.step k)) count cells.old }
 {
-    let (texels, shades, step) = (cut.texels, cut.shades, cut.step);
-    let mut fraction = cut.fraction;
+    let (texels, shades) = (cut.texels, cut.shades);
+    let step = texel_place(cut.step);
+    let mut place = texel_place(cut.fraction);
     for k in 0..count {
-        cells[start + FRAME_WIDTH as usize * k] = cut_colour(texels, shades, fraction);
-        fraction = plus(fraction, step);
+        cells[start + FRAME_WIDTH as usize * k] = shades[texels[row_at(place)] as usize];
+        place = place_after(place, step);
     }
 }
 
@@ -143,6 +143,7 @@ fn fill_column(cells: &mut [u8], start: usize, count: usize, cut: &CutColumn<'_>
 fn fill_span(cells: &mut [u8], start: usize, count: usize, cut: &CutSpan<'_>)
     requires size { length cells.old ≡ FRAME_CELLS }
     requires within { start + count ≤ FRAME_CELLS }
+    requires few { count ≤ FRAME_WIDTH }
     requires texels { length cut.now.texels.now ≡ FLAT_BYTES }
     requires shades { length cut.now.shades.now ≡ MAP_COLOURS }
     ensures { cells.new ≡ fill_cells (λ k. start + k)
@@ -151,12 +152,10 @@ fn fill_span(cells: &mut [u8], start: usize, count: usize, cut: &CutSpan<'_>)
         (step_at cut.now.y_fraction cut.now.y_step k)) count cells.old }
 {
     let (texels, shades) = (cut.texels, cut.shades);
-    let (x_step, y_step) = (cut.x_step, cut.y_step);
-    let mut x_fraction = cut.x_fraction;
-    let mut y_fraction = cut.y_fraction;
+    let step = packed_place(cut.x_step, cut.y_step);
+    let mut place = packed_place(cut.x_fraction, cut.y_fraction);
     for k in 0..count {
-        cells[start + k] = cut_span_colour(texels, shades, x_fraction, y_fraction);
-        x_fraction = plus(x_fraction, x_step);
-        y_fraction = plus(y_fraction, y_step);
+        cells[start + k] = shades[texels[flat_place_at(place)] as usize];
+        place = packed_after(place, step);
     }
 }

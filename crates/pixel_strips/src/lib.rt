@@ -9,6 +9,7 @@
 mod canvas;
 mod column;
 mod frame;
+mod places;
 mod span;
 #[cfg(test)]
 mod tests;

@@ -1,0 +1,134 @@
+-- Laws of places: the first one, one step more, and the texel that a place stands for.
+use Rattle.std.proofs.Common.{◌≡◌, ℕ, ◌+◌, ◌*◌, ◌/◌, ◌%◌, ◌^◌, ◌<◌, ◌≤◌, ℤ, pos, negsuc, FitsSigned, refl, sym, ap, ap₂, ◌∙◌, arith, add-mul, mod-lt, pow_pos}
+use native.Mathlib.Nat.{add-mod}
+use Rattle.std.specs.Int.{w32, cast_unsigned}
+use Rattle.std.proofs.lemmas.Int.{of_z-to_z, wrapping_add_is, SFits-int_wrap}
+use Rattle.std.proofs.lemmas.Nat.{mul-mod_first}
+use lib.IntN.{◌+ℤ◌}
+use Rattle.word_rules.specs.Words.{bits_of, plus, shr_word}
+use Rattle.word_rules.specs.declared.TheConstants.{FRACTION_BITS}
+use Rattle.pixel_rules.specs.declared.TheConstants.{FLAT_SIDE}
+use Rattle.pixel_rules.specs.Strips.{texel_row, flat_place}
+use Rattle.pixel_strips.specs.declared.places.TheConstants.{ROW_LIFT, ROW_SHIFT, FLAT_LIFT, CARRIES}
+use Rattle.pixel_strips.specs.Places.{lifted, IsTexelPlace, IsFlatPlace}
+
+plus_fits : (a b : ℤ) → FitsSigned w32 (plus a b)
+unfolding plus
+plus_fits a b = SFits-int_wrap w32 (a +ℤ b)
+
+-- the bits of a sum
+bits_of-plus : (a b : ℤ) → FitsSigned w32 a → FitsSigned w32 b → bits_of (plus a b) ≡ (bits_of a + bits_of b) % 2 ^ 32
+unfolding plus
+bits_of-plus a b f g =
+    ap (cast_unsigned w32) (sym (wrapping_add_is w32 a b f g))
+    ∙ of_z-to_z w32 ((bits_of a + bits_of b) % 2 ^ 32) (mod-lt (bits_of a + bits_of b) (pow_pos 32))
+
+-- a sum of two words, lifted
+sum_lifted : (p q s m : ℕ) → (p + q) % m * s % m ≡ (p * s % m + q * s % m) % m
+sum_lifted p q s m =
+    mul-mod_first (p + q) s m ∙ ap (λ (n : ℕ). n % m) (add-mul p q s) ∙ add-mod (p * s) (q * s) m
+
+lifted-plus : (by : ℕ) (a b : ℤ) → FitsSigned w32 a → FitsSigned w32 b → lifted by (plus a b) ≡ (lifted by a + lifted by b) % 2 ^ 32
+unfolding lifted
+lifted-plus by a b f g =
+    ap (λ (n : ℕ). n * 2 ^ by % 2 ^ 32) (bits_of-plus a b f g) ∙ sum_lifted (bits_of a) (bits_of b) (2 ^ by) (2 ^ 32)
+
+-- the first place, and one step more
+pub texel_place_is : (a : ℤ) (n : ℕ) → FitsSigned w32 a → n ≡ bits_of a → IsTexelPlace a (n * 2 ^ ROW_LIFT % 2 ^ 32)
+unfolding lifted
+texel_place_is a n f e = record { fits = f; is = ap (λ (m : ℕ). m * 2 ^ ROW_LIFT % 2 ^ 32) e }
+
+pub texel_place_more : (a b : ℤ) (place step : ℕ) → IsTexelPlace a place → IsTexelPlace b step →
+    IsTexelPlace (plus a b) ((place + step) % 2 ^ 32)
+texel_place_more a b place step p s = record {
+  fits = plus_fits a b;
+  is = ap₂ (λ (m n : ℕ). (m + n) % 2 ^ 32) p.is s.is ∙ sym (lifted-plus ROW_LIFT a b p.fits s.fits);
+}
+
+-- the lift takes away the bits above a texel row
+row_bits : (n : ℕ) → n * 2 ^ 9 % 2 ^ 32 / 2 ^ 25 ≡ n / 2 ^ 16 % 2 ^ 7
+row_bits n = omega arith
+
+-- above the fraction, the bits of a word are those of its whole texels
+row_of_bits : (z : ℤ) → FitsSigned w32 z → bits_of z / 2 ^ 16 % 2 ^ 7 ≡ texel_row z
+unfolding texel_row shr_word
+row_of_bits (pos n) f = refl
+row_of_bits (negsuc n) f = let h = f.sfits in omega arith
+
+pub row_of_place : (a : ℤ) (place : ℕ) → IsTexelPlace a place → place / 2 ^ ROW_SHIFT ≡ texel_row a
+unfolding lifted
+row_of_place a place p = ap (λ (n : ℕ). n / 2 ^ ROW_SHIFT) p.is ∙ row_bits (bits_of a) ∙ row_of_bits a p.fits
+
+-- the same of a texel of a flat
+flat_of_bits : (z : ℤ) → FitsSigned w32 z → bits_of z / 2 ^ 16 % 2 ^ 6 ≡ bits_of (shr_word z FRACTION_BITS) % FLAT_SIDE
+unfolding shr_word
+flat_of_bits (pos n) f = refl
+flat_of_bits (negsuc n) f = let h = f.sfits in omega arith
+
+-- the carries leave the six highest bits alone
+row_above : (n carries low : ℕ) → carries < 2 ^ 10 → low < 2 ^ 32 →
+    (2 ^ 32 * (n * 2 ^ 10 % 2 ^ 32 + carries) + low) / 2 ^ 58 ≡ n / 2 ^ 16 % 2 ^ 6
+row_above n carries low h l = omega arith
+
+column_below : (n high : ℕ) → (2 ^ 32 * high + n * 2 ^ 10 % 2 ^ 32) / 2 ^ 26 % 2 ^ 6 ≡ n / 2 ^ 16 % 2 ^ 6
+column_below n high = omega arith
+
+lifted_below : (by : ℕ) (z : ℤ) → lifted by z < 2 ^ 32
+unfolding lifted
+lifted_below by z = mod-lt (bits_of z * 2 ^ by) (pow_pos 32)
+
+pub flat_of_place : (x y : ℤ) (most place : ℕ) → most < CARRIES → IsFlatPlace x y most place →
+    64 * (place / 2 ^ 58) + place / 2 ^ 26 % 64 ≡ flat_place x y
+unfolding lifted flat_place
+flat_of_place x y most place h p =
+    let few = p.few in
+    ap (λ (n : ℕ). 64 * (n / 2 ^ 58) + n / 2 ^ 26 % 64) p.is
+    ∙ ap₂ (λ (row column : ℕ). 64 * row + column)
+    (row_above (bits_of y) p.carries (lifted FLAT_LIFT x) (omega arith) (lifted_below FLAT_LIFT x) ∙ flat_of_bits y p.y_fits)
+    (column_below (bits_of x) (lifted FLAT_LIFT y + p.carries) ∙ flat_of_bits x p.x_fits)
+
+-- the shift up of one half
+halves : (x y : ℕ) → y % 2 ^ 32 * 2 ^ 32 % 2 ^ 64 + x ≡ 2 ^ 32 * (y % 2 ^ 32 + 0) + x
+halves x y = omega arith
+
+-- the first place of a flat, and one step more
+pub flat_place_is : (x y : ℤ) (m n : ℕ) → FitsSigned w32 x → FitsSigned w32 y → m ≡ bits_of x → n ≡ bits_of y →
+    IsFlatPlace x y 0 (n * 2 ^ 10 % 2 ^ 32 * 2 ^ 32 % 2 ^ 64 + m * 2 ^ 10 % 2 ^ 32)
+unfolding lifted
+flat_place_is x y m n f g d e = record {
+  x_fits = f;
+  y_fits = g;
+  carries = 0;
+  few = omega arith;
+  is = halves (m * 2 ^ 10 % 2 ^ 32) (n * 2 ^ 10)
+      ∙ ap₂ (λ (u v : ℕ). 2 ^ 32 * (v * 2 ^ 10 % 2 ^ 32 + 0) + u * 2 ^ 10 % 2 ^ 32) d e;
+}
+
+-- the sum of two words of two halves, of which the first one's upper half holds carries
+two_halves : (y b x a carries none : ℕ) → x < 2 ^ 32 → a < 2 ^ 32 → carries + 1 < 2 ^ 10 → none ≤ 0 →
+    (2 ^ 32 * (y * 2 ^ 10 % 2 ^ 32 + carries) + x + (2 ^ 32 * (b * 2 ^ 10 % 2 ^ 32 + none) + a)) % 2 ^ 64
+    ≡ 2 ^ 32 * ((y * 2 ^ 10 % 2 ^ 32 + b * 2 ^ 10 % 2 ^ 32) % 2 ^ 32 + (carries + (x + a) / 2 ^ 32)) + (x + a) % 2 ^ 32
+two_halves y b x a carries none l m h k = omega arith
+
+-- one carry a step at most
+carried : (x a carries most : ℕ) → x < 2 ^ 32 → a < 2 ^ 32 → carries ≤ most → carries + (x + a) / 2 ^ 32 ≤ most + 1
+carried x a carries most l m h = omega arith
+
+pub flat_place_more : (x y a b : ℤ) (most place step : ℕ) → most + 1 < CARRIES → IsFlatPlace x y most place → IsFlatPlace a b 0 step →
+    IsFlatPlace (plus x a) (plus y b) (most + 1) ((place + step) % 2 ^ 64)
+unfolding lifted
+flat_place_more x y a b most place step h p s =
+    let low : ℕ = lifted FLAT_LIFT x in
+    let added : ℕ = lifted FLAT_LIFT a in
+    let carries : ℕ = p.carries + (low + added) / 2 ^ 32 in
+    let few = p.few in
+    record {
+      x_fits = plus_fits x a;
+      y_fits = plus_fits y b;
+      carries = carries;
+      few = carried low added p.carries most (lifted_below FLAT_LIFT x) (lifted_below FLAT_LIFT a) p.few;
+      is = ap₂ (λ (m n : ℕ). (m + n) % 2 ^ 64) p.is s.is
+          ∙ two_halves (bits_of y) (bits_of b) low added p.carries s.carries (lifted_below FLAT_LIFT x) (lifted_below FLAT_LIFT a) (omega arith) s.few
+          ∙ ap₂ (λ (u v : ℕ). 2 ^ 32 * (u + carries) + v)
+          (sym (lifted-plus FLAT_LIFT y b p.y_fits s.y_fits)) (sym (lifted-plus FLAT_LIFT x a p.x_fits s.x_fits));
+    }

@@ -1,0 +1,86 @@
+// Fractions as the loops of a frame step them: in the highest bits of a word, so that the texel is
+// one shift away, and a step is one sum.
+ghost use Rattle.std.specs.Prelude.{◌≡◌, ◌+◌, ◌<◌, ℕ, ℤ};
+ghost use Rattle.pixel_rules.specs.declared.TheConstants.{TEXEL_ROWS};
+ghost use Rattle.pixel_rules.specs.Strips.{texel_row, flat_place};
+ghost use Rattle.word_rules.specs.Words.{plus};
+ghost use Rattle.pixel_strips.specs.declared.texels.TheConstants.{FLAT_BYTES};
+ghost use Rattle.pixel_strips.specs.Places.{IsTexelPlace, IsFlatPlace};
+
+use pixel_rules::FLAT_SIDE;
+use word_rules::FRACTION_BITS;
+
+/// The bits of a 16.16 fraction above its texel row.
+pub const ROW_LIFT: u32 = 9;
+
+/// The bits of a place below its texel row.
+pub const ROW_SHIFT: u32 = FRACTION_BITS + ROW_LIFT;
+
+/// The bits of a 16.16 fraction above its texel of a flat.
+pub const FLAT_LIFT: u32 = 10;
+
+/// The bits of a place below its texel of a flat.
+pub const FLAT_SHIFT: u32 = FRACTION_BITS + FLAT_LIFT;
+
+/// The carries out of x that would reach the fraction of y: fewer do no harm.
+pub const CARRIES: u64 = 1 << FLAT_LIFT;
+
+/// The place of a fraction, or of a step, in a column of 128 texels.
+#[tactic(auto, using(crate::proofs::PlaceLemmas::texel_place_is))]
+#[inline(always)]
+pub fn texel_place(fraction: i32) -> u32
+    ensures { IsTexelPlace fraction result }
+{
+    fraction.cast_unsigned() << ROW_LIFT
+}
+
+/// The place after one step.
+#[inline(always)]
+pub fn place_after(place: u32, step: u32) -> u32
+    ensures { (a b : ℤ) → IsTexelPlace a place → IsTexelPlace b step → IsTexelPlace (plus a b) result }
+{
+    place.wrapping_add(step)
+}
+
+/// The texel row of a place, 0 to 127.
+#[tactic(auto, using(crate::proofs::PlaceLemmas::row_of_place))]
+#[inline(always)]
+pub fn row_at(place: u32) -> usize
+    ensures row { (a : ℤ) → IsTexelPlace a place → result ≡ texel_row a }
+    ensures within { result < TEXEL_ROWS }
+{
+    (place >> ROW_SHIFT) as usize
+}
+
+/// The place of two fractions, or of two steps, in a flat: no carry yet.
+#[tactic(auto, using(crate::proofs::PlaceLemmas::flat_place_is))]
+#[inline(always)]
+pub fn packed_place(x_fraction: i32, y_fraction: i32) -> u64
+    ensures { IsFlatPlace x_fraction y_fraction 0 result }
+{
+    let x = x_fraction.cast_unsigned() << FLAT_LIFT;
+    let y = y_fraction.cast_unsigned() << FLAT_LIFT;
+    ((y as u64) << u32::BITS) + x as u64
+}
+
+/// The place after one step, with one carry more at most.
+#[tactic(auto, using(crate::proofs::PlaceLemmas::flat_place_more))]
+#[inline(always)]
+pub fn packed_after(place: u64, step: u64) -> u64
+    ensures { (x y a b : ℤ) (most : ℕ) → most + 1 < CARRIES → IsFlatPlace x y most place →
+        IsFlatPlace a b 0 step → IsFlatPlace (plus x a) (plus y b) (most + 1) result }
+{
+    place.wrapping_add(step)
+}
+
+/// The texel of a flat, 0 to 4095, row by row, that a place stands for.
+#[inline(always)]
+pub fn flat_place_at(place: u64) -> usize
+    ensures place { (x y : ℤ) (most : ℕ) → most < CARRIES → IsFlatPlace x y most place →
+        result ≡ flat_place x y }
+    ensures within { result < FLAT_BYTES }
+{
+    let row = place >> (u32::BITS + FLAT_SHIFT);
+    let column = (place >> FLAT_SHIFT) % FLAT_SIDE as u64;
+    (FLAT_SIDE as u64 * row + column) as usize
+}
