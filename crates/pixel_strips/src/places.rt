@@ -37,7 +37,8 @@ pub fn texel_place(fraction: i32) -> u32
 /// The place after one step.
 #[inline(always)]
 pub fn place_after(place: u32, step: u32) -> u32
-    ensures { (a b : ℤ) → IsTexelPlace a place → IsTexelPlace b step → IsTexelPlace (plus a b) result }
+    ensures { (a b : ℤ) → IsTexelPlace a place → IsTexelPlace b step →
+        IsTexelPlace (plus a b) result }
 {
     place.wrapping_add(step)
 }
