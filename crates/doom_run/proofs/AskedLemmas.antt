@@ -13,9 +13,9 @@ use Rattle.texture_build.proofs.TexelLemmas.{prepared_is}
 use Rattle.texture_build.proofs.ViewLemmas.{textures_columns}
 use Rattle.command_line.specs.LevelJobs.{LevelJobValue}
 use Rattle.sound_scene.specs.Sound.{art_with, textures_view}
-use Rattle.scene_load.specs.Loads.{load_in, loaded_pictures, loaded_value, wad_contents, weapon_lumps}
-use Rattle.scene_load.specs.Orders.{loaded_items}
-use Rattle.scene_load.proofs.OrderLemmas.{items_composite, items_lump}
+use Rattle.level_audit.specs.scene_load.Loads.{load_in, loaded_pictures, loaded_value, wad_contents, weapon_lumps}
+use Rattle.level_audit.specs.scene_load.Orders.{loaded_items}
+use Rattle.level_audit.proofs.scene_load.OrderLemmas.{items_composite, items_lump}
 use Rattle.frame_core.specs.Views.{IsViewLump}
 use Rattle.frame_core.proofs.EnoughLemmas.{IsOfTexture, among_prepared, column_asked, needed_drawn, needed_patch, patch_there}
 use Rattle.doom_run.specs.declared.render.ReadyViews.{ReadyViews}

@@ -15,9 +15,9 @@ use Rattle.command_line.specs.declared.command.LevelTask.TheVariants.{Limits, Re
 use Rattle.command_line.specs.LevelJobs.{LevelJobValue}
 use Rattle.refusals.specs.declared.refusal.Refusal.{Refusal}
 use Rattle.sound_scene.proofs.SceneLemmas.{and_then-ok}
-use Rattle.scene_load.specs.Files.{files_in, files_named}
-use Rattle.scene_load.specs.Loads.{LoadedValue, load_in, loaded_value, wad_bytes, wad_contents}
-use Rattle.scene_load.proofs.AcceptedLemmas.{wads_accepted}
+use Rattle.level_audit.specs.scene_load.Files.{files_in, files_named}
+use Rattle.level_audit.specs.scene_load.Loads.{LoadedValue, load_in, loaded_value, wad_bytes, wad_contents}
+use Rattle.level_audit.proofs.scene_load.AcceptedLemmas.{wads_accepted}
 use Rattle.doom_run.specs.declared.render.ReadyViews.{ReadyViews}
 use Rattle.doom_run.specs.declared.status.Status.{Status}
 use Rattle.doom_run.specs.declared.status.Status.TheVariants.{Done, Usage, Refused, ReadFault, WriteFault, Limit, ZoneFull, OutOfMemory}

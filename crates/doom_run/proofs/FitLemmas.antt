@@ -10,7 +10,7 @@ use Rattle.picture_rules.specs.Paints.{view_paints}
 use Rattle.texture_build.specs.Draws.{FitBeside}
 use Rattle.sound_scene.specs.Sound.{SoundValue, textures_view}
 use Rattle.command_line.specs.declared.command.Format.{Format}
-use Rattle.scene_load.specs.declared.read.SceneFiles.{SceneFiles}
+use Rattle.level_audit.specs.declared.scene_load.read.SceneFiles.{SceneFiles}
 use Rattle.frame_core.specs.Scenes.{scene_of}
 use Rattle.doom_run.specs.declared.render.ReadyViews.{ReadyViews}
 use Rattle.doom_run.specs.declared.status.Status.{Status}

@@ -12,8 +12,8 @@ use Rattle.command_line.specs.declared.command.LevelTask.TheVariants.{Render, Au
 use Rattle.command_line.specs.declared.command.Settings.{Settings}
 use Rattle.refusals.specs.declared.refusal.Refusal.{Refusal}
 use Rattle.sound_scene.proofs.SceneLemmas.{same_value}
-use Rattle.scene_load.specs.Fulls.{IsFullLoad}
-use Rattle.scene_load.specs.Loads.{LoadedValue, load_in, loaded_sizes, wad_bytes}
+use Rattle.level_audit.specs.scene_load.Fulls.{IsFullLoad}
+use Rattle.level_audit.specs.scene_load.Loads.{LoadedValue, load_in, loaded_sizes, wad_bytes}
 use Rattle.doom_run.specs.Exercises.{made_files, made_level, made_wads}
 use Rattle.doom_run.specs.Fulls.{HasRoom, IsFullDraw, IsFullRun, IsOver}
 use Rattle.doom_run.specs.Steps.{RunStop, absent, at_step, else_usage, usage}

@@ -31,11 +31,11 @@ use Rattle.scene_rules.specs.Sizes.{greatest_by, is_last, is_list, is_map_lump, 
 use Rattle.level_audit.specs.Asked.{IsOfBase}
 use Rattle.sound_scene.specs.Sound.{textures_view}
 use Rattle.sound_scene.proofs.SceneLemmas.{IsBaseOf, and_then-ok, base_parts, scene_parts}
-use Rattle.scene_load.specs.Files.{files_in}
-use Rattle.scene_load.specs.Fulls.{IsBaseWithin}
-use Rattle.scene_load.specs.Loads.{LoadedValue, load_in, loaded_value, wad_bytes}
-use Rattle.scene_load.proofs.AuditedLemmas.{audited_by}
-use Rattle.scene_load.proofs.LoadLemmas.{audited_of}
+use Rattle.level_audit.specs.scene_load.Files.{files_in}
+use Rattle.level_audit.specs.scene_load.Fulls.{IsBaseWithin}
+use Rattle.level_audit.specs.scene_load.Loads.{LoadedValue, load_in, loaded_value, wad_bytes}
+use Rattle.level_audit.proofs.scene_load.AuditedLemmas.{audited_by}
+use Rattle.level_audit.proofs.scene_load.LoadLemmas.{audited_of}
 use Rattle.doom_run.specs.declared.render.ReadyViews.{ReadyViews}
 use Rattle.doom_run.specs.Leasts.{base_block, block_beside, is_base_lump, least_loading, least_over, least_views, level_least, painted_block, source_block}
 use Rattle.doom_run.specs.Renders.{FitDue, IsReady, ready_views}

@@ -14,7 +14,7 @@ use Rattle.picture_rules.specs.declared.Limits.{Limits}
 use Rattle.picture_rules.specs.declared.Counts.{Counts}
 use Rattle.picture_rules.specs.declared.OverLimit.{OverLimit}
 use Rattle.picture_rules.specs.Counts.{view_counts, view_over}
-use Rattle.scene_load.specs.declared.load.LoadedScene.{LoadedScene}
+use Rattle.level_audit.specs.declared.scene_load.load.LoadedScene.{LoadedScene}
 use Rattle.frame_core.specs.Scenes.{scene_of}
 use Rattle.doom_run.specs.declared.render.ReadyViews.{ReadyViews}
 use Rattle.doom_run.specs.Renders.{ready_views}

@@ -27,10 +27,10 @@ use Rattle.refusals.specs.declared.refusal.Refusal.TheVariants as refusal
 use Rattle.refusals.specs.Groups.{of_audit}
 use Rattle.picture_rules.specs.declared.Limits.{Limits}
 use Rattle.sound_scene.proofs.SceneLemmas.{and_then-ok, from_below-ok}
-use Rattle.scene_load.specs.declared.texts.TextTables.{TextTables}
-use Rattle.scene_load.specs.Files.{FilesValue, files_in, files_named, in_file, in_optional_file, lumps_in, path_file, tables_file, texts_in, things_file, wad_files, weapons_file}
-use Rattle.scene_load.specs.Loads.{LoadedValue, audited_in, load_in, loaded_sizes, loaded_value, wad_bytes}
-use Rattle.scene_load.proofs.AuditedLemmas.{audited_by}
+use Rattle.level_audit.specs.declared.scene_load.texts.TextTables.{TextTables}
+use Rattle.level_audit.specs.scene_load.Files.{FilesValue, files_in, files_named, in_file, in_optional_file, lumps_in, path_file, tables_file, texts_in, things_file, wad_files, weapons_file}
+use Rattle.level_audit.specs.scene_load.Loads.{LoadedValue, audited_in, load_in, loaded_sizes, loaded_value, wad_bytes}
+use Rattle.level_audit.proofs.scene_load.AuditedLemmas.{audited_by}
 use Rattle.frame_core.specs.Scenes.{scene_of}
 use Rattle.doom_run.specs.declared.exercise.Summary.{Summary}
 use Rattle.doom_run.specs.declared.status.Status.{Status}

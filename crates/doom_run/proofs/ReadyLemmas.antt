@@ -17,9 +17,9 @@ use Rattle.texture_build.specs.Views.{TexturesView, prepared_texture}
 use Rattle.texture_build.specs.Draws.{HoldsArt, IsFullForTexture, KeepsArt}
 use Rattle.texture_build.proofs.DrawLemmas.{holds_art-later, keeps_art-none, keeps_art-then}
 use Rattle.sound_scene.specs.Sound.{SoundValue, textures_view}
-use Rattle.scene_load.specs.declared.read.SceneFiles.{SceneFiles}
-use Rattle.scene_load.specs.Files.{value_of}
-use Rattle.scene_load.specs.Loads.{loaded_sizes}
+use Rattle.level_audit.specs.declared.scene_load.read.SceneFiles.{SceneFiles}
+use Rattle.level_audit.specs.scene_load.Files.{value_of}
+use Rattle.level_audit.specs.scene_load.Loads.{loaded_sizes}
 use Rattle.command_line.specs.declared.command.Format.{Format}
 use Rattle.frame_core.specs.Scenes.{scene_of}
 use Rattle.frame_core.specs.Views.{CanDrawView, IsViewLump, IsViewTexture}

@@ -12,10 +12,10 @@ use Rattle.texture_build.specs.Draws.{HasTexturesAsked}
 use Rattle.sound_scene.specs.Sound.{SoundValue, textures_view}
 use Rattle.command_line.specs.LevelJobs.{LevelJobValue}
 use Rattle.refusals.specs.declared.refusal.Refusal.{Refusal}
-use Rattle.scene_load.specs.declared.read.SceneFiles.{SceneFiles}
-use Rattle.scene_load.specs.Loads.{LoadedValue}
-use Rattle.scene_load.specs.Orders.{IsLoadedInOrder, files_size, loaded_items, lumps_size}
-use Rattle.scene_load.proofs.OrderLemmas.{items_read}
+use Rattle.level_audit.specs.declared.scene_load.read.SceneFiles.{SceneFiles}
+use Rattle.level_audit.specs.scene_load.Loads.{LoadedValue}
+use Rattle.level_audit.specs.scene_load.Orders.{IsLoadedInOrder, files_size, loaded_items, lumps_size}
+use Rattle.level_audit.proofs.scene_load.OrderLemmas.{items_read}
 use Rattle.frame_core.specs.declared.fault.ViewFault.{ViewFault}
 use Rattle.frame_core.specs.declared.fault.ViewFault.TheVariants as view
 use Rattle.frame_core.specs.Faults.{view_fault}

@@ -11,8 +11,8 @@ use Rattle.command_line.specs.declared.command.LevelTask.{LevelTask}
 use Rattle.command_line.specs.declared.command.LevelTask.TheVariants.{Render}
 use Rattle.scene_rules.specs.Sizes.{composite_block, is_needed, lump_block}
 use Rattle.sound_scene.specs.Sound.{art_with}
-use Rattle.scene_load.specs.Fulls.{IsFullLoad}
-use Rattle.scene_load.specs.Loads.{LoadedValue, load_in, loaded_pictures, loaded_sizes}
+use Rattle.level_audit.specs.scene_load.Fulls.{IsFullLoad}
+use Rattle.level_audit.specs.scene_load.Loads.{LoadedValue, load_in, loaded_pictures, loaded_sizes}
 use Rattle.doom_run.specs.Exercises.{made_files, made_level, made_wads}
 use Rattle.doom_run.specs.Verdict.{Accepted, enough_for}
 

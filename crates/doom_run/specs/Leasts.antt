@@ -22,7 +22,7 @@ use Rattle.refusals.specs.declared.refusal.Refusal.{Refusal}
 use Rattle.scene_rules.specs.Scenes.{LevelBase}
 use Rattle.scene_rules.specs.Sizes.{greatest_by, is_list, is_map_lump, lump_block}
 use Rattle.sound_scene.specs.Sound.{textures_view}
-use Rattle.scene_load.specs.Loads.{LoadedValue, load_in, wad_bytes}
+use Rattle.level_audit.specs.scene_load.Loads.{LoadedValue, load_in, wad_bytes}
 use Rattle.doom_run.specs.Exercises.{made_files, made_level, made_wads}
 use Rattle.doom_run.specs.Views.{ViewsValue, due_views, views_of}
 

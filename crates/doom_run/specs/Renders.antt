@@ -10,7 +10,7 @@ use Rattle.picture_rules.specs.Paints.{view_paints}
 use Rattle.view_rules.specs.View.{view_of}
 use Rattle.sound_scene.specs.Sound.{textures_view}
 use Rattle.command_line.specs.LevelJobs.{LevelJobValue}
-use Rattle.scene_load.specs.Loads.{load_in, loaded_sizes, loaded_value}
+use Rattle.level_audit.specs.scene_load.Loads.{load_in, loaded_sizes, loaded_value}
 use Rattle.frame_core.specs.Scenes.{scene_of}
 use Rattle.frame_core.specs.Views.{CanDrawView, IsViewLump, IsViewTexture}
 use Rattle.doom_run.specs.declared.render.ReadyViews.{ReadyViews}

@@ -7,8 +7,8 @@ use Rattle.zone_rules.specs.Zones.{Heap}
 use Rattle.lump_cache.specs.Calls.{InOrderAt}
 use Rattle.command_line.specs.Commands.{CommandValue, exercise, flat, level_job, make}
 use Rattle.command_line.specs.LevelJobs.{LevelJobValue}
-use Rattle.scene_load.specs.Loads.{LoadedValue, load_in, loaded_sizes}
-use Rattle.scene_load.specs.Orders.{IsLoadedInOrder, files_size, lumps_size}
+use Rattle.level_audit.specs.scene_load.Loads.{LoadedValue, load_in, loaded_sizes}
+use Rattle.level_audit.specs.scene_load.Orders.{IsLoadedInOrder, files_size, lumps_size}
 use Rattle.refusals.specs.declared.refusal.Refusal.{Refusal}
 use Rattle.doom_run.specs.declared.status.Status.{Status}
 use Rattle.doom_run.specs.declared.status.Status.TheVariants.{Done, Usage, Refused, ReadFault, WriteFault, Limit, ZoneFull, OutOfMemory}

@@ -22,7 +22,7 @@ use Rattle.picture_rules.specs.Scene.{Scene}
 use Rattle.picture_rules.specs.Picture.{picture}
 use Rattle.picture_rules.specs.Counts.{view_counts, view_over}
 use Rattle.scene_rules.specs.declared.ZoneSizes.{ZoneSizes}
-use Rattle.scene_load.specs.Loads.{LoadedValue, load_in, loaded_sizes, wad_bytes}
+use Rattle.level_audit.specs.scene_load.Loads.{LoadedValue, load_in, loaded_sizes, wad_bytes}
 use Rattle.frame_core.specs.Scenes.{scene_of}
 use Rattle.doom_run.specs.declared.status.Status.{Status}
 use Rattle.doom_run.specs.declared.status.Status.TheVariants.{Done, Limit}

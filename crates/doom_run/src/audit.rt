@@ -9,7 +9,7 @@ ghost use Rattle.lump_cache.specs.Calls.{IfFull};
 ghost use Rattle.command_line.specs.LevelJobs.{level_job_value};
 ghost use Rattle.command_line.specs.declared.command.LevelTask.TheVariants.{Audit};
 ghost use Rattle.outside.specs.Stops.{ResultIsOrAbsent};
-ghost use Rattle.scene_load.specs.Fulls.{IsFullLoad};
+ghost use Rattle.level_audit.specs.scene_load.Fulls.{IsFullLoad};
 ghost use Rattle.doom_run.specs.Audits.{audit_verdict};
 ghost use Rattle.doom_run.specs.Ends.{DeliversAt};
 ghost use Rattle.doom_run.specs.Leasts.{level_least};
@@ -19,8 +19,8 @@ ghost use Rattle.doom_run.specs.Verdict.{audited};
 use crate::notes::put_pair;
 use crate::status::Status;
 use command_line::LevelJob;
+use level_audit::{LoadFault, load_scene};
 use outside::{Shelf, Sink};
-use scene_load::{LoadFault, load_scene};
 use scene_rules::ZoneSizes;
 use std::alloc::Global;
 

@@ -14,9 +14,9 @@ ghost use Rattle.texture_build.specs.Draws.{HoldsArt};
 ghost use Rattle.sound_scene.specs.Sound.{textures_view};
 ghost use Rattle.command_line.specs.Commands.{IsCount};
 ghost use Rattle.command_line.specs.declared.command.LevelTask.TheVariants.{Render};
-ghost use Rattle.scene_load.specs.Files.{files_named};
-ghost use Rattle.scene_load.specs.Fulls.{IsBaseWithin, IsFullLoad};
-ghost use Rattle.scene_load.specs.Loads.{load_in, loaded_value};
+ghost use Rattle.level_audit.specs.scene_load.Files.{files_named};
+ghost use Rattle.level_audit.specs.scene_load.Fulls.{IsBaseWithin, IsFullLoad};
+ghost use Rattle.level_audit.specs.scene_load.Loads.{load_in, loaded_value};
 ghost use Rattle.frame_core.specs.Views.{CanDrawView};
 ghost use Rattle.doom_run.specs.Ends.{IfEnded};
 ghost use Rattle.doom_run.specs.Exercises.{DeliversLine, ExercisesAt, exercise_verdict, frame_size, made_files, made_level, made_wads, summary_line};
@@ -28,10 +28,10 @@ use crate::render::{ReadyViews, deliver_render, prepare_views};
 use crate::status::Status;
 use command_line::{Files, Format, LevelJob, Settings};
 use frame_writer::FRAME_BYTES;
+use level_audit::LoadFault;
 use level_maker::{make_path, make_tables, make_things, make_wad};
 use lump_rules::Name8;
 use outside::{MemoryFile, MemoryShelf, OutOfMemory, Sink, TallySink};
-use scene_load::LoadFault;
 use std::alloc::Global;
 
 // What an exercise counted.

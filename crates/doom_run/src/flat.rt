@@ -7,7 +7,7 @@ ghost use Rattle.lump_rules.specs.Contents.{AllWithin};
 ghost use Rattle.doom_run.specs.Ends.{DeliversAt};
 ghost use Rattle.doom_run.specs.Flats.{palette_in, flat_in, picture_in, flat_picture, flat_verdict};
 ghost use Rattle.outside.specs.Stops.{ResultIsOrAbsent};
-ghost use Rattle.scene_load.specs.Files.{IsNeverFull};
+ghost use Rattle.level_audit.specs.scene_load.Files.{IsNeverFull};
 ghost use Rattle.doom_run.specs.Verdict.{tiled_flat};
 
 use crate::lumps::{read_front, read_lump};
@@ -16,9 +16,8 @@ use crate::status::Status;
 use crate::tiling::tile;
 use crate::{Refusal, SceneRefusal};
 use frame_writer::{FRAME_BYTES, PALETTE_BYTES, put_ppm};
-use level_audit::find_playpal;
+use level_audit::{LoadFault, find_playpal, load_dir};
 use outside::{Fault, FileNo, Shelf, Sink};
-use scene_load::{LoadFault, load_dir};
 use std::alloc::Global;
 use wad_dir::{Directory, Name8};
 

@@ -5,10 +5,10 @@ ghost use Rattle.outside.specs.Shelf.{NameFiles, IsLaterShelf};
 ghost use Rattle.outside.specs.Faults.{ResultIs, HasCauses, itself};
 ghost use Rattle.lump_rules.specs.Contents.{AllWithin, lump_bytes};
 ghost use Rattle.lump_rules.specs.Lookups.{lump_at};
-ghost use Rattle.scene_load.specs.Files.{IsNeverFull};
+ghost use Rattle.level_audit.specs.scene_load.Files.{IsNeverFull};
 
+use level_audit::LoadFault;
 use outside::{Failed, Shelf};
-use scene_load::LoadFault;
 use std::alloc::Global;
 use wad_dir::{Directory, LumpNo};
 

@@ -3,9 +3,9 @@ ghost use Rattle.std.specs.Prelude.{◌≡◌};
 ghost use Rattle.doom_run.specs.Ends.{code_of, status_of};
 
 use crate::Refusal;
+use level_audit::LoadFault;
 use outside::Fault;
 use picture_rules::LimitKind;
-use scene_load::LoadFault;
 
 /// How a run ends.
 #[derive(Clone, Copy, Debug, PartialEq, Eq)]

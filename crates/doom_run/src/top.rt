@@ -6,7 +6,7 @@ ghost use Rattle.outside.specs.Sink.{Grew, GrewByPrefix};
 ghost use Rattle.command_line.specs.Commands.{IsCounted, IsCountedMake, command_of, command_value, flat, level_job, make};
 ghost use Rattle.command_line.specs.LevelJobs.{IsLevelJob, level_job_value};
 ghost use Rattle.command_line.specs.declared.command.LevelTask.TheVariants.{Audit};
-ghost use Rattle.scene_load.specs.Fulls.{IsFullLoad};
+ghost use Rattle.level_audit.specs.scene_load.Fulls.{IsFullLoad};
 ghost use Rattle.doom_run.specs.Ends.{EndsAt, EndsWith, IsEnd, IsReadOrFull, IsUnwritten};
 ghost use Rattle.doom_run.specs.Fulls.{HasRoom, IsFullRun};
 ghost use Rattle.doom_run.specs.Leasts.{command_least, command_zone, level_least};

@@ -7,7 +7,7 @@ ghost use Rattle.zone_rules.specs.Zones.{IsZoneSize};
 ghost use Rattle.command_line.specs.Commands.{IsCount, exercise};
 ghost use Rattle.command_line.specs.LevelJobs.{IsLevelJob, level_job_value};
 ghost use Rattle.command_line.specs.declared.command.LevelTask.TheVariants.{Limits, Render};
-ghost use Rattle.scene_load.specs.Fulls.{IsFullLoad};
+ghost use Rattle.level_audit.specs.scene_load.Fulls.{IsFullLoad};
 ghost use Rattle.doom_run.specs.Ends.{EndsAt, IsEnd, IsReadOrFull, IsUnwritten};
 ghost use Rattle.doom_run.specs.Exercises.{made_files, made_level, made_wads};
 ghost use Rattle.doom_run.specs.Fulls.{IsFullDraw};

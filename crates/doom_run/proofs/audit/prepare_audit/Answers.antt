@@ -1,6 +1,6 @@
 use Rattle.std.proofs.Common.{map}
 use Rattle.command_line.specs.LevelJobs.{level_job_value}
-use Rattle.scene_load.specs.Loads.{loaded_value}
+use Rattle.level_audit.specs.scene_load.Loads.{loaded_value}
 use Rattle.doom_run.proofs.EndLemmas.{loaded_named}
 use Rattle.doom_run.proofs.LeastLemmas.{least_audit}
 use Rattle.doom_run.proofs.TakeLemmas.{loads_taken}

@@ -1,7 +1,7 @@
 use Rattle.std.proofs.Common.{[], ◌∷◌, length, ap, sym, ◌∙◌, arith, inl, inr, List, ℕ, subst}
 use Rattle.command_line.specs.declared.command.MakeJob.TheVariants.{Wad}
-use Rattle.scene_load.specs.Fulls.{IsFullLoad}
-use Rattle.scene_load.specs.Loads.{loaded_value}
+use Rattle.level_audit.specs.scene_load.Fulls.{IsFullLoad}
+use Rattle.level_audit.specs.scene_load.Loads.{loaded_value}
 use Rattle.lump_rules.specs.Contents.{lump_bytes}
 use Rattle.lump_rules.specs.Lookups.{lump_at}
 use Rattle.doom_run.proofs.LeastLemmas.{least_render}

@@ -2,7 +2,7 @@ use Rattle.std.proofs.Common.{◌∷◌, [], refl}
 use Rattle.outside.specs.Shelf.{NameFiles}
 use Rattle.outside.proofs.ShelfLemmas.{all_stand_later, follows_then}
 use Rattle.outside.proofs.StepLemmas.{step}
-use Rattle.scene_load.specs.Files.{wad_files}
+use Rattle.level_audit.specs.scene_load.Files.{wad_files}
 use Rattle.doom_run.specs.Flats.{picture_in}
 use Rattle.doom_run.proofs.StepLemmas.{stop_same}
 use Rattle.doom_run.proofs.flat.load_flat.Goals as goal

@@ -1,5 +1,5 @@
 use Rattle.std.proofs.Common.{arith}
-use Rattle.scene_load.proofs.OrderLemmas.{items_read}
+use Rattle.level_audit.proofs.scene_load.OrderLemmas.{items_read}
 use Rattle.doom_run.proofs.render.prepare_views.Goals as goal
 
 pub returns-in-Ok-clause-order : goal.returns-in-Ok-clause-order

@@ -1,7 +1,7 @@
 use Rattle.std.proofs.Common.{[], map, ◌∙◌, sym, subst}
 use Rattle.command_line.specs.LevelJobs.{level_job_value}
-use Rattle.scene_load.specs.Fulls.{IsFullLoad}
-use Rattle.scene_load.specs.Loads.{loaded_value}
+use Rattle.level_audit.specs.scene_load.Fulls.{IsFullLoad}
+use Rattle.level_audit.specs.scene_load.Loads.{loaded_value}
 use Rattle.doom_run.proofs.TakeLemmas.{loads_taken}
 use Rattle.doom_run.proofs.LeastLemmas.{least_limits}
 use Rattle.doom_run.specs.declared.status.Status.{Status}

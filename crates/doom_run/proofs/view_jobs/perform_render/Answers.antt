@@ -1,11 +1,11 @@
 use Rattle.std.proofs.Common.{◌≡◌, Bor, false, List, ℕ, map, ◌∙◌, sym, inl, inr, arith, subst}
 use Rattle.std.specs.Prelude.{is_some}
 use Rattle.command_line.specs.LevelJobs.{level_job_value}
-use Rattle.scene_load.specs.Fulls.{IsFullLoad}
+use Rattle.level_audit.specs.scene_load.Fulls.{IsFullLoad}
 use Rattle.lump_rules.specs.Contents.{lump_bytes}
 use Rattle.lump_rules.specs.Lookups.{lump_at}
-use Rattle.scene_load.specs.Loads.{loaded_value}
-use Rattle.scene_load.specs.Orders.{loaded_items}
+use Rattle.level_audit.specs.scene_load.Loads.{loaded_value}
+use Rattle.level_audit.specs.scene_load.Orders.{loaded_items}
 use Rattle.sound_scene.proofs.SceneLemmas.{same_value}
 use Rattle.doom_run.proofs.AskedLemmas.{ready_asked}
 use Rattle.doom_run.proofs.TakeLemmas.{loads_taken, renders_taken}

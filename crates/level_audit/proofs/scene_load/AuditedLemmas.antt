@@ -1,0 +1,76 @@
+-- What is told of an audit of the scene, and then of the weapon layers.
+use Rattle.scene_rules.specs.declared.refusal.AuditRefusal.{AuditRefusal}
+use Rattle.std.proofs.Common.{◌≡◌, ℕ, Bool, List, Option, Some, None, Result, Ok, Err, refl, sym, ap, subst, ◌∙◌, ◌≤◌, IsErrAnd}
+use Rattle.std.specs.Prelude.{IfErr}
+use Rattle.std.proofs.lemmas.Result.{err_from_is_err_and}
+use Rattle.outside.specs.declared.fault.Fault.{Fault}
+use Rattle.outside.specs.declared.fault.Fault.TheVariants.{Refused, ReadFault, ZoneFull, OutOfMemory}
+use Rattle.outside.specs.Faults.{ResultIs, HasCauseAt, HasCauses, FaultFits, and_then, itself}
+use Rattle.outside.proofs.StepLemmas.{step}
+use Rattle.lump_rules.specs.declared.wad.Lump.{Lump}
+use Rattle.lump_cache.proofs.CallLemmas.{cause_later}
+use Rattle.art_rules.specs.declared.shapes.Frame.{Frame}
+use Rattle.command_line.specs.LevelJobs.{LevelJobValue}
+use Rattle.level_audit.specs.scene_load.Files.{FilesValue}
+use Rattle.scene_rules.specs.Scenes.{SceneValue, scene_in}
+use Rattle.sound_scene.specs.Sound.{SoundValue, with_book}
+use Rattle.sound_scene.proofs.SceneLemmas.{and_then-ok}
+use Rattle.level_audit.specs.scene_load.Loads.{LoadedValue, audited_in, audited_value, weapons_of, with_layers}
+
+-- what is told of a step that stops is told of all steps
+stops : {A C R : Type 0} (steady : Bool) (first : Result C R) (next : C → Result A R) (fault : Fault R) → FaultFits steady first fault → FaultFits steady (and_then first next) fault
+stops steady first next (Refused reason) h = rw h refl
+stops steady first next ReadFault h = h
+stops steady first next (ZoneFull wanted widest) h = tt
+stops steady first next OutOfMemory h = tt
+
+-- a step has stopped the call
+step_stopped : {A B C D R E : Type 0} {told : E → Fault R} {steady later : Bool} {v : D → C} {value : B → A} {first : Result C R} {r : Result D E} (next : C → Result A R) (fault : E) (result : Result B E) →
+    ResultIs told later v first r → r ≡ Err fault → later ≡ steady → IsErrAnd result (λ e. e ≡ fault) → ResultIs told steady value (and_then first next) result
+step_stopped {A} {B} {C} {D} {R} {E} {told} {steady} {later} {v} {value} {first} {r} next fault result answers was same is =
+    let p : (y : E) × (result ≡ Err y) × (y ≡ fault) = err_from_is_err_and result is in
+    let h : FaultFits later first (told fault) = rw was at answers.err in
+    let k : FaultFits steady (and_then first next) (told p.0) = rw (p.2, ← same) (stops later first next (told fault) h) in
+    rw p.1 (record { ok = tt; err = k })
+
+module _ (bytes : ℕ → List ℕ) (level : LevelJobValue) (found : FilesValue) where
+  -- the scene was not accepted
+  pub scene_stopped : {steady : Bool} {r : Result SoundValue (Fault AuditRefusal)} (fault : (Fault AuditRefusal)) (result : Result (SoundValue × Option (List Frame)) (Fault AuditRefusal)) → ResultIs itself steady (λ (sound : SoundValue). sound.scene) (scene_in bytes found.lumps found.things level.map_name level.settings.skill) r → r ≡ Err fault → IsErrAnd result (λ e. e ≡ fault) →
+      ResultIs itself steady (audited_value found) (audited_in bytes level found) result
+  unfolding audited_in
+  scene_stopped fault result answers was is = step_stopped _ fault result answers was refl is
+
+  -- it was, and the layers were not
+  pub layers_stopped : {steady later : Bool} {r : Result (Option (List Frame)) (Fault AuditRefusal)} (scene : SceneValue) (fault : (Fault AuditRefusal)) (result : Result (SoundValue × Option (List Frame)) (Fault AuditRefusal)) → scene_in bytes found.lumps found.things level.map_name level.settings.skill ≡ Ok scene →
+      later ≡ steady → ResultIs itself later (λ (weapons : Option (List Frame)). weapons) (weapons_of bytes found.lumps found.weapons) r → r ≡ Err fault → IsErrAnd result (λ e. e ≡ fault) → ResultIs itself steady (audited_value found) (audited_in bytes level found) result
+  unfolding audited_in
+  layers_stopped scene fault result accepted same answers was is = step _ _ scene accepted refl (step_stopped _ fault result answers was same is)
+
+  -- both were
+  pub both_accepted : (scene : SceneValue) (weapons : Option (List Frame)) → scene_in bytes found.lumps found.things level.map_name level.settings.skill ≡ Ok scene → weapons_of bytes found.lumps found.weapons ≡ Ok weapons →
+      audited_in bytes level found ≡ Ok (record { files = found; scene = scene; weapons = weapons })
+  unfolding audited_in
+  both_accepted scene weapons accepted layers = rw (accepted, layers) refl
+
+-- what holds of each accepted scene with its layers holds of what is audited
+pub audited_by : (P : LoadedValue → Type 0) (bytes : ℕ → List ℕ) (level : LevelJobValue) (found : FilesValue) (loaded : LoadedValue) → audited_in bytes level found ≡ Ok loaded →
+    ((scene : SceneValue) (weapons : Option (List Frame)) → scene_in bytes found.lumps found.things level.map_name level.settings.skill ≡ Ok scene → weapons_of bytes found.lumps found.weapons ≡ Ok weapons → P (record { files = found; scene = scene; weapons = weapons })) → P loaded
+unfolding audited_in
+audited_by P bytes level found loaded e each =
+    let a = and_then-ok (scene_in bytes found.lumps found.things level.map_name level.settings.skill) _ loaded e in
+    let b = and_then-ok (weapons_of bytes found.lumps found.weapons) _ loaded a.2 in
+    let made : ◌≡◌ {A = LoadedValue} (record { files = found; scene = a.0; weapons = b.0 }) loaded = cc (b.2) in
+    subst P made (each a.0 b.0 a.1 b.1)
+
+-- a read that failed later has made the count rise
+pub causes_after : {B D : Type 0} {before between now : ℕ} (r : Result D (Fault AuditRefusal)) (fault : (Fault AuditRefusal)) (result : Result B (Fault AuditRefusal)) → before ≤ between → HasCauses itself between now r → r ≡ Err fault → IsErrAnd result (λ e. e ≡ fault) → HasCauses itself before now result
+causes_after {B} {D} {before} {between} {now} r fault result later causes was is =
+    let s = err_from_is_err_and result is in
+    let k : HasCauseAt between now (itself fault) = subst (λ (y : Result D (Fault AuditRefusal)). IfErr y (λ f. HasCauseAt between now (itself f))) was causes.err in
+    record { err = subst (λ (y : Result B (Fault AuditRefusal)). IfErr y (λ f. HasCauseAt before now (itself f))) (sym (s.1 ∙ ap Err s.2)) (cause_later before between now (itself fault) later k) }
+
+-- the layers leave the scene as it is
+pub scene_kept : (lumps : List Lump) (weapons : Option (List Frame)) (sound : SoundValue) → (with_layers lumps weapons sound).scene ≡ sound.scene
+unfolding with_book
+scene_kept lumps None sound = refl
+scene_kept lumps (Some book) sound = refl

@@ -1,0 +1,80 @@
+-- What is told of a job's loading, step after step.
+use Rattle.std.proofs.Common.{◌≡◌, ℕ, Bool, List, Some, Result, Ok, Err, refl, sym, ap, ◌∙◌, IsErrAnd}
+use Rattle.std.specs.Prelude.{IfErr}
+use Rattle.std.proofs.lemmas.Result.{err_from_is_err_and}
+use Rattle.outside.specs.Shelf.{NameFiles, File, ShelfView}
+use Rattle.outside.specs.declared.fault.Fault.TheVariants.{OutOfMemory}
+use Rattle.outside.specs.Faults.{FaultFits, ResultIs, from_below, itself}
+use Rattle.lump_rules.specs.Contents.{AllWithin}
+use Rattle.zone_rules.specs.Zones.{Heap}
+use Rattle.wad_dir.specs.DirectoryView.{DirectoryView}
+use Rattle.lump_cache.specs.Caches.{IsFaithful}
+use Rattle.lump_cache.specs.Calls.{IfFull, HoldContents}
+use Rattle.command_line.specs.LevelJobs.{LevelJobValue}
+use Rattle.outside.specs.declared.fault.Fault.{Fault}
+use Rattle.level_audit.specs.scene_load.Files.{FilesValue, files_in, files_named}
+use Rattle.outside.specs.Stops.{Stop, ResultIsOrAbsent, FaultFitsOrAbsent, no_file}
+use Rattle.level_audit.proofs.scene_load.AcceptedLemmas.{wads_accepted}
+use Rattle.outside.proofs.StopLemmas.{all_passed, no_file_agrees, step_stops}
+use Rattle.scene_rules.specs.declared.refusal.AuditRefusal.{AuditRefusal}
+use Rattle.refusals.specs.declared.refusal.Refusal.{Refusal}
+use Rattle.refusals.specs.Groups.{of_audit}
+use Rattle.level_audit.specs.scene_load.Loads.{LoadedValue, audited_in, load_in, stops_of_audit, wad_bytes, wad_contents}
+
+-- memory ran out, which no step decides
+pub memory_agrees : {A B : Type 0} {steady : Bool} {value : B → A} (expected : Result A (Stop Refusal)) (fault : (Fault Refusal)) (result : Result B (Fault Refusal)) → itself fault ≡ OutOfMemory → IsErrAnd result (λ e. e ≡ fault) → ResultIsOrAbsent itself steady value expected result
+memory_agrees {steady} expected fault result tells is =
+    let s = err_from_is_err_and result is in
+    let k : FaultFitsOrAbsent steady expected (itself s.0) = rw (s.2, tells) tt in
+    rw s.1 (record { ok = tt; err = k })
+
+-- memory ran out, which says nothing of the zone
+pub memory_full : {B : Type 0} (P : ℕ → ℕ → Type 0) (fault : (Fault Refusal)) (result : Result B (Fault Refusal)) → itself fault ≡ OutOfMemory → IsErrAnd result (λ e. e ≡ fault) → IfErr result (λ f. IfFull (itself f) P)
+memory_full P fault result tells is =
+    let s = err_from_is_err_and result is in
+    let k : IfFull (itself s.0) P = rw (s.2, tells) tt in
+    rw s.1 k
+
+-- what no refusal of the lumps has stopped is audited
+unstopped : {A : Type 0} (expected : Result A AuditRefusal) (value : A) → stops_of_audit expected ≡ Ok value → expected ≡ Ok value
+unstopped (Ok found) value e = let same : found ≡ value = cc in ap Ok same
+unstopped (Err refusal) value e = absurd (cc)
+
+module _ (level : LevelJobValue) (wads : List (List ℕ)) (held : List File) where
+  -- the files stopped the loading
+  pub files_stopped : {B D : Type 0} {steady : Bool} {value : B → LoadedValue} {v : D → FilesValue} {r : Result D (Fault Refusal)} (fault : (Fault Refusal)) (result : Result B (Fault Refusal)) →
+      ResultIsOrAbsent itself steady v (files_in level.files wads level.settings.size held) r → r ≡ Err fault → IsErrAnd result (λ e. e ≡ fault) → ResultIsOrAbsent itself steady value (load_in level wads held) result
+  unfolding load_in
+  files_stopped fault result agrees was is = step_stops _ fault result agrees was refl is
+
+  module _ (found : FilesValue) where
+    -- the files were accepted, and the lumps decide
+    files_passed : files_in level.files wads level.settings.size held ≡ Ok found → load_in level wads held ≡ stops_of_audit (audited_in (wad_bytes wads held found.lumps) level found)
+    unfolding load_in
+    files_passed are = rw are refl
+
+    -- what is loaded is what is audited over their lumps
+    pub audited_of : (loaded : LoadedValue) → files_in level.files wads level.settings.size held ≡ Ok found → load_in level wads held ≡ Ok loaded → audited_in (wad_bytes wads held found.lumps) level found ≡ Ok loaded
+    audited_of loaded are e = unstopped (audited_in (wad_bytes wads held found.lumps) level found) loaded (sym (files_passed are) ∙ e)
+
+    -- the audit stopped the loading
+    pub audit_stopped : {B D : Type 0} {steady later : Bool} {value : B → LoadedValue} {v : D → LoadedValue} {r : Result D (Fault Refusal)} (fault : Fault Refusal) (result : Result B (Fault Refusal)) → files_in level.files wads level.settings.size held ≡ Ok found → later ≡ steady →
+        ResultIs itself later v (from_below of_audit (audited_in (wad_bytes wads held found.lumps) level found)) r → r ≡ Err fault → IsErrAnd result (λ e. e ≡ fault) → ResultIsOrAbsent itself steady value (load_in level wads held) result
+    audit_stopped {B} {D} {steady} {later} {value} {v} {r} fault result are same answers was is =
+        let s = err_from_is_err_and result is in
+        let h : FaultFits later (from_below of_audit (audited_in (wad_bytes wads held found.lumps) level found)) fault = rw was at answers.err in
+        let k : FaultFits steady (from_below of_audit (audited_in (wad_bytes wads held found.lumps) level found)) (itself s.0) = rw (s.2, ← same) h in
+        rw (files_passed are) (no_file_agrees (from_below of_audit (audited_in (wad_bytes wads held found.lumps) level found)) result (rw s.1 (record { ok = tt; err = k })))
+
+    -- all is loaded
+    pub all_loaded : {B : Type 0} {steady : Bool} {value : B → LoadedValue} (loaded : B) → files_in level.files wads level.settings.size held ≡ Ok found → from_below of_audit (audited_in (wad_bytes wads held found.lumps) level found) ≡ Ok (value loaded) →
+        ResultIsOrAbsent {E = (Fault Refusal)} itself steady value (load_in level wads held) (Ok loaded)
+    all_loaded {value} loaded are accepted = all_passed _ loaded (files_passed are ∙ ap (λ (r : Result LoadedValue Refusal). no_file r) accepted)
+
+    -- the shelf and the cache tell the WADs' bytes
+    pub told_wads : {w : ShelfView} {dir : DirectoryView} {z : Heap} → files_in level.files wads level.settings.size held ≡ Ok found →
+        ((contents : List (List ℕ)) → files_named wads held ≡ Some contents → NameFiles w dir.files contents × AllWithin contents dir.lumps) → ((contents : List (List ℕ)) → IsFaithful contents dir.lumps z) → HoldContents w dir z (wad_contents wads held)
+    told_wads are stand faithful =
+        let listed = wads_accepted level.files wads level.settings.size held found are in
+        let both = stand listed.contents listed.named in
+        rw listed.named (record { stand = both.0; within = both.1; faithful = faithful listed.contents })

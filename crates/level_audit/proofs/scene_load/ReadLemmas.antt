@@ -1,0 +1,164 @@
+-- Each lump that loading reads is of the directory, and is asked for.
+use Rattle.std.proofs.Common.{◌≡◌, ℕ, suc, ◌+◌, ◌<◌, ◌≤◌, Bool, true, false, cond, List, length, Option, Some, None, Ok, refl, sym, ap, subst, ◌∙◌, arith, inl, inr, eq-eqb}
+use Rattle.std.specs.Prelude.{◌==◌, nat_le, nat_lt, not, option_and_then, slice_get}
+use Rattle.std.specs.List.{list_any}
+use Rattle.std.specs.Option.{ok_or}
+use Rattle.std.proofs.lemmas.Bool.{and_parts, leb-true, or_right}
+use Rattle.std.proofs.lemmas.List.Elements.{All-contains}
+use Rattle.std.proofs.lemmas.List.Folds.{list_any-append}
+use Rattle.word_rules.proofs.LeastLemmas.{greatest-is}
+use Rattle.lump_rules.specs.declared.names.TheConstants.{BEHAVIOR, BEHAVIOR_AFTER, MAP_LUMPS}
+use Rattle.lump_rules.specs.declared.wad.Lump.{Lump}
+use Rattle.lump_rules.specs.Lookups.{are_named, has_name, if_label, is_label, is_named_in, last_of, lump_at, map_of}
+use Rattle.zone_rules.specs.Orders.{has_item}
+use Rattle.lump_cache.specs.Caches.{lump_owner}
+use Rattle.wad_dir.proofs.MapLemmas.{named_within}
+use Rattle.level_rules.specs.declared.ThingLine.{ThingLine}
+use Rattle.art_rules.specs.declared.Mention.{Mention}
+use Rattle.art_rules.specs.declared.TheConstants.{PNAMES, TEXTURE1, TEXTURE2}
+use Rattle.art_rules.specs.declared.shapes.Frame.{Frame}
+use Rattle.art_rules.specs.declared.shapes.Need.{Need}
+use Rattle.art_rules.specs.Books.{book_lumps}
+use Rattle.sprite_book.specs.Calls.{IsWanted}
+use Rattle.sprite_book.proofs.FrameLemmas.{pictures_there}
+use Rattle.command_line.specs.LevelJobs.{LevelJobValue}
+use Rattle.scene_rules.specs.declared.TheConstants.{PLAYPAL, PALETTE_SIZE}
+use Rattle.scene_rules.specs.declared.refusal.ArtRefusal.TheVariants.{Playpal}
+use Rattle.scene_rules.specs.Scenes.{SceneValue, art_of, if_long, label_of, long_lump, playpal_of, scene_in}
+use Rattle.scene_rules.specs.Sizes.{is_map_lump, is_needed}
+use Rattle.level_audit.specs.Asked.{IsOfArt, IsOfBase}
+use Rattle.level_audit.specs.Reads.{IsAfterColormap, IsReadBy}
+use Rattle.sound_scene.specs.Sound.{art_with}
+use Rattle.level_audit.specs.Weapons.{weapon_needs}
+use Rattle.level_audit.proofs.AskedLemmas.{needed_later}
+use Rattle.sound_scene.proofs.NeededLemmas.{for_colormap, for_picture}
+use Rattle.sound_scene.proofs.SceneLemmas.{base_parts, colormap_there, same_value, scene_parts}
+use Rattle.level_audit.specs.scene_load.Files.{FilesValue}
+use Rattle.level_audit.specs.scene_load.Fulls.{IsOfLayers, IsReadFor}
+use Rattle.level_audit.specs.scene_load.Loads.{LoadedValue, audited_in, loaded_pictures, weapon_lumps, weapons_of}
+use Rattle.level_audit.specs.scene_load.Orders.{loaded_items}
+use Rattle.level_audit.proofs.scene_load.AuditedLemmas.{audited_by}
+use Rattle.level_audit.proofs.scene_load.MoreLemmas.{book_of_layers, needed_more}
+use Rattle.level_audit.proofs.scene_load.OrderLemmas.{items_lump}
+
+-- a value that was found, or else there is a refusal
+found_or : {X E : Type 0} (o : Option X) (e : E) (x : X) → ok_or o e ≡ Ok x → o ≡ Some x
+found_or None e x is = cc
+found_or (Some y) e x is = let same : y ≡ x = cc in ap Some same
+
+module _ (lumps : List Lump) where
+  -- the last lump of a name
+  last_there : (name : List ℕ) (lump : ℕ) → last_of lumps name ≡ Some lump → lump < length lumps
+  last_there name lump last = (greatest-is (has_name lumps name) (length lumps) lump last).0
+
+  last_named : (name : Option (List ℕ)) (lump : ℕ) → option_and_then (last_of lumps) name ≡ Some lump → lump < length lumps
+  last_named None lump e = cc
+  last_named (Some name) lump e = last_there name lump e
+
+  -- PLAYPAL
+  long_last : (size lump : ℕ) (last : Option ℕ) → option_and_then (if_long lumps size) last ≡ Some lump → last ≡ Some lump
+  long_last size lump None e = cc
+  long_last size lump (Some n) e = go (nat_le size (lump_at lumps n).size) e where
+    go : (b : Bool) → cond b (Some n) None ≡ Some lump → Some n ≡ Some lump
+    go true is = is
+    go false is = cc
+
+  playpal_there : (lump : ℕ) → playpal_of lumps ≡ Ok lump → lump < length lumps
+  unfolding playpal_of
+  playpal_there lump is = last_there PLAYPAL lump (long_last PALETTE_SIZE lump (last_of lumps PLAYPAL) (found_or (long_lump lumps PLAYPAL PALETTE_SIZE) Playpal lump is))
+
+  -- the lumps behind a label
+  label_parts : (last : Option ℕ) (label : ℕ) → option_and_then (if_label lumps) last ≡ Some label → (last ≡ Some label) × (is_label lumps label ≡ true)
+  label_parts None label e = cc
+  label_parts (Some n) label e = go (is_label lumps n) refl e where
+    go : (b : Bool) → is_label lumps n ≡ b → cond b (Some n) None ≡ Some label → (Some n ≡ Some label) × (is_label lumps label ≡ true)
+    go true on is = (is, let same : n ≡ label = cc in ap (is_label lumps) (sym same) ∙ on)
+    go false on is = cc
+
+  label_names : (label : ℕ) → is_label lumps label ≡ true → are_named lumps (lump_at lumps label).file (suc label) MAP_LUMPS ≡ true
+  unfolding is_label
+  label_names label on =
+      (and_parts (are_named lumps (lump_at lumps label).file (suc label) MAP_LUMPS) (not (is_named_in lumps (lump_at lumps label).file BEHAVIOR (label + BEHAVIOR_AFTER))) on).0
+
+  map_last : (label lump : ℕ) → is_map_lump label lump ≡ true → lump ≤ label + length MAP_LUMPS
+  unfolding is_map_lump
+  map_last label lump among = leb-true lump (label + length MAP_LUMPS) (and_parts (nat_lt label lump) (nat_le lump (label + length MAP_LUMPS)) among).1
+
+  map_there : (name : List ℕ) (label lump : ℕ) → label_of lumps name ≡ Ok label → is_map_lump label lump ≡ true → lump < length lumps
+  unfolding label_of
+  map_there name label lump is among =
+      let parts = label_parts (last_of lumps name) label (found_or (map_of lumps name) _ label is) in
+      let first = last_there name label parts.0 in
+      let all = named_within lumps (lump_at lumps label).file (suc label) MAP_LUMPS (omega (arith, first)) (label_names label parts.1) in
+      let last = map_last label lump among in
+      omega (arith, all, last)
+
+  -- all lumps of a base
+  base_there : (name : List ℕ) (lump : ℕ) → IsOfBase lumps name lump → lump < length lumps
+  base_there name lump (inl playpal) = playpal_there lump playpal
+  base_there name lump (inr (inl map)) = map_there name map.label lump map.is map.among
+  base_there name lump (inr (inr (inl names))) = last_there PNAMES lump names
+  base_there name lump (inr (inr (inr (inl first)))) = last_there TEXTURE1 lump first
+  base_there name lump (inr (inr (inr (inr second)))) = last_there TEXTURE2 lump second
+
+  -- pictures of needed frames
+  picture_there : (needs : List Need) (lump : ℕ) → IsWanted lumps needs lump → lump < length lumps
+  picture_there needs lump asked =
+      let wanted = asked.wanted in
+      subst (λ n. n < length lumps) wanted.among.2
+      (All-contains (λ (mention : Mention). mention.lump < length lumps) wanted.pictures wanted.among.0 (pictures_there lumps asked.need wanted.pictures wanted.are) wanted.among.1)
+
+  -- all lumps that an audit reads
+  after_there : (bytes : ℕ → List ℕ) (lines : List ThingLine) (name : List ℕ) (skill lump : ℕ) → IsAfterColormap bytes lumps lines name skill lump → lump < length lumps
+  after_there bytes lines name skill lump (inl base) = base_there name lump base
+  after_there bytes lines name skill lump (inr over) = go over.asked.asked where
+    go : IsOfArt lumps lines skill over.base over.asked.faces lump → lump < length lumps
+    go (inl patch) = last_named (slice_get over.base.lists.names patch.entry.number) lump patch.is
+    go (inr picture) = picture_there _ lump picture
+
+-- the scene's colormap is needed
+colormap_needed : (lumps : List Lump) (scene : SceneValue) (lump : ℕ) → scene.base.colormap ≡ lump → is_needed lumps (art_of scene) lump ≡ true
+unfolding art_of
+colormap_needed lumps scene lump same = for_colormap lumps (art_of scene) lump (eq-eqb scene.base.colormap lump same)
+
+-- a lump of the directory that the scene needs is asked for, with the layers too
+module _ (loaded : LoadedValue) (lump : ℕ) (there : lump < length loaded.files.lumps) where
+  scene_item : is_needed loaded.files.lumps (art_of loaded.scene) lump ≡ true → has_item (loaded_items loaded) (lump_owner lump) (lump_at loaded.files.lumps lump).size ≡ true
+  unfolding art_of
+  scene_item needed = items_lump loaded lump (needed_more loaded.files.lumps loaded.scene (book_lumps loaded.scene.book) (weapon_lumps loaded.weapons) lump needed) there
+
+  picture_item : list_any (λ n. n == lump) (weapon_lumps loaded.weapons) ≡ true → has_item (loaded_items loaded) (lump_owner lump) (lump_at loaded.files.lumps lump).size ≡ true
+  picture_item on =
+      let among = list_any-append (λ n. n == lump) (book_lumps loaded.scene.book) (weapon_lumps loaded.weapons)
+      ∙ or_right (list_any (λ n. n == lump) (book_lumps loaded.scene.book)) (list_any (λ n. n == lump) (weapon_lumps loaded.weapons)) on in
+      items_lump loaded lump (for_picture loaded.files.lumps (art_with loaded.scene (loaded_pictures loaded)) lump among) there
+
+-- the lumps of what is audited
+module _ (bytes : ℕ → List ℕ) (level : LevelJobValue) (found : FilesValue) (scene : SceneValue) (weapons : Option (List Frame))
+    (accepted : scene_in bytes found.lumps found.things level.map_name level.settings.skill ≡ Ok scene) (layers : weapons_of bytes found.lumps found.weapons ≡ Ok weapons) (lump : ℕ) where
+  abbrev whole : LoadedValue
+  whole = record { files = found; scene = scene; weapons = weapons }
+
+  read_item : IsReadBy bytes found.lumps found.things level.map_name level.settings.skill lump → has_item (loaded_items whole) (lump_owner lump) (lump_at found.lumps lump).size ≡ true
+  read_item (inl colormap) =
+      let parts = scene_parts bytes found.lumps found.things level.map_name level.settings.skill scene accepted in
+      let same : scene.base.colormap ≡ lump = same_value scene.base.colormap lump (base_parts bytes found.lumps level.map_name scene.base parts.base).colormap colormap in
+      scene_item whole lump (colormap_there found.lumps lump colormap) (colormap_needed found.lumps scene lump same)
+  read_item (inr later) =
+      let parts = scene_parts bytes found.lumps found.things level.map_name level.settings.skill scene accepted in
+      scene_item whole lump (after_there found.lumps bytes found.things level.map_name level.settings.skill lump later)
+      (needed_later bytes found.lumps found.things level.map_name level.settings.skill scene parts lump later)
+
+  layer_item : IsOfLayers found.lumps found.weapons lump → has_item (loaded_items whole) (lump_owner lump) (lump_at found.lumps lump).size ≡ true
+  layer_item asked = picture_item whole lump (picture_there found.lumps (weapon_needs asked.0) lump asked.2) (book_of_layers bytes found.lumps found.weapons weapons lump layers asked)
+
+  any_item : IsReadFor bytes level found lump → has_item (loaded_items whole) (lump_owner lump) (lump_at found.lumps lump).size ≡ true
+  any_item (inl read) = read_item read
+  any_item (inr asked) = layer_item asked
+
+-- each lump that loading reads is asked for
+pub items_all : (bytes : ℕ → List ℕ) (level : LevelJobValue) (found : FilesValue) (loaded : LoadedValue) → audited_in bytes level found ≡ Ok loaded →
+    (lump : ℕ) → IsReadFor bytes level found lump → has_item (loaded_items loaded) (lump_owner lump) (lump_at found.lumps lump).size ≡ true
+items_all bytes level found loaded e =
+    audited_by (λ l. (lump : ℕ) → IsReadFor bytes level found lump → has_item (loaded_items l) (lump_owner lump) (lump_at found.lumps lump).size ≡ true) bytes level found loaded e
+    (λ scene weapons accepted layers lump asked. any_item bytes level found scene weapons accepted layers lump asked)
