@@ -10,7 +10,7 @@ use level_rules::{Leaf, MapLeaf, MapLine, MapSeg, MapVertex, NO_SIDE, Seg, Side,
 use std::alloc::{AllocError, Global};
 
 // The segs of a level, of records that are not refused.
-#[tactic(auto, using(level_rules::proofs::JoinLemmas::joining))]
+#[tactic(auto, using(level_rules::proofs::maps::JoinLemmas::joining))]
 pub(crate) fn join_segs(
     alloc: Global,
     sides: &[Side],
@@ -30,7 +30,7 @@ pub(crate) fn join_segs(
 }
 
 // The leaves of a level, of records that are not refused, and its segs.
-#[tactic(auto, using(level_rules::proofs::JoinLemmas::joining))]
+#[tactic(auto, using(level_rules::proofs::maps::JoinLemmas::joining))]
 pub(crate) fn join_leaves(
     alloc: Global,
     segs: &[Seg],
@@ -47,7 +47,7 @@ pub(crate) fn join_leaves(
 }
 
 // A seg, whose vertices, line and side are there.
-#[tactic(auto, using(level_rules::proofs::RangeLemmas::segs_in_range), unfolding(level_rules::specs::maps::Levels::seg_of))]
+#[tactic(auto, using(level_rules::proofs::maps::RangeLemmas::segs_in_range), unfolding(level_rules::specs::maps::Levels::seg_of))]
 fn seg_of(sides: &[Side], lines: &[MapLine], vertexes: &[MapVertex], seg: MapSeg) -> Seg
     requires seg { seg_field (length vertexes.now) lines.now seg ≡ None }
     requires line { line_field (length sides.now) (line_by lines.now seg.line) ≡ None }
@@ -60,7 +60,7 @@ fn seg_of(sides: &[Side], lines: &[MapLine], vertexes: &[MapVertex], seg: MapSeg
 }
 
 // A seg of a line, between two vertices.
-#[tactic(auto, using(level_rules::proofs::RangeLemmas::segs_in_range), unfolding(level_rules::specs::maps::Levels::seg_between))]
+#[tactic(auto, using(level_rules::proofs::maps::RangeLemmas::segs_in_range), unfolding(level_rules::specs::maps::Levels::seg_between))]
 fn seg_between(sides: &[Side], line: MapLine, v1: MapVertex, v2: MapVertex, seg: MapSeg) -> Seg
     requires line { line_field (length sides.now) line ≡ None }
     requires side { has_side line seg.side ≡ true }
@@ -82,7 +82,7 @@ fn seg_between(sides: &[Side], line: MapLine, v1: MapVertex, v2: MapVertex, seg:
 }
 
 // The sector behind side 0 or 1 of a line, where one is seen.
-#[tactic(auto, using(level_rules::proofs::RangeLemmas::segs_in_range), unfolding(level_rules::specs::maps::Levels::back_sector))]
+#[tactic(auto, using(level_rules::proofs::maps::RangeLemmas::segs_in_range), unfolding(level_rules::specs::maps::Levels::back_sector))]
 fn back_sector(sides: &[Side], line: MapLine, side: u16) -> Option<u16>
     requires line { line_field (length sides.now) line ≡ None }
     requires side { side < 2 }
@@ -105,7 +105,7 @@ fn has_back(line: MapLine, side: u16) -> bool
 }
 
 // A leaf, whose first seg is there.
-#[tactic(auto, using(level_rules::proofs::RangeLemmas::segs_in_range), unfolding(level_rules::specs::maps::Levels::leaf_of))]
+#[tactic(auto, using(level_rules::proofs::maps::RangeLemmas::segs_in_range), unfolding(level_rules::specs::maps::Levels::leaf_of))]
 fn leaf_of(segs: &[Seg], leaf: MapLeaf) -> Leaf
     requires { leaf.first < length segs.now }
     ensures { result ≡ leaf_of segs.now leaf }

@@ -11,7 +11,7 @@ use level_rules::maps::layout::{
 use level_rules::{Child, MapLeaf, MapLine, MapLump, MapRefusal, MapSeg, NO_SIDE, Node, Side};
 
 // The first line with a side that is not there.
-#[tactic(auto, using(level_rules::proofs::FirstLemmas::first_refusals))]
+#[tactic(auto, using(level_rules::proofs::maps::FirstLemmas::first_refusals))]
 pub(crate) fn first_line_refusal(lines: &[MapLine], sides: usize) -> Option<MapRefusal>
     ensures { result ≡ first_refusal (line_refusal sides) 0 lines.now }
 {
@@ -24,7 +24,7 @@ pub(crate) fn first_line_refusal(lines: &[MapLine], sides: usize) -> Option<MapR
 }
 
 // The first side whose sector is not there.
-#[tactic(auto, using(level_rules::proofs::FirstLemmas::first_refusals))]
+#[tactic(auto, using(level_rules::proofs::maps::FirstLemmas::first_refusals))]
 pub(crate) fn first_side_refusal(sides: &[Side], sectors: usize) -> Option<MapRefusal>
     ensures { result ≡ first_refusal (side_refusal sectors) 0 sides.now }
 {
@@ -37,7 +37,7 @@ pub(crate) fn first_side_refusal(sides: &[Side], sectors: usize) -> Option<MapRe
 }
 
 // The first seg with a vertex, a line or a side of that line that is not there.
-#[tactic(auto, using(level_rules::proofs::FirstLemmas::first_refusals))]
+#[tactic(auto, using(level_rules::proofs::maps::FirstLemmas::first_refusals))]
 pub(crate) fn first_seg_refusal(
     segs: &[MapSeg],
     vertexes: usize,
@@ -54,7 +54,7 @@ pub(crate) fn first_seg_refusal(
 }
 
 // The first leaf without a seg, or with one that is not there.
-#[tactic(auto, using(level_rules::proofs::FirstLemmas::first_refusals))]
+#[tactic(auto, using(level_rules::proofs::maps::FirstLemmas::first_refusals))]
 pub(crate) fn first_leaf_refusal(leaves: &[MapLeaf], segs: usize) -> Option<MapRefusal>
     ensures { result ≡ first_refusal (leaf_refusal segs) 0 leaves.now }
 {
@@ -67,7 +67,7 @@ pub(crate) fn first_leaf_refusal(leaves: &[MapLeaf], segs: usize) -> Option<MapR
 }
 
 // The first node with a child that is not there.
-#[tactic(auto, using(level_rules::proofs::FirstLemmas::first_refusals))]
+#[tactic(auto, using(level_rules::proofs::maps::FirstLemmas::first_refusals))]
 pub(crate) fn first_node_refusal(nodes: &[Node], leaves: usize) -> Option<MapRefusal>
     ensures { result ≡ first_refusal (node_refusal (length nodes.now) leaves) 0 nodes.now }
 {

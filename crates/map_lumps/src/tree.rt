@@ -39,7 +39,7 @@ pub(crate) fn root_of(nodes: &[Node]) -> Child
 
 // Reaches the nodes from a child at `depth` on, child 0 before child 1, up to the first that is
 // refused.
-#[tactic(auto, using(level_rules::proofs::VisitLemmas::visiting), unfolding(level_rules::specs::maps::Trees::visits_of))]
+#[tactic(auto, using(level_rules::proofs::maps::VisitLemmas::visiting), unfolding(level_rules::specs::maps::Trees::visits_of))]
 fn visit(nodes: &[Node], child: Child, depth: u32, reached: &mut [bool]) -> Option<MapRefusal>
     requires { depth ≤ MAX_DEPTH + 1 }
     ensures refusal { let visits = preorder nodes.now (MAX_DEPTH + 2 - depth) depth child in
