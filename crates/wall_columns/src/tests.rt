@@ -1,8 +1,9 @@
 // Values from outside: a room from -256 to 256 map units both ways, seen from its middle, 41 map
 // units up, through the made tables, with texture WALL1 of the made WAD on its walls.
-ghost use Rattle.std.specs.Prelude.{◌≡◌, ◌<◌, ◌≤◌, ◌+◌, ℕ, IfOk, OnOk, length};
-ghost use Rattle.view_rules.specs.declared.TheConstants.{FRAME_WIDTH, FRAME_HEIGHT};
-ghost use Rattle.picture_rules.specs.plane.Built.{IsAmongPlanes};
+//
+// Each function makes a few values and lends them to the next, and the one that draws owns none: a
+// function that owns many where it may return takes minutes to prove.
+ghost use Rattle.std.specs.Prelude.{◌≡◌, ◌≢◌, ◌<◌, ◌≤◌, ◌^◌, ℕ, IfOk, OnOk, length};
 ghost use Rattle.texture_build.specs.Draws.{CanDraw};
 ghost use Rattle.wall_columns.specs.Draws.{IsWallTexture};
 
@@ -19,7 +20,7 @@ use std::alloc::Global;
 use std::test::Fail;
 use texture_build::{TexNo, Textures};
 use view_frame::View;
-use view_rules::{Eye, FRAME_WIDTH};
+use view_rules::{Eye, FRAME_WIDTH, MAX_SIZE};
 use visplanes::{PlaneNo, Planes};
 use wad_dir::{Directory, LumpNo};
 use zone_heap::Tag;
@@ -28,16 +29,6 @@ const EYE: Eye = Eye {
     x: 0,
     y: 0,
     z: 41 << 16,
-    angle: 0,
-    extralight: 0,
-    colormap: 0,
-};
-
-// Above the room's ceiling.
-const HIGH_EYE: Eye = Eye {
-    x: 0,
-    y: 0,
-    z: 200 << 16,
     angle: 0,
     extralight: 0,
     colormap: 0,
@@ -64,12 +55,29 @@ const ROOM: Surface = Surface {
     light: 160,
 };
 
-const OPEN_AIR: Surface = Surface {
-    floor: 0,
-    ceiling: 128 << 16,
-    floor_flat: SKY_FLAT,
-    ceiling_flat: SKY_FLAT,
+const FLOOR: PlaneKey = PlaneKey {
+    height: 0,
+    flat: Flat4::Lump(1),
     light: 160,
+};
+
+const CEILING: PlaneKey = PlaneKey {
+    height: 128 << 16,
+    flat: Flat4::Lump(2),
+    light: 160,
+};
+
+const SKY: PlaneKey = PlaneKey {
+    height: 0,
+    flat: Flat4::Sky,
+    light: 0,
+};
+
+const WALL1: u16 = 1;
+
+const BRICK: WallTexture = WallTexture {
+    number: WALL1,
+    height: 128,
 };
 
 const BARE: WallTexture = WallTexture {
@@ -77,187 +85,234 @@ const BARE: WallTexture = WallTexture {
     height: 0,
 };
 
-// The east wall of a sector, with this middle texture, and with this sector behind it.
-fn east_wall(front: Surface, middle: WallTexture, back: Option<Surface>) -> WallFacts
-    ensures { (number : ℕ) → IsWallTexture result number → number ≡ middle.number }
+// The cache's slots for composites.
+const COMPOSITES: u32 = 8;
+
+// An eye in a leaf, which sees the east wall of a sector, with the sector behind it, bare or of
+// brick. The wall is drawn so many times, from column `first` to the last of the frame; then
+// `column` is looked at.
+#[derive(Clone, Copy)]
+struct Scene {
+    eye: Eye,
+    leaf: LeafPlanes,
+    front: Surface,
+    back: Option<Surface>,
+    is_brick: bool,
+    times: u8,
+    first: u16,
+    column: u16,
+}
+
+const BRICK_WALL: Scene = Scene {
+    eye: EYE,
+    leaf: LeafPlanes {
+        floor: Some(FLOOR),
+        ceiling: Some(CEILING),
+    },
+    front: ROOM,
+    back: None,
+    is_brick: true,
+    times: 1,
+    first: 1,
+    column: 160,
+};
+
+const OPEN_AIR: Scene = Scene {
+    leaf: LeafPlanes {
+        floor: Some(SKY),
+        ceiling: Some(SKY),
+    },
+    front: Surface {
+        floor_flat: SKY_FLAT,
+        ceiling_flat: SKY_FLAT,
+        ..ROOM
+    },
+    is_brick: false,
+    ..BRICK_WALL
+};
+
+// Seen from above the room's ceiling.
+const WINDOW: Scene = Scene {
+    eye: Eye {
+        z: 200 << 16,
+        ..EYE
+    },
+    leaf: LeafPlanes {
+        floor: None,
+        ceiling: None,
+    },
+    back: Some(ROOM),
+    is_brick: false,
+    times: 64,
+    first: 0,
+    ..BRICK_WALL
+};
+
+// What a scene leaves: how many planes, notes and openings; in its column the runs of the first two
+// planes, and the pixels of rows 45, 46, 125 and 126.
+#[derive(Clone, Copy, Debug, PartialEq, Eq)]
+struct Sight {
+    planes: u32,
+    notes: usize,
+    openings: usize,
+    runs: [Option<(u8, u8)>; 2],
+    pixels: [Option<u8>; 4],
+}
+
+// What walls are drawn on.
+#[derive(Drop)]
+struct Drawn<'a> {
+    walls: &'a mut WallState,
+    planes: &'a mut Planes,
+    frame: &'a mut Frame,
+}
+
+// What they are drawn from.
+#[derive(Clone, Copy)]
+struct Art<'a> {
+    dir: &'a Directory,
+    textures: &'a Textures,
+    colormap: LumpNo,
+}
+
+// What a scene leaves.
+fn seen(alloc: Global, scene: &Scene) -> Result<Result<Sight, DrawFault>, Fail> {
+    let tables = made_angles(alloc)?;
+    let view = View::new(&tables, scene.eye);
+    seen_by(alloc, &view, scene)
+}
+
+// The same, by this view.
+fn seen_by(
+    alloc: Global,
+    view: &View<'_>,
+    scene: &Scene,
+) -> Result<Result<Sight, DrawFault>, Fail> {
+    let mut frame = Frame::new(alloc)?;
+    let mut planes = Planes::new(alloc, 128)?;
+    let mut walls = WallState::new(alloc, MAX_OPENINGS)?;
+    let mut drawn = Drawn {
+        walls: &mut walls,
+        planes: &mut planes,
+        frame: &mut frame,
+    };
+    seen_on(alloc, view, &mut drawn, scene)
+}
+
+// The same, drawn on these.
+fn seen_on(
+    alloc: Global,
+    view: &View<'_>,
+    drawn: &mut Drawn<'_>,
+    scene: &Scene,
+) -> Result<Result<Sight, DrawFault>, Fail> {
+    let mut shelf = made_shelf(alloc)?;
+    let dir = made_directory(alloc, &mut shelf)?;
+    seen_over(alloc, view, drawn, &dir, &mut shelf, scene)
+}
+
+// The same, with the lumps of this directory.
+fn seen_over(
+    alloc: Global,
+    view: &View<'_>,
+    drawn: &mut Drawn<'_>,
+    dir: &Directory,
+    shelf: &mut MemoryShelf,
+    scene: &Scene,
+) -> Result<Result<Sight, DrawFault>, Fail>
+    requires { length dir.now.lumps < 2 ^ 16 }
+{
+    let colormap = colormap_of(dir)?;
+    let mut cache = made_cache(alloc, dir, shelf, colormap)?;
+    let textures = made_textures(alloc, dir, &mut cache, shelf)?;
+    let art = Art {
+        dir: &*dir,
+        textures: &textures,
+        colormap,
+    };
+    Ok(draw(view, drawn, &art, &mut cache, shelf, scene))
+}
+
+// Enters the leaf, draws the wall, and looks.
+fn draw(
+    view: &View<'_>,
+    drawn: &mut Drawn<'_>,
+    art: &Art<'_>,
+    cache: &mut LumpCache,
+    shelf: &mut MemoryShelf,
+    scene: &Scene,
+) -> Result<Sight, DrawFault>
+    requires slots { length art.now.dir.now.lumps ≤ cache.old.lumps }
+    requires colormap { art.now.colormap.0 < length art.now.dir.now.lumps }
+    requires brick { CanDraw art.now.dir.now.lumps art.now.textures.now cache.old WALL1 }
+{
+    let shape = view.shape();
+    let last = shape.width - 1;
+    let facts = east_wall(scene);
+    drawn.frame.place(shape.left, shape.top);
+    drawn.walls.start_view(shape.height);
+    drawn.walls.start_leaf(drawn.planes, scene.leaf)?;
+    for _ in 0..scene.times {
+        let mut tools = WallTools {
+            view: &*view,
+            textures: art.textures,
+            cache: &mut *cache,
+            dir: art.dir,
+            shelf: &mut *shelf,
+            planes: &mut *drawn.planes,
+            canvas: &mut *drawn.frame,
+            colormap: art.colormap,
+        };
+        drawn
+            .walls
+            .store_range(&mut tools, &facts, scene.first.min(last), last)?;
+    }
+    Ok(seen_in(drawn, scene.column))
+}
+
+fn east_wall(scene: &Scene) -> WallFacts
+    ensures { (number : ℕ) → IsWallTexture result number → number ≡ WALL1 }
 {
     WallFacts {
         seg_no: 0,
         seg: EAST,
-        front,
-        back,
+        front: scene.front,
+        back: scene.back,
         x_offset: 0,
         y_offset: 0,
         top: BARE,
         bottom: BARE,
-        middle,
+        middle: middle_of(scene),
     }
 }
 
-// The same without a texture.
-fn bare_wall(front: Surface, back: Option<Surface>) -> WallFacts
-    ensures { (number : ℕ) → IsWallTexture result number → ⊥ }
+fn middle_of(scene: &Scene) -> WallTexture
+    ensures { result.number ≢ 0 → result.number ≡ WALL1 }
 {
-    east_wall(front, BARE, back)
+    if scene.is_brick { BRICK } else { BARE }
 }
 
-const WALL1: u16 = 1;
-
-// The made WAD's directory and textures, with WALL1 prepared.
-#[derive(Drop)]
-struct Assets {
-    dir: Directory,
-    cache: LumpCache,
-    shelf: MemoryShelf,
-    textures: Textures,
-    colormap: LumpNo,
-}
-
-fn load_assets(alloc: Global) -> Result<Assets, Fail>
-    ensures slots { IfOk result (λ a. length a.dir.lumps ≤ a.cache.lumps) }
-    ensures colormap { IfOk result (λ a. a.colormap.0 < length a.dir.lumps) }
-    ensures brick { IfOk result (λ a. CanDraw a.dir.lumps a.textures a.cache WALL1) }
-{
-    let name = "made.wad".to_string(alloc)?;
-    let bytes = make_wad(alloc, 1)?;
-    let files = vec![in alloc; MemoryFile { name, bytes }]?;
-    let mut shelf = MemoryShelf::new(files, Vec::new(alloc));
-    let number = shelf.find("made.wad")?;
-    let dir = Directory::load(alloc, &mut shelf, &[number])?;
-    let mut cache = LumpCache::new(alloc, &dir, 65536, 8)?;
-    let colormap = dir
-        .last(&Name8::from_text("COLORMAP").ok_or("a name")?)
-        .ok_or("COLORMAP")?;
-    cache.fetch(&mut shelf, &dir, colormap, Tag::Static)?;
-    let mut textures = Textures::load(alloc, &dir, &mut cache, &mut shelf)?;
-    if textures.count() != 5 {
-        return Err("five textures".into());
+fn seen_in(drawn: &Drawn<'_>, column: u16) -> Sight {
+    Sight {
+        planes: drawn.planes.count(),
+        notes: drawn.walls.notes().len(),
+        openings: drawn.walls.openings().len(),
+        runs: [
+            run_at(drawn.planes, 0, column),
+            run_at(drawn.planes, 1, column),
+        ],
+        pixels: [
+            pixel(drawn.frame, column, 45),
+            pixel(drawn.frame, column, 46),
+            pixel(drawn.frame, column, 125),
+            pixel(drawn.frame, column, 126),
+        ],
     }
-    textures.prepare(alloc, &[TexNo(WALL1)], &dir, &mut cache, &mut shelf)?;
-    Ok(Assets {
-        dir,
-        cache,
-        shelf,
-        textures,
-        colormap,
-    })
-}
-
-// A state of walls, its planes and a frame.
-#[derive(Drop)]
-struct Drawn {
-    walls: WallState,
-    planes: Planes,
-    frame: Frame,
-}
-
-// The leaf is entered, and nothing drawn.
-#[tactic(auto, unfolding(pixel_strips::specs::Canvases::blank))]
-fn in_leaf(alloc: Global, view: &View<'_>, leaf: LeafPlanes) -> Result<Drawn, Fail>
-    ensures wide { OnOk result (view.now.shape.width ≡ FRAME_WIDTH) }
-    ensures height { IfOk result (λ d. d.walls.height ≡ view.now.shape.height) }
-    ensures left { IfOk result (λ d. d.frame.left + view.now.shape.width ≤ FRAME_WIDTH) }
-    ensures top { IfOk result (λ d. d.frame.top + view.now.shape.height ≤ FRAME_HEIGHT) }
-    ensures floor { IfOk result (λ d. IsAmongPlanes d.planes.planes d.walls.floor) }
-    ensures ceiling { IfOk result (λ d. IsAmongPlanes d.planes.planes d.walls.ceiling) }
-{
-    let shape = view.shape();
-    if shape.width != FRAME_WIDTH {
-        return Err("a view as wide as the frame".into());
-    }
-    let mut walls = WallState::new(alloc, MAX_OPENINGS)?;
-    let mut planes = Planes::new(alloc, 128)?;
-    walls.start_view(shape.height);
-    walls.start_leaf(&mut planes, leaf)?;
-    let frame = Frame::new(alloc)?;
-    Ok(Drawn {
-        walls,
-        planes,
-        frame,
-    })
-}
-
-// Draws a fragment from column `first` to the last of the frame.
-fn store(
-    drawn: &mut Drawn,
-    assets: &mut Assets,
-    view: &View<'_>,
-    facts: &WallFacts,
-    first: u16,
-) -> Result<(), DrawFault>
-    requires first { first < FRAME_WIDTH }
-    requires wide { view.now.shape.width ≡ FRAME_WIDTH }
-    requires height { drawn.old.walls.height ≡ view.now.shape.height }
-    requires left { drawn.old.frame.left + view.now.shape.width ≤ FRAME_WIDTH }
-    requires top { drawn.old.frame.top + view.now.shape.height ≤ FRAME_HEIGHT }
-    requires slots { length assets.old.dir.lumps ≤ assets.old.cache.lumps }
-    requires colormap { assets.old.colormap.0 < length assets.old.dir.lumps }
-    requires textures { (number : ℕ) → IsWallTexture facts.now number →
-        CanDraw assets.old.dir.lumps assets.old.textures assets.old.cache number }
-    requires floor { IsAmongPlanes drawn.old.planes.planes drawn.old.walls.floor }
-    requires ceiling { IsAmongPlanes drawn.old.planes.planes drawn.old.walls.ceiling }
-    ensures height { drawn.new.walls.height ≡ drawn.old.walls.height }
-    ensures left { drawn.new.frame.left ≡ drawn.old.frame.left }
-    ensures top { drawn.new.frame.top ≡ drawn.old.frame.top }
-    ensures slots { length assets.new.dir.lumps ≤ assets.new.cache.lumps }
-    ensures colormap { assets.new.colormap.0 < length assets.new.dir.lumps }
-    ensures floor { OnOk result
-        (IsAmongPlanes drawn.new.planes.planes drawn.new.walls.floor) }
-    ensures ceiling { OnOk result
-        (IsAmongPlanes drawn.new.planes.planes drawn.new.walls.ceiling) }
-{
-    let mut tools = WallTools {
-        view,
-        textures: &assets.textures,
-        cache: &mut assets.cache,
-        dir: &assets.dir,
-        shelf: &mut assets.shelf,
-        planes: &mut drawn.planes,
-        canvas: &mut drawn.frame,
-        colormap: assets.colormap,
-    };
-    drawn
-        .walls
-        .store_range(&mut tools, facts, first, FRAME_WIDTH - 1)
-}
-
-// Draws a fragment without a texture in each column of the frame, 64 times.
-fn store_64(
-    drawn: &mut Drawn,
-    assets: &mut Assets,
-    view: &View<'_>,
-    facts: &WallFacts,
-) -> Result<(), DrawFault>
-    requires wide { view.now.shape.width ≡ FRAME_WIDTH }
-    requires height { drawn.old.walls.height ≡ view.now.shape.height }
-    requires left { drawn.old.frame.left + view.now.shape.width ≤ FRAME_WIDTH }
-    requires top { drawn.old.frame.top + view.now.shape.height ≤ FRAME_HEIGHT }
-    requires slots { length assets.old.dir.lumps ≤ assets.old.cache.lumps }
-    requires colormap { assets.old.colormap.0 < length assets.old.dir.lumps }
-    requires textures { (number : ℕ) → IsWallTexture facts.now number → ⊥ }
-    requires floor { IsAmongPlanes drawn.old.planes.planes drawn.old.walls.floor }
-    requires ceiling { IsAmongPlanes drawn.old.planes.planes drawn.old.walls.ceiling }
-    ensures height { drawn.new.walls.height ≡ drawn.old.walls.height }
-    ensures left { drawn.new.frame.left ≡ drawn.old.frame.left }
-    ensures top { drawn.new.frame.top ≡ drawn.old.frame.top }
-    ensures slots { length assets.new.dir.lumps ≤ assets.new.cache.lumps }
-    ensures colormap { assets.new.colormap.0 < length assets.new.dir.lumps }
-    ensures floor { OnOk result
-        (IsAmongPlanes drawn.new.planes.planes drawn.new.walls.floor) }
-    ensures ceiling { OnOk result
-        (IsAmongPlanes drawn.new.planes.planes drawn.new.walls.ceiling) }
-{
-    for _ in 0..64 {
-        store(drawn, assets, view, facts, 0)?;
-    }
-    Ok(())
 }
 
 // The run of a plane in column `x`.
-fn run_at(planes: &Planes, plane: u32, x: u16) -> Option<(u8, u8)>
-    requires { x < FRAME_WIDTH }
-{
-    if plane < planes.count() {
+fn run_at(planes: &Planes, plane: u32, x: u16) -> Option<(u8, u8)> {
+    if plane < planes.count() && x < FRAME_WIDTH {
         planes.column(PlaneNo(plane as u16), x)
     } else {
         None
@@ -265,94 +320,107 @@ fn run_at(planes: &Planes, plane: u32, x: u16) -> Option<(u8, u8)>
 }
 
 // The pixel of column `x` and row `y`.
-fn pixel(frame: &Frame, x: usize, y: usize) -> Option<u8>
-    requires x { x < FRAME_WIDTH }
-    requires y { y < FRAME_HEIGHT }
-{
-    frame.bytes().get(320 * y + x).copied()
+fn pixel(frame: &Frame, x: u16, y: usize) -> Option<u8> {
+    let cell = y.wrapping_mul(320).wrapping_add(x as usize);
+    frame.bytes().get(cell).copied()
 }
 
-fn key_of(height: i32, flat: Flat4, light: i16) -> PlaneKey {
-    PlaneKey {
-        height,
-        flat,
-        light,
+// The made tables of angles.
+fn made_angles(alloc: Global) -> Result<Tables, Fail> {
+    Ok(Tables::from_bytes(alloc, &make_tables(alloc)?, MAX_SIZE)?)
+}
+
+// A shelf of the made WAD.
+fn made_shelf(alloc: Global) -> Result<MemoryShelf, Fail> {
+    let name = "made.wad".to_string(alloc)?;
+    let bytes = make_wad(alloc, 1)?;
+    let files = vec![in alloc; MemoryFile { name, bytes }]?;
+    Ok(MemoryShelf::new(files, Vec::new(alloc)))
+}
+
+fn made_directory(alloc: Global, shelf: &mut MemoryShelf) -> Result<Directory, Fail>
+    ensures { IfOk result (λ dir. length dir.lumps < 2 ^ 16) }
+{
+    let made = shelf.find("made.wad")?;
+    Ok(Directory::load(alloc, shelf, &[made])?)
+}
+
+fn colormap_of(dir: &Directory) -> Result<LumpNo, Fail>
+    ensures { IfOk result (λ colormap. colormap.0 < length dir.now.lumps) }
+{
+    let name = Name8::from_text("COLORMAP").ok_or("a name")?;
+    Ok(dir.last(&name).ok_or("COLORMAP")?)
+}
+
+// A cache with the colormap.
+fn made_cache(
+    alloc: Global,
+    dir: &Directory,
+    shelf: &mut MemoryShelf,
+    colormap: LumpNo,
+) -> Result<LumpCache, Fail>
+    requires few { length dir.now.lumps < 2 ^ 16 }
+    requires colormap { colormap.0 < length dir.now.lumps }
+    ensures slots { IfOk result (λ cache. length dir.now.lumps ≤ cache.lumps) }
+    ensures composites { IfOk result (λ cache. cache.composites ≡ COMPOSITES) }
+{
+    let mut cache = LumpCache::new(alloc, dir, 65536, COMPOSITES)?;
+    cache.fetch(shelf, dir, colormap, Tag::Static)?;
+    Ok(cache)
+}
+
+// The textures, with WALL1 prepared.
+fn made_textures(
+    alloc: Global,
+    dir: &Directory,
+    cache: &mut LumpCache,
+    shelf: &mut MemoryShelf,
+) -> Result<Textures, Fail>
+    requires slots { length dir.now.lumps ≤ cache.old.lumps }
+    requires composites { cache.old.composites ≡ COMPOSITES }
+    ensures slots { OnOk result (length dir.now.lumps ≤ cache.new.lumps) }
+    ensures brick { IfOk result (λ textures. CanDraw dir.now.lumps textures cache.new WALL1) }
+{
+    let mut textures = Textures::load(alloc, dir, cache, shelf)?;
+    if textures.count() != 5 {
+        return Err("five textures".into());
     }
+    textures.prepare(alloc, &[TexNo(WALL1)], dir, cache, shelf)?;
+    Ok(textures)
 }
 
 #[test]
 fn a_wall_stands_between_its_planes(rt: HostRuntime) -> Result<(), Fail> {
-    let alloc = rt.alloc();
-    let bytes = make_tables(alloc)?;
-    let tables = Tables::from_bytes(alloc, &bytes, 11)?;
-    let view = View::new(&tables, EYE);
-    let leaf = LeafPlanes {
-        floor: Some(key_of(0, Flat4::Lump(1), 160)),
-        ceiling: Some(key_of(128 << 16, Flat4::Lump(2), 160)),
+    let expected = Sight {
+        planes: 2,
+        notes: 1,
+        openings: 0,
+        runs: [Some((126, 199)), Some((0, 45))],
+        pixels: [Some(0), Some(128), Some(45), Some(0)],
     };
-    let mut assets = load_assets(alloc)?;
-    let mut drawn = in_leaf(alloc, &view, leaf)?;
-    let brick = WallTexture {
-        number: WALL1,
-        height: 128,
-    };
-    let wall = east_wall(ROOM, brick, None);
-    store(&mut drawn, &mut assets, &view, &wall, 1)?;
-    assert_eq!(rt; drawn.planes.count(), 2);
-    assert_eq!(rt; run_at(&drawn.planes, 0, 160), Some((126, 199)));
-    assert_eq!(rt; run_at(&drawn.planes, 1, 160), Some((0, 45)));
-    assert_eq!(rt; pixel(&drawn.frame, 160, 45), Some(0));
-    assert_eq!(rt; pixel(&drawn.frame, 160, 46), Some(128));
-    assert_eq!(rt; pixel(&drawn.frame, 160, 125), Some(45));
-    assert_eq!(rt; pixel(&drawn.frame, 160, 126), Some(0));
-    assert_eq!(rt; drawn.walls.notes().len(), 1);
-    assert_eq!(rt; drawn.walls.openings().len(), 0);
+    assert_eq!(rt; seen(rt.alloc(), &BRICK_WALL)?, Ok(expected));
     Ok(())
 }
 
 #[test]
 fn a_floor_and_a_ceiling_of_sky_are_one_plane(rt: HostRuntime) -> Result<(), Fail> {
-    let alloc = rt.alloc();
-    let bytes = make_tables(alloc)?;
-    let tables = Tables::from_bytes(alloc, &bytes, 11)?;
-    let view = View::new(&tables, EYE);
-    let sky = Some(key_of(0, Flat4::Sky, 0));
-    let leaf = LeafPlanes {
-        floor: sky,
-        ceiling: sky,
-    };
-    let mut assets = load_assets(alloc)?;
-    let mut drawn = in_leaf(alloc, &view, leaf)?;
-    let wall = bare_wall(OPEN_AIR, None);
-    store(&mut drawn, &mut assets, &view, &wall, 1)?;
-    assert_eq!(rt; drawn.planes.count(), 1);
-    assert_eq!(rt; run_at(&drawn.planes, 0, 0), None);
-    assert_eq!(rt; run_at(&drawn.planes, 0, 1), Some((126, 199)));
-    assert_eq!(rt; run_at(&drawn.planes, 0, 319), Some((126, 199)));
+    for (column, run) in [(0, None), (1, Some((126, 199))), (319, Some((126, 199)))] {
+        let scene = Scene { column, ..OPEN_AIR };
+        let seen = seen(rt.alloc(), &scene)?;
+        assert_eq!(rt; seen.map(|seen| (seen.planes, seen.runs[0])), Ok((1, run)));
+    }
     Ok(())
 }
 
 #[test]
 fn openings_past_the_room_are_told_with_their_sum(rt: HostRuntime) -> Result<(), Fail> {
     let alloc = rt.alloc();
-    let bytes = make_tables(alloc)?;
-    let tables = Tables::from_bytes(alloc, &bytes, 11)?;
-    let view = View::new(&tables, HIGH_EYE);
-    let leaf = LeafPlanes {
-        floor: None,
-        ceiling: None,
-    };
-    let mut assets = load_assets(alloc)?;
-    let mut drawn = in_leaf(alloc, &view, leaf)?;
-    let window = bare_wall(ROOM, Some(ROOM));
-    store_64(&mut drawn, &mut assets, &view, &window)?;
-    assert_eq!(rt; drawn.walls.openings().len(), 20480);
-    assert_eq!(rt; drawn.planes.count(), 0);
     let full = DrawFault::Openings { count: 20800 };
-    assert_eq!(rt;
-        store(&mut drawn, &mut assets, &view, &window, 0),
-        Err(full)
-    );
+    for (times, counts) in [(64, Ok((20480, 0))), (65, Err(full))] {
+        let scene = Scene { times, ..WINDOW };
+        let seen = seen(alloc, &scene)?;
+        assert_eq!(rt; seen.map(|seen| (seen.openings, seen.planes)), counts);
+    }
     let message = format!(in alloc; "{full}")?;
     assert_eq!(rt;
         message.as_str(),

@@ -1,5 +1,5 @@
 -- The seg of each note, with its side and its sectors, is among the lists.
-use Rattle.std.proofs.Common.{◌≡◌, ℕ, ◌<◌, pos, List, [], ◌∷◌, length, refl, ap, sym, subst, arith}
+use Rattle.std.proofs.Common.{◌≡◌, ℕ, ◌<◌, List, [], ◌∷◌, length, refl, ap, sym, subst, arith}
 use Rattle.std.specs.Prelude.{IfSome, IsSome, slice_index_or}
 use Rattle.std.proofs.lemmas.List.Elements.{All-weaker}
 use Rattle.lump_rules.specs.declared.wad.Lump.{Lump}
@@ -41,11 +41,13 @@ listed lumps textures z side sector grate d first can among single =
 
 pub draw_masked-requires-clause-listed : goal.draw_masked-requires-clause-listed
 draw_masked-requires-clause-listed c =
-    let a = c.args.assets.now in
-    let name = c.from_bytes-name.result in
-    let side : Side = record { x_offset = pos 0; y_offset = pos 0; top = name; bottom = name; middle = name; sector = 0 } in
-    let sector : Sector = record { floor = pos 0; ceiling = pos 8388608; floor_name = name; ceiling_name = name; light = pos 160 } in
+    let art = c.args.art.now in
+    let lumps = art.dir.now.lumps in
+    let textures = art.textures.now in
+    let cache = c.args.cache.now in
+    let side = c.plain_side.result in
+    let sector = c.plain_sector.result in
     All-weaker (λ (d : FragmentNote). d.seg_no ≡ 0)
-    (IsListed a.dir.lumps a.textures a.cache (lists_of (SEG ∷ []) (side ∷ []) (sector ∷ []) (a.grate.0 ∷ [])))
-    (λ d first. listed a.dir.lumps a.textures a.cache side sector a.grate.0 d first c.requires.grate c.requires.among c.requires.single)
-    c.args.notes.now c.requires.seg
+    (IsListed lumps textures cache (lists_of (SEG ∷ []) (side ∷ []) (sector ∷ []) (art.grate.0 ∷ [])))
+    (λ d first. listed lumps textures cache side sector art.grate.0 d first c.requires.grate c.requires.among c.requires.single)
+    c.args.sight.now.notes.now c.requires.seg

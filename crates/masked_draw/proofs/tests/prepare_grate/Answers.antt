@@ -7,7 +7,7 @@ use Rattle.art_rules.specs.declared.PlacedPatch.{PlacedPatch}
 use Rattle.art_rules.specs.Wanted.{PreparedTexture}
 use Rattle.texture_lists.specs.declared.number.TexNo.{TexNo}
 use Rattle.texture_build.specs.Views.{ArePatchesThere, prepared_at, unprepared}
-use Rattle.masked_draw.proofs.tests.load_assets.Goals as goal
+use Rattle.masked_draw.proofs.tests.prepare_grate.Goals as goal
 
 -- what holds of each prepared texture holds of the one of a number
 prepared_has : (P : PreparedTexture → Type 0) (ts : List (Option PreparedTexture)) (number : ℕ) → All (λ (t : Option PreparedTexture). IfSome t P) ts → IfSome (prepared_at ts number) P
@@ -27,7 +27,7 @@ has_single_columns-requires c =
 pub returns-clause-grate : goal.returns-clause-grate
 returns-clause-grate c =
     let textures = c.prepare.new.self in
-    let lumps = c.in_ok-dir.dir.lumps in
+    let lumps = c.args.dir.now.lumps in
     record {
       prepared = All-head (λ (tex : TexNo). IsSome (prepared_at textures.prepared tex.0)) c.in_ok-grate.grate [] c.in_ok-prepare.ensures.wanted;
       slot = search rules;

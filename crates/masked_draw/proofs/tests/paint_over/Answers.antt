@@ -4,10 +4,10 @@ use Rattle.view_rules.specs.declared.ViewShape.{ViewShape}
 use Rattle.picture_rules.specs.declared.wall.FragmentNote.{FragmentNote}
 use Rattle.picture_rules.specs.Noted.{AreNoted}
 use Rattle.masked_draw.specs.declared.tests.TheConstants.{LAST}
-use Rattle.masked_draw.proofs.tests.paint.Goals as goal
+use Rattle.masked_draw.proofs.tests.paint_over.Goals as goal
 
-pub draw-requires-clause-noted : goal.draw-requires-clause-noted
-draw-requires-clause-noted c = λ openings room.
+pub paint_seen-requires-clause-noted : goal.paint_seen-requires-clause-noted
+paint_seen-requires-clause-noted c = λ openings room.
     let shape : ViewShape = c.args.view.now.shape in
     let width : c.shape-shape.result.width ≡ shape.width = ap (λ (s : ViewShape). s.width) c.shape-shape.ensures.value in
     let high : shape.height ≡ c.shape-shape.result.height = ap (λ (s : ViewShape). s.height) (sym c.shape-shape.ensures.value) in
