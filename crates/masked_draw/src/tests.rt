@@ -20,11 +20,8 @@ use level_rules::{Sector, Seg, Side};
 use lump_cache::LumpCache;
 use lump_rules::Name8;
 use outside::{MemoryFile, MemoryShelf, Shelf};
-<<<<<<< HEAD
 use picture_rules::{Placed, Shape5};
-=======
 use pixel_strips::Canvas;
->>>>>>> e20d6759ecbad067f429c402fe65793eec1de3b4
 use std::alloc::{AllocError, Global};
 use std::test::Fail;
 use texture_build::{TexNo, Textures};
