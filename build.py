@@ -2,8 +2,9 @@
 
 All crates that the program stands on are proved side by side: `rt all` starts a crate once those below it
 are done, and of those that go on at a time the ones with much still to come above them go first. At the
-end few crates can go on at a time; then each is built with all processors. The program gets its place, out/doomview, as the last step, so no half-built
-one is ever run, and a build that was interrupted goes on where it was.
+end few crates can go on at a time; then each is built with all processors. The program gets its place,
+out/doomview, as the last step, so no half-built one is ever run, and a build that was interrupted goes on
+where it was.
 
 Ends with 70 if the build fails, with 128 and the signal's number if a signal stops it, else with the
 program's status."""
@@ -95,7 +96,7 @@ def give_way(nice, ended):
         for pid in filter(str.isdigit, os.listdir('/proc')):
             try:
                 value = folders.get(os.readlink(f'/proc/{pid}/cwd'), 0)
-                with open(f'/proc/{pid}/cmdline') as file:
+                with open(f'/proc/{pid}/cmdline', errors='replace') as file:
                     is_proof = '--crate-name' in file.read().split('\0')
                 for thread in map(int, os.listdir(f'/proc/{pid}/task') if value and is_proof else []):
                     if os.getpriority(os.PRIO_PROCESS, thread) < value:

@@ -177,6 +177,15 @@ class Doomview(unittest.TestCase):
         self.assertTrue(os.path.exists(self.at('crates/doomview/out/doomview')))
         self.builds()
 
+    def test_longest_chain_first(self):
+        """A crate beside the longest chain (here of 10 + 30 + 10 + 10 lines) gives way by what it is shorter."""
+        for crate, lines in [('low', 10), ('left', 30), ('right', 15), ('high', 10), ('doomview', 10)]:
+            self.write(f'crates/{crate}/src/lib.rt', 'a line\n' * lines)
+            self.write(f'crates/{crate}/src/tests.rt', 'a test\n' * 99)
+        words = 'import build; print(build.niceness(build.crates_below("doomview")))'
+        run = subprocess.run([sys.executable, '-c', words], cwd=self.folder, capture_output=True, text=True, check=True)
+        self.assertEqual(run.stdout, "{'low': 0, 'left': 0, 'right': 5, 'high': 0, 'doomview': 0}\n")
+
     def test_two_at_once(self):
         runs = [self.start(word) for word in ('one', 'two')]
         for word, run in zip(('one', 'two'), runs):
