@@ -2,3 +2,4 @@ pub mod Canvases
 pub mod Strips
 pub mod Dotted
 pub mod Places
+pub mod Fills

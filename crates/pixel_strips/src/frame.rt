@@ -1,10 +1,11 @@
 // A frame of palette indices.
-ghost use Rattle.std.specs.Prelude.{◌≡◌, ◌+◌, ◌<◌, ◌≤◌, ◌*◌, length, replicate, IfOk};
+ghost use Rattle.std.specs.Prelude.{◌≡◌, ◌+◌, ◌<◌, ◌≤◌, ◌*◌, ℕ, ℤ, List, length, replicate, IfOk};
 ghost use Rattle.word_rules.specs.Steps.{step_at};
 ghost use Rattle.view_rules.specs.declared.TheConstants.{FRAME_WIDTH};
 ghost use Rattle.pixel_rules.specs.declared.TheConstants.{FRAME_CELLS, TEXEL_ROWS, MAP_COLOURS};
 ghost use Rattle.pixel_strips.specs.declared.texels.TheConstants.{FLAT_BYTES};
 ghost use Rattle.pixel_strips.specs.Canvases.{CanvasView, blank, marked_by_colour, fill_cells};
+ghost use Rattle.pixel_strips.specs.Fills.{ColumnFilled, SpanFilled};
 ghost use Rattle.pixel_strips.specs.Strips.{cut_colour, cut_span_colour};
 
 use crate::canvas::{Canvas, CutColumn, CutSpan};
@@ -119,8 +120,7 @@ impl Canvas for Frame {
     }
 }
 
-// Sets `count` cells below one another, the first at `start`. The fields of `cut` are read before
-// the loop: behind each write to a cell they would be read again.
+// Sets `count` cells below one another, the first at `start`: four a round, and then the rest.
 fn fill_column(cells: &mut [u8], start: usize, count: usize, cut: &CutColumn<'_>)
     requires size { length cells.old ≡ FRAME_CELLS }
     requires within { start + FRAME_WIDTH * count < FRAME_CELLS + FRAME_WIDTH }
@@ -130,13 +130,53 @@ fn fill_column(cells: &mut [u8], start: usize, count: usize, cut: &CutColumn<'_>
         (λ k. cut_colour cut.now.texels.now cut.now.shades.now
         (step_at cut.now.fraction cut.now.step k)) count cells.old }
 {
-    let (texels, shades) = (cut.texels, cut.shades);
-    let step = texel_place(cut.step);
-    let mut place = texel_place(cut.fraction);
-    for k in 0..count {
-        cells[start + FRAME_WIDTH as usize * k] = shades[texels[row_at(place)] as usize];
-        place = place_after(place, step);
+    let cut = *cut;
+    let fours = count / 4;
+    let mut place = fill_fours(cells, start, fours, &cut);
+    for k in 4 * fours..count {
+        place = fill_row(cells, start + FRAME_WIDTH as usize * k, place, &cut);
     }
+}
+
+// Sets four times so many cells below one another, and gives the place of the next. The fields of
+// `cut` are copied: behind each write to a cell they would be read again.
+#[inline(always)]
+fn fill_fours(cells: &mut [u8], start: usize, fours: usize, cut: &CutColumn<'_>) -> u32
+    requires size { length cells.old ≡ FRAME_CELLS }
+    requires within { start + FRAME_WIDTH * (4 * fours) < FRAME_CELLS + FRAME_WIDTH }
+    requires texels { length cut.now.texels.now ≡ TEXEL_ROWS }
+    requires shades { length cut.now.shades.now ≡ MAP_COLOURS }
+    ensures { ColumnFilled cut.now.texels.now cut.now.shades.now cut.now.fraction cut.now.step
+        start (4 * fours) cells.old cells.new result }
+{
+    let cut = *cut;
+    let width = FRAME_WIDTH as usize;
+    let mut place = texel_place(cut.fraction);
+    for k in 0..fours {
+        let cell = start + 4 * width * k;
+        let second = fill_row(cells, cell, place, &cut);
+        let third = fill_row(cells, cell + width, second, &cut);
+        let fourth = fill_row(cells, cell + 2 * width, third, &cut);
+        place = fill_row(cells, cell + 3 * width, fourth, &cut);
+    }
+    place
+}
+
+// Sets one cell of a column, and gives the place of the next.
+#[inline(always)]
+fn fill_row(cells: &mut [u8], cell: usize, place: u32, cut: &CutColumn<'_>) -> u32
+    requires size { length cells.old ≡ FRAME_CELLS }
+    requires within { cell < FRAME_CELLS }
+    requires texels { length cut.now.texels.now ≡ TEXEL_ROWS }
+    requires shades { length cut.now.shades.now ≡ MAP_COLOURS }
+    ensures { (fraction : ℤ) (start n : ℕ) (before : List ℕ) → cell ≡ start + FRAME_WIDTH * n →
+        ColumnFilled cut.now.texels.now cut.now.shades.now fraction cut.now.step start n
+        before cells.old place →
+        ColumnFilled cut.now.texels.now cut.now.shades.now fraction cut.now.step start (n + 1)
+        before cells.new result }
+{
+    cells[cell] = cut.shades[cut.texels[row_at(place)] as usize];
+    place_after(place, texel_place(cut.step))
 }
 
 // Sets `count` cells side by side, the first at `start`, likewise.
@@ -151,11 +191,51 @@ fn fill_span(cells: &mut [u8], start: usize, count: usize, cut: &CutSpan<'_>)
         (step_at cut.now.x_fraction cut.now.x_step k)
         (step_at cut.now.y_fraction cut.now.y_step k)) count cells.old }
 {
-    let (texels, shades) = (cut.texels, cut.shades);
-    let step = packed_place(cut.x_step, cut.y_step);
-    let mut place = packed_place(cut.x_fraction, cut.y_fraction);
-    for k in 0..count {
-        cells[start + k] = shades[texels[flat_place_at(place)] as usize];
-        place = packed_after(place, step);
+    let cut = *cut;
+    let fours = count / 4;
+    let mut place = fill_across(cells, start, fours, &cut);
+    for k in 4 * fours..count {
+        place = fill_one(cells, start + k, place, &cut);
     }
+}
+
+// Sets four times so many cells side by side, and gives the place of the next.
+#[inline(always)]
+fn fill_across(cells: &mut [u8], start: usize, fours: usize, cut: &CutSpan<'_>) -> u64
+    requires size { length cells.old ≡ FRAME_CELLS }
+    requires within { start + 4 * fours ≤ FRAME_CELLS }
+    requires few { 4 * fours ≤ FRAME_WIDTH }
+    requires texels { length cut.now.texels.now ≡ FLAT_BYTES }
+    requires shades { length cut.now.shades.now ≡ MAP_COLOURS }
+    ensures { SpanFilled cut.now.texels.now cut.now.shades.now cut.now.x_fraction
+        cut.now.y_fraction cut.now.x_step cut.now.y_step start (4 * fours)
+        cells.old cells.new result }
+{
+    let cut = *cut;
+    let mut place = packed_place(cut.x_fraction, cut.y_fraction);
+    for k in 0..fours {
+        let cell = start + 4 * k;
+        let second = fill_one(cells, cell, place, &cut);
+        let third = fill_one(cells, cell + 1, second, &cut);
+        let fourth = fill_one(cells, cell + 2, third, &cut);
+        place = fill_one(cells, cell + 3, fourth, &cut);
+    }
+    place
+}
+
+// Sets one cell of a span, and gives the place of the next.
+#[inline(always)]
+fn fill_one(cells: &mut [u8], cell: usize, place: u64, cut: &CutSpan<'_>) -> u64
+    requires size { length cells.old ≡ FRAME_CELLS }
+    requires within { cell < FRAME_CELLS }
+    requires texels { length cut.now.texels.now ≡ FLAT_BYTES }
+    requires shades { length cut.now.shades.now ≡ MAP_COLOURS }
+    ensures { (x y : ℤ) (start n : ℕ) (before : List ℕ) → n < FRAME_WIDTH → cell ≡ start + n →
+        SpanFilled cut.now.texels.now cut.now.shades.now x y cut.now.x_step cut.now.y_step
+        start n before cells.old place →
+        SpanFilled cut.now.texels.now cut.now.shades.now x y cut.now.x_step cut.now.y_step
+        start (n + 1) before cells.new result }
+{
+    cells[cell] = cut.shades[cut.texels[flat_place_at(place)] as usize];
+    packed_after(place, packed_place(cut.x_step, cut.y_step))
 }

@@ -1,0 +1,9 @@
+use Rattle.std.proofs.Common.{◌*◌}
+use Rattle.pixel_strips.specs.Fills.{SpanFilled}
+use Rattle.pixel_strips.proofs.frame.fill_across.Given as goal
+
+-- four times k cells are set, and the place is that of the next one
+abbrev pub invariant-loop-k : goal.invariant-loop-k
+invariant-loop-k l =
+    SpanFilled l.cut.texels.now l.cut.shades.now l.cut.x_fraction l.cut.y_fraction l.cut.x_step l.cut.y_step
+    l.start (4 * l.k) l.fn.cells l.cells l.place
