@@ -1,10 +1,12 @@
 -- Laws of places: the first one, one step more, and the texel that a place stands for.
 use Rattle.std.proofs.Common.{◌≡◌, ℕ, ◌+◌, ◌*◌, ◌/◌, ◌%◌, ◌^◌, ◌<◌, ◌≤◌, ℤ, pos, negsuc, FitsSigned, refl, sym, ap, ap₂, ◌∙◌, arith, add-mul, mod-lt, pow_pos}
 use native.Mathlib.Nat.{add-mod}
-use Rattle.std.specs.Int.{w32, cast_unsigned}
-use Rattle.std.proofs.lemmas.Int.{of_z-to_z, wrapping_add_is, SFits-int_wrap}
+use Rattle.std.specs.Int.{w32, cast_unsigned, int_wrap}
+use Rattle.std.proofs.lemmas.Int.{of_z-to_z, int_wrap-add_left, int_wrap-add_right, wrapping_add_is, SFits-int_wrap}
 use Rattle.std.proofs.lemmas.Nat.{mul-mod_first}
-use lib.IntN.{◌+ℤ◌}
+use lib.IntN.{◌+ℤ◌, +ℤ_assoc}
+use Rattle.word_rules.specs.Steps.{step_at}
+use Rattle.word_rules.proofs.StepLemmas.{step_at-more}
 use Rattle.word_rules.specs.Words.{bits_of, plus, shr_word}
 use Rattle.word_rules.specs.declared.TheConstants.{FRACTION_BITS}
 use Rattle.pixel_rules.specs.declared.TheConstants.{FLAT_SIDE}
@@ -132,3 +134,24 @@ flat_place_more x y a b most place step h p s =
           ∙ ap₂ (λ (u v : ℕ). 2 ^ 32 * (u + carries) + v)
           (sym (lifted-plus FLAT_LIFT y b p.y_fits s.y_fits)) (sym (lifted-plus FLAT_LIFT x a p.x_fits s.x_fits));
     }
+
+-- two, three and four steps at once
+plus_regrouped : (a b c : ℤ) → plus a (plus b c) ≡ plus (plus a b) c
+unfolding plus
+plus_regrouped a b c =
+    int_wrap-add_right w32 a (b +ℤ c) ∙ ap (int_wrap w32) (sym (+ℤ_assoc a b c)) ∙ sym (int_wrap-add_left w32 (a +ℤ b) c)
+
+pub step_at-two : (first step : ℤ) (k n : ℕ) → k + 2 ≡ n → plus (step_at first step k) (plus step step) ≡ step_at first step n
+step_at-two first step k n e =
+    plus_regrouped (step_at first step k) step step
+    ∙ ap (λ (z : ℤ). plus z step) (step_at-more first step k (k + 1) refl) ∙ step_at-more first step (k + 1) n (omega (arith, e))
+
+pub step_at-three : (first step : ℤ) (k n : ℕ) → k + 3 ≡ n → plus (step_at first step k) (plus (plus step step) step) ≡ step_at first step n
+step_at-three first step k n e =
+    plus_regrouped (step_at first step k) (plus step step) step
+    ∙ ap (λ (z : ℤ). plus z step) (step_at-two first step k (k + 2) refl) ∙ step_at-more first step (k + 2) n (omega (arith, e))
+
+pub step_at-four : (first step : ℤ) (k n : ℕ) → k + 4 ≡ n → plus (step_at first step k) (plus (plus (plus step step) step) step) ≡ step_at first step n
+step_at-four first step k n e =
+    plus_regrouped (step_at first step k) (plus (plus step step) step) step
+    ∙ ap (λ (z : ℤ). plus z step) (step_at-three first step k (k + 3) refl) ∙ step_at-more first step (k + 3) n (omega (arith, e))

@@ -6,9 +6,8 @@ use Rattle.pixel_strips.specs.Canvases.{fill_cells}
 use Rattle.pixel_strips.specs.Places.{IsTexelPlace, IsFlatPlace}
 use Rattle.pixel_strips.specs.Strips.{cut_colour, cut_span_colour}
 
--- n cells of a column are set, the first at `start`, and the place is that of the next one
-pub record ColumnFilled (texels shades : List ℕ) (fraction step : ℤ) (start n : ℕ) (before cells : List ℕ) (place : ℕ) : Type 0 where
-  pub next : IsTexelPlace (step_at fraction step n) place
+-- n cells of a column are set, the first at `start`
+pub record ColumnFilled (texels shades : List ℕ) (fraction step : ℤ) (start n : ℕ) (before cells : List ℕ) : Type 0 where
   pub filled : cells ≡ fill_cells (λ k. start + FRAME_WIDTH * k) (λ k. cut_colour texels shades (step_at fraction step k)) n before
 
 -- the same of a span, with at most one carry a step
