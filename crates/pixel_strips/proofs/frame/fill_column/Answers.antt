@@ -1,4 +1,4 @@
-use Rattle.std.proofs.Common.{ℕ, ◌+◌, subst, refl, rules}
+use Rattle.std.proofs.Common.{◌+◌, subst, refl, rules}
 use Rattle.std.specs.Prelude.{ℤ}
 use Rattle.std.specs.Int.{w32}
 use Rattle.std.proofs.lemmas.Int.{to_z-of_z}
