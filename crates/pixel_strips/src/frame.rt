@@ -121,7 +121,10 @@ impl Canvas for Frame {
     }
 }
 
-// Sets `count` cells below one another, the first at `start`: four a round, and then the rest.
+// Sets `count` cells below one another, the first at `start`: four a round, and then the rest. `cut`
+// is copied: behind each write to a cell its fields would be read again. Not inlined, so that the
+// loops are the same in every caller.
+#[inline(never)]
 fn fill_column(cells: &mut [u8], start: usize, count: usize, cut: &CutColumn<'_>)
     requires size { length cells.old ≡ FRAME_CELLS }
     requires within { start + FRAME_WIDTH * count < FRAME_CELLS + FRAME_WIDTH }
@@ -188,6 +191,7 @@ fn fill_row(cells: &mut [u8], cell: usize, place: u32, cut: &CutColumn<'_>)
 }
 
 // Sets `count` cells side by side, the first at `start`, likewise.
+#[inline(never)]
 fn fill_span(cells: &mut [u8], start: usize, count: usize, cut: &CutSpan<'_>)
     requires size { length cells.old ≡ FRAME_CELLS }
     requires within { start + count ≤ FRAME_CELLS }
