@@ -1,10 +1,12 @@
 -- Laws of places: the first one, one step more, and the texel that a place stands for.
-use Rattle.std.proofs.Common.{◌≡◌, ℕ, ◌+◌, ◌*◌, ◌/◌, ◌%◌, ◌^◌, ◌<◌, ◌≤◌, ℤ, pos, negsuc, FitsSigned, refl, sym, ap, ap₂, ◌∙◌, arith, add-mul, mod-lt, pow_pos}
+use Rattle.std.proofs.Common.{◌≡◌, ℕ, ◌+◌, ◌*◌, ◌/◌, ◌%◌, ◌^◌, ◌<◌, ◌≤◌, ℤ, pos, negsuc, FitsSigned, refl, subst, sym, ap, ap₂, ◌∙◌, arith, add-mul, mod-lt, pow_pos}
 use native.Mathlib.Nat.{add-mod}
-use Rattle.std.specs.Int.{w32, cast_unsigned}
-use Rattle.std.proofs.lemmas.Int.{of_z-to_z, wrapping_add_is, SFits-int_wrap}
+use Rattle.std.specs.Int.{w32, cast_unsigned, int_wrap}
+use Rattle.std.proofs.lemmas.Int.{of_z-to_z, int_wrap-add_left, int_wrap-add_right, wrapping_add_is, SFits-int_wrap}
 use Rattle.std.proofs.lemmas.Nat.{mul-mod_first}
-use lib.IntN.{◌+ℤ◌}
+use lib.IntN.{◌+ℤ◌, +ℤ_assoc}
+use Rattle.word_rules.specs.Steps.{step_at}
+use Rattle.word_rules.proofs.StepLemmas.{step_at-more}
 use Rattle.word_rules.specs.Words.{bits_of, plus, shr_word}
 use Rattle.word_rules.specs.declared.TheConstants.{FRACTION_BITS}
 use Rattle.pixel_rules.specs.declared.TheConstants.{FLAT_SIDE}
@@ -104,31 +106,64 @@ flat_place_is x y m n f g d e = record {
       ∙ ap₂ (λ (u v : ℕ). 2 ^ 32 * (v * 2 ^ 10 % 2 ^ 32 + 0) + u * 2 ^ 10 % 2 ^ 32) d e;
 }
 
--- the sum of two words of two halves, of which the first one's upper half holds carries
-two_halves : (y b x a carries none : ℕ) → x < 2 ^ 32 → a < 2 ^ 32 → carries + 1 < 2 ^ 10 → none ≤ 0 →
-    (2 ^ 32 * (y * 2 ^ 10 % 2 ^ 32 + carries) + x + (2 ^ 32 * (b * 2 ^ 10 % 2 ^ 32 + none) + a)) % 2 ^ 64
-    ≡ 2 ^ 32 * ((y * 2 ^ 10 % 2 ^ 32 + b * 2 ^ 10 % 2 ^ 32) % 2 ^ 32 + (carries + (x + a) / 2 ^ 32)) + (x + a) % 2 ^ 32
-two_halves y b x a carries none l m h k = omega arith
+-- the sum of two words of two halves, of which the upper ones hold carries
+two_halves : (y b x a carries more : ℕ) → x < 2 ^ 32 → a < 2 ^ 32 → carries + more + 1 < 2 ^ 10 →
+    (2 ^ 32 * (y * 2 ^ 10 % 2 ^ 32 + carries) + x + (2 ^ 32 * (b * 2 ^ 10 % 2 ^ 32 + more) + a)) % 2 ^ 64
+    ≡ 2 ^ 32 * ((y * 2 ^ 10 % 2 ^ 32 + b * 2 ^ 10 % 2 ^ 32) % 2 ^ 32 + (carries + more + (x + a) / 2 ^ 32)) + (x + a) % 2 ^ 32
+two_halves y b x a carries more l m h = omega arith
 
--- one carry a step at most
-carried : (x a carries most : ℕ) → x < 2 ^ 32 → a < 2 ^ 32 → carries ≤ most → carries + (x + a) / 2 ^ 32 ≤ most + 1
-carried x a carries most l m h = omega arith
+-- one carry more at most
+carried : (x a carries more most few : ℕ) → x < 2 ^ 32 → a < 2 ^ 32 → carries ≤ most → more ≤ few →
+    carries + more + (x + a) / 2 ^ 32 ≤ most + few + 1
+carried x a carries more most few l m h k = omega arith
 
-pub flat_place_more : (x y a b : ℤ) (most place step : ℕ) → most + 1 < CARRIES → IsFlatPlace x y most place → IsFlatPlace a b 0 step →
-    IsFlatPlace (plus x a) (plus y b) (most + 1) ((place + step) % 2 ^ 64)
+pub flat_place_more : (x y a b : ℤ) (most few place step : ℕ) → most + few + 1 < CARRIES → IsFlatPlace x y most place → IsFlatPlace a b few step →
+    IsFlatPlace (plus x a) (plus y b) (most + few + 1) ((place + step) % 2 ^ 64)
 unfolding lifted
-flat_place_more x y a b most place step h p s =
+flat_place_more x y a b most few place step h p s =
     let low : ℕ = lifted FLAT_LIFT x in
     let added : ℕ = lifted FLAT_LIFT a in
-    let carries : ℕ = p.carries + (low + added) / 2 ^ 32 in
-    let few = p.few in
+    let carries : ℕ = p.carries + s.carries + (low + added) / 2 ^ 32 in
+    let held = p.few in
+    let holds = s.few in
     record {
       x_fits = plus_fits x a;
       y_fits = plus_fits y b;
       carries = carries;
-      few = carried low added p.carries most (lifted_below FLAT_LIFT x) (lifted_below FLAT_LIFT a) p.few;
+      few = carried low added p.carries s.carries most few (lifted_below FLAT_LIFT x) (lifted_below FLAT_LIFT a) p.few s.few;
       is = ap₂ (λ (m n : ℕ). (m + n) % 2 ^ 64) p.is s.is
-          ∙ two_halves (bits_of y) (bits_of b) low added p.carries s.carries (lifted_below FLAT_LIFT x) (lifted_below FLAT_LIFT a) (omega arith) s.few
+          ∙ two_halves (bits_of y) (bits_of b) low added p.carries s.carries (lifted_below FLAT_LIFT x) (lifted_below FLAT_LIFT a) (omega arith)
           ∙ ap₂ (λ (u v : ℕ). 2 ^ 32 * (u + carries) + v)
           (sym (lifted-plus FLAT_LIFT y b p.y_fits s.y_fits)) (sym (lifted-plus FLAT_LIFT x a p.x_fits s.x_fits));
     }
+
+-- two, three and four steps at once
+plus_regrouped : (a b c : ℤ) → plus a (plus b c) ≡ plus (plus a b) c
+unfolding plus
+plus_regrouped a b c =
+    int_wrap-add_right w32 a (b +ℤ c) ∙ ap (int_wrap w32) (sym (+ℤ_assoc a b c)) ∙ sym (int_wrap-add_left w32 (a +ℤ b) c)
+
+pub step_at-two : (first step : ℤ) (k n : ℕ) → k + 2 ≡ n → plus (step_at first step k) (plus step step) ≡ step_at first step n
+step_at-two first step k n e =
+    plus_regrouped (step_at first step k) step step
+    ∙ ap (λ (z : ℤ). plus z step) (step_at-more first step k (k + 1) refl) ∙ step_at-more first step (k + 1) n (omega (arith, e))
+
+pub step_at-three : (first step : ℤ) (k n : ℕ) → k + 3 ≡ n → plus (step_at first step k) (plus (plus step step) step) ≡ step_at first step n
+step_at-three first step k n e =
+    plus_regrouped (step_at first step k) (plus step step) step
+    ∙ ap (λ (z : ℤ). plus z step) (step_at-two first step k (k + 2) refl) ∙ step_at-more first step (k + 2) n (omega (arith, e))
+
+pub step_at-four : (first step : ℤ) (k n : ℕ) → k + 4 ≡ n → plus (step_at first step k) (plus (plus (plus step step) step) step) ≡ step_at first step n
+step_at-four first step k n e =
+    plus_regrouped (step_at first step k) (plus (plus step step) step) step
+    ∙ ap (λ (z : ℤ). plus z step) (step_at-three first step k (k + 3) refl) ∙ step_at-more first step (k + 3) n (omega (arith, e))
+
+-- the same place under other names of its fractions
+pub flat_place-on : (x y a b : ℤ) (most few place : ℕ) → x ≡ a → y ≡ b → most ≤ few → IsFlatPlace x y most place → IsFlatPlace a b few place
+flat_place-on x y a b most few place d e h p = record {
+  x_fits = subst (FitsSigned w32) d p.x_fits;
+  y_fits = subst (FitsSigned w32) e p.y_fits;
+  carries = p.carries;
+  few = let held = p.few in omega (arith, held, h);
+  is = p.is ∙ ap₂ (λ (u v : ℤ). 2 ^ 32 * (lifted FLAT_LIFT v + p.carries) + lifted FLAT_LIFT u) d e;
+}

@@ -3,16 +3,13 @@ use Rattle.std.specs.Prelude.{◌≡◌, ℕ, ◌+◌, ◌*◌, ℤ, List}
 use Rattle.view_rules.specs.declared.TheConstants.{FRAME_WIDTH}
 use Rattle.word_rules.specs.Steps.{step_at}
 use Rattle.pixel_strips.specs.Canvases.{fill_cells}
-use Rattle.pixel_strips.specs.Places.{IsTexelPlace, IsFlatPlace}
 use Rattle.pixel_strips.specs.Strips.{cut_colour, cut_span_colour}
 
--- n cells of a column are set, the first at `start`, and the place is that of the next one
-pub record ColumnFilled (texels shades : List ℕ) (fraction step : ℤ) (start n : ℕ) (before cells : List ℕ) (place : ℕ) : Type 0 where
-  pub next : IsTexelPlace (step_at fraction step n) place
+-- n cells of a column are set, the first at `start`
+pub record ColumnFilled (texels shades : List ℕ) (fraction step : ℤ) (start n : ℕ) (before cells : List ℕ) : Type 0 where
   pub filled : cells ≡ fill_cells (λ k. start + FRAME_WIDTH * k) (λ k. cut_colour texels shades (step_at fraction step k)) n before
 
--- the same of a span, with at most one carry a step
-pub record SpanFilled (texels shades : List ℕ) (x_fraction y_fraction x_step y_step : ℤ) (start n : ℕ) (before cells : List ℕ) (place : ℕ) : Type 0 where
-  pub next : IsFlatPlace (step_at x_fraction x_step n) (step_at y_fraction y_step n) n place
+-- the same of a span
+pub record SpanFilled (texels shades : List ℕ) (x_fraction y_fraction x_step y_step : ℤ) (start n : ℕ) (before cells : List ℕ) : Type 0 where
   pub filled : cells ≡ fill_cells (λ k. start + k)
       (λ k. cut_span_colour texels shades (step_at x_fraction x_step k) (step_at y_fraction y_step k)) n before

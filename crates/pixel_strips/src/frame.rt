@@ -6,6 +6,7 @@ ghost use Rattle.pixel_rules.specs.declared.TheConstants.{FRAME_CELLS, TEXEL_ROW
 ghost use Rattle.pixel_strips.specs.declared.texels.TheConstants.{FLAT_BYTES};
 ghost use Rattle.pixel_strips.specs.Canvases.{CanvasView, blank, marked_by_colour, fill_cells};
 ghost use Rattle.pixel_strips.specs.Fills.{ColumnFilled, SpanFilled};
+ghost use Rattle.pixel_strips.specs.Places.{IsTexelPlace, IsFlatPlace};
 ghost use Rattle.pixel_strips.specs.Strips.{cut_colour, cut_span_colour};
 
 use crate::canvas::{Canvas, CutColumn, CutSpan};
@@ -120,7 +121,10 @@ impl Canvas for Frame {
     }
 }
 
-// Sets `count` cells below one another, the first at `start`: four a round, and then the rest.
+// Sets `count` cells below one another, the first at `start`: four a round, and then the rest. `cut`
+// is copied: behind each write to a cell its fields would be read again. Not inlined, so that the
+// loops are the same in every caller.
+#[inline(never)]
 fn fill_column(cells: &mut [u8], start: usize, count: usize, cut: &CutColumn<'_>)
     requires size { length cells.old ≡ FRAME_CELLS }
     requires within { start + FRAME_WIDTH * count < FRAME_CELLS + FRAME_WIDTH }
@@ -132,54 +136,62 @@ fn fill_column(cells: &mut [u8], start: usize, count: usize, cut: &CutColumn<'_>
 {
     let cut = *cut;
     let fours = count / 4;
+    let step = texel_place(cut.step);
     let mut place = fill_fours(cells, start, fours, &cut);
     for k in 4 * fours..count {
-        place = fill_row(cells, start + FRAME_WIDTH as usize * k, place, &cut);
+        fill_row(cells, start + FRAME_WIDTH as usize * k, place, &cut);
+        place = place_after(place, step);
     }
 }
 
-// Sets four times so many cells below one another, and gives the place of the next. The fields of
-// `cut` are copied: behind each write to a cell they would be read again.
+// Sets four times so many cells below one another, and gives the place of the next. Four places
+// are reckoned from one, so that none waits for another.
 #[inline(always)]
 fn fill_fours(cells: &mut [u8], start: usize, fours: usize, cut: &CutColumn<'_>) -> u32
     requires size { length cells.old ≡ FRAME_CELLS }
     requires within { start + FRAME_WIDTH * (4 * fours) < FRAME_CELLS + FRAME_WIDTH }
     requires texels { length cut.now.texels.now ≡ TEXEL_ROWS }
     requires shades { length cut.now.shades.now ≡ MAP_COLOURS }
-    ensures { ColumnFilled cut.now.texels.now cut.now.shades.now cut.now.fraction cut.now.step
-        start (4 * fours) cells.old cells.new result }
+    ensures cells { ColumnFilled cut.now.texels.now cut.now.shades.now cut.now.fraction
+        cut.now.step start (4 * fours) cells.old cells.new }
+    ensures place { IsTexelPlace (step_at cut.now.fraction cut.now.step (4 * fours)) result }
 {
-    let cut = *cut;
     let width = FRAME_WIDTH as usize;
+    let step = texel_place(cut.step);
+    let twice = place_after(step, step);
+    let thrice = place_after(twice, step);
+    let four = place_after(thrice, step);
     let mut place = texel_place(cut.fraction);
     for k in 0..fours {
         let cell = start + 4 * width * k;
-        let second = fill_row(cells, cell, place, &cut);
-        let third = fill_row(cells, cell + width, second, &cut);
-        let fourth = fill_row(cells, cell + 2 * width, third, &cut);
-        place = fill_row(cells, cell + 3 * width, fourth, &cut);
+        fill_row(cells, cell, place, cut);
+        fill_row(cells, cell + width, place_after(place, step), cut);
+        fill_row(cells, cell + 2 * width, place_after(place, twice), cut);
+        fill_row(cells, cell + 3 * width, place_after(place, thrice), cut);
+        place = place_after(place, four);
     }
     place
 }
 
-// Sets one cell of a column, and gives the place of the next.
+// Sets one cell of a column.
 #[inline(always)]
-fn fill_row(cells: &mut [u8], cell: usize, place: u32, cut: &CutColumn<'_>) -> u32
+fn fill_row(cells: &mut [u8], cell: usize, place: u32, cut: &CutColumn<'_>)
     requires size { length cells.old ≡ FRAME_CELLS }
     requires within { cell < FRAME_CELLS }
     requires texels { length cut.now.texels.now ≡ TEXEL_ROWS }
     requires shades { length cut.now.shades.now ≡ MAP_COLOURS }
     ensures { (fraction : ℤ) (start n : ℕ) (before : List ℕ) → cell ≡ start + FRAME_WIDTH * n →
+        IsTexelPlace (step_at fraction cut.now.step n) place →
         ColumnFilled cut.now.texels.now cut.now.shades.now fraction cut.now.step start n
-        before cells.old place →
+        before cells.old →
         ColumnFilled cut.now.texels.now cut.now.shades.now fraction cut.now.step start (n + 1)
-        before cells.new result }
+        before cells.new }
 {
     cells[cell] = cut.shades[cut.texels[row_at(place)] as usize];
-    place_after(place, texel_place(cut.step))
 }
 
 // Sets `count` cells side by side, the first at `start`, likewise.
+#[inline(never)]
 fn fill_span(cells: &mut [u8], start: usize, count: usize, cut: &CutSpan<'_>)
     requires size { length cells.old ≡ FRAME_CELLS }
     requires within { start + count ≤ FRAME_CELLS }
@@ -193,9 +205,11 @@ fn fill_span(cells: &mut [u8], start: usize, count: usize, cut: &CutSpan<'_>)
 {
     let cut = *cut;
     let fours = count / 4;
+    let step = packed_place(cut.x_step, cut.y_step);
     let mut place = fill_across(cells, start, fours, &cut);
     for k in 4 * fours..count {
-        place = fill_one(cells, start + k, place, &cut);
+        fill_one(cells, start + k, place, &cut);
+        place = packed_after(place, step);
     }
 }
 
@@ -207,35 +221,40 @@ fn fill_across(cells: &mut [u8], start: usize, fours: usize, cut: &CutSpan<'_>) 
     requires few { 4 * fours ≤ FRAME_WIDTH }
     requires texels { length cut.now.texels.now ≡ FLAT_BYTES }
     requires shades { length cut.now.shades.now ≡ MAP_COLOURS }
-    ensures { SpanFilled cut.now.texels.now cut.now.shades.now cut.now.x_fraction
-        cut.now.y_fraction cut.now.x_step cut.now.y_step start (4 * fours)
-        cells.old cells.new result }
+    ensures cells { SpanFilled cut.now.texels.now cut.now.shades.now cut.now.x_fraction
+        cut.now.y_fraction cut.now.x_step cut.now.y_step start (4 * fours) cells.old cells.new }
+    ensures place { IsFlatPlace (step_at cut.now.x_fraction cut.now.x_step (4 * fours))
+        (step_at cut.now.y_fraction cut.now.y_step (4 * fours)) (4 * fours) result }
 {
-    let cut = *cut;
+    let step = packed_place(cut.x_step, cut.y_step);
+    let twice = packed_after(step, step);
+    let thrice = packed_after(twice, step);
+    let four = packed_after(thrice, step);
     let mut place = packed_place(cut.x_fraction, cut.y_fraction);
     for k in 0..fours {
         let cell = start + 4 * k;
-        let second = fill_one(cells, cell, place, &cut);
-        let third = fill_one(cells, cell + 1, second, &cut);
-        let fourth = fill_one(cells, cell + 2, third, &cut);
-        place = fill_one(cells, cell + 3, fourth, &cut);
+        fill_one(cells, cell, place, cut);
+        fill_one(cells, cell + 1, packed_after(place, step), cut);
+        fill_one(cells, cell + 2, packed_after(place, twice), cut);
+        fill_one(cells, cell + 3, packed_after(place, thrice), cut);
+        place = packed_after(place, four);
     }
     place
 }
 
-// Sets one cell of a span, and gives the place of the next.
+// Sets one cell of a span.
 #[inline(always)]
-fn fill_one(cells: &mut [u8], cell: usize, place: u64, cut: &CutSpan<'_>) -> u64
+fn fill_one(cells: &mut [u8], cell: usize, place: u64, cut: &CutSpan<'_>)
     requires size { length cells.old ≡ FRAME_CELLS }
     requires within { cell < FRAME_CELLS }
     requires texels { length cut.now.texels.now ≡ FLAT_BYTES }
     requires shades { length cut.now.shades.now ≡ MAP_COLOURS }
     ensures { (x y : ℤ) (start n : ℕ) (before : List ℕ) → n < FRAME_WIDTH → cell ≡ start + n →
+        IsFlatPlace (step_at x cut.now.x_step n) (step_at y cut.now.y_step n) n place →
         SpanFilled cut.now.texels.now cut.now.shades.now x y cut.now.x_step cut.now.y_step
-        start n before cells.old place →
+        start n before cells.old →
         SpanFilled cut.now.texels.now cut.now.shades.now x y cut.now.x_step cut.now.y_step
-        start (n + 1) before cells.new result }
+        start (n + 1) before cells.new }
 {
     cells[cell] = cut.shades[cut.texels[flat_place_at(place)] as usize];
-    packed_after(place, packed_place(cut.x_step, cut.y_step))
 }

@@ -64,12 +64,13 @@ pub fn packed_place(x_fraction: i32, y_fraction: i32) -> u64
     ((y as u64) << u32::BITS) + x as u64
 }
 
-/// The place after one step, with one carry more at most.
+/// The place after one step, or the sum of two steps, with one carry more at most.
 #[tactic(auto, using(crate::proofs::PlaceLemmas::flat_place_more))]
 #[inline(always)]
 pub fn packed_after(place: u64, step: u64) -> u64
-    ensures { (x y a b : ℤ) (most : ℕ) → most + 1 < CARRIES → IsFlatPlace x y most place →
-        IsFlatPlace a b 0 step → IsFlatPlace (plus x a) (plus y b) (most + 1) result }
+    ensures { (x y a b : ℤ) (most few : ℕ) → most + few + 1 < CARRIES →
+        IsFlatPlace x y most place → IsFlatPlace a b few step →
+        IsFlatPlace (plus x a) (plus y b) (most + few + 1) result }
 {
     place.wrapping_add(step)
 }

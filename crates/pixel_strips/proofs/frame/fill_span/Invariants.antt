@@ -1,8 +1,12 @@
+use Rattle.word_rules.specs.Steps.{step_at}
 use Rattle.pixel_strips.specs.Fills.{SpanFilled}
+use Rattle.pixel_strips.specs.Places.{IsFlatPlace}
 use Rattle.pixel_strips.proofs.frame.fill_span.Given as goal
 
--- k cells are set, and the place is that of the next one
+-- k cells are set, and the place is that of the next one, with at most one carry a step
 abbrev pub invariant-loop-k : goal.invariant-loop-k
-invariant-loop-k l =
-    SpanFilled l.cut.texels.now l.cut.shades.now l.cut.x_fraction l.cut.y_fraction l.cut.x_step l.cut.y_step
-    l.start l.k l.fn.cells l.cells l.place
+invariant-loop-k l = record {
+  place : IsFlatPlace (step_at l.cut.x_fraction l.cut.x_step l.k) (step_at l.cut.y_fraction l.cut.y_step l.k) l.k l.place;
+  cells : SpanFilled l.cut.texels.now l.cut.shades.now l.cut.x_fraction l.cut.y_fraction l.cut.x_step l.cut.y_step
+      l.start l.k l.fn.cells l.cells;
+}
