@@ -129,7 +129,7 @@ impl Parts {
 }
 
 /// A room of one leaf, from -256 to 256 both ways, its floor at 0 and of light 160.
-pub fn room_wad(alloc: Global, flats: &[u8; 16]) -> Result<Vec<u8>, AllocError> {
+pub(crate) fn room_wad(alloc: Global, flats: &[u8; 16]) -> Result<Vec<u8>, AllocError> {
     let mut room = Parts::new(alloc);
     let low = 0u16.wrapping_sub(256);
     put_halves(
@@ -147,7 +147,7 @@ pub fn room_wad(alloc: Global, flats: &[u8; 16]) -> Result<Vec<u8>, AllocError> 
 
 /// A hall of that many leaves in a row to the east, each 128 long, 256 wide and 128 high, its floor
 /// at 0. Leaf c has light c; a 65th has light 63, and its floor at -8.
-pub fn hall_wad(alloc: Global, leaves: u16) -> Result<Vec<u8>, AllocError> {
+pub(crate) fn hall_wad(alloc: Global, leaves: u16) -> Result<Vec<u8>, AllocError> {
     let mut hall = Parts::new(alloc);
     for leaf in 0..leaves {
         put_hall_leaf(&mut hall, leaf, leaves)?;
