@@ -69,7 +69,7 @@ pub(crate) fn read_book<S: Shelf>(
     cache: &mut LumpCache,
     shelf: &mut S,
 ) -> Result<SpriteBook, AuditFault>
-    requires { length dir.now.lumps ≤ cache.old.lumps }
+    requires slots { length dir.now.lumps ≤ cache.old.lumps }
     ensures tells { ReadsLumps itself (S.view shelf.old) (S.view shelf.new) dir.now cache.old
         cache.new (IsWanted dir.now.lumps (map need_of placed.now)) (λ book. book) (λ bytes.
         from_below Sprite (book_in bytes dir.now.lumps placed.now)) result }

@@ -2,17 +2,17 @@
 //
 // Rules: `scene_rules`, Scenes; `specs/Reads`. The original: `P_SetupLevel`, p_setup.c,
 // `R_InitData`, r_data.c.
-ghost use Rattle.std.specs.Prelude.{◌≡◌, ◌≢◌, ◌<◌, ◌≤◌, ◌+◌, ◌⊎◌, ℕ, List, length, true, Some, Ok, IfOk, IfErr, IfSome, IsOk, MatchResult};
+ghost use Rattle.std.specs.Prelude.{◌≡◌, ◌≢◌, ◌<◌, ◌≤◌, ◌+◌, ℕ, List, length, true, Some, Ok, IfOk, IfErr, IfSome, IsOk};
 ghost use Rattle.outside.specs.Shelf.{NameFiles, IsLaterShelf};
 ghost use Rattle.outside.specs.Faults.{ResultIs, HasCauses, itself};
 ghost use Rattle.lump_rules.specs.Contents.{lump_bytes};
 ghost use Rattle.lump_rules.specs.Lookups.{lump_at};
 ghost use Rattle.zone_rules.specs.declared.TheConstants.{MIN_FRAGMENT};
 ghost use Rattle.zone_rules.specs.Zones.{block_size, bytes_of};
-ghost use Rattle.zone_rules.specs.Orders.{Item, has_item, IsInOrder, KeepsOrder};
+ghost use Rattle.zone_rules.specs.Orders.{Item, has_item, IsInOrder};
 ghost use Rattle.lump_cache.specs.Caches.{IsAtRest, IsEmpty, IsFaithful, KeepsCounts, composite_owner, lump_owner};
-ghost use Rattle.lump_cache.specs.Calls.{IfFull, InOrderAt, HoldContents, ReadsLumps};
-ghost use Rattle.lump_cache.specs.Sizes.{HasSizes, StandsBeside};
+ghost use Rattle.lump_cache.specs.Calls.{IfFull, LeavesInOrder, HoldContents, ReadsLumps};
+ghost use Rattle.lump_cache.specs.Sizes.{StandsBeside};
 ghost use Rattle.scene_rules.specs.Scenes.{SceneValue, art_of, colormap_of, scene_in, sizes_of};
 ghost use Rattle.scene_rules.specs.Sizes.{needed_lumps};
 ghost use Rattle.level_audit.specs.Asked.{IsOfBase};
@@ -115,11 +115,8 @@ pub fn audit<S: Shelf>(
         IsReadBy (lump_bytes contents dir.now.lumps) dir.now.lumps things.now map.now skill
         lump → has_item items (lump_owner lump) (lump_at dir.now.lumps lump).size ≡ true) →
         IsInOrder items cache.old →
-        MatchResult result (λ _. KeepsOrder items cache.old cache.new (S.view shelf.old).taken
-        (S.view shelf.new).taken) (λ fault.
-        InOrderAt (itself fault)
-        (KeepsOrder items cache.old cache.new (S.view shelf.old).taken
-        (S.view shelf.new).taken)) }
+        LeavesInOrder itself items (S.view shelf.old) (S.view shelf.new)
+        cache.old cache.new result }
 {
     let colormap = match find_colormap(dir) {
         Ok(colormap) => colormap,

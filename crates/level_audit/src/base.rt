@@ -134,7 +134,7 @@ fn read_labelled<S: Shelf>(
     cache: &mut LumpCache,
     shelf: &mut S,
 ) -> Result<(LumpNo, Level), AuditFault>
-    requires { length dir.now.lumps ≤ cache.old.lumps }
+    requires slots { length dir.now.lumps ≤ cache.old.lumps }
     ensures tells { ReadsLumps itself (S.view shelf.old) (S.view shelf.new) dir.now cache.old
         cache.new (IsLumpOfMap dir.now.lumps name.now) (λ map. (map.0.0, map.1))
         (λ bytes. from_below Map (level_in bytes dir.now.lumps name.now)) result }
@@ -153,7 +153,7 @@ fn load_lists<S: Shelf>(
     cache: &mut LumpCache,
     shelf: &mut S,
 ) -> Result<Textures, AuditFault>
-    requires { length dir.now.lumps ≤ cache.old.lumps }
+    requires slots { length dir.now.lumps ≤ cache.old.lumps }
     ensures tells { ReadsLumps itself (S.view shelf.old) (S.view shelf.new) dir.now cache.old
         cache.new (IsListLump dir.now.lumps) (λ textures. textures.lists)
         (λ bytes. from_below Texture (lists_in bytes dir.now.lumps)) result }

@@ -2,18 +2,15 @@
 //
 // Rules: `scene_rules`, Scenes. The original: `R_InitColormaps`, r_data.c.
 ghost use Rattle.outside.specs.Faults.{itself};
-ghost use Rattle.std.specs.Prelude.{◌≡◌, ◌<◌, ◌≤◌, ℕ, List, length, take, Ok, Err, Some, IfOk, IfSome, OnOk, MatchResult, option_map};
+ghost use Rattle.std.specs.Prelude.{◌≡◌, ◌<◌, ◌≤◌, length, take, Ok, Err, Some, IfOk, IfSome, OnOk, MatchResult, option_map};
 ghost use Rattle.lump_rules.specs.Lookups.{lump_at};
-ghost use Rattle.lump_rules.specs.Contents.{lump_bytes};
-ghost use Rattle.zone_rules.specs.Zones.{IsLive, bytes_of};
-ghost use Rattle.lump_cache.specs.Caches.{lump_owner};
-ghost use Rattle.lump_cache.specs.Calls.{HoldContents, ReadsLumps};
+ghost use Rattle.lump_cache.specs.Calls.{ReadsLumps};
 ghost use Rattle.lump_cache.specs.Sizes.{StandsBeside};
 ghost use Rattle.scene_rules.specs.declared.TheConstants.{PALETTE_SIZE};
 ghost use Rattle.scene_rules.specs.Scenes.{colormap_of, long_lump, playpal_of};
 
-use crate::{ArtRefusal, AuditFault};
-use lump_cache::{CacheFault, LumpCache, fetch_live, live_lump};
+use crate::{ArtRefusal, AuditFault, AuditRefusal};
+use lump_cache::{LumpCache, fetch_live, live_lump};
 use lump_rules::Name8;
 use outside::{OutOfMemory, Shelf};
 use scene_rules::{COLORMAP, COLORMAP_SIZE, PALETTE_SIZE, PLAYPAL};
@@ -90,28 +87,8 @@ pub fn read_palette<S: Shelf>(
     ensures fits { OnOk result (StandsBeside dir.now.lumps cache.old playpal.0) }
     ensures size { IfOk result (λ palette. length palette.items ≡ PALETTE_SIZE) }
 {
-    fetch_lump(cache, dir, shelf, playpal)?;
+    fetch_live::<S, AuditRefusal>(cache, dir, shelf, playpal)?;
     Ok(first_palette(alloc, live_lump(cache, playpal))?)
-}
-
-// Makes a lump live, as `fetch_live`, with the faults of an audit.
-fn fetch_lump<S: Shelf>(
-    cache: &mut LumpCache,
-    dir: &Directory,
-    shelf: &mut S,
-    lump: LumpNo,
-) -> Result<(), AuditFault>
-    requires slots { length dir.now.lumps ≤ cache.old.lumps }
-    requires there { lump.0 < length dir.now.lumps }
-    ensures tells { ReadsLumps itself (S.view shelf.old) (S.view shelf.new) dir.now cache.old
-        cache.new (λ number. number ≡ lump.0) (λ done. done) (λ bytes. Ok tt) result }
-    ensures live { OnOk result (IsLive cache.new (lump_owner lump.0)) }
-    ensures bytes { (contents : List (List ℕ)) →
-        HoldContents (S.view shelf.old) dir.now cache.old contents →
-        OnOk result (bytes_of (lump_owner lump.0) cache.new.blocks ≡
-        Some (lump_bytes contents dir.now.lumps lump.0)) }
-{
-    fetch_live(cache, dir, shelf, lump).map_err(CacheFault::above)
 }
 
 // The first bytes of PLAYPAL as a palette, filled up with 0 where they are fewer, which they never

@@ -62,7 +62,7 @@ fn load_weapons<S: Shelf>(
     cache: &mut LumpCache,
     shelf: &mut S,
 ) -> Result<SpriteBook, AuditFault>
-    requires { length dir.now.lumps ≤ cache.old.lumps }
+    requires slots { length dir.now.lumps ≤ cache.old.lumps }
     ensures tells { ReadsLumps itself (S.view shelf.old) (S.view shelf.new) dir.now cache.old
         cache.new (IsWanted dir.now.lumps (weapon_needs weapons.now)) (λ book. book) (λ bytes.
         from_below WeaponArt (weapon_book bytes dir.now.lumps weapons.now)) result }

@@ -12,24 +12,6 @@ pub use maps::{
     LEAF_BIT, MAX_RECORDS, MapLeaf, MapLine, MapLump, MapRefusal, MapSeg, MapVertex, NO_SIDE,
 };
 
-/// The flat of a surface that is sky; no lump has this number.
-pub const SKY_FLAT: u32 = 65536;
-
-/// The most nodes on the way from the root to a leaf, the root and the last node among them.
-///
-/// This project's own: the original sets no limit.
-pub const MAX_DEPTH: u32 = 1024;
-
-/// The flag of a line through which the sector behind it is seen (ML_TWOSIDED).
-pub const TWO_SIDED: u16 = 4;
-
-/// The flag of a line whose upper texture begins at the ceiling in front (ML_DONTPEGTOP).
-pub const TOP_UNPEGGED: u16 = 8;
-
-/// The flag of a line whose lower texture begins at the ceiling, and whose middle texture stands
-/// on the floor (ML_DONTPEGBOTTOM).
-pub const BOTTOM_UNPEGGED: u16 = 16;
-
 /// A thing as its lump has it: point, angle, type and options.
 ///
 /// `x` and `y` are map units, 16.16 fixed point; `angle` is in degrees, counterclockwise from
@@ -121,6 +103,11 @@ pub enum Child {
     Leaf(u16),
 }
 
+/// The most nodes on the way from the root to a leaf, the root and the last node among them.
+///
+/// This project's own: the original sets no limit.
+pub const MAX_DEPTH: u32 = 1024;
+
 /// A node of the tree: its line, and a box and a child for each side of it.
 ///
 /// Child 0 is in front of the line, child 1 behind it. The original: node_t, r_defs.h.
@@ -140,6 +127,9 @@ pub struct Leaf {
     pub count: u16,
     pub sector: u16,
 }
+
+/// The flag of a line through which the sector behind it is seen (ML_TWOSIDED).
+pub const TWO_SIDED: u16 = 4;
 
 /// A seg: a piece of a line, as seen from one side of it.
 ///
@@ -161,6 +151,13 @@ pub struct Seg {
     pub back: Option<u16>,
 }
 
+/// The flag of a line whose upper texture begins at the ceiling in front (ML_DONTPEGTOP).
+pub const TOP_UNPEGGED: u16 = 8;
+
+/// The flag of a line whose lower texture begins at the ceiling, and whose middle texture stands
+/// on the floor (ML_DONTPEGBOTTOM).
+pub const BOTTOM_UNPEGGED: u16 = 16;
+
 /// The numbers of a side's three textures; 0 is none.
 ///
 /// The original: side_t, r_defs.h.
@@ -170,6 +167,9 @@ pub struct SideTextures {
     pub bottom: u16,
     pub middle: u16,
 }
+
+/// The flat of a surface that is sky; no lump has this number.
+pub const SKY_FLAT: u32 = 65536;
 
 /// A sector as the drawing layers compare it.
 ///

@@ -43,7 +43,7 @@ pub fn read_level<S: Shelf>(
     cache: &mut LumpCache,
     shelf: &mut S,
 ) -> Result<(LumpNo, Level), LevelFault>
-    requires { length dir.now.lumps ≤ cache.old.lumps }
+    requires slots { length dir.now.lumps ≤ cache.old.lumps }
     ensures tells { ReadsLumps itself (S.view shelf.old) (S.view shelf.new) dir.now cache.old
         cache.new (IsLumpOfMap dir.now.lumps name.now) (λ found. (found.0.0, found.1)) (λ bytes.
         level_in bytes dir.now.lumps name.now) result }

@@ -3,23 +3,20 @@
 // Rules: `specs/Lumps`; what a call over a cache answers stands in `lump_cache`. The original:
 // `P_SetupLevel`, p_setup.c.
 ghost use Rattle.outside.specs.Faults.{itself};
-ghost use Rattle.std.specs.Prelude.{◌≡◌, ◌<◌, ◌≤◌, ◌+◌, ◌^◌, ℕ, List, length, map, true, false, Ok, Some, IfOk, OnOk, slice_set};
+ghost use Rattle.std.specs.Prelude.{◌≡◌, ◌<◌, ◌≤◌, ◌+◌, ◌^◌, ℕ, length, map, true, false, Ok, IfOk, OnOk, slice_set};
 ghost use Rattle.std.specs.List.{range_with_len};
 ghost use Rattle.level_rules.specs.maps.Lumps.{lump_no};
 ghost use Rattle.map_lumps.specs.Builders.{all_added, empty_builder, is_added};
-ghost use Rattle.lump_rules.specs.Contents.{lump_bytes};
-ghost use Rattle.zone_rules.specs.Zones.{IsLive, bytes_of};
-ghost use Rattle.lump_cache.specs.Caches.{lump_owner};
-ghost use Rattle.lump_cache.specs.Calls.{HoldContents, ReadsLumps};
+ghost use Rattle.lump_cache.specs.Calls.{ReadsLumps};
 ghost use Rattle.lump_cache.specs.Sizes.{StandsBeside};
 ghost use Rattle.scene_rules.specs.Sizes.{is_map_lump};
 ghost use Rattle.level_scene.specs.Lumps.{lump_added, lumps_from};
 
 use crate::LevelFault;
 use crate::fault::map_fault;
-use lump_cache::{CacheFault, LumpCache, fetch_live, live_lump};
+use lump_cache::{LumpCache, fetch_live, live_lump};
 use lump_rules::{MAP_LUMP_COUNT, MAP_LUMPS};
-use map_lumps::{LevelBuilder, MapLump};
+use map_lumps::{LevelBuilder, MapLump, MapRefusal};
 use outside::Shelf;
 use std::alloc::Global;
 use wad_dir::{Directory, LumpNo};
@@ -84,28 +81,8 @@ fn add_lump<S: Shelf>(
         true) }
     ensures fits { OnOk result (StandsBeside dir.now.lumps cache.old number.0) }
 {
-    fetch_lump(cache, dir, shelf, number)?;
+    fetch_live::<S, MapRefusal>(cache, dir, shelf, number)?;
     builder
         .add(alloc, lump, live_lump(cache, number))
         .map_err(map_fault)
-}
-
-// Makes a lump live, as `fetch_live`, with the faults of levels.
-fn fetch_lump<S: Shelf>(
-    cache: &mut LumpCache,
-    dir: &Directory,
-    shelf: &mut S,
-    number: LumpNo,
-) -> Result<(), LevelFault>
-    requires slots { length dir.now.lumps ≤ cache.old.lumps }
-    requires there { number.0 < length dir.now.lumps }
-    ensures tells { ReadsLumps itself (S.view shelf.old) (S.view shelf.new) dir.now cache.old
-        cache.new (λ n. n ≡ number.0) (λ done. done) (λ bytes. Ok tt) result }
-    ensures live { OnOk result (IsLive cache.new (lump_owner number.0)) }
-    ensures bytes { (contents : List (List ℕ)) →
-        HoldContents (S.view shelf.old) dir.now cache.old contents →
-        OnOk result (bytes_of (lump_owner number.0) cache.new.blocks ≡
-        Some (lump_bytes contents dir.now.lumps number.0)) }
-{
-    fetch_live(cache, dir, shelf, number).map_err(CacheFault::above)
 }

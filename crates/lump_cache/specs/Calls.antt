@@ -68,6 +68,14 @@ abbrev pub HasAll : List Item → DirectoryView → (ℕ → Type 0) → Type 0
 HasAll items dir wants = (lump : ℕ) → wants lump →
     has_item items (lump_owner lump) (lump_at dir.lumps lump).size ≡ true
 
+-- a zone that is in order for these items is so after a call, unless a read fails; it is not full
+abbrev pub LeavesInOrder : {B R E : Type 0} → (E → Fault R) → List Item → ShelfView → ShelfView →
+    Heap → Heap → Result B E → Type 0
+LeavesInOrder fault_of items view after old new result =
+    MatchResult result
+    (λ _. KeepsOrder items old new view.taken after.taken)
+    (λ fault. InOrderAt (fault_of fault) (KeepsOrder items old new view.taken after.taken))
+
 -- A call by what it is expected to give for the bytes of lumps, and by the lumps that it may ask
 -- for: its answer, what it keeps, when a read fails, when the zone is full, and that a cache in
 -- order stays so.
@@ -80,6 +88,4 @@ pub record ReadsLumps {A B R E : Type 0} (fault_of : E → Fault R)
   pub causes : HasCauses fault_of view.faults after.faults result
   pub full : IfErr result (λ fault. IfFull (fault_of fault) (IsFullFor wants dir old))
   pub order : (items : List Item) → HasAll items dir wants → IsInOrder items old →
-      MatchResult result
-      (λ _. KeepsOrder items old new view.taken after.taken)
-      (λ fault. InOrderAt (fault_of fault) (KeepsOrder items old new view.taken after.taken))
+      LeavesInOrder fault_of items view after old new result

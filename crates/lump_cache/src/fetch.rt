@@ -3,6 +3,7 @@
 // Rules: `specs/Calls` and `specs/Named`. The original: w_wad.c.
 ghost use Rattle.std.specs.Prelude.{◌≡◌, ◌<◌, ◌≤◌, ◌+◌, ℕ, List, length, false, Ok, Some, IfOk, IfSome, OnOk, option_map};
 ghost use Rattle.std.specs.Option.{option_copied};
+ghost use Rattle.outside.specs.Faults.{itself};
 ghost use Rattle.lump_rules.specs.Contents.{lump_bytes, named_bytes};
 ghost use Rattle.lump_rules.specs.Lookups.{last_of};
 ghost use Rattle.zone_rules.specs.Zones.{IsLive, bytes_of, block_size, same_owner};
@@ -12,7 +13,7 @@ ghost use Rattle.lump_cache.specs.Named.{IsLast, live_bytes};
 
 use crate::{CacheFault, LumpCache};
 use lump_rules::Name8;
-use outside::Shelf;
+use outside::{Fault, Shelf};
 use wad_dir::{Directory, LumpNo};
 use zone_heap::Tag;
 
@@ -20,10 +21,32 @@ use zone_heap::Tag;
 /// live lump has the size that the directory gives, this is so after any answer too.
 ///
 /// Errors: `ZoneFull` where no gap of the zone held the lump's block, `ReadFault` where a call of
-/// the shelf failed.
+/// the shelf failed; it refuses nothing of its own.
 ///
 /// The original: `W_CacheLumpNum`, w_wad.c.
-pub fn fetch_live<S: Shelf>(
+pub fn fetch_live<S: Shelf, R>(
+    cache: &mut LumpCache,
+    dir: &Directory,
+    shelf: &mut S,
+    lump: LumpNo,
+) -> Result<(), Fault<R>>
+    requires slots { length dir.now.lumps ≤ cache.old.lumps }
+    requires there { lump.0 < length dir.now.lumps }
+    ensures tells { ReadsLumps itself (S.view shelf.old) (S.view shelf.new) dir.now cache.old
+        cache.new
+        (λ number. number ≡ lump.0) (λ done. done) (λ bytes. Ok tt) result }
+    ensures live { OnOk result (IsLive cache.new (lump_owner lump.0)) }
+    ensures bytes { (contents : List (List ℕ)) →
+        HoldContents (S.view shelf.old) dir.now cache.old contents →
+        OnOk result
+        (bytes_of (lump_owner lump.0) cache.new.blocks
+        ≡ Some (lump_bytes contents dir.now.lumps lump.0)) }
+{
+    make_live(cache, dir, shelf, lump).map_err(CacheFault::above)
+}
+
+// Makes a lump live, with the faults of the cache.
+fn make_live<S: Shelf>(
     cache: &mut LumpCache,
     dir: &Directory,
     shelf: &mut S,
@@ -47,7 +70,7 @@ pub fn fetch_live<S: Shelf>(
 /// Makes the last lump of a name live and returns its number, or `None` exactly where no lump has
 /// the name. Takes no memory.
 ///
-/// Errors: those of `fetch_live`.
+/// Errors: `ZoneFull` and `ReadFault`, as for `fetch_live`.
 ///
 /// The original: `W_CacheLumpName`, w_wad.c.
 pub fn fetch_named<S: Shelf>(
@@ -73,7 +96,7 @@ pub fn fetch_named<S: Shelf>(
 {
     match dir.last(name) {
         Some(lump) => {
-            fetch_live(cache, dir, shelf, lump)?;
+            make_live(cache, dir, shelf, lump)?;
             Ok(Some(lump))
         }
         None => Ok(None),

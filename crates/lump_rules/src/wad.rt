@@ -2,25 +2,6 @@
 use crate::Name8;
 use thiserror::Error;
 
-/// The bytes of a file's header: four letters, the count of entries and the directory's offset.
-pub const HEADER_SIZE: usize = 12;
-/// Where in the header the count of entries stands, in bytes.
-pub const COUNT_AT: usize = 4;
-/// Where in the header the offset of the directory stands, in bytes.
-pub const PLACE_AT: usize = 8;
-
-/// The bytes of an entry: offset and size of a lump in bytes, and its name.
-pub const ENTRY_SIZE: usize = 16;
-/// Where in an entry the size of its lump stands, in bytes. The lump's offset comes first.
-pub const SIZE_AT: usize = 4;
-/// Where in an entry the name of its lump stands, in bytes.
-pub const NAME_AT: usize = 8;
-/// The bytes of a count, an offset or a size.
-pub const WORD_SIZE: usize = 4;
-
-/// The most lumps that all files together may have.
-pub const MAX_LUMPS: u32 = 65535;
-
 /// A lump of some files.
 ///
 /// `file` is the index of its file, in the order in which the files were given. Its `size` bytes
@@ -69,3 +50,22 @@ pub enum DirRefusal {
     #[error("the WADs list more than {most} lumps", most = MAX_LUMPS)]
     TooMany,
 }
+
+/// The bytes of a file's header: four letters, the count of entries and the directory's offset.
+pub const HEADER_SIZE: usize = 12;
+/// Where in the header the count of entries stands, in bytes.
+pub const COUNT_AT: usize = 4;
+/// Where in the header the offset of the directory stands, in bytes.
+pub const PLACE_AT: usize = 8;
+
+/// The bytes of an entry: offset and size of a lump in bytes, and its name.
+pub const ENTRY_SIZE: usize = 16;
+/// Where in an entry the size of its lump stands, in bytes. The lump's offset comes first.
+pub const SIZE_AT: usize = 4;
+/// Where in an entry the name of its lump stands, in bytes.
+pub const NAME_AT: usize = 8;
+/// The bytes of a count, an offset or a size.
+pub const WORD_SIZE: usize = 4;
+
+/// The most lumps that all files together may have.
+pub const MAX_LUMPS: u32 = 65535;

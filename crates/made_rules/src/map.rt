@@ -1,5 +1,14 @@
 // The sizes and marks of a made level.
 
+/// A rectangle of cells: columns `west` to `east - 1` and rows `south` to `north - 1`.
+#[derive(Clone, Copy, Debug, PartialEq, Eq)]
+pub struct Part {
+    pub west: u32,
+    pub east: u32,
+    pub south: u32,
+    pub north: u32,
+}
+
 /// The columns of cells, and the rows, for each step of the number that names the files.
 pub const CELLS_PER_NUMBER: u32 = 2;
 
@@ -29,12 +38,3 @@ pub const LEVEL_THING: u32 = 2035;
 
 /// The options of the things: they stand in the level at every skill.
 pub const THING_OPTIONS: u32 = 7;
-
-/// A rectangle of cells: columns `west` to `east - 1` and rows `south` to `north - 1`.
-#[derive(Clone, Copy, Debug, PartialEq, Eq)]
-pub struct Part {
-    pub west: u32,
-    pub east: u32,
-    pub south: u32,
-    pub north: u32,
-}

@@ -1,17 +1,5 @@
 // The pictures of a made WAD file.
 
-/// The colours of the palette.
-pub const COLOURS: u32 = 256;
-
-/// The light maps.
-pub const COLORMAPS: u32 = 32;
-
-/// The flats.
-pub const FLATS: u32 = 4;
-
-/// The bytes of a flat.
-pub const FLAT_SIZE: u32 = 4096;
-
 /// A picture in columns: sizes and offsets in texels, and the number from which its bytes count.
 #[derive(Clone, Copy, Debug, PartialEq, Eq)]
 pub struct Picture {
@@ -81,3 +69,15 @@ pub const TREE: Picture = Picture {
     top: 64,
     seed: 120,
 };
+
+/// The colours of the palette.
+pub const COLOURS: u32 = 256;
+
+/// The light maps.
+pub const COLORMAPS: u32 = 32;
+
+/// The flats.
+pub const FLATS: u32 = 4;
+
+/// The bytes of a flat.
+pub const FLAT_SIZE: u32 = 4096;

@@ -4,6 +4,7 @@
 //! view and how they are found, checked and marked (Planes), what the events of a view make of
 //! them (Built), the spans of a row (Spans), and the pixels of floors and skies (Floors, Skies).
 //! A plane is the field's visplane, a span's first column its spanstart. The original: r_plane.c.
+
 /// The most planes of a view, where no option raises it.
 pub const MAX_VISPLANES: u32 = 128;
 

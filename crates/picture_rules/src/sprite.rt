@@ -5,6 +5,7 @@
 //! fragments (Drawsegs), how far a sprite is seen and when a masked column is drawn (Clips), and
 //! the pixels of sprites, masked mid textures and weapons (Sprites, Middles, Weapons). An entry
 //! is the field's vissprite, a `mid` its texturemid. The original: r_things.c.
+
 /// The most vissprites of a view. The original: `MAXVISSPRITES`, r_things.h.
 pub const MAX_VISSPRITES: u32 = 128;
 

@@ -5,30 +5,8 @@
 //! of a column before and after it (Clips, Walls), what it keeps for sprites (Openings, Notes),
 //! and the strips that it paints (Strips). A drawn fragment is the field's drawseg; `top`,
 //! `bottom`, `high` and `low` are topfrac, bottomfrac, pixhigh and pixlow. The original: r_segs.c.
+
 use level_rules::{Seg, Surface};
-
-/// The most openings of a view, where no option raises it. The original: `MAXOPENINGS`, r_plane.c.
-pub const MAX_OPENINGS: u32 = 20480;
-
-/// The most openings to which an option may raise that limit.
-///
-/// This project's own.
-pub const MOST_OPENINGS: u32 = 245760;
-
-/// The bits of a silhouette: what is behind is clipped from below, and from above. The original:
-/// `SIL_BOTTOM` and `SIL_TOP`, r_defs.h.
-pub const SIL_BOTTOM: u8 = 1;
-
-pub const SIL_TOP: u8 = 2;
-
-/// The bits by which heights are shifted down before they are scaled to edges.
-pub const HEIGHT_SHIFT: u32 = 4;
-
-/// The bits of fraction of an edge. The original: `HEIGHTBITS`, r_segs.c.
-pub const EDGE_BITS: u32 = 12;
-
-/// The most that an edge's fraction has. The original: `HEIGHTUNIT - 1`, r_segs.c.
-pub const MAX_EDGE_FRACTION: i32 = 0xfff;
 
 /// A texture of a side: its number, 0 for none, and its height in texels.
 #[derive(Clone, Copy, Debug, PartialEq, Eq)]
@@ -36,6 +14,9 @@ pub struct WallTexture {
     pub number: u16,
     pub height: u16,
 }
+
+/// The bits by which heights are shifted down before they are scaled to edges.
+pub const HEIGHT_SHIFT: u32 = 4;
 
 /// What a fragment is drawn from: a seg, the two sectors, and the side's offsets and textures.
 ///
@@ -54,6 +35,12 @@ pub struct WallFacts {
     pub bottom: WallTexture,
     pub middle: WallTexture,
 }
+
+/// The bits of fraction of an edge. The original: `HEIGHTBITS`, r_segs.c.
+pub const EDGE_BITS: u32 = 12;
+
+/// The most that an edge's fraction has. The original: `HEIGHTUNIT - 1`, r_segs.c.
+pub const MAX_EDGE_FRACTION: i32 = 0xfff;
 
 /// The scale and the four edges of a fragment at a column.
 ///
@@ -75,6 +62,12 @@ pub struct ColumnClip {
     pub ceiling_clip: i32,
     pub floor_clip: i32,
 }
+
+/// The bits of a silhouette: what is behind is clipped from below, and from above. The original:
+/// `SIL_BOTTOM` and `SIL_TOP`, r_defs.h.
+pub const SIL_BOTTOM: u8 = 1;
+
+pub const SIL_TOP: u8 = 2;
 
 /// Whether a fragment clips what is behind it, and up to which height.
 ///
@@ -138,6 +131,14 @@ pub enum Clip {
     Constant(i32),
     Saved(u32),
 }
+
+/// The most openings of a view, where no option raises it. The original: `MAXOPENINGS`, r_plane.c.
+pub const MAX_OPENINGS: u32 = 20480;
+
+/// The most openings to which an option may raise that limit.
+///
+/// This project's own.
+pub const MOST_OPENINGS: u32 = 245760;
 
 /// What the masked pass needs of a drawn fragment.
 ///

@@ -6,39 +6,6 @@
 //! R_DrawMaskedColumn of r_things.c.
 #![tactic(auto)]
 
-/// The cells of a frame, row by row from the top.
-pub const FRAME_CELLS: usize = 64000;
-
-/// The kinds of painter: a strip of a wall, a plane that is not sky, a sky plane, a masked mid
-/// texture, a sprite, a weapon.
-pub const WALL: u8 = 1;
-
-pub const PLANE: u8 = 2;
-
-pub const SKY: u8 = 3;
-
-pub const MIDDLE: u8 = 4;
-
-pub const SPRITE: u8 = 5;
-
-pub const WEAPON: u8 = 6;
-
-/// The kinds of source: none, a lump, the composite of a texture.
-pub const NO_SOURCE: u8 = 0;
-
-pub const LUMP: u8 = 1;
-
-pub const COMPOSITE: u8 = 2;
-
-/// The texel rows after which a texture column begins again.
-pub const TEXEL_ROWS: u16 = 128;
-
-/// The columns and the rows of a flat, in texels.
-pub const FLAT_SIDE: u16 = 64;
-
-/// The colours of a colormap, in bytes.
-pub const MAP_COLOURS: u16 = 256;
-
 /// Who writes a pixel, and whose bytes it reads.
 ///
 /// `kind` is one of `WALL` to `WEAPON`; `number` is that of the fragment, of the plane, of the
@@ -86,3 +53,36 @@ pub struct MaskedColumn {
     pub top_clip: i32,
     pub bottom_clip: i32,
 }
+
+/// The cells of a frame, row by row from the top.
+pub const FRAME_CELLS: usize = 64000;
+
+/// The kinds of painter: a strip of a wall, a plane that is not sky, a sky plane, a masked mid
+/// texture, a sprite, a weapon.
+pub const WALL: u8 = 1;
+
+pub const PLANE: u8 = 2;
+
+pub const SKY: u8 = 3;
+
+pub const MIDDLE: u8 = 4;
+
+pub const SPRITE: u8 = 5;
+
+pub const WEAPON: u8 = 6;
+
+/// The kinds of source: none, a lump, the composite of a texture.
+pub const NO_SOURCE: u8 = 0;
+
+pub const LUMP: u8 = 1;
+
+pub const COMPOSITE: u8 = 2;
+
+/// The texel rows after which a texture column begins again.
+pub const TEXEL_ROWS: u16 = 128;
+
+/// The columns and the rows of a flat, in texels.
+pub const FLAT_SIDE: u16 = 64;
+
+/// The colours of a colormap, in bytes.
+pub const MAP_COLOURS: u16 = 256;

@@ -12,6 +12,8 @@ use std::marker::Model;
 use wad_dir::LumpNo;
 
 /// A mark for each number below a count. Contracts see the list of marks.
+///
+/// This project's own: the original marks textures and lumps in arrays of `R_PrecacheLevel`, r_data.c.
 #[derive(Drop)]
 pub struct Marks {
     list: Vec<bool>,
@@ -26,7 +28,9 @@ impl Model for Marks {
 }
 
 impl Marks {
-    /// So many marks, none set.
+    /// `count` marks, none set. Takes a byte for each.
+    ///
+    /// Errors: `OutOfMemory`. This project's own.
     pub fn none(alloc: Global, count: usize) -> Result<Marks, OutOfMemory>
         ensures count { IfOk result (λ marks. length marks ≡ count) }
         ensures none { IfOk result (λ marks. (number : ℕ) → is_marked marks number ≡ false) }
@@ -35,7 +39,9 @@ impl Marks {
         Ok(Marks { list })
     }
 
-    /// Sets a mark, where there is one of that number.
+    /// Sets the mark of a number; nothing happens where there is none of that number.
+    ///
+    /// This project's own.
     pub fn set(&mut self, number: usize)
         ensures count { length self.new ≡ length self.old }
         ensures marked { AddsMarks self.old self.new (λ n. number == n) }
@@ -45,7 +51,9 @@ impl Marks {
         }
     }
 
-    /// Whether a mark is set.
+    /// Whether the mark of a number below the count is set.
+    ///
+    /// This project's own.
     pub fn has(&self, number: usize) -> bool
         requires { number < length self.now }
         ensures { result ≡ is_marked self.now number }
@@ -53,7 +61,9 @@ impl Marks {
         self.list[number]
     }
 
-    /// The lumps whose numbers are marked, ascending.
+    /// The lumps whose numbers are marked, ascending. Takes memory for the result.
+    ///
+    /// Errors: `OutOfMemory`. This project's own.
     pub fn lumps(&self, alloc: Global) -> Result<Vec<LumpNo>, OutOfMemory>
         requires { length self.now < 2 ^ 16 }
         ensures { IfOk result (λ lumps.

@@ -15,14 +15,21 @@ use scene_rules::ZoneSizes;
 use std::alloc::Global;
 use wad_dir::{Directory, LumpNo};
 
-/// The lumps that are needed, and the sizes of a zone for them.
+/// The numbers of the lumps that are needed, ascending, and the sizes of a zone for them, in bytes.
+///
+/// This project's own.
 #[derive(Drop)]
 pub struct Needed {
     pub lumps: Vec<LumpNo>,
     pub sizes: ZoneSizes,
 }
 
-/// What a scene needs, with the pictures of these lumps.
+/// What a scene needs, with the pictures of these lumps, and the sizes of a zone for it.
+///
+/// Takes memory for the result, and a byte for each lump of the directory while it runs.
+///
+/// Errors: `OutOfMemory`. This project's own; the lumps are those that `R_PrecacheLevel`, r_data.c,
+/// reads, and those of the level itself.
 pub fn find_needed(
     alloc: Global,
     dir: &Directory,

@@ -12,7 +12,7 @@ use Rattle.art_rules.specs.declared.patch.Patch.{Patch}
 use Rattle.art_rules.specs.declared.refusal.SpriteRefusal.{SpriteRefusal}
 use Rattle.art_rules.specs.Patches.{patch_of}
 use Rattle.art_rules.specs.Frames.{mentions}
-use Rattle.lump_cache.specs.Calls.{PreservesCache, HoldContents, IsFullFor, IfFull, InOrderAt, HasAll}
+use Rattle.lump_cache.specs.Calls.{PreservesCache, HoldContents, IsFullFor, IfFull, LeavesInOrder, HasAll}
 use Rattle.outside.specs.declared.fault.Fault.{Fault}
 use Rattle.art_rules.specs.declared.shapes.Need.{Need}
 use Rattle.art_rules.specs.Books.{pictures_of}
@@ -57,5 +57,4 @@ pub record Reads {A B : Type 0} (view after : ShelfView) (dir : DirectoryView) (
   pub causes : HasCauses itself view.faults after.faults result
   pub full : IfErr result (λ fault. IfFull (itself fault) (IsFullFor wants dir old))
   pub order : (items : List Item) → HasAll items dir wants → IsInOrder items old →
-      MatchResult result (λ _. KeepsOrder items old new view.taken after.taken)
-      (λ fault. InOrderAt (itself fault) (KeepsOrder items old new view.taken after.taken))
+      LeavesInOrder itself items view after old new result

@@ -1,5 +1,5 @@
 // A book of frames.
-ghost use Rattle.std.specs.Prelude.{◌≡◌, ◌<◌, ◌≤◌, ◌+◌, ◌↔◌, true, ℕ, List, length, map, All, Contains, Option, Some, Ok, IfOk, IfErr, IfSome, MatchResult};
+ghost use Rattle.std.specs.Prelude.{◌≡◌, ◌<◌, ◌≤◌, ◌+◌, ◌↔◌, true, ℕ, List, length, map, All, Contains, Option, Some, Ok, IfOk, IfErr, IfSome};
 ghost use Rattle.std.specs.List.Sorted.{IsStrictlyIncreasing};
 ghost use Rattle.outside.specs.Shelf.{IsLaterShelf, NameFiles};
 ghost use Rattle.outside.specs.Faults.{ResultIs, HasCauses, itself};
@@ -7,10 +7,10 @@ ghost use Rattle.lump_rules.specs.Lookups.{lump_at};
 ghost use Rattle.lump_rules.specs.Contents.{AllWithin};
 ghost use Rattle.zone_rules.specs.declared.TheConstants.{MIN_FRAGMENT};
 ghost use Rattle.zone_rules.specs.Zones.{block_size, bytes_of};
-ghost use Rattle.zone_rules.specs.Orders.{Item, has_item, IsInOrder, KeepsOrder};
+ghost use Rattle.zone_rules.specs.Orders.{Item, has_item, IsInOrder};
 ghost use Rattle.art_rules.specs.Frames.{mentions};
 ghost use Rattle.lump_cache.specs.Caches.{IsFaithful, IsAtRest, KeepsCounts, lump_owner, composite_owner};
-ghost use Rattle.lump_cache.specs.Calls.{ReadsLumps, IfFull, InOrderAt};
+ghost use Rattle.lump_cache.specs.Calls.{ReadsLumps, IfFull, LeavesInOrder};
 ghost use Rattle.art_rules.specs.declared.shapes.Frame.{Frame};
 ghost use Rattle.art_rules.specs.Books.{book_of, outlines_of, outline, frame_of, outline_of, each_of, first_needs, picked, book_lumps};
 ghost use Rattle.sprite_book.specs.Calls.{IsWanted};
@@ -115,12 +115,8 @@ impl SpriteBook {
             ((lump : ℕ) → IsWanted dir.now.lumps needed.now lump →
             has_item items (lump_owner lump) (lump_at dir.now.lumps lump).size ≡ true) →
             IsInOrder items cache.old →
-            MatchResult result
-            (λ _. KeepsOrder items cache.old cache.new (S.view shelf.old).taken
-            (S.view shelf.new).taken)
-            (λ fault. InOrderAt (itself fault)
-            (KeepsOrder items cache.old cache.new (S.view shelf.old).taken
-            (S.view shelf.new).taken)) }
+            LeavesInOrder itself items (S.view shelf.old) (S.view shelf.new)
+            cache.old cache.new result }
     {
         make_book(alloc, needed, dir, cache, shelf)
     }
@@ -157,7 +153,7 @@ fn make_book<S: Shelf>(
     cache: &mut LumpCache,
     shelf: &mut S,
 ) -> Result<SpriteBook, SpriteFault>
-    requires { length dir.now.lumps ≤ cache.old.lumps }
+    requires slots { length dir.now.lumps ≤ cache.old.lumps }
     ensures tells { ReadsLumps itself (S.view shelf.old) (S.view shelf.new) dir.now cache.old
         cache.new (IsWanted dir.now.lumps needed.now) (λ book. book)
         (λ bytes. each_of (frame_of bytes dir.now.lumps) (first_needs needed.now)) result }

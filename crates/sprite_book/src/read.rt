@@ -1,14 +1,13 @@
 // The shapes of a frame, read from its lumps.
 ghost use Rattle.outside.specs.Faults.{itself};
-ghost use Rattle.std.specs.Prelude.{◌≡◌, ◌<◌, ◌≤◌, ℕ, List, length, map, All, Option, Some, Ok, IfOk, OnOk};
+ghost use Rattle.std.specs.Prelude.{◌≡◌, ◌<◌, ◌≤◌, length, map, All, Option, Some, Ok, IfOk, OnOk};
 ghost use Rattle.std.specs.Option.{option_and_then};
-ghost use Rattle.lump_rules.specs.Contents.{lump_bytes};
 ghost use Rattle.zone_rules.specs.Zones.{bytes_of};
 ghost use Rattle.art_rules.specs.declared.patch.Patch.{Patch};
 ghost use Rattle.art_rules.specs.Patches.{patch_of};
 ghost use Rattle.art_rules.specs.Frames.{mentions};
 ghost use Rattle.lump_cache.specs.Caches.{lump_owner};
-ghost use Rattle.lump_cache.specs.Calls.{HoldContents, ReadsLumps};
+ghost use Rattle.lump_cache.specs.Calls.{ReadsLumps};
 ghost use Rattle.art_rules.specs.Books.{patch_or_bad, shape_in, shape_of, each_of, frame_of, shape_outline, mention_outline, outline, outline_of};
 ghost use Rattle.sprite_book.specs.Calls.{Reads, IsLumpOf, IsWantedBy};
 ghost use Rattle.sprite_book.specs.Indexes.{IsIndexOf};
@@ -18,7 +17,7 @@ use crate::mentions::Mentions;
 use crate::pictures::find_pictures;
 use crate::{Frame, Need, Shape};
 use art_rules::{Mention, Patch, ROTATIONS, SpriteRefusal};
-use lump_cache::{CacheFault, LumpCache, fetch_live};
+use lump_cache::{LumpCache, fetch_live};
 use outside::Shelf;
 use wad_dir::{Directory, LumpNo};
 
@@ -133,33 +132,13 @@ fn fetch_patch<S: Shelf>(
     ensures { ReadsLumps itself (S.view shelf.old) (S.view shelf.new) dir.now cache.old cache.new
         (λ n. n ≡ lump) (λ patch. patch) (λ bytes. patch_or_bad bytes lump) result }
 {
-    fetch_sprite(cache, dir, shelf, LumpNo(lump))?;
+    fetch_live::<S, SpriteRefusal>(cache, dir, shelf, LumpNo(lump))?;
     match live_patch(cache, LumpNo(lump)) {
         Some(patch) => Ok(patch),
         None => Err(SpriteFault::Refused(SpriteRefusal::BadPatch {
             lump: u64::from(lump),
         })),
     }
-}
-
-// Makes a lump live, as `fetch_live`, with the faults of a book.
-fn fetch_sprite<S: Shelf>(
-    cache: &mut LumpCache,
-    dir: &Directory,
-    shelf: &mut S,
-    lump: LumpNo,
-) -> Result<(), SpriteFault>
-    requires slots { length dir.now.lumps ≤ cache.old.lumps }
-    requires listed { lump.0 < length dir.now.lumps }
-    ensures tells { ReadsLumps itself (S.view shelf.old) (S.view shelf.new) dir.now cache.old
-        cache.new
-        (λ number. number ≡ lump.0) (λ done. done) (λ bytes. Ok tt) result }
-    ensures bytes { (contents : List (List ℕ)) →
-        HoldContents (S.view shelf.old) dir.now cache.old contents →
-        OnOk result (bytes_of (lump_owner lump.0) cache.new.blocks
-        ≡ Some (lump_bytes contents dir.now.lumps lump.0)) }
-{
-    fetch_live(cache, dir, shelf, lump).map_err(CacheFault::above)
 }
 
 // The patch that a live lump is.

@@ -9,7 +9,7 @@ use Rattle.zone_rules.specs.Orders.{Item, IsInOrder, KeepsOrder, has_item}
 use Rattle.wad_dir.specs.DirectoryView.{DirectoryView}
 use Rattle.lump_cache.specs.declared.fault.CacheFault.{CacheFault}
 use Rattle.lump_cache.specs.Caches.{HasAsked, IsAtRest, IsAtRestExcept, IsFaithful, IsPinned, KeepsCounts, cache_fault, composite_owner, lump_owner, release_heap}
-use Rattle.lump_cache.specs.Calls.{IfFull, InOrderAt, HoldContents}
+use Rattle.lump_cache.specs.Calls.{IfFull, LeavesInOrder, HoldContents}
 use Rattle.art_rules.specs.declared.PlacedPatch.{PlacedPatch}
 use Rattle.art_rules.specs.Lookups.{composite_of_first}
 use Rattle.art_rules.specs.Wanted.{PreparedTexture}
@@ -76,8 +76,7 @@ pub record PutsPatches (number : ℕ) (t : PreparedTexture) (from to : ℕ) (vie
   pub full : IfErr result
       (λ fault. IfFull (cache_fault fault) (IsFullForPatch dir.lumps number t old))
   pub order : (items : List Item) → HasPatches items dir.lumps t → IsInOrder items old →
-      MatchResult result (λ _. KeepsOrder items old new view.taken after.taken)
-      (λ fault. InOrderAt (cache_fault fault) (KeepsOrder items old new view.taken after.taken))
+      LeavesInOrder cache_fault items view after old new result
   pub put : (contents : List (List ℕ)) → HoldContents view dir old contents →
       HasBuilt (lump_bytes contents dir.lumps) number t from old →
       OnOk result (HasBuilt (lump_bytes contents dir.lumps) number t to new)

@@ -12,7 +12,7 @@ use Rattle.zone_rules.specs.Zones.{Heap, block_size}
 use Rattle.zone_rules.specs.Orders.{Item, IsInOrder, KeepsOrder}
 use Rattle.wad_dir.specs.DirectoryView.{DirectoryView}
 use Rattle.lump_cache.specs.Caches.{IsAtRest, IsFaithful, KeepsCounts}
-use Rattle.lump_cache.specs.Calls.{HasAll, HoldContents, IfFull, InOrderAt, IsFullFor}
+use Rattle.lump_cache.specs.Calls.{HasAll, HoldContents, IfFull, LeavesInOrder, IsFullFor}
 use Rattle.pixel_rules.specs.declared.Painter.{Painter}
 use Rattle.pixel_rules.specs.declared.TheConstants.{LUMP, COMPOSITE}
 use Rattle.pixel_rules.specs.Dots.{Dot}
@@ -107,7 +107,4 @@ pub record DrawsWith {A R E : Type 0} (fault_of : E → Fault R) (among : ℕ �
       ⊎ IsFullFor pictures dir old wanted widest))
   pub order : (items : List Item) → HasTexturesAsked items among dir.lumps textures →
       HasAll items dir pictures → IsInOrder items old →
-      MatchResult result
-      (λ _. KeepsOrder items old new view.taken after.taken)
-      (λ fault. InOrderAt (fault_of fault)
-      (KeepsOrder items old new view.taken after.taken))
+      LeavesInOrder fault_of items view after old new result

@@ -8,7 +8,7 @@ use Rattle.zone_rules.specs.Orders.{Item, IsInOrder, KeepsOrder}
 use Rattle.wad_dir.specs.DirectoryView.{DirectoryView}
 use Rattle.lump_cache.specs.declared.fault.CacheFault.{CacheFault}
 use Rattle.lump_cache.specs.Caches.{IsAtRest, IsFaithful, KeepsCounts, cache_fault, composite_owner}
-use Rattle.lump_cache.specs.Calls.{IfFull, InOrderAt, HoldContents}
+use Rattle.lump_cache.specs.Calls.{IfFull, LeavesInOrder, HoldContents}
 use Rattle.art_rules.specs.declared.ColumnLookup.{ColumnLookup}
 use Rattle.art_rules.specs.Wanted.{PreparedTexture}
 use Rattle.texture_build.specs.Asked.{HasColumnAsked, IsFullForColumn}
@@ -40,5 +40,4 @@ pub record MakesColumnLive (number : ℕ) (t : PreparedTexture) (lookup : Column
       (λ fault. IfFull (cache_fault fault) (IsFullForColumn dir.lumps number t lookup old))
   pub order : (items : List Item) → HasColumnAsked items dir.lumps number t lookup →
       IsInOrder items old →
-      MatchResult result (λ _. KeepsOrder items old new view.taken after.taken)
-      (λ fault. InOrderAt (cache_fault fault) (KeepsOrder items old new view.taken after.taken))
+      LeavesInOrder cache_fault items view after old new result

@@ -6,9 +6,9 @@ ghost use Rattle.outside.specs.Shelf.{NameFiles, IsLaterShelf};
 ghost use Rattle.outside.specs.Faults.{ResultIs, HasCauses};
 ghost use Rattle.lump_rules.specs.Contents.{AllWithin, lump_bytes};
 ghost use Rattle.zone_rules.specs.Zones.{IsLive, bytes_of, holding_of, owned_block};
-ghost use Rattle.zone_rules.specs.Orders.{Item, IsInOrder, KeepsOrder};
+ghost use Rattle.zone_rules.specs.Orders.{Item, IsInOrder};
 ghost use Rattle.lump_cache.specs.Caches.{IsAtRest, IsFaithful, IsFilled, KeepsCounts, cache_fault, composite_owner, lump_owner};
-ghost use Rattle.lump_cache.specs.Calls.{IfFull, InOrderAt, HoldContents};
+ghost use Rattle.lump_cache.specs.Calls.{IfFull, LeavesInOrder, HoldContents};
 ghost use Rattle.art_rules.specs.declared.ColumnLookup.TheVariants.{Composed};
 ghost use Rattle.texture_build.specs.Asked.{HasColumnAsked, IsFullForColumn, size_of};
 ghost use Rattle.texture_build.specs.Builds.{StartsComposite, EndsComposite, FailsToBegin, IsBuilding, OthersKeep, PutsPatch, PutsPatches};
@@ -66,12 +66,8 @@ pub(crate) fn build_composite<S: Shelf>(
     ensures order { (place : ℕ) (items : List Item) →
         HasColumnAsked items dir.now.lumps number texture.now (Composed place) →
         IsInOrder items cache.old →
-        MatchResult result
-        (λ _. KeepsOrder items cache.old cache.new (S.view shelf.old).taken
-        (S.view shelf.new).taken)
-        (λ fault. InOrderAt (cache_fault fault)
-        (KeepsOrder items cache.old cache.new (S.view shelf.old).taken
-        (S.view shelf.new).taken)) }
+        LeavesInOrder cache_fault items (S.view shelf.old) (S.view shelf.new)
+        cache.old cache.new result }
 {
     begin_composite(cache, number, texture.size())?;
     let built = put_patches(texture, number, dir, cache, shelf);

@@ -4,11 +4,10 @@
 // `R_GenerateLookup`, r_data.c.
 ghost use Rattle.outside.specs.Faults.{itself};
 ghost use Rattle.std.specs.Prelude.{◌≡◌, ◌<◌, ◌≤◌, ◌^◌, ◌++◌, ◌∷◌, ℕ, [], List, All, length, option_map, option_and_then, Some, Ok, IfOk, IfSome, OnOk};
-ghost use Rattle.lump_rules.specs.Contents.{lump_bytes};
 ghost use Rattle.lump_rules.specs.Lookups.{last_of};
 ghost use Rattle.zone_rules.specs.Zones.{bytes_of};
 ghost use Rattle.lump_cache.specs.Caches.{lump_owner};
-ghost use Rattle.lump_cache.specs.Calls.{HoldContents, ReadsLumps};
+ghost use Rattle.lump_cache.specs.Calls.{ReadsLumps};
 ghost use Rattle.art_rules.specs.Patches.{patch_of};
 ghost use Rattle.art_rules.specs.Wanted.{place_lump, place_patch, placed_patch, placed_patches};
 ghost use Rattle.art_rules.specs.declared.PlacedPatch.{PlacedPatch};
@@ -19,7 +18,7 @@ ghost use Rattle.texture_build.specs.Asked.{patch_lump};
 ghost use Rattle.texture_build.specs.Parts.{IsEntryPatch, or_missing, patches_part, step_of};
 
 use art_rules::{ColumnLookup, Patch, PlacedPatch, TexRefusal, TextureEntry};
-use lump_cache::{CacheFault, LumpCache, fetch_live};
+use lump_cache::{LumpCache, fetch_live};
 use outside::Shelf;
 use patch_columns::add_patch;
 use texture_lists::{ListedTextures, TexFault, TexNo};
@@ -125,31 +124,11 @@ fn place_lump<S: Shelf>(
     ensures lump { IfOk result (λ patch. patch.lump ≡ lump.0) }
     ensures count { length columns.new ≡ length columns.old }
 {
-    fetch_patch(cache, dir, shelf, lump)?;
+    fetch_live::<S, TexRefusal>(cache, dir, shelf, lump)?;
     match place_live(entry, lump, columns, cache) {
         Some(patch) => Ok(patch),
         None => Err(missing_patch(tex)),
     }
-}
-
-// Makes the lump of a patch live, as `fetch_live`, with the faults of textures.
-fn fetch_patch<S: Shelf>(
-    cache: &mut LumpCache,
-    dir: &Directory,
-    shelf: &mut S,
-    lump: LumpNo,
-) -> Result<(), TexFault>
-    requires slots { length dir.now.lumps ≤ cache.old.lumps }
-    requires listed { lump.0 < length dir.now.lumps }
-    ensures tells { ReadsLumps itself (S.view shelf.old) (S.view shelf.new) dir.now cache.old
-        cache.new
-        (λ number. number ≡ lump.0) (λ done. done) (λ bytes. Ok tt) result }
-    ensures bytes { (contents : List (List ℕ)) →
-        HoldContents (S.view shelf.old) dir.now cache.old contents →
-        OnOk result (bytes_of (lump_owner lump.0) cache.new.blocks
-        ≡ Some (lump_bytes contents dir.now.lumps lump.0)) }
-{
-    fetch_live(cache, dir, shelf, lump).map_err(CacheFault::above)
 }
 
 // Places a patch whose lump is live; `None` exactly where it is not live or no patch.

@@ -1,14 +1,14 @@
 // What a texture column is read from, made live.
 //
 // Rules: `specs/Ready`, `specs/Sources` and `specs/Asked`. The original: `R_GetColumn`, r_data.c.
-ghost use Rattle.std.specs.Prelude.{◌≡◌, ◌<◌, ◌≤◌, ℕ, List, length, Ok, Some, None, IfErr, OnOk, OnErr, MatchResult};
+ghost use Rattle.std.specs.Prelude.{◌≡◌, ◌<◌, ◌≤◌, ℕ, List, length, Ok, Some, None, IfErr, OnOk, OnErr};
 ghost use Rattle.outside.specs.Shelf.{NameFiles, IsLaterShelf};
 ghost use Rattle.outside.specs.Faults.{ResultIs, HasCauses};
 ghost use Rattle.lump_rules.specs.Contents.{AllWithin, lump_bytes};
 ghost use Rattle.zone_rules.specs.Zones.{IsLive, owned_block};
-ghost use Rattle.zone_rules.specs.Orders.{Item, IsInOrder, KeepsOrder, is_live};
+ghost use Rattle.zone_rules.specs.Orders.{Item, IsInOrder, is_live};
 ghost use Rattle.lump_cache.specs.Caches.{IsAtRest, IsFaithful, KeepsCounts, cache_fault, composite_owner};
-ghost use Rattle.lump_cache.specs.Calls.{IfFull, InOrderAt, HoldContents};
+ghost use Rattle.lump_cache.specs.Calls.{IfFull, LeavesInOrder, HoldContents};
 ghost use Rattle.art_rules.specs.declared.ColumnLookup.TheVariants.{Composed};
 ghost use Rattle.texture_build.specs.Asked.{HasColumnAsked, IsFullForColumn};
 ghost use Rattle.texture_build.specs.Composites.{AreComposites};
@@ -69,12 +69,8 @@ pub(crate) fn make_ready_at<S: Shelf>(
         (IsFullForColumn dir.now.lumps number texture.now lookup cache.old)) }
     ensures order { (items : List Item) →
         HasColumnAsked items dir.now.lumps number texture.now lookup → IsInOrder items cache.old →
-        MatchResult result
-        (λ _. KeepsOrder items cache.old cache.new (S.view shelf.old).taken
-        (S.view shelf.new).taken)
-        (λ fault. InOrderAt (cache_fault fault)
-        (KeepsOrder items cache.old cache.new (S.view shelf.old).taken
-        (S.view shelf.new).taken)) }
+        LeavesInOrder cache_fault items (S.view shelf.old) (S.view shelf.new)
+        cache.old cache.new result }
 {
     match lookup {
         ColumnLookup::Empty => Ok(()),

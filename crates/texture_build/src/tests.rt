@@ -109,7 +109,7 @@ fn load_textures(
     cache: &mut LumpCache,
     shelf: &mut MemoryShelf,
 ) -> Result<Box<Textures>, Fail>
-    requires { length dir.now.lumps ≤ cache.old.lumps }
+    requires slots { length dir.now.lumps ≤ cache.old.lumps }
     ensures count { IfOk result (λ textures. length textures.value.lists.textures ≡ 3) }
     ensures lumps { cache.new.lumps ≡ cache.old.lumps }
     ensures composites { cache.new.composites ≡ cache.old.composites }

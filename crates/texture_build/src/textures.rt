@@ -71,7 +71,7 @@ impl Textures {
         cache: &mut LumpCache,
         shelf: &mut S,
     ) -> Result<Textures, TexFault>
-        requires { length dir.now.lumps ≤ cache.old.lumps }
+        requires slots { length dir.now.lumps ≤ cache.old.lumps }
         ensures tells { ReadsLumps itself (S.view shelf.old) (S.view shelf.new) dir.now cache.old
             cache.new (IsListLump dir.now.lumps) (λ textures. textures.lists)
             (λ bytes. texture_lists (named_bytes bytes dir.now.lumps PNAMES)

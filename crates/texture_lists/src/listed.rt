@@ -72,7 +72,7 @@ impl ListedTextures {
         cache: &mut LumpCache,
         shelf: &mut S,
     ) -> Result<ListedTextures, TexFault>
-        requires { length dir.now.lumps ≤ cache.old.lumps }
+        requires slots { length dir.now.lumps ≤ cache.old.lumps }
         ensures tells { ReadsLumps itself (S.view shelf.old) (S.view shelf.new) dir.now cache.old
             cache.new (IsListLump dir.now.lumps) (λ lists. lists)
             (λ bytes. texture_lists (named_bytes bytes dir.now.lumps PNAMES)

@@ -54,7 +54,7 @@ pub(crate) fn load_names<S: Shelf>(
     cache: &mut LumpCache,
     shelf: &mut S,
 ) -> Result<Vec<Name8>, TexFault>
-    requires { length dir.now.lumps ≤ cache.old.lumps }
+    requires slots { length dir.now.lumps ≤ cache.old.lumps }
     ensures tells { ReadsLumps itself (S.view shelf.old) (S.view shelf.new) dir.now cache.old
         cache.new (IsLast dir.now.lumps PNAMES) (λ names. names.items)
         (λ bytes. patch_names (named_bytes bytes dir.now.lumps PNAMES)) result }
@@ -72,7 +72,7 @@ fn load_first<S: Shelf>(
     cache: &mut LumpCache,
     shelf: &mut S,
 ) -> Result<ReadList, TexFault>
-    requires { length dir.now.lumps ≤ cache.old.lumps }
+    requires slots { length dir.now.lumps ≤ cache.old.lumps }
     ensures tells { ReadsLumps itself (S.view shelf.old) (S.view shelf.new) dir.now cache.old
         cache.new (IsLast dir.now.lumps TEXTURE1) (λ part. part)
         (λ bytes. first_part (named_bytes bytes dir.now.lumps TEXTURE1)) result }
@@ -114,7 +114,7 @@ pub(crate) fn load_both<S: Shelf>(
     cache: &mut LumpCache,
     shelf: &mut S,
 ) -> Result<Vec<ListedTexture>, TexFault>
-    requires { length dir.now.lumps ≤ cache.old.lumps }
+    requires slots { length dir.now.lumps ≤ cache.old.lumps }
     ensures tells { ReadsLumps itself (S.view shelf.old) (S.view shelf.new) dir.now cache.old
         cache.new (IsTextureLump dir.now.lumps) (λ textures. textures.items)
         (λ bytes. both_lists (named_bytes bytes dir.now.lumps TEXTURE1)

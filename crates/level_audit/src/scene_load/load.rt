@@ -9,10 +9,10 @@ ghost use Rattle.outside.specs.declared.fault.Fault.TheVariants.{OutOfMemory};
 ghost use Rattle.lump_rules.specs.Contents.{AllWithin, lump_bytes};
 ghost use Rattle.lump_rules.specs.Lookups.{lump_at};
 ghost use Rattle.zone_rules.specs.Zones.{IsZoneSize, bytes_of};
-ghost use Rattle.zone_rules.specs.Orders.{Item, AreRoomy, IsInOrder, KeepsOrder};
+ghost use Rattle.zone_rules.specs.Orders.{Item, AreRoomy, IsInOrder};
 ghost use Rattle.view_rules.specs.declared.TheConstants.{MIN_SIZE, MAX_SIZE};
 ghost use Rattle.lump_cache.specs.Caches.{IsAtRest, IsEmpty, IsFaithful, KeepsCounts, composite_owner};
-ghost use Rattle.lump_cache.specs.Calls.{IfFull, InOrderAt, HoldContents, ReadsLumps};
+ghost use Rattle.lump_cache.specs.Calls.{IfFull, InOrderAt, LeavesInOrder, HoldContents, ReadsLumps};
 ghost use Rattle.command_line.specs.LevelJobs.{level_job_value};
 ghost use Rattle.sound_scene.specs.Sound.{textures_view};
 ghost use Rattle.sound_scene.specs.Whole.{IsWholeScene};
@@ -210,11 +210,8 @@ fn audit_level<S: Shelf>(
         audited_in (lump_bytes contents files.now.dir.lumps) (level_job_value level.now)
         (value_of files.now) ≡ Ok expected →
         IsInOrder (loaded_items expected) cache.old →
-        MatchResult result (λ _. KeepsOrder (loaded_items expected) cache.old cache.new
-        (S.view shelf.old).taken (S.view shelf.new).taken)
-        (λ fault. InOrderAt (itself fault)
-        (KeepsOrder (loaded_items expected) cache.old cache.new
-        (S.view shelf.old).taken (S.view shelf.new).taken)) }
+        LeavesInOrder itself (loaded_items expected) (S.view shelf.old) (S.view shelf.new)
+        cache.old cache.new result }
     ensures follows { IsLaterShelf (S.view shelf.old) (S.view shelf.new) }
     ensures causes { HasCauses itself
         (S.view shelf.old).faults (S.view shelf.new).faults result }
@@ -268,11 +265,8 @@ fn audit_files<S: Shelf>(
         audited_in (lump_bytes contents files.now.dir.lumps) (level_job_value level.now)
         (value_of files.now) ≡ Ok expected →
         IsInOrder (loaded_items expected) cache.old →
-        MatchResult result (λ _. KeepsOrder (loaded_items expected) cache.old cache.new
-        (S.view shelf.old).taken (S.view shelf.new).taken)
-        (λ fault. InOrderAt (itself fault)
-        (KeepsOrder (loaded_items expected) cache.old cache.new
-        (S.view shelf.old).taken (S.view shelf.new).taken)) }
+        LeavesInOrder itself (loaded_items expected) (S.view shelf.old) (S.view shelf.new)
+        cache.old cache.new result }
     ensures follows { IsLaterShelf (S.view shelf.old) (S.view shelf.new) }
     ensures causes { HasCauses itself
         (S.view shelf.old).faults (S.view shelf.new).faults result }

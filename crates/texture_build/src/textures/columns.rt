@@ -2,15 +2,15 @@
 //
 // Rules: `art_rules`, Columns and Lookups; `specs/Sources`, `specs/Asked` and `specs/Composites`.
 // The original: `R_GetColumn` and `R_GenerateComposite`, r_data.c.
-ghost use Rattle.std.specs.Prelude.{◌≡◌, ◌<◌, ◌≤◌, ◌+◌, ℕ, ℤ, List, length, IfErr, IfSome, MatchResult, Ok, OnErr, OnOk, None, ◌^◌};
+ghost use Rattle.std.specs.Prelude.{◌≡◌, ◌<◌, ◌≤◌, ◌+◌, ℕ, ℤ, List, length, IfErr, IfSome, Ok, OnErr, OnOk, None, ◌^◌};
 ghost use Rattle.outside.specs.Shelf.{NameFiles, IsLaterShelf};
 ghost use Rattle.outside.specs.Faults.{ResultIs, HasCauses};
 ghost use Rattle.lump_rules.specs.Contents.{AllWithin, lump_bytes};
 ghost use Rattle.lump_rules.specs.declared.wad.Lump.{Lump};
 ghost use Rattle.zone_rules.specs.Zones.{owned_block};
-ghost use Rattle.zone_rules.specs.Orders.{Item, IsInOrder, KeepsOrder};
+ghost use Rattle.zone_rules.specs.Orders.{Item, IsInOrder};
 ghost use Rattle.lump_cache.specs.Caches.{IsAtRest, IsFaithful, KeepsCounts, cache_fault, composite_owner};
-ghost use Rattle.lump_cache.specs.Calls.{IfFull, InOrderAt, HoldContents};
+ghost use Rattle.lump_cache.specs.Calls.{IfFull, LeavesInOrder, HoldContents};
 ghost use Rattle.art_rules.specs.Bytes.{byte_at};
 ghost use Rattle.art_rules.specs.Columns.{texel};
 ghost use Rattle.art_rules.specs.Lookups.{single_place};
@@ -85,12 +85,8 @@ impl Textures {
         ensures order { (items : List Item) →
             HasColumnAsked items dir.now.lumps tex.0 (prepared_texture self.now tex.0)
             (column_in (prepared_texture self.now tex.0) col) → IsInOrder items cache.old →
-            MatchResult result
-            (λ _. KeepsOrder items cache.old cache.new (S.view shelf.old).taken
-            (S.view shelf.new).taken)
-            (λ fault. InOrderAt (cache_fault fault)
-            (KeepsOrder items cache.old cache.new (S.view shelf.old).taken
-            (S.view shelf.new).taken)) }
+            LeavesInOrder cache_fault items (S.view shelf.old) (S.view shelf.new)
+            cache.old cache.new result }
     {
         self.ready_at(cache, dir, shelf, tex, self.lookup(tex, col))
     }
@@ -144,12 +140,8 @@ impl Textures {
         ensures order { (items : List Item) →
             HasColumnAsked items dir.now.lumps tex.0 (prepared_texture self.now tex.0) lookup →
             IsInOrder items cache.old →
-            MatchResult result
-            (λ _. KeepsOrder items cache.old cache.new (S.view shelf.old).taken
-            (S.view shelf.new).taken)
-            (λ fault. InOrderAt (cache_fault fault)
-            (KeepsOrder items cache.old cache.new (S.view shelf.old).taken
-            (S.view shelf.new).taken)) }
+            LeavesInOrder cache_fault items (S.view shelf.old) (S.view shelf.new)
+            cache.old cache.new result }
     {
         let texture = self.prepared.texture(tex.0);
         make_ready_at(texture, u32::from(tex.0), lookup, dir, cache, shelf)

@@ -11,9 +11,9 @@ returns-clause-tells g c =
     let lumps = c.args.dir.now.lumps in
     let number = c.args.playpal.0 in
     let lent = c.live_lump.result.now in
-    reads_told tt c.in_ok-first_palette.field-0 c.in_ok-fetch_lump.ensures.tells (λ lump same. same)
+    reads_told tt c.in_ok-first_palette.field-0 c.in_ok-fetch_live.ensures.tells (λ lump same. same)
     (λ contents hold.
-    let held = c.in_ok-fetch_lump.ensures.bytes contents hold in
+    let held = c.in_ok-fetch_live.ensures.bytes contents hold in
     let value = c.live_lump.ensures.value in
     let same : lent ≡ lump_bytes contents lumps number = cc in
     let first = c.in_ok-first_palette.ensures.first (live_long contents lumps number PALETTE_SIZE lent c.requires.there hold.within same c.requires.long) in
@@ -21,5 +21,5 @@ returns-clause-tells g c =
 
 pub returns-clause-fits : goal.returns-clause-fits
 returns-clause-fits g c =
-    beside_earlier c.args.playpal.0 c.in_ok-fetch_lump.ensures.tells.keeps
-    (beside_lent c.args.dir.now.lumps c.fetch_lump.new.cache c.args.playpal.0 c.live_lump.result.now c.requires.there c.live_lump.ensures.value c.live_lump.ensures.fits)
+    beside_earlier c.args.playpal.0 c.in_ok-fetch_live.ensures.tells.keeps
+    (beside_lent c.args.dir.now.lumps c.fetch_live.new.cache c.args.playpal.0 c.live_lump.result.now c.requires.there c.live_lump.ensures.value c.live_lump.ensures.fits)

@@ -1,8 +1,0 @@
-use Rattle.lump_cache.proofs.LiftLemmas.{lifted_on, lifted_reads}
-use Rattle.texture_build.proofs.place.fetch_patch.Goals as goal
-
-pub returns-clause-tells : goal.returns-clause-tells
-returns-clause-tells g c = lifted_reads _ c.fetch_live.result c.map_err.result c.map_err.ensures.cases c.fetch_live.ensures.tells
-
-pub returns-clause-bytes : goal.returns-clause-bytes
-returns-clause-bytes g c = λ contents told. lifted_on _ c.fetch_live.result c.map_err.result c.map_err.ensures.cases (c.fetch_live.ensures.bytes contents told)
