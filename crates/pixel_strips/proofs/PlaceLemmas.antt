@@ -79,15 +79,21 @@ lifted_below : (by : ℕ) (z : ℤ) → lifted by z < 2 ^ 32
 unfolding lifted
 lifted_below by z = mod-lt (bits_of z * 2 ^ by) (pow_pos 32)
 
+-- the product brings the two together
+gathered : (row column : ℕ) → row < 64 → column < 64 →
+    (row * 2 ^ 58 % 2 ^ 64 + column * 2 ^ 26 % 2 ^ 64) * 67109889 % 2 ^ 64 / 2 ^ 52 ≡ 64 * row + column
+gathered row column l m = omega arith
+
 pub flat_of_place : (x y : ℤ) (most place : ℕ) → most < CARRIES → IsFlatPlace x y most place →
-    64 * (place / 2 ^ 58) + place / 2 ^ 26 % 64 ≡ flat_place x y
+    (place / 2 ^ 58 * 2 ^ 58 % 2 ^ 64 + place / 2 ^ 26 % 64 * 2 ^ 26 % 2 ^ 64) * 67109889 % 2 ^ 64 / 2 ^ 52 ≡ flat_place x y
 unfolding lifted flat_place
 flat_of_place x y most place h p =
     let few = p.few in
-    ap (λ (n : ℕ). 64 * (n / 2 ^ 58) + n / 2 ^ 26 % 64) p.is
-    ∙ ap₂ (λ (row column : ℕ). 64 * row + column)
-    (row_above (bits_of y) p.carries (lifted FLAT_LIFT x) (omega arith) (lifted_below FLAT_LIFT x) ∙ flat_of_bits y p.y_fits)
-    (column_below (bits_of x) (lifted FLAT_LIFT y + p.carries) ∙ flat_of_bits x p.x_fits)
+    let row = row_above (bits_of y) p.carries (lifted FLAT_LIFT x) (omega arith) (lifted_below FLAT_LIFT x) ∙ flat_of_bits y p.y_fits in
+    let column = column_below (bits_of x) (lifted FLAT_LIFT y + p.carries) ∙ flat_of_bits x p.x_fits in
+    ap (λ (n : ℕ). (n / 2 ^ 58 * 2 ^ 58 % 2 ^ 64 + n / 2 ^ 26 % 64 * 2 ^ 26 % 2 ^ 64) * 67109889 % 2 ^ 64 / 2 ^ 52) p.is
+    ∙ ap₂ (λ (row column : ℕ). (row * 2 ^ 58 % 2 ^ 64 + column * 2 ^ 26 % 2 ^ 64) * 67109889 % 2 ^ 64 / 2 ^ 52) row column
+    ∙ gathered _ _ (omega arith) (omega arith)
 
 -- the shift up of one half
 halves : (x y : ℕ) → y % 2 ^ 32 * 2 ^ 32 % 2 ^ 64 + x ≡ 2 ^ 32 * (y % 2 ^ 32 + 0) + x

@@ -25,6 +25,13 @@ pub const FLAT_SHIFT: u32 = FRACTION_BITS + FLAT_LIFT;
 /// The carries out of x that would reach the fraction of y: fewer do no harm.
 pub const CARRIES: u64 = 1 << FLAT_LIFT;
 
+/// A product that brings both texels of a place together, that of y above that of x, in the highest
+/// bits. The middle one of its three bits adds nothing: with two, the product is made of shifts.
+const GATHER: u64 = (1 << FLAT_SHIFT) + (1 << 10) + 1;
+
+/// The bits of such a product below the texels.
+const GATHER_SHIFT: u32 = 2 * FLAT_SHIFT;
+
 /// The place of a fraction, or of a step, in a column of 128 texels.
 #[tactic(auto, using(crate::proofs::PlaceLemmas::texel_place_is))]
 #[inline(always)]
@@ -84,5 +91,6 @@ pub fn flat_place_at(place: u64) -> usize
 {
     let row = place >> (u32::BITS + FLAT_SHIFT);
     let column = (place >> FLAT_SHIFT) % FLAT_SIDE as u64;
-    (FLAT_SIDE as u64 * row + column) as usize
+    let bits = (row << (u32::BITS + FLAT_SHIFT)) + (column << FLAT_SHIFT);
+    (bits.wrapping_mul(GATHER) >> GATHER_SHIFT) as usize
 }

@@ -1,5 +1,5 @@
 -- Laws of a canvas that is given a plane's spans from column to column: none yet, one column more, all.
-use Rattle.std.proofs.Common.{◌≡◌, ℕ, zero, suc, ◌+◌, ◌-◌, ◌<◌, ◌≤◌, Bool, true, false, cond, List, [], ◌++◌, Option, Some, None, refl, ap, sym, ◌∙◌, arith, inl, inr}
+use Rattle.std.proofs.Common.{◌≡◌, ℕ, zero, suc, ◌+◌, ◌-◌, ◌<◌, ◌≤◌, Bool, true, false, cond, List, [], ◌++◌, Option, Some, None, refl, ap, ap₂, sym, ◌∙◌, arith, inl, inr, min, max}
 use Rattle.std.specs.Prelude.{◌&&◌, ◌||◌, nat_lt, not}
 use Rattle.std.proofs.lemmas.Bool.{cases_lt, cases_eq, lt-ltb, le-ltb, and_left, and_right, both_ways}
 use Rattle.word_rules.specs.Least.{or_else}
@@ -14,7 +14,7 @@ use Rattle.picture_rules.proofs.plane.SpanLemmas.{span_start-on, span_start-off,
 use Rattle.pixel_strips.specs.Canvases.{CanvasView, with_dots}
 use Rattle.pixel_strips.proofs.CanvasLemmas.{dots_none}
 use Rattle.visplanes.specs.declared.rows.Rows.{Rows}
-use Rattle.visplanes.specs.Spans.{FloorView, pixel_colour, row_dots, closed_dots, is_in, run_before, plane_dot, CanPaint, IsSeen, HasSpans}
+use Rattle.visplanes.specs.Spans.{FloorView, pixel_colour, row_dots, closed_rows, closed_dots, is_in, run_before, plane_dot, CanPaint, IsSeen, HasSpans}
 use Rattle.visplanes.proofs.RowLemmas.{is_in-from}
 use Rattle.visplanes.proofs.DotLemmas.{row_dots-at, row_dots-beside, closed_dots-at, closed_dots-frame}
 
@@ -22,6 +22,15 @@ use Rattle.visplanes.proofs.DotLemmas.{row_dots-at, row_dots-beside, closed_dots
 pub dots_append : (mark : Painter → ℕ → ℕ) (xs ys : List Dot) (canvas : CanvasView) → with_dots mark ys (with_dots mark xs canvas) ≡ with_dots mark (xs ++ ys) canvas
 dots_append mark xs ys canvas =
     ap (λ (cells : List ℕ). record canvas { cells = cells }) (sym (put_dots-append mark canvas.left canvas.top xs ys canvas.cells))
+
+-- no span ends where a column has the rows of the column before
+pub closed_same : (f : FloorView) (painter : Painter) (start : ℕ → ℕ) (before now : Rows) (x : ℕ) →
+    before.begin ≡ now.begin → before.end ≡ now.end → closed_dots f painter start before now x ≡ []
+unfolding closed_dots closed_rows
+closed_same f painter start before now x b e =
+    let above : min before.end now.begin - before.begin ≡ 0 = omega (arith, b) in
+    let below : before.end - max before.begin now.end ≡ 0 = omega (arith, e) in
+    ap₂ (λ (m n : ℕ). closed_rows f painter start x before.begin m ++ closed_rows f painter start x (max before.begin now.end) n) above below
 
 -- the column before column x holds row y
 abbrev pub held_before : Plane → ℕ → ℕ → Bool

@@ -90,10 +90,42 @@ fn draw_columns<C: Canvas>(
     let mut before = NO_ROWS;
     for x in first..last + 2 {
         let now = rows_of(plane.column(x));
-        close_rows(floor, starts, before, now, x, canvas);
-        open_rows(starts, before, now, x);
+        change_rows(floor, starts, before, now, x, canvas);
         before = now;
     }
+}
+
+// Goes on to column `x`: ends the spans of the rows that it has not, and begins those of the rows
+// that the column before has not. Most columns have the same rows.
+#[inline(always)]
+fn change_rows<C: Canvas>(
+    floor: &Floor<'_, '_>,
+    starts: &mut [u16],
+    before: Rows,
+    now: Rows,
+    x: u16,
+    canvas: &mut C,
+)
+    requires room { length starts.old ≡ FRAME_HEIGHT }
+    requires before { before.end ≤ FRAME_HEIGHT }
+    requires now { now.end ≤ FRAME_HEIGHT }
+    requires spans { (y : ℕ) → before.begin ≤ y → y < before.end →
+        CanPaint floor.now.view.shape (C.view canvas.old).left (C.view canvas.old).top
+        (slice_index starts.old y) x y }
+    ensures room { length starts.new ≡ FRAME_HEIGHT }
+    ensures closed { C.view canvas.new ≡ with_dots C.mark
+        (closed_dots floor.now (C.view canvas.old).painter (slice_index starts.old) before now x)
+        (C.view canvas.old) }
+    ensures kept { (y : ℕ) → is_in before y ≡ true →
+        slice_index starts.new y ≡ slice_index starts.old y }
+    ensures opened { (y : ℕ) → is_in now y ≡ true → is_in before y ≡ false →
+        slice_index starts.new y ≡ x }
+{
+    if before.begin == now.begin && before.end == now.end {
+        return;
+    }
+    close_rows(floor, starts, before, now, x, canvas);
+    open_rows(starts, before, now, x);
 }
 
 // Ends the spans of the rows of the column before that are not among those of column `x`.

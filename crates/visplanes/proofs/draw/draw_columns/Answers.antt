@@ -24,8 +24,8 @@ loop-x-init g c =
       within = omega arith;
     }
 
-pub close_rows-requires-clause-spans : goal.close_rows-requires-clause-spans
-close_rows-requires-clause-spans g c = λ y l m.
+pub change_rows-requires-clause-spans : goal.change_rows-requires-clause-spans
+change_rows-requires-clause-spans g c = λ y l m.
     let i = c.loop-x.invariant in
     let old = g.C.Canvas.view c.args.canvas.now in
     let h : is_in c.loop-x.before y ≡ true = is_in-from c.loop-x.before y l m in
@@ -48,12 +48,12 @@ loop-x-preserved g c =
     record { seen = c.requires.seen; before_ordered = i.ordered; now_ordered = c.rows_of-now.ensures.ordered; held = i.held; holding = holding; starts = i.starts } in
     record {
       spans = spans_more g.C.Canvas.mark c.args.floor.now c.args.floor.now.view.shape p (slice_index c.loop-x.starts) before now x n old
-          (g.C.Canvas.view c.loop-x.canvas) (g.C.Canvas.view c.close_rows.new.canvas) refl passing i.spans c.close_rows.ensures;
+          (g.C.Canvas.view c.loop-x.canvas) (g.C.Canvas.view c.change_rows.new.canvas) refl passing i.spans c.change_rows.ensures.closed;
       starts = λ y h.
           let on : holds p y x ≡ true = sym (holding y) ∙ h in
           elim (cases_Bool (is_in before y)) [
-            | inl t ↦ c.open_rows.ensures.kept y t ∙ i.starts y t ∙ sym (start-kept p y x n refl on)
-            | inr f ↦ c.open_rows.ensures.opened y h f ∙ sym (start-kept p y x n refl on ∙ start-fresh p y x (sym (i.held y) ∙ f))
+            | inl t ↦ c.change_rows.ensures.kept y t ∙ i.starts y t ∙ sym (start-kept p y x n refl on)
+            | inr f ↦ c.change_rows.ensures.opened y h f ∙ sym (start-kept p y x n refl on ∙ start-fresh p y x (sym (i.held y) ∙ f))
           ];
       held = λ y. holding y ∙ sym (held_before-more p y x n refl);
       ordered = c.rows_of-now.ensures.ordered;
