@@ -8,7 +8,7 @@ ghost use Rattle.picture_rules.specs.Scene.{Scene};
 ghost use Rattle.picture_rules.specs.plane.Skies.{plane_dots};
 ghost use Rattle.pixel_strips.specs.Dotted.{HasDots, PlacedAlike};
 ghost use Rattle.plane_draw.specs.Planes.{CanDrawPlane, IsSky, IsFlatOf};
-ghost use Rattle.plane_draw.specs.Scenes.{CanDrawPlanes, PaintsPlanes, first_planes, hands_state};
+ghost use Rattle.plane_draw.specs.Scenes.{AreSameHands, CanDrawPlanes, PaintsPlanes, first_planes, hands_state};
 ghost use Rattle.std.specs.Prelude.{◌≡◌, ◌<◌, ◌≤◌, ◌+◌, ℕ, List, All, IfSome, OnOk, length};
 ghost use Rattle.texture_build.specs.Arts.{view_art};
 ghost use Rattle.texture_build.specs.Draws.{CanDraw, HoldsArt, FitBeside, DrawsWith};
@@ -101,9 +101,7 @@ fn draw_each<S: Shelf, C: Canvas>(
     hands: &mut PlaneHands<'_, S, C>,
 ) -> Result<(), CacheFault>
     requires { CanDrawPlanes scene.now (hands_state S.view C.view hands.old) }
-    ensures same_cache { hands.new.cache.ghost_name ≡ hands.old.cache.ghost_name }
-    ensures same_shelf { hands.new.shelf.ghost_name ≡ hands.old.shelf.ghost_name }
-    ensures same_canvas { hands.new.canvas.ghost_name ≡ hands.old.canvas.ghost_name }
+    ensures same { AreSameHands hands.old hands.new }
     ensures paints { PaintsPlanes C.mark scene.now
         (λ art sky. first_planes scene.now.view.now art sky scene.now.planes.now.planes
         (length scene.now.planes.now.planes))
@@ -123,9 +121,7 @@ fn draw_one<S: Shelf, C: Canvas>(
 ) -> Result<(), CacheFault>
     requires ready { CanDrawPlanes scene.now (hands_state S.view C.view hands.old) }
     requires plane { plane.0 < length scene.now.planes.now.planes }
-    ensures same_cache { hands.new.cache.ghost_name ≡ hands.old.cache.ghost_name }
-    ensures same_shelf { hands.new.shelf.ghost_name ≡ hands.old.shelf.ghost_name }
-    ensures same_canvas { hands.new.canvas.ghost_name ≡ hands.old.canvas.ghost_name }
+    ensures same { AreSameHands hands.old hands.new }
     ensures paints { PaintsPlanes C.mark scene.now
         (λ art sky. plane_dots scene.now.view.now art sky plane.0
         (plane_at scene.now.planes.now.planes plane.0))
