@@ -1,5 +1,5 @@
 -- Who is given the walk of a view: the painter and the counter by their values, and what they have made of the events.
-use Rattle.std.specs.Prelude.{◌≡◌, ◌≤◌, ◌+◌, ℕ, List, Some, IfSome, IfErr, OnOk, Result}
+use Rattle.std.specs.Prelude.{◌≡◌, ◌≤◌, ◌+◌, ℕ, List, [], Some, IfSome, IfErr, OnOk, Result}
 use Rattle.view_rules.specs.View.{ViewValue}
 use Rattle.view_rules.specs.declared.TheConstants.{FRAME_WIDTH, FRAME_HEIGHT}
 use Rattle.walk_rules.specs.Events.{Event}
@@ -106,3 +106,7 @@ pub record HasCounted (start now : CounterValue) (events : List Event)
 abbrev pub HasWalkedView : ViewValue → SceneValue → Bench → Type 0
 HasWalkedView v scene b =
     (bytes : ℕ → List ℕ) → HasWalked v bytes scene (limits_in b) (view_events v (lists_of scene)) b
+
+-- nothing of it is, before its first event
+abbrev pub HasWalkedNothing : ViewValue → SceneValue → Bench → Type 0
+HasWalkedNothing v scene b = (bytes : ℕ → List ℕ) → HasWalked v bytes scene (limits_in b) [] b

@@ -17,13 +17,14 @@ use Rattle.scene_rules.specs.Scenes.{SceneValue}
 use Rattle.scene_rules.specs.SectorFlats.{surfaces_of}
 use Rattle.scene_rules.specs.Sizes.{has_flat}
 use Rattle.picture_rules.specs.Scene.{Scene}
-use Rattle.pixel_strips.specs.Canvases.{CanvasView}
+use Rattle.pixel_strips.specs.Canvases.{CanvasView, placed_at}
 use Rattle.pixel_strips.specs.Dotted.{HasDots, PlacedAlike}
 use Rattle.texture_build.specs.Views.{IsPrepared}
 use Rattle.texture_build.specs.Draws.{HoldsArt, FitBeside, DrawsWith}
 use Rattle.sound_scene.specs.Sound.{textures_view}
 use Rattle.sound_scene.specs.Whole.{IsWholeScene}
 use Rattle.frame_core.specs.declared.fault.ViewFault.{ViewFault}
+use Rattle.frame_core.specs.declared.tools.ViewTools.{ViewTools}
 use Rattle.frame_core.specs.Faults.{view_fault}
 use Rattle.frame_core.specs.Scenes.{scene_of}
 
@@ -75,6 +76,27 @@ view_scene view scene dir = record { view = view; scene = scene; dir = dir }
 
 abbrev pub view_state : ShelfView → Heap → CanvasView → ViewState
 view_state shelf cache canvas = record { shelf = shelf; cache = cache; canvas = canvas }
+
+-- a canvas that is placed where the view lies in the frame
+abbrev pub placed_for : ViewValue → CanvasView → CanvasView
+placed_for v canvas = placed_at v.shape.left v.shape.top canvas
+
+-- what a view's tools are: what stays, what is written, whose shelf and canvas tell of themselves so, and what they ask
+abbrev pub tools_scene : {S C : Type 0} → ViewTools S C → ViewScene
+tools_scene t = view_scene t.view.now t.scene.now.scene t.dir.now
+
+abbrev pub tools_state : {S C : Type 0} → (S → ShelfView) → (C → CanvasView) → ViewTools S C → ViewState
+tools_state shelf canvas t = view_state (shelf t.shelf.now) t.cache.now (canvas t.canvas.now)
+
+abbrev pub CanDrawTools : {S C : Type 0} → ViewTools S C → Type 0
+CanDrawTools t = CanDrawView t.dir.now.lumps t.scene.now.scene t.cache.now
+
+-- tools hold the references that others held
+abbrev pub AreSameTools : {S C : Type 0} → ViewTools S C → ViewTools S C → Type 0
+AreSameTools old new =
+    ((new.scene ≡ old.scene) × ((new.view ≡ old.view) × (new.dir ≡ old.dir)))
+    × ((new.cache.ghost_name ≡ old.cache.ghost_name)
+    × ((new.shelf.ghost_name ≡ old.shelf.ghost_name) × (new.canvas.ghost_name ≡ old.canvas.ghost_name)))
 
 -- the picture's scene, where the files have these contents
 abbrev pub held_scene : List (List ℕ) → ViewScene → Scene

@@ -5,9 +5,8 @@
 // `R_Subsector`, r_bsp.c.
 ghost use Rattle.std.specs.Prelude.{◌≡◌, ◌≤◌, ◌<◌, ◌+◌, ◌++◌, ◌∷◌, ◌==◌, ℕ, true, false, List, [], All, IfOk, IfErr, IfSome, OnOk, length, Some};
 ghost use Rattle.std.specs.List.{AllPass};
-ghost use Rattle.view_rules.specs.declared.TheConstants.{FRAME_WIDTH, FRAME_HEIGHT};
-ghost use Rattle.level_rules.specs.Levels.{leaf_at, seg_at, surface_at};
-ghost use Rattle.level_rules.specs.maps.Sound.{IsSound};
+ghost use Rattle.view_rules.specs.declared.TheConstants.{FRAME_HEIGHT};
+ghost use Rattle.level_rules.specs.Levels.{leaf_at, surface_at};
 ghost use Rattle.art_rules.specs.Books.{book_lumps};
 ghost use Rattle.picture_rules.specs.declared.plane.TheConstants.{MOST_VISPLANES};
 ghost use Rattle.picture_rules.specs.plane.Keys.{ceiling_key, floor_key};
@@ -15,7 +14,6 @@ ghost use Rattle.walk_rules.specs.Events.{Event};
 ghost use Rattle.walk_rules.specs.Events.Event.{LeafEvent, FragmentEvent};
 ghost use Rattle.picture_rules.specs.declared.Limits.{Limits};
 ghost use Rattle.picture_rules.specs.Counts.{steps_over, view_steps};
-ghost use Rattle.picture_rules.specs.Scene.{facts_of};
 ghost use Rattle.vissprites.specs.Bounds.{lies_within, has_lump_below};
 ghost use Rattle.picture_rules.specs.declared.wall.TheConstants.{MOST_OPENINGS};
 ghost use Rattle.wall_columns.specs.Built.{limits_of};
@@ -25,7 +23,8 @@ ghost use Rattle.pixel_strips.specs.Dotted.{PlacedAlike};
 ghost use Rattle.frame_core.specs.Entered.{has_entered};
 ghost use Rattle.frame_core.specs.Scenes.{lists_of, scene_of};
 ghost use Rattle.frame_core.specs.Faults.{limit_of_view};
-ghost use Rattle.frame_core.specs.Views.{CanCount, CanDrawView, PaintsView, view_scene, view_state};
+ghost use Rattle.frame_core.specs.Views.{AreSameTools, CanCount, CanDrawTools, PaintsView, tools_scene, tools_state};
+ghost use Rattle.frame_core.specs.Painters.{IsPlacedIn};
 ghost use Rattle.frame_core.specs.Walked.{CanTake, HasWalked, IsEventIn, next_dots, with_sector};
 
 use crate::entered::Entered;
@@ -35,7 +34,7 @@ use crate::keys::{ceiling_key, floor_key};
 use crate::things::add_things;
 use crate::tools::ViewTools;
 use outside::Shelf;
-use picture_rules::{Limits, WallFacts};
+use picture_rules::Limits;
 use pixel_strips::Canvas;
 use sound_scene::SoundScene;
 use std::alloc::{AllocError, Global};
@@ -202,18 +201,12 @@ impl Bench {
         first: u16,
         last: u16,
     ) -> Result<(), ViewFault>
-        requires drawable { CanDrawView tools.old.dir.now.lumps tools.old.scene.now.scene
-            tools.old.cache.now }
+        requires drawable { CanDrawTools tools.old }
         requires there { IsEventIn tools.old.view.now tools.old.scene.now.scene
             (FragmentEvent seg first last) }
         requires takes { CanTake tools.old.view.now tools.old.scene.now.scene self.old }
-        requires columns { (C.view tools.old.canvas.now).left + tools.old.view.now.shape.width
-            ≤ FRAME_WIDTH }
-        requires rows { (C.view tools.old.canvas.now).top + tools.old.view.now.shape.height
-            ≤ FRAME_HEIGHT }
-        ensures same_cache { tools.new.cache.ghost_name ≡ tools.old.cache.ghost_name }
-        ensures same_shelf { tools.new.shelf.ghost_name ≡ tools.old.shelf.ghost_name }
-        ensures same_canvas { tools.new.canvas.ghost_name ≡ tools.old.canvas.ghost_name }
+        requires placed { IsPlacedIn tools.old.view.now (C.view tools.old.canvas.now) }
+        ensures same { AreSameTools tools.old tools.new }
         ensures counts { KeepsCounts tools.old.cache.now tools.new.cache.now }
         ensures place { PlacedAlike (C.view tools.old.canvas.now) (C.view tools.new.canvas.now) }
         ensures walked { (bytes : ℕ → List ℕ) (limits : Limits) (events : List Event) →
@@ -228,19 +221,15 @@ impl Bench {
         ensures paints { (limits : Limits) (events : List Event) →
             ((bytes : ℕ → List ℕ) → HasWalked tools.old.view.now bytes tools.old.scene.now.scene
             limits events self.old) →
-            PaintsView C.mark
-            (view_scene tools.old.view.now tools.old.scene.now.scene tools.old.dir.now)
+            PaintsView C.mark (tools_scene tools.old)
             (λ scene. next_dots tools.old.view.now scene events seg first last)
-            (view_state (S.view tools.old.shelf.now) tools.old.cache.now
-            (C.view tools.old.canvas.now))
-            (view_state (S.view tools.new.shelf.now) tools.new.cache.now
-            (C.view tools.new.canvas.now)) result }
+            (tools_state S.view C.view tools.old) (tools_state S.view C.view tools.new) result }
         ensures takes { OnOk result
             (CanTake tools.old.view.now tools.old.scene.now.scene self.new) }
         ensures limits { limits_of self.new.walls self.new.planes
             ≡ limits_of self.old.walls self.old.planes }
     {
-        let facts = facts_for(tools.scene, self.sector, seg);
+        let facts = facts_of(tools.scene, self.sector, seg);
         let mut walls = WallTools {
             view: tools.view,
             textures: tools.scene.textures(),
@@ -254,24 +243,6 @@ impl Bench {
         self.walls.store_range(&mut walls, &facts, first, last)?;
         Ok(())
     }
-}
-
-// What a seg is drawn from, seen from a sector, and that the level is sound.
-fn facts_for(scene: &SoundScene, sector: u16, seg: u16) -> WallFacts
-    requires sides { length scene.now.scene.faces.sides
-        ≡ length scene.now.scene.base.level.sides }
-    requires flats { length scene.now.scene.faces.flats
-        ≡ length scene.now.scene.base.level.sectors }
-    requires sector { sector < length scene.now.scene.base.level.sectors }
-    requires seg { seg < length scene.now.scene.base.level.segs }
-    ensures facts { (bytes : ℕ → List ℕ) → result ≡ facts_of (scene_of bytes scene.now.scene)
-        (surface_at (lists_of scene.now.scene) sector) seg
-        (seg_at (lists_of scene.now.scene) seg) }
-    ensures sound { IsSound scene.now.scene.base.level }
-{
-    let segs = scene.level().segs().len();
-    prove!(usize::from(seg) < segs);
-    facts_of(scene, sector, seg)
 }
 
 // The sector of a leaf.

@@ -1,12 +1,12 @@
 // The walls of a view, counted as they are walked.
 //
 // Rules: `picture_rules`, Counts; `specs/Painters`. This project's own.
-ghost use Rattle.std.specs.Prelude.{◌≡◌, ℕ, List, [], IfErr, OnOk, Some};
-ghost use Rattle.picture_rules.specs.Counts.{view_over};
+ghost use Rattle.frame_core.specs.Painters.{HasWalkedNothing, HasWalkedView, limits_in};
 ghost use Rattle.frame_core.specs.Scenes.{scene_of};
 ghost use Rattle.frame_core.specs.Views.{CanCount};
-ghost use Rattle.frame_core.specs.Walked.{CanTake, HasWalked};
-ghost use Rattle.frame_core.specs.Painters.{HasWalkedView, limits_in};
+ghost use Rattle.frame_core.specs.Walked.{CanTake};
+ghost use Rattle.picture_rules.specs.Counts.{view_over};
+ghost use Rattle.std.specs.Prelude.{◌≡◌, ℕ, List, IfErr, OnOk, Some};
 
 use crate::bench::Bench;
 use crate::fault::over_limit;
@@ -65,8 +65,7 @@ fn walk_counter(counter: &mut ViewCounter<'_>) -> Result<(), OverLimit>
     requires scene { CanCount counter.old.scene.now.scene }
     requires takes { CanTake counter.old.view.now counter.old.scene.now.scene
         counter.old.bench.now }
-    requires walked { (bytes : ℕ → List ℕ) → HasWalked counter.old.view.now bytes
-        counter.old.scene.now.scene (limits_in counter.old.bench.now) []
+    requires walked { HasWalkedNothing counter.old.view.now counter.old.scene.now.scene
         counter.old.bench.now }
     ensures same_bench { counter.new.bench.ghost_name ≡ counter.old.bench.ghost_name }
     ensures walked { OnOk result (HasWalkedView counter.old.view.now
@@ -96,8 +95,7 @@ pub(crate) fn count_walls(
 ) -> Result<(), OverLimit>
     requires scene { CanCount scene.now.scene }
     requires takes { CanTake view.now scene.now.scene bench.old }
-    requires walked { (bytes : ℕ → List ℕ) → HasWalked view.now bytes scene.now.scene
-        (limits_in bench.old) [] bench.old }
+    requires walked { HasWalkedNothing view.now scene.now.scene bench.old }
     ensures walked { OnOk result (HasWalkedView view.now scene.now.scene bench.new) }
     ensures over { (bytes : ℕ → List ℕ) → IfErr result (λ over.
         view_over view.now (scene_of bytes scene.now.scene) (limits_in bench.old) ≡ Some over) }

@@ -1,7 +1,7 @@
 // What a seg is drawn from: rules `picture_rules`, Scene.
 ghost use Rattle.std.specs.Prelude.{◌≡◌, ◌<◌, ℕ, List, length};
 ghost use Rattle.level_rules.specs.Levels.{seg_at, surface_at};
-ghost use Rattle.level_rules.specs.maps.Sound.{IsSegIn};
+ghost use Rattle.level_rules.specs.maps.Sound.{IsSegIn, IsSound};
 ghost use Rattle.walk_rules.specs.Segs.{back_of};
 ghost use Rattle.picture_rules.specs.Scene.{facts_of, side_at, textures_at, wall_texture};
 ghost use Rattle.frame_core.specs.Scenes.{lists_of, scene_of};
@@ -23,10 +23,13 @@ pub fn facts_of(scene: &SoundScene, sector: u16, seg_no: u16) -> WallFacts
         ≡ length scene.now.scene.base.level.sectors }
     requires sector { sector < length scene.now.scene.base.level.sectors }
     requires seg { seg_no < length scene.now.scene.base.level.segs }
-    ensures { (bytes : ℕ → List ℕ) → result ≡ facts_of (scene_of bytes scene.now.scene)
+    ensures facts { (bytes : ℕ → List ℕ) → result ≡ facts_of (scene_of bytes scene.now.scene)
         (surface_at (lists_of scene.now.scene) sector) seg_no
         (seg_at (lists_of scene.now.scene) seg_no) }
+    ensures sound { IsSound scene.now.scene.base.level }
 {
+    let segs = scene.level().segs().len();
+    prove!(usize::from(seg_no) < segs);
     let seg = seg_at(scene, seg_no);
     let side = side_at(scene, seg.side);
     let textures = textures_at(scene, seg.side);

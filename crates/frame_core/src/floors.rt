@@ -7,7 +7,7 @@ ghost use Rattle.picture_rules.specs.Counts.{view_steps};
 ghost use Rattle.picture_rules.specs.Planes.{planes_dots, view_planes};
 ghost use Rattle.frame_core.specs.Faults.{limit_of_view};
 ghost use Rattle.frame_core.specs.Scenes.{lists_of};
-ghost use Rattle.frame_core.specs.Views.{CanDrawView, PaintsView, view_scene, view_state};
+ghost use Rattle.frame_core.specs.Views.{AreSameTools, CanDrawTools, PaintsView, tools_scene, tools_state};
 ghost use Rattle.frame_core.specs.Painters.{HasWalkedView, IsPlacedIn};
 
 use crate::bench::Bench;
@@ -24,25 +24,15 @@ pub(crate) fn draw_floors<S: Shelf, C: Canvas>(
     tools: &mut ViewTools<'_, S, C>,
     bench: &Bench,
 ) -> Result<(), ViewFault>
-    requires drawable { CanDrawView tools.old.dir.now.lumps tools.old.scene.now.scene
-        tools.old.cache.now }
+    requires drawable { CanDrawTools tools.old }
     requires placed { IsPlacedIn tools.old.view.now (C.view tools.old.canvas.now) }
     requires walked { HasWalkedView tools.old.view.now tools.old.scene.now.scene bench.now }
-    ensures same_scene { tools.new.scene ≡ tools.old.scene }
-    ensures same_view { tools.new.view ≡ tools.old.view }
-    ensures same_dir { tools.new.dir ≡ tools.old.dir }
-    ensures same_cache { tools.new.cache.ghost_name ≡ tools.old.cache.ghost_name }
-    ensures same_shelf { tools.new.shelf.ghost_name ≡ tools.old.shelf.ghost_name }
-    ensures same_canvas { tools.new.canvas.ghost_name ≡ tools.old.canvas.ghost_name }
+    ensures same { AreSameTools tools.old tools.new }
     ensures faults { IfErr result (λ fault. limit_of_view fault ≡ None) }
-    ensures paints { let v = tools.old.view.now in PaintsView C.mark
-        (view_scene v tools.old.scene.now.scene tools.old.dir.now)
+    ensures paints { let v = tools.old.view.now in PaintsView C.mark (tools_scene tools.old)
         (λ scene. planes_dots v scene (view_planes
         (view_steps v scene (view_events v (lists_of tools.old.scene.now.scene)))))
-        (view_state (S.view tools.old.shelf.now) tools.old.cache.now
-        (C.view tools.old.canvas.now))
-        (view_state (S.view tools.new.shelf.now) tools.new.cache.now
-        (C.view tools.new.canvas.now)) result }
+        (tools_state S.view C.view tools.old) (tools_state S.view C.view tools.new) result }
 {
     let mut planes = PlaneTools {
         view: tools.view,

@@ -1,17 +1,17 @@
 // The masked pass of a view, drawn at last.
 //
 // Rules: `picture_rules`, Masked and Paints. The original: `R_DrawMasked`, r_things.c.
-ghost use Rattle.std.specs.Prelude.{◌≡◌, ◌≤◌, None, IfErr, length};
-ghost use Rattle.walk_rules.specs.Walk.{view_events};
-ghost use Rattle.picture_rules.specs.sprite.Middles.{masked_dots};
-ghost use Rattle.picture_rules.specs.sprite.Order.{draw_order};
+ghost use Rattle.frame_core.specs.Faults.{limit_of_view};
+ghost use Rattle.frame_core.specs.Painters.{HasWalkedView, IsPlacedIn};
+ghost use Rattle.frame_core.specs.Scenes.{lists_of};
+ghost use Rattle.frame_core.specs.Views.{AreSameTools, CanDrawTools, PaintsView, tools_scene, tools_state};
 ghost use Rattle.picture_rules.specs.Masked.{view_drawsegs};
 ghost use Rattle.picture_rules.specs.Things.{view_entries};
 ghost use Rattle.picture_rules.specs.Walls.{walls_of};
-ghost use Rattle.frame_core.specs.Faults.{limit_of_view};
-ghost use Rattle.frame_core.specs.Scenes.{lists_of};
-ghost use Rattle.frame_core.specs.Views.{CanDrawView, PaintsView, view_scene, view_state};
-ghost use Rattle.frame_core.specs.Painters.{HasWalkedView, IsPlacedIn};
+ghost use Rattle.picture_rules.specs.sprite.Middles.{masked_dots};
+ghost use Rattle.picture_rules.specs.sprite.Order.{draw_order};
+ghost use Rattle.std.specs.Prelude.{◌≡◌, ◌≤◌, None, IfErr, length};
+ghost use Rattle.walk_rules.specs.Walk.{view_events};
 
 use crate::bench::Bench;
 use crate::fault::ViewFault;
@@ -29,28 +29,18 @@ pub(crate) fn draw_masks<S: Shelf, C: Canvas>(
     bench: &Bench,
     marks: &mut [bool],
 ) -> Result<(), ViewFault>
-    requires drawable { CanDrawView tools.old.dir.now.lumps tools.old.scene.now.scene
-        tools.old.cache.now }
+    requires drawable { CanDrawTools tools.old }
     requires placed { IsPlacedIn tools.old.view.now (C.view tools.old.canvas.now) }
     requires walked { HasWalkedView tools.old.view.now tools.old.scene.now.scene bench.now }
     requires marks { bench.now.walls.room ≤ length marks.old }
-    ensures same_scene { tools.new.scene ≡ tools.old.scene }
-    ensures same_view { tools.new.view ≡ tools.old.view }
-    ensures same_dir { tools.new.dir ≡ tools.old.dir }
-    ensures same_cache { tools.new.cache.ghost_name ≡ tools.old.cache.ghost_name }
-    ensures same_shelf { tools.new.shelf.ghost_name ≡ tools.old.shelf.ghost_name }
-    ensures same_canvas { tools.new.canvas.ghost_name ≡ tools.old.canvas.ghost_name }
+    ensures same { AreSameTools tools.old tools.new }
     ensures marks { length marks.new ≡ length marks.old }
     ensures faults { IfErr result (λ fault. limit_of_view fault ≡ None) }
-    ensures paints { let v = tools.old.view.now in PaintsView C.mark
-        (view_scene v tools.old.scene.now.scene tools.old.dir.now)
+    ensures paints { let v = tools.old.view.now in PaintsView C.mark (tools_scene tools.old)
         (λ scene. let events = view_events v (lists_of tools.old.scene.now.scene) in
         masked_dots v scene.art (view_drawsegs v scene (walls_of v scene events))
         (draw_order (view_entries v scene events)))
-        (view_state (S.view tools.old.shelf.now) tools.old.cache.now
-        (C.view tools.old.canvas.now))
-        (view_state (S.view tools.new.shelf.now) tools.new.cache.now
-        (C.view tools.new.canvas.now)) result }
+        (tools_state S.view C.view tools.old) (tools_state S.view C.view tools.new) result }
 {
     let level = tools.scene.level();
     let openings = bench.walls.openings();

@@ -1,14 +1,13 @@
 // The walls of a view, drawn as they are walked.
 //
 // Rules: `picture_rules`, Walls; `specs/Painters`. The original: `R_RenderBSPNode`, r_bsp.c.
-ghost use Rattle.std.specs.Prelude.{◌≡◌, ℕ, List, [], IfErr, IfSome, OnOk, Some};
+ghost use Rattle.std.specs.Prelude.{◌≡◌, OnOk};
 ghost use Rattle.walk_rules.specs.Walk.{view_events};
-ghost use Rattle.picture_rules.specs.Counts.{view_over};
-ghost use Rattle.frame_core.specs.Faults.{limit_of_view};
-ghost use Rattle.frame_core.specs.Scenes.{lists_of, scene_of};
-ghost use Rattle.frame_core.specs.Views.{CanDrawView, PaintsView, view_scene, view_state};
-ghost use Rattle.frame_core.specs.Walked.{CanTake, HasWalked};
-ghost use Rattle.frame_core.specs.Painters.{HasWalkedView, IsPlacedIn, drawn_walls, limits_in};
+ghost use Rattle.frame_core.specs.Ends.{EndsOver};
+ghost use Rattle.frame_core.specs.Scenes.{lists_of};
+ghost use Rattle.frame_core.specs.Views.{AreSameTools, CanDrawTools, CanDrawView, PaintsView, tools_scene, tools_state, view_scene, view_state};
+ghost use Rattle.frame_core.specs.Walked.{CanTake};
+ghost use Rattle.frame_core.specs.Painters.{HasWalkedNothing, HasWalkedView, IsPlacedIn, drawn_walls, limits_in};
 
 use crate::bench::Bench;
 use crate::fault::ViewFault;
@@ -88,8 +87,7 @@ fn walk_painter<S: Shelf, C: Canvas>(
         (C.view painter.old.canvas.now) }
     requires takes { CanTake painter.old.view.now painter.old.scene.now.scene
         painter.old.bench.now }
-    requires walked { (bytes : ℕ → List ℕ) → HasWalked painter.old.view.now bytes
-        painter.old.scene.now.scene (limits_in painter.old.bench.now) []
+    requires walked { HasWalkedNothing painter.old.view.now painter.old.scene.now.scene
         painter.old.bench.now }
     ensures same_bench { painter.new.bench.ghost_name ≡ painter.old.bench.ghost_name }
     ensures same_cache { painter.new.cache.ghost_name ≡ painter.old.cache.ghost_name }
@@ -98,10 +96,8 @@ fn walk_painter<S: Shelf, C: Canvas>(
         ≡ painter.old.canvas.ghost_name }
     ensures walked { OnOk result (HasWalkedView painter.old.view.now
         painter.old.scene.now.scene painter.new.bench.now) }
-    ensures over { (bytes : ℕ → List ℕ) → IfErr result (λ fault.
-        IfSome (limit_of_view fault) (λ over. view_over painter.old.view.now
-        (scene_of bytes painter.old.scene.now.scene) (limits_in painter.old.bench.now)
-        ≡ Some over)) }
+    ensures over { EndsOver painter.old.view.now painter.old.scene.now.scene
+        (limits_in painter.old.bench.now) result }
     ensures paints { PaintsView C.mark
         (view_scene painter.old.view.now painter.old.scene.now.scene
         painter.old.dir.now)
@@ -132,31 +128,20 @@ pub(crate) fn draw_walls<S: Shelf, C: Canvas>(
     tools: &mut ViewTools<'_, S, C>,
     bench: &mut Bench,
 ) -> Result<(), ViewFault>
-    requires drawable { CanDrawView tools.old.dir.now.lumps tools.old.scene.now.scene
-        tools.old.cache.now }
+    requires drawable { CanDrawTools tools.old }
     requires placed { IsPlacedIn tools.old.view.now (C.view tools.old.canvas.now) }
     requires takes { CanTake tools.old.view.now tools.old.scene.now.scene bench.old }
-    requires walked { (bytes : ℕ → List ℕ) → HasWalked tools.old.view.now bytes
-        tools.old.scene.now.scene (limits_in bench.old) [] bench.old }
-    ensures same_scene { tools.new.scene ≡ tools.old.scene }
-    ensures same_view { tools.new.view ≡ tools.old.view }
-    ensures same_dir { tools.new.dir ≡ tools.old.dir }
-    ensures same_cache { tools.new.cache.ghost_name ≡ tools.old.cache.ghost_name }
-    ensures same_shelf { tools.new.shelf.ghost_name ≡ tools.old.shelf.ghost_name }
-    ensures same_canvas { tools.new.canvas.ghost_name ≡ tools.old.canvas.ghost_name }
+    requires walked { HasWalkedNothing tools.old.view.now tools.old.scene.now.scene bench.old }
+    ensures same { AreSameTools tools.old tools.new }
     ensures walked { OnOk result
         (HasWalkedView tools.old.view.now tools.old.scene.now.scene bench.new) }
-    ensures over { (bytes : ℕ → List ℕ) → IfErr result (λ fault.
-        IfSome (limit_of_view fault) (λ over. view_over tools.old.view.now
-        (scene_of bytes tools.old.scene.now.scene) (limits_in bench.old) ≡ Some over)) }
+    ensures over { EndsOver tools.old.view.now tools.old.scene.now.scene (limits_in bench.old)
+        result }
     ensures paints { PaintsView C.mark
-        (view_scene tools.old.view.now tools.old.scene.now.scene tools.old.dir.now)
+        (tools_scene tools.old)
         (drawn_walls tools.old.view.now (view_events tools.old.view.now
         (lists_of tools.old.scene.now.scene)))
-        (view_state (S.view tools.old.shelf.now) tools.old.cache.now
-        (C.view tools.old.canvas.now))
-        (view_state (S.view tools.new.shelf.now) tools.new.cache.now
-        (C.view tools.new.canvas.now)) result }
+        (tools_state S.view C.view tools.old) (tools_state S.view C.view tools.new) result }
     ensures limits { limits_in bench.new ≡ limits_in bench.old }
 {
     let mut painter = ViewPainter {

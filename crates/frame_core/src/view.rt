@@ -1,25 +1,20 @@
 // One view, drawn and counted.
 //
 // Rules: `picture_rules`, Paints, Picture and Counts. The original: `R_RenderPlayerView`, r_main.c.
-ghost use Rattle.std.specs.Prelude.{◌≡◌, ◌≤◌, ℕ, List, None, Some, IfErr, IfOk, IfSome, IsSome, OnOk, length};
-ghost use Rattle.outside.specs.Causes.{FaultsRose};
+ghost use Rattle.frame_core.specs.Ends.{EndsComplete, EndsNotFull, EndsOver, EndsWithin, HoldsAgain, HoldsScene};
+ghost use Rattle.frame_core.specs.Faults.{view_fault};
+ghost use Rattle.frame_core.specs.Painters.{limits_in};
+ghost use Rattle.frame_core.specs.Scenes.{scene_of};
+ghost use Rattle.frame_core.specs.Views.{AreSameTools, CanCount, CanDrawTools, CanDrawView, IsViewLump, IsViewTexture, PaintsView, placed_for, tools_scene, tools_state, view_scene, view_state};
 ghost use Rattle.lump_rules.specs.Contents.{lump_bytes};
-ghost use Rattle.lump_rules.specs.Lookups.{lump_at};
-ghost use Rattle.lump_cache.specs.Calls.{IfFull};
-ghost use Rattle.scene_rules.specs.Scenes.{art_of};
-ghost use Rattle.scene_rules.specs.Sizes.{enough};
-ghost use Rattle.view_rules.specs.View.{view_of};
-ghost use Rattle.view_rules.specs.Sound.{IsWithinFrame};
 ghost use Rattle.picture_rules.specs.Counts.{view_counts, view_over};
 ghost use Rattle.picture_rules.specs.Paints.{view_paints};
 ghost use Rattle.picture_rules.specs.Picture.{AreInView, picture};
-ghost use Rattle.pixel_strips.specs.Canvases.{placed_at};
-ghost use Rattle.texture_build.specs.Draws.{DrawsWith, FitBeside, HoldsArt};
 ghost use Rattle.sound_scene.specs.Sound.{textures_view};
-ghost use Rattle.frame_core.specs.Faults.{limit_of_view, view_fault};
-ghost use Rattle.frame_core.specs.Scenes.{scene_of};
-ghost use Rattle.frame_core.specs.Views.{CanCount, CanDrawView, IsViewLump, IsViewTexture, PaintsView, view_scene, view_state};
-ghost use Rattle.frame_core.specs.Painters.{limits_in};
+ghost use Rattle.std.specs.Prelude.{◌≡◌, ◌≤◌, ℕ, List, Some, IfErr, IfOk, OnOk, length};
+ghost use Rattle.texture_build.specs.Draws.{DrawsWith, FitBeside};
+ghost use Rattle.view_rules.specs.Sound.{IsWithinFrame};
+ghost use Rattle.view_rules.specs.View.{view_of};
 
 use crate::bench::Bench;
 use crate::counter::count_walls;
@@ -66,19 +61,13 @@ pub fn draw_view<S: Shelf>(
 ) -> Result<(), ViewFault>
     requires { CanDrawView dir.now.lumps scene.now.scene cache.old }
     ensures picture { (contents : List (List ℕ)) (count : ℕ) →
-        HoldsArt (S.view shelf.old) dir.now (textures_view scene.now.scene) contents
-        scene.now.scene.base.colormap count cache.old →
+        HoldsScene dir.now scene.now.scene (S.view shelf.old) cache.old contents count →
         OnOk result (shop.new.frame.cells ≡ picture (view_of tables.now eye)
         (scene_of (lump_bytes contents dir.now.lumps) scene.now.scene)) }
-    ensures within { (bytes : ℕ → List ℕ) → OnOk result
-        (view_over (view_of tables.now eye) (scene_of bytes scene.now.scene) shop.old.limits
-        ≡ None) }
-    ensures over { (bytes : ℕ → List ℕ) → IfErr result (λ fault.
-        IfSome (limit_of_view fault) (λ over. view_over (view_of tables.now eye)
-        (scene_of bytes scene.now.scene) shop.old.limits ≡ Some over)) }
+    ensures within { EndsWithin (view_of tables.now eye) scene.now.scene shop.old.limits result }
+    ensures over { EndsOver (view_of tables.now eye) scene.now.scene shop.old.limits result }
     ensures fits { (contents : List (List ℕ)) (count : ℕ) →
-        HoldsArt (S.view shelf.old) dir.now (textures_view scene.now.scene) contents
-        scene.now.scene.base.colormap count cache.old →
+        HoldsScene dir.now scene.now.scene (S.view shelf.old) cache.old contents count →
         OnOk result (FitBeside dir.now.lumps (textures_view scene.now.scene)
         scene.now.scene.base.colormap count cache.old.size
         (view_paints (view_of tables.now eye)
@@ -86,24 +75,11 @@ pub fn draw_view<S: Shelf>(
     ensures draws { DrawsWith view_fault (IsViewTexture scene.now.scene)
         (IsViewLump dir.now.lumps scene.now.scene) (S.view shelf.old) (S.view shelf.new)
         dir.now (textures_view scene.now.scene) cache.old cache.new result }
-    ensures enough { (contents : List (List ℕ)) (count : ℕ) →
-        HoldsArt (S.view shelf.old) dir.now (textures_view scene.now.scene) contents
-        scene.now.scene.base.colormap count cache.old →
-        (lump_at dir.now.lumps scene.now.scene.base.colormap).size ≡ count →
-        enough dir.now.lumps (art_of scene.now.scene) ≤ cache.old.size →
-        IfErr result (λ fault. IfFull (view_fault fault) (λ wanted widest. ⊥)) }
-    ensures complete { (contents : List (List ℕ)) (count : ℕ) →
-        HoldsArt (S.view shelf.old) dir.now (textures_view scene.now.scene) contents
-        scene.now.scene.base.colormap count cache.old →
-        (lump_at dir.now.lumps scene.now.scene.base.colormap).size ≡ count →
-        enough dir.now.lumps (art_of scene.now.scene) ≤ cache.old.size →
-        (FaultsRose (S.view shelf.old).faults (S.view shelf.new).faults → ⊥) →
-        IfErr result (λ fault. IsSome (limit_of_view fault)) }
-    ensures again { (contents : List (List ℕ)) (count : ℕ) →
-        HoldsArt (S.view shelf.old) dir.now (textures_view scene.now.scene) contents
-        scene.now.scene.base.colormap count cache.old →
-        HoldsArt (S.view shelf.new) dir.now (textures_view scene.now.scene) contents
-        scene.now.scene.base.colormap count cache.new }
+    ensures enough { EndsNotFull dir.now scene.now.scene (S.view shelf.old) cache.old result }
+    ensures complete { EndsComplete dir.now scene.now.scene (S.view shelf.old) (S.view shelf.new)
+        cache.old result }
+    ensures again { HoldsAgain dir.now scene.now.scene (S.view shelf.old) (S.view shelf.new)
+        cache.old cache.new }
     ensures limits { shop.new.limits ≡ shop.old.limits }
 {
     shop.frame.clear();
@@ -138,35 +114,18 @@ pub fn draw_view_on<S: Shelf, C: Canvas>(
     canvas: &mut C,
 ) -> Result<(), ViewFault>
     requires { CanDrawView dir.now.lumps scene.now.scene cache.old }
-    ensures within { (bytes : ℕ → List ℕ) → OnOk result
-        (view_over (view_of tables.now eye) (scene_of bytes scene.now.scene) shop.old.limits
-        ≡ None) }
-    ensures over { (bytes : ℕ → List ℕ) → IfErr result (λ fault.
-        IfSome (limit_of_view fault) (λ over. view_over (view_of tables.now eye)
-        (scene_of bytes scene.now.scene) shop.old.limits ≡ Some over)) }
+    ensures within { EndsWithin (view_of tables.now eye) scene.now.scene shop.old.limits result }
+    ensures over { EndsOver (view_of tables.now eye) scene.now.scene shop.old.limits result }
     ensures paints { let v = view_of tables.now eye in
         PaintsView C.mark (view_scene v scene.now.scene dir.now) (view_paints v)
         (view_state (S.view shelf.old) cache.old
-        (placed_at v.shape.left v.shape.top (C.view canvas.old)))
+        (placed_for v (C.view canvas.old)))
         (view_state (S.view shelf.new) cache.new (C.view canvas.new)) result }
-    ensures enough { (contents : List (List ℕ)) (count : ℕ) →
-        HoldsArt (S.view shelf.old) dir.now (textures_view scene.now.scene) contents
-        scene.now.scene.base.colormap count cache.old →
-        (lump_at dir.now.lumps scene.now.scene.base.colormap).size ≡ count →
-        enough dir.now.lumps (art_of scene.now.scene) ≤ cache.old.size →
-        IfErr result (λ fault. IfFull (view_fault fault) (λ wanted widest. ⊥)) }
-    ensures complete { (contents : List (List ℕ)) (count : ℕ) →
-        HoldsArt (S.view shelf.old) dir.now (textures_view scene.now.scene) contents
-        scene.now.scene.base.colormap count cache.old →
-        (lump_at dir.now.lumps scene.now.scene.base.colormap).size ≡ count →
-        enough dir.now.lumps (art_of scene.now.scene) ≤ cache.old.size →
-        (FaultsRose (S.view shelf.old).faults (S.view shelf.new).faults → ⊥) →
-        IfErr result (λ fault. IsSome (limit_of_view fault)) }
-    ensures again { (contents : List (List ℕ)) (count : ℕ) →
-        HoldsArt (S.view shelf.old) dir.now (textures_view scene.now.scene) contents
-        scene.now.scene.base.colormap count cache.old →
-        HoldsArt (S.view shelf.new) dir.now (textures_view scene.now.scene) contents
-        scene.now.scene.base.colormap count cache.new }
+    ensures enough { EndsNotFull dir.now scene.now.scene (S.view shelf.old) cache.old result }
+    ensures complete { EndsComplete dir.now scene.now.scene (S.view shelf.old) (S.view shelf.new)
+        cache.old result }
+    ensures again { HoldsAgain dir.now scene.now.scene (S.view shelf.old) (S.view shelf.new)
+        cache.old cache.new }
     ensures limits { shop.new.limits ≡ shop.old.limits }
     ensures frame { shop.new.frame ≡ shop.old.frame }
 {
@@ -198,9 +157,7 @@ pub fn count_view(
     requires { CanCount scene.now.scene }
     ensures counts { (bytes : ℕ → List ℕ) → IfOk result (λ counts. counts
         ≡ view_counts (view_of tables.now eye) (scene_of bytes scene.now.scene)) }
-    ensures within { (bytes : ℕ → List ℕ) → OnOk result
-        (view_over (view_of tables.now eye) (scene_of bytes scene.now.scene) shop.old.limits
-        ≡ None) }
+    ensures within { EndsWithin (view_of tables.now eye) scene.now.scene shop.old.limits result }
     ensures over { (bytes : ℕ → List ℕ) → IfErr result (λ over.
         view_over (view_of tables.now eye) (scene_of bytes scene.now.scene) shop.old.limits
         ≡ Some over) }
@@ -233,15 +190,12 @@ fn draw_with<'a, S: Shelf, C: Canvas>(
     requires drawable { CanDrawView dir.now.lumps scene.now.scene cache.old }
     requires marks { bench.old.walls.room ≤ length marks.old }
     ensures marks { length marks.new ≡ length marks.old }
-    ensures within { (bytes : ℕ → List ℕ) → OnOk result
-        (view_over view.now (scene_of bytes scene.now.scene) (limits_in bench.old) ≡ None) }
-    ensures over { (bytes : ℕ → List ℕ) → IfErr result (λ fault.
-        IfSome (limit_of_view fault) (λ over. view_over view.now
-        (scene_of bytes scene.now.scene) (limits_in bench.old) ≡ Some over)) }
+    ensures within { EndsWithin view.now scene.now.scene (limits_in bench.old) result }
+    ensures over { EndsOver view.now scene.now.scene (limits_in bench.old) result }
     ensures paints { let v = view.now in
         PaintsView C.mark (view_scene v scene.now.scene dir.now) (view_paints v)
         (view_state (S.view shelf.old) cache.old
-        (placed_at v.shape.left v.shape.top (C.view canvas.old)))
+        (placed_for v (C.view canvas.old)))
         (view_state (S.view shelf.new) cache.new (C.view canvas.new)) result }
     ensures in_view { (bytes : ℕ → List ℕ) → OnOk result
         (AreInView view.now.shape (view_paints view.now (scene_of bytes scene.now.scene))) }
@@ -265,26 +219,20 @@ fn draw_parts<S: Shelf, C: Canvas>(
     bench: &mut Bench,
     marks: &mut [bool],
 ) -> Result<(), ViewFault>
-    requires drawable { CanDrawView tools.old.dir.now.lumps tools.old.scene.now.scene
-        tools.old.cache.now }
+    requires drawable { CanDrawTools tools.old }
     requires marks { bench.old.walls.room ≤ length marks.old }
-    ensures same_cache { tools.new.cache.ghost_name ≡ tools.old.cache.ghost_name }
-    ensures same_shelf { tools.new.shelf.ghost_name ≡ tools.old.shelf.ghost_name }
-    ensures same_canvas { tools.new.canvas.ghost_name ≡ tools.old.canvas.ghost_name }
+    ensures same { AreSameTools tools.old tools.new }
     ensures marks { length marks.new ≡ length marks.old }
-    ensures within { (bytes : ℕ → List ℕ) → OnOk result
-        (view_over tools.old.view.now (scene_of bytes tools.old.scene.now.scene)
-        (limits_in bench.old) ≡ None) }
-    ensures over { (bytes : ℕ → List ℕ) → IfErr result (λ fault.
-        IfSome (limit_of_view fault) (λ over. view_over tools.old.view.now
-        (scene_of bytes tools.old.scene.now.scene) (limits_in bench.old) ≡ Some over)) }
+    ensures within { EndsWithin tools.old.view.now tools.old.scene.now.scene (limits_in bench.old)
+        result }
+    ensures over { EndsOver tools.old.view.now tools.old.scene.now.scene (limits_in bench.old)
+        result }
     ensures paints { let v = tools.old.view.now in
-        PaintsView C.mark (view_scene v tools.old.scene.now.scene tools.old.dir.now)
+        PaintsView C.mark (tools_scene tools.old)
         (view_paints v)
         (view_state (S.view tools.old.shelf.now) tools.old.cache.now
-        (placed_at v.shape.left v.shape.top (C.view tools.old.canvas.now)))
-        (view_state (S.view tools.new.shelf.now) tools.new.cache.now
-        (C.view tools.new.canvas.now)) result }
+        (placed_for v (C.view tools.old.canvas.now)))
+        (tools_state S.view C.view tools.new) result }
     ensures in_view { (bytes : ℕ → List ℕ) → OnOk result (AreInView tools.old.view.now.shape
         (view_paints tools.old.view.now (scene_of bytes tools.old.scene.now.scene))) }
     ensures frame { IsWithinFrame tools.old.view.now.shape }

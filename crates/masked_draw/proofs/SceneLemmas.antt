@@ -1,10 +1,11 @@
 -- Laws of the notes of a scene as drawn fragments, and of what the calls ask of them.
-use Rattle.std.proofs.Common.{◌≡◌, ℕ, ◌≤◌, ℤ, pos, ◌≤ℤ◌, ◌≢◌, Bool, true, List, Option, Some, length, get_or, refl, ap, ◌∙◌, subst, arith}
+use Rattle.std.proofs.Common.{◌≡◌, ℕ, ◌≤◌, ◌<◌, ℤ, pos, ◌≤ℤ◌, ◌≢◌, Bool, true, List, Option, Some, length, get_or, refl, ap, ◌∙◌, subst, arith}
 use Rattle.std.specs.Prelude.{◌&&◌, ◌==◌, not, nat_le, int_lt, IfSome, option_map, slice_get, Result}
 use Rattle.std.proofs.lemmas.Bool.{and_parts, leb-true}
 use Rattle.std.proofs.lemmas.Bool.Decides.{nat_tests}
 use Rattle.std.proofs.lemmas.Option.{gets}
 use Rattle.std.proofs.lemmas.List.{length-map}
+use Rattle.std.proofs.lemmas.List.Elements.{All-get_or}
 use Rattle.std.proofs.lemmas.Option.{slice_get-map, slice_get_within}
 use Rattle.word_rules.specs.Words.{minus_one}
 use Rattle.lump_rules.specs.declared.wad.Lump.{Lump}
@@ -24,7 +25,7 @@ use Rattle.texture_build.specs.Views.{TexturesView}
 use Rattle.masked_draw.specs.declared.scene.MaskScene.{MaskScene}
 use Rattle.masked_draw.specs.Lists.{MaskedLists, noted_drawseg, noted_drawsegs}
 use Rattle.masked_draw.specs.Ready.{IsListed, IsMiddleNumber, IsNotedMiddle}
-use Rattle.masked_draw.specs.Scenes.{MaskState, CanPass, PaintsDots, scene_drawseg, scene_drawsegs, scene_lists}
+use Rattle.masked_draw.specs.Scenes.{MaskState, CanPaintNote, CanPass, PaintsDots, scene_drawseg, scene_drawsegs, scene_lists}
 use Rattle.masked_draw.proofs.EntryLemmas.{IsSegOf}
 use Rattle.masked_draw.proofs.PassedLemmas.{HasColumnsOf, ApartNotes}
 use Rattle.masked_draw.proofs.StepLemmas.{can_paint-later}
@@ -55,6 +56,16 @@ scene-whole {shape} {notes} {openings} k d noted e = let P : Option FragmentNote
 
 get_at : {X : Type 0} (xs : List X) (k : ℕ) (x : X) → slice_get xs k ≡ Some x → get_or xs k x ≡ x
 get_at xs k x e = grind (arith, gets)
+
+-- each note that the notes have may be painted
+pub can_pass-note : {s : MaskScene} {notes : List FragmentNote} {st : MaskState} {marks : List Bool} (k : ℕ) (d : FragmentNote) → CanPass s notes st marks → slice_get notes k ≡ Some d → k < length notes → CanPaintNote s d st
+can_pass-note {s} {notes} {st} k d can e l =
+    let P : FragmentNote → Type 0 = IsListed s.dir.now.lumps s.textures.now st.cache (scene_lists s) in
+    record {
+      paint = can.paint;
+      whole = scene-whole k d can.noted e;
+      listed = subst P (get_at notes k d e) (All-get_or P notes k d l can.listed);
+    }
 
 pub scene-middle : (lists : MaskedLists) (notes : List FragmentNote) (k : ℕ) (d : FragmentNote) → slice_get notes k ≡ Some d → (n : ℕ) → IsMiddleNumber lists d n → IsNotedMiddle lists notes n
 scene-middle lists notes k d e n is = record {

@@ -1,5 +1,5 @@
 -- What stays while the masked pass runs, what a call of it paints, and what each of its calls asks.
-use Rattle.std.specs.Prelude.{◌≤◌, ◌<◌, ◌+◌, ℕ, Bool, List, All, length, OnOk, Result}
+use Rattle.std.specs.Prelude.{◌≡◌, ◌≤◌, ◌<◌, ◌+◌, ℕ, Bool, List, All, length, OnOk, Result}
 use Rattle.view_rules.specs.declared.TheConstants.{FRAME_WIDTH, FRAME_HEIGHT}
 use Rattle.outside.specs.Shelf.{ShelfView}
 use Rattle.lump_rules.specs.Contents.{lump_bytes}
@@ -15,8 +15,9 @@ use Rattle.picture_rules.specs.declared.wall.FragmentNote.{FragmentNote}
 use Rattle.picture_rules.specs.sprite.Drawsegs.{Drawseg}
 use Rattle.texture_build.specs.Arts.{view_art}
 use Rattle.texture_build.specs.Draws.{HoldsArt, FitBeside, DrawsWith}
+use Rattle.masked_draw.specs.declared.scene.MaskHands.{MaskHands}
 use Rattle.masked_draw.specs.declared.scene.MaskScene.{MaskScene}
-use Rattle.picture_rules.specs.Noted.{AreNoted}
+use Rattle.picture_rules.specs.Noted.{AreNoted, IsWholeNote}
 use Rattle.masked_draw.specs.Lists.{MaskedLists, lists_of, noted_drawseg, noted_drawsegs}
 use Rattle.masked_draw.specs.Ready.{IsListed}
 
@@ -44,12 +45,28 @@ pub record MaskState : Type 0 where
 abbrev pub state : ShelfView → Heap → CanvasView → MaskState
 state shelf cache canvas = record { shelf = shelf; cache = cache; canvas = canvas }
 
+-- what is written by these hands, whose shelf and canvas tell of themselves so
+abbrev pub hands_state : {S C : Type 0} → (S → ShelfView) → (C → CanvasView) → MaskHands S C → MaskState
+hands_state shelf canvas h = state (shelf h.shelf.now) h.cache.now (canvas h.canvas.now)
+
+-- hands hold the references that others held
+abbrev pub AreSameHands : {S C : Type 0} → MaskHands S C → MaskHands S C → Type 0
+AreSameHands old new = (new.cache.ghost_name ≡ old.cache.ghost_name)
+    × ((new.shelf.ghost_name ≡ old.shelf.ghost_name)
+    × ((new.canvas.ghost_name ≡ old.canvas.ghost_name) × (new.marks.ghost_name ≡ old.marks.ghost_name)))
+
 -- what each call asks
 pub record CanPaint (s : MaskScene) (st : MaskState) : Type 0 where
   pub slots : length s.dir.now.lumps ≤ st.cache.lumps
   pub colormap : s.colormap.0 < length s.dir.now.lumps
   pub left : st.canvas.left + s.view.now.shape.width ≤ FRAME_WIDTH
   pub top : st.canvas.top + s.view.now.shape.height ≤ FRAME_HEIGHT
+
+-- what each call asks that paints masked columns of a note
+pub record CanPaintNote (s : MaskScene) (d : FragmentNote) (st : MaskState) : Type 0 where
+  pub paint : CanPaint s st
+  pub whole : IsWholeNote s.view.now.shape s.openings.now d
+  pub listed : IsListed s.dir.now.lumps s.textures.now st.cache (scene_lists s) d
 
 -- what each call that comes to the fragments asks: `marks` has an entry for each opening
 pub record CanPass (s : MaskScene) (notes : List FragmentNote) (st : MaskState) (marks : List Bool) : Type 0 where

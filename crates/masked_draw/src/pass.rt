@@ -12,7 +12,7 @@ ghost use Rattle.picture_rules.specs.sprite.Drawsegs.{entry_has};
 ghost use Rattle.picture_rules.specs.sprite.Order.{draw_order};
 ghost use Rattle.picture_rules.specs.sprite.Middles.{masked_dots, middles_at, sprites_from};
 ghost use Rattle.vissprites.specs.Bounds.{lies_within, has_lump_below};
-ghost use Rattle.picture_rules.specs.Noted.{AreNoted, IsWholeNote};
+ghost use Rattle.picture_rules.specs.Noted.{AreNoted};
 ghost use Rattle.pixel_strips.specs.Dotted.{HasDots, PlacedAlike};
 ghost use Rattle.texture_build.specs.Arts.{view_art};
 ghost use Rattle.texture_build.specs.Draws.{HoldsArt, FitBeside, DrawsWith};
@@ -21,7 +21,7 @@ ghost use Rattle.masked_draw.specs.Lists.{lists_of, noted_drawsegs};
 ghost use Rattle.masked_draw.specs.Marks.{MarkedTo, MarksBy, MissesColumns, is_passed, mark_in, unmarked_dots};
 ghost use Rattle.masked_draw.specs.Passes.{DrawsSprite, PassesSprite};
 ghost use Rattle.masked_draw.specs.Ready.{IsListed, IsMiddleNumber, IsNotedMiddle, IsSpriteLump};
-ghost use Rattle.masked_draw.specs.Scenes.{CanPaint, CanPass, PaintsDots, scene_drawseg, scene_drawsegs, scene_lists, state};
+ghost use Rattle.masked_draw.specs.Scenes.{AreSameHands, CanPaintNote, CanPass, PaintsDots, hands_state, scene_drawseg, scene_drawsegs, scene_lists};
 
 use crate::clips::{SpriteClips, is_behind};
 use crate::middles::paint_middle;
@@ -131,15 +131,11 @@ fn draw_sprites<S: Shelf, C: Canvas>(
     notes: &[FragmentNote],
     sprites: &Sprites,
 ) -> Result<(), CacheFault>
-    requires ready { CanPass scene.now notes.now (state (S.view hands.old.shelf.now)
-        hands.old.cache.now (C.view hands.old.canvas.now)) hands.old.marks.now }
+    requires ready { CanPass scene.now notes.now (hands_state S.view C.view hands.old) hands.old.marks.now }
     requires unmarked { (p : ℕ) → mark_in hands.old.marks.now p ≡ false }
     requires columns { AllPass (lies_within scene.now.view.now.shape.width) sprites.now }
     requires lumps { AllPass (has_lump_below (length scene.now.dir.now.lumps)) sprites.now }
-    ensures same_cache { hands.new.cache.ghost_name ≡ hands.old.cache.ghost_name }
-    ensures same_shelf { hands.new.shelf.ghost_name ≡ hands.old.shelf.ghost_name }
-    ensures same_canvas { hands.new.canvas.ghost_name ≡ hands.old.canvas.ghost_name }
-    ensures same_marks { hands.new.marks.ghost_name ≡ hands.old.marks.ghost_name }
+    ensures same { AreSameHands hands.old hands.new }
     ensures marks { length hands.new.marks.now ≡ length hands.old.marks.now }
     ensures marked { OnOk result (MarkedTo (scene_drawseg scene.now) notes.now
         (draw_order sprites.now) (length notes.now) (λ k. length (draw_order sprites.now))
@@ -148,9 +144,7 @@ fn draw_sprites<S: Shelf, C: Canvas>(
         (IsSpriteLump sprites.now)
         (λ art. sprites_from scene.now.view.now art (scene_drawsegs scene.now notes.now)
         (draw_order sprites.now) 0 (draw_order sprites.now))
-        (state (S.view hands.old.shelf.now) hands.old.cache.now (C.view hands.old.canvas.now))
-        (state (S.view hands.new.shelf.now) hands.new.cache.now (C.view hands.new.canvas.now))
-        result }
+        (hands_state S.view C.view hands.old) (hands_state S.view C.view hands.new) result }
 {
     let mut clips = SpriteClips::new();
     for entry in sprites.sorted() {
@@ -165,21 +159,15 @@ fn draw_middles<S: Shelf, C: Canvas>(
     hands: &mut MaskHands<'_, S, C>,
     notes: &[FragmentNote],
 ) -> Result<(), CacheFault>
-    requires ready { CanPass scene.now notes.now (state (S.view hands.old.shelf.now)
-        hands.old.cache.now (C.view hands.old.canvas.now)) hands.old.marks.now }
-    ensures same_cache { hands.new.cache.ghost_name ≡ hands.old.cache.ghost_name }
-    ensures same_shelf { hands.new.shelf.ghost_name ≡ hands.old.shelf.ghost_name }
-    ensures same_canvas { hands.new.canvas.ghost_name ≡ hands.old.canvas.ghost_name }
-    ensures same_marks { hands.new.marks.ghost_name ≡ hands.old.marks.ghost_name }
+    requires ready { CanPass scene.now notes.now (hands_state S.view C.view hands.old) hands.old.marks.now }
+    ensures same { AreSameHands hands.old hands.new }
     ensures marks { length hands.new.marks.now ≡ length hands.old.marks.now }
     ensures paints { (es : List SpriteEntry) → MarkedTo (scene_drawseg scene.now) notes.now es
         (length notes.now) (λ k. length es) hands.old.marks.now →
         PaintsDots C.mark scene.now (IsNotedMiddle (scene_lists scene.now) notes.now) (λ (n : ℕ). ⊥)
         (λ art. middles_at scene.now.view.now art (scene_drawsegs scene.now notes.now) es None
         (length notes.now))
-        (state (S.view hands.old.shelf.now) hands.old.cache.now (C.view hands.old.canvas.now))
-        (state (S.view hands.new.shelf.now) hands.new.cache.now (C.view hands.new.canvas.now))
-        result }
+        (hands_state S.view C.view hands.old) (hands_state S.view C.view hands.new) result }
 {
     for k in (0..notes.len()).rev() {
         let note = &notes[k];
@@ -197,23 +185,17 @@ fn draw_sprite<S: Shelf, C: Canvas>(
     entry: &SpriteEntry,
     clips: &mut SpriteClips,
 ) -> Result<(), CacheFault>
-    requires ready { CanPass scene.now notes.now (state (S.view hands.old.shelf.now)
-        hands.old.cache.now (C.view hands.old.canvas.now)) hands.old.marks.now }
+    requires ready { CanPass scene.now notes.now (hands_state S.view C.view hands.old) hands.old.marks.now }
     requires within { lies_within scene.now.view.now.shape.width entry.now ≡ true }
     requires lump { entry.now.lump < length scene.now.dir.now.lumps }
-    ensures same_cache { hands.new.cache.ghost_name ≡ hands.old.cache.ghost_name }
-    ensures same_shelf { hands.new.shelf.ghost_name ≡ hands.old.shelf.ghost_name }
-    ensures same_canvas { hands.new.canvas.ghost_name ≡ hands.old.canvas.ghost_name }
-    ensures same_marks { hands.new.marks.ghost_name ≡ hands.old.marks.ghost_name }
+    ensures same { AreSameHands hands.old hands.new }
     ensures marks { length hands.new.marks.now ≡ length hands.old.marks.now }
     ensures sprite { (es : List SpriteEntry) (i : ℕ) → i < length es →
         slice_get es i ≡ Some entry.now →
         MarkedTo (scene_drawseg scene.now) notes.now es (length notes.now) (λ k. i)
         hands.old.marks.now →
         DrawsSprite C.mark scene.now notes.now es i entry.now hands.new.marks.now
-        (state (S.view hands.old.shelf.now) hands.old.cache.now (C.view hands.old.canvas.now))
-        (state (S.view hands.new.shelf.now) hands.new.cache.now (C.view hands.new.canvas.now))
-        result }
+        (hands_state S.view C.view hands.old) (hands_state S.view C.view hands.new) result }
 {
     if entry.last < entry.first {
         return Ok(());
@@ -234,19 +216,14 @@ fn pass_fragments<S: Shelf, C: Canvas>(
     entry: &SpriteEntry,
     clips: &mut SpriteClips,
 ) -> Result<(), CacheFault>
-    requires ready { CanPass scene.now notes.now (state (S.view hands.old.shelf.now)
-        hands.old.cache.now (C.view hands.old.canvas.now)) hands.old.marks.now }
+    requires ready { CanPass scene.now notes.now (hands_state S.view C.view hands.old) hands.old.marks.now }
     requires within { lies_within scene.now.view.now.shape.width entry.now ≡ true }
     requires ordered { entry.now.first ≤ℤ entry.now.last }
     requires tops { (x : ℕ) → entry_has entry.now x ≡ true → row_in clips.old.tops x ≡ None }
     requires bottoms { (x : ℕ) → entry_has entry.now x ≡ true → row_in clips.old.bottoms x ≡ None }
-    ensures same_cache { hands.new.cache.ghost_name ≡ hands.old.cache.ghost_name }
-    ensures same_shelf { hands.new.shelf.ghost_name ≡ hands.old.shelf.ghost_name }
-    ensures same_canvas { hands.new.canvas.ghost_name ≡ hands.old.canvas.ghost_name }
-    ensures same_marks { hands.new.marks.ghost_name ≡ hands.old.marks.ghost_name }
+    ensures same { AreSameHands hands.old hands.new }
     ensures marks { length hands.new.marks.now ≡ length hands.old.marks.now }
-    ensures ready { OnOk result (CanPass scene.now notes.now (state (S.view hands.new.shelf.now)
-        hands.new.cache.now (C.view hands.new.canvas.now)) hands.new.marks.now) }
+    ensures ready { OnOk result (CanPass scene.now notes.now (hands_state S.view C.view hands.new) hands.new.marks.now) }
     ensures rows { OnOk result ((x : ℕ) → entry_has entry.now x ≡ true →
         AreSpriteRows scene.now (scene_drawsegs scene.now notes.now) entry.now clips.new x) }
     ensures passed { (es : List SpriteEntry) (i : ℕ) → i < length es →
@@ -254,9 +231,7 @@ fn pass_fragments<S: Shelf, C: Canvas>(
         MarkedTo (scene_drawseg scene.now) notes.now es (length notes.now) (λ k. i)
         hands.old.marks.now →
         PassesSprite C.mark scene.now notes.now es i hands.new.marks.now
-        (state (S.view hands.old.shelf.now) hands.old.cache.now (C.view hands.old.canvas.now))
-        (state (S.view hands.new.shelf.now) hands.new.cache.now (C.view hands.new.canvas.now))
-        result }
+        (hands_state S.view C.view hands.old) (hands_state S.view C.view hands.new) result }
 {
     for k in (0..notes.len()).rev() {
         pass_fragment(scene, hands, &notes[k], k as u16, entry, clips)?;
@@ -274,18 +249,11 @@ fn pass_fragment<S: Shelf, C: Canvas>(
     entry: &SpriteEntry,
     clips: &mut SpriteClips,
 ) -> Result<(), CacheFault>
-    requires ready { CanPaint scene.now (state (S.view hands.old.shelf.now) hands.old.cache.now
-        (C.view hands.old.canvas.now)) }
-    requires whole { IsWholeNote scene.now.view.now.shape scene.now.openings.now note.now }
-    requires listed { IsListed scene.now.dir.now.lumps scene.now.textures.now hands.old.cache.now
-        (scene_lists scene.now) note.now }
+    requires note { CanPaintNote scene.now note.now (hands_state S.view C.view hands.old) }
     requires marks { length scene.now.openings.now ≤ length hands.old.marks.now }
     requires within { lies_within scene.now.view.now.shape.width entry.now ≡ true }
     requires ordered { entry.now.first ≤ℤ entry.now.last }
-    ensures same_cache { hands.new.cache.ghost_name ≡ hands.old.cache.ghost_name }
-    ensures same_shelf { hands.new.shelf.ghost_name ≡ hands.old.shelf.ghost_name }
-    ensures same_canvas { hands.new.canvas.ghost_name ≡ hands.old.canvas.ghost_name }
-    ensures same_marks { hands.new.marks.ghost_name ≡ hands.old.marks.ghost_name }
+    ensures same { AreSameHands hands.old hands.new }
     ensures marks { length hands.new.marks.now ≡ length hands.old.marks.now }
     ensures marked { OnOk result (MarksBy note.now
         (is_passed entry.now (scene_drawseg scene.now note.now)) hands.old.marks.now
@@ -297,9 +265,7 @@ fn pass_fragment<S: Shelf, C: Canvas>(
         (λ art. unmarked_dots scene.now.view.now art hands.old.marks.now note.now
         (is_passed entry.now (scene_drawseg scene.now note.now)) number
         (scene_drawseg scene.now note.now))
-        (state (S.view hands.old.shelf.now) hands.old.cache.now (C.view hands.old.canvas.now))
-        (state (S.view hands.new.shelf.now) hands.new.cache.now (C.view hands.new.canvas.now))
-        result }
+        (hands_state S.view C.view hands.old) (hands_state S.view C.view hands.new) result }
 {
     let first = column_of(entry.first);
     let last = column_of(entry.last);

@@ -3,7 +3,7 @@
 ghost use Rattle.std.specs.Prelude.{◌≡◌, ℕ, ◌≤◌, length};
 ghost use Rattle.view_rules.specs.declared.ColumnRange.{ColumnRange};
 ghost use Rattle.level_rules.specs.Levels.{child_on};
-ghost use Rattle.walk_rules.specs.Boxes.{partition_of, eye_side, box_on, box_column, box_row, corners_above, corners_beside, corners_below, box_corners, corners_range, range_is_open, is_within_box, box_passes};
+ghost use Rattle.walk_rules.specs.Boxes.{partition_of, eye_side, box_on, box_column, box_row, box_corners, corners_range, range_is_open, is_within_box, box_passes};
 
 use crate::cover::Cover;
 use level_rules::{Box4, Child, Node, Partition4};
@@ -87,56 +87,32 @@ fn is_within_box(row: u8, column: u8) -> bool
     row == 1 && column == 1
 }
 
-// The corners as they are seen from above the box.
-#[tactic(auto, unfolding(walk_rules::specs::Boxes::corners_above))]
-fn corners_above(b: &Box4, column: u8) -> Corners
-    ensures { result ≡ corners_above b.now column }
-{
-    match column {
-        0 => corners(b.right, b.top, b.left, b.bottom),
-        1 => corners(b.right, b.top, b.left, b.top),
-        _ => corners(b.right, b.bottom, b.left, b.top),
-    }
-}
-
-// The corners as they are seen from within the box's rows.
-#[tactic(auto, unfolding(walk_rules::specs::Boxes::corners_beside))]
-fn corners_beside(b: &Box4, column: u8) -> Corners
-    ensures { result ≡ corners_beside b.now column }
-{
-    match column {
-        0 => corners(b.left, b.top, b.left, b.bottom),
-        _ => corners(b.right, b.bottom, b.right, b.top),
-    }
-}
-
-// The corners as they are seen from below the box.
-#[tactic(auto, unfolding(walk_rules::specs::Boxes::corners_below))]
-fn corners_below(b: &Box4, column: u8) -> Corners
-    ensures { result ≡ corners_below b.now column }
-{
-    match column {
-        0 => corners(b.left, b.top, b.right, b.bottom),
-        1 => corners(b.left, b.bottom, b.right, b.bottom),
-        _ => corners(b.left, b.bottom, b.right, b.top),
-    }
-}
-
 fn corners(x1: i32, y1: i32, x2: i32, y2: i32) -> Corners
     ensures { result ≡ record { x1 = x1; y1 = y1; x2 = x2; y2 = y2 } }
 {
     Corners { x1, y1, x2, y2 }
 }
 
-// The two corners between which the box is seen.
-#[tactic(auto, unfolding(walk_rules::specs::Boxes::box_corners))]
+// The two corners between which the box is seen: from above it, from within its rows, or from below.
+#[tactic(auto, unfolding(walk_rules::specs::Boxes::box_corners, walk_rules::specs::Boxes::corners_above, walk_rules::specs::Boxes::corners_beside, walk_rules::specs::Boxes::corners_below))]
 fn box_corners(b: &Box4, row: u8, column: u8) -> Corners
     ensures { result ≡ box_corners b.now row column }
 {
     match row {
-        0 => corners_above(b, column),
-        1 => corners_beside(b, column),
-        _ => corners_below(b, column),
+        0 => match column {
+            0 => corners(b.right, b.top, b.left, b.bottom),
+            1 => corners(b.right, b.top, b.left, b.top),
+            _ => corners(b.right, b.bottom, b.left, b.top),
+        },
+        1 => match column {
+            0 => corners(b.left, b.top, b.left, b.bottom),
+            _ => corners(b.right, b.bottom, b.right, b.top),
+        },
+        _ => match column {
+            0 => corners(b.left, b.top, b.right, b.bottom),
+            1 => corners(b.left, b.bottom, b.right, b.bottom),
+            _ => corners(b.left, b.bottom, b.right, b.top),
+        },
     }
 }
 

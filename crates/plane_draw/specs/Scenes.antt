@@ -20,6 +20,7 @@ use Rattle.picture_rules.specs.plane.Skies.{plane_dots, sky_colour, sky_column}
 use Rattle.visplanes.specs.Planes.{plane_at}
 use Rattle.texture_build.specs.Arts.{view_art}
 use Rattle.texture_build.specs.Draws.{HoldsArt, FitBeside, DrawsWith, CanDraw}
+use Rattle.plane_draw.specs.declared.scene.PlaneHands.{PlaneHands}
 use Rattle.plane_draw.specs.declared.scene.PlaneScene.{PlaneScene}
 use Rattle.plane_draw.specs.Planes.{CanDrawPlane, IsSky, IsFlatOf}
 
@@ -35,6 +36,15 @@ pub record PlaneState : Type 0 where
 
 abbrev pub plane_state : ShelfView → Heap → CanvasView → PlaneState
 plane_state shelf cache canvas = record { shelf = shelf; cache = cache; canvas = canvas }
+
+-- what is written by these hands, whose shelf and canvas tell of themselves so
+abbrev pub hands_state : {S C : Type 0} → (S → ShelfView) → (C → CanvasView) → PlaneHands S C → PlaneState
+hands_state shelf canvas h = plane_state (shelf h.shelf.now) h.cache.now (canvas h.canvas.now)
+
+-- hands hold the references that others held
+abbrev pub AreSameHands : {S C : Type 0} → PlaneHands S C → PlaneHands S C → Type 0
+AreSameHands old new = (new.cache.ghost_name ≡ old.cache.ghost_name)
+    × ((new.shelf.ghost_name ≡ old.shelf.ghost_name) × (new.canvas.ghost_name ≡ old.canvas.ghost_name))
 
 -- what each call asks
 pub record CanDrawPlanes (s : PlaneScene) (st : PlaneState) : Type 0 where

@@ -1,19 +1,19 @@
 // The planes of a view, in order of making.
 //
 // Rules: `picture_rules`, Planes; `specs/Planes`. The original: `R_DrawPlanes`, r_plane.c.
-ghost use Rattle.std.specs.Prelude.{◌≡◌, ◌<◌, ◌≤◌, ◌+◌, ℕ, List, All, IfSome, OnOk, length};
-ghost use Rattle.view_rules.specs.declared.TheConstants.{FRAME_WIDTH, FRAME_HEIGHT};
-ghost use Rattle.lump_rules.specs.Contents.{lump_bytes};
 ghost use Rattle.lump_cache.specs.Caches.{cache_fault};
-ghost use Rattle.picture_rules.specs.Scene.{Scene};
+ghost use Rattle.lump_rules.specs.Contents.{lump_bytes};
 ghost use Rattle.picture_rules.specs.Planes.{planes_dots};
+ghost use Rattle.picture_rules.specs.Scene.{Scene};
+ghost use Rattle.picture_rules.specs.plane.Skies.{plane_dots};
 ghost use Rattle.pixel_strips.specs.Dotted.{HasDots, PlacedAlike};
+ghost use Rattle.plane_draw.specs.Planes.{CanDrawPlane, IsSky, IsFlatOf};
+ghost use Rattle.plane_draw.specs.Scenes.{AreSameHands, CanDrawPlanes, PaintsPlanes, first_planes, hands_state};
+ghost use Rattle.std.specs.Prelude.{◌≡◌, ◌<◌, ◌≤◌, ◌+◌, ℕ, List, All, IfSome, OnOk, length};
 ghost use Rattle.texture_build.specs.Arts.{view_art};
 ghost use Rattle.texture_build.specs.Draws.{CanDraw, HoldsArt, FitBeside, DrawsWith};
-ghost use Rattle.picture_rules.specs.plane.Skies.{plane_dots};
+ghost use Rattle.view_rules.specs.declared.TheConstants.{FRAME_WIDTH, FRAME_HEIGHT};
 ghost use Rattle.visplanes.specs.Planes.{plane_at};
-ghost use Rattle.plane_draw.specs.Planes.{CanDrawPlane, IsSky, IsFlatOf};
-ghost use Rattle.plane_draw.specs.Scenes.{CanDrawPlanes, PaintsPlanes, first_planes, plane_state};
 
 use crate::floor::draw_floor;
 use crate::scene::{PlaneHands, PlaneScene};
@@ -100,17 +100,12 @@ fn draw_each<S: Shelf, C: Canvas>(
     scene: &PlaneScene<'_>,
     hands: &mut PlaneHands<'_, S, C>,
 ) -> Result<(), CacheFault>
-    requires { CanDrawPlanes scene.now (plane_state (S.view hands.old.shelf.now)
-        hands.old.cache.now (C.view hands.old.canvas.now)) }
-    ensures same_cache { hands.new.cache.ghost_name ≡ hands.old.cache.ghost_name }
-    ensures same_shelf { hands.new.shelf.ghost_name ≡ hands.old.shelf.ghost_name }
-    ensures same_canvas { hands.new.canvas.ghost_name ≡ hands.old.canvas.ghost_name }
+    requires { CanDrawPlanes scene.now (hands_state S.view C.view hands.old) }
+    ensures same { AreSameHands hands.old hands.new }
     ensures paints { PaintsPlanes C.mark scene.now
         (λ art sky. first_planes scene.now.view.now art sky scene.now.planes.now.planes
         (length scene.now.planes.now.planes))
-        (plane_state (S.view hands.old.shelf.now) hands.old.cache.now (C.view hands.old.canvas.now))
-        (plane_state (S.view hands.new.shelf.now) hands.new.cache.now (C.view hands.new.canvas.now))
-        result }
+        (hands_state S.view C.view hands.old) (hands_state S.view C.view hands.new) result }
 {
     for number in 0..scene.planes.count() {
         draw_one(scene, hands, PlaneNo(number as u16))?;
@@ -124,18 +119,13 @@ fn draw_one<S: Shelf, C: Canvas>(
     hands: &mut PlaneHands<'_, S, C>,
     plane: PlaneNo,
 ) -> Result<(), CacheFault>
-    requires ready { CanDrawPlanes scene.now (plane_state (S.view hands.old.shelf.now)
-        hands.old.cache.now (C.view hands.old.canvas.now)) }
+    requires ready { CanDrawPlanes scene.now (hands_state S.view C.view hands.old) }
     requires plane { plane.0 < length scene.now.planes.now.planes }
-    ensures same_cache { hands.new.cache.ghost_name ≡ hands.old.cache.ghost_name }
-    ensures same_shelf { hands.new.shelf.ghost_name ≡ hands.old.shelf.ghost_name }
-    ensures same_canvas { hands.new.canvas.ghost_name ≡ hands.old.canvas.ghost_name }
+    ensures same { AreSameHands hands.old hands.new }
     ensures paints { PaintsPlanes C.mark scene.now
         (λ art sky. plane_dots scene.now.view.now art sky plane.0
         (plane_at scene.now.planes.now.planes plane.0))
-        (plane_state (S.view hands.old.shelf.now) hands.old.cache.now (C.view hands.old.canvas.now))
-        (plane_state (S.view hands.new.shelf.now) hands.new.cache.now (C.view hands.new.canvas.now))
-        result }
+        (hands_state S.view C.view hands.old) (hands_state S.view C.view hands.new) result }
 {
     if scene.planes.is_empty(plane) {
         return Ok(());

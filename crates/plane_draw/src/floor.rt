@@ -10,7 +10,7 @@ ghost use Rattle.picture_rules.specs.declared.plane.Flat4.TheVariants.{Lump};
 ghost use Rattle.picture_rules.specs.plane.Skies.{plane_dots};
 ghost use Rattle.visplanes.specs.Planes.{plane_at};
 ghost use Rattle.texture_build.specs.Draws.{HoldsArt, FitBeside};
-ghost use Rattle.plane_draw.specs.Scenes.{CanDrawPlanes, PaintsPlanes, plane_art, plane_state};
+ghost use Rattle.plane_draw.specs.Scenes.{AreSameHands, CanDrawPlanes, PaintsPlanes, hands_state, plane_art};
 
 use crate::scene::{PlaneHands, PlaneScene};
 use lump_cache::CacheFault;
@@ -27,19 +27,14 @@ pub fn draw_floor<S: Shelf, C: Canvas>(
     plane: PlaneNo,
     lump: LumpNo,
 ) -> Result<(), CacheFault>
-    requires ready { CanDrawPlanes scene.now (plane_state (S.view hands.old.shelf.now)
-        hands.old.cache.now (C.view hands.old.canvas.now)) }
+    requires ready { CanDrawPlanes scene.now (hands_state S.view C.view hands.old) }
     requires plane { plane.0 < length scene.now.planes.now.planes }
     requires flat { (plane_at scene.now.planes.now.planes plane.0).key.flat ≡ Lump lump.0 }
-    ensures same_cache { hands.new.cache.ghost_name ≡ hands.old.cache.ghost_name }
-    ensures same_shelf { hands.new.shelf.ghost_name ≡ hands.old.shelf.ghost_name }
-    ensures same_canvas { hands.new.canvas.ghost_name ≡ hands.old.canvas.ghost_name }
+    ensures same { AreSameHands hands.old hands.new }
     ensures paints { PaintsPlanes C.mark scene.now
         (λ art sky. plane_dots scene.now.view.now art sky plane.0
         (plane_at scene.now.planes.now.planes plane.0))
-        (plane_state (S.view hands.old.shelf.now) hands.old.cache.now (C.view hands.old.canvas.now))
-        (plane_state (S.view hands.new.shelf.now) hands.new.cache.now (C.view hands.new.canvas.now))
-        result }
+        (hands_state S.view C.view hands.old) (hands_state S.view C.view hands.new) result }
 {
     hands.cache.fetch(hands.shelf, scene.dir, lump, Tag::Cache)?;
     paint_floor(scene, hands, plane, lump);
@@ -53,15 +48,12 @@ fn paint_floor<S: Shelf, C: Canvas>(
     plane: PlaneNo,
     lump: LumpNo,
 )
-    requires ready { CanDrawPlanes scene.now (plane_state (S.view hands.old.shelf.now)
-        hands.old.cache.now (C.view hands.old.canvas.now)) }
+    requires ready { CanDrawPlanes scene.now (hands_state S.view C.view hands.old) }
     requires plane { plane.0 < length scene.now.planes.now.planes }
     requires flat { (plane_at scene.now.planes.now.planes plane.0).key.flat ≡ Lump lump.0 }
     requires lump { lump.0 < length scene.now.dir.now.lumps }
     requires live { IsLive hands.old.cache.now (lump_owner lump.0) }
-    ensures same_cache { hands.new.cache.ghost_name ≡ hands.old.cache.ghost_name }
-    ensures same_shelf { hands.new.shelf.ghost_name ≡ hands.old.shelf.ghost_name }
-    ensures same_canvas { hands.new.canvas.ghost_name ≡ hands.old.canvas.ghost_name }
+    ensures same { AreSameHands hands.old hands.new }
     ensures cache { hands.new.cache.now ≡ hands.old.cache.now }
     ensures shelf { hands.new.shelf.now ≡ hands.old.shelf.now }
     ensures painted { (view : ShelfView) (contents : List (List ℕ)) (count sky : ℕ) →

@@ -17,7 +17,7 @@ ghost use Rattle.texture_build.specs.Arts.{lookup_source};
 ghost use Rattle.texture_build.specs.Sources.{IsColumnLive, IsColumnThere, column_in, source_of};
 ghost use Rattle.texture_build.specs.Views.{prepared_texture};
 ghost use Rattle.texture_build.specs.Draws.{HoldsArt, FitBeside};
-ghost use Rattle.plane_draw.specs.Scenes.{CanDrawPlanes, PaintsPlanes, plane_art, plane_state, sky_run};
+ghost use Rattle.plane_draw.specs.Scenes.{AreSameHands, CanDrawPlanes, PaintsPlanes, hands_state, plane_art, sky_run};
 
 use crate::scene::{PlaneHands, PlaneScene};
 use art_rules::ColumnLookup;
@@ -120,19 +120,14 @@ pub fn draw_sky<S: Shelf, C: Canvas>(
     hands: &mut PlaneHands<'_, S, C>,
     plane: PlaneNo,
 ) -> Result<(), CacheFault>
-    requires ready { CanDrawPlanes scene.now (plane_state (S.view hands.old.shelf.now)
-        hands.old.cache.now (C.view hands.old.canvas.now)) }
+    requires ready { CanDrawPlanes scene.now (hands_state S.view C.view hands.old) }
     requires plane { plane.0 < length scene.now.planes.now.planes }
     requires flat { (plane_at scene.now.planes.now.planes plane.0).key.flat ≡ Sky }
-    ensures same_cache { hands.new.cache.ghost_name ≡ hands.old.cache.ghost_name }
-    ensures same_shelf { hands.new.shelf.ghost_name ≡ hands.old.shelf.ghost_name }
-    ensures same_canvas { hands.new.canvas.ghost_name ≡ hands.old.canvas.ghost_name }
+    ensures same { AreSameHands hands.old hands.new }
     ensures paints { PaintsPlanes C.mark scene.now
         (λ art sky. plane_dots scene.now.view.now art sky plane.0
         (plane_at scene.now.planes.now.planes plane.0))
-        (plane_state (S.view hands.old.shelf.now) hands.old.cache.now (C.view hands.old.canvas.now))
-        (plane_state (S.view hands.new.shelf.now) hands.new.cache.now (C.view hands.new.canvas.now))
-        result }
+        (hands_state S.view C.view hands.old) (hands_state S.view C.view hands.new) result }
 {
     let Some(tex) = scene.sky else {
         return Ok(());
@@ -151,20 +146,15 @@ fn draw_sky_column<S: Shelf, C: Canvas>(
     tex: TexNo,
     x: u16,
 ) -> Result<(), CacheFault>
-    requires ready { CanDrawPlanes scene.now (plane_state (S.view hands.old.shelf.now)
-        hands.old.cache.now (C.view hands.old.canvas.now)) }
+    requires ready { CanDrawPlanes scene.now (hands_state S.view C.view hands.old) }
     requires plane { plane.0 < length scene.now.planes.now.planes }
     requires sky { scene.now.sky ≡ Some tex }
     requires column { x < scene.now.view.now.shape.width }
-    ensures same_cache { hands.new.cache.ghost_name ≡ hands.old.cache.ghost_name }
-    ensures same_shelf { hands.new.shelf.ghost_name ≡ hands.old.shelf.ghost_name }
-    ensures same_canvas { hands.new.canvas.ghost_name ≡ hands.old.canvas.ghost_name }
+    ensures same { AreSameHands hands.old hands.new }
     ensures paints { PaintsPlanes C.mark scene.now
         (λ art sky. sky_run scene.now.view.now art plane.0 tex.0 x
         (column (plane_at scene.now.planes.now.planes plane.0) x))
-        (plane_state (S.view hands.old.shelf.now) hands.old.cache.now (C.view hands.old.canvas.now))
-        (plane_state (S.view hands.new.shelf.now) hands.new.cache.now (C.view hands.new.canvas.now))
-        result }
+        (hands_state S.view C.view hands.old) (hands_state S.view C.view hands.new) result }
 {
     let Some((first, last)) = scene.planes.column(plane, x) else {
         return Ok(());
@@ -185,21 +175,16 @@ fn draw_sky_rows<S: Shelf, C: Canvas>(
     hands: &mut PlaneHands<'_, S, C>,
     rows: &SkyRows,
 ) -> Result<(), CacheFault>
-    requires ready { CanDrawPlanes scene.now (plane_state (S.view hands.old.shelf.now)
-        hands.old.cache.now (C.view hands.old.canvas.now)) }
+    requires ready { CanDrawPlanes scene.now (hands_state S.view C.view hands.old) }
     requires sky { scene.now.sky ≡ Some rows.now.tex }
     requires column { rows.now.x < scene.now.view.now.shape.width }
     requires rows { rows.now.first ≤ rows.now.last →
         rows.now.last < scene.now.view.now.shape.height }
-    ensures same_cache { hands.new.cache.ghost_name ≡ hands.old.cache.ghost_name }
-    ensures same_shelf { hands.new.shelf.ghost_name ≡ hands.old.shelf.ghost_name }
-    ensures same_canvas { hands.new.canvas.ghost_name ≡ hands.old.canvas.ghost_name }
+    ensures same { AreSameHands hands.old hands.new }
     ensures paints { PaintsPlanes C.mark scene.now
         (λ art sky. sky_run scene.now.view.now art rows.now.number rows.now.tex.0 rows.now.x
         (Some (rows.now.first, rows.now.last)))
-        (plane_state (S.view hands.old.shelf.now) hands.old.cache.now (C.view hands.old.canvas.now))
-        (plane_state (S.view hands.new.shelf.now) hands.new.cache.now (C.view hands.new.canvas.now))
-        result }
+        (hands_state S.view C.view hands.old) (hands_state S.view C.view hands.new) result }
 {
     if rows.last < rows.first {
         return Ok(());
@@ -220,8 +205,7 @@ fn paint_sky<S: Shelf, C: Canvas>(
     rows: &SkyRows,
     lookup: ColumnLookup,
 )
-    requires ready { CanDrawPlanes scene.now (plane_state (S.view hands.old.shelf.now)
-        hands.old.cache.now (C.view hands.old.canvas.now)) }
+    requires ready { CanDrawPlanes scene.now (hands_state S.view C.view hands.old) }
     requires sky { scene.now.sky ≡ Some rows.now.tex }
     requires column { rows.now.x < scene.now.view.now.shape.width }
     requires ordered { rows.now.first ≤ rows.now.last }
@@ -230,9 +214,7 @@ fn paint_sky<S: Shelf, C: Canvas>(
         (sky_column scene.now.view.now rows.now.x) }
     requires there { IsColumnThere scene.now.dir.now.lumps lookup }
     requires live { IsColumnLive rows.now.tex.0 hands.old.cache.now lookup }
-    ensures same_cache { hands.new.cache.ghost_name ≡ hands.old.cache.ghost_name }
-    ensures same_shelf { hands.new.shelf.ghost_name ≡ hands.old.shelf.ghost_name }
-    ensures same_canvas { hands.new.canvas.ghost_name ≡ hands.old.canvas.ghost_name }
+    ensures same { AreSameHands hands.old hands.new }
     ensures cache { hands.new.cache.now ≡ hands.old.cache.now }
     ensures shelf { hands.new.shelf.now ≡ hands.old.shelf.now }
     ensures painted { (view : ShelfView) (contents : List (List ℕ)) (count : ℕ) →

@@ -94,6 +94,18 @@ fn brighter(alloc: Global) -> Result<Vec<u8>, AllocError> {
     Ok(colormap)
 }
 
+// An eye there (map units, 16.16), 41 map units up, that looks this way.
+fn eye_at(x: i32, y: i32, angle: u32) -> Eye {
+    Eye {
+        x,
+        y,
+        z: 41 << 16,
+        angle,
+        extralight: 0,
+        colormap: 0,
+    }
+}
+
 // The floor at height 0 in columns `first` to `last`, from row `top` to row 199.
 fn floor_seen(alloc: Global, eye: Eye, first: u16, last: u16, top: u8) -> Result<Frame, Fail>
     requires last { last < FRAME_WIDTH }
@@ -123,65 +135,39 @@ fn floor_seen(alloc: Global, eye: Eye, first: u16, last: u16, top: u8) -> Result
 }
 
 // The pixel of column `x` and row `y`.
-fn pixel(frame: &Frame, x: usize, y: usize) -> Option<u8>
-    requires x { x < FRAME_WIDTH }
-    requires y { y < FRAME_HEIGHT }
-{
-    frame.bytes().get(320 * y + x).copied()
+fn pixel(frame: &Frame, x: usize, y: usize) -> Option<u8> {
+    let cell = y.wrapping_mul(320).wrapping_add(x);
+    frame.bytes().get(cell).copied()
+}
+
+// The pixels of four columns and rows.
+fn pixels(frame: &Frame, places: [(usize, usize); 4]) -> [Option<u8>; 4] {
+    let [a, b, c, d] = places;
+    [
+        pixel(frame, a.0, a.1),
+        pixel(frame, b.0, b.1),
+        pixel(frame, c.0, c.1),
+        pixel(frame, d.0, d.1),
+    ]
 }
 
 #[test]
 fn a_floor_is_painted_from_its_first_column(rt: HostRuntime) -> Result<(), Fail> {
-    let eye = Eye {
-        x: 0,
-        y: 0,
-        z: 2686976,
-        angle: 0,
-        extralight: 0,
-        colormap: 0,
-    };
-    let frame = floor_seen(rt.alloc(), eye, 0, 319, 126)?;
-    assert_eq!(rt;
-        (pixel(&frame, 0, 199), pixel(&frame, 1, 199)),
-        (Some(170), Some(181))
-    );
-    assert_eq!(rt;
-        (pixel(&frame, 160, 199), pixel(&frame, 319, 199)),
-        (Some(192), Some(22))
-    );
-    assert_eq!(rt;
-        (pixel(&frame, 1, 126), pixel(&frame, 160, 126)),
-        (Some(243), Some(69))
-    );
-    assert_eq!(rt;
-        (pixel(&frame, 100, 150), pixel(&frame, 160, 125)),
-        (Some(173), Some(0))
-    );
+    let frame = floor_seen(rt.alloc(), eye_at(0, 0, 0), 0, 319, 126)?;
+    let lowest = pixels(&frame, [(0, 199), (1, 199), (160, 199), (319, 199)]);
+    assert_eq!(rt; lowest, [Some(170), Some(181), Some(192), Some(22)]);
+    let higher = pixels(&frame, [(1, 126), (160, 126), (100, 150), (160, 125)]);
+    assert_eq!(rt; higher, [Some(243), Some(69), Some(173), Some(0)]);
     Ok(())
 }
 
 #[test]
 fn a_span_begins_where_its_run_begins(rt: HostRuntime) -> Result<(), Fail> {
-    let eye = Eye {
-        x: 1310720,
-        y: -655360,
-        z: 2686976,
-        angle: 286331153,
-        extralight: 0,
-        colormap: 0,
-    };
+    let eye = eye_at(1310720, -655360, 286331153);
     let frame = floor_seen(rt.alloc(), eye, 47, 168, 126)?;
-    assert_eq!(rt;
-        (pixel(&frame, 47, 126), pixel(&frame, 48, 126)),
-        (Some(143), Some(154))
-    );
-    assert_eq!(rt;
-        (pixel(&frame, 107, 126), pixel(&frame, 168, 126)),
-        (Some(174), Some(177))
-    );
-    assert_eq!(rt;
-        (pixel(&frame, 46, 126), pixel(&frame, 169, 126)),
-        (Some(0), Some(0))
-    );
+    let held = pixels(&frame, [(47, 126), (48, 126), (107, 126), (168, 126)]);
+    assert_eq!(rt; held, [Some(143), Some(154), Some(174), Some(177)]);
+    let beside = (pixel(&frame, 46, 126), pixel(&frame, 169, 126));
+    assert_eq!(rt; beside, (Some(0), Some(0)));
     Ok(())
 }

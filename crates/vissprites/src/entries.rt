@@ -3,7 +3,7 @@
 ghost use Rattle.std.specs.Prelude.{◌≡◌, ◌<◌, ◌≤ℤ◌, pos, Some};
 ghost use Rattle.view_rules.specs.declared.TheConstants.{LIGHT_LEVELS};
 ghost use Rattle.picture_rules.specs.sprite.Projection.{project};
-ghost use Rattle.picture_rules.specs.sprite.Entries.{left_edge, right_edge, edge_column, picture_first, picture_last, misses_view, sprite_map, picture_height, entry_of, entry_within, entry_for};
+ghost use Rattle.picture_rules.specs.sprite.Entries.{left_edge, right_edge, edge_column, picture_first, picture_last, misses_view, sprite_map, picture_height, entry_of, entry_for};
 
 use angle_tables::projection;
 use fx_words::{div, fixed, greater_word, lesser_word, minus, mul, plus, shr_word};
@@ -12,7 +12,7 @@ use view_frame::View;
 use word_rules::{FRACTION_BITS, FRACTION_UNIT};
 
 /// The entry of this number of a thing that is seen, None where its picture misses the view.
-#[tactic(auto, unfolding(picture_rules::specs::sprite::Entries::entry_for))]
+#[tactic(auto, unfolding(picture_rules::specs::sprite::Entries::entry_for, picture_rules::specs::sprite::Entries::entry_within))]
 pub fn entry_for(
     view: &View<'_>,
     number: u16,
@@ -26,28 +26,13 @@ pub fn entry_for(
 {
     let first = picture_first(view, seen, shape);
     let last = picture_last(view, seen, shape);
-    entry_within(view, number, thing, seen, shape, first, last)
-}
-
-#[tactic(auto, unfolding(picture_rules::specs::sprite::Entries::entry_within))]
-fn entry_within(
-    view: &View<'_>,
-    number: u16,
-    thing: &Placed,
-    seen: Seen,
-    shape: Shape5,
-    first: i32,
-    last: i32,
-) -> Option<SpriteEntry>
-    requires light { thing.now.light < LIGHT_LEVELS }
-    requires seen { project view.now thing.now ≡ Some seen }
-    ensures { result ≡ entry_within view.now number thing.now seen shape first last }
-{
     if misses_view(view, first, last) {
         return None;
     }
     Some(entry_of(view, number, thing, seen, shape, first, last))
 }
+
+// The entry of a thing whose picture is seen, from column `first` to column `last`.
 
 #[tactic(auto, unfolding(picture_rules::specs::sprite::Entries::entry_of))]
 fn entry_of(

@@ -260,15 +260,7 @@ impl WallState {
         let number = self.notes.len() as u16;
         self.columns
             .draw_columns(tools, number, &fragment, &numbers, places)?;
-        let note = note_of(
-            facts.seg_no,
-            &fragment,
-            &numbers,
-            first,
-            last,
-            places,
-            shape.height,
-        );
+        let note = note_of(facts.seg_no, &fragment, first, last, places, shape.height);
         self.notes.push_reserved(note);
         Ok(())
     }
@@ -321,15 +313,7 @@ impl WallState {
         let places = self.columns.begin(planes, &numbers, first, last)?;
         self.columns
             .count_columns(view, planes, &fragment, &numbers, places);
-        let note = note_of(
-            facts.seg_no,
-            &fragment,
-            &numbers,
-            first,
-            last,
-            places,
-            shape.height,
-        );
+        let note = note_of(facts.seg_no, &fragment, first, last, places, shape.height);
         self.notes.push_reserved(note);
         Ok(())
     }

@@ -1,9 +1,9 @@
 // A fragment: a visible piece of a seg, and what it is drawn with.
 
-ghost use Rattle.std.specs.Prelude.{◌≡◌, ℕ, ◌-◌, ◌<◌, ◌≤◌};
 ghost use Rattle.picture_rules.specs.declared.wall.WallFacts.{WallFacts};
-ghost use Rattle.picture_rules.specs.wall.Edges.{edges_at};
 ghost use Rattle.picture_rules.specs.wall.Columns.{texture_column};
+ghost use Rattle.picture_rules.specs.wall.Edges.{edges_at};
+ghost use Rattle.std.specs.Prelude.{◌≡◌, ℕ, ◌-◌, ◌<◌, ◌≤◌};
 ghost use Rattle.wall_edges.specs.Fragments.{fragment_of};
 
 use crate::columns::texture_column;

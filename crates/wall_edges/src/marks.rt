@@ -2,7 +2,7 @@
 
 ghost use Rattle.std.specs.Prelude.{◌≡◌};
 ghost use Rattle.walk_rules.specs.Segs.{is_closed};
-ghost use Rattle.picture_rules.specs.wall.Marks.{floors_differ, ceilings_differ, floor_shows, ceiling_shows, floor_mark, ceiling_mark};
+ghost use Rattle.picture_rules.specs.wall.Marks.{floors_differ, ceilings_differ, floor_mark, ceiling_mark};
 
 use crate::heights::{is_sky, world_bottom, world_high, world_low, world_top};
 use crate::silhouettes::{shuts_bottom, shuts_top};
@@ -34,41 +34,30 @@ fn ceilings_differ(eye_z: i32, front: Surface, back: Surface) -> bool
         || front.light != back.light
 }
 
-#[tactic(auto, unfolding(picture_rules::specs::wall::Marks::floor_shows))]
-fn floor_shows(eye_z: i32, front: Surface, back: Option<Surface>) -> bool
-    ensures { result ≡ floor_shows eye_z front back }
+/// Whether rows of the floor are marked: not where it is at or above the viewpoint.
+#[tactic(auto, unfolding(picture_rules::specs::wall::Marks::floor_mark, picture_rules::specs::wall::Marks::floor_shows))]
+pub fn floor_mark(eye_z: i32, front: Surface, back: Option<Surface>) -> bool
+    ensures { result ≡ floor_mark eye_z front back }
 {
+    if eye_z <= front.floor {
+        return false;
+    }
     match back {
         Some(back) => is_closed(front, back) || floors_differ(eye_z, front, back),
         None => true,
     }
 }
 
-#[tactic(auto, unfolding(picture_rules::specs::wall::Marks::ceiling_shows))]
-fn ceiling_shows(eye_z: i32, front: Surface, back: Option<Surface>) -> bool
-    ensures { result ≡ ceiling_shows eye_z front back }
-{
-    match back {
-        Some(back) => is_closed(front, back) || ceilings_differ(eye_z, front, back),
-        None => true,
-    }
-}
-
-/// Whether rows of the floor are marked: not where it is at or above the viewpoint.
-#[tactic(auto, unfolding(picture_rules::specs::wall::Marks::floor_mark))]
-pub fn floor_mark(eye_z: i32, front: Surface, back: Option<Surface>) -> bool
-    ensures { result ≡ floor_mark eye_z front back }
-{
-    front.floor < eye_z && floor_shows(eye_z, front, back)
-}
-
 /// Whether rows of the ceiling are marked: at or below the viewpoint only where it is sky.
-#[tactic(auto, unfolding(picture_rules::specs::wall::Marks::ceiling_mark))]
+#[tactic(auto, unfolding(picture_rules::specs::wall::Marks::ceiling_mark, picture_rules::specs::wall::Marks::ceiling_shows))]
 pub fn ceiling_mark(eye_z: i32, front: Surface, back: Option<Surface>) -> bool
     ensures { result ≡ ceiling_mark eye_z front back }
 {
     if front.ceiling <= eye_z && !is_sky(front.ceiling_flat) {
         return false;
     }
-    ceiling_shows(eye_z, front, back)
+    match back {
+        Some(back) => is_closed(front, back) || ceilings_differ(eye_z, front, back),
+        None => true,
+    }
 }

@@ -39,9 +39,9 @@ draw_floors-requires-clause-drawable g c =
     let v = c.args.tools.now.view.now in
     let s = c.args.tools.now.scene.now.scene in
     let dir = c.args.tools.now.dir.now in
-    let view1 = ap (λ (r : Bor ViewValue). r.now) c.in_ok-draw_walls.ensures.same_view in
-    let scene1 = ap (λ (r : Bor SoundValue). r.now.scene) c.in_ok-draw_walls.ensures.same_scene in
-    let dir1 = ap (λ (r : Bor DirectoryView). r.now) c.in_ok-draw_walls.ensures.same_dir in
+    let view1 = ap (λ (r : Bor ViewValue). r.now) c.in_ok-draw_walls.ensures.same.0.1.0 in
+    let scene1 = ap (λ (r : Bor SoundValue). r.now.scene) c.in_ok-draw_walls.ensures.same.0.0 in
+    let dir1 = ap (λ (r : Bor DirectoryView). r.now) c.in_ok-draw_walls.ensures.same.0.1.1 in
     drawable-at dir c.draw_walls.new.tools.dir.now s c.draw_walls.new.tools.scene.now.scene c.draw_walls.new.tools.cache.now dir1 scene1
     (can_draw_view-later dir.lumps s c.args.tools.now.cache.now c.draw_walls.new.tools.cache.now c.in_ok-draw_walls.ensures.paints.draws.keeps.counts c.requires.drawable)
 
@@ -52,9 +52,9 @@ draw_floors-requires-clause-placed g c =
     let dir = c.args.tools.now.dir.now in
     let canvas = g.C.Canvas.view c.args.tools.now.canvas.now in
     let placed = g.C.Canvas.view c.place.new.self in
-    let view1 = ap (λ (r : Bor ViewValue). r.now) c.in_ok-draw_walls.ensures.same_view in
-    let scene1 = ap (λ (r : Bor SoundValue). r.now.scene) c.in_ok-draw_walls.ensures.same_scene in
-    let dir1 = ap (λ (r : Bor DirectoryView). r.now) c.in_ok-draw_walls.ensures.same_dir in
+    let view1 = ap (λ (r : Bor ViewValue). r.now) c.in_ok-draw_walls.ensures.same.0.1.0 in
+    let scene1 = ap (λ (r : Bor SoundValue). r.now.scene) c.in_ok-draw_walls.ensures.same.0.0 in
+    let dir1 = ap (λ (r : Bor DirectoryView). r.now) c.in_ok-draw_walls.ensures.same.0.1.1 in
     subst (λ (w : ViewValue). IsPlacedIn w (g.C.Canvas.view c.draw_walls.new.tools.canvas.now)) (sym view1)
     (placed-later v placed (g.C.Canvas.view c.draw_walls.new.tools.canvas.now) c.in_ok-draw_walls.ensures.paints.place (placed-frame v c.shape-shape.result canvas placed c.shape-shape.ensures.value c.shape-shape.ensures.frame c.place.ensures))
 
@@ -63,9 +63,9 @@ draw_floors-requires-clause-walked g c =
     let v = c.args.tools.now.view.now in
     let s = c.args.tools.now.scene.now.scene in
     let dir = c.args.tools.now.dir.now in
-    let view1 = ap (λ (r : Bor ViewValue). r.now) c.in_ok-draw_walls.ensures.same_view in
-    let scene1 = ap (λ (r : Bor SoundValue). r.now.scene) c.in_ok-draw_walls.ensures.same_scene in
-    let dir1 = ap (λ (r : Bor DirectoryView). r.now) c.in_ok-draw_walls.ensures.same_dir in
+    let view1 = ap (λ (r : Bor ViewValue). r.now) c.in_ok-draw_walls.ensures.same.0.1.0 in
+    let scene1 = ap (λ (r : Bor SoundValue). r.now.scene) c.in_ok-draw_walls.ensures.same.0.0 in
+    let dir1 = ap (λ (r : Bor DirectoryView). r.now) c.in_ok-draw_walls.ensures.same.0.1.1 in
     walked-at v c.draw_walls.new.tools.view.now s c.draw_walls.new.tools.scene.now.scene c.draw_walls.new.bench view1 scene1 c.in_ok-draw_walls.ensures.walked
 
 pub draw_masks-requires-clause-drawable : goal.draw_masks-requires-clause-drawable
@@ -73,12 +73,12 @@ draw_masks-requires-clause-drawable g c =
     let v = c.args.tools.now.view.now in
     let s = c.args.tools.now.scene.now.scene in
     let dir = c.args.tools.now.dir.now in
-    let view1 = ap (λ (r : Bor ViewValue). r.now) c.in_ok-draw_walls.ensures.same_view in
-    let scene1 = ap (λ (r : Bor SoundValue). r.now.scene) c.in_ok-draw_walls.ensures.same_scene in
-    let dir1 = ap (λ (r : Bor DirectoryView). r.now) c.in_ok-draw_walls.ensures.same_dir in
-    let view2 = ap (λ (r : Bor ViewValue). r.now) c.in_ok-draw_floors.ensures.same_view ∙ view1 in
-    let scene2 = ap (λ (r : Bor SoundValue). r.now.scene) c.in_ok-draw_floors.ensures.same_scene ∙ scene1 in
-    let dir2 = ap (λ (r : Bor DirectoryView). r.now) c.in_ok-draw_floors.ensures.same_dir ∙ dir1 in
+    let view1 = ap (λ (r : Bor ViewValue). r.now) c.in_ok-draw_walls.ensures.same.0.1.0 in
+    let scene1 = ap (λ (r : Bor SoundValue). r.now.scene) c.in_ok-draw_walls.ensures.same.0.0 in
+    let dir1 = ap (λ (r : Bor DirectoryView). r.now) c.in_ok-draw_walls.ensures.same.0.1.1 in
+    let view2 = ap (λ (r : Bor ViewValue). r.now) c.in_ok-draw_floors.ensures.same.0.1.0 ∙ view1 in
+    let scene2 = ap (λ (r : Bor SoundValue). r.now.scene) c.in_ok-draw_floors.ensures.same.0.0 ∙ scene1 in
+    let dir2 = ap (λ (r : Bor DirectoryView). r.now) c.in_ok-draw_floors.ensures.same.0.1.1 ∙ dir1 in
     drawable-at dir c.draw_floors.new.tools.dir.now s c.draw_floors.new.tools.scene.now.scene c.draw_floors.new.tools.cache.now dir2 scene2
     (can_draw_view-later dir.lumps s c.draw_walls.new.tools.cache.now c.draw_floors.new.tools.cache.now c.in_ok-draw_floors.ensures.paints.draws.keeps.counts
     (can_draw_view-later dir.lumps s c.args.tools.now.cache.now c.draw_walls.new.tools.cache.now c.in_ok-draw_walls.ensures.paints.draws.keeps.counts c.requires.drawable))
@@ -90,12 +90,12 @@ draw_masks-requires-clause-placed g c =
     let dir = c.args.tools.now.dir.now in
     let canvas = g.C.Canvas.view c.args.tools.now.canvas.now in
     let placed = g.C.Canvas.view c.place.new.self in
-    let view1 = ap (λ (r : Bor ViewValue). r.now) c.in_ok-draw_walls.ensures.same_view in
-    let scene1 = ap (λ (r : Bor SoundValue). r.now.scene) c.in_ok-draw_walls.ensures.same_scene in
-    let dir1 = ap (λ (r : Bor DirectoryView). r.now) c.in_ok-draw_walls.ensures.same_dir in
-    let view2 = ap (λ (r : Bor ViewValue). r.now) c.in_ok-draw_floors.ensures.same_view ∙ view1 in
-    let scene2 = ap (λ (r : Bor SoundValue). r.now.scene) c.in_ok-draw_floors.ensures.same_scene ∙ scene1 in
-    let dir2 = ap (λ (r : Bor DirectoryView). r.now) c.in_ok-draw_floors.ensures.same_dir ∙ dir1 in
+    let view1 = ap (λ (r : Bor ViewValue). r.now) c.in_ok-draw_walls.ensures.same.0.1.0 in
+    let scene1 = ap (λ (r : Bor SoundValue). r.now.scene) c.in_ok-draw_walls.ensures.same.0.0 in
+    let dir1 = ap (λ (r : Bor DirectoryView). r.now) c.in_ok-draw_walls.ensures.same.0.1.1 in
+    let view2 = ap (λ (r : Bor ViewValue). r.now) c.in_ok-draw_floors.ensures.same.0.1.0 ∙ view1 in
+    let scene2 = ap (λ (r : Bor SoundValue). r.now.scene) c.in_ok-draw_floors.ensures.same.0.0 ∙ scene1 in
+    let dir2 = ap (λ (r : Bor DirectoryView). r.now) c.in_ok-draw_floors.ensures.same.0.1.1 ∙ dir1 in
     subst (λ (w : ViewValue). IsPlacedIn w (g.C.Canvas.view c.draw_floors.new.tools.canvas.now)) (sym view2)
     (placed-later v (g.C.Canvas.view c.draw_walls.new.tools.canvas.now) (g.C.Canvas.view c.draw_floors.new.tools.canvas.now) c.in_ok-draw_floors.ensures.paints.place
     (placed-later v placed (g.C.Canvas.view c.draw_walls.new.tools.canvas.now) c.in_ok-draw_walls.ensures.paints.place (placed-frame v c.shape-shape.result canvas placed c.shape-shape.ensures.value c.shape-shape.ensures.frame c.place.ensures)))
@@ -105,12 +105,12 @@ draw_masks-requires-clause-walked g c =
     let v = c.args.tools.now.view.now in
     let s = c.args.tools.now.scene.now.scene in
     let dir = c.args.tools.now.dir.now in
-    let view1 = ap (λ (r : Bor ViewValue). r.now) c.in_ok-draw_walls.ensures.same_view in
-    let scene1 = ap (λ (r : Bor SoundValue). r.now.scene) c.in_ok-draw_walls.ensures.same_scene in
-    let dir1 = ap (λ (r : Bor DirectoryView). r.now) c.in_ok-draw_walls.ensures.same_dir in
-    let view2 = ap (λ (r : Bor ViewValue). r.now) c.in_ok-draw_floors.ensures.same_view ∙ view1 in
-    let scene2 = ap (λ (r : Bor SoundValue). r.now.scene) c.in_ok-draw_floors.ensures.same_scene ∙ scene1 in
-    let dir2 = ap (λ (r : Bor DirectoryView). r.now) c.in_ok-draw_floors.ensures.same_dir ∙ dir1 in
+    let view1 = ap (λ (r : Bor ViewValue). r.now) c.in_ok-draw_walls.ensures.same.0.1.0 in
+    let scene1 = ap (λ (r : Bor SoundValue). r.now.scene) c.in_ok-draw_walls.ensures.same.0.0 in
+    let dir1 = ap (λ (r : Bor DirectoryView). r.now) c.in_ok-draw_walls.ensures.same.0.1.1 in
+    let view2 = ap (λ (r : Bor ViewValue). r.now) c.in_ok-draw_floors.ensures.same.0.1.0 ∙ view1 in
+    let scene2 = ap (λ (r : Bor SoundValue). r.now.scene) c.in_ok-draw_floors.ensures.same.0.0 ∙ scene1 in
+    let dir2 = ap (λ (r : Bor DirectoryView). r.now) c.in_ok-draw_floors.ensures.same.0.1.1 ∙ dir1 in
     walked-at v c.draw_floors.new.tools.view.now s c.draw_floors.new.tools.scene.now.scene c.draw_walls.new.bench view2 scene2 c.in_ok-draw_walls.ensures.walked
 
 pub draw_masks-requires-clause-marks : goal.draw_masks-requires-clause-marks
@@ -149,9 +149,9 @@ returns-in_err-draw_floors-clause-paints g c =
     let dir = c.args.tools.now.dir.now in
     let canvas = g.C.Canvas.view c.args.tools.now.canvas.now in
     let placed = g.C.Canvas.view c.place.new.self in
-    let view1 = ap (λ (r : Bor ViewValue). r.now) c.in_ok-draw_walls.ensures.same_view in
-    let scene1 = ap (λ (r : Bor SoundValue). r.now.scene) c.in_ok-draw_walls.ensures.same_scene in
-    let dir1 = ap (λ (r : Bor DirectoryView). r.now) c.in_ok-draw_walls.ensures.same_dir in
+    let view1 = ap (λ (r : Bor ViewValue). r.now) c.in_ok-draw_walls.ensures.same.0.1.0 in
+    let scene1 = ap (λ (r : Bor SoundValue). r.now.scene) c.in_ok-draw_walls.ensures.same.0.0 in
+    let dir1 = ap (λ (r : Bor DirectoryView). r.now) c.in_ok-draw_walls.ensures.same.0.1.1 in
     paints-placed v c.shape-shape.result canvas placed c.shape-shape.ensures.value c.place.ensures
     (paints-then_stop {h = view_paints v} c.in_err-draw_floors.was c.from_residual-in_err-draw_floors.ensures.1 c.in_ok-draw_walls.ensures.paints
     (floors-at v c.draw_walls.new.tools.view.now s c.draw_walls.new.tools.scene.now.scene dir c.draw_walls.new.tools.dir.now view1 scene1 dir1 c.draw_floors.ensures.paints))
@@ -177,12 +177,12 @@ returns-clause-paints g c =
     let dir = c.args.tools.now.dir.now in
     let canvas = g.C.Canvas.view c.args.tools.now.canvas.now in
     let placed = g.C.Canvas.view c.place.new.self in
-    let view1 = ap (λ (r : Bor ViewValue). r.now) c.in_ok-draw_walls.ensures.same_view in
-    let scene1 = ap (λ (r : Bor SoundValue). r.now.scene) c.in_ok-draw_walls.ensures.same_scene in
-    let dir1 = ap (λ (r : Bor DirectoryView). r.now) c.in_ok-draw_walls.ensures.same_dir in
-    let view2 = ap (λ (r : Bor ViewValue). r.now) c.in_ok-draw_floors.ensures.same_view ∙ view1 in
-    let scene2 = ap (λ (r : Bor SoundValue). r.now.scene) c.in_ok-draw_floors.ensures.same_scene ∙ scene1 in
-    let dir2 = ap (λ (r : Bor DirectoryView). r.now) c.in_ok-draw_floors.ensures.same_dir ∙ dir1 in
+    let view1 = ap (λ (r : Bor ViewValue). r.now) c.in_ok-draw_walls.ensures.same.0.1.0 in
+    let scene1 = ap (λ (r : Bor SoundValue). r.now.scene) c.in_ok-draw_walls.ensures.same.0.0 in
+    let dir1 = ap (λ (r : Bor DirectoryView). r.now) c.in_ok-draw_walls.ensures.same.0.1.1 in
+    let view2 = ap (λ (r : Bor ViewValue). r.now) c.in_ok-draw_floors.ensures.same.0.1.0 ∙ view1 in
+    let scene2 = ap (λ (r : Bor SoundValue). r.now.scene) c.in_ok-draw_floors.ensures.same.0.0 ∙ scene1 in
+    let dir2 = ap (λ (r : Bor DirectoryView). r.now) c.in_ok-draw_floors.ensures.same.0.1.1 ∙ dir1 in
     paints-placed v c.shape-shape.result canvas placed c.shape-shape.ensures.value c.place.ensures
     (parts-paint c.in_ok-draw_walls.ensures.paints
     (floors-at v c.draw_walls.new.tools.view.now s c.draw_walls.new.tools.scene.now.scene dir c.draw_walls.new.tools.dir.now view1 scene1 dir1 c.in_ok-draw_floors.ensures.paints)

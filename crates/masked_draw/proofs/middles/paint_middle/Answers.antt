@@ -34,8 +34,8 @@ loop-x-init g c =
       same_canvas = refl;
       same_marks = refl;
       marks = refl;
-      ready = c.requires.ready;
-      listed = c.requires.listed;
+      ready = c.requires.note.paint;
+      listed = c.requires.note.listed;
       marked = marks-start c.args.note.now c.args.first c.args.hands.now.marks.now;
       paints = paints-same _ (λ art. sym (unmarked-start s.view.now art c.args.hands.now.marks.now c.args.note.now c.args.first c.args.number (scene_drawseg s c.args.note.now))) (paints-none _ _);
     }
@@ -52,10 +52,10 @@ loop-x-preserved g c =
     let e = c.in_ok-paint_unmarked.ensures in
     let masked = c.middle_of-middle.ensures.middle.place in
     record {
-      same_cache = e.same_cache ∙ i.same_cache;
-      same_shelf = e.same_shelf ∙ i.same_shelf;
-      same_canvas = e.same_canvas ∙ i.same_canvas;
-      same_marks = e.same_marks ∙ i.same_marks;
+      same_cache = e.same.0 ∙ i.same_cache;
+      same_shelf = e.same.1.0 ∙ i.same_shelf;
+      same_canvas = e.same.1.1.0 ∙ i.same_canvas;
+      same_marks = e.same.1.1.1 ∙ i.same_marks;
       marks = e.marks ∙ i.marks;
       ready = can_paint-later e.paints i.ready;
       listed = listed_note-later e.paints i.listed;

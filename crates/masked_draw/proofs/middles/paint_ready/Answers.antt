@@ -20,7 +20,7 @@ posts_place-place-requires-clause-single g c =
     single-column (prepared_texture c.args.scene.now.textures.now c.args.middle.tex.0) _
     (subst (λ (n : ℕ). IsSingle (prepared_texture c.args.scene.now.textures.now n))
     (sym c.requires.middle.tex)
-    (middle-draw c.args.scene.now c.args.note.now c.args.middle c.requires.middle c.requires.listed).single)
+    (middle-draw c.args.scene.now c.args.note.now c.args.middle c.requires.middle c.requires.note.listed).single)
 
 pub scale_map-map-requires-clause-light : goal.scale_map-map-requires-clause-light
 scale_map-map-requires-clause-light g c =
@@ -73,7 +73,7 @@ returns-in-Some-clause-painted g c = λ view contents count hold.
     (lent_lump contents s.dir.now.lumps c.args.hands.now.cache.now c.posts_place-place.result.0.0
     c.in-Some.art.bytes.now hold.files.faithful there c.in-Some.ensures.bytes)
     (lent_lump contents s.dir.now.lumps c.args.hands.now.cache.now s.colormap.0
-    c.in-Some.art.colormap.now hold.files.faithful c.requires.ready.colormap
+    c.in-Some.art.colormap.now hold.files.faithful c.requires.note.paint.colormap
     c.in-Some.ensures.colormap)
     (c.in-Some.ensures.map ∙ map) c.requires.middle.light from
 
@@ -119,7 +119,7 @@ returns-in_default-clause-painted g c = λ view contents count hold.
     subst (IsColumnThere s.dir.now.lumps) single c.requires.there in
     let live : IsLive c.args.hands.now.cache.now (lump_owner c.posts_place-place.result.0.0) =
     subst (IsColumnLive c.args.middle.tex.0 c.args.hands.now.cache.now) single c.requires.live in
-    art-lent _ c.posts_place-place.result.0.0 c.lend_art.result hold c.requires.ready.colormap live
+    art-lent _ c.posts_place-place.result.0.0 c.lend_art.result hold c.requires.note.paint.colormap live
     c.in_default.is c.lend_art.ensures.live
 
 pub returns-in_default-clause-fits : goal.returns-in_default-clause-fits
@@ -138,5 +138,5 @@ returns-in_default-clause-fits g c = λ view contents count hold.
     subst (IsColumnThere s.dir.now.lumps) single c.requires.there in
     let live : IsLive c.args.hands.now.cache.now (lump_owner c.posts_place-place.result.0.0) =
     subst (IsColumnLive c.args.middle.tex.0 c.args.hands.now.cache.now) single c.requires.live in
-    art-lent _ c.posts_place-place.result.0.0 c.lend_art.result hold c.requires.ready.colormap live
+    art-lent _ c.posts_place-place.result.0.0 c.lend_art.result hold c.requires.note.paint.colormap live
     c.in_default.is c.lend_art.ensures.live

@@ -43,10 +43,10 @@ loop-entry-preserved g c =
     let e = c.in_ok-draw_sprite.ensures in
     let sprite = e.sprite es (length c.loop-entry.yielded) t.0 (sprite-get es (length c.loop-entry.yielded) c.in-Some.entry t) i.marked in
     record {
-      same_cache = e.same_cache ∙ i.same_cache;
-      same_shelf = e.same_shelf ∙ i.same_shelf;
-      same_canvas = e.same_canvas ∙ i.same_canvas;
-      same_marks = e.same_marks ∙ i.same_marks;
+      same_cache = e.same.0 ∙ i.same_cache;
+      same_shelf = e.same.1.0 ∙ i.same_shelf;
+      same_canvas = e.same.1.1.0 ∙ i.same_canvas;
+      same_marks = e.same.1.1.1 ∙ i.same_marks;
       marks = e.marks ∙ i.marks;
       ready = can_pass-later _ _ sprite.paints e.marks i.ready;
       marked = subst (λ (n : ℕ). MarkedTo (scene_drawseg s) c.args.notes.now es (length c.args.notes.now) (λ k. n) c.draw_sprite.new.hands.marks.now) (sym (length_push c.loop-entry.yielded c.in-Some.entry)) sprite.marked;

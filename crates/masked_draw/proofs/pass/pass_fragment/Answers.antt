@@ -21,19 +21,19 @@ use Rattle.masked_draw.proofs.pass.pass_fragment.Goals as goal
 pub column_of-first-requires-clause-least : goal.column_of-first-requires-clause-least
 column_of-first-requires-clause-least g c =
     let e = c.args.entry.now in
-    let n = entry-numbers e c.args.scene.now.view.now.shape.width (omega (arith, c.requires.ready.left)) c.requires.within c.requires.ordered in
+    let n = entry-numbers e c.args.scene.now.view.now.shape.width (omega (arith, c.requires.note.paint.left)) c.requires.within c.requires.ordered in
     subst (λ (z : ℤ). pos 0 ≤ℤ z) (sym (to_z-of_z w32 e.first (search rules))) n.first_least
 
 pub column_of-first-requires-clause-greatest : goal.column_of-first-requires-clause-greatest
 column_of-first-requires-clause-greatest g c =
     let e = c.args.entry.now in
-    let n = entry-numbers e c.args.scene.now.view.now.shape.width (omega (arith, c.requires.ready.left)) c.requires.within c.requires.ordered in
+    let n = entry-numbers e c.args.scene.now.view.now.shape.width (omega (arith, c.requires.note.paint.left)) c.requires.within c.requires.ordered in
     subst (λ (z : ℤ). z <ℤ pos (2 ^ 16)) (sym (to_z-of_z w32 e.first (search rules))) n.first_greatest
 
 pub column_of-last-requires-clause-greatest : goal.column_of-last-requires-clause-greatest
 column_of-last-requires-clause-greatest g c =
     let e = c.args.entry.now in
-    let n = entry-numbers e c.args.scene.now.view.now.shape.width (omega (arith, c.requires.ready.left)) c.requires.within c.requires.ordered in
+    let n = entry-numbers e c.args.scene.now.view.now.shape.width (omega (arith, c.requires.note.paint.left)) c.requires.within c.requires.ordered in
     subst (λ (z : ℤ). z <ℤ pos (2 ^ 16)) (sym (to_z-of_z w32 e.last (search rules))) n.last_greatest
 
 pub returns-then-not-counts-clause-marked : goal.returns-then-not-counts-clause-marked
@@ -78,14 +78,14 @@ paint_middle-requires-clause-ordered g c =
     let e = c.args.entry.now in
     let f = sym (to_z-of_z w32 e.first (search rules)) ∙ c.column_of-first.ensures in
     let l = sym (to_z-of_z w32 e.last (search rules)) ∙ c.column_of-last.ensures in
-    columns_ordered e c.args.note.now _ _ _ _ f l c.requires.ordered c.requires.whole.ordered (c.counts.ensures.yes c.if-not-counts.false) c.max-from.ensures c.min-to.ensures
+    columns_ordered e c.args.note.now _ _ _ _ f l c.requires.ordered c.requires.note.whole.ordered (c.counts.ensures.yes c.if-not-counts.false) c.max-from.ensures c.min-to.ensures
 
 pub take-requires-clause-ordered : goal.take-requires-clause-ordered
 take-requires-clause-ordered g c =
     let e = c.args.entry.now in
     let f = sym (to_z-of_z w32 e.first (search rules)) ∙ c.column_of-first.ensures in
     let l = sym (to_z-of_z w32 e.last (search rules)) ∙ c.column_of-last.ensures in
-    columns_ordered e c.args.note.now _ _ _ _ f l c.requires.ordered c.requires.whole.ordered (c.counts.ensures.yes c.if-not-counts.false) c.max-from.ensures c.min-to.ensures
+    columns_ordered e c.args.note.now _ _ _ _ f l c.requires.ordered c.requires.note.whole.ordered (c.counts.ensures.yes c.if-not-counts.false) c.max-from.ensures c.min-to.ensures
 
 marks_behind : (e : SpriteEntry) (d : FragmentNote) (seg : Drawseg) (first last from to : ℕ) (old new : List Bool) → from ≡ max first d.first → to ≡ min last d.last → e.first ≡ pos first → e.last ≡ pos last → is_behind seg e ≡ true →
     MarksBy d (is_between from to) old new → MarksBy d (is_passed e seg) old new

@@ -1,7 +1,7 @@
 -- One fragment after the other, from the last down.
 use Rattle.std.proofs.Common.{◌≡◌, ◌+◌, ◌-◌, ◌<◌, length, refl, ◌∙◌, arith}
 use Rattle.masked_draw.proofs.LoopLemmas.{clips-end, clips-more, clips-start, note-get, passes-end, passes-more, passes-start, passes-stop}
-use Rattle.masked_draw.proofs.SceneLemmas.{can_pass-later, scene-apart, scene-whole}
+use Rattle.masked_draw.proofs.SceneLemmas.{can_pass-later, can_pass-note, scene-apart, scene-whole}
 use Rattle.masked_draw.proofs.pass.pass_fragments.Goals as goal
 
 pub loop-k-init : goal.loop-k-init
@@ -16,8 +16,10 @@ loop-k-init g c = record {
   passes = λ es i l e h. passes-start c.args.scene.now c.args.notes.now es g.C.Canvas.mark i _ _ h;
 }
 
-pub pass_fragment-requires-clause-whole : goal.pass_fragment-requires-clause-whole
-pass_fragment-requires-clause-whole g c = scene-whole (c.loop-k.k - 1) _ c.requires.ready.noted (note-get c.args.notes.now (c.loop-k.k - 1) _ (omega arith))
+pub pass_fragment-requires-clause-note : goal.pass_fragment-requires-clause-note
+pass_fragment-requires-clause-note g c =
+    let below : c.loop-k.k - 1 < length c.args.notes.now = omega arith in
+    can_pass-note (c.loop-k.k - 1) _ c.loop-k.invariant.ready (note-get c.args.notes.now (c.loop-k.k - 1) _ below) below
 
 pub loop-k-preserved : goal.loop-k-preserved
 loop-k-preserved g c =
@@ -26,10 +28,10 @@ loop-k-preserved g c =
     let up : c.loop-k.k ≡ c.loop-k.k - 1 + 1 = omega arith in
     let below : c.loop-k.k - 1 < length c.args.notes.now = omega arith in
     record {
-      same_cache = e.same_cache ∙ i.same_cache;
-      same_shelf = e.same_shelf ∙ i.same_shelf;
-      same_canvas = e.same_canvas ∙ i.same_canvas;
-      same_marks = e.same_marks ∙ i.same_marks;
+      same_cache = e.same.0 ∙ i.same_cache;
+      same_shelf = e.same.1.0 ∙ i.same_shelf;
+      same_canvas = e.same.1.1.0 ∙ i.same_canvas;
+      same_marks = e.same.1.1.1 ∙ i.same_marks;
       marks = e.marks ∙ i.marks;
       ready = can_pass-later _ _ e.paints e.marks i.ready;
       clips = clips-more c.args.scene.now c.args.notes.now c.args.entry.now c.loop-k.k (c.loop-k.k - 1) _ _ _ (scene-whole (c.loop-k.k - 1) _ i.ready.noted (note-get c.args.notes.now (c.loop-k.k - 1) _ below))

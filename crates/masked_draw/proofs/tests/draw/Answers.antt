@@ -13,7 +13,7 @@ use Rattle.texture_build.specs.Views.{TexturesView, prepared_texture}
 use Rattle.texture_build.specs.Draws.{CanDraw}
 use Rattle.masked_draw.specs.Lists.{MaskedLists, lists_of, note_seg, middle_by}
 use Rattle.masked_draw.specs.Ready.{IsListed, IsSingle}
-use Rattle.masked_draw.specs.declared.tests.TheConstants.{SEG}
+use Rattle.masked_draw.specs.declared.tests.seen.TheConstants.{SEG}
 use Rattle.masked_draw.proofs.tests.draw.Goals as goal
 
 -- a note of seg 0, which is the one seg, with one sector on both sides

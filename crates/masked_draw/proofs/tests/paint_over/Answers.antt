@@ -3,7 +3,7 @@ use Rattle.std.proofs.Common.{◌≡◌, ◌<◌, List, ap, sym, subst, arith}
 use Rattle.view_rules.specs.declared.ViewShape.{ViewShape}
 use Rattle.picture_rules.specs.declared.wall.FragmentNote.{FragmentNote}
 use Rattle.picture_rules.specs.Noted.{AreNoted}
-use Rattle.masked_draw.specs.declared.tests.TheConstants.{LAST}
+use Rattle.masked_draw.specs.declared.tests.seen.TheConstants.{LAST}
 use Rattle.masked_draw.proofs.tests.paint_over.Goals as goal
 
 pub paint_seen-requires-clause-noted : goal.paint_seen-requires-clause-noted

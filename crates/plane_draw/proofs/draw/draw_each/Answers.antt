@@ -26,9 +26,9 @@ loop-number-preserved g c =
     let i = c.loop-number.invariant in
     let e = c.in_ok-draw_one.ensures in
     record {
-      same_cache = e.same_cache ∙ i.same_cache;
-      same_shelf = e.same_shelf ∙ i.same_shelf;
-      same_canvas = e.same_canvas ∙ i.same_canvas;
+      same_cache = e.same.0 ∙ i.same_cache;
+      same_shelf = e.same.1.0 ∙ i.same_shelf;
+      same_canvas = e.same.1.1 ∙ i.same_canvas;
       ready = can_draw_planes-later e.paints i.ready;
       paints = paints-same _ (λ art sky is. planes-more s.view.now art sky s.planes.now.planes c.loop-number.number) (paints-then i.paints e.paints);
     }

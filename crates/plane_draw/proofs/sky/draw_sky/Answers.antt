@@ -29,9 +29,9 @@ loop-x-preserved g c =
     let i = c.loop-x.invariant in
     let e = c.in_ok-draw_sky_column.ensures in
     record {
-      same_cache = e.same_cache ∙ i.same_cache;
-      same_shelf = e.same_shelf ∙ i.same_shelf;
-      same_canvas = e.same_canvas ∙ i.same_canvas;
+      same_cache = e.same.0 ∙ i.same_cache;
+      same_shelf = e.same.1.0 ∙ i.same_shelf;
+      same_canvas = e.same.1.1 ∙ i.same_canvas;
       ready = can_draw_planes-later e.paints i.ready;
       paints = paints-same _ (λ art sky is. columns-more s.view.now art c.args.plane.0 c.in-Some.tex.0 (plane_at s.planes.now.planes c.args.plane.0) c.loop-x.x) (paints-then i.paints e.paints);
     }

@@ -1,20 +1,21 @@
 -- A note is made of its parts.
-use Rattle.std.proofs.Common.{rules, arith, ◌≡◌, ◌∙◌, ap, sym, refl, to_z, w32}
+use Rattle.std.proofs.Common.{rules, arith, ◌≡◌, ◌∙◌, ◌+◌, ◌-◌, ap, sym, refl, to_z, w32}
 use Rattle.std.proofs.lemmas.Int.{to_z-of_z, ints}
 use Rattle.word_rules.specs.Words.{minus_one}
 use Rattle.picture_rules.specs.declared.wall.FragmentNumbers.{FragmentNumbers}
 use Rattle.picture_rules.specs.wall.Notes.{silhouette_of}
 use Rattle.picture_rules.specs.wall.Numbers.{fragment_numbers}
 use Rattle.wall_edges.specs.Fragments.{FragmentValue}
+use Rattle.wall_columns.specs.Places.{places_of}
 use Rattle.wall_columns.proofs.NoteLemmas.{note_of-parts}
 use Rattle.wall_columns.proofs.notes.note_of.Goals as goal
 
 pub returns : goal.returns
-returns c = λ v facts place is_of numbers seg height places.
-    let n : FragmentNumbers = c.args.numbers.now in
-    let e : n ≡ fragment_numbers v facts c.args.first c.args.last = numbers ∙ ap (λ (f : FragmentValue). f.numbers) is_of in
+returns c = λ v facts place is_of seg height places.
+    let n : FragmentNumbers = c.numbers-numbers.result in
+    let e : n ≡ fragment_numbers v facts c.args.first c.args.last = c.numbers-numbers.ensures ∙ ap (λ (f : FragmentValue). f.numbers) is_of in
     let s : c.fragment.inside.silhouette ≡ silhouette_of n =
     ap (λ (f : FragmentValue). f.fields.silhouette) (c.fragment.view_is ∙ is_of) ∙ ap silhouette_of (sym e) in
     note_of-parts v facts c.args.first c.args.last place n c.args.places c.args.seg_no c.fragment.inside.silhouette c.args.height _ _ _ _ _ (to_z w32 c.args.height) minus_one _ _
-    e places seg height (search (rules, to_z-of_z)) (search (rules, to_z-of_z)) (search (rules, to_z-of_z)) s (search (rules, to_z-of_z)) (search (rules, to_z-of_z))
+    e (places ∙ ap (λ (m : FragmentNumbers). places_of m place (c.args.last + 1 - c.args.first)) (sym c.numbers-numbers.ensures)) seg height (search (rules, to_z-of_z)) (search (rules, to_z-of_z)) (search (rules, to_z-of_z)) s (search (rules, to_z-of_z)) (search (rules, to_z-of_z))
     (omega (arith, ints)) refl c.clip_note.ensures c.clip_note-2.ensures

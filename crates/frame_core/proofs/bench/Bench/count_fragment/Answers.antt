@@ -10,7 +10,7 @@ use Rattle.frame_core.proofs.bench.Bench.count_fragment.Goals as goal
 taken : (c : goal.After-count_range) → TakesFragment c.args.view.now c.args.scene.now.scene c.args.seg c.args.first c.args.last c.facts_of-facts.result c.args.self.now c.count_range.new.planes c.count_range.new.self (limit_of_result c.count_range.result)
 taken c = record {
   there = c.requires.there;
-  facts_are = c.facts_of-facts.ensures;
+  facts_are = c.facts_of-facts.ensures.facts;
   limit = c.count_range.ensures.limit;
   limits = same_limits c.args.self.now.walls c.count_range.new.self c.args.self.now.planes c.count_range.new.planes c.count_range.ensures.room c.count_range.ensures.planes_room;
   full = λ n. (ap limit_of_result (c.count_range.ensures.past n), (c.count_range.ensures.past_planes n, c.count_range.ensures.past_state n));

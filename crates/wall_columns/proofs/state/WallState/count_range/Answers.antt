@@ -1,11 +1,13 @@
 -- A fragment is counted: what is built, and what is told.
-use Rattle.std.proofs.Common.{◌≡◌, ◌≤◌, ◌++◌, ◌∷◌, [], List, length, ap, sym, refl, subst, ◌∙◌, arith}
+use Rattle.std.proofs.Common.{◌≡◌, ◌+◌, ◌-◌, ◌≤◌, ◌++◌, ◌∷◌, [], List, length, ap, sym, refl, subst, ◌∙◌, arith}
 use Rattle.view_rules.specs.declared.TheConstants.{FRAME_WIDTH}
 use Rattle.view_rules.specs.declared.ViewShape.{ViewShape}
 use Rattle.picture_rules.specs.declared.wall.FragmentNote.{FragmentNote}
+use Rattle.picture_rules.specs.declared.wall.FragmentNumbers.{FragmentNumbers}
 use Rattle.picture_rules.specs.wall.Walls.{wall_of}
 use Rattle.picture_rules.specs.plane.Built.{after_event}
 use Rattle.wall_columns.specs.Built.{IsBuilt, with_wall, step_of_wall}
+use Rattle.wall_columns.specs.Places.{places_of}
 use Rattle.wall_columns.specs.States.{walls_view}
 use Rattle.wall_columns.specs.Walls.{WallsView}
 use Rattle.wall_columns.proofs.BuiltLemmas.{built-now, built-wall, built-count, wall-drawn}
@@ -57,7 +59,8 @@ returns-clause-built c = λ walls s h few.
     c.in_ok-places.places c.note_of-note.result c.numbers-numbers.result c.new-fragment.result c.new-fragment.ensures c.numbers-numbers.ensures b c.requires.ordered c.requires.within frame
     c.in_ok-places.ensures.windows (c.in_ok-places.ensures.ok s (built-now v walls s old columns c.args.planes.now b)) c.in_ok-places.ensures.places c.in_ok-places.ensures.front
     c.in_ok-places.ensures.length c.count_columns.ensures.marked c.count_columns.ensures.saved
-    (c.note_of-note.ensures v facts (length columns.openings.saved) c.new-fragment.ensures c.numbers-numbers.ensures refl (ap (λ (s : ViewShape). s.height) c.shape-shape.ensures.value) c.in_ok-places.ensures.places) in
+    (c.note_of-note.ensures v facts (length columns.openings.saved) c.new-fragment.ensures refl (ap (λ (s : ViewShape). s.height) c.shape-shape.ensures.value)
+    (c.in_ok-places.ensures.places ∙ ap (λ (n : FragmentNumbers). places_of n (length columns.openings.saved) (c.args.last + 1 - c.args.first)) c.numbers-numbers.ensures)) in
     let Q : List FragmentNote → Type 0 = λ notes. IsBuilt v (with_wall walls (wall_of v facts c.args.first c.args.last)) (after_event s (step_of_wall v walls (wall_of v facts c.args.first c.args.last)).event)
     (walls_view notes c.count_columns.new.self) c.count_columns.new.planes.planes in
     let items : c.push_reserved.new.self.items ≡ old ++ c.note_of-note.result ∷ [] = c.push_reserved.ensures.items in

@@ -3,7 +3,7 @@ use Rattle.std.specs.Prelude.{is_some}
 use Rattle.art_rules.specs.Lookups.{single_place}
 use Rattle.texture_build.specs.Sources.{own_lookup}
 use Rattle.texture_build.specs.Views.{prepared_texture}
-use Rattle.masked_draw.proofs.tests.has_single_columns.Given as goal
+use Rattle.masked_draw.proofs.tests.made.has_single_columns.Given as goal
 
 -- each column so far has one patch
 abbrev pub invariant-loop-col : goal.invariant-loop-col

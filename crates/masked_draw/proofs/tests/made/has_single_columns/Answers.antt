@@ -1,5 +1,5 @@
 use Rattle.std.proofs.Common.{arith, below_more, sym, ◌∙◌}
-use Rattle.masked_draw.proofs.tests.has_single_columns.Goals as goal
+use Rattle.masked_draw.proofs.tests.made.has_single_columns.Goals as goal
 
 -- the last column is the mask
 pub returns-else-not-single : goal.returns-else-not-single

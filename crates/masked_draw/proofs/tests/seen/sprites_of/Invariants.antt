@@ -1,7 +1,7 @@
 use Rattle.std.proofs.Common.{ℕ, ◌<◌}
 use Rattle.std.specs.List.{AllPass}
 use Rattle.vissprites.specs.Bounds.{lies_within, has_lump_below}
-use Rattle.masked_draw.proofs.tests.sprites_of.Given as goal
+use Rattle.masked_draw.proofs.tests.seen.sprites_of.Given as goal
 
 -- the sprites so far lie in the view, and have their lump
 abbrev pub invariant-loop-tree : goal.invariant-loop-tree

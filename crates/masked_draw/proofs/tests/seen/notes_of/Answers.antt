@@ -3,7 +3,7 @@ use Rattle.std.specs.Prelude.{IfSome, slice_get}
 use Rattle.view_rules.specs.declared.ViewShape.{ViewShape}
 use Rattle.picture_rules.specs.declared.wall.FragmentNote.{FragmentNote}
 use Rattle.picture_rules.specs.Noted.{AreNoted, IsWholeNote, ListsApart}
-use Rattle.masked_draw.proofs.tests.notes_of.Goals as goal
+use Rattle.masked_draw.proofs.tests.seen.notes_of.Goals as goal
 
 -- one whole note
 one_noted : (shape : ViewShape) (openings : List ℤ) (d : FragmentNote) → IsWholeNote shape openings d → AreNoted shape (d ∷ []) openings

@@ -8,7 +8,7 @@ use Rattle.word_rules.specs.Words.{plus, times}
 use Rattle.word_rules.specs.Steps.{step_at}
 use Rattle.picture_rules.specs.wall.Notes.{clip_row_at}
 use Rattle.picture_rules.specs.Noted.{greatest_clip, least_clip}
-use Rattle.masked_draw.proofs.tests.grate_note.Goals as goal
+use Rattle.masked_draw.proofs.tests.seen.grate_note.Goals as goal
 
 -- no step changes it
 steady : (first : ℤ) (k : ℕ) → FitsSigned w32 first → first ≡ step_at first (pos 0) k
