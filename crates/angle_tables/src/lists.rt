@@ -1,7 +1,8 @@
 // The three tables of angles as their file has them: rules `signed_from`, `words_from`.
 
 ghost use Rattle.std.specs.Prelude.{◌≡◌, ℕ, List, ◌+◌, ◌*◌, ◌<◌, ◌≤◌, length, IfOk};
-ghost use Rattle.view_rules.specs.Angles.{sine_at, cosine_at, tangent_at, angle_at};
+ghost use Rattle.angle_tables.specs.Lists.{angles_of, HasLengths};
+ghost use Rattle.view_rules.specs.Angles.{Angles, sine_at, cosine_at, tangent_at, angle_at};
 ghost use Rattle.view_rules.specs.Refusals.{word_in, signed_in, angles_in};
 ghost use Rattle.word_rules.specs.Listed.{listed};
 ghost use Rattle.view_rules.specs.declared.TheConstants.{SINES, TANGENTS, SLOPE_ANGLES, WORD_BYTES, TABLES_BYTES};
@@ -28,11 +29,7 @@ pub(crate) struct AngleLists {
 }
 
 impl Model for AngleLists {
-    ghost use Rattle.view_rules.specs.Angles.{Angles};
-
     ghost Value = { Angles };
-
-    ghost use Rattle.angle_tables.specs.Lists.{angles_of, HasLengths};
 
     ghost view = { angles_of };
 
