@@ -51,7 +51,15 @@ fn is_made(command: &Command<'_>, made: MakeJob) -> bool {
     }
 }
 
-fn is_audit_of_two(command: &Command<'_>, numbers: Settings) -> bool {
+// An audit of two WADs in a small zone, all else left to the defaults.
+fn is_audit_of_two(command: &Command<'_>) -> bool {
+    let numbers = Settings {
+        zone: 4_096,
+        skill: 3,
+        size: 11,
+        planes: 128,
+        openings: 20_480,
+    };
     match command {
         Command::Level { task, level, wads } => {
             *task == LevelTask::Audit && level.settings == numbers && wads.len() == 2
@@ -63,52 +71,31 @@ fn is_audit_of_two(command: &Command<'_>, numbers: Settings) -> bool {
 #[test]
 fn a_flat_of_one_wad(rt: HostRuntime) -> Result<(), Fail> {
     let alloc = rt.alloc();
-    match owned(alloc, &["flat", "tile", "--", "-tiny.wad"]) {
-        Ok(words) => match command_of(alloc, &words) {
-            Ok(command) => assert!(rt; is_flat_tile(&command)),
-            Err(_) => assert!(rt; false),
-        },
-        Err(_) => assert!(rt; false),
-    }
+    let words = owned(alloc, &["flat", "tile", "--", "-tiny.wad"])?;
+    assert!(rt; command_of(alloc, &words).is_ok_and(|command| is_flat_tile(&command)));
     Ok(())
 }
 
 #[test]
 fn a_made_file(rt: HostRuntime) -> Result<(), Fail> {
     let alloc = rt.alloc();
-    match owned(alloc, &["make", "wad", "10"]) {
-        Ok(words) => match command_of(alloc, &words) {
-            Ok(command) => assert!(rt; is_made(&command, MakeJob::Wad(10))),
-            Err(_) => assert!(rt; false),
-        },
-        Err(_) => assert!(rt; false),
-    }
+    let words = owned(alloc, &["make", "wad", "10"])?;
+    let wanted = MakeJob::Wad(10);
+    assert!(rt; command_of(alloc, &words).is_ok_and(|command| is_made(&command, wanted)));
     Ok(())
 }
 
 #[test]
 fn an_audit_of_two_wads(rt: HostRuntime) -> Result<(), Fail> {
     let alloc = rt.alloc();
-    let numbers = Settings {
-        zone: 4_096,
-        skill: 3,
-        size: 11,
-        planes: 128,
-        openings: 20_480,
-    };
-    match owned(
+    let words = owned(
         alloc,
         &[
             "audit", "MAP01", "a.wad", "b.wad", "--tables", "t.csv", "--things", "o.csv", "--path",
             "p.csv", "--zone", "4096",
         ],
-    ) {
-        Ok(words) => match command_of(alloc, &words) {
-            Ok(command) => assert!(rt; is_audit_of_two(&command, numbers)),
-            Err(_) => assert!(rt; false),
-        },
-        Err(_) => assert!(rt; false),
-    }
+    )?;
+    assert!(rt; command_of(alloc, &words).is_ok_and(|command| is_audit_of_two(&command)));
     Ok(())
 }
 
