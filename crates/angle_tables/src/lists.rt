@@ -1,14 +1,24 @@
 // The three tables of angles as their file has them: rules `signed_from`, `words_from`.
 
-ghost use Rattle.std.specs.Prelude.{◌≡◌, ℕ, ◌+◌, ◌*◌, ◌<◌, ◌≤◌, length, IfOk};
-ghost use Rattle.view_rules.specs.Angles.{sine_at, cosine_at, tangent_at, angle_at};
-ghost use Rattle.view_rules.specs.Refusals.{word_in, signed_in, words_from, signed_from, angles_in};
+ghost use Rattle.std.specs.Prelude.{◌≡◌, ℕ, List, ◌+◌, ◌*◌, ◌<◌, ◌≤◌, length, IfOk};
+ghost use Rattle.angle_tables.specs.Lists.{angles_of, HasLengths};
+ghost use Rattle.view_rules.specs.Angles.{Angles, sine_at, cosine_at, tangent_at, angle_at};
+ghost use Rattle.view_rules.specs.Refusals.{word_in, signed_in, angles_in};
+ghost use Rattle.word_rules.specs.Listed.{listed};
 ghost use Rattle.view_rules.specs.declared.TheConstants.{SINES, TANGENTS, SLOPE_ANGLES, WORD_BYTES, TABLES_BYTES};
 
 use byteorder::{ByteOrder, LittleEndian};
 use std::alloc::{AllocError, Global};
 use std::marker::Model;
 use view_rules::{COSINE_START, SINES, SLOPE_ANGLES, TANGENTS, WORD_BYTES};
+
+/// One of the three tables.
+#[derive(Clone, Copy)]
+pub(crate) enum AngleList {
+    Sines,
+    Tangents,
+    SlopeAngles,
+}
 
 /// The three tables.
 #[derive(Drop)]
@@ -19,27 +29,23 @@ pub(crate) struct AngleLists {
 }
 
 impl Model for AngleLists {
-    ghost use Rattle.view_rules.specs.Angles.{Angles};
-
     ghost Value = { Angles };
-
-    ghost use Rattle.angle_tables.specs.Lists.{angles_of, HasLengths};
 
     ghost view = { angles_of };
 
     ghost invariant = { HasLengths };
 }
 
+#[tactic(auto, unfolding(view_rules::specs::Angles::angle_at, view_rules::specs::Angles::cosine_at, view_rules::specs::Angles::sine_at, view_rules::specs::Angles::tangent_at, view_rules::specs::Refusals::angles_in, view_rules::specs::Refusals::signed_from, view_rules::specs::Refusals::words_from))]
 impl AngleLists {
     /// The tables of a file.
-    #[tactic(auto, unfolding(view_rules::specs::Refusals::angles_in))]
     pub(crate) fn read(alloc: Global, bytes: &[u8]) -> Result<AngleLists, AllocError>
         requires { length bytes.now ≡ TABLES_BYTES }
         ensures { IfOk result (λ t. t ≡ angles_in bytes.now) }
     {
-        let sine = signed_from(alloc, bytes, 0, SINES)?;
-        let tangent = signed_from(alloc, bytes, SINES, TANGENTS)?;
-        let angle = words_from(alloc, bytes, SINES + TANGENTS, SLOPE_ANGLES)?;
+        let sine = list_from(alloc, bytes, 0, SINES)?;
+        let tangent = list_from(alloc, bytes, SINES, TANGENTS)?;
+        let angle = list_from(alloc, bytes, SINES + TANGENTS, SLOPE_ANGLES)?;
         Ok(AngleLists {
             sine,
             tangent,
@@ -47,7 +53,6 @@ impl AngleLists {
         })
     }
 
-    #[tactic(auto, unfolding(view_rules::specs::Angles::sine_at))]
     pub(crate) fn sine(&self, i: usize) -> i32
         requires { i < SINES }
         ensures { result ≡ sine_at self.now i }
@@ -55,7 +60,6 @@ impl AngleLists {
         self.sine[i]
     }
 
-    #[tactic(auto, unfolding(view_rules::specs::Angles::cosine_at))]
     pub(crate) fn cosine(&self, i: usize) -> i32
         requires { i + COSINE_START < SINES }
         ensures { result ≡ cosine_at self.now i }
@@ -63,7 +67,6 @@ impl AngleLists {
         self.sine[i + COSINE_START]
     }
 
-    #[tactic(auto, unfolding(view_rules::specs::Angles::tangent_at))]
     pub(crate) fn tangent(&self, i: usize) -> i32
         requires { i < TANGENTS }
         ensures { result ≡ tangent_at self.now i }
@@ -71,7 +74,6 @@ impl AngleLists {
         self.tangent[i]
     }
 
-    #[tactic(auto, unfolding(view_rules::specs::Angles::angle_at))]
     pub(crate) fn angle(&self, i: usize) -> u32
         requires { i < SLOPE_ANGLES }
         ensures { result ≡ angle_at self.now i }
@@ -101,6 +103,32 @@ impl AngleLists {
     }
 }
 
+/// An entry of a table: a word of the file.
+trait Entry: Drop {
+    ghost entry_in: { List ℕ → ℕ → Self };
+
+    /// Word `i` of a file.
+    fn read(bytes: &[u8], i: usize) -> Self
+        requires { WORD_BYTES * i + WORD_BYTES ≤ length bytes.now }
+        ensures { result ≡ entry_in bytes.now i };
+}
+
+impl Entry for u32 {
+    ghost entry_in = { word_in };
+
+    fn read(bytes: &[u8], i: usize) -> u32 {
+        word_in(bytes, i)
+    }
+}
+
+impl Entry for i32 {
+    ghost entry_in = { signed_in };
+
+    fn read(bytes: &[u8], i: usize) -> i32 {
+        signed_in(bytes, i)
+    }
+}
+
 /// Word `i` of a file.
 #[tactic(auto, unfolding(view_rules::specs::Refusals::word_in))]
 fn word_in(bytes: &[u8], i: usize) -> u32
@@ -119,30 +147,21 @@ fn signed_in(bytes: &[u8], i: usize) -> i32
     fx_words::signed_of(word_in(bytes, i))
 }
 
-/// The `n` words of a file from word `first` on.
-#[tactic(auto, using(word_rules::proofs::ListedLemmas::listing), unfolding(view_rules::specs::Refusals::words_from))]
-fn words_from(alloc: Global, bytes: &[u8], first: usize, n: usize) -> Result<Vec<u32>, AllocError>
+/// The table of the `n` words of a file from word `first` on.
+#[tactic(auto, using(word_rules::proofs::ListedLemmas::listing))]
+fn list_from<E: Entry>(
+    alloc: Global,
+    bytes: &[u8],
+    first: usize,
+    n: usize,
+) -> Result<Vec<E>, AllocError>
     requires { WORD_BYTES * (first + n) ≤ length bytes.now }
-    ensures items { IfOk result (λ v. v.items ≡ words_from bytes.now first n) }
+    ensures items { IfOk result (λ v. v.items ≡ listed (λ i. E.entry_in bytes.now (first + i)) n) }
     ensures len { IfOk result (λ v. length v.items ≡ n) }
 {
-    let mut words = Vec::with_capacity(alloc, n)?;
+    let mut list = Vec::with_capacity(alloc, n)?;
     for i in 0..n {
-        words.push(word_in(bytes, first + i))?;
+        list.push(E::read(bytes, first + i))?;
     }
-    Ok(words)
-}
-
-/// The `n` words of a file from word `first` on, with signs.
-#[tactic(auto, using(word_rules::proofs::ListedLemmas::listing), unfolding(view_rules::specs::Refusals::signed_from))]
-fn signed_from(alloc: Global, bytes: &[u8], first: usize, n: usize) -> Result<Vec<i32>, AllocError>
-    requires { WORD_BYTES * (first + n) ≤ length bytes.now }
-    ensures items { IfOk result (λ v. v.items ≡ signed_from bytes.now first n) }
-    ensures len { IfOk result (λ v. length v.items ≡ n) }
-{
-    let mut words = Vec::with_capacity(alloc, n)?;
-    for i in 0..n {
-        words.push(signed_in(bytes, first + i))?;
-    }
-    Ok(words)
+    Ok(list)
 }

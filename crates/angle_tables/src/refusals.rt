@@ -4,16 +4,16 @@
 ghost use Rattle.std.specs.Prelude.{◌≡◌, ℕ, ◌<◌, ◌≤◌, Option, length, pos, slice_index_or};
 ghost use Rattle.word_rules.specs.Least.{least};
 ghost use Rattle.view_rules.specs.Angles.{Angles};
-ghost use Rattle.view_rules.specs.Refusals.{is_wrong_sine, is_wrong_tangent, is_wrong_angle, is_wrong_edge, is_wrong_left, is_wrong_view, sine_refusal, tangent_refusal, angle_refusal, view_refusal, angles_refusal};
-ghost use Rattle.view_rules.specs.declared.TheConstants.{SINES, TANGENTS, SLOPE_ANGLES};
+ghost use Rattle.view_rules.specs.Refusals.{is_wrong_sine, is_wrong_tangent, is_wrong_angle, is_wrong_edge, is_wrong_left, is_wrong_view, refused_at, view_refusal, angles_refusal};
+ghost use Rattle.angle_tables.specs.Lists.{is_wrong_in, length_in, refusal_in};
 
 use crate::columns::first_seen_by;
-use crate::lists::AngleLists;
+use crate::lists::{AngleList, AngleLists};
 use std::alloc::AllocError;
 use thiserror::Error;
 use view_rules::{
-    EDGE_TANGENT, FINE_AHEAD, MAX_EDGE_TANGENT, MAX_SINE, MAX_SLOPE_ANGLE, MIN_EDGE_TANGENT,
-    TablesRefusal, ViewShape,
+    EDGE_TANGENT, FINE_AHEAD, MAX_EDGE_TANGENT, MAX_SINE, MAX_SLOPE_ANGLE, MIN_EDGE_TANGENT, SINES,
+    SLOPE_ANGLES, TANGENTS, TablesRefusal, ViewShape,
 };
 
 /// Why there are no tables: the file is refused, or out of memory.
@@ -37,42 +37,73 @@ impl From<AllocError> for TablesFault {
 }
 
 /// The first thing that is wrong with the tables for views of `shape`.
-#[tactic(auto, unfolding(view_rules::specs::Refusals::angles_refusal))]
+#[tactic(auto, unfolding(view_rules::specs::Refusals::angles_refusal, view_rules::specs::Refusals::sine_refusal, view_rules::specs::Refusals::tangent_refusal, view_rules::specs::Refusals::angle_refusal))]
 pub(crate) fn angles_refusal(t: &AngleLists, shape: ViewShape) -> Option<TablesRefusal>
     ensures { result ≡ angles_refusal t.now shape }
 {
-    if let Some(refusal) = sine_refusal(t.sines()) {
+    if let Some(refusal) = entry_refusal(t, AngleList::Sines) {
         return Some(refusal);
     }
-    if let Some(refusal) = tangent_refusal(t.tangents()) {
+    if let Some(refusal) = entry_refusal(t, AngleList::Tangents) {
         return Some(refusal);
     }
-    if let Some(refusal) = angle_refusal(t.slope_angles()) {
+    if let Some(refusal) = entry_refusal(t, AngleList::SlopeAngles) {
         return Some(refusal);
     }
     view_refusal(t, shape)
 }
 
-#[tactic(auto, unfolding(view_rules::specs::Refusals::sine_refusal))]
-fn sine_refusal(sine: &[i32]) -> Option<TablesRefusal>
-    requires { length sine.now ≡ SINES }
-    ensures { result ≡ sine_refusal sine.now }
+// The refusal of the first wrong entry of a table.
+fn entry_refusal(t: &AngleLists, list: AngleList) -> Option<TablesRefusal>
+    ensures { result ≡ refused_at (refusal_in list)
+        (least (is_wrong_in t.now list) (length_in list)) }
 {
-    match first_wrong_sine(sine) {
-        Some(i) => Some(TablesRefusal::Sine { index: i as u64 }),
+    match first_wrong(t, list) {
+        Some(i) => Some(refusal_of(list, i as u64)),
         None => None,
     }
 }
 
-fn first_wrong_sine(sine: &[i32]) -> Option<usize>
-    ensures { result ≡ least (is_wrong_sine sine.now) (length sine.now) }
+fn refusal_of(list: AngleList, index: u64) -> TablesRefusal
+    ensures { result ≡ refusal_in list index }
 {
-    for i in 0..sine.len() {
-        if is_wrong_sine(sine, i) {
+    match list {
+        AngleList::Sines => TablesRefusal::Sine { index },
+        AngleList::Tangents => TablesRefusal::Tangent { index },
+        AngleList::SlopeAngles => TablesRefusal::Angle { index },
+    }
+}
+
+fn first_wrong(t: &AngleLists, list: AngleList) -> Option<usize>
+    ensures { result ≡ least (is_wrong_in t.now list) (length_in list) }
+{
+    for i in 0..length_of(list) {
+        if is_wrong(t, list, i) {
             return Some(i);
         }
     }
     None
+}
+
+fn length_of(list: AngleList) -> usize
+    ensures { result ≡ length_in list }
+{
+    match list {
+        AngleList::Sines => SINES,
+        AngleList::Tangents => TANGENTS,
+        AngleList::SlopeAngles => SLOPE_ANGLES,
+    }
+}
+
+fn is_wrong(t: &AngleLists, list: AngleList, i: usize) -> bool
+    requires { i < length_in list }
+    ensures { result ≡ is_wrong_in t.now list i }
+{
+    match list {
+        AngleList::Sines => is_wrong_sine(t.sines(), i),
+        AngleList::Tangents => is_wrong_tangent(t.tangents(), i),
+        AngleList::SlopeAngles => is_wrong_angle(t.slope_angles(), i),
+    }
 }
 
 #[tactic(auto, unfolding(view_rules::specs::Refusals::is_wrong_sine))]
@@ -83,56 +114,12 @@ fn is_wrong_sine(sine: &[i32], i: usize) -> bool
     sine[i] < -MAX_SINE || sine[i] > MAX_SINE
 }
 
-#[tactic(auto, unfolding(view_rules::specs::Refusals::tangent_refusal))]
-fn tangent_refusal(tangent: &[i32]) -> Option<TablesRefusal>
-    requires { length tangent.now ≡ TANGENTS }
-    ensures { result ≡ tangent_refusal tangent.now }
-{
-    match first_wrong_tangent(tangent) {
-        Some(i) => Some(TablesRefusal::Tangent { index: i as u64 }),
-        None => None,
-    }
-}
-
-fn first_wrong_tangent(tangent: &[i32]) -> Option<usize>
-    ensures { result ≡ least (is_wrong_tangent tangent.now) (length tangent.now) }
-{
-    for i in 0..tangent.len() {
-        if is_wrong_tangent(tangent, i) {
-            return Some(i);
-        }
-    }
-    None
-}
-
 #[tactic(auto, unfolding(view_rules::specs::Refusals::is_wrong_tangent))]
 fn is_wrong_tangent(tangent: &[i32], i: usize) -> bool
     requires { i < length tangent.now }
     ensures { result ≡ is_wrong_tangent tangent.now i }
 {
     i > 0 && tangent[i] < tangent[i - 1]
-}
-
-#[tactic(auto, unfolding(view_rules::specs::Refusals::angle_refusal))]
-fn angle_refusal(angle: &[u32]) -> Option<TablesRefusal>
-    requires { length angle.now ≡ SLOPE_ANGLES }
-    ensures { result ≡ angle_refusal angle.now }
-{
-    match first_wrong_angle(angle) {
-        Some(i) => Some(TablesRefusal::Angle { index: i as u64 }),
-        None => None,
-    }
-}
-
-fn first_wrong_angle(angle: &[u32]) -> Option<usize>
-    ensures { result ≡ least (is_wrong_angle angle.now) (length angle.now) }
-{
-    for i in 0..angle.len() {
-        if is_wrong_angle(angle, i) {
-            return Some(i);
-        }
-    }
-    None
 }
 
 #[tactic(auto, unfolding(view_rules::specs::Refusals::is_wrong_angle))]

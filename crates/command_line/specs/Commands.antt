@@ -1,9 +1,11 @@
 -- Which words are a command, and which command they are.
-use Rattle.std.specs.Prelude.{ℕ, ◌≤◌, Bool, cond, not, ◌==◌, ◌||◌, List, [], ◌∷◌, length, map, Option, Some, None, option_and_then, option_map, codes, bytes_eq}
+use Rattle.std.specs.Prelude.{◌≡◌, ℕ, ◌≤◌, Bool, cond, not, ◌==◌, ◌||◌, List, [], ◌∷◌, length, map, Option, Some, None, option_and_then, option_map, codes, bytes_eq, Result, Err, IfOk, IfErr}
 use Rattle.clap.specs.Words.{Row, Text, all_of, fault_of, first_of, matches_of}
 use Rattle.lump_rules.specs.Names.{name_of_text}
 use Rattle.command_line.specs.declared.command.Command.{Command}
 use Rattle.command_line.specs.declared.command.Command.TheVariants as command
+use Rattle.command_line.specs.declared.command.CommandFault.{CommandFault}
+use Rattle.command_line.specs.declared.command.CommandFault.TheVariants.{Usage}
 use Rattle.command_line.specs.declared.command.Format.{Format}
 use Rattle.command_line.specs.declared.command.MakeJob.{MakeJob}
 use Rattle.command_line.specs.declared.command.MakeJob.TheVariants.{Wad, Path, Tables, Things}
@@ -48,6 +50,18 @@ IsCounted (flat name file) = Unit {0}
 IsCounted (level_job task level wads) = IsLevelJob level wads
 IsCounted (make job) = IsCountedMake job
 IsCounted (exercise count zone format) = IsExercise count zone
+
+-- a call gives the command of a rule: `Usage` only where there is none
+pub record IsCommandOf (rule : Option CommandValue) (result : Result Command CommandFault) : Type 0 where
+  pub ok : IfOk result (λ command. rule ≡ Some (command_value command))
+  pub counted : IfOk result (λ command. IsCounted (command_value command))
+  pub usage : result ≡ Err Usage → rule ≡ None
+
+-- the same of a call that takes no memory
+pub record IsDecidedBy (rule : Option CommandValue) (result : Result Command CommandFault) : Type 0 where
+  pub ok : IfOk result (λ command. rule ≡ Some (command_value command))
+  pub counted : IfOk result (λ command. IsCounted (command_value command))
+  pub usage : IfErr result (λ _. rule ≡ None)
 
 -- trim and trace are not built
 unfoldable pub is_built : Text → Bool
@@ -99,16 +113,16 @@ exercise_of rows (count ∷ more ∷ rest) = None
 unfoldable pub level_with : List Row → LevelTask → Text → List Text → Option CommandValue
 level_with rows task map_name wads = cond (are_wads wads) (option_map (λ level. level_job task level wads) (level_job_of rows map_name)) None
 
-unfoldable pub level_command : List Row → Text → List Text → Option CommandValue
-level_command rows job [] = None
-level_command rows job (level ∷ wads) = option_and_then (λ task. level_with rows task level wads) (level_task_in rows job)
+unfoldable pub level_of : List Row → Text → List Text → Option CommandValue
+level_of rows job [] = None
+level_of rows job (level ∷ wads) = option_and_then (λ task. level_with rows task level wads) (level_task_in rows job)
 
 unfoldable pub job_named : List Row → Text → List Text → Option CommandValue
 job_named rows job rest =
     cond (bytes_eq job (codes "flat")) (flat_of rows rest)
     (cond (bytes_eq job (codes "make")) (make_of rows rest)
     (cond (bytes_eq job (codes "exercise")) (exercise_of rows rest)
-    (level_command rows job rest)))
+    (level_of rows job rest)))
 
 -- the command of what clap found: a job that is built, and words after it
 unfoldable pub command_in : List Row → Option CommandValue

@@ -20,15 +20,19 @@ bare_command = on_top (λ s. record s { no_binary_name = true; disable_help_flag
 unfoldable pub with_option : App → Text → App
 with_option command name = with_rule command (option_rule name)
 
+-- three more
+abbrev pub with_three : App → Text → Text → Text → App
+with_three command first second third = with_option (with_option (with_option command first) second) third
+
 -- the options of the files, of the picture and of the limits
 unfoldable pub with_files : App → App
 with_files command = with_option (with_option (with_option (with_option command (codes "tables")) (codes "things")) (codes "path")) (codes "weapon")
 
 unfoldable pub with_settings : App → App
-with_settings command = with_option (with_option (with_option command (codes "format")) (codes "skill")) (codes "size")
+with_settings command = with_three command (codes "format") (codes "skill") (codes "size")
 
 unfoldable pub with_limits : App → App
-with_limits command = with_option (with_option (with_option command (codes "zone")) (codes "planes")) (codes "openings")
+with_limits command = with_three command (codes "zone") (codes "planes") (codes "openings")
 
 -- a job, options with one value each, and then words of any number
 unfoldable pub simple_command : App

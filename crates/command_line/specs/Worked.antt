@@ -10,11 +10,11 @@ use Rattle.command_line.specs.declared.command.Format.TheVariants.{Index, Ppm}
 use Rattle.command_line.specs.Simple.{simple_command, with_files, with_limits, with_option, with_settings}
 use Rattle.command_line.specs.Choices.{format_in, format_named, has_no_files, has_no_options, has_no_settings, multiple_of_step, number_option, number_within, settings_in, zone_in}
 use Rattle.command_line.specs.LevelJobs.{are_wads, files_in, other_level_task, level_task_in, level_job_of}
-use Rattle.command_line.specs.Commands.{command_in, command_of, count_of, exercise, exercise_numbers, exercise_of, flat, flat_of, is_built, job_named, make, make_job_of, make_of, numbered_make, plain_make, level_job, level_command, level_with}
+use Rattle.command_line.specs.Commands.{command_in, command_of, count_of, exercise, exercise_numbers, exercise_of, flat, flat_of, is_built, job_named, make, make_job_of, make_of, numbered_make, plain_make, level_job, level_of, level_with}
 
 -- what the rows below unfold
 unfoldable pub words_unfolded : ℕ
-unfolding clap_on_literals digits_after is_numeral numeral filled simple_command with_files with_limits with_option with_settings format_in format_named has_no_files has_no_options has_no_settings multiple_of_step number_option number_within settings_in zone_in are_wads files_in other_level_task level_task_in level_job_of command_in command_of count_of exercise_numbers exercise_of flat_of is_built job_named make_job_of make_of numbered_make plain_make level_command level_with
+unfolding clap_on_literals digits_after is_numeral numeral filled simple_command with_files with_limits with_option with_settings format_in format_named has_no_files has_no_options has_no_settings multiple_of_step number_option number_within settings_in zone_in are_wads files_in other_level_task level_task_in level_job_of command_in command_of count_of exercise_numbers exercise_of flat_of is_built job_named make_job_of make_of numbered_make plain_make level_of level_with
 words_unfolded = 0
 
 -- words after `--` are no options

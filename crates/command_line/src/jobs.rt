@@ -2,7 +2,7 @@
 
 ghost use Rattle.std.specs.Prelude.{◌≡◌, ◌≢◌, ◌==◌, true, false, [], Err, IfOk, IfErr, IfSome, Some, None, map, option_map, codes, string_bytes};
 ghost use Rattle.clap.specs.Words.{found_of, rows_of};
-ghost use Rattle.command_line.specs.Commands.{IsCount, IsCounted, IsCountedMake, IsExercise, command_in, command_of, count_of, exercise_of, flat_of, is_built, job_named, make_job_of, make_of, numbered_make, plain_make, level_command, level_with, exercise_numbers, command_value};
+ghost use Rattle.command_line.specs.Commands.{IsCommandOf, IsCount, IsCounted, IsCountedMake, IsDecidedBy, IsExercise, command_in, command_of, count_of, exercise_of, flat_of, is_built, job_named, make_job_of, make_of, numbered_make, plain_make, level_of, level_with, exercise_numbers, command_value};
 
 use crate::choices::{format_in, has_no_options, has_no_settings, number_within, zone_in};
 use crate::command::{Command, CommandFault, Format, LevelTask, MakeJob};
@@ -41,15 +41,13 @@ pub fn command_of<'a>(alloc: Global, words: &'a [String]) -> Result<Command<'a>,
     }
 }
 
+// A command, or why there is none.
+type Taken<'a> = Result<Command<'a>, CommandFault>;
+
 // The command of what clap found.
 #[tactic(auto, unfolding(crate::specs::Commands::command_in))]
-fn command_in<'a>(alloc: Global, found: &ArgMatches<'a>) -> Result<Command<'a>, CommandFault>
-    ensures ok { IfOk result (λ command.
-        command_in (rows_of (found_of found.now)) ≡ Some
-        (command_value command)) }
-    ensures counted { IfOk result (λ command. IsCounted (command_value command)) }
-    ensures usage { result ≡ Err CommandFault.Usage →
-        command_in (rows_of (found_of found.now)) ≡ None }
+fn command_in<'a>(alloc: Global, found: &ArgMatches<'a>) -> Taken<'a>
+    ensures { IsCommandOf (command_in (rows_of (found_of found.now))) result }
 {
     match value(found, "job") {
         None => Err(CommandFault::Usage),
@@ -76,18 +74,8 @@ fn is_built(job: &str) -> bool
 
 // The command of the job of that name.
 #[tactic(auto, unfolding(crate::specs::Commands::job_named))]
-fn job_named<'m, 'a>(
-    alloc: Global,
-    found: &ArgMatches<'a>,
-    job: &str,
-    rest: &'m [&'a str],
-) -> Result<Command<'a>, CommandFault>
-    ensures ok { IfOk result (λ command.
-        job_named (rows_of (found_of found.now)) job.now (map (λ w. w.now) rest.now) ≡ Some
-        (command_value command)) }
-    ensures counted { IfOk result (λ command. IsCounted (command_value command)) }
-    ensures usage { result ≡ Err CommandFault.Usage →
-        job_named (rows_of (found_of found.now)) job.now (map (λ w. w.now) rest.now) ≡ None }
+fn job_named<'a>(alloc: Global, found: &ArgMatches<'a>, job: &str, rest: &[&'a str]) -> Taken<'a>
+    ensures { IsCommandOf (job_named (rows_of (found_of found.now)) job.now (map (λ w. w.now) rest.now)) result }
 {
     if job == "flat" {
         flat_of(found, rest)
@@ -96,19 +84,14 @@ fn job_named<'m, 'a>(
     } else if job == "exercise" {
         exercise_of(found, rest)
     } else {
-        level_command(alloc, found, job, rest)
+        level_of(alloc, found, job, rest)
     }
 }
 
 // The command flat NAME FILE.
 #[tactic(auto, unfolding(crate::specs::Commands::flat_of))]
-fn flat_of<'m, 'a>(found: &ArgMatches<'a>, rest: &'m [&'a str]) -> Result<Command<'a>, CommandFault>
-    ensures ok { IfOk result (λ command.
-        flat_of (rows_of (found_of found.now)) (map (λ w. w.now) rest.now) ≡ Some
-        (command_value command)) }
-    ensures counted { IfOk result (λ command. IsCounted (command_value command)) }
-    ensures usage { IfErr result (λ _.
-        flat_of (rows_of (found_of found.now)) (map (λ w. w.now) rest.now) ≡ None) }
+fn flat_of<'a>(found: &ArgMatches<'a>, rest: &[&'a str]) -> Taken<'a>
+    ensures { IsDecidedBy (flat_of (rows_of (found_of found.now)) (map (λ w. w.now) rest.now)) result }
 {
     match rest {
         [name, file] => {
@@ -126,13 +109,8 @@ fn flat_of<'m, 'a>(found: &ArgMatches<'a>, rest: &'m [&'a str]) -> Result<Comman
 
 // The command make wad N, make path N, make tables or make things.
 #[tactic(auto, unfolding(crate::specs::Commands::make_of))]
-fn make_of<'m, 'a>(found: &ArgMatches<'a>, rest: &'m [&'a str]) -> Result<Command<'a>, CommandFault>
-    ensures ok { IfOk result (λ command.
-        make_of (rows_of (found_of found.now)) (map (λ w. w.now) rest.now) ≡ Some
-        (command_value command)) }
-    ensures counted { IfOk result (λ command. IsCounted (command_value command)) }
-    ensures usage { IfErr result (λ _.
-        make_of (rows_of (found_of found.now)) (map (λ w. w.now) rest.now) ≡ None) }
+fn make_of<'a>(found: &ArgMatches<'a>, rest: &[&'a str]) -> Taken<'a>
+    ensures { IsDecidedBy (make_of (rows_of (found_of found.now)) (map (λ w. w.now) rest.now)) result }
 {
     if !has_no_options(found) {
         return Err(CommandFault::Usage);
@@ -199,16 +177,8 @@ fn count_of(text: &str) -> Option<u8>
 
 // The command exercise N.
 #[tactic(auto, unfolding(crate::specs::Commands::exercise_of))]
-fn exercise_of<'m, 'a>(
-    found: &ArgMatches<'a>,
-    rest: &'m [&'a str],
-) -> Result<Command<'a>, CommandFault>
-    ensures ok { IfOk result (λ command.
-        exercise_of (rows_of (found_of found.now)) (map (λ w. w.now) rest.now) ≡ Some
-        (command_value command)) }
-    ensures counted { IfOk result (λ command. IsCounted (command_value command)) }
-    ensures usage { IfErr result (λ _.
-        exercise_of (rows_of (found_of found.now)) (map (λ w. w.now) rest.now) ≡ None) }
+fn exercise_of<'a>(found: &ArgMatches<'a>, rest: &[&'a str]) -> Taken<'a>
+    ensures { IsDecidedBy (exercise_of (rows_of (found_of found.now)) (map (λ w. w.now) rest.now)) result }
 {
     match rest {
         [count] => {
@@ -241,19 +211,9 @@ fn exercise_numbers(found: &ArgMatches<'_>, count: &str) -> Option<(u8, u32, For
 }
 
 // The command of a job over a level.
-#[tactic(auto, unfolding(crate::specs::Commands::level_command))]
-fn level_command<'m, 'a>(
-    alloc: Global,
-    found: &ArgMatches<'a>,
-    job: &str,
-    rest: &'m [&'a str],
-) -> Result<Command<'a>, CommandFault>
-    ensures ok { IfOk result (λ command.
-        level_command (rows_of (found_of found.now)) job.now (map (λ w. w.now) rest.now) ≡ Some
-        (command_value command)) }
-    ensures counted { IfOk result (λ command. IsCounted (command_value command)) }
-    ensures usage { result ≡ Err CommandFault.Usage →
-        level_command (rows_of (found_of found.now)) job.now (map (λ w. w.now) rest.now) ≡ None }
+#[tactic(auto, unfolding(crate::specs::Commands::level_of))]
+fn level_of<'a>(alloc: Global, found: &ArgMatches<'a>, job: &str, rest: &[&'a str]) -> Taken<'a>
+    ensures { IsCommandOf (level_of (rows_of (found_of found.now)) job.now (map (λ w. w.now) rest.now)) result }
 {
     match rest.split_first() {
         None => Err(CommandFault::Usage),
@@ -272,14 +232,8 @@ fn level_with<'a>(
     task: LevelTask,
     name: &str,
     wads: &[&'a str],
-) -> Result<Command<'a>, CommandFault>
-    ensures ok { IfOk result (λ command.
-        level_with (rows_of (found_of found.now)) task name.now (map (λ w. w.now) wads.now) ≡ Some
-        (command_value command)) }
-    ensures counted { IfOk result (λ command. IsCounted (command_value command)) }
-    ensures usage { result ≡ Err CommandFault.Usage →
-        level_with (rows_of (found_of found.now)) task name.now (map (λ w. w.now) wads.now)
-        ≡ None }
+) -> Taken<'a>
+    ensures { IsCommandOf (level_with (rows_of (found_of found.now)) task name.now (map (λ w. w.now) wads.now)) result }
 {
     if !are_wads(wads) {
         return Err(CommandFault::Usage);

@@ -2,7 +2,7 @@
 
 ghost use Rattle.std.specs.Prelude.{◌≡◌, ◌≢◌, true, false, [], IfOk, option_map, map, codes, string_bytes};
 ghost use Rattle.clap.specs.Words.{all_of, app_of, fault_of, first_of, found_of, kind_of, matches_of, new_rule, rows_of, rule_of};
-ghost use Rattle.command_line.specs.Simple.{bare_command, option_rule, rest_rule, simple_command, with_files, with_limits, with_option, with_settings};
+ghost use Rattle.command_line.specs.Simple.{bare_command, option_rule, rest_rule, simple_command, with_files, with_limits, with_option, with_settings, with_three};
 
 use crate::command::CommandFault;
 use clap::error::ErrorKind;
@@ -95,9 +95,7 @@ fn with_files<'a>(alloc: Global, command: Command<'a>) -> Result<Command<'a>, Al
 fn with_settings<'a>(alloc: Global, command: Command<'a>) -> Result<Command<'a>, AllocError>
     ensures { IfOk result (λ c. app_of c ≡ with_settings (app_of command.entry)) }
 {
-    let command = with_option(alloc, command, "format")?;
-    let command = with_option(alloc, command, "skill")?;
-    with_option(alloc, command, "size")
+    with_three(alloc, command, "format", "skill", "size")
 }
 
 // The command with the options of the limits.
@@ -105,9 +103,23 @@ fn with_settings<'a>(alloc: Global, command: Command<'a>) -> Result<Command<'a>,
 fn with_limits<'a>(alloc: Global, command: Command<'a>) -> Result<Command<'a>, AllocError>
     ensures { IfOk result (λ c. app_of c ≡ with_limits (app_of command.entry)) }
 {
-    let command = with_option(alloc, command, "zone")?;
-    let command = with_option(alloc, command, "planes")?;
-    with_option(alloc, command, "openings")
+    with_three(alloc, command, "zone", "planes", "openings")
+}
+
+// The command with three more options.
+fn with_three<'a>(
+    alloc: Global,
+    command: Command<'a>,
+    first: &'a str,
+    second: &'a str,
+    third: &'a str,
+) -> Result<Command<'a>, AllocError>
+    ensures { IfOk result (λ c. app_of c
+        ≡ with_three (app_of command.entry) first.entry.now second.entry.now third.entry.now) }
+{
+    let command = with_option(alloc, command, first)?;
+    let command = with_option(alloc, command, second)?;
+    with_option(alloc, command, third)
 }
 
 // The command with one more option.

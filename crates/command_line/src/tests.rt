@@ -37,21 +37,38 @@ fn level_words(job: &str) -> [&str; 9] {
     ]
 }
 
-fn is_flat_tile(command: &Command<'_>) -> bool {
+fn is_flat_tile(taken: &Result<Command<'_>, CommandFault>) -> bool {
+    let Ok(command) = taken else {
+        return false;
+    };
     match command {
         Command::Flat { name, file } => name.bytes() == *b"TILE\0\0\0\0" && *file == "-tiny.wad",
         _ => false,
     }
 }
 
-fn is_made(command: &Command<'_>, made: MakeJob) -> bool {
+fn is_made(taken: &Result<Command<'_>, CommandFault>, made: MakeJob) -> bool {
+    let Ok(command) = taken else {
+        return false;
+    };
     match command {
         Command::Make(job) => *job == made,
         _ => false,
     }
 }
 
-fn is_audit_of_two(command: &Command<'_>, numbers: Settings) -> bool {
+// An audit of two WADs in a small zone, all else left to the defaults.
+fn is_audit_of_two(taken: &Result<Command<'_>, CommandFault>) -> bool {
+    let numbers = Settings {
+        zone: 4_096,
+        skill: 3,
+        size: 11,
+        planes: 128,
+        openings: 20_480,
+    };
+    let Ok(command) = taken else {
+        return false;
+    };
     match command {
         Command::Level { task, level, wads } => {
             *task == LevelTask::Audit && level.settings == numbers && wads.len() == 2
@@ -63,52 +80,30 @@ fn is_audit_of_two(command: &Command<'_>, numbers: Settings) -> bool {
 #[test]
 fn a_flat_of_one_wad(rt: HostRuntime) -> Result<(), Fail> {
     let alloc = rt.alloc();
-    match owned(alloc, &["flat", "tile", "--", "-tiny.wad"]) {
-        Ok(words) => match command_of(alloc, &words) {
-            Ok(command) => assert!(rt; is_flat_tile(&command)),
-            Err(_) => assert!(rt; false),
-        },
-        Err(_) => assert!(rt; false),
-    }
+    let words = owned(alloc, &["flat", "tile", "--", "-tiny.wad"])?;
+    assert!(rt; is_flat_tile(&command_of(alloc, &words)));
     Ok(())
 }
 
 #[test]
 fn a_made_file(rt: HostRuntime) -> Result<(), Fail> {
     let alloc = rt.alloc();
-    match owned(alloc, &["make", "wad", "10"]) {
-        Ok(words) => match command_of(alloc, &words) {
-            Ok(command) => assert!(rt; is_made(&command, MakeJob::Wad(10))),
-            Err(_) => assert!(rt; false),
-        },
-        Err(_) => assert!(rt; false),
-    }
+    let words = owned(alloc, &["make", "wad", "10"])?;
+    assert!(rt; is_made(&command_of(alloc, &words), MakeJob::Wad(10)));
     Ok(())
 }
 
 #[test]
 fn an_audit_of_two_wads(rt: HostRuntime) -> Result<(), Fail> {
     let alloc = rt.alloc();
-    let numbers = Settings {
-        zone: 4_096,
-        skill: 3,
-        size: 11,
-        planes: 128,
-        openings: 20_480,
-    };
-    match owned(
+    let words = owned(
         alloc,
         &[
             "audit", "MAP01", "a.wad", "b.wad", "--tables", "t.csv", "--things", "o.csv", "--path",
             "p.csv", "--zone", "4096",
         ],
-    ) {
-        Ok(words) => match command_of(alloc, &words) {
-            Ok(command) => assert!(rt; is_audit_of_two(&command, numbers)),
-            Err(_) => assert!(rt; false),
-        },
-        Err(_) => assert!(rt; false),
-    }
+    )?;
+    assert!(rt; is_audit_of_two(&command_of(alloc, &words)));
     Ok(())
 }
 

@@ -1,9 +1,10 @@
 // The values of a row's columns: numbers within a range, flags, sprite names, frame letters.
 
-ghost use Rattle.std.specs.Prelude.{◌≡◌, ◌<◌, ◌≤◌, ◌≤ℤ◌, ◌&&◌, nat_le, true, false, length, map, IfOk, slice_index};
+ghost use Rattle.std.specs.Prelude.{◌≡◌, ◌<◌, ◌≤◌, ◌≤ℤ◌, ◌&&◌, nat_le, true, false, length, map, IfErr, IfOk, None, Some, slice_index};
 ghost use Rattle.std.specs.List.{list_all};
 ghost use Rattle.std.specs.Char.{to_ascii_uppercase};
 ghost use Rattle.csv.specs.Records.{fields_of, field_at};
+ghost use Rattle.csv_tables.specs.declared.fault.CsvRefusal.TheVariants.{Fields, Range};
 ghost use Rattle.csv_tables.specs.Columns.{capital, flag_column, frame_column, in_range, integer_column, is_frame_letter, is_sprite, natural_column, number_in, place_column, sprite_field};
 
 use crate::fault::CsvRefusal;
@@ -109,6 +110,28 @@ pub(crate) fn flag_column(row: u64, column: usize, fields: &ByteRecord) -> Resul
     Ok(flag == 1)
 }
 
+// The text of a column.
+fn text_of<'a>(row: u64, column: usize, fields: &'a ByteRecord) -> Result<&'a [u8], CsvRefusal>
+    ensures some { IfOk result (λ text.
+        field_at (fields_of fields.now) column ≡ Some text.now) }
+    ensures none { IfErr result (λ e.
+        (field_at (fields_of fields.now) column ≡ None) × (e ≡ Fields row)) }
+{
+    match fields.get(column) {
+        Some(text) => Ok(text),
+        None => Err(CsvRefusal::Fields { row }),
+    }
+}
+
+fn out_of_range(row: u64, column: usize) -> CsvRefusal
+    ensures { result ≡ Range row column }
+{
+    CsvRefusal::Range {
+        row,
+        column: column as u64,
+    }
+}
+
 // The name of a sprite, small letters as capitals.
 #[tactic(auto, unfolding(crate::specs::Columns::sprite_field))]
 pub(crate) fn sprite_field(
@@ -118,19 +141,24 @@ pub(crate) fn sprite_field(
 ) -> Result<[u8; 4], CsvRefusal>
     ensures { result ≡ sprite_field row column (field_at (fields_of fields.now) column) }
 {
-    match fields.get(column) {
-        Some(text) => {
-            if is_sprite(text) {
-                Ok(capitals(text))
-            } else {
-                Err(CsvRefusal::Range {
-                    row,
-                    column: column as u64,
-                })
-            }
-        }
-        None => Err(CsvRefusal::Fields { row }),
+    let text = text_of(row, column, fields)?;
+    if !is_sprite(text) {
+        return Err(out_of_range(row, column));
     }
+    Ok(capitals(text))
+}
+
+// A frame letter, small letters as capitals.
+#[tactic(auto, unfolding(crate::specs::Columns::frame_column))]
+pub(crate) fn frame_column(row: u64, column: usize, fields: &ByteRecord) -> Result<u8, CsvRefusal>
+    ensures value { result ≡ frame_column row column (field_at (fields_of fields.now) column) }
+    ensures limits { IfOk result (λ frame. (FIRST_FRAME ≤ frame) × (frame ≤ LAST_FRAME)) }
+{
+    let text = text_of(row, column, fields)?;
+    if !is_frame_letter(text) {
+        return Err(out_of_range(row, column));
+    }
+    Ok(capital(text))
 }
 
 // Whether this is four bytes that can be seen.
@@ -160,27 +188,6 @@ fn capitals(text: &[u8]) -> [u8; 4]
         text[2].to_ascii_uppercase(),
         text[3].to_ascii_uppercase(),
     ]
-}
-
-// A frame letter, small letters as capitals.
-#[tactic(auto, unfolding(crate::specs::Columns::frame_column))]
-pub(crate) fn frame_column(row: u64, column: usize, fields: &ByteRecord) -> Result<u8, CsvRefusal>
-    ensures value { result ≡ frame_column row column (field_at (fields_of fields.now) column) }
-    ensures limits { IfOk result (λ frame. (FIRST_FRAME ≤ frame) × (frame ≤ LAST_FRAME)) }
-{
-    match fields.get(column) {
-        Some(text) => {
-            if is_frame_letter(text) {
-                Ok(capital(text))
-            } else {
-                Err(CsvRefusal::Range {
-                    row,
-                    column: column as u64,
-                })
-            }
-        }
-        None => Err(CsvRefusal::Fields { row }),
-    }
 }
 
 // Whether this is one frame letter.

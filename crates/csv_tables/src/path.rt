@@ -9,28 +9,10 @@ ghost use Rattle.csv_tables.specs.Paths.{HasLightInRange, light_column, path_in,
 
 use crate::columns::{natural_column, place_column};
 use crate::fault::{CsvFault, CsvRefusal};
-use crate::records::{checked_shape, is_header, table_records};
+use crate::records::{BESIDE_ROWS, checked_shape, is_header, table_records};
 use csv::ByteRecord;
 use std::alloc::Global;
 use std::marker::Model;
-
-/// The most views of a path.
-pub const MAX_VIEWS: u64 = 10_000;
-
-// The header, the views, and a row that is one too many.
-const MAX_PATH_RECORDS: usize = 10_002;
-
-/// Columns of a path without and with the columns of the light.
-pub const PLAIN_WIDTH: usize = 4;
-
-pub const LIT_WIDTH: usize = 6;
-
-/// The greatest angle (BAM), extra light and fixed colormap of a view.
-pub const MAX_ANGLE: u32 = 4_294_967_295;
-
-pub const MAX_EXTRALIGHT: u8 = 15;
-
-pub const MAX_COLORMAP: u8 = 32;
 
 /// A view of a path: the viewpoint in map units (16.16), its angle (BAM), the extra light, 0 to
 /// 15, and the fixed colormap, 0 to 32, where 0 fixes none.
@@ -45,6 +27,16 @@ pub struct PathRow {
     pub extralight: u8,
     pub colormap: u8,
 }
+
+/// The greatest angle (BAM), extra light and fixed colormap of a view.
+pub const MAX_ANGLE: u32 = 4_294_967_295;
+
+pub const MAX_EXTRALIGHT: u8 = 15;
+
+pub const MAX_COLORMAP: u8 = 32;
+
+/// The most views of a path.
+pub const MAX_VIEWS: u64 = 10_000;
 
 /// The views of a path, in order.
 #[derive(Drop)]
@@ -81,7 +73,7 @@ impl PathTable {
         ensures refused { (r : CsvRefusal) → result ≡ Err (CsvFault.Refused r) →
             path_in bytes.now ≡ Err r }
     {
-        let records = table_records(alloc, bytes, MAX_PATH_RECORDS)?;
+        let records = table_records(alloc, bytes, MAX_VIEWS as usize + BESIDE_ROWS)?;
         let rows = path_of_records(alloc, &records)?;
         Ok(PathTable { rows })
     }
@@ -113,6 +105,11 @@ fn path_of_records(alloc: Global, records: &[ByteRecord]) -> Result<Vec<PathRow>
         },
     }
 }
+
+/// Columns of a path without and with the columns of the light.
+pub const PLAIN_WIDTH: usize = 4;
+
+pub const LIT_WIDTH: usize = 6;
 
 // How many columns a path with this header has.
 #[tactic(auto, unfolding(crate::specs::Paths::path_width))]

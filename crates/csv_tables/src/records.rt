@@ -14,6 +14,9 @@ use std::alloc::{AllocError, Global};
 /// The most bytes of a table.
 pub const MAX_TABLE_BYTES: usize = 1_048_576;
 
+// The records beside the rows that a table may have: the header, and a row that is one too many.
+pub(crate) const BESIDE_ROWS: usize = 2;
+
 // The first `limit` records of a table's bytes.
 #[tactic(auto, unfolding(crate::specs::Records::table_records))]
 pub(crate) fn table_records(

@@ -9,7 +9,7 @@ ghost use Rattle.csv_tables.specs.Slots.{AreNumbersOf, numbered_row};
 
 use crate::columns::{flag_column, frame_column, natural_column, sprite_field};
 use crate::fault::{CsvFault, CsvRefusal};
-use crate::records::{checked_shape, is_header, table_records};
+use crate::records::{BESIDE_ROWS, checked_shape, is_header, table_records};
 use csv::ByteRecord;
 use level_rules::{ThingLine, ThingRow};
 use std::alloc::{AllocError, Global};
@@ -17,9 +17,6 @@ use std::marker::Model;
 
 /// The most rows of a thing table.
 pub const MAX_THINGS: u64 = 4_096;
-
-// The header, the rows, and a row that is one too many.
-const MAX_THING_RECORDS: usize = 4_098;
 
 /// Columns of a thing table.
 pub const THING_WIDTH: usize = 6;
@@ -70,7 +67,7 @@ impl ThingTable {
         ensures refused { (r : CsvRefusal) → result ≡ Err (CsvFault.Refused r) →
             things_in_table bytes.now ≡ Err r }
     {
-        let records = table_records(alloc, bytes, MAX_THING_RECORDS)?;
+        let records = table_records(alloc, bytes, MAX_THINGS as usize + BESIDE_ROWS)?;
         table_of_records(alloc, &records)
     }
 

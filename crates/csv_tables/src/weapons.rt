@@ -8,22 +8,10 @@ ghost use Rattle.csv_tables.specs.Weapons.{IsWeaponInRange, weapon_of, weapon_ro
 
 use crate::columns::{flag_column, frame_column, natural_column, place_column, sprite_field};
 use crate::fault::{CsvFault, CsvRefusal};
-use crate::records::{checked_shape, is_header, table_records};
+use crate::records::{BESIDE_ROWS, checked_shape, is_header, table_records};
 use csv::ByteRecord;
 use std::alloc::Global;
 use std::marker::Model;
-
-/// The most rows of a weapon table.
-pub const MAX_WEAPONS: u64 = 20_000;
-
-// The header, the rows, and a row that is one too many.
-const MAX_WEAPON_RECORDS: usize = 20_002;
-
-/// Columns of a weapon table.
-pub const WEAPON_WIDTH: usize = 6;
-
-/// The greatest number of a view, which a path's last row has.
-pub const MAX_VIEW: u32 = 9_999;
 
 /// A weapon layer: the number of its view, from 0, its sprite and frame letter, whether it is
 /// bright, and its place in the view in units of 1/65536 of a pixel of a full view.
@@ -38,6 +26,15 @@ pub struct WeaponRow {
     pub sx: i32,
     pub sy: i32,
 }
+
+/// The greatest number of a view, which a path's last row has.
+pub const MAX_VIEW: u32 = 9_999;
+
+/// The most rows of a weapon table.
+pub const MAX_WEAPONS: u64 = 20_000;
+
+/// Columns of a weapon table.
+pub const WEAPON_WIDTH: usize = 6;
 
 /// The weapon layers of a path's views, in the order of the file.
 #[derive(Drop)]
@@ -73,7 +70,7 @@ impl WeaponTable {
         ensures refused { (r : CsvRefusal) → result ≡ Err (CsvFault.Refused r) →
             weapons_in bytes.now ≡ Err r }
     {
-        let records = table_records(alloc, bytes, MAX_WEAPON_RECORDS)?;
+        let records = table_records(alloc, bytes, MAX_WEAPONS as usize + BESIDE_ROWS)?;
         let rows = weapons_of_records(alloc, &records)?;
         Ok(WeaponTable { rows })
     }

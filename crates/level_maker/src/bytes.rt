@@ -1,6 +1,6 @@
 // Numbers put behind the bytes that are there, the low byte first.
 ghost use Rattle.std.specs.Prelude.{◌≡◌, ◌++◌, ◌+◌, ◌<◌, ◌^◌, OnOk};
-ghost use Rattle.made_rules.specs.Bytes.{half, halves, word_bytes, words};
+ghost use Rattle.made_rules.specs.Bytes.{half, halves, word_bytes};
 
 use std::alloc::AllocError;
 
@@ -34,17 +34,6 @@ pub fn put_word(out: &mut Vec<u8>, value: u32) -> Result<(), AllocError>
     ensures { OnOk result (out.new.items ≡ out.old.items ++ word_bytes value) }
 {
     out.extend_from_slice(&value.to_le_bytes())
-}
-
-/// Puts the four bytes of each number.
-#[tactic(auto, using(std::proofs::lemmas::Grind::common_steps, made_rules::proofs::BytesLemmas::filling))]
-pub fn put_words(out: &mut Vec<u8>, values: &[u32]) -> Result<(), AllocError>
-    ensures { OnOk result (out.new.items ≡ out.old.items ++ words values.now) }
-{
-    for value in values {
-        put_word(out, *value)?;
-    }
-    Ok(())
 }
 
 /// Puts the four low bytes of a size or place.

@@ -1,6 +1,7 @@
 // The cells of a made level and their walls.
 ghost use Rattle.std.specs.Prelude.{◌≡◌, ◌<◌, ◌≤◌, ◌*◌, ◌+◌, ◌^◌};
-ghost use Rattle.made_rules.specs.Cells.{made_column, made_row, vertex_number, corner, next_edge, opposite_edge, is_inner, cell_across, side_across, edge_angle};
+ghost use Rattle.made_rules.specs.Cells.{made_column, made_row, vertex_number, corner, next_edge, is_inner, cell_across, side_across, edge_angle};
+ghost use Rattle.level_maker.specs.Squares.{IsEdge};
 
 use made_rules::{EDGES, NO_SIDE};
 
@@ -39,10 +40,7 @@ pub fn vertex_number(side: u32, a: u32, b: u32) -> u32
 /// The vertex where an edge begins.
 #[tactic(auto, unfolding(made_rules::specs::Cells::corner))]
 pub fn corner(side: u32, cell: u32, edge: u32) -> u32
-    requires some { 0 < side }
-    requires square { side < 2 ^ 8 }
-    requires cell { cell < 2 ^ 16 }
-    requires edge { edge < EDGES }
+    requires { IsEdge side cell edge }
     ensures { result ≡ corner side cell edge }
 {
     let i = made_column(side, cell);
@@ -62,16 +60,6 @@ pub fn next_edge(edge: u32) -> u32
     ensures within { result < EDGES }
 {
     (edge + 1) % EDGES
-}
-
-/// The edge of the cell across.
-#[tactic(auto, unfolding(made_rules::specs::Cells::opposite_edge))]
-pub fn opposite_edge(edge: u32) -> u32
-    requires { edge < EDGES }
-    ensures value { result ≡ opposite_edge edge }
-    ensures within { result < EDGES }
-{
-    (edge + 2) % EDGES
 }
 
 /// Whether an edge lies within a room.
@@ -105,16 +93,14 @@ pub fn cell_across(side: u32, cell: u32, edge: u32) -> u32
 }
 
 /// The side across an edge.
-#[tactic(auto, unfolding(made_rules::specs::Cells::side_across))]
+#[tactic(auto, unfolding(made_rules::specs::Cells::opposite_edge, made_rules::specs::Cells::side_across))]
 pub fn side_across(side: u32, cell: u32, edge: u32) -> u32
-    requires some { 0 < side }
-    requires square { side < 2 ^ 8 }
-    requires cell { cell < 2 ^ 16 }
-    requires edge { edge < EDGES }
+    requires { IsEdge side cell edge }
     ensures { result ≡ side_across side cell edge }
 {
     if is_inner(side, cell, edge) {
-        EDGES * cell_across(side, cell, edge) + opposite_edge(edge)
+        let opposite = (edge + 2) % EDGES;
+        EDGES * cell_across(side, cell, edge) + opposite
     } else {
         NO_SIDE
     }

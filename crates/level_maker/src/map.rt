@@ -1,28 +1,69 @@
 // The records of a made level.
 ghost use Rattle.std.specs.Prelude.{◌≡◌, ◌<◌, ◌≤◌, ◌++◌, ◌*◌, ◌+◌, ◌^◌, IfOk, OnOk};
 ghost use Rattle.made_rules.specs.Bytes.{records};
+ghost use Rattle.made_rules.specs.Cells.{corner, next_edge};
 ghost use Rattle.made_rules.specs.Maps.{thing_bytes, line_flags, line_bytes, side_bytes, middle_name, inner_name, has_grate, wall_name, vertex_bytes, seg_bytes, leaf_bytes};
+ghost use Rattle.level_maker.specs.Squares.{IsEdge, IsRecord, IsSquare, record_bytes};
 
 use crate::bytes::{put_half, put_halves};
 use crate::cells::{corner, edge_angle, is_inner, made_column, made_row, next_edge, side_across};
+use crate::sectors::put_sector;
 use made_rules::{CELL_SIZE, EDGES, LEVEL_THING, ONE_SIDED, THING_OPTIONS, TWO_SIDED};
 use std::alloc::{AllocError, Global};
 
 const UPPER_AND_LOWER: &[u8; 16] = b"WALL1\0\0\0WALL2\0\0\0";
 
-/// THINGS: one in the middle of each cell.
+/// The lumps of a made level that list records by number.
+#[derive(Clone, Copy)]
+pub enum MadeLump {
+    /// THINGS: one in the middle of each cell.
+    Things,
+    /// LINEDEFS: the edges of each cell.
+    Lines,
+    /// SIDEDEFS: the front sides of the lines.
+    Sides,
+    /// VERTEXES: the corners of the cells, row by row.
+    Vertices,
+    /// SEGS: the lines seen from their cells.
+    Segs,
+    /// SSECTORS: the leaf of each cell.
+    Leaves,
+    /// SECTORS: the sector of each cell.
+    Sectors,
+}
+
+/// The first `count` records of a lump.
 #[tactic(auto, using(made_rules::proofs::BytesLemmas::filling))]
-pub fn things(alloc: Global, side: u32, cells: u32) -> Result<Vec<u8>, AllocError>
-    requires some { 0 < side }
-    requires square { side < 2 ^ 8 }
-    requires cells { cells < 2 ^ 16 }
-    ensures { IfOk result (λ lump. lump.items ≡ records (thing_bytes side) cells) }
+pub fn made_lump(
+    alloc: Global,
+    lump: MadeLump,
+    side: u32,
+    count: u32,
+) -> Result<Vec<u8>, AllocError>
+    requires square { IsSquare side }
+    requires count { count < 2 ^ 16 }
+    ensures { IfOk result (λ bytes. bytes.items ≡ records (record_bytes lump side) count) }
 {
-    let mut lump = Vec::new(alloc);
-    for cell in 0..cells {
-        put_thing(&mut lump, side, cell)?;
+    let mut bytes = Vec::new(alloc);
+    for k in 0..count {
+        put_record(&mut bytes, lump, side, k)?;
     }
-    Ok(lump)
+    Ok(bytes)
+}
+
+fn put_record(out: &mut Vec<u8>, lump: MadeLump, side: u32, k: u32) -> Result<(), AllocError>
+    requires { IsRecord side k }
+    ensures { OnOk result (out.new.items ≡ out.old.items ++ record_bytes lump side k) }
+{
+    match lump {
+        MadeLump::Things => put_thing(out, side, k),
+        MadeLump::Lines => put_line(out, side, k),
+        MadeLump::Sides => put_side(out, side, k),
+        MadeLump::Vertices => put_vertex(out, side, k),
+        MadeLump::Segs => put_seg(out, side, k),
+        MadeLump::Leaves => put_leaf(out, k),
+        MadeLump::Sectors => put_sector(out, side, k),
+    }
 }
 
 #[tactic(auto, unfolding(made_rules::specs::Maps::thing_bytes))]
@@ -37,35 +78,29 @@ fn put_thing(lump: &mut Vec<u8>, side: u32, cell: u32) -> Result<(), AllocError>
     put_halves(lump, &[x, y, angle, LEVEL_THING, THING_OPTIONS])
 }
 
-/// LINEDEFS: the edges of each cell.
-#[tactic(auto, using(made_rules::proofs::BytesLemmas::filling))]
-pub fn lines(alloc: Global, side: u32, edges: u32) -> Result<Vec<u8>, AllocError>
-    requires some { 0 < side }
-    requires square { side < 2 ^ 8 }
-    requires edges { edges < 2 ^ 16 }
-    ensures { IfOk result (λ lump. lump.items ≡ records (line_bytes side) edges) }
-{
-    let mut lump = Vec::new(alloc);
-    for k in 0..edges {
-        put_line(&mut lump, side, k)?;
-    }
-    Ok(lump)
-}
-
 #[tactic(auto, unfolding(made_rules::specs::Maps::line_bytes))]
 fn put_line(lump: &mut Vec<u8>, side: u32, k: u32) -> Result<(), AllocError>
-    requires some { 0 < side }
-    requires square { side < 2 ^ 8 }
-    requires edge { k < 2 ^ 16 }
+    requires { IsRecord side k }
     ensures { OnOk result (lump.new.items ≡ lump.old.items ++ line_bytes side k) }
 {
     let cell = k / EDGES;
     let edge = k % EDGES;
-    let from = corner(side, cell, edge);
-    let to = corner(side, cell, next_edge(edge));
+    let (from, to) = ends(side, cell, edge);
     let flags = line_flags(side, cell, edge);
     let back = side_across(side, cell, edge);
     put_halves(lump, &[from, to, flags, 0, 0, k, back])
+}
+
+// The vertices where an edge begins and ends.
+fn ends(side: u32, cell: u32, edge: u32) -> (u32, u32)
+    requires { IsEdge side cell edge }
+    ensures from { result.0 ≡ corner side cell edge }
+    ensures to { result.1 ≡ corner side cell (next_edge edge) }
+{
+    (
+        corner(side, cell, edge),
+        corner(side, cell, next_edge(edge)),
+    )
 }
 
 #[tactic(auto, unfolding(made_rules::specs::Maps::line_flags))]
@@ -80,20 +115,6 @@ fn line_flags(side: u32, cell: u32, edge: u32) -> u32
     } else {
         ONE_SIDED
     }
-}
-
-/// SIDEDEFS: the front sides of the lines.
-#[tactic(auto, using(made_rules::proofs::BytesLemmas::filling))]
-pub fn sides(alloc: Global, side: u32, edges: u32) -> Result<Vec<u8>, AllocError>
-    requires some { 0 < side }
-    requires edges { edges < 2 ^ 16 }
-    ensures { IfOk result (λ lump. lump.items ≡ records (side_bytes side) edges) }
-{
-    let mut lump = Vec::new(alloc);
-    for k in 0..edges {
-        put_side(&mut lump, side, k)?;
-    }
-    Ok(lump)
 }
 
 #[tactic(auto, unfolding(made_rules::specs::Maps::side_bytes))]
@@ -159,20 +180,6 @@ fn wall_name(side: u32, cell: u32) -> [u8; 8]
     }
 }
 
-/// VERTEXES: the corners of the cells, row by row.
-#[tactic(auto, using(made_rules::proofs::BytesLemmas::filling))]
-pub fn vertices(alloc: Global, side: u32, count: u32) -> Result<Vec<u8>, AllocError>
-    requires square { side < 2 ^ 8 }
-    requires count { count < 2 ^ 16 }
-    ensures { IfOk result (λ lump. lump.items ≡ records (vertex_bytes side) count) }
-{
-    let mut lump = Vec::new(alloc);
-    for k in 0..count {
-        put_vertex(&mut lump, side, k)?;
-    }
-    Ok(lump)
-}
-
 #[tactic(auto, unfolding(made_rules::specs::Maps::vertex_bytes))]
 fn put_vertex(lump: &mut Vec<u8>, side: u32, k: u32) -> Result<(), AllocError>
     requires square { side < 2 ^ 8 }
@@ -185,46 +192,14 @@ fn put_vertex(lump: &mut Vec<u8>, side: u32, k: u32) -> Result<(), AllocError>
     )
 }
 
-/// SEGS: the lines seen from their cells.
-#[tactic(auto, using(made_rules::proofs::BytesLemmas::filling))]
-pub fn segs(alloc: Global, side: u32, edges: u32) -> Result<Vec<u8>, AllocError>
-    requires some { 0 < side }
-    requires square { side < 2 ^ 8 }
-    requires edges { edges < 2 ^ 16 }
-    ensures { IfOk result (λ lump. lump.items ≡ records (seg_bytes side) edges) }
-{
-    let mut lump = Vec::new(alloc);
-    for k in 0..edges {
-        put_seg(&mut lump, side, k)?;
-    }
-    Ok(lump)
-}
-
 #[tactic(auto, unfolding(made_rules::specs::Maps::seg_bytes))]
 fn put_seg(lump: &mut Vec<u8>, side: u32, k: u32) -> Result<(), AllocError>
-    requires some { 0 < side }
-    requires square { side < 2 ^ 8 }
-    requires edge { k < 2 ^ 16 }
+    requires { IsRecord side k }
     ensures { OnOk result (lump.new.items ≡ lump.old.items ++ seg_bytes side k) }
 {
-    let cell = k / EDGES;
     let edge = k % EDGES;
-    let from = corner(side, cell, edge);
-    let to = corner(side, cell, next_edge(edge));
+    let (from, to) = ends(side, k / EDGES, edge);
     put_halves(lump, &[from, to, edge_angle(edge), k, 0, 0])
-}
-
-/// SSECTORS: the leaf of each cell.
-#[tactic(auto, using(made_rules::proofs::BytesLemmas::filling))]
-pub fn leaves(alloc: Global, cells: u32) -> Result<Vec<u8>, AllocError>
-    requires { cells < 2 ^ 16 }
-    ensures { IfOk result (λ lump. lump.items ≡ records leaf_bytes cells) }
-{
-    let mut lump = Vec::new(alloc);
-    for cell in 0..cells {
-        put_leaf(&mut lump, cell)?;
-    }
-    Ok(lump)
 }
 
 #[tactic(auto, unfolding(made_rules::specs::Maps::leaf_bytes))]

@@ -40,8 +40,7 @@ fn put_nodes(lump: &mut Vec<u8>, side: u32, first: u32, part: Part) -> Result<()
     if is_one_cell(part) {
         return Ok(());
     }
-    let front = front_part(part);
-    let back = back_part(part);
+    let Halves { front, back } = halves_of(part);
     put_nodes(lump, side, first, front)?;
     put_nodes(lump, side, first + node_count(front), back)?;
     put_node(lump, side, first, part)
@@ -55,8 +54,7 @@ fn put_node(lump: &mut Vec<u8>, side: u32, first: u32, part: Part) -> Result<(),
     requires numbers { first + node_count part < 2 ^ 17 }
     ensures { OnOk result (lump.new.items ≡ lump.old.items ++ node_bytes side first part) }
 {
-    let front = front_part(part);
-    let back = back_part(part);
+    let Halves { front, back } = halves_of(part);
     put_line(lump, part)?;
     put_box(lump, front)?;
     put_box(lump, back)?;
@@ -74,23 +72,13 @@ fn put_line(lump: &mut Vec<u8>, part: Part) -> Result<(), AllocError>
         let length = CELL_SIZE * (part.north - part.south);
         put_halves(
             lump,
-            &[
-                CELL_SIZE * made_middle_column(part),
-                CELL_SIZE * part.south,
-                0,
-                length,
-            ],
+            &[CELL_SIZE * middle(part), CELL_SIZE * part.south, 0, length],
         )
     } else {
         let length = CELL_SIZE * (part.east - part.west);
         put_halves(
             lump,
-            &[
-                CELL_SIZE * part.west,
-                CELL_SIZE * middle_row(part),
-                length,
-                0,
-            ],
+            &[CELL_SIZE * part.west, CELL_SIZE * middle(part), length, 0],
         )
     }
 }
@@ -147,64 +135,56 @@ fn divides_columns(part: Part) -> bool
     part.north - part.south <= part.east - part.west
 }
 
-#[tactic(auto, unfolding(made_rules::specs::Nodes::made_middle_column))]
-fn made_middle_column(part: Part) -> u32
+// The column or the row of the line that divides a part.
+#[tactic(auto, unfolding(made_rules::specs::Nodes::made_middle_column, made_rules::specs::Nodes::middle_row))]
+fn middle(part: Part) -> u32
     requires { IsPart part }
-    ensures value { result ≡ made_middle_column part }
+    ensures column { divides_columns part ≡ true → result ≡ made_middle_column part }
+    ensures row { divides_columns part ≡ false → result ≡ middle_row part }
     ensures most { result ≤ 2 ^ 8 }
-{
-    (part.west + part.east) / 2
-}
-
-#[tactic(auto, unfolding(made_rules::specs::Nodes::middle_row))]
-fn middle_row(part: Part) -> u32
-    requires { IsPart part }
-    ensures value { result ≡ middle_row part }
-    ensures most { result ≤ 2 ^ 8 }
-{
-    (part.south + part.north) / 2
-}
-
-// The part in front of the line that divides a part: the east or the south.
-#[tactic(auto, unfolding(made_rules::specs::Nodes::front_part))]
-fn front_part(part: Part) -> Part
-    requires part { IsPart part }
-    requires divisible { is_one_cell part ≡ false }
-    ensures value { result ≡ front_part part }
-    ensures within { IsPart result }
-    ensures smaller { width result + height result < width part + height part }
 {
     if divides_columns(part) {
-        Part {
-            west: made_middle_column(part),
-            ..part
-        }
+        (part.west + part.east) / 2
     } else {
-        Part {
-            north: middle_row(part),
-            ..part
-        }
+        (part.south + part.north) / 2
     }
 }
 
-// The part behind the line: the west or the north.
-#[tactic(auto, unfolding(made_rules::specs::Nodes::back_part))]
-fn back_part(part: Part) -> Part
+// The two parts of a part: in front of its line the east or the south, behind it the west or the
+// north.
+#[derive(Clone, Copy)]
+struct Halves {
+    front: Part,
+    back: Part,
+}
+
+#[tactic(auto, unfolding(made_rules::specs::Nodes::front_part, made_rules::specs::Nodes::back_part))]
+fn halves_of(part: Part) -> Halves
     requires part { IsPart part }
     requires divisible { is_one_cell part ≡ false }
-    ensures value { result ≡ back_part part }
-    ensures within { IsPart result }
-    ensures smaller { width result + height result < width part + height part }
+    ensures front { result.front ≡ front_part part }
+    ensures back { result.back ≡ back_part part }
+    ensures front_within { IsPart result.front }
+    ensures back_within { IsPart result.back }
+    ensures front_smaller { width result.front + height result.front < width part + height part }
+    ensures back_smaller { width result.back + height result.back < width part + height part }
 {
+    let line = middle(part);
     if divides_columns(part) {
-        Part {
-            east: made_middle_column(part),
-            ..part
+        Halves {
+            front: Part { west: line, ..part },
+            back: Part { east: line, ..part },
         }
     } else {
-        Part {
-            south: middle_row(part),
-            ..part
+        Halves {
+            front: Part {
+                north: line,
+                ..part
+            },
+            back: Part {
+                south: line,
+                ..part
+            },
         }
     }
 }

@@ -1,29 +1,15 @@
 // The sectors of a made level.
-ghost use Rattle.std.specs.Prelude.{◌≡◌, ◌<◌, ◌≤◌, ◌++◌, ◌*◌, ◌+◌, ◌^◌, bit_xor, IfOk, OnOk};
-ghost use Rattle.made_rules.specs.Bytes.{records};
+ghost use Rattle.std.specs.Prelude.{◌≡◌, ◌<◌, ◌≤◌, ◌++◌, ◌*◌, ◌+◌, ◌^◌, bit_xor, OnOk};
 ghost use Rattle.made_rules.specs.Maps.{sector_bytes, floor_height, ceiling_height, sector_light, floor_flat, has_made_sky, ceiling_name, flat_name};
 
 use crate::bytes::put_halves;
 use crate::cells::{made_column, made_row};
 use made_rules::FLATS;
-use std::alloc::{AllocError, Global};
+use std::alloc::AllocError;
 
-/// SECTORS: the sector of each cell.
-#[tactic(auto, using(made_rules::proofs::BytesLemmas::filling))]
-pub fn sectors(alloc: Global, side: u32, cells: u32) -> Result<Vec<u8>, AllocError>
-    requires some { 0 < side }
-    requires cells { cells < 2 ^ 16 }
-    ensures { IfOk result (λ lump. lump.items ≡ records (sector_bytes side) cells) }
-{
-    let mut lump = Vec::new(alloc);
-    for cell in 0..cells {
-        put_sector(&mut lump, side, cell)?;
-    }
-    Ok(lump)
-}
-
+/// A record of SECTORS.
 #[tactic(auto, unfolding(made_rules::specs::Maps::sector_bytes))]
-fn put_sector(lump: &mut Vec<u8>, side: u32, cell: u32) -> Result<(), AllocError>
+pub fn put_sector(lump: &mut Vec<u8>, side: u32, cell: u32) -> Result<(), AllocError>
     requires some { 0 < side }
     requires cell { cell < 2 ^ 16 }
     ensures { OnOk result (lump.new.items ≡ lump.old.items ++ sector_bytes side cell) }

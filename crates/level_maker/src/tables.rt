@@ -4,7 +4,8 @@ ghost use Rattle.word_rules.specs.Listed.{listed};
 ghost use Rattle.word_rules.specs.Words.{bits_of};
 ghost use Rattle.made_rules.specs.Bytes.{records, word_bytes};
 ghost use Rattle.view_rules.specs.Formulas.{sine_product, half_sine, made_sine, upper_tangent, made_tangent};
-ghost use Rattle.made_rules.specs.Tables.{made_angle, sine_bytes, tangent_bytes, angle_bytes, made_tables};
+ghost use Rattle.made_rules.specs.Tables.{made_angle, angle_bytes, made_tables};
+ghost use Rattle.level_maker.specs.Curves.{curve_bytes, curve_length};
 
 use crate::bytes::put_word;
 use made_rules::{SINES, SLOPE_STEP, SLOPES, TANGENTS};
@@ -13,6 +14,13 @@ use view_rules::{HALF_STEPS, HALF_TURN, ONE, QUARTER};
 use word_rules::FINE_SHIFT;
 
 const FIVE_SQUARES: u64 = 5 * (HALF_STEPS as u64) * (HALF_STEPS as u64);
+
+// The tables that have a formula for each entry.
+#[derive(Clone, Copy)]
+enum Curve {
+    Sine,
+    Tangent,
+}
 
 /// The bytes of the made tables file: 10240 sines and 4096 tangents in 16.16, and 2049 angles.
 ///
@@ -24,30 +32,33 @@ pub fn make_tables(alloc: Global) -> Result<Vec<u8>, AllocError>
     ensures { IfOk result (λ file. file.items ≡ made_tables) }
 {
     let mut file = Vec::new(alloc);
-    put_sines(&mut file)?;
-    put_tangents(&mut file)?;
+    put_curve(&mut file, Curve::Sine, SINES)?;
+    put_curve(&mut file, Curve::Tangent, TANGENTS)?;
     put_angles(alloc, &mut file)?;
     Ok(file)
 }
 
+// The entries of a curve, up to a number.
 #[tactic(auto, using(made_rules::proofs::BytesLemmas::filling))]
-fn put_sines(file: &mut Vec<u8>) -> Result<(), AllocError>
-    ensures { OnOk result (file.new.items ≡ file.old.items ++ records sine_bytes SINES) }
+fn put_curve(file: &mut Vec<u8>, curve: Curve, count: u32) -> Result<(), AllocError>
+    requires { count ≤ curve_length curve }
+    ensures { OnOk result (file.new.items ≡ file.old.items ++ records (curve_bytes curve) count) }
 {
-    for i in 0..SINES {
-        put_sine(file, i)?;
+    for i in 0..count {
+        put_entry(file, curve, i)?;
     }
     Ok(())
 }
 
-#[tactic(auto, using(made_rules::proofs::BytesLemmas::filling))]
-fn put_tangents(file: &mut Vec<u8>) -> Result<(), AllocError>
-    ensures { OnOk result (file.new.items ≡ file.old.items ++ records tangent_bytes TANGENTS) }
+#[tactic(auto, unfolding(made_rules::specs::Tables::sine_bytes, made_rules::specs::Tables::tangent_bytes))]
+fn put_entry(file: &mut Vec<u8>, curve: Curve, i: u32) -> Result<(), AllocError>
+    requires { i < curve_length curve }
+    ensures { OnOk result (file.new.items ≡ file.old.items ++ curve_bytes curve i) }
 {
-    for i in 0..TANGENTS {
-        put_tangent(file, i)?;
+    match curve {
+        Curve::Sine => put_word(file, sine(i).cast_unsigned()),
+        Curve::Tangent => put_word(file, tangent(i).cast_unsigned()),
     }
-    Ok(())
 }
 
 fn put_angles(alloc: Global, file: &mut Vec<u8>) -> Result<(), AllocError>
@@ -66,22 +77,6 @@ fn put_slopes(file: &mut Vec<u8>, tangents: &[u32]) -> Result<(), AllocError>
         put_angle(file, tangents, i)?;
     }
     Ok(())
-}
-
-#[tactic(auto, unfolding(made_rules::specs::Tables::sine_bytes))]
-fn put_sine(file: &mut Vec<u8>, i: u32) -> Result<(), AllocError>
-    requires { i < SINES }
-    ensures { OnOk result (file.new.items ≡ file.old.items ++ sine_bytes i) }
-{
-    put_word(file, sine(i).cast_unsigned())
-}
-
-#[tactic(auto, unfolding(made_rules::specs::Tables::tangent_bytes))]
-fn put_tangent(file: &mut Vec<u8>, i: u32) -> Result<(), AllocError>
-    requires { i < TANGENTS }
-    ensures { OnOk result (file.new.items ≡ file.old.items ++ tangent_bytes i) }
-{
-    put_word(file, tangent(i).cast_unsigned())
 }
 
 #[tactic(auto, unfolding(made_rules::specs::Tables::angle_bytes))]

@@ -1,9 +1,10 @@
 // The names of patches, and the wall textures.
-ghost use Rattle.std.specs.Prelude.{◌≡◌, ◌<◌, ◌≤◌, ◌++◌, ◌*◌, ◌+◌, ◌^◌, length, IfOk, OnOk};
+ghost use Rattle.std.specs.Prelude.{◌≡◌, ◌<◌, ◌≤◌, ◌++◌, ◌*◌, ◌+◌, ◌^◌, [], ◌∷◌, length, IfOk, OnOk};
 ghost use Rattle.std.specs.List.{flat_map};
+ghost use Rattle.made_rules.specs.Bytes.{words};
 ghost use Rattle.made_rules.specs.Textures.{made_patch_names, made_textures, texture, wall_textures, other_textures, texture_bytes, patch_place_bytes};
 
-use crate::bytes::{put_halves, put_words};
+use crate::bytes::put_halves;
 use made_rules::PatchPlace;
 use std::alloc::{AllocError, Global};
 
@@ -12,7 +13,7 @@ const PATCH_NAMES: &[u8; 36] = b"\x04\0\0\0WPATA\0\0\0WPATB\0\0\0GRATP\0\0\0SKYP
 const TEXTURE_HEIGHT: u32 = 128;
 
 // How many textures there are, and where they stand.
-const TEXTURES_HEAD: [u32; 6] = [5, 24, 56, 88, 130, 162];
+const TEXTURES_HEAD: &[u8; 24] = b"\x05\0\0\0\x18\0\0\0\x38\0\0\0\x58\0\0\0\x82\0\0\0\xa2\0\0\0";
 
 /// PNAMES: how many patches there are, and their names.
 #[tactic(auto, unfolding(made_rules::specs::Textures::made_patch_names, made_rules::specs::Bytes::word_bytes))]
@@ -27,11 +28,18 @@ pub fn patch_names(alloc: Global) -> Result<Vec<u8>, AllocError>
 pub fn textures(alloc: Global) -> Result<Vec<u8>, AllocError>
     ensures { IfOk result (λ lump. lump.items ≡ made_textures) }
 {
-    let mut lump = Vec::new(alloc);
-    put_words(&mut lump, &TEXTURES_HEAD)?;
+    let mut lump = textures_head(alloc)?;
     put_walls(&mut lump)?;
     put_others(&mut lump)?;
     Ok(lump)
+}
+
+#[tactic(auto, unfolding(made_rules::specs::Bytes::words, made_rules::specs::Bytes::word_bytes))]
+fn textures_head(alloc: Global) -> Result<Vec<u8>, AllocError>
+    ensures { IfOk result (λ lump. lump.items
+        ≡ words (5 ∷ 24 ∷ 56 ∷ 88 ∷ 130 ∷ 162 ∷ [])) }
+{
+    Vec::from_slice(alloc, TEXTURES_HEAD)
 }
 
 #[tactic(auto, unfolding(made_rules::specs::Textures::wall_textures))]

@@ -4,11 +4,11 @@ ghost use Rattle.word_rules.specs.Listed.{listed};
 ghost use Rattle.made_rules.specs.Wads.{WadParts, parts_of, no_lumps, lump_of, with_lumps, table_lumps, patch_lumps, made_flat_lump, flat_lumps, sprite_lumps, thing_lumps, wall_lumps, tree_lumps, art_lumps, level_lumps, file_of, made_wad};
 
 use crate::bytes::{put_size, put_word};
-use crate::map::{leaves, lines, segs, sides, things, vertices};
+use crate::map::{MadeLump, made_lump};
 use crate::nodes::nodes;
 use crate::patches::patch;
 use crate::pictures::{colormaps, flat, palette};
-use crate::sectors::{flat_name, sectors};
+use crate::sectors::flat_name;
 use crate::textures::{patch_names, textures};
 use made_rules::{
     CELLS_PER_NUMBER, EDGES, FLATS, GRATE, HEAD_SIZE, LUMPS, MAX_NUMBER, Post, SKY, TREE, WALL,
@@ -16,14 +16,6 @@ use made_rules::{
 };
 use std::alloc::{AllocError, Global};
 use std::marker::Model;
-
-// The bytes of a column with one post of 128 rows, of one with two posts of 32 rows, and of one with
-// one post of 64 rows.
-const WALL_COLUMN: u32 = 133;
-
-const GRATE_COLUMN: u32 = 73;
-
-const TREE_COLUMN: u32 = 69;
 
 // The lumps of a file that is being put together, and its directory.
 #[derive(Drop)]
@@ -122,6 +114,14 @@ fn add_tables(alloc: Global, wad: &mut Wad) -> Result<(), AllocError>
     wad.add(b"TEXTURE1", &textures(alloc)?)
 }
 
+// The bytes of a column with one post of 128 rows, of one with two posts of 32 rows, and of one with
+// one post of 64 rows.
+const WALL_COLUMN: u32 = 133;
+
+const GRATE_COLUMN: u32 = 73;
+
+const TREE_COLUMN: u32 = 69;
+
 #[tactic(auto, using(made_rules::proofs::WadLemmas::lump_steps), unfolding(made_rules::specs::Wads::patch_lumps, made_rules::specs::Pictures::column_size))]
 fn add_patches(alloc: Global, wad: &mut Wad) -> Result<(), AllocError>
     ensures { OnOk result (wad.new ≡ with_lumps wad.old patch_lumps) }
@@ -192,7 +192,10 @@ fn add_things(alloc: Global, wad: &mut Wad, side: u32) -> Result<(), AllocError>
     ensures { OnOk result (wad.new ≡ with_lumps wad.old (thing_lumps side)) }
 {
     wad.add(b"MAP01\0\0\0", b"")?;
-    wad.add(b"THINGS\0\0", &things(alloc, side, square(side))?)
+    wad.add(
+        b"THINGS\0\0",
+        &made_lump(alloc, MadeLump::Things, side, square(side))?,
+    )
 }
 
 #[tactic(auto, using(made_rules::proofs::WadLemmas::lump_steps), unfolding(made_rules::specs::Wads::wall_lumps))]
@@ -202,9 +205,18 @@ fn add_walls(alloc: Global, wad: &mut Wad, side: u32) -> Result<(), AllocError>
     ensures { OnOk result (wad.new ≡ with_lumps wad.old (wall_lumps side)) }
 {
     let edges = EDGES * square(side);
-    wad.add(b"LINEDEFS", &lines(alloc, side, edges)?)?;
-    wad.add(b"SIDEDEFS", &sides(alloc, side, edges)?)?;
-    wad.add(b"VERTEXES", &vertices(alloc, side, square(side + 1))?)
+    wad.add(
+        b"LINEDEFS",
+        &made_lump(alloc, MadeLump::Lines, side, edges)?,
+    )?;
+    wad.add(
+        b"SIDEDEFS",
+        &made_lump(alloc, MadeLump::Sides, side, edges)?,
+    )?;
+    wad.add(
+        b"VERTEXES",
+        &made_lump(alloc, MadeLump::Vertices, side, square(side + 1))?,
+    )
 }
 
 #[tactic(auto, using(made_rules::proofs::WadLemmas::lump_steps), unfolding(made_rules::specs::Wads::tree_lumps))]
@@ -213,10 +225,19 @@ fn add_tree(alloc: Global, wad: &mut Wad, side: u32) -> Result<(), AllocError>
     requires square { side ≤ CELLS_PER_NUMBER * MAX_NUMBER }
     ensures { OnOk result (wad.new ≡ with_lumps wad.old (tree_lumps side)) }
 {
-    wad.add(b"SEGS\0\0\0\0", &segs(alloc, side, EDGES * square(side))?)?;
-    wad.add(b"SSECTORS", &leaves(alloc, square(side))?)?;
+    wad.add(
+        b"SEGS\0\0\0\0",
+        &made_lump(alloc, MadeLump::Segs, side, EDGES * square(side))?,
+    )?;
+    wad.add(
+        b"SSECTORS",
+        &made_lump(alloc, MadeLump::Leaves, side, square(side))?,
+    )?;
     wad.add(b"NODES\0\0\0", &nodes(alloc, side)?)?;
-    wad.add(b"SECTORS\0", &sectors(alloc, side, square(side))?)
+    wad.add(
+        b"SECTORS\0",
+        &made_lump(alloc, MadeLump::Sectors, side, square(side))?,
+    )
 }
 
 fn square(side: u32) -> u32

@@ -1,7 +1,9 @@
 // A level: its lists, with everything that they name by number in range. Rules: `level_rules/maps`,
 // Levels and Sound.
 ghost use Rattle.std.specs.Prelude.{◌≡◌};
+ghost use Rattle.level_rules.specs.maps.Levels.{LevelValue};
 ghost use Rattle.level_rules.specs.maps.Sound.{IsSound};
+ghost use Rattle.map_lumps.specs.Views.{level_value};
 
 use level_rules::{Child, Leaf, Node, Sector, Seg, Side, Thing};
 use std::marker::Model;
@@ -18,17 +20,12 @@ pub struct Level {
     pub(crate) segs: Vec<Seg>,
     pub(crate) leaves: Vec<Leaf>,
     pub(crate) nodes: Vec<Node>,
-    pub(crate) sectors: Vec<Sector>,
     pub(crate) root: Child,
+    pub(crate) sectors: Vec<Sector>,
 }
 
 impl Model for Level {
-    ghost use Rattle.level_rules.specs.maps.Levels.{LevelValue};
-
     ghost Value = { LevelValue };
-
-    ghost use Rattle.level_rules.specs.maps.Sound.{IsSound};
-    ghost use Rattle.map_lumps.specs.Views.{level_value};
 
     ghost view = { level_value };
 

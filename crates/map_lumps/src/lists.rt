@@ -8,10 +8,7 @@ ghost use Rattle.level_rules.specs.maps.Trees.{root_of};
 use crate::fault::MapFault;
 use crate::join::{join_leaves, join_segs};
 use crate::level::Level;
-use crate::ranges::{
-    first_leaf_refusal, first_line_refusal, first_node_refusal, first_seg_refusal,
-    first_side_refusal,
-};
+use crate::ranges::{Counts, first_refusal};
 use crate::tree::{check_tree, root_of};
 use level_rules::{
     Child, Leaf, MapLeaf, MapLine, MapRefusal, MapSeg, MapVertex, Node, Sector, Seg, Side, Thing,
@@ -143,18 +140,26 @@ impl MapLists {
     fn range_refusal(&self) -> Option<MapRefusal>
         ensures { result ≡ range_refusal self.now }
     {
-        if let Some(refusal) = first_line_refusal(&self.lines, self.sides.len()) {
+        let counts = Counts {
+            sides: self.sides.len(),
+            sectors: self.sectors.len(),
+            vertexes: self.vertexes.len(),
+            segs: self.segs.len(),
+            leaves: self.leaves.len(),
+            nodes: self.nodes.len(),
+        };
+        if let Some(refusal) = first_refusal(counts, &self.lines, &self.lines) {
             return Some(refusal);
         }
-        if let Some(refusal) = first_side_refusal(&self.sides, self.sectors.len()) {
+        if let Some(refusal) = first_refusal(counts, &self.lines, &self.sides) {
             return Some(refusal);
         }
-        if let Some(refusal) = first_seg_refusal(&self.segs, self.vertexes.len(), &self.lines) {
+        if let Some(refusal) = first_refusal(counts, &self.lines, &self.segs) {
             return Some(refusal);
         }
-        if let Some(refusal) = first_leaf_refusal(&self.leaves, self.segs.len()) {
+        if let Some(refusal) = first_refusal(counts, &self.lines, &self.leaves) {
             return Some(refusal);
         }
-        first_node_refusal(&self.nodes, self.leaves.len())
+        first_refusal(counts, &self.lines, &self.nodes)
     }
 }

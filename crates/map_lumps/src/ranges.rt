@@ -1,7 +1,10 @@
 // The first number of a map that names nothing that is there. Rules: `level_rules/maps`, Ranges.
-ghost use Rattle.std.specs.Prelude.{◌≡◌, ◌≤◌, ◌+◌, ◌<◌, ℕ, length, Option, Some, None};
+ghost use Rattle.std.specs.Prelude.{◌≡◌, ◌≤◌, ◌+◌, ◌<◌, ℕ, List, length, Option, Some, None};
+ghost use Rattle.level_rules.specs.declared.maps.records.MapLine.{MapLine};
+ghost use Rattle.level_rules.specs.declared.maps.refusal.MapRefusal.{MapRefusal};
 ghost use Rattle.level_rules.specs.maps.Firsts.{first_refusal};
 ghost use Rattle.level_rules.specs.maps.Ranges.{has_side, index_refusal, is_side, is_there, leaf_field, leaf_refusal, line_field, line_refusal, node_field, node_refusal, seg_field, seg_refusal, side_field, side_refusal};
+ghost use Rattle.map_lumps.specs.declared.ranges.Counts.{Counts};
 
 use crate::entries::{child_on, line_by, lump_no, side_on};
 use level_rules::maps::layout::{
@@ -10,73 +13,81 @@ use level_rules::maps::layout::{
 };
 use level_rules::{Child, MapLeaf, MapLine, MapLump, MapRefusal, MapSeg, NO_SIDE, Node, Side};
 
-// The first line with a side that is not there.
-#[tactic(auto, using(level_rules::proofs::maps::FirstLemmas::first_refusals))]
-pub(crate) fn first_line_refusal(lines: &[MapLine], sides: usize) -> Option<MapRefusal>
-    ensures { result ≡ first_refusal (line_refusal sides) 0 lines.now }
-{
-    for (n, line) in lines.iter().enumerate() {
-        if let Some(refusal) = line_refusal(sides, n as u64, *line) {
-            return Some(refusal);
-        }
-    }
-    None
+// How many records there are of each kind that others name.
+#[derive(Clone, Copy)]
+pub(crate) struct Counts {
+    pub(crate) sides: usize,
+    pub(crate) sectors: usize,
+    pub(crate) vertexes: usize,
+    pub(crate) segs: usize,
+    pub(crate) leaves: usize,
+    pub(crate) nodes: usize,
 }
 
-// The first side whose sector is not there.
-#[tactic(auto, using(level_rules::proofs::maps::FirstLemmas::first_refusals))]
-pub(crate) fn first_side_refusal(sides: &[Side], sectors: usize) -> Option<MapRefusal>
-    ensures { result ≡ first_refusal (side_refusal sectors) 0 sides.now }
-{
-    for (n, side) in sides.iter().enumerate() {
-        if let Some(refusal) = side_refusal(sectors, n as u64, *side) {
-            return Some(refusal);
-        }
-    }
-    None
+// A record that names others by number.
+pub(crate) trait RangedRecord: Copy {
+    ghost refusal_in: { Counts → List MapLine → ℕ → Self → Option MapRefusal };
+
+    // What it names first that is not there, where it is record n and these are the lines.
+    fn refusal(self, counts: Counts, lines: &[MapLine], n: u64) -> Option<MapRefusal>
+        ensures { result ≡ refusal_in counts lines.now n self };
 }
 
-// The first seg with a vertex, a line or a side of that line that is not there.
+// The first of these records that names what is not there.
 #[tactic(auto, using(level_rules::proofs::maps::FirstLemmas::first_refusals))]
-pub(crate) fn first_seg_refusal(
-    segs: &[MapSeg],
-    vertexes: usize,
+pub(crate) fn first_refusal<R: RangedRecord>(
+    counts: Counts,
     lines: &[MapLine],
+    records: &[R],
 ) -> Option<MapRefusal>
-    ensures { result ≡ first_refusal (seg_refusal vertexes lines.now) 0 segs.now }
+    ensures { result ≡ first_refusal (R.refusal_in counts lines.now) 0 records.now }
 {
-    for (n, seg) in segs.iter().enumerate() {
-        if let Some(refusal) = seg_refusal(vertexes, lines, n as u64, *seg) {
+    for (n, record) in records.iter().enumerate() {
+        if let Some(refusal) = record.refusal(counts, lines, n as u64) {
             return Some(refusal);
         }
     }
     None
 }
 
-// The first leaf without a seg, or with one that is not there.
-#[tactic(auto, using(level_rules::proofs::maps::FirstLemmas::first_refusals))]
-pub(crate) fn first_leaf_refusal(leaves: &[MapLeaf], segs: usize) -> Option<MapRefusal>
-    ensures { result ≡ first_refusal (leaf_refusal segs) 0 leaves.now }
-{
-    for (n, leaf) in leaves.iter().enumerate() {
-        if let Some(refusal) = leaf_refusal(segs, n as u64, *leaf) {
-            return Some(refusal);
-        }
+impl RangedRecord for MapLine {
+    ghost refusal_in = { λ counts lines. line_refusal counts.sides };
+
+    fn refusal(self, counts: Counts, _lines: &[MapLine], n: u64) -> Option<MapRefusal> {
+        line_refusal(counts.sides, n, self)
     }
-    None
 }
 
-// The first node with a child that is not there.
-#[tactic(auto, using(level_rules::proofs::maps::FirstLemmas::first_refusals))]
-pub(crate) fn first_node_refusal(nodes: &[Node], leaves: usize) -> Option<MapRefusal>
-    ensures { result ≡ first_refusal (node_refusal (length nodes.now) leaves) 0 nodes.now }
-{
-    for (n, node) in nodes.iter().enumerate() {
-        if let Some(refusal) = node_refusal(nodes.len(), leaves, n as u64, *node) {
-            return Some(refusal);
-        }
+impl RangedRecord for Side {
+    ghost refusal_in = { λ counts lines. side_refusal counts.sectors };
+
+    fn refusal(self, counts: Counts, _lines: &[MapLine], n: u64) -> Option<MapRefusal> {
+        side_refusal(counts.sectors, n, self)
     }
-    None
+}
+
+impl RangedRecord for MapSeg {
+    ghost refusal_in = { λ counts lines. seg_refusal counts.vertexes lines };
+
+    fn refusal(self, counts: Counts, lines: &[MapLine], n: u64) -> Option<MapRefusal> {
+        seg_refusal(counts.vertexes, lines, n, self)
+    }
+}
+
+impl RangedRecord for MapLeaf {
+    ghost refusal_in = { λ counts lines. leaf_refusal counts.segs };
+
+    fn refusal(self, counts: Counts, _lines: &[MapLine], n: u64) -> Option<MapRefusal> {
+        leaf_refusal(counts.segs, n, self)
+    }
+}
+
+impl RangedRecord for Node {
+    ghost refusal_in = { λ counts lines. node_refusal counts.nodes counts.leaves };
+
+    fn refusal(self, counts: Counts, _lines: &[MapLine], n: u64) -> Option<MapRefusal> {
+        node_refusal(counts.nodes, counts.leaves, n, self)
+    }
 }
 
 // The refusals of one record.

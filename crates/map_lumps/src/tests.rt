@@ -146,35 +146,30 @@ fn things_sides_and_sectors_are_those_of_their_lumps(rt: HostRuntime) {
     assert_eq!(rt; level.sectors().last().copied(), Some(sector));
 }
 
+// A seg that goes south: its place from the west, and where it begins and ends from the south.
+fn south_seg(place: [i32; 3], flags: u16, side: u16, front: u16, back: Option<u16>) -> Seg {
+    let [x, y1, y2] = place;
+    Seg {
+        x1: x.wrapping_mul(UNIT),
+        y1: y1.wrapping_mul(UNIT),
+        x2: x.wrapping_mul(UNIT),
+        y2: y2.wrapping_mul(UNIT),
+        angle: 0xc000_0000,
+        offset: 0,
+        flags,
+        side,
+        front,
+        back,
+    }
+}
+
 #[test]
 fn segs_leaves_and_nodes_have_what_they_name(rt: HostRuntime) {
     let lumps = lumps(rt.alloc()).expect(&rt, "memory");
     let level = level(rt.alloc(), &lumps).expect(&rt, "level");
-    let one_sided = Seg {
-        x1: 256 * UNIT,
-        y1: 256 * UNIT,
-        x2: 256 * UNIT,
-        y2: 128 * UNIT,
-        angle: 0xc000_0000,
-        offset: 0,
-        flags: 1,
-        side: 15,
-        front: 3,
-        back: None,
-    };
+    let one_sided = south_seg([256, 256, 128], 1, 15, 3, None);
     assert_eq!(rt; level.segs().last().copied(), Some(one_sided));
-    let two_sided = Seg {
-        x1: 128 * UNIT,
-        y1: 128 * UNIT,
-        x2: 128 * UNIT,
-        y2: 0,
-        angle: 0xc000_0000,
-        offset: 0,
-        flags: 4,
-        side: 3,
-        front: 0,
-        back: Some(1),
-    };
+    let two_sided = south_seg([128, 128, 0], 4, 3, 0, Some(1));
     assert_eq!(rt; level.segs().get(3).copied(), Some(two_sided));
     let leaf = Leaf {
         first: 12,

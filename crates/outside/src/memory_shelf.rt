@@ -1,10 +1,10 @@
 //! A shelf of files in memory, whose calls fail where they are told to.
 //!
 //! Rules: `specs/MemoryShelf`. Proved: each call is the trait's, and when it fails and what it leaves.
-ghost use Rattle.std.specs.Prelude.{◌≡◌, ◌<◌, ◌≤◌, ◌+◌, ◌^◌, ◌↔◌, ◌⊎◌, refl, false, length, position, Contains, MatchOption, IsTrue, IsSome, IfSome, IsOk, IsErr, IfOk, OnOk, OnErr};
+ghost use Rattle.std.specs.Prelude.{◌≡◌, ◌<◌, ◌≤◌, ◌+◌, ◌^◌, ◌↔◌, ◌⊎◌, refl, false, length, position, Contains, MatchOption, IsTrue, IsSome, IfSome, IsOk, IsErr, IfOk, OnOk, OnErr, string_bytes};
 ghost use Rattle.std.specs.Str.{bytes_eq};
 ghost use Rattle.outside.specs.Causes.{FaultsRose};
-ghost use Rattle.outside.specs.Shelf.{IsLaterShelf, StandsForNamed, file_named, file_at, IsPieceAt, counted};
+ghost use Rattle.outside.specs.Shelf.{File, IsLaterShelf, StandsForNamed, file_named, file_at, IsPieceAt, counted};
 ghost use Rattle.outside.specs.MemoryShelf.{ShelfInMemory, memory_view, called, failed, read, IsFailing, first_named, has_piece};
 
 use crate::{Failed, FileNo, Shelf};
@@ -18,9 +18,6 @@ pub struct MemoryFile {
 }
 
 impl Model for MemoryFile {
-    ghost use Rattle.std.specs.Prelude.{string_bytes};
-    ghost use Rattle.outside.specs.Shelf.{File};
-
     ghost Value = { File };
 
     ghost view = { λ file. record { name = string_bytes file.name; bytes = file.bytes.items } };
@@ -38,9 +35,6 @@ pub struct MemoryShelf {
 }
 
 impl Model for MemoryShelf {
-    ghost use Rattle.std.specs.Prelude.{length, ◌<◌, ◌^◌};
-    ghost use Rattle.outside.specs.MemoryShelf.{ShelfInMemory};
-
     ghost Value = { ShelfInMemory };
 
     ghost view = { λ shelf. record {
@@ -135,8 +129,7 @@ impl MemoryShelf {
         ensures same { self.new ≡ record self.old { faults = counted self.old.faults 1 } }
         ensures later { self.old.faults ≤ self.new.faults }
     {
-        self.faults = self.faults.saturating_add(1);
-        Failed
+        Failed::counted(&mut self.faults)
     }
 }
 

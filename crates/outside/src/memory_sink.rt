@@ -2,10 +2,10 @@
 //!
 //! Rules: `specs/MemorySink`. Proved: what each put appends, and when it fails. Tested only: that
 //! memory is found.
-ghost use Rattle.std.specs.Prelude.{◌≡◌, ◌≤◌, ◌-◌, [], ◌++◌, ◌↔◌, length, min, take, IfOk, IsOk, OnOk, OnErr};
+ghost use Rattle.std.specs.Prelude.{◌≡◌, ◌≤◌, ◌-◌, [], ◌++◌, ◌↔◌, length, min, take, IfOk, IsOk, OnOk, OnErr, vec_capacity};
 ghost use Rattle.outside.specs.Shelf.{counted};
 ghost use Rattle.outside.specs.Sink.{Writes};
-ghost use Rattle.outside.specs.MemorySink.{SinkInMemory, fault_at, passed, failed, IsPassed};
+ghost use Rattle.outside.specs.MemorySink.{SinkInMemory, fault_at, passed, failed, IsPassed, sink_in_memory};
 
 use crate::{Failed, OutOfMemory, Sink};
 use std::alloc::Global;
@@ -33,18 +33,9 @@ pub struct MemorySink {
 }
 
 impl Model for MemorySink {
-    ghost use Rattle.std.specs.Prelude.{◌≤◌, length, vec_capacity};
-    ghost use Rattle.outside.specs.MemorySink.{SinkInMemory};
-
     ghost Value = { SinkInMemory };
 
-    ghost view = { λ sink. record {
-      bytes = sink.bytes.items;
-      room = sink.room;
-      failing = sink.failing.items;
-      calls = sink.calls;
-      faults = sink.faults;
-    } };
+    ghost view = { sink_in_memory };
 
     ghost invariant = { λ sink. (length sink.bytes.items ≤ sink.room) × (sink.room ≤ vec_capacity sink.bytes) };
 }
@@ -108,8 +99,7 @@ impl MemorySink {
         ensures same { self.new ≡ record self.old { faults = counted self.old.faults 1 } }
         ensures later { self.old.faults ≤ self.new.faults }
     {
-        self.faults = self.faults.saturating_add(1);
-        Failed
+        Failed::counted(&mut self.faults)
     }
 }
 

@@ -19,6 +19,10 @@ IsSlot lumps composites o = ((o.kind ≡ 0) → o.number < lumps) × ((o.kind �
 abbrev pub AreExact : ℕ → List ℕ → List Block → Type 0
 AreExact lumps homes bs = (o : Owner) → IsSlot lumps (length homes - lumps) o → slice_index homes (home_index lumps o.kind o.number) ≡ home_of (owned_block o bs)
 
+-- an owner is a slot, and the homes are exact
+abbrev pub IsHomed : ℕ → List ℕ → Owner → List Block → Type 0
+IsHomed lumps homes o bs = (lumps ≤ length homes) × IsSlot lumps (length homes - lumps) o × AreExact lumps homes bs
+
 -- the owners of a region's blocks, and their homes
 pub record AreHome (lumps : ℕ) (homes : List ℕ) (bs : List Block) : Type 0 where
   pub few : lumps ≤ length homes

@@ -1,7 +1,9 @@
 -- The rules of a request as one walk over the blocks meets them.
-use Rattle.std.specs.Prelude.{◌≡◌, ℕ, ◌+◌, ◌==◌, ◌||◌, Bool, nat_le, if◌then◌else◌, List, [], ◌∷◌, Option, Some, None, max}
-use Rattle.zone_rules.specs.Zones.{Block, is_pinned}
+use Rattle.std.specs.Prelude.{◌≡◌, ℕ, ◌+◌, ◌^◌, ◌<◌, ◌==◌, ◌||◌, Bool, true, nat_le, if◌then◌else◌, List, [], ◌∷◌, Option, Some, None, max, length}
+use Rattle.zone_rules.specs.Zones.{Apart, Block, has_place, is_pinned}
 use Rattle.zone_rules.specs.Requests.{ends_free_at, first_room, stretches, passed_blocks, purge_among, count_among}
+use Rattle.zone_heap.specs.Homes.{AreHome}
+use Rattle.zone_heap.specs.Regions.{blocks_in, IsLaid}
 
 -- a run of unpinned blocks that holds what is wanted: its first block's place, and the index after its least front
 abbrev pub run_place : ℕ → ℕ → ℕ → ℕ
@@ -20,6 +22,16 @@ widest_from best run (b ∷ bs) = if is_pinned b then widest_from best 0 bs else
 -- whether a search begins at this block, where none before it is such a block
 abbrev pub starts_at : ℕ → Block → Bool
 starts_at rover b = nat_le rover b.place || ends_free_at rover b
+
+-- a region in which a search from the rover may look for what is wanted
+pub record CanSearch (lumps rover wanted : ℕ) (homes region : List ℕ) : Type 0 where
+  pub laid : IsLaid region
+  pub some : 0 < length region
+  pub small : length region < 2 ^ 32
+  pub home : AreHome lumps homes (blocks_in region)
+  pub apart : Apart (blocks_in region)
+  pub rover_is : has_place rover (blocks_in region) ≡ true
+  pub positive : 0 < wanted
 
 -- what a search found, which blocks it left before neighbours are joined, and how many it purged
 pub record SearchIs (wanted rover : ℕ) (old : List Block) (place : Option ℕ) (new : List Block) (count : ℕ) : Type 0 where

@@ -1,10 +1,10 @@
 // A slot's block, looked up at the slot's home.
 ghost use Rattle.std.specs.Prelude.{◌≡◌, ◌<◌, ◌≤◌, ◌+◌, ◌-◌, ◌==◌, ℕ, length, slice_index, slice_range, map, Some, IsSome, IfSome, option_map};
-ghost use Rattle.zone_rules.specs.Zones.{AllFit, Unique, owner_at, owned_block, holding_of, bytes_of};
-ghost use Rattle.zone_rules.specs.Frees.{retag_block};
 ghost use Rattle.zone_heap.specs.Headers.{word_at};
+ghost use Rattle.zone_heap.specs.Homes.{home_index, IsHomed};
 ghost use Rattle.zone_heap.specs.Regions.{blocks_in, IsLaid, IsRing};
-ghost use Rattle.zone_heap.specs.Homes.{home_index, home_of, IsSlot, AreExact};
+ghost use Rattle.zone_rules.specs.Frees.{retag_block};
+ghost use Rattle.zone_rules.specs.Zones.{AllFit, Unique, owner_at, owned_block, holding_of, bytes_of};
 
 use crate::headers::{ASKED_AT, TAG_AT, code_tag, set_word, tag_code, word_at};
 use crate::homes::{NO_HOME, home_index};
@@ -45,9 +45,7 @@ pub fn home_at(homes: &[u32], lumps: u32, kind: u8, number: u32) -> u32
 pub fn slot_tag(region: &[u8], homes: &[u32], lumps: u32, kind: u8, number: u32) -> Option<Tag>
     requires laid { IsLaid region.now }
     requires small { length region.now < 4294967295 }
-    requires few { lumps ≤ length homes.now }
-    requires slot { IsSlot lumps (length homes.now - lumps) (owner_at kind number) }
-    requires exact { AreExact lumps homes.now (blocks_in region.now) }
+    requires homed { IsHomed lumps homes.now (owner_at kind number) (blocks_in region.now) }
     ensures { result
         ≡ option_map (λ h. h.tag) (holding_of (owner_at kind number) (blocks_in region.now)) }
 {
@@ -64,9 +62,7 @@ pub fn slot_tag(region: &[u8], homes: &[u32], lumps: u32, kind: u8, number: u32)
 pub fn slot_span(region: &[u8], homes: &[u32], lumps: u32, kind: u8, number: u32) -> Option<Span>
     requires laid { IsLaid region.now }
     requires small { length region.now < 4294967295 }
-    requires few { lumps ≤ length homes.now }
-    requires slot { IsSlot lumps (length homes.now - lumps) (owner_at kind number) }
-    requires exact { AreExact lumps homes.now (blocks_in region.now) }
+    requires homed { IsHomed lumps homes.now (owner_at kind number) (blocks_in region.now) }
     requires fits { AllFit lumps (length homes.now - lumps) (blocks_in region.now) }
     ensures value { bytes_of (owner_at kind number) (blocks_in region.now)
         ≡ option_map (λ s. slice_range region.now s.from s.to) result }
@@ -83,9 +79,7 @@ pub fn slot_span(region: &[u8], homes: &[u32], lumps: u32, kind: u8, number: u32
 /// Where the bytes of a live slot's block lie.
 pub fn live_span(region: &[u8], homes: &[u32], lumps: u32, kind: u8, number: u32) -> Span
     requires laid { IsLaid region.now }
-    requires few { lumps ≤ length homes.now }
-    requires slot { IsSlot lumps (length homes.now - lumps) (owner_at kind number) }
-    requires exact { AreExact lumps homes.now (blocks_in region.now) }
+    requires homed { IsHomed lumps homes.now (owner_at kind number) (blocks_in region.now) }
     requires live { IsSome (owned_block (owner_at kind number) (blocks_in region.now)) }
     ensures from { result.from ≡ slice_index homes.now (home_index lumps kind number) + 24 }
     ensures to { result.to
@@ -99,9 +93,7 @@ pub fn live_span(region: &[u8], homes: &[u32], lumps: u32, kind: u8, number: u32
 /// Gives the block of a live slot another tag.
 pub fn retag(region: &mut [u8], homes: &[u32], lumps: u32, kind: u8, number: u32, tag: Tag)
     requires ring { IsRing region.old }
-    requires few { lumps ≤ length homes.now }
-    requires slot { IsSlot lumps (length homes.now - lumps) (owner_at kind number) }
-    requires exact { AreExact lumps homes.now (blocks_in region.old) }
+    requires homed { IsHomed lumps homes.now (owner_at kind number) (blocks_in region.old) }
     requires unique { Unique (blocks_in region.old) }
     requires live { IsSome (owned_block (owner_at kind number) (blocks_in region.old)) }
     ensures ring { IsRing region.new }

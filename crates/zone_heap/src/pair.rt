@@ -42,50 +42,6 @@ pub fn with_part_and<C, R, F: FnOnce(&mut [u8], &mut C) -> R>(
     f(&mut high[..part.to - part.from], context)
 }
 
-/// Calls `f` with a part that lies before the one to be written.
-fn read_before<R, F: FnOnce(&[u8], &mut [u8]) -> R>(
-    region: &mut Vec<u8>,
-    read: Span,
-    write: Span,
-    f: F,
-) -> R
-    requires callable { F.IsAlwaysCallable f }
-    requires read { read.from ≤ read.to }
-    requires apart { read.to ≤ write.from }
-    requires write { write.from ≤ write.to }
-    requires bound { write.to ≤ vec_len region.old }
-    ensures { (w : List ℕ) × (length w ≡ write.to - write.from)
-        × ReturnsAtPair F.FnOnce f (slice_range region.old.items read.from read.to)
-        (slice_range region.old.items write.from write.to) result w
-        × (region.new.items ≡ take write.from region.old.items ++ (w
-        ++ drop write.to region.old.items)) }
-{
-    let (low, high) = region.split_at_mut(write.from);
-    f(&low[read.from..read.to], &mut high[..write.to - write.from])
-}
-
-/// Calls `f` with a part that lies after the one to be written.
-fn read_after<R, F: FnOnce(&[u8], &mut [u8]) -> R>(
-    region: &mut Vec<u8>,
-    read: Span,
-    write: Span,
-    f: F,
-) -> R
-    requires callable { F.IsAlwaysCallable f }
-    requires write { write.from ≤ write.to }
-    requires apart { write.to ≤ read.from }
-    requires read { read.from ≤ read.to }
-    requires bound { read.to ≤ vec_len region.old }
-    ensures { (w : List ℕ) × (length w ≡ write.to - write.from)
-        × ReturnsAtPair F.FnOnce f (slice_range region.old.items read.from read.to)
-        (slice_range region.old.items write.from write.to) result w
-        × (region.new.items ≡ take write.from region.old.items ++ (w
-        ++ drop write.to region.old.items)) }
-{
-    let (low, high) = region.split_at_mut(read.from);
-    f(&high[..read.to - read.from], &mut low[write.from..write.to])
-}
-
 /// Calls `f` with two parts that lie apart.
 pub fn with_parts<R, F: FnOnce(&[u8], &mut [u8]) -> R>(
     region: &mut Vec<u8>,
@@ -107,8 +63,10 @@ pub fn with_parts<R, F: FnOnce(&[u8], &mut [u8]) -> R>(
     ensures len { vec_len region.new ≡ vec_len region.old }
 {
     if read.to <= write.from {
-        read_before(region, read, write, f)
+        let (low, high) = region.split_at_mut(write.from);
+        f(&low[read.from..read.to], &mut high[..write.to - write.from])
     } else {
-        read_after(region, read, write, f)
+        let (low, high) = region.split_at_mut(read.from);
+        f(&high[..read.to - read.from], &mut low[write.from..write.to])
     }
 }

@@ -1,10 +1,10 @@
 // Where a request finds room, and which blocks it purges.
 ghost use Rattle.std.specs.Prelude.{◌≡◌, ◌<◌, ◌≤◌, ◌+◌, ◌++◌, ◌^◌, ℕ, List, length, IfSome, option_map, drop, take, map, count_by, true};
-ghost use Rattle.zone_rules.specs.Zones.{is_purgeable, Apart, has_place};
+ghost use Rattle.zone_rules.specs.Zones.{is_purgeable};
 ghost use Rattle.zone_rules.specs.Requests.{purge_block, join_free, first_room, stretches, passed_blocks, purge_among, count_among};
 ghost use Rattle.zone_heap.specs.Homes.{AreHome};
 ghost use Rattle.std.specs.List.{position_or_len};
-ghost use Rattle.zone_heap.specs.Walks.{fit_from, widest_from, starts_at, SearchIs};
+ghost use Rattle.zone_heap.specs.Walks.{CanSearch, fit_from, widest_from, starts_at, SearchIs};
 ghost use Rattle.zone_rules.specs.Rooms.{RoomAt};
 ghost use Rattle.zone_heap.specs.Regions.{blocks_in, blocks_from, IsLaid, IsSplit};
 
@@ -132,20 +132,8 @@ pub struct Room {
 
 /// Looks for a run of blocks that holds what is wanted, from the rover on and then from the front,
 /// and purges what it goes over.
-pub fn clear_way(
-    region: &mut [u8],
-    homes: &mut [u32],
-    lumps: u32,
-    rover: usize,
-    wanted: u64,
-) -> Room
-    requires laid { IsLaid region.old }
-    requires some { 0 < length region.old }
-    requires small { length region.old < 2 ^ 32 }
-    requires home { AreHome lumps homes.old (blocks_in region.old) }
-    requires apart { Apart (blocks_in region.old) }
-    requires rover { has_place rover (blocks_in region.old) ≡ true }
-    requires positive { 0 < wanted }
+fn clear_way(region: &mut [u8], homes: &mut [u32], lumps: u32, rover: usize, wanted: u64) -> Room
+    requires { CanSearch lumps rover wanted homes.old region.old }
     ensures laid { IsLaid region.new }
     ensures len { length region.new ≡ length region.old }
     ensures homes { length homes.new ≡ length homes.old }
@@ -180,13 +168,7 @@ pub fn clear_way(
 
 /// Looks for room, purges what it goes over, and joins free neighbours.
 pub fn search(region: &mut [u8], homes: &mut [u32], lumps: u32, rover: usize, wanted: u64) -> Room
-    requires laid { IsLaid region.old }
-    requires some { 0 < length region.old }
-    requires small { length region.old < 2 ^ 32 }
-    requires home { AreHome lumps homes.old (blocks_in region.old) }
-    requires apart { Apart (blocks_in region.old) }
-    requires rover { has_place rover (blocks_in region.old) ≡ true }
-    requires positive { 0 < wanted }
+    requires { CanSearch lumps rover wanted homes.old region.old }
     ensures laid { IsLaid region.new }
     ensures len { length region.new ≡ length region.old }
     ensures homes { length homes.new ≡ length homes.old }

@@ -1,5 +1,6 @@
 // Typed slot numbers: a slot of one kind never names a block of the other.
 ghost use Rattle.std.specs.Prelude.{◌≡◌, ◌≤◌, ℕ};
+ghost use Rattle.std.proofs.Common.{lit≤};
 
 use std::marker::PhantomData;
 
@@ -17,9 +18,11 @@ pub trait SlotKind {
 #[derive(Clone, Copy)]
 pub struct LumpKind;
 
-impl SlotKind for LumpKind {
-    ghost use Rattle.std.proofs.Common.{lit≤};
+/// The slots of composites.
+#[derive(Clone, Copy)]
+pub struct CompositeKind;
 
+impl SlotKind for LumpKind {
     ghost CODE = { 0 };
 
     ghost is_known = { lit≤ tt };
@@ -27,13 +30,7 @@ impl SlotKind for LumpKind {
     const CODE: u8 = 0;
 }
 
-/// The slots of composites.
-#[derive(Clone, Copy)]
-pub struct CompositeKind;
-
 impl SlotKind for CompositeKind {
-    ghost use Rattle.std.proofs.Common.{lit≤};
-
     ghost CODE = { 1 };
 
     ghost is_known = { lit≤ tt };

@@ -5,6 +5,7 @@ ghost use Rattle.std.specs.Prelude.{false, ◌≡◌, ◌<◌, ◌≤◌, ◌+�
 ghost use Rattle.std.specs.Option.{option_copied};
 ghost use Rattle.zone_heap.specs.Calls.{PairCalled, BytesChanged, BytesChangedWith};
 ghost use Rattle.zone_heap.specs.Regions.{blocks_in, IsRing};
+ghost use Rattle.zone_heap.specs.View.{heap_of, IsZone};
 ghost use Rattle.zone_rules.specs.Zones.{Owner, Heap, IsLive, IsSound, block_size, slot_count, owner_at, bytes_of, free_block, holding_of, owned_block, same_owner, is_purgeable, used_size, purgeable_size, free_size, IsZoneSize, fresh_heap};
 ghost use Rattle.zone_rules.specs.Requests.{gaps, widest, total, without_room, TakesBlock, stretches, passed_blocks, block_left};
 ghost use Rattle.zone_rules.specs.Frees.{without_block, with_tag, retag_block};
@@ -63,11 +64,7 @@ pub struct Zone {
 }
 
 impl Model for Zone {
-    ghost use Rattle.zone_rules.specs.Zones.{Heap};
-
     ghost Value = { Heap };
-
-    ghost use Rattle.zone_heap.specs.View.{heap_of, IsZone};
 
     ghost view = { heap_of };
 
@@ -222,13 +219,7 @@ impl Zone {
         ensures called { BytesChanged F.FnOnce f (owner_at K.CODE slot.number)
             self.old self.new result }
     {
-        let span = live_span(
-            &self.region,
-            &self.homes,
-            self.lumps,
-            K::CODE,
-            slot.number(),
-        );
+        let span = live_span(&self.region, &self.homes, self.lumps, K::CODE, slot.number);
         pair::with_part(&mut self.region, span, f)
     }
 
@@ -249,13 +240,7 @@ impl Zone {
         ensures called { BytesChangedWith F.FnOnce f (owner_at K.CODE slot.number)
             self.old self.new context.old context.new result }
     {
-        let span = live_span(
-            &self.region,
-            &self.homes,
-            self.lumps,
-            K::CODE,
-            slot.number(),
-        );
+        let span = live_span(&self.region, &self.homes, self.lumps, K::CODE, slot.number);
         pair::with_part_and(&mut self.region, span, context, f)
     }
 

@@ -6,7 +6,7 @@ use Rattle.zone_heap.proofs.look.live_span.Goals as goal
 
 pub span_at-requires : goal.span_at-requires
 span_at-requires c =
-    let f = look c.args.region.now c.requires.laid (owner_at c.args.kind c.args.number) c.home_at-home.result c.requires.live (c.home_at-home.ensures ∙ c.requires.exact (owner_at c.args.kind c.args.number) c.requires.slot) in
+    let f = look c.args.region.now c.requires.laid (owner_at c.args.kind c.args.number) c.home_at-home.result c.requires.live (c.home_at-home.ensures ∙ c.requires.homed.2 (owner_at c.args.kind c.args.number) c.requires.homed.1) in
     let a = f.fits in
     let l = f.large in
     omega arith

@@ -8,7 +8,7 @@ use Rattle.zone_heap.proofs.look.retag.Goals.{After-home_at-home}
 use Rattle.zone_heap.proofs.look.retag.Goals as goal
 
 it : (c : After-home_at-home) → IsFound c.args.region.now (owner_at c.args.kind c.args.number) c.home_at-home.result
-it c = look c.args.region.now c.requires.ring.laid (owner_at c.args.kind c.args.number) c.home_at-home.result c.requires.live (c.home_at-home.ensures ∙ c.requires.exact (owner_at c.args.kind c.args.number) c.requires.slot)
+it c = look c.args.region.now c.requires.ring.laid (owner_at c.args.kind c.args.number) c.home_at-home.result c.requires.live (c.home_at-home.ensures ∙ c.requires.homed.2 (owner_at c.args.kind c.args.number) c.requires.homed.1)
 
 pub set_word-requires : goal.set_word-requires
 set_word-requires c = let f = it (goal.at.set_word-requires c).After-home_at-home in let a = f.fits in let l = f.large in omega arith

@@ -9,7 +9,7 @@ use Rattle.zone_heap.proofs.look.slot_span.Goals as goal
 
 it : (c : Else-home) → IsFound c.args.region.now (owner_at c.args.kind c.args.number) c.home_at-home.result
 it c =
-    let e = c.home_at-home.ensures ∙ c.requires.exact (owner_at c.args.kind c.args.number) c.requires.slot in
+    let e = c.home_at-home.ensures ∙ c.requires.homed.2 (owner_at c.args.kind c.args.number) c.requires.homed.1 in
     look c.args.region.now c.requires.laid (owner_at c.args.kind c.args.number) c.home_at-home.result (live_home c.args.region.now c.requires.laid (owner_at c.args.kind c.args.number) c.home_at-home.result e c.if-home.false) e
 
 pub span_at-requires : goal.span_at-requires
@@ -17,7 +17,7 @@ span_at-requires c = let f = it (goal.at.span_at-requires c).Else-home in let a 
 
 pub returns-then-home-clause-value : goal.returns-then-home-clause-value
 returns-then-home-clause-value c =
-    let e = c.home_at-home.ensures ∙ c.requires.exact (owner_at c.args.kind c.args.number) c.requires.slot in
+    let e = c.home_at-home.ensures ∙ c.requires.homed.2 (owner_at c.args.kind c.args.number) c.requires.homed.1 in
     ap (λ x. option_map (λ (h : Holding). h.bytes) (option_and_then (λ (b : Block). b.holding) x)) (no_home c.args.region.now c.requires.laid (owner_at c.args.kind c.args.number) c.home_at-home.result e c.requires.small c.if-home.true)
 
 pub returns-else-home-clause-value : goal.returns-else-home-clause-value

@@ -8,7 +8,7 @@ use Rattle.zone_heap.proofs.look.slot_tag.Goals as goal
 
 it : (c : Else-home) → IsFound c.args.region.now (owner_at c.args.kind c.args.number) c.home_at-home.result
 it c =
-    let e = c.home_at-home.ensures ∙ c.requires.exact (owner_at c.args.kind c.args.number) c.requires.slot in
+    let e = c.home_at-home.ensures ∙ c.requires.homed.2 (owner_at c.args.kind c.args.number) c.requires.homed.1 in
     look c.args.region.now c.requires.laid (owner_at c.args.kind c.args.number) c.home_at-home.result (live_home c.args.region.now c.requires.laid (owner_at c.args.kind c.args.number) c.home_at-home.result e c.if-home.false) e
 
 pub word_at-requires : goal.word_at-requires
@@ -16,7 +16,7 @@ word_at-requires c = let f = it (goal.at.word_at-requires c).Else-home in let a 
 
 pub returns-then-home : goal.returns-then-home
 returns-then-home c =
-    let e = c.home_at-home.ensures ∙ c.requires.exact (owner_at c.args.kind c.args.number) c.requires.slot in
+    let e = c.home_at-home.ensures ∙ c.requires.homed.2 (owner_at c.args.kind c.args.number) c.requires.homed.1 in
     sym (ap (λ x. option_map (λ (h : Holding). h.tag) (option_and_then (λ (b : Block). b.holding) x)) (no_home c.args.region.now c.requires.laid (owner_at c.args.kind c.args.number) c.home_at-home.result e c.requires.small c.if-home.true))
 
 pub returns-else-home : goal.returns-else-home

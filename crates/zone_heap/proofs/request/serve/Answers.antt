@@ -43,6 +43,17 @@ lacks_is c = subst (Lacks (owner_in c.args.request.used.owner)) (sym c.search-ro
 shape : (c : In-Some) (r : RoomAt c.in-Some.place c.args.request.wanted (blocks_in c.search-room.new.region)) → take_at c.in-Some.place c.args.request.wanted (new_holding c) (blocks_in c.search-room.new.region) ≡ r.front ++ (cut_block c.args.request.wanted (new_holding c) (free_block c.in-Some.place r.size) ++ r.rest)
 shape c r = ap (take_at c.in-Some.place c.args.request.wanted (new_holding c)) r.is ∙ take_at_is c.in-Some.place r.size c.args.request.wanted (new_holding c) 0 (length c.args.region.now) r.front r.rest (subst (Tiles 0 (length c.args.region.now)) r.is (tiles_is c))
 
+pub search-room-requires : goal.search-room-requires
+search-room-requires c = record {
+  laid = c.requires.laid;
+  some = c.requires.some;
+  small = c.requires.small;
+  home = search rules;
+  apart = search rules;
+  rover_is = search rules;
+  positive = search rules;
+}
+
 pub returns-in-Some-clause-exact : goal.returns-in-Some-clause-exact
 returns-in-Some-clause-exact c =
     let d = (goal.at.returns-in-Some-clause-exact c).In-Some in

@@ -76,7 +76,7 @@ returns-in-Some-clause-search c =
     let at = c.start_place-start.ensures.split.1 in
     let e = c.in-Some.fit.end in
     let here = c.in-Some.ensures.value s ∙ ap (fit_from c.args.wanted 0 0 0) (sym (rest_is region c.requires.laid start s)) in
-    let r = fit_first c.args.wanted c.args.rover 0 (length region) (blocks_in region) c.requires.positive (tiles_region region c.requires.laid) c.requires.rover (length s.front) at c.in-Some.fit.place e here in
+    let r = fit_first c.args.wanted c.args.rover 0 (length region) (blocks_in region) c.requires.positive (tiles_region region c.requires.laid) c.requires.rover_is (length s.front) at c.in-Some.fit.place e here in
     with_after _ _ _ _ _ _ _ _ r (parts_again region c.requires.laid start s _ e (c.purge-purges.ensures.blocks s)) (c.purge-purges.ensures.count s ∙ ap (λ bs. count_by is_purgeable (take e bs)) (sym (rest_is region c.requires.laid start s)))
 
 pub returns-in-Some-clause-room : goal.returns-in-Some-clause-room
@@ -87,7 +87,7 @@ returns-in-Some-clause-room c =
     let at = c.start_place-start.ensures.split.1 in
     let e = c.in-Some.fit.end in
     let here = c.in-Some.ensures.value s ∙ ap (fit_from c.args.wanted 0 0 0) (sym (rest_is region c.requires.laid start s)) in
-    let r = room_first c.args.wanted c.args.rover 0 (length region) (blocks_in region) c.requires.positive (tiles_region region c.requires.laid) c.requires.apart c.requires.rover (length s.front) at c.in-Some.fit.place e here in
+    let r = room_first c.args.wanted c.args.rover 0 (length region) (blocks_in region) c.requires.positive (tiles_region region c.requires.laid) c.requires.apart c.requires.rover_is (length s.front) at c.in-Some.fit.place e here in
     subst (λ bs. RoomAt c.in-Some.fit.place c.args.wanted (join_free bs)) (sym (parts_again region c.requires.laid start s _ e (c.purge-purges.ensures.blocks s))) r
 
 pub returns-in-Some-first_fit-clause-search : goal.returns-in-Some-first_fit-clause-search
@@ -100,7 +100,7 @@ returns-in-Some-first_fit-clause-search c =
     let e = c.in-Some-first_fit.fit.end in
     let first = c.in_default.ensures.value s ∙ ap (fit_from c.args.wanted 0 0 0) (sym (rest_is region laid start s)) in
     let again = c.in-Some-first_fit.ensures.value (split_first region laid) ∙ ap (fit_from c.args.wanted 0 0 0) (sym (blocks_laid region laid)) in
-    let r = fit_second c.args.wanted c.args.rover 0 (length region) (blocks_in region) c.requires.positive (tiles_region region laid) c.requires.rover (length s.front) at c.in-Some-first_fit.fit.place e first again in
+    let r = fit_second c.args.wanted c.args.rover 0 (length region) (blocks_in region) c.requires.positive (tiles_region region laid) c.requires.rover_is (length s.front) at c.in-Some-first_fit.fit.place e first again in
     let later = c.purge-later.new.region in
     let laid2 = c.purge-later.ensures.laid in
     let clear = cleared region laid start s (blocks_in later) (c.purge-later.ensures.blocks s) in
@@ -117,7 +117,7 @@ returns-in-Some-first_fit-clause-room c =
     let at = c.start_place-start.ensures.split.1 in
     let e = c.in-Some-first_fit.fit.end in
     let again = c.in-Some-first_fit.ensures.value (split_first region laid) ∙ ap (fit_from c.args.wanted 0 0 0) (sym (blocks_laid region laid)) in
-    let r = room_second c.args.wanted c.args.rover 0 (length region) (blocks_in region) c.requires.positive (tiles_region region laid) c.requires.apart c.requires.rover (length s.front) at c.in-Some-first_fit.fit.place e again in
+    let r = room_second c.args.wanted c.args.rover 0 (length region) (blocks_in region) c.requires.positive (tiles_region region laid) c.requires.apart c.requires.rover_is (length s.front) at c.in-Some-first_fit.fit.place e again in
     let later = c.purge-later.new.region in
     let laid2 = c.purge-later.ensures.laid in
     let clear = cleared region laid start s (blocks_in later) (c.purge-later.ensures.blocks s) in
@@ -133,5 +133,5 @@ returns-clause-search c =
     let all = split_first region laid in
     let first = c.in_default.ensures.value s ∙ ap (fit_from c.args.wanted 0 0 0) (sym (rest_is region laid start s)) in
     let again = c.in_default-first_fit.ensures.value all ∙ ap (fit_from c.args.wanted 0 0 0) (sym (blocks_laid region laid)) in
-    let r = fit_never c.args.wanted c.args.rover 0 (length region) (blocks_in region) c.requires.positive (tiles_region region laid) c.requires.rover (length s.front) at first again in
+    let r = fit_never c.args.wanted c.args.rover 0 (length region) (blocks_in region) c.requires.positive (tiles_region region laid) c.requires.rover_is (length s.front) at first again in
     with_after _ _ _ _ _ _ _ _ r (cleared region laid 0 all _ (c.purge-purges-2.ensures.blocks all)) (c.purge-purges-2.ensures.count all ∙ counted region laid 0 all)

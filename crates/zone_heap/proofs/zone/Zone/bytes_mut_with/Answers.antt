@@ -1,4 +1,4 @@
-use Rattle.std.proofs.Common.{◌≡◌, ◌<◌, ◌+◌, ◌∙◌, ap₂, sym, subst, arith}
+use Rattle.std.proofs.Common.{◌≡◌, ◌<◌, ◌+◌, ◌∙◌, ap, ap₂, sym, subst, arith}
 use Rattle.std.specs.Prelude.{slice_index, slice_range}
 use Rattle.zone_rules.specs.Zones.{Heap, IsLive, owner_at, slot_count}
 use Rattle.zone_heap.specs.Headers.{word_at}
@@ -17,11 +17,11 @@ live : (g : Over) (c : After-live_span-span g) → IsLive (heap_of c.self.inside
 live g c = subst (λ (z : Heap). IsLive z (owner_at g.K.SlotKind.CODE c.args.slot.number)) (sym c.self.view_is) c.requires.live
 
 from_is : (g : Over) (c : After-live_span-span g) → c.live_span-span.result.from ≡ slice_index c.self.inside.homes.items (home_index c.self.inside.lumps g.K.SlotKind.CODE c.args.slot.number) + 24
-from_is g c = c.live_span-span.ensures.from ∙ ap₂ (λ hs n. slice_index hs n + 24) c.deref-2.ensures.value (ap₂ (home_index c.self.inside.lumps) c.CODE.ensures c.number.ensures)
+from_is g c = c.live_span-span.ensures.from ∙ ap₂ (λ hs n. slice_index hs n + 24) c.deref-2.ensures.value (ap (λ kind. home_index c.self.inside.lumps kind c.args.slot.number) c.CODE.ensures)
 
 to_is : (g : Over) (c : After-live_span-span g) → c.live_span-span.result.to ≡ c.live_span-span.result.from + word_at c.self.inside.region.items (slice_index c.self.inside.homes.items (home_index c.self.inside.lumps g.K.SlotKind.CODE c.args.slot.number) + 4)
 to_is g c =
-    c.live_span-span.ensures.to ∙ ap₂ (λ xs k. c.live_span-span.result.from + word_at xs (k + 4)) c.deref.ensures.value (ap₂ slice_index c.deref-2.ensures.value (ap₂ (home_index c.self.inside.lumps) c.CODE.ensures c.number.ensures))
+    c.live_span-span.ensures.to ∙ ap₂ (λ xs k. c.live_span-span.result.from + word_at xs (k + 4)) c.deref.ensures.value (ap₂ slice_index c.deref-2.ensures.value (ap (λ kind. home_index c.self.inside.lumps kind c.args.slot.number) c.CODE.ensures))
 
 pub with_part_and-requires-clause-bound : goal.with_part_and-requires-clause-bound
 with_part_and-requires-clause-bound g c =

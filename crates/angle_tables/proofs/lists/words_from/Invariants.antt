@@ -1,7 +1,0 @@
-use Rattle.std.proofs.Common.{◌≡◌, ◌+◌}
-use Rattle.word_rules.specs.Listed.{listed}
-use Rattle.view_rules.specs.Refusals.{word_in}
-use Rattle.angle_tables.proofs.lists.words_from.Given as goal
-
-abbrev pub invariant-loop-i : goal.invariant-loop-i
-invariant-loop-i l = l.words.items ≡ listed (λ k. word_in l.bytes (l.first + k)) l.i

@@ -1,8 +1,0 @@
--- The entries so far are put.
-use Rattle.std.proofs.Common.{◌≡◌, ◌++◌}
-use Rattle.made_rules.specs.Bytes.{records}
-use Rattle.made_rules.specs.Tables.{sine_bytes}
-use Rattle.level_maker.proofs.tables.put_sines.Given as goal
-
-abbrev pub invariant-loop-i : goal.invariant-loop-i
-invariant-loop-i l = l.file.items ≡ l.initial.file.items ++ records sine_bytes l.i

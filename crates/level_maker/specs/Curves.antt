@@ -1,0 +1,16 @@
+-- The tables of angles that have a formula for each entry.
+use Rattle.std.specs.Prelude.{ℕ, List}
+use Rattle.made_rules.specs.declared.tables.TheConstants.{SINES, TANGENTS}
+use Rattle.made_rules.specs.Tables.{sine_bytes, tangent_bytes}
+use Rattle.level_maker.specs.declared.tables.Curve.{Curve}
+use Rattle.level_maker.specs.declared.tables.Curve.TheVariants.{Sine, Tangent}
+
+-- how many entries a table has
+abbrev pub curve_length : Curve → ℕ
+curve_length Sine = SINES
+curve_length Tangent = TANGENTS
+
+-- the bytes of an entry
+abbrev pub curve_bytes : Curve → ℕ → List ℕ
+curve_bytes Sine = sine_bytes
+curve_bytes Tangent = tangent_bytes
