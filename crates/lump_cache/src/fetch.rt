@@ -42,7 +42,10 @@ pub fn fetch_live<S: Shelf, R>(
         (bytes_of (lump_owner lump.0) cache.new.blocks
         ≡ Some (lump_bytes contents dir.now.lumps lump.0)) }
 {
-    make_live(cache, dir, shelf, lump).map_err(CacheFault::above)
+    match make_live(cache, dir, shelf, lump) {
+        Ok(()) => Ok(()),
+        Err(fault) => Err(fault.above()),
+    }
 }
 
 // Makes a lump live, with the faults of the cache.

@@ -281,12 +281,13 @@ fn pass_fragment<S: Shelf, C: Canvas>(
     Ok(())
 }
 
-// Whether a fragment has one of the columns, and clips or is masked.
+// Whether a fragment has one of the columns, and clips or is masked. Asked of each fragment for each
+// sprite, and seldom so: one branch in place of four.
 fn counts(note: &FragmentNote, first: u16, last: u16) -> bool
     ensures yes { result ≡ true → (note.now.first ≤ last) × (first ≤ note.now.last) }
     ensures no { result ≡ false → MissesColumns note.now first last }
 {
-    let misses = last < note.first || note.last < first;
-    let is_plain = note.silhouette == 0 && note.masked.is_none();
-    !misses && !is_plain
+    let misses = (last < note.first) | (note.last < first);
+    let is_plain = (note.silhouette == 0) & note.masked.is_none();
+    !(misses | is_plain)
 }
