@@ -76,7 +76,7 @@ def count_lines(crate):
 
 
 def niceness(crates):
-    """How far a crate's proof gives way to others: 0 on the longest chain of crates, and up to 19 where the
+    """How far a crate's proof gives way to others: 0 on the longest chain of crates, and up to 10 where the
     longest chain through the crate is much shorter."""
     work = {crate: count_lines(crate) for crate in crates}
     below, above = {}, {}
@@ -86,7 +86,7 @@ def niceness(crates):
         above[crate] = work[crate] + max((above[it] for it in crates if crate in crates[it]), default=0)
     chain = {crate: below[crate] + above[crate] - work[crate] for crate in crates}
     most = max(chain.values())
-    return {crate: min(19, 20 * (most - chain[crate]) // max(1, most)) for crate in crates}
+    return {crate: 10 * (most - chain[crate]) // max(1, most) for crate in crates}
 
 
 def give_way(nice, ended):

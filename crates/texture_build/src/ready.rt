@@ -7,7 +7,7 @@ ghost use Rattle.outside.specs.Faults.{ResultIs, HasCauses};
 ghost use Rattle.lump_rules.specs.Contents.{AllWithin, lump_bytes};
 ghost use Rattle.zone_rules.specs.Zones.{IsLive, owned_block};
 ghost use Rattle.zone_rules.specs.Orders.{Item, IsInOrder, is_live};
-ghost use Rattle.lump_cache.specs.Caches.{IsAtRest, IsFaithful, KeepsCounts, cache_fault, composite_owner};
+ghost use Rattle.lump_cache.specs.Caches.{lump_owner, IsAtRest, IsFaithful, KeepsCounts, cache_fault, composite_owner};
 ghost use Rattle.lump_cache.specs.Calls.{IfFull, LeavesInOrder, HoldContents};
 ghost use Rattle.art_rules.specs.declared.ColumnLookup.TheVariants.{Composed};
 ghost use Rattle.texture_build.specs.Asked.{HasColumnAsked, IsFullForColumn};
@@ -75,12 +75,25 @@ pub(crate) fn make_ready_at<S: Shelf>(
     match lookup {
         ColumnLookup::Empty => Ok(()),
         ColumnLookup::Single { lump, place: _ } => {
+            if is_lump_live(cache, lump) {
+                return Ok(());
+            }
             cache.fetch(shelf, dir, LumpNo(lump), Tag::Cache)
         }
         ColumnLookup::Composed { place: _ } => {
             ready_composite(texture, number, dir, cache, shelf)
         }
     }
+}
+
+// Asked of each strip of a wall, and nearly always so: a call of `fetch` would cost as much as some
+// pixels.
+#[inline(always)]
+fn is_lump_live(cache: &LumpCache, lump: u16) -> bool
+    requires { lump < cache.now.lumps }
+    ensures { result ≡ is_live cache.now.blocks (lump_owner lump) }
+{
+    cache.bytes(LumpNo(lump)).is_some()
 }
 
 // Makes the composite of a texture live.

@@ -10,8 +10,8 @@ use Rattle.texture_build.specs.Sources.{IsColumnLive}
 use Rattle.texture_build.proofs.ReadyLemmas.{single_full}
 use Rattle.texture_build.proofs.ready.make_ready_at.Goals as goal
 
-pub returns-in-Single-clause-full : goal.returns-in-Single-clause-full
-returns-in-Single-clause-full g c =
+pub returns-else-is_lump_live-clause-full : goal.returns-else-is_lump_live-clause-full
+returns-else-is_lump_live-clause-full g c =
     subst (λ (lookup : ColumnLookup). IfErr c.fetch.result (λ fault. IfFull (cache_fault fault) (IsFullForColumn c.args.dir.now.lumps c.args.number c.args.texture.now lookup c.args.cache.now))) (sym c.in-Single.is)
     (single_full c.args.dir.now.lumps c.args.number c.args.texture.now c.in-Single.lump c.in-Single.place c.args.cache.now c.fetch.result (fetch_no_room c.fetch.ensures.fetches) (fetch_room c.fetch.ensures.fetches))
 
