@@ -41,6 +41,10 @@ pub record FloorView : Type 0 where
   pub flat : List ℕ
   pub colormap : List ℕ
 
+abbrev pub floor_view : ViewValue → PlaneKey → List ℕ → List ℕ → FloorView
+floor_view view key flat colormap =
+    record { view = view; key = key; flat = flat; colormap = colormap }
+
 unfoldable pub distance_at : FloorView → ℕ → ℤ
 distance_at f y = row_distance f.view f.key.height y
 
