@@ -1,7 +1,6 @@
 -- Who is given the walk of a view: the painter and the counter by their values, and what they have made of the events.
-use Rattle.std.specs.Prelude.{◌≡◌, ◌≤◌, ◌+◌, ℕ, List, [], Some, IfSome, IfErr, OnOk, Result}
+use Rattle.std.specs.Prelude.{◌≡◌, ℕ, List, [], Some, IfSome, IfErr, OnOk, Result}
 use Rattle.view_rules.specs.View.{ViewValue}
-use Rattle.view_rules.specs.declared.TheConstants.{FRAME_WIDTH, FRAME_HEIGHT}
 use Rattle.walk_rules.specs.Events.{Event}
 use Rattle.walk_rules.specs.Walk.{view_events}
 use Rattle.pixel_rules.specs.declared.Painter.{Painter}
@@ -13,6 +12,7 @@ use Rattle.picture_rules.specs.Scene.{Scene}
 use Rattle.picture_rules.specs.Walls.{walls_of, walls_dots}
 use Rattle.picture_rules.specs.Counts.{steps_over, view_steps}
 use Rattle.pixel_strips.specs.Canvases.{CanvasView}
+use Rattle.pixel_strips.specs.Standing.{StandsInFrame}
 use Rattle.wall_columns.specs.Built.{limits_of}
 use Rattle.frame_core.specs.declared.bench.Bench.{Bench}
 use Rattle.frame_core.specs.declared.fault.ViewFault.{ViewFault}
@@ -47,9 +47,8 @@ painter_value scene bench state names =
     record { scene = scene; bench = bench; state = state; names = names }
 
 -- the view stands in the frame where the canvas has it
-pub record IsPlacedIn (v : ViewValue) (canvas : CanvasView) : Type 0 where
-  pub columns : canvas.left + v.shape.width ≤ FRAME_WIDTH
-  pub rows : canvas.top + v.shape.height ≤ FRAME_HEIGHT
+abbrev pub IsPlacedIn : ViewValue → CanvasView → Type 0
+IsPlacedIn v canvas = StandsInFrame v.shape canvas
 
 -- what a painter asks before an event
 pub record CanPaintNext (p : PainterValue) (e : Event) : Type 0 where

@@ -69,6 +69,13 @@ pub record AreRowsAt (clips : SpriteClips) (height x : ℕ) : Type 0 where
   pub least_bottom : least_clip ≤ℤ bottom_at clips height x
   pub greatest_bottom : bottom_at clips height x ≤ℤ pos height
 
+-- so do those of a masked column
+pub record HasClipsIn (height : ℕ) (c : MaskedColumn) : Type 0 where
+  pub least_top : minus_one ≤ℤ c.top_clip
+  pub greatest_top : c.top_clip ≤ℤ greatest_clip
+  pub least_bottom : least_clip ≤ℤ c.bottom_clip
+  pub greatest_bottom : c.bottom_clip ≤ℤ pos height
+
 -- they are the sprite's among these fragments, in column x
 pub record AreSpriteRows (s : MaskScene) (ds : List Drawseg) (e : SpriteEntry) (clips : SpriteClips) (x : ℕ) : Type 0 where
   pub top : top_at clips x ≡ sprite_top ds e x

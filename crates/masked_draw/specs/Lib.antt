@@ -4,3 +4,4 @@ pub mod Scenes
 pub mod Clipped
 pub mod Marks
 pub mod Passes
+pub mod Tools

@@ -90,3 +90,16 @@ pub record PaintsDots {A : Type 0} (mark : Painter → ℕ → ℕ) (s : MaskSce
   pub draws : DrawsWith cache_fault among pictures old.shelf new.shelf s.dir.now s.textures.now
       old.cache new.cache result
   pub place : PlacedAlike old.canvas new.canvas
+
+-- Dots of art that the cache holds, whatever its files: a canvas is given them, and each source fits
+-- beside the colormap.
+abbrev pub PaintsLive : (Painter → ℕ → ℕ) → MaskScene → (Art → List Dot) → MaskState → MaskState → Type 0
+PaintsLive mark s dots old new = (view : ShelfView) (contents : List (List ℕ)) (count : ℕ) →
+    HoldsArt view s.dir.now s.textures.now contents s.colormap.0 count old.cache →
+    HasDots mark (dots (scene_art contents s)) old.canvas new.canvas
+
+abbrev pub FitsLive : MaskScene → (Art → List Dot) → MaskState → Type 0
+FitsLive s dots old = (view : ShelfView) (contents : List (List ℕ)) (count : ℕ) →
+    HoldsArt view s.dir.now s.textures.now contents s.colormap.0 count old.cache →
+    FitBeside s.dir.now.lumps s.textures.now s.colormap.0 count old.cache.size
+    (dots (scene_art contents s))

@@ -2,26 +2,24 @@
 //
 // Rules: `picture_rules/sprite`, Clips and Middles; `specs/Lists`, `specs/Ready`. The original:
 // `R_DrawMasked` and `R_DrawSprite`, r_things.c.
-ghost use Rattle.std.specs.Prelude.{◌≡◌, ◌<◌, ◌≤◌, ◌+◌, ◌^◌, ◌≤ℤ◌, ◌<ℤ◌, ℕ, pos, true, false, List, All, OnOk, Some, None, length, slice_get};
+ghost use Rattle.std.specs.Prelude.{◌≡◌, ◌<◌, ◌≤◌, ◌≤ℤ◌, ℕ, true, false, List, All, OnOk, Some, None, length, slice_get};
 ghost use Rattle.std.specs.List.{AllPass};
-ghost use Rattle.view_rules.specs.declared.TheConstants.{FRAME_WIDTH, FRAME_HEIGHT};
-ghost use Rattle.lump_rules.specs.Contents.{lump_bytes};
 ghost use Rattle.lump_cache.specs.Caches.{cache_fault};
 ghost use Rattle.picture_rules.specs.declared.sprite.SpriteEntry.{SpriteEntry};
 ghost use Rattle.picture_rules.specs.sprite.Drawsegs.{entry_has};
 ghost use Rattle.picture_rules.specs.sprite.Order.{draw_order};
-ghost use Rattle.picture_rules.specs.sprite.Middles.{masked_dots, middles_at, sprites_from};
+ghost use Rattle.picture_rules.specs.sprite.Middles.{middles_at, sprites_from};
 ghost use Rattle.vissprites.specs.Bounds.{lies_within, has_lump_below};
 ghost use Rattle.picture_rules.specs.Noted.{AreNoted};
 ghost use Rattle.pixel_strips.specs.Dotted.{HasDots, PlacedAlike};
-ghost use Rattle.texture_build.specs.Arts.{view_art};
-ghost use Rattle.texture_build.specs.Draws.{HoldsArt, FitBeside, DrawsWith};
+ghost use Rattle.pixel_strips.specs.Standing.{StandsInFrame};
+ghost use Rattle.texture_build.specs.Draws.{FitBeside, DrawsWith};
 ghost use Rattle.masked_draw.specs.Clipped.{AreSpriteRows, TakesRows, row_in};
-ghost use Rattle.masked_draw.specs.Lists.{lists_of, noted_drawsegs};
 ghost use Rattle.masked_draw.specs.Marks.{MarkedTo, MarksBy, MissesColumns, is_passed, mark_in, unmarked_dots};
 ghost use Rattle.masked_draw.specs.Passes.{DrawsSprite, PassesSprite};
 ghost use Rattle.masked_draw.specs.Ready.{IsListed, IsMiddleNumber, IsNotedMiddle, IsSpriteLump};
 ghost use Rattle.masked_draw.specs.Scenes.{AreSameHands, CanPaintNote, CanPass, PaintsDots, hands_state, scene_drawseg, scene_drawsegs, scene_lists};
+ghost use Rattle.masked_draw.specs.Tools.{AreSameTools, HoldsTools, tools_dots, tools_lists};
 
 use crate::clips::{SpriteClips, is_behind};
 use crate::middles::paint_middle;
@@ -55,49 +53,25 @@ pub fn draw_masked<S: Shelf, C: Canvas>(
 ) -> Result<(), CacheFault>
     requires noted { AreNoted tools.old.view.now.shape notes.now tools.old.openings.now }
     requires listed { All (IsListed tools.old.dir.now.lumps tools.old.textures.now
-        tools.old.cache.now (lists_of tools.old.segs.now tools.old.sides.now
-        tools.old.sectors.now tools.old.middles.now)) notes.now }
+        tools.old.cache.now (tools_lists tools.old)) notes.now }
     requires marks { length tools.old.openings.now ≤ length tools.old.marks.now }
     requires columns { AllPass (lies_within tools.old.view.now.shape.width) sprites.now }
     requires lumps { AllPass (has_lump_below (length tools.old.dir.now.lumps)) sprites.now }
     requires slots { length tools.old.dir.now.lumps ≤ tools.old.cache.now.lumps }
     requires colormap { tools.old.colormap.0 < length tools.old.dir.now.lumps }
-    requires left { (C.view tools.old.canvas.now).left + tools.old.view.now.shape.width
-        ≤ FRAME_WIDTH }
-    requires top { (C.view tools.old.canvas.now).top + tools.old.view.now.shape.height
-        ≤ FRAME_HEIGHT }
-    ensures same_cache { tools.new.cache.ghost_name ≡ tools.old.cache.ghost_name }
-    ensures same_shelf { tools.new.shelf.ghost_name ≡ tools.old.shelf.ghost_name }
-    ensures same_canvas { tools.new.canvas.ghost_name ≡ tools.old.canvas.ghost_name }
-    ensures same_marks { tools.new.marks.ghost_name ≡ tools.old.marks.ghost_name }
+    requires placed { StandsInFrame tools.old.view.now.shape (C.view tools.old.canvas.now) }
+    ensures same { AreSameTools tools.old tools.new }
     ensures marks { length tools.new.marks.now ≡ length tools.old.marks.now }
     ensures painted { (contents : List (List ℕ)) (count : ℕ) →
-        HoldsArt (S.view tools.old.shelf.now) tools.old.dir.now tools.old.textures.now contents
-        tools.old.colormap.0 count tools.old.cache.now →
-        let art = view_art (lump_bytes contents tools.old.dir.now.lumps)
-        tools.old.textures.now tools.old.colormap.0 in
-        let ds = noted_drawsegs tools.old.view.now tools.old.textures.now
-        (lists_of tools.old.segs.now tools.old.sides.now
-        tools.old.sectors.now tools.old.middles.now)
-        tools.old.openings.now notes.now in
-        OnOk result (HasDots C.mark
-        (masked_dots tools.old.view.now art ds (draw_order sprites.now))
+        HoldsTools S.view tools.old contents count → OnOk result (HasDots C.mark
+        (tools_dots tools.old notes.now sprites.now contents)
         (C.view tools.old.canvas.now) (C.view tools.new.canvas.now)) }
     ensures fits { (contents : List (List ℕ)) (count : ℕ) →
-        HoldsArt (S.view tools.old.shelf.now) tools.old.dir.now tools.old.textures.now contents
-        tools.old.colormap.0 count tools.old.cache.now →
-        let art = view_art (lump_bytes contents tools.old.dir.now.lumps)
-        tools.old.textures.now tools.old.colormap.0 in
-        let ds = noted_drawsegs tools.old.view.now tools.old.textures.now
-        (lists_of tools.old.segs.now tools.old.sides.now
-        tools.old.sectors.now tools.old.middles.now)
-        tools.old.openings.now notes.now in
-        OnOk result (FitBeside tools.old.dir.now.lumps tools.old.textures.now
-        tools.old.colormap.0 count tools.old.cache.now.size
-        (masked_dots tools.old.view.now art ds (draw_order sprites.now))) }
+        HoldsTools S.view tools.old contents count → OnOk result (FitBeside
+        tools.old.dir.now.lumps tools.old.textures.now tools.old.colormap.0 count
+        tools.old.cache.now.size (tools_dots tools.old notes.now sprites.now contents)) }
     ensures draws { DrawsWith cache_fault
-        (IsNotedMiddle (lists_of tools.old.segs.now tools.old.sides.now
-        tools.old.sectors.now tools.old.middles.now) notes.now) (IsSpriteLump sprites.now)
+        (IsNotedMiddle (tools_lists tools.old) notes.now) (IsSpriteLump sprites.now)
         (S.view tools.old.shelf.now) (S.view tools.new.shelf.now) tools.old.dir.now
         tools.old.textures.now tools.old.cache.now tools.new.cache.now result }
     ensures place { PlacedAlike (C.view tools.old.canvas.now) (C.view tools.new.canvas.now) }

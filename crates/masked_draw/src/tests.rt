@@ -18,7 +18,7 @@ mod seen;
 use crate::counted::Counted;
 use crate::{FragmentNote, MaskedTools, draw_masked};
 use lump_cache::LumpCache;
-use made::{lump_of, made_angles, made_cache, made_directory, made_shelf, prepare_grate};
+use made::{eye_at, lump_of, made_angles, made_cache, made_directory, made_shelf, prepare_grate};
 use outside::MemoryShelf;
 use pixel_strips::Canvas;
 use seen::{
@@ -28,18 +28,8 @@ use std::alloc::Global;
 use std::test::Fail;
 use texture_build::{TexNo, Textures};
 use view_frame::View;
-use view_rules::Eye;
 use vissprites::Sprites;
 use wad_dir::{Directory, LumpNo};
-
-const EYE: Eye = Eye {
-    x: 0,
-    y: 0,
-    z: 41 << 16,
-    angle: 0,
-    extralight: 0,
-    colormap: 0,
-};
 
 // Trees, in order of making, and a grate if its scale is there.
 #[derive(Clone, Copy)]
@@ -82,7 +72,7 @@ struct Art<'a> {
 // Compares what is painted of a picture with what is painted of its parts, one by one.
 fn compared(alloc: Global, picture: &Picture<'_>, parts: &[Part]) -> Result<Equal, Fail> {
     let tables = made_angles(alloc)?;
-    let view = View::new(&tables, EYE);
+    let view = View::new(&tables, eye_at(41 << 16));
     compared_by(alloc, &view, picture, parts)
 }
 

@@ -3,3 +3,5 @@ pub mod Strips
 pub mod Dotted
 pub mod Places
 pub mod Fills
+pub mod Standing
+pub mod Lying

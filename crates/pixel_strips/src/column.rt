@@ -1,9 +1,8 @@
 // Columns of pixels.
-ghost use Rattle.std.specs.Prelude.{◌≡◌, ◌+◌, ◌*◌, ◌^◌, ◌<◌, ◌≤◌};
-ghost use Rattle.view_rules.specs.declared.TheConstants.{FRAME_WIDTH, FRAME_HEIGHT};
+ghost use Rattle.std.specs.Prelude.{◌≡◌, ◌*◌, ◌^◌, ◌<◌};
 ghost use Rattle.pixel_rules.specs.declared.TheConstants.{TEXEL_ROWS, MAP_COLOURS};
-ghost use Rattle.pixel_strips.specs.Canvases.{with_dots};
-ghost use Rattle.pixel_strips.specs.Strips.{strip_colour, column_strip_dots, IsWindow};
+ghost use Rattle.pixel_strips.specs.Lying.{IsColumnIn, with_column};
+ghost use Rattle.pixel_strips.specs.Strips.{IsWindow};
 
 use crate::canvas::{Canvas, CutColumn};
 use crate::texels::{column_colour, window};
@@ -35,15 +34,9 @@ pub struct ColumnStrip<'a> {
 /// The original: `R_DrawColumn`, r_draw.c.
 #[inline(always)]
 pub fn paint_column<C: Canvas>(canvas: &mut C, strip: &ColumnStrip<'_>)
-    requires ordered { strip.now.first ≤ strip.now.last }
-    requires column { strip.now.x + (C.view canvas.old).left < FRAME_WIDTH }
-    requires rows { strip.now.last + (C.view canvas.old).top < FRAME_HEIGHT }
+    requires within { IsColumnIn strip.now (C.view canvas.old) }
     requires base { strip.now.base < 2 ^ 63 }
-    ensures { C.view canvas.new ≡ with_dots C.mark
-        (column_strip_dots (C.view canvas.old).painter strip.now.x
-        (strip_colour strip.now.source.now strip.now.base strip.now.colormap.now strip.now.map
-        strip.now.fraction strip.now.step strip.now.first)
-        strip.now.first strip.now.last) (C.view canvas.old) }
+    ensures { C.view canvas.new ≡ with_column C.mark strip.now (C.view canvas.old) }
 {
     if let Some(texels) = window(strip.source, strip.base, TEXEL_ROWS as usize)
         && let Some(shades) = window(
@@ -62,30 +55,18 @@ pub fn paint_column<C: Canvas>(canvas: &mut C, strip: &ColumnStrip<'_>)
 ///
 /// The original: `R_DrawMaskedColumn`, r_things.c, which calls `colfunc` for each post.
 pub fn paint_post<C: Canvas>(canvas: &mut C, strip: &ColumnStrip<'_>)
-    requires ordered { strip.now.first ≤ strip.now.last }
-    requires column { strip.now.x + (C.view canvas.old).left < FRAME_WIDTH }
-    requires rows { strip.now.last + (C.view canvas.old).top < FRAME_HEIGHT }
+    requires within { IsColumnIn strip.now (C.view canvas.old) }
     requires base { strip.now.base < 2 ^ 63 }
-    ensures { C.view canvas.new ≡ with_dots C.mark
-        (column_strip_dots (C.view canvas.old).painter strip.now.x
-        (strip_colour strip.now.source.now strip.now.base strip.now.colormap.now strip.now.map
-        strip.now.fraction strip.now.step strip.now.first)
-        strip.now.first strip.now.last) (C.view canvas.old) }
+    ensures { C.view canvas.new ≡ with_column C.mark strip.now (C.view canvas.old) }
 {
     paint_column(canvas, strip);
 }
 
 // Paints the strip where the source or the colormap ends before it has all texels or shades.
 fn paint_any_column<C: Canvas>(canvas: &mut C, strip: &ColumnStrip<'_>)
-    requires ordered { strip.now.first ≤ strip.now.last }
-    requires column { strip.now.x + (C.view canvas.old).left < FRAME_WIDTH }
-    requires rows { strip.now.last + (C.view canvas.old).top < FRAME_HEIGHT }
+    requires within { IsColumnIn strip.now (C.view canvas.old) }
     requires base { strip.now.base < 2 ^ 63 }
-    ensures { C.view canvas.new ≡ with_dots C.mark
-        (column_strip_dots (C.view canvas.old).painter strip.now.x
-        (strip_colour strip.now.source.now strip.now.base strip.now.colormap.now strip.now.map
-        strip.now.fraction strip.now.step strip.now.first)
-        strip.now.first strip.now.last) (C.view canvas.old) }
+    ensures { C.view canvas.new ≡ with_column C.mark strip.now (C.view canvas.old) }
 {
     let mut fraction = strip.fraction;
     for y in strip.first..strip.last + 1 {
@@ -108,17 +89,11 @@ fn paint_cut_column<C: Canvas>(
     texels: &[u8],
     shades: &[u8],
 )
-    requires ordered { strip.now.first ≤ strip.now.last }
-    requires column { strip.now.x + (C.view canvas.old).left < FRAME_WIDTH }
-    requires rows { strip.now.last + (C.view canvas.old).top < FRAME_HEIGHT }
+    requires within { IsColumnIn strip.now (C.view canvas.old) }
     requires texels { IsWindow strip.now.source.now strip.now.base TEXEL_ROWS texels.now }
     requires shades { IsWindow strip.now.colormap.now (MAP_COLOURS * strip.now.map) MAP_COLOURS
         shades.now }
-    ensures { C.view canvas.new ≡ with_dots C.mark
-        (column_strip_dots (C.view canvas.old).painter strip.now.x
-        (strip_colour strip.now.source.now strip.now.base strip.now.colormap.now strip.now.map
-        strip.now.fraction strip.now.step strip.now.first)
-        strip.now.first strip.now.last) (C.view canvas.old) }
+    ensures { C.view canvas.new ≡ with_column C.mark strip.now (C.view canvas.old) }
 {
     let cut = CutColumn {
         texels,

@@ -1,10 +1,8 @@
 // Spans of pixels.
-ghost use Rattle.std.specs.Prelude.{◌≡◌, ◌+◌, ◌*◌, ◌<◌, ◌≤◌};
-ghost use Rattle.view_rules.specs.declared.TheConstants.{FRAME_WIDTH, FRAME_HEIGHT};
+ghost use Rattle.std.specs.Prelude.{◌≡◌, ◌*◌};
 ghost use Rattle.pixel_rules.specs.declared.TheConstants.{MAP_COLOURS};
-ghost use Rattle.pixel_rules.specs.Strips.{span_dots};
-ghost use Rattle.pixel_strips.specs.Canvases.{with_dots};
-ghost use Rattle.pixel_strips.specs.Strips.{row_colour, IsWindow};
+ghost use Rattle.pixel_strips.specs.Lying.{IsSpanIn, with_span};
+ghost use Rattle.pixel_strips.specs.Strips.{IsWindow};
 
 use crate::canvas::{Canvas, CutSpan};
 use crate::texels::{FLAT_BYTES, span_colour, window};
@@ -37,14 +35,8 @@ pub struct SpanStrip<'a> {
 ///
 /// The original: `R_DrawSpan`, r_draw.c.
 pub fn paint_span<C: Canvas>(canvas: &mut C, strip: &SpanStrip<'_>)
-    requires ordered { strip.now.first ≤ strip.now.last }
-    requires row { strip.now.y + (C.view canvas.old).top < FRAME_HEIGHT }
-    requires columns { strip.now.last + (C.view canvas.old).left < FRAME_WIDTH }
-    ensures { C.view canvas.new ≡ with_dots C.mark
-        (span_dots (C.view canvas.old).painter strip.now.y
-        (row_colour strip.now.flat.now strip.now.colormap.now strip.now.map
-        strip.now.x_fraction strip.now.y_fraction strip.now.x_step strip.now.y_step strip.now.first)
-        strip.now.first strip.now.last) (C.view canvas.old) }
+    requires within { IsSpanIn strip.now (C.view canvas.old) }
+    ensures { C.view canvas.new ≡ with_span C.mark strip.now (C.view canvas.old) }
 {
     if let Some(texels) = window(strip.flat, 0, FLAT_BYTES)
         && let Some(shades) = window(
@@ -61,14 +53,8 @@ pub fn paint_span<C: Canvas>(canvas: &mut C, strip: &SpanStrip<'_>)
 
 // Paints the strip where the flat or the colormap ends before it has all texels or shades.
 fn paint_any_span<C: Canvas>(canvas: &mut C, strip: &SpanStrip<'_>)
-    requires ordered { strip.now.first ≤ strip.now.last }
-    requires row { strip.now.y + (C.view canvas.old).top < FRAME_HEIGHT }
-    requires columns { strip.now.last + (C.view canvas.old).left < FRAME_WIDTH }
-    ensures { C.view canvas.new ≡ with_dots C.mark
-        (span_dots (C.view canvas.old).painter strip.now.y
-        (row_colour strip.now.flat.now strip.now.colormap.now strip.now.map
-        strip.now.x_fraction strip.now.y_fraction strip.now.x_step strip.now.y_step strip.now.first)
-        strip.now.first strip.now.last) (C.view canvas.old) }
+    requires within { IsSpanIn strip.now (C.view canvas.old) }
+    ensures { C.view canvas.new ≡ with_span C.mark strip.now (C.view canvas.old) }
 {
     let mut x_fraction = strip.x_fraction;
     let mut y_fraction = strip.y_fraction;
@@ -88,17 +74,11 @@ fn paint_any_span<C: Canvas>(canvas: &mut C, strip: &SpanStrip<'_>)
 
 // Paints the strip from the texels and the shades that are cut out.
 fn paint_cut_span<C: Canvas>(canvas: &mut C, strip: &SpanStrip<'_>, texels: &[u8], shades: &[u8])
-    requires ordered { strip.now.first ≤ strip.now.last }
-    requires row { strip.now.y + (C.view canvas.old).top < FRAME_HEIGHT }
-    requires columns { strip.now.last + (C.view canvas.old).left < FRAME_WIDTH }
+    requires within { IsSpanIn strip.now (C.view canvas.old) }
     requires texels { IsWindow strip.now.flat.now 0 FLAT_BYTES texels.now }
     requires shades { IsWindow strip.now.colormap.now (MAP_COLOURS * strip.now.map) MAP_COLOURS
         shades.now }
-    ensures { C.view canvas.new ≡ with_dots C.mark
-        (span_dots (C.view canvas.old).painter strip.now.y
-        (row_colour strip.now.flat.now strip.now.colormap.now strip.now.map
-        strip.now.x_fraction strip.now.y_fraction strip.now.x_step strip.now.y_step strip.now.first)
-        strip.now.first strip.now.last) (C.view canvas.old) }
+    ensures { C.view canvas.new ≡ with_span C.mark strip.now (C.view canvas.old) }
 {
     let cut = CutSpan {
         texels,

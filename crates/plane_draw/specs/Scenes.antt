@@ -56,6 +56,10 @@ pub record CanDrawPlanes (s : PlaneScene) (st : PlaneState) : Type 0 where
   pub planes : All (CanDrawPlane s.view.now.shape st.canvas.left st.canvas.top
       (length s.dir.now.lumps) s.sky) s.planes.now.planes
 
+-- what each call asks that draws a plane of that number
+abbrev pub CanDrawAt : PlaneScene → ℕ → PlaneState → Type 0
+CanDrawAt s number st = CanDrawPlanes s st × (number < length s.planes.now.planes)
+
 -- the dots of the first n planes
 unfoldable pub first_planes : ViewValue → Art → ℕ → List Plane → ℕ → List Dot
 first_planes v art sky planes n =

@@ -2,17 +2,16 @@
 //
 // Rules: `picture_rules`, Planes; `specs/Planes`. The original: `R_DrawPlanes`, r_plane.c.
 ghost use Rattle.lump_cache.specs.Caches.{cache_fault};
-ghost use Rattle.lump_rules.specs.Contents.{lump_bytes};
 ghost use Rattle.picture_rules.specs.Planes.{planes_dots};
 ghost use Rattle.picture_rules.specs.Scene.{Scene};
 ghost use Rattle.picture_rules.specs.plane.Skies.{plane_dots};
 ghost use Rattle.pixel_strips.specs.Dotted.{HasDots, PlacedAlike};
+ghost use Rattle.pixel_strips.specs.Standing.{StandsInFrame};
 ghost use Rattle.plane_draw.specs.Planes.{CanDrawPlane, IsSky, IsFlatOf};
-ghost use Rattle.plane_draw.specs.Scenes.{AreSameHands, CanDrawPlanes, PaintsPlanes, first_planes, hands_state};
-ghost use Rattle.std.specs.Prelude.{◌≡◌, ◌<◌, ◌≤◌, ◌+◌, ℕ, List, All, IfSome, OnOk, length};
-ghost use Rattle.texture_build.specs.Arts.{view_art};
-ghost use Rattle.texture_build.specs.Draws.{CanDraw, HoldsArt, FitBeside, DrawsWith};
-ghost use Rattle.view_rules.specs.declared.TheConstants.{FRAME_WIDTH, FRAME_HEIGHT};
+ghost use Rattle.plane_draw.specs.Scenes.{AreSameHands, CanDrawAt, CanDrawPlanes, PaintsPlanes, first_planes, hands_state};
+ghost use Rattle.plane_draw.specs.Tools.{AreSameTools, HasToolsArt, HasToolsSky, HoldsTools};
+ghost use Rattle.std.specs.Prelude.{◌≡◌, ◌<◌, ◌≤◌, ℕ, List, All, IfSome, OnOk, length};
+ghost use Rattle.texture_build.specs.Draws.{CanDraw, FitBeside, DrawsWith};
 ghost use Rattle.visplanes.specs.Planes.{plane_at};
 
 use crate::floor::draw_floor;
@@ -49,28 +48,17 @@ pub fn draw_planes<S: Shelf, C: Canvas>(
         tools.old.textures.now tools.old.cache.now tex.0) }
     requires slots { length tools.old.dir.now.lumps ≤ tools.old.cache.now.lumps }
     requires colormap { tools.old.colormap.0 < length tools.old.dir.now.lumps }
-    requires columns { (C.view tools.old.canvas.now).left + tools.old.view.now.shape.width
-        ≤ FRAME_WIDTH }
-    requires rows { (C.view tools.old.canvas.now).top + tools.old.view.now.shape.height
-        ≤ FRAME_HEIGHT }
-    ensures same_cache { tools.new.cache.ghost_name ≡ tools.old.cache.ghost_name }
-    ensures same_shelf { tools.new.shelf.ghost_name ≡ tools.old.shelf.ghost_name }
-    ensures same_canvas { tools.new.canvas.ghost_name ≡ tools.old.canvas.ghost_name }
+    requires placed { StandsInFrame tools.old.view.now.shape (C.view tools.old.canvas.now) }
+    ensures same { AreSameTools tools.old tools.new }
     ensures painted { (scene : Scene) (contents : List (List ℕ)) (count : ℕ) →
-        HoldsArt (S.view tools.old.shelf.now) tools.old.dir.now tools.old.textures.now contents
-        tools.old.colormap.0 count tools.old.cache.now →
-        scene.art ≡ view_art (lump_bytes contents tools.old.dir.now.lumps)
-        tools.old.textures.now tools.old.colormap.0 →
-        IfSome tools.old.sky (λ tex. scene.sky ≡ tex.0) →
+        HoldsTools S.view tools.old contents count → HasToolsArt tools.old contents scene →
+        HasToolsSky tools.old scene →
         OnOk result (HasDots C.mark
         (planes_dots tools.old.view.now scene planes.now.planes)
         (C.view tools.old.canvas.now) (C.view tools.new.canvas.now)) }
     ensures fits { (scene : Scene) (contents : List (List ℕ)) (count : ℕ) →
-        HoldsArt (S.view tools.old.shelf.now) tools.old.dir.now tools.old.textures.now contents
-        tools.old.colormap.0 count tools.old.cache.now →
-        scene.art ≡ view_art (lump_bytes contents tools.old.dir.now.lumps)
-        tools.old.textures.now tools.old.colormap.0 →
-        IfSome tools.old.sky (λ tex. scene.sky ≡ tex.0) →
+        HoldsTools S.view tools.old contents count → HasToolsArt tools.old contents scene →
+        HasToolsSky tools.old scene →
         OnOk result (FitBeside tools.old.dir.now.lumps tools.old.textures.now
         tools.old.colormap.0 count tools.old.cache.now.size
         (planes_dots tools.old.view.now scene planes.now.planes)) }
@@ -119,8 +107,7 @@ fn draw_one<S: Shelf, C: Canvas>(
     hands: &mut PlaneHands<'_, S, C>,
     plane: PlaneNo,
 ) -> Result<(), CacheFault>
-    requires ready { CanDrawPlanes scene.now (hands_state S.view C.view hands.old) }
-    requires plane { plane.0 < length scene.now.planes.now.planes }
+    requires ready { CanDrawAt scene.now plane.0 (hands_state S.view C.view hands.old) }
     ensures same { AreSameHands hands.old hands.new }
     ensures paints { PaintsPlanes C.mark scene.now
         (λ art sky. plane_dots scene.now.view.now art sky plane.0

@@ -10,7 +10,7 @@ ghost use Rattle.picture_rules.specs.declared.plane.Flat4.TheVariants.{Lump};
 ghost use Rattle.picture_rules.specs.plane.Skies.{plane_dots};
 ghost use Rattle.visplanes.specs.Planes.{plane_at};
 ghost use Rattle.texture_build.specs.Draws.{HoldsArt, FitBeside};
-ghost use Rattle.plane_draw.specs.Scenes.{AreSameHands, CanDrawPlanes, PaintsPlanes, hands_state, plane_art};
+ghost use Rattle.plane_draw.specs.Scenes.{AreSameHands, CanDrawAt, PaintsPlanes, hands_state, plane_art};
 
 use crate::scene::{PlaneHands, PlaneScene};
 use lump_cache::CacheFault;
@@ -27,8 +27,7 @@ pub fn draw_floor<S: Shelf, C: Canvas>(
     plane: PlaneNo,
     lump: LumpNo,
 ) -> Result<(), CacheFault>
-    requires ready { CanDrawPlanes scene.now (hands_state S.view C.view hands.old) }
-    requires plane { plane.0 < length scene.now.planes.now.planes }
+    requires ready { CanDrawAt scene.now plane.0 (hands_state S.view C.view hands.old) }
     requires flat { (plane_at scene.now.planes.now.planes plane.0).key.flat ≡ Lump lump.0 }
     ensures same { AreSameHands hands.old hands.new }
     ensures paints { PaintsPlanes C.mark scene.now
@@ -48,8 +47,7 @@ fn paint_floor<S: Shelf, C: Canvas>(
     plane: PlaneNo,
     lump: LumpNo,
 )
-    requires ready { CanDrawPlanes scene.now (hands_state S.view C.view hands.old) }
-    requires plane { plane.0 < length scene.now.planes.now.planes }
+    requires ready { CanDrawAt scene.now plane.0 (hands_state S.view C.view hands.old) }
     requires flat { (plane_at scene.now.planes.now.planes plane.0).key.flat ≡ Lump lump.0 }
     requires lump { lump.0 < length scene.now.dir.now.lumps }
     requires live { IsLive hands.old.cache.now (lump_owner lump.0) }

@@ -17,7 +17,7 @@ ghost use Rattle.texture_build.specs.Arts.{lookup_source};
 ghost use Rattle.texture_build.specs.Sources.{IsColumnLive, IsColumnThere, column_in, source_of};
 ghost use Rattle.texture_build.specs.Views.{prepared_texture};
 ghost use Rattle.texture_build.specs.Draws.{HoldsArt, FitBeside};
-ghost use Rattle.plane_draw.specs.Scenes.{AreSameHands, CanDrawPlanes, PaintsPlanes, hands_state, plane_art, sky_run};
+ghost use Rattle.plane_draw.specs.Scenes.{AreSameHands, CanDrawAt, CanDrawPlanes, PaintsPlanes, hands_state, plane_art, sky_run};
 
 use crate::scene::{PlaneHands, PlaneScene};
 use art_rules::ColumnLookup;
@@ -120,8 +120,7 @@ pub fn draw_sky<S: Shelf, C: Canvas>(
     hands: &mut PlaneHands<'_, S, C>,
     plane: PlaneNo,
 ) -> Result<(), CacheFault>
-    requires ready { CanDrawPlanes scene.now (hands_state S.view C.view hands.old) }
-    requires plane { plane.0 < length scene.now.planes.now.planes }
+    requires ready { CanDrawAt scene.now plane.0 (hands_state S.view C.view hands.old) }
     requires flat { (plane_at scene.now.planes.now.planes plane.0).key.flat ≡ Sky }
     ensures same { AreSameHands hands.old hands.new }
     ensures paints { PaintsPlanes C.mark scene.now
@@ -146,8 +145,7 @@ fn draw_sky_column<S: Shelf, C: Canvas>(
     tex: TexNo,
     x: u16,
 ) -> Result<(), CacheFault>
-    requires ready { CanDrawPlanes scene.now (hands_state S.view C.view hands.old) }
-    requires plane { plane.0 < length scene.now.planes.now.planes }
+    requires ready { CanDrawAt scene.now plane.0 (hands_state S.view C.view hands.old) }
     requires sky { scene.now.sky ≡ Some tex }
     requires column { x < scene.now.view.now.shape.width }
     ensures same { AreSameHands hands.old hands.new }

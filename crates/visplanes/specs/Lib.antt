@@ -1,3 +1,4 @@
 pub mod Planes
 pub mod Columns
 pub mod Spans
+pub mod Full

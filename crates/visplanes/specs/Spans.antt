@@ -1,6 +1,6 @@
 -- How a plane's rows are cut into spans: the runs from a column on, the rows that end and begin at a column, and the
 -- dots that are painted by then.
-use Rattle.std.specs.Prelude.{◌≡◌, ℕ, zero, suc, ◌+◌, ◌-◌, ◌<◌, min, max, ◌&&◌, nat_le, nat_lt, ℤ, pos, cond, Bool, true, List, [], ◌++◌, drop, Option, Some, None, slice_index}
+use Rattle.std.specs.Prelude.{◌≡◌, ℕ, zero, suc, ◌+◌, ◌-◌, ◌<◌, ◌≤◌, min, max, ◌&&◌, nat_le, nat_lt, ℤ, pos, cond, Bool, true, List, [], ◌++◌, drop, length, Option, Some, None, slice_index}
 use Rattle.view_rules.specs.declared.TheConstants.{FRAME_WIDTH, FRAME_HEIGHT}
 use Rattle.view_rules.specs.declared.ViewShape.{ViewShape}
 use Rattle.view_rules.specs.View.{ViewValue}
@@ -41,6 +41,10 @@ pub record FloorView : Type 0 where
   pub flat : List ℕ
   pub colormap : List ℕ
 
+abbrev pub floor_view : ViewValue → PlaneKey → List ℕ → List ℕ → FloorView
+floor_view view key flat colormap =
+    record { view = view; key = key; flat = flat; colormap = colormap }
+
 unfoldable pub distance_at : FloorView → ℕ → ℤ
 distance_at f y = row_distance f.view f.key.height y
 
@@ -76,6 +80,12 @@ pub record CanPaint (shape : ViewShape) (left top : ℕ) (start x y : ℕ) : Typ
   pub row : y < shape.height
   pub frame_column : x + left < FRAME_WIDTH + 1
   pub frame_row : y + top < FRAME_HEIGHT
+
+-- the spans that are open in these rows, each from its start on, may be painted to the column before x
+abbrev pub AreOpen : FloorView → List ℕ → Rows → ℕ → CanvasView → Type 0
+AreOpen f starts rows x canvas = (rows.end ≤ length starts)
+    × ((y : ℕ) → rows.begin ≤ y → y < rows.end →
+    CanPaint f.view.shape canvas.left canvas.top (slice_index starts y) x y)
 
 -- each pixel of the plane is in the view, and in the frame
 pub record IsSeen (shape : ViewShape) (left top : ℕ) (p : Plane) : Type 0 where

@@ -9,7 +9,7 @@ ghost use Rattle.picture_rules.specs.plane.Spans.{holds, span_start};
 ghost use Rattle.picture_rules.specs.plane.Skies.{plane_dots};
 ghost use Rattle.pixel_strips.specs.Canvases.{with_painter, with_dots};
 ghost use Rattle.visplanes.specs.Planes.{plane_at, flat_lump};
-ghost use Rattle.visplanes.specs.Spans.{is_in, closed_rows, closed_dots, CanPaint, IsSeen, HasSpans, GivesFlat};
+ghost use Rattle.visplanes.specs.Spans.{is_in, closed_rows, closed_dots, AreOpen, IsSeen, HasSpans, GivesFlat};
 
 use crate::columns::Visplane;
 use crate::floor::Floor;
@@ -107,11 +107,8 @@ fn change_rows<C: Canvas>(
     canvas: &mut C,
 )
     requires room { length starts.old ≡ FRAME_HEIGHT }
-    requires before { before.end ≤ FRAME_HEIGHT }
     requires now { now.end ≤ FRAME_HEIGHT }
-    requires spans { (y : ℕ) → before.begin ≤ y → y < before.end →
-        CanPaint floor.now.view.shape (C.view canvas.old).left (C.view canvas.old).top
-        (slice_index starts.old y) x y }
+    requires spans { AreOpen floor.now starts.old before x (C.view canvas.old) }
     ensures room { length starts.new ≡ FRAME_HEIGHT }
     ensures closed { C.view canvas.new ≡ with_dots C.mark
         (closed_dots floor.now (C.view canvas.old).painter (slice_index starts.old) before now x)
@@ -137,50 +134,31 @@ fn close_rows<C: Canvas>(
     x: u16,
     canvas: &mut C,
 )
-    requires room { before.end ≤ length starts.now }
-    requires spans { (y : ℕ) → before.begin ≤ y → y < before.end →
-        CanPaint floor.now.view.shape (C.view canvas.old).left (C.view canvas.old).top
-        (slice_index starts.now y) x y }
+    requires spans { AreOpen floor.now starts.now before x (C.view canvas.old) }
     ensures { C.view canvas.new ≡ with_dots C.mark
         (closed_dots floor.now (C.view canvas.old).painter (slice_index starts.now) before now x)
         (C.view canvas.old) }
 {
-    paint_rows(
-        floor,
-        starts,
-        before.begin,
-        before.end.min(now.begin),
-        x,
-        canvas,
-    );
-    paint_rows(
-        floor,
-        starts,
-        before.begin.max(now.end),
-        before.end,
-        x,
-        canvas,
-    );
+    let above = Rows {
+        begin: before.begin,
+        end: before.end.min(now.begin),
+    };
+    let below = Rows {
+        begin: before.begin.max(now.end),
+        end: before.end,
+    };
+    paint_rows(floor, starts, above, x, canvas);
+    paint_rows(floor, starts, below, x, canvas);
 }
 
-// Paints the spans of the rows from `begin` on, before `end`, each to the column before `x`.
-fn paint_rows<C: Canvas>(
-    floor: &Floor<'_, '_>,
-    starts: &[u16],
-    begin: u16,
-    end: u16,
-    x: u16,
-    canvas: &mut C,
-)
-    requires room { end ≤ length starts.now }
-    requires spans { (y : ℕ) → begin ≤ y → y < end →
-        CanPaint floor.now.view.shape (C.view canvas.old).left (C.view canvas.old).top
-        (slice_index starts.now y) x y }
+// Paints the spans of these rows, each to the column before `x`.
+fn paint_rows<C: Canvas>(floor: &Floor<'_, '_>, starts: &[u16], rows: Rows, x: u16, canvas: &mut C)
+    requires spans { AreOpen floor.now starts.now rows x (C.view canvas.old) }
     ensures { C.view canvas.new ≡ with_dots C.mark
-        (closed_rows floor.now (C.view canvas.old).painter (slice_index starts.now) x begin
-        (end - begin)) (C.view canvas.old) }
+        (closed_rows floor.now (C.view canvas.old).painter (slice_index starts.now) x rows.begin
+        (rows.end - rows.begin)) (C.view canvas.old) }
 {
-    for y in begin..end {
+    for y in rows.begin..rows.end {
         floor.paint_row(canvas, y, starts[y as usize], x - 1);
     }
 }

@@ -6,7 +6,7 @@ ghost use Rattle.word_rules.specs.declared.TheConstants.{FINE_ANGLES};
 ghost use Rattle.view_rules.specs.declared.TheConstants.{FRAME_WIDTH, FRAME_HEIGHT};
 ghost use Rattle.picture_rules.specs.plane.Floors.{base_angle, base_x, base_y, row_distance, span_length, span_angle, span_x, span_y};
 ghost use Rattle.pixel_strips.specs.Canvases.{with_dots};
-ghost use Rattle.visplanes.specs.Spans.{row_dots};
+ghost use Rattle.visplanes.specs.Spans.{floor_view, row_dots};
 
 use angle_tables::projection;
 use fx_words::{abs_word, div, fine_angle, minus, mul, neg_word, plus, turn, turn_back};
@@ -34,16 +34,11 @@ impl<'a, 'b> Model for Floor<'a, 'b> {
     ghost use Rattle.view_rules.specs.Lights.{light_number};
     ghost use Rattle.view_rules.specs.declared.TheConstants.{LIGHT_LEVELS};
     ghost use Rattle.picture_rules.specs.plane.Floors.{base_x, base_y};
-    ghost use Rattle.visplanes.specs.Spans.{FloorView};
+    ghost use Rattle.visplanes.specs.Spans.{FloorView, floor_view};
 
     ghost Value = { FloorView };
 
-    ghost view = { λ f. record {
-      view = f.view.now;
-      key = f.key;
-      flat = f.flat.now;
-      colormap = f.colormap.now;
-    } };
+    ghost view = { λ f. floor_view f.view.now f.key f.flat.now f.colormap.now };
 
     ghost invariant = { λ f. (f.light ≡ light_number f.view.now f.key.light (pos 0))
         × (f.light < LIGHT_LEVELS)
@@ -58,12 +53,7 @@ impl<'a, 'b> Floor<'a, 'b> {
         flat: &'a [u8],
         colormap: &'a [u8],
     ) -> Floor<'a, 'b>
-        ensures { result ≡ record {
-          view = view.now;
-          key = key;
-          flat = flat.now;
-          colormap = colormap.now;
-        } }
+        ensures { result ≡ floor_view view.now key flat.now colormap.now }
     {
         Floor {
             view,

@@ -4,6 +4,7 @@ ghost use Rattle.view_rules.specs.declared.TheConstants.{FRAME_WIDTH, FRAME_HEIG
 ghost use Rattle.picture_rules.specs.declared.plane.TheConstants.{MOST_VISPLANES};
 ghost use Rattle.picture_rules.specs.plane.Planes.{find, check, mark, add, column, number_of, AreWide};
 ghost use Rattle.picture_rules.specs.plane.Spans.{holds, row_runs};
+ghost use Rattle.visplanes.specs.Full.{StaysFull};
 ghost use Rattle.visplanes.specs.Planes.{PlanesView, with_planes, plane_at};
 
 use crate::columns::Visplane;
@@ -229,8 +230,7 @@ impl Planes {
         ensures number { IfOk result (λ plane. plane.0 ≡ (add self.old.planes key).number) }
         ensures within { IfOk result (λ plane. plane.0 < length self.new.planes) }
         ensures full { IsErr result ↔ (self.old.room < length (add self.old.planes key).planes) }
-        ensures count { IfErr result (λ e. e.count ≡ self.old.room + 1) }
-        ensures err { OnErr result (self.new ≡ self.old) }
+        ensures refused { StaysFull self.old self.new result }
     {
         if self.count == self.planes.len() {
             let count = self.planes.len() as u32 + 1;

@@ -12,3 +12,4 @@ pub mod Places
 pub mod States
 pub mod Painted
 pub mod Drawn
+pub mod Tools

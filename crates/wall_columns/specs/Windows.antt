@@ -10,6 +10,10 @@ pub record WindowsView : Type 0 where
   pub floor_clips : List ℤ
   pub height : ℕ
 
+abbrev pub windows_view : List ℤ → List ℤ → ℕ → WindowsView
+windows_view ceiling_clips floor_clips height =
+    record { ceiling_clips = ceiling_clips; floor_clips = floor_clips; height = height }
+
 -- what is open of a column
 unfoldable pub window_at : WindowsView → ℕ → ColumnClip
 window_at w x = record {

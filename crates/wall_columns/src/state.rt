@@ -7,18 +7,16 @@ ghost use Rattle.view_rules.specs.View.{ViewValue};
 ghost use Rattle.walk_rules.specs.declared.TheConstants.{MAX_DRAWSEGS};
 ghost use Rattle.picture_rules.specs.declared.wall.TheConstants.{MOST_OPENINGS};
 ghost use Rattle.picture_rules.specs.wall.Walls.{Wall, wall_of};
-ghost use Rattle.picture_rules.specs.wall.Strips.{wall_dots};
 ghost use Rattle.picture_rules.specs.plane.Built.{PlanesNow, IsAmongPlanes, no_planes, after_event};
 ghost use Rattle.picture_rules.specs.Noted.{AreNoted};
-ghost use Rattle.texture_build.specs.Arts.{view_art};
-ghost use Rattle.texture_build.specs.Draws.{HoldsArt, FitBeside, CanDraw, DrawsWith};
-ghost use Rattle.lump_rules.specs.Contents.{lump_bytes};
+ghost use Rattle.texture_build.specs.Draws.{FitBeside, CanDraw, DrawsWith};
 ghost use Rattle.wall_columns.specs.Walls.{WallsView};
 ghost use Rattle.wall_columns.specs.Built.{IsBuilt, with_wall, step_of_wall, step_of_leaf, limits_of, step_over};
 ghost use Rattle.wall_columns.specs.Faults.{draw_fault, limit_of_result, IsPlanesFault, IsLimitFault};
 ghost use Rattle.pixel_strips.specs.Dotted.{HasDots, PlacedAlike};
 ghost use Rattle.wall_columns.specs.Draws.{IsWallTexture, IsNoPicture, IsUntouched};
 ghost use Rattle.wall_columns.specs.Noted.{HaveBacks};
+ghost use Rattle.wall_columns.specs.Tools.{HoldsTools, range_dots};
 
 use crate::column_state::ColumnState;
 use crate::fault::DrawFault;
@@ -211,27 +209,17 @@ impl WallState {
         ensures painted { (walls : List Wall) (s : PlanesNow) (contents : List (List ℕ))
             (count : ℕ) →
             IsBuilt tools.old.view.now walls s self.old tools.old.planes.now.planes →
-            length walls < MAX_DRAWSEGS →
-            HoldsArt (S.view tools.old.shelf.now) tools.old.dir.now tools.old.textures.now contents
-            tools.old.colormap.0 count tools.old.cache.now →
-            let w = wall_of tools.old.view.now facts.now first last in
-            let art = view_art (lump_bytes contents tools.old.dir.now.lumps)
-            tools.old.textures.now tools.old.colormap.0 in
+            length walls < MAX_DRAWSEGS → HoldsTools S.view tools.old contents count →
             OnOk result (HasDots C.mark
-            (wall_dots tools.old.view.now art (with_wall walls w) (length walls) w)
+            (range_dots tools.old facts.now first last walls contents)
             (C.view tools.old.canvas.now) (C.view tools.new.canvas.now)) }
         ensures fits { (walls : List Wall) (s : PlanesNow) (contents : List (List ℕ))
             (count : ℕ) →
             IsBuilt tools.old.view.now walls s self.old tools.old.planes.now.planes →
-            length walls < MAX_DRAWSEGS →
-            HoldsArt (S.view tools.old.shelf.now) tools.old.dir.now tools.old.textures.now contents
-            tools.old.colormap.0 count tools.old.cache.now →
-            let w = wall_of tools.old.view.now facts.now first last in
-            let art = view_art (lump_bytes contents tools.old.dir.now.lumps)
-            tools.old.textures.now tools.old.colormap.0 in
+            length walls < MAX_DRAWSEGS → HoldsTools S.view tools.old contents count →
             OnOk result (FitBeside tools.old.dir.now.lumps tools.old.textures.now
             tools.old.colormap.0 count tools.old.cache.now.size
-            (wall_dots tools.old.view.now art (with_wall walls w) (length walls) w)) }
+            (range_dots tools.old facts.now first last walls contents)) }
         ensures paints { DrawsWith draw_fault (IsWallTexture facts.now) IsNoPicture
             (S.view tools.old.shelf.now) (S.view tools.new.shelf.now) tools.old.dir.now
             tools.old.textures.now tools.old.cache.now tools.new.cache.now result }

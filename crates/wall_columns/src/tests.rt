@@ -3,36 +3,29 @@
 //
 // Each function makes a few values and lends them to the next, and the one that draws owns none: a
 // function that owns many where it may return takes minutes to prove.
-ghost use Rattle.std.specs.Prelude.{◌≡◌, ◌≢◌, ◌<◌, ◌≤◌, ◌^◌, ℕ, IfOk, OnOk, length};
+ghost use Rattle.std.specs.Prelude.{◌≡◌, ◌≢◌, ◌<◌, ◌≤◌, ◌^◌, ℕ, length};
 ghost use Rattle.texture_build.specs.Draws.{CanDraw};
+ghost use Rattle.wall_columns.specs.declared.tests.made.TheConstants.{WALL1};
 ghost use Rattle.wall_columns.specs.Draws.{IsWallTexture};
 
+mod made;
+
 use crate::{DrawFault, LeafPlanes, WallFacts, WallState, WallTools};
-use angle_tables::Tables;
-use level_maker::{make_tables, make_wad};
 use level_rules::{SKY_FLAT, Seg, Surface};
 use lump_cache::LumpCache;
-use lump_rules::Name8;
-use outside::{MemoryFile, MemoryShelf, Shelf};
+use made::{
+    WALL1, colormap_of, eye_at, made_angles, made_cache, made_directory, made_shelf, prepare_wall,
+};
+use outside::MemoryShelf;
 use picture_rules::{Flat4, MAX_OPENINGS, PlaneKey, WallTexture};
 use pixel_strips::{Canvas, Frame};
 use std::alloc::Global;
 use std::test::Fail;
-use texture_build::{TexNo, Textures};
+use texture_build::Textures;
 use view_frame::View;
-use view_rules::{Eye, FRAME_WIDTH, MAX_SIZE};
+use view_rules::FRAME_WIDTH;
 use visplanes::{PlaneNo, Planes};
 use wad_dir::{Directory, LumpNo};
-use zone_heap::Tag;
-
-const EYE: Eye = Eye {
-    x: 0,
-    y: 0,
-    z: 41 << 16,
-    angle: 0,
-    extralight: 0,
-    colormap: 0,
-};
 
 const EAST: Seg = Seg {
     x1: 256 << 16,
@@ -73,8 +66,6 @@ const SKY: PlaneKey = PlaneKey {
     light: 0,
 };
 
-const WALL1: u16 = 1;
-
 const BRICK: WallTexture = WallTexture {
     number: WALL1,
     height: 128,
@@ -85,15 +76,12 @@ const BARE: WallTexture = WallTexture {
     height: 0,
 };
 
-// The cache's slots for composites.
-const COMPOSITES: u32 = 8;
-
-// An eye in a leaf, which sees the east wall of a sector, with the sector behind it, bare or of
-// brick. The wall is drawn so many times, from column `first` to the last of the frame; then
-// `column` is looked at.
+// An eye in a leaf, so many map units (16.16) up, which sees the east wall of a sector, with the
+// sector behind it, bare or of brick. The wall is drawn so many times, from column `first` to the
+// last of the frame; then `column` is looked at.
 #[derive(Clone, Copy)]
 struct Scene {
-    eye: Eye,
+    z: i32,
     leaf: LeafPlanes,
     front: Surface,
     back: Option<Surface>,
@@ -104,7 +92,7 @@ struct Scene {
 }
 
 const BRICK_WALL: Scene = Scene {
-    eye: EYE,
+    z: 41 << 16,
     leaf: LeafPlanes {
         floor: Some(FLOOR),
         ceiling: Some(CEILING),
@@ -133,10 +121,7 @@ const OPEN_AIR: Scene = Scene {
 
 // Seen from above the room's ceiling.
 const WINDOW: Scene = Scene {
-    eye: Eye {
-        z: 200 << 16,
-        ..EYE
-    },
+    z: 200 << 16,
     leaf: LeafPlanes {
         floor: None,
         ceiling: None,
@@ -178,7 +163,7 @@ struct Art<'a> {
 // What a scene leaves.
 fn seen(alloc: Global, scene: &Scene) -> Result<Result<Sight, DrawFault>, Fail> {
     let tables = made_angles(alloc)?;
-    let view = View::new(&tables, scene.eye);
+    let view = View::new(&tables, eye_at(scene.z));
     seen_by(alloc, &view, scene)
 }
 
@@ -224,7 +209,8 @@ fn seen_over(
 {
     let colormap = colormap_of(dir)?;
     let mut cache = made_cache(alloc, dir, shelf, colormap)?;
-    let textures = made_textures(alloc, dir, &mut cache, shelf)?;
+    let mut textures = Textures::load(alloc, dir, &mut cache, shelf)?;
+    prepare_wall(alloc, &mut textures, dir, &mut cache, shelf)?;
     let art = Art {
         dir: &*dir,
         textures: &textures,
@@ -323,70 +309,6 @@ fn run_at(planes: &Planes, plane: u32, x: u16) -> Option<(u8, u8)> {
 fn pixel(frame: &Frame, x: u16, y: usize) -> Option<u8> {
     let cell = y.wrapping_mul(320).wrapping_add(x as usize);
     frame.bytes().get(cell).copied()
-}
-
-// The made tables of angles.
-fn made_angles(alloc: Global) -> Result<Tables, Fail> {
-    Ok(Tables::from_bytes(alloc, &make_tables(alloc)?, MAX_SIZE)?)
-}
-
-// A shelf of the made WAD.
-fn made_shelf(alloc: Global) -> Result<MemoryShelf, Fail> {
-    let name = "made.wad".to_string(alloc)?;
-    let bytes = make_wad(alloc, 1)?;
-    let files = vec![in alloc; MemoryFile { name, bytes }]?;
-    Ok(MemoryShelf::new(files, Vec::new(alloc)))
-}
-
-fn made_directory(alloc: Global, shelf: &mut MemoryShelf) -> Result<Directory, Fail>
-    ensures { IfOk result (λ dir. length dir.lumps < 2 ^ 16) }
-{
-    let made = shelf.find("made.wad")?;
-    Ok(Directory::load(alloc, shelf, &[made])?)
-}
-
-fn colormap_of(dir: &Directory) -> Result<LumpNo, Fail>
-    ensures { IfOk result (λ colormap. colormap.0 < length dir.now.lumps) }
-{
-    let name = Name8::from_text("COLORMAP").ok_or("a name")?;
-    Ok(dir.last(&name).ok_or("COLORMAP")?)
-}
-
-// A cache with the colormap.
-fn made_cache(
-    alloc: Global,
-    dir: &Directory,
-    shelf: &mut MemoryShelf,
-    colormap: LumpNo,
-) -> Result<LumpCache, Fail>
-    requires few { length dir.now.lumps < 2 ^ 16 }
-    requires colormap { colormap.0 < length dir.now.lumps }
-    ensures slots { IfOk result (λ cache. length dir.now.lumps ≤ cache.lumps) }
-    ensures composites { IfOk result (λ cache. cache.composites ≡ COMPOSITES) }
-{
-    let mut cache = LumpCache::new(alloc, dir, 65536, COMPOSITES)?;
-    cache.fetch(shelf, dir, colormap, Tag::Static)?;
-    Ok(cache)
-}
-
-// The textures, with WALL1 prepared.
-fn made_textures(
-    alloc: Global,
-    dir: &Directory,
-    cache: &mut LumpCache,
-    shelf: &mut MemoryShelf,
-) -> Result<Textures, Fail>
-    requires slots { length dir.now.lumps ≤ cache.old.lumps }
-    requires composites { cache.old.composites ≡ COMPOSITES }
-    ensures slots { OnOk result (length dir.now.lumps ≤ cache.new.lumps) }
-    ensures brick { IfOk result (λ textures. CanDraw dir.now.lumps textures cache.new WALL1) }
-{
-    let mut textures = Textures::load(alloc, dir, cache, shelf)?;
-    if textures.count() != 5 {
-        return Err("five textures".into());
-    }
-    textures.prepare(alloc, &[TexNo(WALL1)], dir, cache, shelf)?;
-    Ok(textures)
 }
 
 #[test]

@@ -20,16 +20,12 @@ pub struct Windows {
 }
 
 impl Model for Windows {
-    ghost use Rattle.wall_columns.specs.Windows.{WindowsView};
+    ghost use Rattle.wall_columns.specs.Windows.{WindowsView, windows_view};
     ghost use Rattle.wall_columns.specs.Walls.{AreClips};
 
     ghost Value = { WindowsView };
 
-    ghost view = { λ w. record {
-      ceiling_clips = w.ceiling_clips.items;
-      floor_clips = w.floor_clips.items;
-      height = w.height;
-    } };
+    ghost view = { λ w. windows_view w.ceiling_clips.items w.floor_clips.items w.height };
 
     ghost invariant = { λ w. AreClips w.height w.ceiling_clips.items w.floor_clips.items };
 }

@@ -26,10 +26,8 @@ fn both_sky(front: Surface, back: Surface) -> bool
 pub fn world_high(eye_z: i32, back: Option<Surface>) -> i32
     ensures { result ≡ world_high eye_z back }
 {
-    match back {
-        Some(back) => minus(back.ceiling, eye_z),
-        None => 0,
-    }
+    let Some(back) = back else { return 0 };
+    minus(back.ceiling, eye_z)
 }
 
 /// The height of the floor behind, 0 where there is none.
@@ -37,10 +35,8 @@ pub fn world_high(eye_z: i32, back: Option<Surface>) -> i32
 pub fn world_low(eye_z: i32, back: Option<Surface>) -> i32
     ensures { result ≡ world_low eye_z back }
 {
-    match back {
-        Some(back) => minus(back.floor, eye_z),
-        None => 0,
-    }
+    let Some(back) = back else { return 0 };
+    minus(back.floor, eye_z)
 }
 
 /// The height of the ceiling in front; where sky meets sky, that of the ceiling behind.

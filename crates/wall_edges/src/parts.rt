@@ -78,18 +78,14 @@ fn top_mid(eye_z: i32, facts: &WallFacts, back: Surface) -> i32
 pub fn top_part(eye_z: i32, facts: &WallFacts, back: Option<Surface>) -> Part
     ensures { result ≡ top_part eye_z facts.now back }
 {
-    match back {
-        Some(back) => {
-            if world_high(eye_z, Some(back)) < world_top(eye_z, facts.front, Some(back)) {
-                Part {
-                    number: facts.top.number,
-                    mid: plus(top_mid(eye_z, facts, back), facts.y_offset),
-                }
-            } else {
-                no_part()
-            }
+    let Some(back) = back else { return no_part() };
+    if world_high(eye_z, Some(back)) < world_top(eye_z, facts.front, Some(back)) {
+        Part {
+            number: facts.top.number,
+            mid: plus(top_mid(eye_z, facts, back), facts.y_offset),
         }
-        None => no_part(),
+    } else {
+        no_part()
     }
 }
 
@@ -109,18 +105,14 @@ fn bottom_mid(eye_z: i32, facts: &WallFacts) -> i32
 pub fn bottom_part(eye_z: i32, facts: &WallFacts, back: Option<Surface>) -> Part
     ensures { result ≡ bottom_part eye_z facts.now back }
 {
-    match back {
-        Some(back) => {
-            if world_bottom(eye_z, facts.front) < world_low(eye_z, Some(back)) {
-                Part {
-                    number: facts.bottom.number,
-                    mid: plus(bottom_mid(eye_z, facts), facts.y_offset),
-                }
-            } else {
-                no_part()
-            }
+    let Some(back) = back else { return no_part() };
+    if world_bottom(eye_z, facts.front) < world_low(eye_z, Some(back)) {
+        Part {
+            number: facts.bottom.number,
+            mid: plus(bottom_mid(eye_z, facts), facts.y_offset),
         }
-        None => no_part(),
+    } else {
+        no_part()
     }
 }
 

@@ -12,12 +12,24 @@ use outside::{MemoryFile, MemoryShelf, Shelf};
 use std::alloc::Global;
 use std::test::Fail;
 use texture_build::{TexNo, Textures};
-use view_rules::MAX_SIZE;
+use view_rules::{Eye, MAX_SIZE};
 use wad_dir::{Directory, LumpNo};
 use zone_heap::Tag;
 
 // The cache's slots for composites.
 const COMPOSITES: u32 = 8;
+
+// An eye at the origin that looks east, `z` (map units, 16.16) high.
+pub(super) fn eye_at(z: i32) -> Eye {
+    Eye {
+        x: 0,
+        y: 0,
+        z,
+        angle: 0,
+        extralight: 0,
+        colormap: 0,
+    }
+}
 
 // The made tables of angles.
 pub(super) fn made_angles(alloc: Global) -> Result<Tables, Fail> {

@@ -6,7 +6,7 @@ use Rattle.masked_draw.proofs.pass.draw_masked.Goals as goal
 
 pub draw_sprites-requires-clause-ready : goal.draw_sprites-requires-clause-ready
 draw_sprites-requires-clause-ready g c = record {
-  paint = record { slots = c.requires.slots; colormap = c.requires.colormap; left = c.requires.left; top = c.requires.top };
+  paint = record { slots = c.requires.slots; colormap = c.requires.colormap; left = c.requires.placed.columns; top = c.requires.placed.rows };
   noted = c.requires.noted;
   listed = c.requires.listed;
   room = rw c.fill.ensures.len c.requires.marks;
@@ -16,7 +16,7 @@ pub draw_middles-requires : goal.draw_middles-requires
 draw_middles-requires g c =
     let sprites = c.in_ok-draw_sprites.ensures in record {
       ready = can_pass-later _ _ sprites.paints sprites.marks (record {
-        paint = record { slots = c.requires.slots; colormap = c.requires.colormap; left = c.requires.left; top = c.requires.top };
+        paint = record { slots = c.requires.slots; colormap = c.requires.colormap; left = c.requires.placed.columns; top = c.requires.placed.rows };
         noted = c.requires.noted;
         listed = c.requires.listed;
         room = rw c.fill.ensures.len c.requires.marks;

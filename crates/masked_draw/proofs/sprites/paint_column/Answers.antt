@@ -1,10 +1,7 @@
 -- A column that the picture has, and one that it has not.
-use Rattle.std.proofs.Common.{pos, ◌≤ℤ◌, w32, sym, ◌∙◌, subst, rules}
+use Rattle.std.proofs.Common.{w32, sym, ◌∙◌, subst, rules}
 use Rattle.std.proofs.lemmas.Int.{to_z-of_z}
-use Rattle.word_rules.specs.Words.{minus_one}
-use Rattle.pixel_rules.specs.declared.MaskedColumn.{MaskedColumn}
-use Rattle.picture_rules.specs.Noted.{greatest_clip, least_clip}
-use Rattle.masked_draw.specs.Clipped.{clipped_masked}
+use Rattle.masked_draw.specs.Clipped.{HasClipsIn, clipped_masked}
 use Rattle.masked_draw.proofs.PictureLemmas.{column-inside, column-outside}
 use Rattle.masked_draw.proofs.sprites.paint_column.Goals as goal
 
@@ -13,21 +10,12 @@ returns-then-not-is_in_picture g c =
     column-outside g.C.Canvas.mark c.args.shape c.args.art.now.bytes.now c.args.art.now.colormap.now c.args.clips.now c.args.entry.now c.args.x _ (g.C.Canvas.view c.args.canvas.now)
     (to_z-of_z w32 c.picture_column-own.result (search rules) ∙ c.picture_column-own.ensures) (sym c.is_in_picture.ensures.value ∙ c.if-not-is_in_picture.true)
 
-pub paint_posts-requires-clause-least_top : goal.paint_posts-requires-clause-least_top
+pub paint_posts-requires-clause-clips : goal.paint_posts-requires-clause-clips
 unfolding clipped_masked
-paint_posts-requires-clause-least_top g c = subst (λ (k : MaskedColumn). minus_one ≤ℤ k.top_clip) (sym c.clipped_masked-column.ensures) c.requires.rows.least_top
-
-pub paint_posts-requires-clause-greatest_top : goal.paint_posts-requires-clause-greatest_top
-unfolding clipped_masked
-paint_posts-requires-clause-greatest_top g c = subst (λ (k : MaskedColumn). k.top_clip ≤ℤ greatest_clip) (sym c.clipped_masked-column.ensures) c.requires.rows.greatest_top
-
-pub paint_posts-requires-clause-least_bottom : goal.paint_posts-requires-clause-least_bottom
-unfolding clipped_masked
-paint_posts-requires-clause-least_bottom g c = subst (λ (k : MaskedColumn). least_clip ≤ℤ k.bottom_clip) (sym c.clipped_masked-column.ensures) c.requires.rows.least_bottom
-
-pub paint_posts-requires-clause-greatest_bottom : goal.paint_posts-requires-clause-greatest_bottom
-unfolding clipped_masked
-paint_posts-requires-clause-greatest_bottom g c = subst (λ (k : MaskedColumn). k.bottom_clip ≤ℤ pos c.args.shape.height) (sym c.clipped_masked-column.ensures) c.requires.rows.greatest_bottom
+paint_posts-requires-clause-clips g c =
+    let rows = c.requires.rows in
+    subst (HasClipsIn c.args.shape.height) (sym c.clipped_masked-column.ensures)
+    (record { least_top = rows.least_top; greatest_top = rows.greatest_top; least_bottom = rows.least_bottom; greatest_bottom = rows.greatest_bottom })
 
 pub returns : goal.returns
 returns g c =

@@ -15,7 +15,7 @@ loop-x-init g c =
       same_cache = refl;
       same_shelf = refl;
       same_canvas = refl;
-      ready = c.requires.ready;
+      ready = c.requires.ready.0;
       paints = paints-same _ (λ art sky is. columns-start s.view.now art c.args.plane.0 c.in-Some.tex.0 (plane_at s.planes.now.planes c.args.plane.0)) (paints-none _ _);
     }
 

@@ -14,7 +14,7 @@ returns-in_default-clause-paints g c =
 pub draw_sky_rows-requires-clause-rows : goal.draw_sky_rows-requires-clause-rows
 draw_sky_rows-requires-clause-rows g c = λ ordered.
     seen-last c.args.scene.now.view.now.shape _ _ (plane_at c.args.scene.now.planes.now.planes c.args.plane.0) c.args.x _ _
-    (plane-can c.requires.ready c.args.plane.0 c.requires.plane).seen c.in-Some.ensures ordered
+    (plane-can c.requires.ready.0 c.args.plane.0 c.requires.ready.1).seen c.in-Some.ensures ordered
 
 pub returns-clause-paints : goal.returns-clause-paints
 returns-clause-paints g c =

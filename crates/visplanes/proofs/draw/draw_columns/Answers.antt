@@ -1,4 +1,4 @@
-use Rattle.std.proofs.Common.{◌≡◌, ℕ, ◌+◌, ◌<◌, true, false, ap, sym, ◌∙◌, refl, subst, arith, inl, inr}
+use Rattle.std.proofs.Common.{◌≡◌, ℕ, ◌+◌, ◌<◌, ◌≤◌, length, rules, true, false, ap, sym, ◌∙◌, refl, subst, arith, inl, inr}
 use Rattle.std.specs.Prelude.{slice_index}
 use Rattle.std.proofs.lemmas.Bool.{cases_Bool, both_ways, false_from_ne_true}
 use Rattle.view_rules.specs.declared.TheConstants.{FRAME_WIDTH}
@@ -25,12 +25,15 @@ loop-x-init g c =
     }
 
 pub change_rows-requires-clause-spans : goal.change_rows-requires-clause-spans
-change_rows-requires-clause-spans g c = λ y l m.
+change_rows-requires-clause-spans g c =
     let i = c.loop-x.invariant in
     let old = g.C.Canvas.view c.args.canvas.now in
+    let room : c.loop-x.before.end ≤ length c.loop-x.starts = search rules in
+    let spans : (y : ℕ) → c.loop-x.before.begin ≤ y → y < c.loop-x.before.end → CanPaint c.args.floor.now.view.shape (g.C.Canvas.view c.loop-x.canvas).left (g.C.Canvas.view c.loop-x.canvas).top (slice_index c.loop-x.starts y) c.loop-x.x y = λ y l m.
     let h : is_in c.loop-x.before y ≡ true = is_in-from c.loop-x.before y l m in
     subst (λ (v : CanvasView). CanPaint c.args.floor.now.view.shape v.left v.top (slice_index c.loop-x.starts y) c.loop-x.x y) (sym i.spans.painted)
-    (can_paint c.args.floor.now.view.shape old.left old.top c.args.plane.now c.requires.seen (slice_index c.loop-x.starts y) c.loop-x.x y (sym (i.held y) ∙ h) (i.starts y h))
+    (can_paint c.args.floor.now.view.shape old.left old.top c.args.plane.now c.requires.seen (slice_index c.loop-x.starts y) c.loop-x.x y (sym (i.held y) ∙ h) (i.starts y h)) in
+    (room, spans)
 
 pub loop-x-preserved : goal.loop-x-preserved
 unfolding holds

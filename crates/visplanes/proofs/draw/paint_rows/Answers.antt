@@ -15,7 +15,7 @@ loop-y-init g c =
       from = omega arith;
       idle = omega arith;
       painted = dots_none g.C.Canvas.mark old
-          ∙ ap (λ (dots : List Dot). with_dots g.C.Canvas.mark dots old) (sym (closed_rows-none c.args.floor.now old.painter (slice_index c.args.starts.now) c.args.x c.args.begin (c.args.begin - c.args.begin) (omega arith)));
+          ∙ ap (λ (dots : List Dot). with_dots g.C.Canvas.mark dots old) (sym (closed_rows-none c.args.floor.now old.painter (slice_index c.args.starts.now) c.args.x c.args.rows.begin (c.args.rows.begin - c.args.rows.begin) (omega arith)));
     }
 
 pub loop-y-preserved : goal.loop-y-preserved
@@ -23,7 +23,7 @@ loop-y-preserved g c =
     let old = g.C.Canvas.view c.args.canvas.now in
     let i = c.loop-y.invariant in
     let start : ℕ → ℕ = slice_index c.args.starts.now in
-    let above : List Dot = closed_rows c.args.floor.now old.painter start c.args.x c.args.begin (c.loop-y.y - c.args.begin) in
+    let above : List Dot = closed_rows c.args.floor.now old.painter start c.args.x c.args.rows.begin (c.loop-y.y - c.args.rows.begin) in
     record {
       from = omega (arith, i.from);
       idle = omega (arith, c.loop-y-test.true);
@@ -31,5 +31,5 @@ loop-y-preserved g c =
           ∙ ap (λ (v : CanvasView). with_dots g.C.Canvas.mark (row_dots c.args.floor.now v.painter c.loop-y.y (start c.loop-y.y) (c.args.x - 1)) v) i.painted
           ∙ dots_append g.C.Canvas.mark above (row_dots c.args.floor.now old.painter c.loop-y.y (start c.loop-y.y) (c.args.x - 1)) old
           ∙ ap (λ (dots : List Dot). with_dots g.C.Canvas.mark dots old)
-          (closed_rows-more c.args.floor.now old.painter start c.args.x c.args.begin (c.loop-y.y - c.args.begin) (c.loop-y.y + 1 - c.args.begin) c.loop-y.y (omega (arith, i.from)) (omega (arith, i.from)));
+          (closed_rows-more c.args.floor.now old.painter start c.args.x c.args.rows.begin (c.loop-y.y - c.args.rows.begin) (c.loop-y.y + 1 - c.args.rows.begin) c.loop-y.y (omega (arith, i.from)) (omega (arith, i.from)));
     }

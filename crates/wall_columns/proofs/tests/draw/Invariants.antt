@@ -2,7 +2,7 @@ use Rattle.std.proofs.Common.{◌≡◌, ◌+◌, ◌≤◌, length}
 use Rattle.view_rules.specs.declared.TheConstants.{FRAME_WIDTH, FRAME_HEIGHT}
 use Rattle.picture_rules.specs.plane.Built.{IsAmongPlanes}
 use Rattle.texture_build.specs.Draws.{CanDraw}
-use Rattle.wall_columns.specs.declared.tests.TheConstants.{WALL1}
+use Rattle.wall_columns.specs.declared.tests.made.TheConstants.{WALL1}
 use Rattle.wall_columns.proofs.tests.draw.Given as goal
 
 -- the wall may be drawn once more

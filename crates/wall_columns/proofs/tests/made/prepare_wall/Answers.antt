@@ -7,7 +7,7 @@ use Rattle.art_rules.specs.declared.PlacedPatch.{PlacedPatch}
 use Rattle.art_rules.specs.Wanted.{PreparedTexture}
 use Rattle.texture_lists.specs.declared.number.TexNo.{TexNo}
 use Rattle.texture_build.specs.Views.{ArePatchesThere, prepared_at, unprepared}
-use Rattle.wall_columns.proofs.tests.made_textures.Goals as goal
+use Rattle.wall_columns.proofs.tests.made.prepare_wall.Goals as goal
 
 -- what holds of each prepared texture holds of the one of a number
 prepared_has : (P : PreparedTexture → Type 0) (ts : List (Option PreparedTexture)) (number : ℕ) → All (λ (t : Option PreparedTexture). IfSome t P) ts → IfSome (prepared_at ts number) P

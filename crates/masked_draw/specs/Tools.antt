@@ -1,0 +1,35 @@
+-- What the masked pass is drawn with, by the values of its tools.
+use Rattle.std.specs.Prelude.{◌≡◌, ℕ, List}
+use Rattle.outside.specs.Shelf.{ShelfView}
+use Rattle.lump_rules.specs.Contents.{lump_bytes}
+use Rattle.pixel_rules.specs.Dots.{Dot}
+use Rattle.picture_rules.specs.declared.wall.FragmentNote.{FragmentNote}
+use Rattle.picture_rules.specs.declared.sprite.SpriteEntry.{SpriteEntry}
+use Rattle.picture_rules.specs.sprite.Middles.{masked_dots}
+use Rattle.picture_rules.specs.sprite.Order.{draw_order}
+use Rattle.texture_build.specs.Arts.{view_art}
+use Rattle.texture_build.specs.Draws.{HoldsArt}
+use Rattle.masked_draw.specs.declared.tools.MaskedTools.{MaskedTools}
+use Rattle.masked_draw.specs.Lists.{MaskedLists, lists_of, noted_drawsegs}
+
+-- the lists of the level
+abbrev pub tools_lists : {S C : Type 0} → MaskedTools S C → MaskedLists
+tools_lists t = lists_of t.segs.now t.sides.now t.sectors.now t.middles.now
+
+-- the dots of the pass with these notes and sprites, where the files have these contents
+abbrev pub tools_dots : {S C : Type 0} → MaskedTools S C → List FragmentNote → List SpriteEntry →
+    List (List ℕ) → List Dot
+tools_dots t notes sprites contents =
+    masked_dots t.view.now (view_art (lump_bytes contents t.dir.now.lumps) t.textures.now t.colormap.0)
+    (noted_drawsegs t.view.now t.textures.now (tools_lists t) t.openings.now notes) (draw_order sprites)
+
+-- the cache holds what the files of these contents give, and a colormap of `count` bytes
+abbrev pub HoldsTools : {S C : Type 0} → (S → ShelfView) → MaskedTools S C → List (List ℕ) → ℕ → Type 0
+HoldsTools shelf t contents count =
+    HoldsArt (shelf t.shelf.now) t.dir.now t.textures.now contents t.colormap.0 count t.cache.now
+
+-- tools hold the references that others held
+abbrev pub AreSameTools : {S C : Type 0} → MaskedTools S C → MaskedTools S C → Type 0
+AreSameTools old new = (new.cache.ghost_name ≡ old.cache.ghost_name)
+    × ((new.shelf.ghost_name ≡ old.shelf.ghost_name)
+    × ((new.canvas.ghost_name ≡ old.canvas.ghost_name) × (new.marks.ghost_name ≡ old.marks.ghost_name)))

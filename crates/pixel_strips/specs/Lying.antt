@@ -1,0 +1,30 @@
+-- Where a strip lies in the frame, and what it leaves of a canvas.
+use Rattle.std.specs.Prelude.{◌+◌, ◌<◌, ◌≤◌, ℕ}
+use Rattle.view_rules.specs.declared.TheConstants.{FRAME_WIDTH, FRAME_HEIGHT}
+use Rattle.pixel_rules.specs.declared.Painter.{Painter}
+use Rattle.pixel_rules.specs.Strips.{span_dots}
+use Rattle.pixel_strips.specs.declared.column.ColumnStrip.{ColumnStrip}
+use Rattle.pixel_strips.specs.declared.span.SpanStrip.{SpanStrip}
+use Rattle.pixel_strips.specs.Canvases.{CanvasView, with_dots}
+use Rattle.pixel_strips.specs.Strips.{column_strip_dots, row_colour, strip_colour}
+
+-- its rows are in order, and lie in the frame
+abbrev pub IsColumnIn : ColumnStrip → CanvasView → Type 0
+IsColumnIn s canvas = (s.first ≤ s.last)
+    × ((s.x + canvas.left < FRAME_WIDTH) × (s.last + canvas.top < FRAME_HEIGHT))
+
+-- its columns likewise
+abbrev pub IsSpanIn : SpanStrip → CanvasView → Type 0
+IsSpanIn s canvas = (s.first ≤ s.last)
+    × ((s.y + canvas.top < FRAME_HEIGHT) × (s.last + canvas.left < FRAME_WIDTH))
+
+-- a canvas with the dots of a column
+abbrev pub with_column : (Painter → ℕ → ℕ) → ColumnStrip → CanvasView → CanvasView
+with_column mark s canvas = with_dots mark (column_strip_dots canvas.painter s.x
+    (strip_colour s.source.now s.base s.colormap.now s.map s.fraction s.step s.first) s.first s.last) canvas
+
+-- with those of a span
+abbrev pub with_span : (Painter → ℕ → ℕ) → SpanStrip → CanvasView → CanvasView
+with_span mark s canvas = with_dots mark (span_dots canvas.painter s.y
+    (row_colour s.flat.now s.colormap.now s.map s.x_fraction s.y_fraction s.x_step s.y_step s.first)
+    s.first s.last) canvas

@@ -1,0 +1,25 @@
+-- What walls are drawn with, by the values of their tools.
+use Rattle.std.specs.Prelude.{ℕ, List, length}
+use Rattle.outside.specs.Shelf.{ShelfView}
+use Rattle.lump_rules.specs.Contents.{lump_bytes}
+use Rattle.pixel_rules.specs.Dots.{Dot}
+use Rattle.picture_rules.specs.declared.wall.WallFacts.{WallFacts}
+use Rattle.picture_rules.specs.wall.Walls.{Wall, wall_of}
+use Rattle.picture_rules.specs.wall.Strips.{wall_dots}
+use Rattle.texture_build.specs.Arts.{view_art}
+use Rattle.texture_build.specs.Draws.{HoldsArt}
+use Rattle.wall_columns.specs.declared.tools.WallTools.{WallTools}
+use Rattle.wall_columns.specs.Built.{with_wall}
+
+-- the cache holds what the files of these contents give, and a colormap of `count` bytes
+abbrev pub HoldsTools : {S C : Type 0} → (S → ShelfView) → WallTools S C → List (List ℕ) → ℕ → Type 0
+HoldsTools shelf t contents count =
+    HoldsArt (shelf t.shelf.now) t.dir.now t.textures.now contents t.colormap.0 count t.cache.now
+
+-- the dots of the fragment of a seg behind these, where the files have these contents
+abbrev pub range_dots : {S C : Type 0} → WallTools S C → WallFacts → ℕ → ℕ → List Wall →
+    List (List ℕ) → List Dot
+range_dots t facts first last walls contents =
+    let w : Wall = wall_of t.view.now facts first last in
+    wall_dots t.view.now (view_art (lump_bytes contents t.dir.now.lumps) t.textures.now t.colormap.0)
+    (with_wall walls w) (length walls) w
