@@ -2,7 +2,7 @@
 
 ghost use Rattle.std.specs.Prelude.{◌≡◌, ◌≤◌, ◌+◌, ℕ, List, [], true, false, length, IfOk, map, Result, Ok, Err, All};
 ghost use Rattle.csv.specs.Records.{fields_of};
-ghost use Rattle.csv_tables.specs.declared.fault.CsvRefusal.{CsvRefusal};
+ghost use Rattle.csv_tables.specs.Records.{IsRefusedAs};
 ghost use Rattle.csv_tables.specs.declared.path.PathRow.{PathRow};
 ghost use Rattle.csv_tables.specs.declared.path.TheConstants.{MAX_VIEWS};
 ghost use Rattle.csv_tables.specs.Paths.{HasLightInRange, light_column, path_in, path_of_records, path_row, path_rows, path_width, view_of_fields};
@@ -70,8 +70,7 @@ impl PathTable {
     #[tactic(auto, unfolding(crate::specs::Paths::path_in))]
     pub fn read(alloc: Global, bytes: &[u8]) -> Result<PathTable, CsvFault>
         ensures ok { IfOk result (λ t. path_in bytes.now ≡ Ok t) }
-        ensures refused { (r : CsvRefusal) → result ≡ Err (CsvFault.Refused r) →
-            path_in bytes.now ≡ Err r }
+        ensures refused { IsRefusedAs (path_in bytes.now) result }
     {
         let records = table_records(alloc, bytes, MAX_VIEWS as usize + BESIDE_ROWS)?;
         let rows = path_of_records(alloc, &records)?;
@@ -94,8 +93,7 @@ fn path_of_records(alloc: Global, records: &[ByteRecord]) -> Result<Vec<PathRow>
     ensures ok { IfOk result (λ v. path_of_records (map fields_of records.now) ≡ Ok v.items) }
     ensures few { IfOk result (λ v. length v.items ≤ MAX_VIEWS) }
     ensures light { IfOk result (λ v. All HasLightInRange v.items) }
-    ensures refused { (r : CsvRefusal) → result ≡ Err (CsvFault.Refused r) →
-        path_of_records (map fields_of records.now) ≡ Err r }
+    ensures refused { IsRefusedAs (path_of_records (map fields_of records.now)) result }
 {
     match records.split_first() {
         None => Err(CsvFault::Refused(CsvRefusal::Header)),
@@ -133,8 +131,7 @@ fn path_rows(alloc: Global, width: usize, rows: &[ByteRecord]) -> Result<Vec<Pat
     ensures ok { IfOk result (λ v. path_rows width (map fields_of rows.now) ≡ Ok v.items) }
     ensures few { IfOk result (λ v. length v.items ≤ MAX_VIEWS) }
     ensures light { IfOk result (λ v. All HasLightInRange v.items) }
-    ensures refused { (r : CsvRefusal) → result ≡ Err (CsvFault.Refused r) →
-        path_rows width (map fields_of rows.now) ≡ Err r }
+    ensures refused { IsRefusedAs (path_rows width (map fields_of rows.now)) result }
 {
     let mut views = Vec::new(alloc);
     for (i, fields) in rows.iter().enumerate() {
