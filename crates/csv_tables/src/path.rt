@@ -14,6 +14,21 @@ use csv::ByteRecord;
 use std::alloc::Global;
 use std::marker::Model;
 
+/// The most views of a path.
+pub const MAX_VIEWS: u64 = 10_000;
+
+/// Columns of a path without and with the columns of the light.
+pub const PLAIN_WIDTH: usize = 4;
+
+pub const LIT_WIDTH: usize = 6;
+
+/// The greatest angle (BAM), extra light and fixed colormap of a view.
+pub const MAX_ANGLE: u32 = 4_294_967_295;
+
+pub const MAX_EXTRALIGHT: u8 = 15;
+
+pub const MAX_COLORMAP: u8 = 32;
+
 /// A view of a path: the viewpoint in map units (16.16), its angle (BAM), the extra light, 0 to
 /// 15, and the fixed colormap, 0 to 32, where 0 fixes none.
 ///
@@ -27,16 +42,6 @@ pub struct PathRow {
     pub extralight: u8,
     pub colormap: u8,
 }
-
-/// The greatest angle (BAM), extra light and fixed colormap of a view.
-pub const MAX_ANGLE: u32 = 4_294_967_295;
-
-pub const MAX_EXTRALIGHT: u8 = 15;
-
-pub const MAX_COLORMAP: u8 = 32;
-
-/// The most views of a path.
-pub const MAX_VIEWS: u64 = 10_000;
 
 /// The views of a path, in order.
 #[derive(Drop)]
@@ -103,11 +108,6 @@ fn path_of_records(alloc: Global, records: &[ByteRecord]) -> Result<Vec<PathRow>
         },
     }
 }
-
-/// Columns of a path without and with the columns of the light.
-pub const PLAIN_WIDTH: usize = 4;
-
-pub const LIT_WIDTH: usize = 6;
 
 // How many columns a path with this header has.
 #[tactic(auto, unfolding(crate::specs::Paths::path_width))]

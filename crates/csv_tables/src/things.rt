@@ -19,6 +19,17 @@ use std::marker::Model;
 /// The most rows of a thing table.
 pub const MAX_THINGS: u64 = 4_096;
 
+/// Columns of a thing table.
+pub const THING_WIDTH: usize = 6;
+
+/// The greatest type, and how many types there are.
+pub const MAX_TYPE: u32 = 65_535;
+
+pub const TYPES: usize = 65_536;
+
+/// The greatest distance that a thing hangs below the ceiling, in map units.
+pub const MAX_HANG: u16 = 32_767;
+
 /// How the things of each type look; contracts see the lines of the file in order.
 #[derive(Drop)]
 pub struct ThingTable {
@@ -106,9 +117,6 @@ fn table_of_records(alloc: Global, records: &[ByteRecord]) -> Result<ThingTable,
     }
 }
 
-/// How many types there are.
-pub const TYPES: usize = 65_536;
-
 // A number 0 for each type.
 fn no_numbers(alloc: Global, count: usize) -> Result<Vec<u16>, AllocError>
     ensures { IfOk result (λ v. v.items ≡ replicate count 0) }
@@ -183,15 +191,6 @@ fn not_repeated(
     }
     Ok(line)
 }
-
-/// Columns of a thing table.
-pub const THING_WIDTH: usize = 6;
-
-/// The greatest type.
-pub const MAX_TYPE: u32 = 65_535;
-
-/// The greatest distance that a thing hangs below the ceiling, in map units.
-pub const MAX_HANG: u16 = 32_767;
 
 // The line of a row.
 #[tactic(auto, unfolding(crate::specs::Things::thing_line))]

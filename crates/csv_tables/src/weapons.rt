@@ -13,6 +13,15 @@ use csv::ByteRecord;
 use std::alloc::Global;
 use std::marker::Model;
 
+/// The most rows of a weapon table.
+pub const MAX_WEAPONS: u64 = 20_000;
+
+/// Columns of a weapon table.
+pub const WEAPON_WIDTH: usize = 6;
+
+/// The greatest number of a view, which a path's last row has.
+pub const MAX_VIEW: u32 = 9_999;
+
 /// A weapon layer: the number of its view, from 0, its sprite and frame letter, whether it is
 /// bright, and its place in the view in units of 1/65536 of a pixel of a full view.
 ///
@@ -26,9 +35,6 @@ pub struct WeaponRow {
     pub sx: i32,
     pub sy: i32,
 }
-
-/// The most rows of a weapon table.
-pub const MAX_WEAPONS: u64 = 20_000;
 
 /// The weapon layers of a path's views, in the order of the file.
 #[derive(Drop)]
@@ -116,12 +122,6 @@ fn weapon_rows(alloc: Global, rows: &[ByteRecord]) -> Result<Vec<WeaponRow>, Csv
     }
     Ok(weapons)
 }
-
-/// Columns of a weapon table.
-pub const WEAPON_WIDTH: usize = 6;
-
-/// The greatest number of a view, which a path's last row has.
-pub const MAX_VIEW: u32 = 9_999;
 
 // The layer of a row.
 #[tactic(auto, unfolding(crate::specs::Weapons::weapon_row, crate::specs::Weapons::weapon_of))]
