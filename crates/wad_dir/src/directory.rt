@@ -195,14 +195,6 @@ impl Directory {
         self.list[lump.0 as usize].size
     }
 
-    /// The offset of a lump in its file, in bytes. It says nothing where the lump's size is 0.
-    pub fn place(&self, lump: LumpNo) -> u32
-        requires { lump.0 < length self.now.lumps }
-        ensures { result ≡ (lump_at self.now.lumps lump.0).place }
-    {
-        self.list[lump.0 as usize].place
-    }
-
     /// The number by which the shelf knows the lump's file.
     pub fn file(&self, lump: LumpNo) -> FileNo
         requires { lump.0 < length self.now.lumps }
@@ -210,5 +202,13 @@ impl Directory {
     {
         let file = self.list[lump.0 as usize].file;
         self.numbers[file as usize]
+    }
+
+    /// The offset of a lump in its file, in bytes. It says nothing where the lump's size is 0.
+    pub fn place(&self, lump: LumpNo) -> u32
+        requires { lump.0 < length self.now.lumps }
+        ensures { result ≡ (lump_at self.now.lumps lump.0).place }
+    {
+        self.list[lump.0 as usize].place
     }
 }
