@@ -9,7 +9,6 @@ ghost use Rattle.angle_tables.specs.Lists.{is_wrong_in, length_in, refusal_in};
 
 use crate::columns::first_seen_by;
 use crate::lists::{AngleList, AngleLists};
-use std::alloc::AllocError;
 use thiserror::Error;
 use view_rules::{
     EDGE_TANGENT, FINE_AHEAD, MAX_EDGE_TANGENT, MAX_SINE, MAX_SLOPE_ANGLE, MIN_EDGE_TANGENT, SINES,
@@ -23,17 +22,6 @@ pub enum TablesFault {
     Refused(TablesRefusal),
     #[error("out of memory")]
     OutOfMemory,
-}
-
-impl From<AllocError> for TablesFault {
-    ghost use Rattle.std.specs.Prelude.{◌≡◌};
-    ghost use Rattle.angle_tables.specs.declared.refusals.TablesFault.TheVariants.{OutOfMemory};
-
-    ghost from_gives = { λ _ e. e ≡ OutOfMemory };
-
-    fn from(_error: AllocError) -> TablesFault {
-        TablesFault::OutOfMemory
-    }
 }
 
 /// The first thing that is wrong with the tables for views of `shape`.

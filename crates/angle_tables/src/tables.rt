@@ -67,12 +67,17 @@ impl Tables {
             let found = bytes.len() as u64;
             return Err(TablesFault::Refused(TablesRefusal::Length { found }));
         }
-        let lists = AngleLists::read(alloc, bytes)?;
+        let Ok(lists) = AngleLists::read(alloc, bytes) else {
+            return Err(TablesFault::OutOfMemory);
+        };
         let shape = shape_of_size(size);
         if let Some(refusal) = angles_refusal(&lists, shape) {
             return Err(TablesFault::Refused(refusal));
         }
-        Ok(Tables::derive(alloc, lists, size, shape)?)
+        match Tables::derive(alloc, lists, size, shape) {
+            Ok(tables) => Ok(tables),
+            Err(_) => Err(TablesFault::OutOfMemory),
+        }
     }
 
     /// The tables with what views of a size derive from them.

@@ -2,7 +2,7 @@
 
 ghost use Rattle.std.specs.Prelude.{◌≡◌, ◌%◌, IfSome, option_map};
 ghost use Rattle.clap.specs.Words.{found_of, rows_of};
-ghost use Rattle.command_line.specs.Choices.{AreSettings, IsWithin, IsZone, format_in, format_named, has_no_files, has_no_options, has_no_settings, multiple_of_step, number_option, number_within, settings_in, zone_in};
+ghost use Rattle.command_line.specs.Choices.{AreSettings, IsWithin, IsZone, format_in, has_no_files, has_no_options, has_no_settings, multiple_of_step, number_option, number_within, settings_in, zone_in};
 ghost use Rattle.command_line.specs.declared.command.Settings.{Settings};
 
 use crate::command::{Format, Settings};
@@ -134,39 +134,24 @@ pub(crate) fn settings_in(found: &ArgMatches<'_>) -> Option<Settings>
 }
 
 // The format, index where none is given.
-#[tactic(auto, unfolding(crate::specs::Choices::format_in))]
+#[tactic(auto, unfolding(crate::specs::Choices::format_in, crate::specs::Choices::format_named))]
 pub(crate) fn format_in(found: &ArgMatches<'_>) -> Option<Format>
     ensures { result ≡ format_in (rows_of (found_of found.now)) }
 {
     match value(found, "format") {
         None => Some(Format::Index),
-        Some(name) => format_named(name),
+        Some("index") => Some(Format::Index),
+        Some("ppm") => Some(Format::Ppm),
+        Some(_) => None,
     }
 }
 
-// The format of that name.
-#[tactic(auto, unfolding(crate::specs::Choices::format_named))]
-fn format_named(name: &str) -> Option<Format>
-    ensures { result ≡ format_named name.now }
+// Whether no option is given.
+#[tactic(auto, unfolding(crate::specs::Choices::has_no_options))]
+pub(crate) fn has_no_options(found: &ArgMatches<'_>) -> bool
+    ensures { result ≡ has_no_options (rows_of (found_of found.now)) }
 {
-    if name == "index" {
-        Some(Format::Index)
-    } else if name == "ppm" {
-        Some(Format::Ppm)
-    } else {
-        None
-    }
-}
-
-// Whether no file is given by an option.
-#[tactic(auto, unfolding(crate::specs::Choices::has_no_files))]
-fn has_no_files(found: &ArgMatches<'_>) -> bool
-    ensures { result ≡ has_no_files (rows_of (found_of found.now)) }
-{
-    value(found, "tables").is_none()
-        && value(found, "things").is_none()
-        && value(found, "path").is_none()
-        && value(found, "weapon").is_none()
+    has_no_settings(found) && value(found, "zone").is_none() && value(found, "format").is_none()
 }
 
 // Whether no option is given but the zone and the format.
@@ -181,10 +166,13 @@ pub(crate) fn has_no_settings(found: &ArgMatches<'_>) -> bool
         && value(found, "openings").is_none()
 }
 
-// Whether no option is given.
-#[tactic(auto, unfolding(crate::specs::Choices::has_no_options))]
-pub(crate) fn has_no_options(found: &ArgMatches<'_>) -> bool
-    ensures { result ≡ has_no_options (rows_of (found_of found.now)) }
+// Whether no file is given by an option.
+#[tactic(auto, unfolding(crate::specs::Choices::has_no_files))]
+fn has_no_files(found: &ArgMatches<'_>) -> bool
+    ensures { result ≡ has_no_files (rows_of (found_of found.now)) }
 {
-    has_no_settings(found) && value(found, "zone").is_none() && value(found, "format").is_none()
+    value(found, "tables").is_none()
+        && value(found, "things").is_none()
+        && value(found, "path").is_none()
+        && value(found, "weapon").is_none()
 }

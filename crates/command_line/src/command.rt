@@ -1,7 +1,6 @@
 // What is asked for.
 
 use lump_rules::Name8;
-use std::alloc::AllocError;
 use thiserror::Error;
 
 /// What frames are written as.
@@ -91,15 +90,4 @@ pub enum CommandFault {
     Usage,
     #[error("out of memory")]
     OutOfMemory,
-}
-
-impl From<AllocError> for CommandFault {
-    ghost use Rattle.std.specs.Prelude.{◌≡◌};
-    ghost use Rattle.command_line.specs.declared.command.CommandFault.TheVariants.{OutOfMemory};
-
-    ghost from_gives = { λ _ fault. fault ≡ OutOfMemory };
-
-    fn from(_error: AllocError) -> CommandFault {
-        CommandFault::OutOfMemory
-    }
 }

@@ -140,12 +140,10 @@ fn plain_make(what: &str) -> Option<MakeJob>
     ensures value { result ≡ plain_make what.now }
     ensures counted { IfSome result (λ job. IsCountedMake job) }
 {
-    if what == "tables" {
-        Some(MakeJob::Tables)
-    } else if what == "things" {
-        Some(MakeJob::Things)
-    } else {
-        None
+    match what {
+        "tables" => Some(MakeJob::Tables),
+        "things" => Some(MakeJob::Things),
+        _ => None,
     }
 }
 

@@ -35,16 +35,12 @@ pub(crate) fn level_task_in(found: &ArgMatches<'_>, job: &str) -> Option<LevelTa
 fn other_level_task(job: &str) -> Option<LevelTask>
     ensures { result ≡ other_level_task job.now }
 {
-    if job == "audit" {
-        Some(LevelTask::Audit)
-    } else if job == "limits" {
-        Some(LevelTask::Limits)
-    } else if job == "trim" {
-        Some(LevelTask::Trim)
-    } else if job == "trace" {
-        Some(LevelTask::Trace)
-    } else {
-        None
+    match job {
+        "audit" => Some(LevelTask::Audit),
+        "limits" => Some(LevelTask::Limits),
+        "trim" => Some(LevelTask::Trim),
+        "trace" => Some(LevelTask::Trace),
+        _ => None,
     }
 }
 

@@ -9,10 +9,10 @@ use Rattle.level_rules.specs.declared.ThingLine.{ThingLine}
 use Rattle.csv_tables.specs.declared.things.TheConstants.{MAX_THINGS, THING_WIDTH}
 use Rattle.csv_tables.specs.declared.weapons.WeaponRow.{WeaponRow}
 use Rattle.csv_tables.specs.declared.weapons.TheConstants.{MAX_WEAPONS, WEAPON_WIDTH}
-use Rattle.csv_tables.specs.Records.{csv_records, checked_shape, table_records}
+use Rattle.csv_tables.specs.Records.{csv_records, checked_shape, is_header, rows_under, table_records, then_checked}
 use Rattle.csv_tables.specs.Paths.{path_in, path_of_records, path_row, path_width}
-use Rattle.csv_tables.specs.Things.{is_thing_header, lines_of_records, read_line, thing_line, things_in_table}
-use Rattle.csv_tables.specs.Weapons.{is_weapon_header, weapon_row, weapon_rows, weapons_in, weapons_of_records}
+use Rattle.csv_tables.specs.Things.{thing_header, thing_lines, lines_of_records, read_line, thing_line, things_in_table}
+use Rattle.csv_tables.specs.Weapons.{weapon_header, weapon_row, weapon_rows, weapons_in, weapons_of_records}
 use Rattle.csv_tables.proofs.RowLemmas.{and_then-err, and_then-same, rows_after-first}
 use Rattle.csv_tables.proofs.RowSentences.{ok-err, rows_after-within}
 
@@ -44,19 +44,24 @@ path_of_records-first (suc n) [] l = refl
 path_of_records-first (suc n) (head ∷ rows) l =
     and_then-same (path_width head) _ _ (λ width. rows_after-first (λ _. path_row width) MAX_VIEWS n [] rows (λ _ row fields past. path_row-past width row fields past) (omega arith) (omega arith))
 
+-- what is read of the rows under a header
+under-first : {A : Type 0} (header : Bool) (short rows : List (List (List ℕ))) (read : List (List (List ℕ)) → Result A CsvRefusal) → read short ≡ read rows → then_checked (cond header (Ok short) (Err Header)) read ≡ then_checked (cond header (Ok rows) (Err Header)) read
+under-first true short rows read same = same
+under-first false short rows read same = refl
+
 lines_of_records-first : (n : ℕ) (records : List (List (List ℕ))) → MAX_THINGS + 2 ≤ n → lines_of_records (take n records) ≡ lines_of_records records
-unfolding lines_of_records
+unfolding lines_of_records rows_under
 lines_of_records-first zero records l = absurd (omega arith)
 lines_of_records-first (suc n) [] l = refl
 lines_of_records-first (suc n) (head ∷ rows) l =
-    ap (λ (lines : Result (List ThingLine) CsvRefusal). cond (is_thing_header head) lines (Err Header)) (rows_after-first read_line MAX_THINGS n [] rows (λ lines row fields past. read_line-past lines row fields past) (omega arith) (omega arith))
+    under-first (is_header thing_header head) (take n rows) rows thing_lines (rows_after-first read_line MAX_THINGS n [] rows (λ lines row fields past. read_line-past lines row fields past) (omega arith) (omega arith))
 
 weapons_of_records-first : (n : ℕ) (records : List (List (List ℕ))) → MAX_WEAPONS + 2 ≤ n → weapons_of_records (take n records) ≡ weapons_of_records records
-unfolding weapons_of_records
+unfolding weapons_of_records rows_under
 weapons_of_records-first zero records l = absurd (omega arith)
 weapons_of_records-first (suc n) [] l = refl
 weapons_of_records-first (suc n) (head ∷ rows) l =
-    ap (λ (rows : Result (List WeaponRow) CsvRefusal). cond (is_weapon_header head) rows (Err Header)) (rows_after-first (λ _. weapon_row) MAX_WEAPONS n [] rows (λ _ row fields past. weapon_row-past row fields past) (omega arith) (omega arith))
+    under-first (is_header weapon_header head) (take n rows) rows weapon_rows (rows_after-first (λ _. weapon_row) MAX_WEAPONS n [] rows (λ _ row fields past. weapon_row-past row fields past) (omega arith) (omega arith))
 
 -- a table read from the first records of a file that is not too long
 pub path_in-first : (bytes : List ℕ) (n : ℕ) (given : List (List (List ℕ))) (r : Result (List PathRow) CsvRefusal) → table_records bytes ≡ Ok (csv_records bytes) → given ≡ take n (csv_records bytes) → MAX_VIEWS + 2 ≤ n → path_of_records given ≡ r → path_in bytes ≡ r
@@ -71,17 +76,17 @@ pub weapons_in-first : (bytes : List ℕ) (n : ℕ) (given : List (List (List �
 unfolding weapons_in
 weapons_in-first bytes n given r whole first l e = rw whole (sym (weapons_of_records-first n (csv_records bytes) l) ∙ ap weapons_of_records (sym first) ∙ e)
 
--- where a refusal stands on the other branch, an Ok value is that of the first
-cond-ok : {A : Type 0} (b : Bool) (r : Result A CsvRefusal) (refusal : CsvRefusal) (a : A) → cond b r (Err refusal) ≡ Ok a → r ≡ Ok a
-cond-ok true r refusal a e = e
-cond-ok false r refusal a e = absurd (ok-err a refusal (sym e))
+-- an Ok value under a header is that of the rows
+under-ok : {A : Type 0} (header : Bool) (rows : List (List (List ℕ))) (read : List (List (List ℕ)) → Result A CsvRefusal) (a : A) → then_checked (cond header (Ok rows) (Err Header)) read ≡ Ok a → read rows ≡ Ok a
+under-ok true rows read a e = e
+under-ok false rows read a e = absurd (ok-err a Header (sym e))
 
 -- a weapon table has no more rows than its limit
 pub weapons_of_records-within : (records : List (List (List ℕ))) (rows : List WeaponRow) → weapons_of_records records ≡ Ok rows → length rows ≤ MAX_WEAPONS
-unfolding weapons_of_records
+unfolding weapons_of_records rows_under
 weapons_of_records-within [] rows e = absurd (ok-err rows Header (sym e))
 weapons_of_records-within (head ∷ records) rows e =
-    rows_after-within (λ _. weapon_row) MAX_WEAPONS [] rows records (λ _ row fields past. weapon_row-past row fields past) (omega arith) (cond-ok (is_weapon_header head) (weapon_rows records) Header rows e)
+    rows_after-within (λ _. weapon_row) MAX_WEAPONS [] rows records (λ _ row fields past. weapon_row-past row fields past) (omega arith) (under-ok (is_header weapon_header head) records weapon_rows rows e)
 
 -- what holds of an Ok value, from what held of it before
 pub if_ok-map : {A E : Type 0} (r : Result A E) (P Q : A → Type 0) → ((value : A) → P value → Q value) → IfOk r P → IfOk r Q

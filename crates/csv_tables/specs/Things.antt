@@ -1,14 +1,14 @@
 -- How the things of each type look, or what is refused first of the file.
-use Rattle.std.specs.Prelude.{ℕ, ◌≤◌, Bool, cond, ◌==◌, List, [], ◌∷◌, Option, Some, None, is_some, Result, Ok, Err, codes}
+use Rattle.std.specs.Prelude.{ℕ, ◌≤◌, cond, List, [], ◌∷◌, Option, is_some, Result, Ok, Err, codes}
 use Rattle.csv.specs.Records.{field_at}
 use Rattle.csv_tables.specs.declared.fault.CsvRefusal.{CsvRefusal}
-use Rattle.csv_tables.specs.declared.fault.CsvRefusal.TheVariants.{Header, Repeat}
+use Rattle.csv_tables.specs.declared.fault.CsvRefusal.TheVariants.{Repeat}
 use Rattle.level_rules.specs.declared.ThingRow.{ThingRow}
 use Rattle.level_rules.specs.declared.ThingLine.{ThingLine}
 use Rattle.level_rules.specs.Types.{row_of}
 use Rattle.csv_tables.specs.declared.things.TheConstants.{MAX_HANG, MAX_THINGS, MAX_TYPE, THING_WIDTH}
 use Rattle.csv_tables.specs.declared.columns.TheConstants.{FIRST_FRAME, LAST_FRAME}
-use Rattle.csv_tables.specs.Records.{then_checked, is_header, checked_shape, table_records}
+use Rattle.csv_tables.specs.Records.{then_checked, checked_shape, rows_under, table_records}
 use Rattle.csv_tables.specs.Columns.{flag_column, frame_column, natural_column, sprite_field}
 use Rattle.csv_tables.specs.Rows.{rows_after}
 
@@ -21,9 +21,6 @@ IsLineInRange line = (line.kind ≤ MAX_TYPE) × IsThingInRange line.row
 
 abbrev pub thing_header : List (List ℕ)
 thing_header = codes "type" ∷ codes "sprite" ∷ codes "frame" ∷ codes "bright" ∷ codes "hang" ∷ codes "shadow" ∷ []
-
-unfoldable pub is_thing_header : List (List ℕ) → Bool
-is_thing_header head = is_header thing_header head
 
 -- the line of a row with the right number of fields, its columns from left to right
 unfoldable pub line_of_fields : ℕ → List (List ℕ) → Result ThingLine CsvRefusal
@@ -51,8 +48,7 @@ thing_lines rows = rows_after read_line [] rows
 
 -- the header and the rows under it
 unfoldable pub lines_of_records : List (List (List ℕ)) → Result (List ThingLine) CsvRefusal
-lines_of_records [] = Err Header
-lines_of_records (head ∷ rows) = cond (is_thing_header head) (thing_lines rows) (Err Header)
+lines_of_records records = then_checked (rows_under thing_header records) thing_lines
 
 -- the lines of a file, or its first refusal
 unfoldable pub things_in_table : List ℕ → Result (List ThingLine) CsvRefusal

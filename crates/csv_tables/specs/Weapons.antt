@@ -1,12 +1,11 @@
 -- The weapon layers of a path's views, or what is refused first of the file.
-use Rattle.std.specs.Prelude.{ℕ, ◌≤◌, Bool, cond, List, [], ◌∷◌, Result, Ok, Err, codes}
+use Rattle.std.specs.Prelude.{ℕ, ◌≤◌, List, [], ◌∷◌, Result, Ok, codes}
 use Rattle.csv.specs.Records.{field_at}
 use Rattle.csv_tables.specs.declared.fault.CsvRefusal.{CsvRefusal}
-use Rattle.csv_tables.specs.declared.fault.CsvRefusal.TheVariants.{Header}
 use Rattle.csv_tables.specs.declared.weapons.WeaponRow.{WeaponRow}
 use Rattle.csv_tables.specs.declared.weapons.TheConstants.{MAX_VIEW, MAX_WEAPONS, WEAPON_WIDTH}
 use Rattle.csv_tables.specs.declared.columns.TheConstants.{FIRST_FRAME, LAST_FRAME}
-use Rattle.csv_tables.specs.Records.{then_checked, is_header, checked_shape, table_records}
+use Rattle.csv_tables.specs.Records.{then_checked, checked_shape, rows_under, table_records}
 use Rattle.csv_tables.specs.Columns.{flag_column, frame_column, natural_column, place_column, sprite_field}
 use Rattle.csv_tables.specs.Rows.{rows_after}
 
@@ -16,9 +15,6 @@ IsWeaponInRange row = (row.view ≤ MAX_VIEW) × (FIRST_FRAME ≤ row.frame) × 
 
 abbrev pub weapon_header : List (List ℕ)
 weapon_header = codes "view" ∷ codes "sprite" ∷ codes "frame" ∷ codes "bright" ∷ codes "sx" ∷ codes "sy" ∷ []
-
-unfoldable pub is_weapon_header : List (List ℕ) → Bool
-is_weapon_header head = is_header weapon_header head
 
 -- the layer of a row with the right number of fields, its columns from left to right
 unfoldable pub weapon_of : ℕ → List (List ℕ) → Result WeaponRow CsvRefusal
@@ -39,8 +35,7 @@ weapon_rows rows = rows_after (λ _. weapon_row) [] rows
 
 -- the header and the rows under it
 unfoldable pub weapons_of_records : List (List (List ℕ)) → Result (List WeaponRow) CsvRefusal
-weapons_of_records [] = Err Header
-weapons_of_records (head ∷ rows) = cond (is_weapon_header head) (weapon_rows rows) (Err Header)
+weapons_of_records records = then_checked (rows_under weapon_header records) weapon_rows
 
 -- the layers of a file, or its first refusal
 unfoldable pub weapons_in : List ℕ → Result (List WeaponRow) CsvRefusal

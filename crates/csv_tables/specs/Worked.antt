@@ -6,17 +6,17 @@ use Rattle.csv.specs.Machine.{next_record}
 use Rattle.csv_tables.specs.declared.fault.CsvRefusal.TheVariants.{Fields, Number, Range, Repeat}
 use Rattle.numerals.specs.Numerals.{digits_after, is_numeral, numeral}
 use Rattle.csv_tables.specs.Numbers.{is_negative, number}
-use Rattle.csv_tables.specs.Records.{is_header, csv_records, checked_shape, table_records}
+use Rattle.csv_tables.specs.Records.{is_header, csv_records, checked_shape, rows_under, table_records}
 use Rattle.csv_tables.specs.Columns.{capital, flag_column, frame_column, in_range, integer_column, is_frame_letter, is_sprite, natural_column, natural_of, number_in, place_column, sprite_field}
 use Rattle.csv_tables.specs.Rows.{rows_after}
 use Rattle.csv_tables.specs.Paths.{light_column, path_in, path_of_records, path_row, path_width, view_of_fields}
-use Rattle.csv_tables.specs.Things.{is_thing_header, line_of_fields, lines_of_records, not_repeated, read_line, thing_line, things_in_table}
+use Rattle.csv_tables.specs.Things.{line_of_fields, lines_of_records, not_repeated, read_line, thing_line, things_in_table}
 use Rattle.level_rules.specs.Types.{row_of}
-use Rattle.csv_tables.specs.Weapons.{is_weapon_header, weapon_of, weapon_row, weapons_in, weapons_of_records}
+use Rattle.csv_tables.specs.Weapons.{weapon_of, weapon_row, weapons_in, weapons_of_records}
 
 -- what the rows below unfold
 unfoldable pub tables_unfolded : ℕ
-unfolding records_from strip_bom next_record field_at digits_after is_negative is_numeral number numeral is_header csv_records checked_shape table_records capital flag_column frame_column in_range integer_column is_frame_letter is_sprite natural_column natural_of number_in place_column sprite_field rows_after light_column path_in path_of_records path_row path_width view_of_fields is_thing_header line_of_fields lines_of_records not_repeated read_line row_of thing_line things_in_table is_weapon_header weapon_of weapon_row weapons_in weapons_of_records
+unfolding records_from strip_bom next_record field_at digits_after is_negative is_numeral number numeral is_header csv_records checked_shape rows_under table_records capital flag_column frame_column in_range integer_column is_frame_letter is_sprite natural_column natural_of number_in place_column sprite_field rows_after light_column path_in path_of_records path_row path_width view_of_fields line_of_fields lines_of_records not_repeated read_line row_of thing_line things_in_table weapon_of weapon_row weapons_in weapons_of_records
 tables_unfolded = 0
 
 -- a view, with a quoted name and a leading zero

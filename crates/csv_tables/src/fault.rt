@@ -1,7 +1,6 @@
 // What can be wrong with a table.
 
 use crate::MAX_TABLE_BYTES;
-use std::alloc::AllocError;
 use thiserror::Error;
 
 /// What is refused of a table's bytes. Rows are numbered from 1 after the header, columns from 0.
@@ -37,15 +36,4 @@ pub enum CsvFault {
     Refused(CsvRefusal),
     #[error("out of memory")]
     OutOfMemory,
-}
-
-impl From<AllocError> for CsvFault {
-    ghost use Rattle.std.specs.Prelude.{◌≡◌};
-    ghost use Rattle.csv_tables.specs.declared.fault.CsvFault.TheVariants.{OutOfMemory};
-
-    ghost from_gives = { λ _ fault. fault ≡ OutOfMemory };
-
-    fn from(_error: AllocError) -> CsvFault {
-        CsvFault::OutOfMemory
-    }
 }

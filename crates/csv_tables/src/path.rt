@@ -2,7 +2,7 @@
 
 ghost use Rattle.std.specs.Prelude.{◌≡◌, ◌≤◌, ◌+◌, ℕ, List, [], true, false, length, IfOk, map, Result, Ok, Err, All};
 ghost use Rattle.csv.specs.Records.{fields_of};
-ghost use Rattle.csv_tables.specs.declared.fault.CsvRefusal.{CsvRefusal};
+ghost use Rattle.csv_tables.specs.Records.{IsRefusedAs};
 ghost use Rattle.csv_tables.specs.declared.path.PathRow.{PathRow};
 ghost use Rattle.csv_tables.specs.declared.path.TheConstants.{MAX_VIEWS};
 ghost use Rattle.csv_tables.specs.Paths.{HasLightInRange, light_column, path_in, path_of_records, path_row, path_rows, path_width, view_of_fields};
@@ -13,6 +13,21 @@ use crate::records::{BESIDE_ROWS, checked_shape, is_header, table_records};
 use csv::ByteRecord;
 use std::alloc::Global;
 use std::marker::Model;
+
+/// The most views of a path.
+pub const MAX_VIEWS: u64 = 10_000;
+
+/// Columns of a path without and with the columns of the light.
+pub const PLAIN_WIDTH: usize = 4;
+
+pub const LIT_WIDTH: usize = 6;
+
+/// The greatest angle (BAM), extra light and fixed colormap of a view.
+pub const MAX_ANGLE: u32 = 4_294_967_295;
+
+pub const MAX_EXTRALIGHT: u8 = 15;
+
+pub const MAX_COLORMAP: u8 = 32;
 
 /// A view of a path: the viewpoint in map units (16.16), its angle (BAM), the extra light, 0 to
 /// 15, and the fixed colormap, 0 to 32, where 0 fixes none.
@@ -27,16 +42,6 @@ pub struct PathRow {
     pub extralight: u8,
     pub colormap: u8,
 }
-
-/// The greatest angle (BAM), extra light and fixed colormap of a view.
-pub const MAX_ANGLE: u32 = 4_294_967_295;
-
-pub const MAX_EXTRALIGHT: u8 = 15;
-
-pub const MAX_COLORMAP: u8 = 32;
-
-/// The most views of a path.
-pub const MAX_VIEWS: u64 = 10_000;
 
 /// The views of a path, in order.
 #[derive(Drop)]
@@ -70,8 +75,7 @@ impl PathTable {
     #[tactic(auto, unfolding(crate::specs::Paths::path_in))]
     pub fn read(alloc: Global, bytes: &[u8]) -> Result<PathTable, CsvFault>
         ensures ok { IfOk result (λ t. path_in bytes.now ≡ Ok t) }
-        ensures refused { (r : CsvRefusal) → result ≡ Err (CsvFault.Refused r) →
-            path_in bytes.now ≡ Err r }
+        ensures refused { IsRefusedAs (path_in bytes.now) result }
     {
         let records = table_records(alloc, bytes, MAX_VIEWS as usize + BESIDE_ROWS)?;
         let rows = path_of_records(alloc, &records)?;
@@ -94,8 +98,7 @@ fn path_of_records(alloc: Global, records: &[ByteRecord]) -> Result<Vec<PathRow>
     ensures ok { IfOk result (λ v. path_of_records (map fields_of records.now) ≡ Ok v.items) }
     ensures few { IfOk result (λ v. length v.items ≤ MAX_VIEWS) }
     ensures light { IfOk result (λ v. All HasLightInRange v.items) }
-    ensures refused { (r : CsvRefusal) → result ≡ Err (CsvFault.Refused r) →
-        path_of_records (map fields_of records.now) ≡ Err r }
+    ensures refused { IsRefusedAs (path_of_records (map fields_of records.now)) result }
 {
     match records.split_first() {
         None => Err(CsvFault::Refused(CsvRefusal::Header)),
@@ -105,11 +108,6 @@ fn path_of_records(alloc: Global, records: &[ByteRecord]) -> Result<Vec<PathRow>
         },
     }
 }
-
-/// Columns of a path without and with the columns of the light.
-pub const PLAIN_WIDTH: usize = 4;
-
-pub const LIT_WIDTH: usize = 6;
 
 // How many columns a path with this header has.
 #[tactic(auto, unfolding(crate::specs::Paths::path_width))]
@@ -133,8 +131,7 @@ fn path_rows(alloc: Global, width: usize, rows: &[ByteRecord]) -> Result<Vec<Pat
     ensures ok { IfOk result (λ v. path_rows width (map fields_of rows.now) ≡ Ok v.items) }
     ensures few { IfOk result (λ v. length v.items ≤ MAX_VIEWS) }
     ensures light { IfOk result (λ v. All HasLightInRange v.items) }
-    ensures refused { (r : CsvRefusal) → result ≡ Err (CsvFault.Refused r) →
-        path_rows width (map fields_of rows.now) ≡ Err r }
+    ensures refused { IsRefusedAs (path_rows width (map fields_of rows.now)) result }
 {
     let mut views = Vec::new(alloc);
     for (i, fields) in rows.iter().enumerate() {

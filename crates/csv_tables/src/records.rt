@@ -1,11 +1,11 @@
 // The records of a table's bytes, and whether one is a header.
 
-ghost use Rattle.std.specs.Prelude.{◌≡◌, ◌≤◌, true, false, length, map, take, IfOk};
+ghost use Rattle.std.specs.Prelude.{◌≡◌, ◌≤◌, true, false, length, map, take, Err, IfErr, IfOk, Ok};
 ghost use Rattle.std.specs.Prelude.{bytes_eq};
 ghost use Rattle.std.specs.Option.{option_map_or};
 ghost use Rattle.csv.specs.Records.{fields_of, field_at};
 ghost use Rattle.csv.specs.Reading.{error_kind};
-ghost use Rattle.csv_tables.specs.Records.{is_of_length, is_header, csv_records, checked_shape, table_records};
+ghost use Rattle.csv_tables.specs.Records.{IsRefusedAs, is_of_length, is_header, csv_records, checked_shape, rows_under, table_records};
 
 use crate::fault::{CsvFault, CsvRefusal};
 use csv::{ByteRecord, Error, ErrorKind, ReaderBuilder};
@@ -27,8 +27,7 @@ pub(crate) fn table_records(
     ensures whole { IfOk result (λ v. table_records bytes.now ≡ Ok (csv_records bytes.now)) }
     ensures records { IfOk result (λ v.
         map fields_of v.items ≡ take limit (csv_records bytes.now)) }
-    ensures refused { (r : CsvRefusal) → result ≡ Err (CsvFault.Refused r) →
-        table_records bytes.now ≡ Err r }
+    ensures refused { IsRefusedAs (table_records bytes.now) result }
 {
     if bytes.len() > MAX_TABLE_BYTES {
         return Err(CsvFault::Refused(CsvRefusal::TooLong {
@@ -79,6 +78,30 @@ fn is_of_length(error: &Error) -> bool
     match error.kind() {
         ErrorKind::UnequalLengths { .. } => true,
         _ => false,
+    }
+}
+
+// The rows under a header of these names.
+#[tactic(auto, unfolding(crate::specs::Records::rows_under))]
+pub(crate) fn rows_under<'a>(
+    records: &'a [ByteRecord],
+    names: &[&[u8]],
+) -> Result<&'a [ByteRecord], CsvRefusal>
+    ensures ok { IfOk result (λ rows.
+        rows_under (map (λ n. n.now) names.now) (map fields_of records.now) ≡ Ok
+        (map fields_of rows.now)) }
+    ensures refused { IfErr result (λ r.
+        rows_under (map (λ n. n.now) names.now) (map fields_of records.now) ≡ Err r) }
+{
+    match records.split_first() {
+        None => Err(CsvRefusal::Header),
+        Some((head, rows)) => {
+            if is_header(head, names) {
+                Ok(rows)
+            } else {
+                Err(CsvRefusal::Header)
+            }
+        }
     }
 }
 

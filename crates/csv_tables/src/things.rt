@@ -1,15 +1,16 @@
 // How the things of each type look.
+#![tactic(auto, unfolding(crate::specs::Things::things_in_table))]
 
 ghost use Rattle.std.specs.Prelude.{◌≡◌, ◌<◌, ◌≤◌, ◌+◌, ℕ, List, [], true, false, length, IfOk, IfSome, map, Option, Some, None, Result, Ok, Err, All, get_or, replicate};
 ghost use Rattle.csv.specs.Records.{fields_of, field_at};
-ghost use Rattle.csv_tables.specs.declared.fault.CsvRefusal.{CsvRefusal};
-ghost use Rattle.csv_tables.specs.Things.{IsLineInRange, IsThingInRange, is_thing_header, line_of_fields, lines_of_records, not_repeated, read_line, thing_line, thing_lines, things_in_table};
+ghost use Rattle.csv_tables.specs.Records.{IsRefusedAs};
+ghost use Rattle.csv_tables.specs.Things.{IsLineInRange, IsThingInRange, thing_header, line_of_fields, lines_of_records, not_repeated, read_line, thing_line, thing_lines, things_in_table};
 ghost use Rattle.level_rules.specs.Types.{row_of};
 ghost use Rattle.csv_tables.specs.Slots.{AreNumbersOf, numbered_row};
 
 use crate::columns::{flag_column, frame_column, natural_column, sprite_field};
 use crate::fault::{CsvFault, CsvRefusal};
-use crate::records::{BESIDE_ROWS, checked_shape, is_header, table_records};
+use crate::records::{BESIDE_ROWS, checked_shape, rows_under, table_records};
 use csv::ByteRecord;
 use level_rules::{ThingLine, ThingRow};
 use std::alloc::{AllocError, Global};
@@ -61,11 +62,9 @@ impl ThingTable {
     /// earlier row. `OutOfMemory`.
     ///
     /// The original has the table in its program: `mobjinfo`, info.c.
-    #[tactic(auto, unfolding(crate::specs::Things::things_in_table))]
     pub fn read(alloc: Global, bytes: &[u8]) -> Result<ThingTable, CsvFault>
         ensures ok { IfOk result (λ t. things_in_table bytes.now ≡ Ok t) }
-        ensures refused { (r : CsvRefusal) → result ≡ Err (CsvFault.Refused r) →
-            things_in_table bytes.now ≡ Err r }
+        ensures refused { IsRefusedAs (things_in_table bytes.now) result }
     {
         let records = table_records(alloc, bytes, MAX_THINGS as usize + BESIDE_ROWS)?;
         table_of_records(alloc, &records)
@@ -110,29 +109,12 @@ fn numbered_row(lines: &[ThingLine], number: usize) -> Option<ThingRow>
 #[tactic(auto, unfolding(crate::specs::Things::lines_of_records))]
 fn table_of_records(alloc: Global, records: &[ByteRecord]) -> Result<ThingTable, CsvFault>
     ensures ok { IfOk result (λ t. lines_of_records (map fields_of records.now) ≡ Ok t) }
-    ensures refused { (r : CsvRefusal) → result ≡ Err (CsvFault.Refused r) →
-        lines_of_records (map fields_of records.now) ≡ Err r }
+    ensures refused { IsRefusedAs (lines_of_records (map fields_of records.now)) result }
 {
-    match records.split_first() {
-        None => Err(CsvFault::Refused(CsvRefusal::Header)),
-        Some((head, rows)) => {
-            if is_thing_header(head) {
-                table_of_rows(alloc, rows)
-            } else {
-                Err(CsvFault::Refused(CsvRefusal::Header))
-            }
-        }
+    match rows_under(records, &thing_names()) {
+        Ok(rows) => table_of_rows(alloc, rows),
+        Err(refusal) => Err(CsvFault::Refused(refusal)),
     }
-}
-
-#[tactic(auto, unfolding(crate::specs::Things::is_thing_header))]
-fn is_thing_header(head: &ByteRecord) -> bool
-    ensures { result ≡ is_thing_header (fields_of head.now) }
-{
-    is_header(
-        head,
-        &[b"type", b"sprite", b"frame", b"bright", b"hang", b"shadow"],
-    )
 }
 
 // A number 0 for each type.
@@ -145,11 +127,12 @@ fn no_numbers(alloc: Global, count: usize) -> Result<Vec<u16>, AllocError>
 // The table of the rows.
 fn table_of_rows(alloc: Global, rows: &[ByteRecord]) -> Result<ThingTable, CsvFault>
     ensures ok { IfOk result (λ t. thing_lines (map fields_of rows.now) ≡ Ok t) }
-    ensures refused { (r : CsvRefusal) → result ≡ Err (CsvFault.Refused r) →
-        thing_lines (map fields_of rows.now) ≡ Err r }
+    ensures refused { IsRefusedAs (thing_lines (map fields_of rows.now)) result }
 {
     let mut lines: Vec<ThingLine> = Vec::new(alloc);
-    let mut numbers = no_numbers(alloc, TYPES)?;
+    let Ok(mut numbers) = no_numbers(alloc, TYPES) else {
+        return Err(CsvFault::OutOfMemory);
+    };
     for (i, fields) in rows.iter().enumerate() {
         let row = i as u64 + 1;
         match read_line(&lines, &numbers, row, fields) {
@@ -163,6 +146,12 @@ fn table_of_rows(alloc: Global, rows: &[ByteRecord]) -> Result<ThingTable, CsvFa
         }
     }
     Ok(ThingTable { lines, numbers })
+}
+
+fn thing_names() -> [&'static [u8]; 6]
+    ensures { map (λ n. n.now) result ≡ thing_header }
+{
+    [b"type", b"sprite", b"frame", b"bright", b"hang", b"shadow"]
 }
 
 // The line of a row, of a type that no earlier line has.

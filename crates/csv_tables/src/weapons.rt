@@ -2,16 +2,25 @@
 
 ghost use Rattle.std.specs.Prelude.{◌≡◌, ◌≤◌, ◌+◌, ℕ, List, [], true, false, length, IfOk, map, Result, Ok, Err, All};
 ghost use Rattle.csv.specs.Records.{fields_of, field_at};
-ghost use Rattle.csv_tables.specs.declared.fault.CsvRefusal.{CsvRefusal};
+ghost use Rattle.csv_tables.specs.Records.{IsRefusedAs};
 ghost use Rattle.csv_tables.specs.declared.weapons.TheConstants.{MAX_WEAPONS};
-ghost use Rattle.csv_tables.specs.Weapons.{IsWeaponInRange, weapon_of, weapon_row, weapon_rows, weapons_in, weapons_of_records, is_weapon_header};
+ghost use Rattle.csv_tables.specs.Weapons.{IsWeaponInRange, weapon_row, weapon_rows, weapons_in, weapons_of_records, weapon_header};
 
 use crate::columns::{flag_column, frame_column, natural_column, place_column, sprite_field};
 use crate::fault::{CsvFault, CsvRefusal};
-use crate::records::{BESIDE_ROWS, checked_shape, is_header, table_records};
+use crate::records::{BESIDE_ROWS, checked_shape, rows_under, table_records};
 use csv::ByteRecord;
 use std::alloc::Global;
 use std::marker::Model;
+
+/// The most rows of a weapon table.
+pub const MAX_WEAPONS: u64 = 20_000;
+
+/// Columns of a weapon table.
+pub const WEAPON_WIDTH: usize = 6;
+
+/// The greatest number of a view, which a path's last row has.
+pub const MAX_VIEW: u32 = 9_999;
 
 /// A weapon layer: the number of its view, from 0, its sprite and frame letter, whether it is
 /// bright, and its place in the view in units of 1/65536 of a pixel of a full view.
@@ -26,15 +35,6 @@ pub struct WeaponRow {
     pub sx: i32,
     pub sy: i32,
 }
-
-/// The greatest number of a view, which a path's last row has.
-pub const MAX_VIEW: u32 = 9_999;
-
-/// The most rows of a weapon table.
-pub const MAX_WEAPONS: u64 = 20_000;
-
-/// Columns of a weapon table.
-pub const WEAPON_WIDTH: usize = 6;
 
 /// The weapon layers of a path's views, in the order of the file.
 #[derive(Drop)]
@@ -67,8 +67,7 @@ impl WeaponTable {
     #[tactic(auto, unfolding(crate::specs::Weapons::weapons_in))]
     pub fn read(alloc: Global, bytes: &[u8]) -> Result<WeaponTable, CsvFault>
         ensures ok { IfOk result (λ t. weapons_in bytes.now ≡ Ok t) }
-        ensures refused { (r : CsvRefusal) → result ≡ Err (CsvFault.Refused r) →
-            weapons_in bytes.now ≡ Err r }
+        ensures refused { IsRefusedAs (weapons_in bytes.now) result }
     {
         let records = table_records(alloc, bytes, MAX_WEAPONS as usize + BESIDE_ROWS)?;
         let rows = weapons_of_records(alloc, &records)?;
@@ -90,37 +89,25 @@ impl WeaponTable {
 fn weapons_of_records(alloc: Global, records: &[ByteRecord]) -> Result<Vec<WeaponRow>, CsvFault>
     ensures ok { IfOk result (λ v. weapons_of_records (map fields_of records.now) ≡ Ok v.items) }
     ensures range { IfOk result (λ v. All IsWeaponInRange v.items) }
-    ensures refused { (r : CsvRefusal) → result ≡ Err (CsvFault.Refused r) →
-        weapons_of_records (map fields_of records.now) ≡ Err r }
+    ensures refused { IsRefusedAs (weapons_of_records (map fields_of records.now)) result }
 {
-    match records.split_first() {
-        None => Err(CsvFault::Refused(CsvRefusal::Header)),
-        Some((head, rows)) => {
-            if is_weapon_header(head) {
-                weapon_rows(alloc, rows)
-            } else {
-                Err(CsvFault::Refused(CsvRefusal::Header))
-            }
-        }
+    match rows_under(records, &weapon_names()) {
+        Ok(rows) => weapon_rows(alloc, rows),
+        Err(refusal) => Err(CsvFault::Refused(refusal)),
     }
 }
 
-#[tactic(auto, unfolding(crate::specs::Weapons::is_weapon_header))]
-fn is_weapon_header(head: &ByteRecord) -> bool
-    ensures { result ≡ is_weapon_header (fields_of head.now) }
+fn weapon_names() -> [&'static [u8]; 6]
+    ensures { map (λ n. n.now) result ≡ weapon_header }
 {
-    is_header(
-        head,
-        &[b"view", b"sprite", b"frame", b"bright", b"sx", b"sy"],
-    )
+    [b"view", b"sprite", b"frame", b"bright", b"sx", b"sy"]
 }
 
 // The layers of the rows.
 fn weapon_rows(alloc: Global, rows: &[ByteRecord]) -> Result<Vec<WeaponRow>, CsvFault>
     ensures ok { IfOk result (λ v. weapon_rows (map fields_of rows.now) ≡ Ok v.items) }
     ensures range { IfOk result (λ v. All IsWeaponInRange v.items) }
-    ensures refused { (r : CsvRefusal) → result ≡ Err (CsvFault.Refused r) →
-        weapon_rows (map fields_of rows.now) ≡ Err r }
+    ensures refused { IsRefusedAs (weapon_rows (map fields_of rows.now)) result }
 {
     let mut weapons = Vec::new(alloc);
     for (i, fields) in rows.iter().enumerate() {
@@ -137,21 +124,12 @@ fn weapon_rows(alloc: Global, rows: &[ByteRecord]) -> Result<Vec<WeaponRow>, Csv
 }
 
 // The layer of a row.
-#[tactic(auto, unfolding(crate::specs::Weapons::weapon_row))]
+#[tactic(auto, unfolding(crate::specs::Weapons::weapon_row, crate::specs::Weapons::weapon_of))]
 fn weapon_row(row: u64, fields: &ByteRecord) -> Result<WeaponRow, CsvRefusal>
     ensures value { result ≡ weapon_row row (fields_of fields.now) }
     ensures range { IfOk result IsWeaponInRange }
 {
     checked_shape(MAX_WEAPONS, WEAPON_WIDTH, row, fields)?;
-    weapon_of(row, fields)
-}
-
-// The layer of a row with the right number of fields.
-#[tactic(auto, unfolding(crate::specs::Weapons::weapon_of))]
-fn weapon_of(row: u64, fields: &ByteRecord) -> Result<WeaponRow, CsvRefusal>
-    ensures value { result ≡ weapon_of row (fields_of fields.now) }
-    ensures range { IfOk result IsWeaponInRange }
-{
     let view = natural_column(row, 0, MAX_VIEW, fields)?;
     let sprite = sprite_field(row, 1, fields)?;
     let frame = frame_column(row, 2, fields)?;

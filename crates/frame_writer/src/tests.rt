@@ -31,6 +31,15 @@ fn playpal_of(alloc: Global, count: usize) -> Result<Vec<u8>, AllocError>
     Ok(playpal)
 }
 
+// A whole frame, and its palette.
+fn picture_of(alloc: Global) -> Result<(Vec<u8>, Vec<u8>), AllocError>
+    ensures { IfOk result (λ picture. (length picture.0.items ≡ FRAME_BYTES) ×
+        (length picture.1.items ≡ PALETTE_BYTES)) }
+{
+    let frame = frame_of(alloc, FRAME_BYTES)?;
+    Ok((frame, playpal_of(alloc, PALETTE_BYTES)?))
+}
+
 // A sink whose put of that number fails after 100 bytes.
 fn sink_of(alloc: Global, call: u64) -> Result<MemorySink, AllocError> {
     let failing = vec![in alloc; PutFault { call, passed: 100 }]?;
@@ -52,8 +61,7 @@ fn a_frame_is_written_as_it_is_in_one_put(rt: HostRuntime) -> Result<(), Fail> {
 #[test]
 fn a_ppm_is_written_in_six_puts(rt: HostRuntime) -> Result<(), Fail> {
     let alloc = rt.alloc();
-    let frame = frame_of(alloc, FRAME_BYTES)?;
-    let playpal = playpal_of(alloc, PALETTE_BYTES)?;
+    let (frame, playpal) = picture_of(alloc)?;
     let mut sink = sink_of(alloc, 7)?;
     assert_eq!(rt; put_ppm(&mut sink, &frame, &playpal), Ok(()));
     assert_eq!(rt; sink.bytes().len(), PPM_BYTES);
@@ -68,8 +76,7 @@ fn a_ppm_is_written_in_six_puts(rt: HostRuntime) -> Result<(), Fail> {
 #[test]
 fn a_put_that_fails_ends_a_ppm(rt: HostRuntime) -> Result<(), Fail> {
     let alloc = rt.alloc();
-    let frame = frame_of(alloc, FRAME_BYTES)?;
-    let playpal = playpal_of(alloc, PALETTE_BYTES)?;
+    let (frame, playpal) = picture_of(alloc)?;
     for (call, length) in [(1, 15), (2, 115), (6, 153715)] {
         let mut sink = sink_of(alloc, call)?;
         assert_eq!(rt; put_ppm(&mut sink, &frame, &playpal), Err(Failed), "{call}");

@@ -46,6 +46,15 @@ fn words(lump: usize) -> &'static [i16] {
     }
 }
 
+// The bytes of a lump.
+fn bytes_of(alloc: Global, lump: usize) -> Result<Vec<u8>, AllocError> {
+    let mut bytes = Vec::new(alloc);
+    for word in words(lump) {
+        bytes.extend_from_slice(&word.to_le_bytes())?;
+    }
+    Ok(bytes)
+}
+
 // The offsets and names of each side.
 fn side_front() -> &'static [u8] {
     b"\x01\x00\xff\xffWALL1\x00\x00\x00wall2\x00\x00\x00-\x00\x00\x00\x00\x00\x00\x00"
@@ -54,15 +63,6 @@ fn side_front() -> &'static [u8] {
 // The bytes of each sector.
 fn sector() -> &'static [u8] {
     b"\x08\x00\xa0\x00FLAT1\x00\x00\x00FLAT0\x00\x00\x00p\x00\x00\x00\x00\x00"
-}
-
-// The bytes of a lump.
-fn bytes_of(alloc: Global, lump: usize) -> Result<Vec<u8>, AllocError> {
-    let mut bytes = Vec::new(alloc);
-    for word in words(lump) {
-        bytes.extend_from_slice(&word.to_le_bytes())?;
-    }
-    Ok(bytes)
 }
 
 // Sixteen sides, four of each sector.

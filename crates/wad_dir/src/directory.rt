@@ -10,13 +10,12 @@ ghost use Rattle.lump_rules.specs.declared.names.Group.TheVariants.{Sprites};
 ghost use Rattle.wad_dir.specs.Faults.{dir_fault};
 
 use crate::DirFault;
-use crate::index::{index_flats, index_names, list_sprites, look_up};
+use crate::index::{NameIndex, index_flats, index_names, list_sprites, look_up};
 use crate::load::read_lumps;
 use crate::map::label_at;
-use lump_rules::{ENTRY_SIZE, HEADER_SIZE, Lump, LumpNo, MAP_LUMPS, NAME_SIZE, Name8};
+use lump_rules::{ENTRY_SIZE, HEADER_SIZE, Lump, LumpNo, MAP_LUMPS, Name8};
 use outside::{FileNo, OutOfMemory, Shelf};
 use std::alloc::Global;
-use std::collections::BTreeMap;
 use std::marker::Model;
 
 /// The directory of some WAD files. Contracts see the numbers of the files and the list of lumps.
@@ -29,8 +28,8 @@ pub struct Directory {
     numbers: Vec<FileNo>,
     list: Vec<Lump>,
     // the last lump and the last flat of each name
-    last: BTreeMap<[u8; NAME_SIZE], u16>,
-    flats: BTreeMap<[u8; NAME_SIZE], u16>,
+    last: NameIndex,
+    flats: NameIndex,
     sprites: Vec<LumpNo>,
 }
 
@@ -196,14 +195,6 @@ impl Directory {
         self.list[lump.0 as usize].size
     }
 
-    /// The offset of a lump in its file, in bytes. It says nothing where the lump's size is 0.
-    pub fn place(&self, lump: LumpNo) -> u32
-        requires { lump.0 < length self.now.lumps }
-        ensures { result ≡ (lump_at self.now.lumps lump.0).place }
-    {
-        self.list[lump.0 as usize].place
-    }
-
     /// The number by which the shelf knows the lump's file.
     pub fn file(&self, lump: LumpNo) -> FileNo
         requires { lump.0 < length self.now.lumps }
@@ -211,5 +202,13 @@ impl Directory {
     {
         let file = self.list[lump.0 as usize].file;
         self.numbers[file as usize]
+    }
+
+    /// The offset of a lump in its file, in bytes. It says nothing where the lump's size is 0.
+    pub fn place(&self, lump: LumpNo) -> u32
+        requires { lump.0 < length self.now.lumps }
+        ensures { result ≡ (lump_at self.now.lumps lump.0).place }
+    {
+        self.list[lump.0 as usize].place
     }
 }

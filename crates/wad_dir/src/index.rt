@@ -18,11 +18,11 @@ use outside::OutOfMemory;
 use std::alloc::Global;
 use std::collections::BTreeMap;
 
+/// The number of a lump for each name.
+pub type NameIndex = BTreeMap<[u8; NAME_SIZE], u16>;
+
 // The last lump of each name.
-pub fn index_names(
-    alloc: Global,
-    lumps: &[Lump],
-) -> Result<BTreeMap<[u8; NAME_SIZE], u16>, OutOfMemory>
+pub fn index_names(alloc: Global, lumps: &[Lump]) -> Result<NameIndex, OutOfMemory>
     requires { length lumps.now < 2 ^ 16 }
     ensures { IfOk result (λ index. (name : List ℕ) → indexed index name ≡ last_of lumps.now name) }
 {
@@ -31,10 +31,7 @@ pub fn index_names(
 }
 
 // The last flat of each name.
-pub fn index_flats(
-    alloc: Global,
-    lumps: &[Lump],
-) -> Result<BTreeMap<[u8; NAME_SIZE], u16>, OutOfMemory>
+pub fn index_flats(alloc: Global, lumps: &[Lump]) -> Result<NameIndex, OutOfMemory>
     requires { length lumps.now < 2 ^ 16 }
     ensures { IfOk result (λ index. (name : List ℕ) → indexed index name ≡ flat_of lumps.now name) }
 {
@@ -53,11 +50,7 @@ pub fn list_sprites(alloc: Global, lumps: &[Lump]) -> Result<Vec<LumpNo>, OutOfM
 
 // The last lump of each name, among those that are marked.
 #[tactic(auto, unfolding(word_rules::specs::Least::greatest))]
-fn index_of(
-    alloc: Global,
-    lumps: &[Lump],
-    marked: &[bool],
-) -> Result<BTreeMap<[u8; NAME_SIZE], u16>, OutOfMemory>
+fn index_of(alloc: Global, lumps: &[Lump], marked: &[bool]) -> Result<NameIndex, OutOfMemory>
     requires few { length lumps.now < 2 ^ 16 }
     requires marks { length marked.now ≡ length lumps.now }
     ensures { IfOk result (λ index. (name : List ℕ) →
@@ -75,7 +68,7 @@ fn index_of(
 }
 
 // What an index has for a name.
-pub fn look_up(index: &BTreeMap<[u8; NAME_SIZE], u16>, name: &Name8) -> Option<LumpNo>
+pub fn look_up(index: &NameIndex, name: &Name8) -> Option<LumpNo>
     ensures { option_map (λ lump. lump.0) result ≡ indexed index.now name.now }
 {
     match index.get(&name.bytes()) {
@@ -134,10 +127,9 @@ fn next_grouped(grouped: Option<u64>, starts: bool, ends: bool, file: u64) -> Op
 fn is_start(group: Group, name: &Name8) -> bool
     ensures { result ≡ is_start group name.now }
 {
-    let bytes = name.bytes();
     match group {
-        Group::Flats => bytes == F_START || bytes == FF_START,
-        Group::Sprites => bytes == S_START || bytes == SS_START,
+        Group::Flats => is_either(name, F_START, FF_START),
+        Group::Sprites => is_either(name, S_START, SS_START),
     }
 }
 
@@ -145,11 +137,18 @@ fn is_start(group: Group, name: &Name8) -> bool
 fn is_end(group: Group, name: &Name8) -> bool
     ensures { result ≡ is_end group name.now }
 {
-    let bytes = name.bytes();
     match group {
-        Group::Flats => bytes == F_END || bytes == FF_END,
-        Group::Sprites => bytes == S_END || bytes == SS_END,
+        Group::Flats => is_either(name, F_END, FF_END),
+        Group::Sprites => is_either(name, S_END, SS_END),
     }
+}
+
+// One of two names, that of one letter or that of two.
+fn is_either(name: &Name8, one: [u8; NAME_SIZE], two: [u8; NAME_SIZE]) -> bool
+    ensures { result ≡ (bytes_eq name.now one || bytes_eq name.now two) }
+{
+    let bytes = name.bytes();
+    bytes == one || bytes == two
 }
 
 // The numbers that are marked, in order.

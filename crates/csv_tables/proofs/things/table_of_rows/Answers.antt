@@ -13,7 +13,7 @@ pub loop-i-init : goal.loop-i-init
 loop-i-init c = rw c.new-lines.ensures.items (record {
   so_far = refl;
   count = refl;
-  numbers = numbers-start c.in_ok-numbers.numbers.items c.in_ok-numbers.ensures;
+  numbers = numbers-start c.in-Ok.numbers.items c.in-Ok.ensures;
   range = All-nil IsLineInRange;
 })
 
@@ -32,15 +32,15 @@ loop-i-preserved c =
     let at : get_or (map fields_of c.args.rows.now) c.loop-i.i [] ≡ fields_of c.index-rows-i.result = get_or-map fields_of c.args.rows.now c.loop-i.i c.index-rows-i.result [] c.loop-i-test.true ∙ ap fields_of (sym c.index-rows-i.is) in
     let good : is_ok c.push.result ≡ true = search rules in
     let items = rw good at c.push.ensures.items in
-    let told = sym (rw c.deref.ensures.value at c.in-Ok.ensures.value) in
-    let new = rw c.deref.ensures.value at c.in-Ok.ensures.new in
-    let small : c.in-Ok.line.kind < TYPES = omega (arith, c.in-Ok.ensures.range) in
-    let longer : length (c.loop-i.lines.items ++ c.in-Ok.line ∷ []) ≡ length c.loop-i.lines.items + 1 = length-append c.loop-i.lines.items (c.in-Ok.line ∷ []) in
+    let told = sym (rw c.deref.ensures.value at c.in-Ok-read_line.ensures.value) in
+    let new = rw c.deref.ensures.value at c.in-Ok-read_line.ensures.new in
+    let small : c.in-Ok-read_line.line.kind < TYPES = omega (arith, c.in-Ok-read_line.ensures.range) in
+    let longer : length (c.loop-i.lines.items ++ c.in-Ok-read_line.line ∷ []) ≡ length c.loop-i.lines.items + 1 = length-append c.loop-i.lines.items (c.in-Ok-read_line.line ∷ []) in
     rw items (record {
-      so_far = inv.so_far ∙ rows_after-taken _ _ (map fields_of c.args.rows.now) c.loop-i.i _ c.in-Ok.line (rw len c.loop-i-test.true) at inv.count told;
+      so_far = inv.so_far ∙ rows_after-taken _ _ (map fields_of c.args.rows.now) c.loop-i.i _ c.in-Ok-read_line.line (rw len c.loop-i-test.true) at inv.count told;
       count = longer ∙ ap (λ n. n + 1) inv.count;
-      numbers = numbers-step c.loop-i.lines.items c.in-Ok.line c.loop-i.numbers.items (c.loop-i.i + 1) inv.numbers small new (ap (λ n. n + 1) (sym inv.count));
-      range = All-push IsLineInRange c.loop-i.lines.items c.in-Ok.line inv.range c.in-Ok.ensures.range;
+      numbers = numbers-step c.loop-i.lines.items c.in-Ok-read_line.line c.loop-i.numbers.items (c.loop-i.i + 1) inv.numbers small new (ap (λ n. n + 1) (sym inv.count));
+      range = All-push IsLineInRange c.loop-i.lines.items c.in-Ok-read_line.line inv.range c.in-Ok-read_line.ensures.range;
     })
 
 pub returns-clause-ok : goal.returns-clause-ok
