@@ -11,7 +11,7 @@ use lump_cache::LumpCache;
 use lump_rules::Name8;
 use outside::{Fault, MemoryShelf};
 use sound_scene::ReadBase;
-use std::alloc::Global;
+use std::alloc::{AllocError, Global};
 use std::process::Abort;
 use std::test::Fail;
 use wad_dir::{Directory, LumpNo};
@@ -22,7 +22,7 @@ const PLAYPAL_NAME: usize = 82_298;
 const COLORMAP_NAME: usize = 82_314;
 
 // The file with one byte changed.
-fn changed_wad(alloc: Global, change: (usize, u8)) -> Result<Vec<u8>, Fail> {
+fn changed_wad(alloc: Global, change: (usize, u8)) -> Result<Vec<u8>, AllocError> {
     let mut bytes = make_wad(alloc, 1)?;
     if let Some(place) = bytes.get_mut(change.0) {
         *place = change.1;

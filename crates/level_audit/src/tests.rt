@@ -12,7 +12,7 @@ use level_rules::MapRefusal;
 use lump_cache::LumpCache;
 use lump_rules::Name8;
 use outside::{MemoryFile, MemoryShelf, Shelf};
-use std::alloc::Global;
+use std::alloc::{AllocError, Global};
 use std::process::Abort;
 use std::test::Fail;
 use wad_dir::Directory;
@@ -20,6 +20,10 @@ use wad_dir::Directory;
 const ZONE: u32 = 6_291_456;
 
 const THINGS: &str = "type,sprite,frame,bright,hang,shadow\n2035,TREE,A,0,0,0\n";
+
+const SHADOW: &str = "type,sprite,frame,bright,hang,shadow\n2035,TREE,A,0,0,1\n";
+
+const FRAME_B: &str = "type,sprite,frame,bright,hang,shadow\n2035,TREE,B,0,0,0\n";
 
 // A made WAD with other bytes from some offsets on.
 fn changed(mut wad: Vec<u8>, changes: &[(usize, &[u8])]) -> Vec<u8> {
@@ -48,7 +52,7 @@ const MAP01: Request<'static> = Request {
 };
 
 // A shelf of this WAD.
-pub(crate) fn shelf_of(alloc: Global, wad: Vec<u8>) -> Result<MemoryShelf, Fail> {
+pub(crate) fn shelf_of(alloc: Global, wad: Vec<u8>) -> Result<MemoryShelf, AllocError> {
     let name = "made.wad".to_string(alloc)?;
     let mut files = Vec::with_capacity(alloc, 1)?;
     files.push(MemoryFile { name, bytes: wad })?;
@@ -227,16 +231,9 @@ fn damaged_levels_are_refused(rt: HostRuntime) -> Result<(), Fail> {
     Ok(())
 }
 
-// What stops the audit of a map of the made WAD, in a zone of that size, where the thing table has
-// this row.
-fn fault_of(alloc: Global, row: &str, map: &str, zone: u32) -> Result<Option<AuditFault>, Fail> {
-    let things = format!(in alloc; "type,sprite,frame,bright,hang,shadow\n{row}\n")?;
-    let request = Request {
-        things: &things,
-        map,
-        zone,
-    };
-    Ok(audited(alloc, make_wad(alloc, 1)?, &request)?.err())
+// What stops the audit of a map of the made WAD.
+fn fault_of(alloc: Global, request: &Request<'_>) -> Result<Option<AuditFault>, Fail> {
+    Ok(audited(alloc, make_wad(alloc, 1)?, request)?.err())
 }
 
 // The things and the map, the zone, and the pictures of weapons.
@@ -253,51 +250,45 @@ fn other_words_are_refused(rt: HostRuntime) -> Result<(), Fail> {
         wanted: 792,
         widest: 0,
     };
-    for (row, map, size, fault) in [
+    for (things, map, zone, fault) in [
+        (SHADOW, "MAP01", ZONE, AuditFault::Refused(shadow)),
+        (FRAME_B, "MAP01", ZONE, AuditFault::Refused(frame)),
         (
-            "2035,TREE,A,0,0,1",
-            "MAP01",
-            ZONE,
-            AuditFault::Refused(shadow),
-        ),
-        (
-            "2035,TREE,B,0,0,0",
-            "MAP01",
-            ZONE,
-            AuditFault::Refused(frame),
-        ),
-        (
-            "2035,TREE,A,0,0,0",
+            THINGS,
             "MAP02",
             ZONE,
             AuditFault::Refused(AuditRefusal::Map(MapRefusal::NoMap)),
         ),
-        ("2035,TREE,A,0,0,0", "MAP01", 64, colormap),
-        ("2035,TREE,A,0,0,0", "MAP01", 8216, playpal),
+        (THINGS, "MAP01", 64, colormap),
+        (THINGS, "MAP01", 8216, playpal),
     ] {
-        assert_eq!(rt; fault_of(alloc, row, map, size)?, Some(fault));
+        let request = Request { things, map, zone };
+        assert_eq!(rt; fault_of(alloc, &request)?, Some(fault));
     }
     Ok(())
 }
 
-// Writes the list of textures anew behind a file, with ten more bytes behind the record of GRATE.
-fn write_list(wad: &mut Vec<u8>, list: &[u8]) -> Result<(), Fail> {
-    wad.extend_from_slice(list.get(..162).ok_or("its textures to GRATE")?)?;
+// Puts the two parts of a list of textures behind a file, with ten more bytes between them.
+fn put_list(wad: &mut Vec<u8>, before: &[u8], after: &[u8]) -> Result<(), AllocError> {
+    wad.extend_from_slice(before)?;
     wad.extend_from_slice(&[0; 10])?;
-    wad.extend_from_slice(list.get(162..).ok_or("its last texture")?)?;
-    Ok(())
+    wad.extend_from_slice(after)
 }
 
-fn list_of(alloc: Global, wad: &[u8]) -> Result<Vec<u8>, Fail> {
-    let list = wad.get(9008..9202).ok_or("a list of textures")?;
-    Ok(list.to_vec(alloc)?)
+// Puts the list of textures of the made WAD of 2 behind another, with ten more bytes behind the
+// record of GRATE.
+fn put_list_of(wad: &mut Vec<u8>, made: &[u8]) -> Result<(), Fail> {
+    match (made.get(9008..9170), made.get(9170..9202)) {
+        (Some(before), Some(after)) => Ok(put_list(wad, before, after)?),
+        _ => Err("a list of textures".into()),
+    }
 }
 
 // The made WAD of 2 with its list of textures also behind it.
 fn relisted_wad(alloc: Global) -> Result<Vec<u8>, Fail> {
-    let mut wad = make_wad(alloc, 2)?;
-    let list = list_of(alloc, &wad)?;
-    write_list(&mut wad, &list)?;
+    let made = make_wad(alloc, 2)?;
+    let mut wad = made.to_vec(alloc)?;
+    put_list_of(&mut wad, &made)?;
     Ok(wad)
 }
 

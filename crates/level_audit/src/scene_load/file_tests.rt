@@ -173,6 +173,10 @@ fn the_weapon_file_may_be_left_out(rt: HostRuntime) -> Result<(), Fail> {
     Ok(())
 }
 
+fn refused(refusal: Refusal) -> Option<LoadFault> {
+    Some(Fault::Refused(refusal))
+}
+
 // Each file is refused, and what comes after it would stop the reading too.
 #[test]
 fn the_first_refusal_is_told(rt: HostRuntime) {
@@ -185,20 +189,24 @@ fn the_first_refusal_is_told(rt: HostRuntime) {
         wad: SHORT,
         absent: "none",
     };
-    let length = Refusal::Tables(TablesRefusal::Length { found: 65539 });
-    assert_eq!(rt; fault_of(alloc, &set), Some(Fault::Refused(length)));
+    let tables = fault_of(alloc, &set);
     set.length = TABLES_BYTES;
-    let repeat = Refusal::Things(CsvRefusal::Repeat { row: 2 });
-    assert_eq!(rt; fault_of(alloc, &set), Some(Fault::Refused(repeat)));
+    let things = fault_of(alloc, &set);
     set.things = THINGS;
-    let fields = Refusal::Path(CsvRefusal::Fields { row: 1 });
-    assert_eq!(rt; fault_of(alloc, &set), Some(Fault::Refused(fields)));
+    let path = fault_of(alloc, &set);
     set.path = PATH;
-    let header = Refusal::Weapons(CsvRefusal::Header);
-    assert_eq!(rt; fault_of(alloc, &set), Some(Fault::Refused(header)));
+    let weapons = fault_of(alloc, &set);
     set.weapons = WEAPONS;
-    let short = Refusal::Wad(DirRefusal::Short { file: 0 });
-    assert_eq!(rt; fault_of(alloc, &set), Some(Fault::Refused(short)));
+    let wad = fault_of(alloc, &set);
+    let faults = [tables, things, path, weapons, wad];
+    let expected = [
+        refused(Refusal::Tables(TablesRefusal::Length { found: 65539 })),
+        refused(Refusal::Things(CsvRefusal::Repeat { row: 2 })),
+        refused(Refusal::Path(CsvRefusal::Fields { row: 1 })),
+        refused(Refusal::Weapons(CsvRefusal::Header)),
+        refused(Refusal::Wad(DirRefusal::Short { file: 0 })),
+    ];
+    assert_eq!(rt; faults, expected);
 }
 
 // Each file is left out, and what comes after it is refused.
