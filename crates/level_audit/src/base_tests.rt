@@ -1,14 +1,18 @@
 // Values from outside: the made file of 1, whose lumps and colours `made_rules` defines.
+ghost use Rattle.std.specs.Prelude.{◌<◌, ◌≤◌, ◌^◌, length};
+
 use crate::base::read_base;
 use crate::colours::find_colormap;
+use crate::tests::{load_directory, shelf_of};
 use crate::{ArtRefusal, AuditFault, AuditRefusal};
 use level_maker::make_wad;
 use level_scene::MapRefusal;
 use lump_cache::LumpCache;
 use lump_rules::Name8;
-use outside::{MemoryFile, MemoryShelf, Shelf};
+use outside::{Fault, MemoryShelf};
 use sound_scene::ReadBase;
-use std::alloc::Global;
+use std::alloc::{AllocError, Global};
+use std::process::Abort;
 use std::test::Fail;
 use wad_dir::{Directory, LumpNo};
 
@@ -17,43 +21,92 @@ const PLAYPAL_NAME: usize = 82_298;
 
 const COLORMAP_NAME: usize = 82_314;
 
+// The file with one byte changed.
+fn changed_wad(alloc: Global, change: (usize, u8)) -> Result<Vec<u8>, AllocError> {
+    let mut bytes = make_wad(alloc, 1)?;
+    if let Some(place) = bytes.get_mut(change.0) {
+        *place = change.1;
+    }
+    Ok(bytes)
+}
+
 // What the map of that name stands on, in the file with one byte changed.
 fn read(
     alloc: Global,
     name: &str,
     change: (usize, u8),
-) -> Result<Result<ReadBase, AuditFault>, Fail> {
-    let mut bytes = make_wad(alloc, 1)?;
-    if let Some(place) = bytes.get_mut(change.0) {
-        *place = change.1;
-    }
-    let file = "made.wad".to_string(alloc)?;
-    let mut files = Vec::with_capacity(alloc, 1)?;
-    files.push(MemoryFile { name: file, bytes })?;
-    let mut shelf = MemoryShelf::new(files, Vec::new(alloc));
-    let number = shelf.find("made.wad")?;
-    let dir = Directory::load(alloc, &mut shelf, &[number])?;
-    let mut cache = LumpCache::new(alloc, &dir, 65_536, 0)?;
+) -> Result<Result<Box<ReadBase>, AuditFault>, Fail> {
+    let mut shelf = shelf_of(alloc, changed_wad(alloc, change)?)?;
+    read_on(alloc, name, &mut shelf)
+}
+
+// The same, in the file on this shelf.
+fn read_on(
+    alloc: Global,
+    name: &str,
+    shelf: &mut MemoryShelf,
+) -> Result<Result<Box<ReadBase>, AuditFault>, Fail> {
+    let dir = load_directory(alloc, shelf)?;
+    read_over(alloc, name, &dir, shelf)
+}
+
+// The same, with the lumps of this directory.
+fn read_over(
+    alloc: Global,
+    name: &str,
+    dir: &Directory,
+    shelf: &mut MemoryShelf,
+) -> Result<Result<Box<ReadBase>, AuditFault>, Fail>
+    requires { length dir.now.lumps < 2 ^ 16 }
+{
     let name = Name8::from_text(name).ok_or("a name")?;
-    match find_colormap(&dir) {
-        Ok(lump) => Ok(read_base(alloc, lump, &name, &dir, &mut cache, &mut shelf)),
-        Err(refusal) => Ok(Err(AuditFault::Refused(AuditRefusal::Art(refusal)))),
+    let mut cache = LumpCache::new(alloc, dir, 65_536, 0)?;
+    Ok(read_in(alloc, &name, dir, &mut cache, shelf))
+}
+
+// The same, in this cache.
+fn read_in(
+    alloc: Global,
+    name: &Name8,
+    dir: &Directory,
+    cache: &mut LumpCache,
+    shelf: &mut MemoryShelf,
+) -> Result<Box<ReadBase>, AuditFault>
+    requires { length dir.now.lumps ≤ cache.old.lumps }
+{
+    match find_colormap(dir) {
+        Ok(lump) => {
+            let base = read_base(alloc, lump, name, dir, cache, shelf)?;
+            Ok(Box::new(alloc, base)?)
+        }
+        Err(refusal) => Err(Fault::Refused(AuditRefusal::Art(refusal))),
     }
+}
+
+// Looks at what MAP01 stands on.
+fn look_at(rt: &impl Abort, base: &ReadBase) {
+    let expected = [0, 255, 0, 1, 254, 7];
+    assert_eq!(rt; base.palette.get(..6), Some(expected.as_slice()));
+    let found = (
+        base.palette.len(),
+        base.playpal,
+        base.colormap,
+        base.label,
+        base.level.sectors().len(),
+    );
+    assert_eq!(rt; found, (768, LumpNo(0), LumpNo(1), LumpNo(17), 4));
 }
 
 #[test]
 fn the_made_level_stands_on_its_lumps(rt: HostRuntime) -> Result<(), Fail> {
     let base = read(rt.alloc(), "map01", (0, b'I'))??;
-    assert_eq!(rt; base.palette.len(), 768);
-    assert_eq!(rt;
-        base.palette.get(..6),
-        Some([0, 255, 0, 1, 254, 7].as_slice())
-    );
-    assert_eq!(rt; base.playpal, LumpNo(0));
-    assert_eq!(rt; base.colormap, LumpNo(1));
-    assert_eq!(rt; base.label, LumpNo(17));
-    assert_eq!(rt; base.level.sectors().len(), 4);
+    look_at(&rt, &base);
     Ok(())
+}
+
+// What stops the reading.
+fn fault_of(alloc: Global, name: &str, change: (usize, u8)) -> Result<Option<AuditFault>, Fail> {
+    Ok(read(alloc, name, change)?.err())
 }
 
 #[test]
@@ -71,7 +124,7 @@ fn what_is_not_there_is_refused(rt: HostRuntime) -> Result<(), Fail> {
             AuditRefusal::Art(ArtRefusal::Colormap),
         ),
     ] {
-        let fault = read(rt.alloc(), name, change)?.err();
+        let fault = fault_of(rt.alloc(), name, change)?;
         assert_eq!(rt; fault, Some(AuditFault::Refused(refusal)));
     }
     Ok(())

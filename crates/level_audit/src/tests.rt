@@ -1,5 +1,10 @@
 // Values from outside: made files, whose sizes and refusals the description of the program tells.
-use crate::{ArtRefusal, AuditFault, AuditRefusal, SceneRefusal, SoundScene, ZoneSizes, audit};
+//
+// Each function makes a value or two and lends them to the next, and the one that audits owns none:
+// a function that owns many where it may return takes minutes to prove.
+ghost use Rattle.std.specs.Prelude.{◌<◌, ◌≤◌, ◌^◌, IfOk, length};
+
+use crate::{ArtRefusal, AuditFault, AuditRefusal, SceneRefusal, ZoneSizes, audit};
 use art_rules::{SpriteRefusal, TexRefusal};
 use csv_tables::ThingTable;
 use level_maker::make_wad;
@@ -7,13 +12,18 @@ use level_rules::MapRefusal;
 use lump_cache::LumpCache;
 use lump_rules::Name8;
 use outside::{MemoryFile, MemoryShelf, Shelf};
-use std::alloc::Global;
+use std::alloc::{AllocError, Global};
+use std::process::Abort;
 use std::test::Fail;
 use wad_dir::Directory;
 
 const ZONE: u32 = 6_291_456;
 
 const THINGS: &str = "type,sprite,frame,bright,hang,shadow\n2035,TREE,A,0,0,0\n";
+
+const SHADOW: &str = "type,sprite,frame,bright,hang,shadow\n2035,TREE,A,0,0,1\n";
+
+const FRAME_B: &str = "type,sprite,frame,bright,hang,shadow\n2035,TREE,B,0,0,0\n";
 
 // A made WAD with other bytes from some offsets on.
 fn changed(mut wad: Vec<u8>, changes: &[(usize, &[u8])]) -> Vec<u8> {
@@ -27,23 +37,97 @@ fn changed(mut wad: Vec<u8>, changes: &[(usize, &[u8])]) -> Vec<u8> {
     wad
 }
 
-// The audit of a map of this WAD in a zone of that size.
-fn audit_made(
+// A map of a made WAD, the thing table of its audit, and the size of its zone.
+#[derive(Clone, Copy)]
+struct Request<'a> {
+    things: &'a str,
+    map: &'a str,
+    zone: u32,
+}
+
+const MAP01: Request<'static> = Request {
+    things: THINGS,
+    map: "MAP01",
+    zone: ZONE,
+};
+
+// A shelf of this WAD.
+pub(crate) fn shelf_of(alloc: Global, wad: Vec<u8>) -> Result<MemoryShelf, AllocError> {
+    let name = "made.wad".to_string(alloc)?;
+    let mut files = Vec::with_capacity(alloc, 1)?;
+    files.push(MemoryFile { name, bytes: wad })?;
+    Ok(MemoryShelf::new(files, Vec::new(alloc)))
+}
+
+// Its directory.
+pub(crate) fn load_directory(alloc: Global, shelf: &mut MemoryShelf) -> Result<Directory, Fail>
+    ensures { IfOk result (λ dir. length dir.lumps < 2 ^ 16) }
+{
+    let number = shelf.find("made.wad")?;
+    Ok(Directory::load(alloc, shelf, &[number])?)
+}
+
+// The sizes of the scene of a map of this WAD, or what stops its audit.
+fn audited(
     alloc: Global,
     wad: Vec<u8>,
-    things: &str,
-    map: &str,
-    size: u32,
-) -> Result<Result<SoundScene, AuditFault>, Fail> {
-    let name = "made.wad".to_string(alloc)?;
-    let files = vec![in alloc; MemoryFile { name, bytes: wad }]?;
-    let mut shelf = MemoryShelf::new(files, Vec::new(alloc));
-    let number = shelf.find("made.wad")?;
-    let dir = Directory::load(alloc, &mut shelf, &[number])?;
-    let mut cache = LumpCache::new(alloc, &dir, size, 32767)?;
-    let things = ThingTable::read(alloc, things.as_bytes())?;
-    let map = Name8::from_text(map).ok_or("a name")?;
-    Ok(audit(alloc, &dir, &mut cache, &mut shelf, &things, &map, 3))
+    request: &Request<'_>,
+) -> Result<Result<ZoneSizes, AuditFault>, Fail> {
+    let mut shelf = shelf_of(alloc, wad)?;
+    audited_on(alloc, &mut shelf, request)
+}
+
+// The same, with this shelf.
+fn audited_on(
+    alloc: Global,
+    shelf: &mut MemoryShelf,
+    request: &Request<'_>,
+) -> Result<Result<ZoneSizes, AuditFault>, Fail> {
+    let dir = load_directory(alloc, shelf)?;
+    audited_over(alloc, &dir, shelf, request)
+}
+
+// The same, with the lumps of this directory.
+fn audited_over(
+    alloc: Global,
+    dir: &Directory,
+    shelf: &mut MemoryShelf,
+    request: &Request<'_>,
+) -> Result<Result<ZoneSizes, AuditFault>, Fail>
+    requires { length dir.now.lumps < 2 ^ 16 }
+{
+    let mut cache = LumpCache::new(alloc, dir, request.zone, 32767)?;
+    audited_in(alloc, dir, &mut cache, shelf, request)
+}
+
+// The same, in this cache.
+fn audited_in(
+    alloc: Global,
+    dir: &Directory,
+    cache: &mut LumpCache,
+    shelf: &mut MemoryShelf,
+    request: &Request<'_>,
+) -> Result<Result<ZoneSizes, AuditFault>, Fail>
+    requires { length dir.now.lumps ≤ cache.old.lumps }
+{
+    let map = Name8::from_text(request.map).ok_or("a name")?;
+    let things = ThingTable::read(alloc, request.things.as_bytes())?;
+    Ok(audited_with(alloc, dir, cache, shelf, &things, &map))
+}
+
+// The same, with things that look as this table says.
+fn audited_with(
+    alloc: Global,
+    dir: &Directory,
+    cache: &mut LumpCache,
+    shelf: &mut MemoryShelf,
+    things: &ThingTable,
+    map: &Name8,
+) -> Result<ZoneSizes, AuditFault>
+    requires { length dir.now.lumps ≤ cache.old.lumps }
+{
+    let scene = audit(alloc, dir, cache, shelf, things, map, 3)?;
+    Ok(scene.sizes())
 }
 
 fn sizes(enough: u64, roomy: u64) -> Option<ZoneSizes> {
@@ -52,10 +136,11 @@ fn sizes(enough: u64, roomy: u64) -> Option<ZoneSizes> {
 
 // The sizes that the audit of a made WAD tells.
 fn audited_sizes(alloc: Global, wad: Vec<u8>) -> Result<Option<ZoneSizes>, Fail> {
-    match audit_made(alloc, wad, THINGS, "map01", ZONE)? {
-        Ok(scene) => Ok(Some(scene.sizes())),
-        Err(_) => Ok(None),
-    }
+    let request = Request {
+        map: "map01",
+        ..MAP01
+    };
+    Ok(audited(alloc, wad, &request)?.ok())
 }
 
 #[test]
@@ -73,6 +158,19 @@ fn a_patch_that_is_the_colormap_is_pinned(rt: HostRuntime) -> Result<(), Fail> {
     let alloc = rt.alloc();
     let wad = changed(make_wad(alloc, 1)?, &[(8984, b"COLORMAP".as_slice())]);
     assert_eq!(rt; audited_sizes(alloc, wad)?, sizes(32_112, 44_536));
+    Ok(())
+}
+
+// Compares what stops the audit of MAP01 in the made WAD with these changes.
+fn compare_fault(
+    rt: &impl Abort,
+    alloc: Global,
+    changes: &[(usize, &[u8])],
+    refusal: AuditRefusal,
+) -> Result<(), Fail> {
+    let wad = changed(make_wad(alloc, 1)?, changes);
+    let fault = audited(alloc, wad, &MAP01)?.err();
+    assert_eq!(rt; fault, Some(AuditFault::Refused(refusal)));
     Ok(())
 }
 
@@ -128,11 +226,14 @@ fn damaged_levels_are_refused(rt: HostRuntime) -> Result<(), Fail> {
             AuditRefusal::Texture(TexRefusal::MissingPatch { texture: 2 }),
         ),
     ] {
-        let wad = changed(make_wad(alloc, 1)?, &changes);
-        let scene = audit_made(alloc, wad, THINGS, "MAP01", ZONE)?;
-        assert_eq!(rt; scene.err(), Some(AuditFault::Refused(refusal)));
+        compare_fault(&rt, alloc, &changes, refusal)?;
     }
     Ok(())
+}
+
+// What stops the audit of a map of the made WAD.
+fn fault_of(alloc: Global, request: &Request<'_>) -> Result<Option<AuditFault>, Fail> {
+    Ok(audited(alloc, make_wad(alloc, 1)?, request)?.err())
 }
 
 // The things and the map, the zone, and the pictures of weapons.
@@ -149,56 +250,61 @@ fn other_words_are_refused(rt: HostRuntime) -> Result<(), Fail> {
         wanted: 792,
         widest: 0,
     };
-    for (row, map, size, fault) in [
+    for (things, map, zone, fault) in [
+        (SHADOW, "MAP01", ZONE, AuditFault::Refused(shadow)),
+        (FRAME_B, "MAP01", ZONE, AuditFault::Refused(frame)),
         (
-            "2035,TREE,A,0,0,1",
-            "MAP01",
-            ZONE,
-            AuditFault::Refused(shadow),
-        ),
-        (
-            "2035,TREE,B,0,0,0",
-            "MAP01",
-            ZONE,
-            AuditFault::Refused(frame),
-        ),
-        (
-            "2035,TREE,A,0,0,0",
+            THINGS,
             "MAP02",
             ZONE,
             AuditFault::Refused(AuditRefusal::Map(MapRefusal::NoMap)),
         ),
-        ("2035,TREE,A,0,0,0", "MAP01", 64, colormap),
-        ("2035,TREE,A,0,0,0", "MAP01", 8216, playpal),
+        (THINGS, "MAP01", 64, colormap),
+        (THINGS, "MAP01", 8216, playpal),
     ] {
-        let things = format!(in alloc; "type,sprite,frame,bright,hang,shadow\n{row}\n")?;
-        let scene = audit_made(alloc, make_wad(alloc, 1)?, &things, map, size)?;
-        assert_eq!(rt; scene.err(), Some(fault));
+        let request = Request { things, map, zone };
+        assert_eq!(rt; fault_of(alloc, &request)?, Some(fault));
     }
     Ok(())
+}
+
+// Puts the two parts of a list of textures behind a file, with ten more bytes between them.
+fn put_list(wad: &mut Vec<u8>, before: &[u8], after: &[u8]) -> Result<(), AllocError> {
+    wad.extend_from_slice(before)?;
+    wad.extend_from_slice(&[0; 10])?;
+    wad.extend_from_slice(after)
+}
+
+// Puts the list of textures of the made WAD of 2 behind another, with ten more bytes behind the
+// record of GRATE.
+fn put_list_of(wad: &mut Vec<u8>, made: &[u8]) -> Result<(), Fail> {
+    match (made.get(9008..9170), made.get(9170..9202)) {
+        (Some(before), Some(after)) => Ok(put_list(wad, before, after)?),
+        _ => Err("a list of textures".into()),
+    }
+}
+
+// The made WAD of 2 with its list of textures also behind it.
+fn relisted_wad(alloc: Global) -> Result<Vec<u8>, Fail> {
+    let made = make_wad(alloc, 2)?;
+    let mut wad = made.to_vec(alloc)?;
+    put_list_of(&mut wad, &made)?;
+    Ok(wad)
 }
 
 // A second patch over column 0 of the texture GRATE: its record is written anew behind the file.
 #[test]
 fn a_masked_texture_of_two_patches_is_refused(rt: HostRuntime) -> Result<(), Fail> {
     let alloc = rt.alloc();
-    let mut wad = make_wad(alloc, 2)?;
-    let list = wad
-        .get(9008..9202)
-        .ok_or("a list of textures")?
-        .to_vec(alloc)?;
-    wad.extend_from_slice(list.get(..162).ok_or("its textures to GRATE")?)?;
-    wad.extend_from_slice(&[0; 10])?;
-    wad.extend_from_slice(list.get(162..).ok_or("its last texture")?)?;
     let changes = [
         (86_274 + 150, b"\x02".as_slice()),
         (86_274 + 20, b"\xac".as_slice()),
         (85_906, b"\x02\x51\x01\0\xcc\0\0\0".as_slice()),
     ];
-    let scene = audit_made(alloc, changed(wad, &changes), THINGS, "MAP01", ZONE)?;
+    let wad = changed(relisted_wad(alloc)?, &changes);
     let middle = SceneRefusal::Middle { side: 11 };
     assert_eq!(rt;
-        scene.err(),
+        audited(alloc, wad, &MAP01)?.err(),
         Some(AuditFault::Refused(AuditRefusal::Scene(middle)))
     );
     Ok(())

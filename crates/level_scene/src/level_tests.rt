@@ -1,10 +1,16 @@
 // Values from outside: a file with a map of one room, as its format is told.
+//
+// Each function makes a value or two and lends them to the next, and what is read is in a box, which
+// a function drops by one call: one that owns many values where it may return takes minutes to prove.
+ghost use Rattle.std.specs.Prelude.{◌<◌, ◌≤◌, ◌^◌, IfOk, length};
+
 use crate::{Level, LevelFault, MapRefusal, read_level};
 use lump_cache::LumpCache;
 use lump_rules::Name8;
 use map_lumps::{Child, Leaf, Thing};
 use outside::{MemoryFile, MemoryShelf, Shelf};
-use std::alloc::Global;
+use std::alloc::{AllocError, Global};
+use std::process::Abort;
 use std::test::Fail;
 use wad_dir::{Directory, LumpNo};
 
@@ -30,6 +36,27 @@ Z\0\0\0\0\0\0\0NODES\0\0\0\
 Z\0\0\0\x1a\0\0\0SECTORS\0"
 }
 
+// The file with one byte changed.
+fn changed_file(alloc: Global, change: (usize, u8)) -> Result<MemoryFile, AllocError> {
+    let mut bytes = wad().to_vec(alloc)?;
+    if let Some(place) = bytes.get_mut(change.0) {
+        *place = change.1;
+    }
+    let name = "room.wad".to_string(alloc)?;
+    Ok(MemoryFile { name, bytes })
+}
+
+// A shelf of that file, whose call of that number fails.
+fn shelf_of(alloc: Global, change: (usize, u8), failing: u64) -> Result<MemoryShelf, AllocError> {
+    let failing = vec![in alloc; failing; 1]?;
+    let mut files = Vec::with_capacity(alloc, 1)?;
+    files.push(changed_file(alloc, change)?)?;
+    Ok(MemoryShelf::new(files, failing))
+}
+
+// What is read of the map of that name through a zone of that size.
+type Read = Result<(LumpNo, Box<Level>), LevelFault>;
+
 // The file with one byte changed, on a shelf whose call of that number fails, and what is read of
 // the map of that name through a zone of that size.
 fn read(
@@ -38,27 +65,57 @@ fn read(
     change: (usize, u8),
     failing: u64,
     size: u32,
-) -> Result<Result<(LumpNo, Level), LevelFault>, Fail> {
-    let mut bytes = wad().to_vec(alloc)?;
-    if let Some(place) = bytes.get_mut(change.0) {
-        *place = change.1;
-    }
-    let file = "room.wad".to_string(alloc)?;
-    let mut files = Vec::with_capacity(alloc, 1)?;
-    files.push(MemoryFile { name: file, bytes })?;
-    let mut shelf = MemoryShelf::new(files, vec![in alloc; failing; 1]?);
+) -> Result<Read, Fail> {
+    let mut shelf = shelf_of(alloc, change, failing)?;
+    read_on(alloc, name, &mut shelf, size)
+}
+
+fn load_directory(alloc: Global, shelf: &mut MemoryShelf) -> Result<Directory, Fail>
+    ensures { IfOk result (λ dir. length dir.lumps < 2 ^ 16) }
+{
     let number = shelf.find("room.wad")?;
-    let dir = Directory::load(alloc, &mut shelf, &[number])?;
-    let mut cache = LumpCache::new(alloc, &dir, size, 0)?;
+    Ok(Directory::load(alloc, shelf, &[number])?)
+}
+
+// What is read of the file on this shelf.
+fn read_on(alloc: Global, name: &str, shelf: &mut MemoryShelf, size: u32) -> Result<Read, Fail> {
+    let dir = load_directory(alloc, shelf)?;
+    read_over(alloc, name, &dir, shelf, size)
+}
+
+// The same, with the lumps of this directory.
+fn read_over(
+    alloc: Global,
+    name: &str,
+    dir: &Directory,
+    shelf: &mut MemoryShelf,
+    size: u32,
+) -> Result<Read, Fail>
+    requires { length dir.now.lumps < 2 ^ 16 }
+{
     let name = Name8::from_text(name).ok_or("a name")?;
-    Ok(read_level(alloc, &name, &dir, &mut cache, &mut shelf))
+    let mut cache = LumpCache::new(alloc, dir, size, 0)?;
+    Ok(read_in(alloc, &name, dir, &mut cache, shelf))
+}
+
+// The same, in this cache.
+fn read_in(
+    alloc: Global,
+    name: &Name8,
+    dir: &Directory,
+    cache: &mut LumpCache,
+    shelf: &mut MemoryShelf,
+) -> Read
+    requires { length dir.now.lumps ≤ cache.old.lumps }
+{
+    let (label, level) = read_level(alloc, name, dir, cache, shelf)?;
+    Ok((label, Box::new(alloc, level)?))
 }
 
 const UNIT: i32 = 65536;
 
-#[test]
-fn a_room_is_read(rt: HostRuntime) -> Result<(), Fail> {
-    let (label, level) = read(rt.alloc(), "map01", (0, b'P'), 99, 64)??;
+// Looks at the level of the room.
+fn look_at(rt: &impl Abort, level: &Level) {
     let thing = Thing {
         x: 64 * UNIT,
         y: 32 * UNIT,
@@ -71,17 +128,34 @@ fn a_room_is_read(rt: HostRuntime) -> Result<(), Fail> {
         count: 1,
         sector: 0,
     };
-    assert_eq!(rt; label, LumpNo(0));
     assert_eq!(rt; level.things(), [thing].as_slice());
     assert_eq!(rt; level.leaves(), [leaf].as_slice());
-    assert_eq!(rt; level.root(), Child::Leaf(0));
-    assert_eq!(rt; level.segs().first().map(|seg| seg.y2), Some(128 * UNIT));
-    assert_eq!(rt;
+    let found = (
+        level.root(),
+        level.segs().first().map(|seg| seg.y2),
         level.sectors().first().map(|sector| sector.light),
-        Some(160)
+        level.sides().len(),
     );
-    assert_eq!(rt; level.sides().len(), 1);
+    assert_eq!(rt; found, (Child::Leaf(0), Some(128 * UNIT), Some(160), 1));
+}
+
+#[test]
+fn a_room_is_read(rt: HostRuntime) -> Result<(), Fail> {
+    let (label, level) = read(rt.alloc(), "map01", (0, b'P'), 99, 64)??;
+    assert_eq!(rt; label, LumpNo(0));
+    look_at(&rt, &level);
     Ok(())
+}
+
+// What stops the reading of MAP01 of the file with one byte changed, or of another map.
+fn fault_of(
+    alloc: Global,
+    name: &str,
+    change: (usize, u8),
+    failing: u64,
+    size: u32,
+) -> Result<Option<LevelFault>, Fail> {
+    Ok(read(alloc, name, change, failing, size)?.err())
 }
 
 #[test]
@@ -98,7 +172,7 @@ fn a_map_is_refused(rt: HostRuntime) -> Result<(), Fail> {
         ("MAP01", (216, 3), MapRefusal::NoLeaf),
         ("MAP01", (32, 1), line),
     ] {
-        let fault = read(rt.alloc(), name, change, 99, 64)?.err();
+        let fault = fault_of(rt.alloc(), name, change, 99, 64)?;
         assert_eq!(rt; fault, Some(LevelFault::Refused(refusal)));
     }
     Ok(())
@@ -110,14 +184,12 @@ fn a_map_is_not_read(rt: HostRuntime) -> Result<(), Fail> {
         wanted: 76,
         widest: 64,
     };
+    let alloc = rt.alloc();
     assert_eq!(rt;
-        read(rt.alloc(), "MAP01", (0, b'P'), 8, 64)?.err(),
+        fault_of(alloc, "MAP01", (0, b'P'), 8, 64)?,
         Some(LevelFault::ReadFault)
     );
-    assert_eq!(rt;
-        read(rt.alloc(), "MAP01", (136, 50), 99, 64)?.err(),
-        Some(full)
-    );
-    assert!(rt; read(rt.alloc(), "MAP01", (136, 50), 99, 128)?.is_ok());
+    assert_eq!(rt; fault_of(alloc, "MAP01", (136, 50), 99, 64)?, Some(full));
+    assert!(rt; read(alloc, "MAP01", (136, 50), 99, 128)?.is_ok());
     Ok(())
 }

@@ -1,5 +1,7 @@
 // The things of a level of two sectors, in each skill, with values from outside the definitions.
-ghost use Rattle.std.specs.Prelude.{◌≤◌};
+ghost use Rattle.std.specs.Prelude.{◌≡◌, ◌≤◌, true, false, OnOk, replicate, slice_set};
+ghost use Rattle.level_rules.specs.maps.Lumps.{lump_no};
+ghost use Rattle.map_lumps.specs.Builders.{all_added, is_added};
 
 use crate::places::{PlacedThings, place_things, sector_at};
 use art_rules::Need;
@@ -7,6 +9,7 @@ use csv_tables::ThingTable;
 use level_rules::PlacedThing;
 use map_lumps::{Level, LevelBuilder, MapFault, MapLump};
 use std::alloc::{AllocError, Global};
+use std::process::Abort;
 
 const UNIT: i32 = 65536;
 
@@ -66,39 +69,66 @@ fn bytes_of(alloc: Global, lump: MapLump) -> Result<Vec<u8>, AllocError> {
     Ok(bytes)
 }
 
+// Adds a lump of numbers.
+#[tactic(auto, unfolding(map_lumps::specs::Builders::with_lump))]
+fn add_words(alloc: Global, builder: &mut LevelBuilder, lump: MapLump) -> Result<(), MapFault>
+    requires { is_added builder.old lump ≡ false }
+    ensures { OnOk result (builder.new.added ≡ slice_set builder.old.added (lump_no lump) true) }
+{
+    let bytes = bytes_of(alloc, lump)?;
+    builder.add(alloc, lump, &bytes)
+}
+
+// Adds all lumps.
 #[tactic(auto, unfolding(map_lumps::specs::Builders::empty_builder, map_lumps::specs::Builders::is_added, map_lumps::specs::Builders::with_lump, level_rules::specs::maps::Lumps::lump_no))]
+fn add_all(alloc: Global, builder: &mut LevelBuilder) -> Result<(), MapFault>
+    requires { builder.old.added ≡ replicate 8 false }
+    ensures { OnOk result (builder.new.added ≡ all_added) }
+{
+    add_words(alloc, builder, MapLump::Things)?;
+    add_words(alloc, builder, MapLump::Linedefs)?;
+    builder.add(alloc, MapLump::Sidedefs, sides())?;
+    add_words(alloc, builder, MapLump::Vertexes)?;
+    add_words(alloc, builder, MapLump::Segs)?;
+    add_words(alloc, builder, MapLump::Ssectors)?;
+    add_words(alloc, builder, MapLump::Nodes)?;
+    builder.add(alloc, MapLump::Sectors, sectors())
+}
+
+#[tactic(auto, unfolding(map_lumps::specs::Builders::empty_builder))]
 fn level(alloc: Global) -> Result<Level, MapFault> {
     let mut builder = LevelBuilder::new();
-    builder.add(alloc, MapLump::Things, &bytes_of(alloc, MapLump::Things)?)?;
-    builder.add(
-        alloc,
-        MapLump::Linedefs,
-        &bytes_of(alloc, MapLump::Linedefs)?,
-    )?;
-    builder.add(alloc, MapLump::Sidedefs, sides())?;
-    builder.add(
-        alloc,
-        MapLump::Vertexes,
-        &bytes_of(alloc, MapLump::Vertexes)?,
-    )?;
-    builder.add(alloc, MapLump::Segs, &bytes_of(alloc, MapLump::Segs)?)?;
-    builder.add(
-        alloc,
-        MapLump::Ssectors,
-        &bytes_of(alloc, MapLump::Ssectors)?,
-    )?;
-    builder.add(alloc, MapLump::Nodes, &bytes_of(alloc, MapLump::Nodes)?)?;
-    builder.add(alloc, MapLump::Sectors, sectors())?;
+    add_all(alloc, &mut builder)?;
     builder.finish(alloc)
 }
 
 // The things of the level in a skill.
-fn placed(alloc: Global, skill: u8) -> Option<PlacedThings>
+fn placed(alloc: Global, skill: u8) -> Option<Box<PlacedThings>>
     requires { (1 ≤ skill) × (skill ≤ 5) }
 {
     let level = level(alloc).ok()?;
+    placed_in(alloc, &level, skill)
+}
+
+// The same, of this level.
+fn placed_in(alloc: Global, level: &Level, skill: u8) -> Option<Box<PlacedThings>>
+    requires { (1 ≤ skill) × (skill ≤ 5) }
+{
     let table = ThingTable::read(alloc, table()).ok()?;
-    place_things(alloc, &level, &table, skill).ok()
+    placed_by(alloc, level, &table, skill)
+}
+
+// The same, with the looks of this table.
+fn placed_by(
+    alloc: Global,
+    level: &Level,
+    table: &ThingTable,
+    skill: u8,
+) -> Option<Box<PlacedThings>>
+    requires { (1 ≤ skill) × (skill ≤ 5) }
+{
+    let placed = place_things(alloc, level, table, skill).ok()?;
+    Box::new(alloc, placed).ok()
 }
 
 // The numbers of things.
@@ -106,11 +136,35 @@ fn numbers(alloc: Global, things: &[PlacedThing]) -> Result<Vec<u16>, AllocError
     things.iter().map(|thing| thing.thing).collect(alloc)
 }
 
+// Looks for the sectors at two points.
+fn look_at_points(rt: &impl Abort, level: &Level) {
+    assert_eq!(rt; sector_at(level, 100 * UNIT, 0), 0);
+    assert_eq!(rt; sector_at(level, 64 * UNIT, 0), 1);
+}
+
 #[test]
 fn a_thing_stands_in_the_sector_at_its_point(rt: HostRuntime) {
     let level = level(rt.alloc()).expect(&rt, "level");
-    assert_eq!(rt; sector_at(&level, 100 * UNIT, 0), 0);
-    assert_eq!(rt; sector_at(&level, 64 * UNIT, 0), 1);
+    look_at_points(&rt, &level);
+}
+
+// Compares the numbers of things.
+fn compare_numbers(rt: &impl Abort, alloc: Global, things: &[PlacedThing], expected: &[u16]) {
+    let numbers = numbers(alloc, things).expect(rt, "memory");
+    assert_eq!(rt; numbers.as_slice(), expected);
+}
+
+// Compares the numbers of the things in sectors 0 and 1.
+fn compare_placed(
+    rt: &impl Abort,
+    alloc: Global,
+    placed: &PlacedThings,
+    front: &[u16],
+    behind: &[u16],
+) {
+    compare_numbers(rt, alloc, placed.of(0), front);
+    compare_numbers(rt, alloc, placed.of(1), behind);
+    assert_eq!(rt; placed.of(2).len(), 0);
 }
 
 #[test]
@@ -125,25 +179,12 @@ fn things_are_placed_by_skill_and_drawn_last_first(rt: HostRuntime) {
     ];
     for (skill, front, behind) in expected {
         let placed = placed(alloc, skill).expect(&rt, "memory");
-        assert_eq!(rt;
-            numbers(alloc, placed.of(0))
-                .expect(&rt, "memory")
-                .as_slice(),
-            front
-        );
-        assert_eq!(rt;
-            numbers(alloc, placed.of(1))
-                .expect(&rt, "memory")
-                .as_slice(),
-            behind
-        );
-        assert_eq!(rt; placed.of(2).len(), 0);
+        compare_placed(&rt, alloc, &placed, front, behind);
     }
 }
 
-#[test]
-fn things_stand_hang_and_are_turned(rt: HostRuntime) {
-    let placed = placed(rt.alloc(), 3).expect(&rt, "memory");
+// Looks at the first thing of each sector, and at the angle of the first of all.
+fn look_at_things(rt: &impl Abort, placed: &PlacedThings) {
     let hanging = PlacedThing {
         thing: 2,
         x: 120 * UNIT,
@@ -173,15 +214,25 @@ fn things_stand_hang_and_are_turned(rt: HostRuntime) {
 }
 
 #[test]
-fn needs_and_shadows_are_those_of_the_rows(rt: HostRuntime) {
+fn things_stand_hang_and_are_turned(rt: HostRuntime) {
     let placed = placed(rt.alloc(), 3).expect(&rt, "memory");
-    let needs = placed.needs(rt.alloc()).expect(&rt, "memory");
+    look_at_things(&rt, &placed);
+}
+
+// Looks at what frames things need, and which is a shadow.
+fn look_at_needs(rt: &impl Abort, alloc: Global, placed: &PlacedThings) {
+    let needs = placed.needs(alloc).expect(rt, "memory");
     let need = Need {
         thing: 2,
         sprite: *b"GOR1",
         frame: b'C',
     };
-    assert_eq!(rt; needs.len(), 3);
-    assert_eq!(rt; needs.last().copied(), Some(need));
-    assert_eq!(rt; placed.first_shadow(), Some(2));
+    let found = (needs.len(), needs.last().copied(), placed.first_shadow());
+    assert_eq!(rt; found, (3, Some(need), Some(2)));
+}
+
+#[test]
+fn needs_and_shadows_are_those_of_the_rows(rt: HostRuntime) {
+    let placed = placed(rt.alloc(), 3).expect(&rt, "memory");
+    look_at_needs(&rt, rt.alloc(), &placed);
 }

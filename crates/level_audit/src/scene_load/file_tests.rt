@@ -7,6 +7,7 @@ use command_line::Files;
 use csv_tables::CsvRefusal;
 use outside::{Fault, MemoryFile, MemoryShelf};
 use std::alloc::{AllocError, Global};
+use std::process::Abort;
 use std::test::Fail;
 use view_rules::{MIN_SIZE, TABLES_BYTES, TablesRefusal};
 use wad_dir::DirRefusal;
@@ -83,39 +84,54 @@ fn put(
     Ok(())
 }
 
-fn shelf_of(alloc: Global, set: &Set<'_>) -> Result<MemoryShelf, AllocError> {
+fn put_tables(alloc: Global, files: &mut Vec<MemoryFile>, set: &Set<'_>) -> Result<(), AllocError>
+    ensures { length files.new.items ≤ length files.old.items + 1 }
+{
     let tables = tables_of(alloc, set.length)?;
+    put(alloc, files, set.absent, "tables", &tables)
+}
+
+// Puts the files of a set.
+fn put_all(alloc: Global, files: &mut Vec<MemoryFile>, set: &Set<'_>) -> Result<(), AllocError>
+    ensures { length files.new.items ≤ length files.old.items + 5 }
+{
+    put_tables(alloc, files, set)?;
+    put(alloc, files, set.absent, "things", set.things.as_bytes())?;
+    put(alloc, files, set.absent, "path", set.path.as_bytes())?;
+    put(alloc, files, set.absent, "weapons", set.weapons.as_bytes())?;
+    put(alloc, files, set.absent, "wad", set.wad.as_bytes())
+}
+
+fn shelf_of(alloc: Global, set: &Set<'_>) -> Result<MemoryShelf, AllocError> {
     let mut files = Vec::new(alloc);
-    put(alloc, &mut files, set.absent, "tables", &tables)?;
-    put(
-        alloc,
-        &mut files,
-        set.absent,
-        "things",
-        set.things.as_bytes(),
-    )?;
-    put(alloc, &mut files, set.absent, "path", set.path.as_bytes())?;
-    put(
-        alloc,
-        &mut files,
-        set.absent,
-        "weapons",
-        set.weapons.as_bytes(),
-    )?;
-    put(alloc, &mut files, set.absent, "wad", set.wad.as_bytes())?;
+    put_all(alloc, &mut files, set)?;
     Ok(MemoryShelf::new(files, Vec::new(alloc)))
 }
 
 // Reads a set of files, its WAD twice.
-fn read_set(alloc: Global, set: &Set<'_>, weapon: Option<&str>) -> Result<SceneFiles, LoadFault> {
+fn read_set(
+    alloc: Global,
+    set: &Set<'_>,
+    weapon: Option<&str>,
+) -> Result<Box<SceneFiles>, LoadFault> {
+    let mut shelf = shelf_of(alloc, set)?;
+    read_on(alloc, &mut shelf, weapon)
+}
+
+// The same, from this shelf.
+fn read_on(
+    alloc: Global,
+    shelf: &mut MemoryShelf,
+    weapon: Option<&str>,
+) -> Result<Box<SceneFiles>, LoadFault> {
     let names = Files {
         tables: "tables",
         things: "things",
         path: "path",
         weapon,
     };
-    let mut shelf = shelf_of(alloc, set)?;
-    read_files(alloc, &names, &["wad", "wad"], MIN_SIZE, &mut shelf)
+    let files = read_files(alloc, &names, &["wad", "wad"], MIN_SIZE, shelf)?;
+    Ok(Box::new(alloc, files)?)
 }
 
 // What stops the reading of a set of files.
@@ -123,18 +139,24 @@ fn fault_of(alloc: Global, set: &Set<'_>) -> Option<LoadFault> {
     read_set(alloc, set, Some("weapons")).err()
 }
 
+// Looks at the files of the good set.
+fn look_at(rt: &impl Abort, files: &SceneFiles) {
+    assert_eq!(rt;
+        (files.tables.size(), files.tables.tangent(3072)),
+        (3, 65536)
+    );
+    assert!(rt; files.things.row(5).is_some());
+    assert!(rt; files.things.row(6).is_none());
+    assert_eq!(rt; (files.path.views().len(), files.dir.count()), (1, 2));
+    assert!(rt; files.weapons.is_some());
+}
+
 #[test]
 fn a_set_of_files_is_accepted(rt: HostRuntime) -> Result<(), Fail> {
     let Ok(files) = read_set(rt.alloc(), &GOOD, Some("weapons")) else {
         return Err("accepted".into());
     };
-    assert_eq!(rt; files.tables.size(), 3);
-    assert_eq!(rt; files.tables.tangent(3072), 65536);
-    assert!(rt; files.things.row(5).is_some());
-    assert!(rt; files.things.row(6).is_none());
-    assert_eq!(rt; files.path.views().len(), 1);
-    assert!(rt; files.weapons.is_some());
-    assert_eq!(rt; files.dir.count(), 2);
+    look_at(&rt, &files);
     Ok(())
 }
 
@@ -151,6 +173,10 @@ fn the_weapon_file_may_be_left_out(rt: HostRuntime) -> Result<(), Fail> {
     Ok(())
 }
 
+fn refused(refusal: Refusal) -> Option<LoadFault> {
+    Some(Fault::Refused(refusal))
+}
+
 // Each file is refused, and what comes after it would stop the reading too.
 #[test]
 fn the_first_refusal_is_told(rt: HostRuntime) {
@@ -163,20 +189,24 @@ fn the_first_refusal_is_told(rt: HostRuntime) {
         wad: SHORT,
         absent: "none",
     };
-    let length = Refusal::Tables(TablesRefusal::Length { found: 65539 });
-    assert_eq!(rt; fault_of(alloc, &set), Some(Fault::Refused(length)));
+    let tables = fault_of(alloc, &set);
     set.length = TABLES_BYTES;
-    let repeat = Refusal::Things(CsvRefusal::Repeat { row: 2 });
-    assert_eq!(rt; fault_of(alloc, &set), Some(Fault::Refused(repeat)));
+    let things = fault_of(alloc, &set);
     set.things = THINGS;
-    let fields = Refusal::Path(CsvRefusal::Fields { row: 1 });
-    assert_eq!(rt; fault_of(alloc, &set), Some(Fault::Refused(fields)));
+    let path = fault_of(alloc, &set);
     set.path = PATH;
-    let header = Refusal::Weapons(CsvRefusal::Header);
-    assert_eq!(rt; fault_of(alloc, &set), Some(Fault::Refused(header)));
+    let weapons = fault_of(alloc, &set);
     set.weapons = WEAPONS;
-    let short = Refusal::Wad(DirRefusal::Short { file: 0 });
-    assert_eq!(rt; fault_of(alloc, &set), Some(Fault::Refused(short)));
+    let wad = fault_of(alloc, &set);
+    let faults = [tables, things, path, weapons, wad];
+    let expected = [
+        refused(Refusal::Tables(TablesRefusal::Length { found: 65539 })),
+        refused(Refusal::Things(CsvRefusal::Repeat { row: 2 })),
+        refused(Refusal::Path(CsvRefusal::Fields { row: 1 })),
+        refused(Refusal::Weapons(CsvRefusal::Header)),
+        refused(Refusal::Wad(DirRefusal::Short { file: 0 })),
+    ];
+    assert_eq!(rt; faults, expected);
 }
 
 // Each file is left out, and what comes after it is refused.
