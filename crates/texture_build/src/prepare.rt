@@ -137,7 +137,7 @@ fn prepare_if<S: Shelf>(
     ensures wanted { IfOk result (λ texture. is_some texture ≡ wanted) }
 {
     if wanted {
-        Ok(Some(prepare_texture(alloc, tex, lists, dir, cache, shelf)?))
+        Ok(Some(prepare_texture(alloc, lists, tex, dir, cache, shelf)?))
     } else {
         Ok(None)
     }
@@ -146,8 +146,8 @@ fn prepare_if<S: Shelf>(
 // A texture of the lists, prepared.
 fn prepare_texture<S: Shelf>(
     alloc: Global,
-    tex: TexNo,
     lists: &ListedTextures,
+    tex: TexNo,
     dir: &Directory,
     cache: &mut LumpCache,
     shelf: &mut S,
