@@ -10,7 +10,7 @@ ghost use Rattle.pixel_strips.specs.Standing.{StandsInFrame};
 ghost use Rattle.plane_draw.specs.Planes.{CanDrawPlane, IsSky, IsFlatOf};
 ghost use Rattle.plane_draw.specs.Scenes.{AreSameHands, CanDrawAt, CanDrawPlanes, PaintsPlanes, first_planes, hands_state};
 ghost use Rattle.plane_draw.specs.Tools.{AreSameTools, HasToolsArt, HasToolsSky, HoldsTools};
-ghost use Rattle.std.specs.Prelude.{◌≡◌, ◌<◌, ◌≤◌, ℕ, List, All, IfSome, OnOk, length};
+ghost use Rattle.std.specs.Prelude.{◌<◌, ◌≤◌, ℕ, List, All, IfSome, OnOk, length};
 ghost use Rattle.texture_build.specs.Draws.{CanDraw, FitBeside, DrawsWith};
 ghost use Rattle.visplanes.specs.Planes.{plane_at};
 

@@ -1,7 +1,7 @@
 // The pixels of a sky plane.
 //
 // Rules: `picture_rules/plane`, Skies. The original: `R_DrawPlanes`, r_plane.c.
-ghost use Rattle.std.specs.Prelude.{◌≡◌, ◌<◌, ◌≤◌, ℕ, List, Some, length};
+ghost use Rattle.std.specs.Prelude.{◌≡◌, ◌<◌, ◌≤◌, ℕ, List, Some};
 ghost use Rattle.outside.specs.Shelf.{ShelfView};
 ghost use Rattle.art_rules.specs.declared.ColumnLookup.{ColumnLookup};
 ghost use Rattle.pixel_rules.specs.declared.TheConstants.{SKY};
