@@ -126,7 +126,7 @@ fn audited_with(
 ) -> Result<ZoneSizes, AuditFault>
     requires { length dir.now.lumps ≤ cache.old.lumps }
 {
-    let scene = audit(alloc, dir, cache, shelf, things, map, 3)?;
+    let scene = Box::new(alloc, audit(alloc, dir, cache, shelf, things, map, 3)?)?;
     Ok(scene.sizes())
 }
 

@@ -88,7 +88,7 @@ fn loaded_on(
     requires skill { level.now.settings.skill ≡ 3 }
     requires size { level.now.settings.size ≡ 11 }
 {
-    let loaded = load_scene(alloc, level, &["made.wad"], shelf)?;
+    let loaded = Box::new(alloc, load_scene(alloc, level, &["made.wad"], shelf)?)?;
     Ok(Seen {
         sizes: loaded.scene.sizes(),
         has_weapons: loaded.weapons.is_some(),
