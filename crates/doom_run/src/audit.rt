@@ -1,20 +1,20 @@
 // The job `audit`: how large a zone has to be for a level that is accepted.
-ghost use Rattle.std.specs.Prelude.{◌≡◌, ◌≤◌, ℕ, List, map, IfErr, IfOk};
-ghost use Rattle.outside.specs.Causes.{FaultsRose};
-ghost use Rattle.outside.specs.Shelf.{File, IsLaterShelf, Holds};
-ghost use Rattle.outside.specs.Faults.{HasCauses, itself};
-ghost use Rattle.zone_rules.specs.Zones.{IsZoneSize};
-ghost use Rattle.view_rules.specs.declared.TheConstants.{MIN_SIZE, MAX_SIZE};
-ghost use Rattle.lump_cache.specs.Calls.{IfFull};
 ghost use Rattle.command_line.specs.LevelJobs.{level_job_value};
 ghost use Rattle.command_line.specs.declared.command.LevelTask.TheVariants.{Audit};
-ghost use Rattle.outside.specs.Stops.{ResultIsOrAbsent};
-ghost use Rattle.level_audit.specs.scene_load.Fulls.{IsFullLoad};
 ghost use Rattle.doom_run.specs.Audits.{audit_verdict};
 ghost use Rattle.doom_run.specs.Ends.{DeliversAt};
 ghost use Rattle.doom_run.specs.Leasts.{level_least};
 ghost use Rattle.doom_run.specs.Takes.{TakesOnce};
 ghost use Rattle.doom_run.specs.Verdict.{audited};
+ghost use Rattle.level_audit.specs.scene_load.Fulls.{IsFullLoad};
+ghost use Rattle.lump_cache.specs.Calls.{IfFull};
+ghost use Rattle.outside.specs.Causes.{FaultsRose};
+ghost use Rattle.outside.specs.Faults.{HasCauses, itself};
+ghost use Rattle.outside.specs.Shelf.{File, IsLaterShelf, Holds};
+ghost use Rattle.outside.specs.Stops.{ResultIsOrAbsent};
+ghost use Rattle.std.specs.Prelude.{◌≡◌, ◌≤◌, ℕ, List, map, IfErr, IfOk};
+ghost use Rattle.view_rules.specs.declared.TheConstants.{MIN_SIZE, MAX_SIZE};
+ghost use Rattle.zone_rules.specs.Zones.{IsZoneSize};
 
 use crate::notes::put_pair;
 use crate::status::Status;

@@ -2,21 +2,21 @@
 //
 // Rules: `art_rules`, Wanted; `sprite_book`, Books; `scene_rules`, Scenes. The original:
 // `R_PrecacheLevel`, r_data.c.
-ghost use Rattle.std.specs.Prelude.{◌≡◌, ◌<◌, ◌≤◌, All, length, map, option_map, IfOk, IfSome, OnOk};
-ghost use Rattle.outside.specs.Faults.{from_below, itself};
-ghost use Rattle.lump_rules.specs.Lookups.{last_of};
-ghost use Rattle.lump_cache.specs.Calls.{ReadsLumps};
 ghost use Rattle.art_rules.specs.Books.{book_lumps};
 ghost use Rattle.art_rules.specs.Wanted.{prepared_textures};
-ghost use Rattle.texture_build.specs.Asked.{IsWantedPatch};
-ghost use Rattle.texture_build.specs.Views.{AllTexturesListed, AllThere, IsPrepared};
-ghost use Rattle.sprite_book.specs.Calls.{IsWanted};
 ghost use Rattle.level_scene.specs.Bounds.{AreBelow};
-ghost use Rattle.scene_rules.specs.declared.refusal.AuditRefusal.TheVariants.{Sprite, Texture};
+ghost use Rattle.lump_cache.specs.Calls.{ReadsLumps};
+ghost use Rattle.lump_rules.specs.Lookups.{last_of};
+ghost use Rattle.outside.specs.Faults.{from_below, itself};
 ghost use Rattle.scene_rules.specs.Places.{need_of};
 ghost use Rattle.scene_rules.specs.Scenes.{book_in};
 ghost use Rattle.scene_rules.specs.Sides.{is_wanted_texture};
+ghost use Rattle.scene_rules.specs.declared.refusal.AuditRefusal.TheVariants.{Sprite, Texture};
 ghost use Rattle.sound_scene.specs.Whole.{AreSidePrepared};
+ghost use Rattle.sprite_book.specs.Calls.{IsWanted};
+ghost use Rattle.std.specs.Prelude.{◌≡◌, ◌<◌, ◌≤◌, All, length, map, option_map, IfOk, IfSome, OnOk};
+ghost use Rattle.texture_build.specs.Asked.{IsWantedPatch};
+ghost use Rattle.texture_build.specs.Views.{AllTexturesListed, AllThere, IsPrepared};
 
 use crate::AuditFault;
 use crate::fault::{above_sprites, above_textures};

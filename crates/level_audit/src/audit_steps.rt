@@ -137,7 +137,7 @@ pub fn audit<S: Shelf>(
 fn audit_rest<S: Shelf>(
     alloc: Global,
     colormap: LumpNo,
-    request: &MapRequest<'_>,
+    request: &MapRequest,
     dir: &Directory,
     cache: &mut LumpCache,
     shelf: &mut S,

@@ -57,7 +57,7 @@ pub struct MapRequest<'a> {
 pub fn read_scene<S: Shelf>(
     alloc: Global,
     base: ReadBase,
-    request: &MapRequest<'_>,
+    request: &MapRequest,
     dir: &Directory,
     cache: &mut LumpCache,
     shelf: &mut S,
@@ -88,7 +88,7 @@ fn read_art<S: Shelf>(
     alloc: Global,
     base: ReadBase,
     faces: ReadFaces,
-    request: &MapRequest<'_>,
+    request: &MapRequest,
     dir: &Directory,
     cache: &mut LumpCache,
     shelf: &mut S,

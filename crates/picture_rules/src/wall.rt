@@ -39,9 +39,6 @@ pub struct WallFacts {
 /// The bits of fraction of an edge. The original: `HEIGHTBITS`, r_segs.c.
 pub const EDGE_BITS: u32 = 12;
 
-/// The most that an edge's fraction has. The original: `HEIGHTUNIT - 1`, r_segs.c.
-pub const MAX_EDGE_FRACTION: i32 = 0xfff;
-
 /// The scale and the four edges of a fragment at a column.
 ///
 /// The scale is 16.16, pixels a map unit; an edge is a row with 12 bits of fraction. The original:
@@ -89,12 +86,18 @@ pub struct Part {
     pub mid: i32,
 }
 
+/// The most that an edge's fraction has. The original: `HEIGHTUNIT - 1`, r_segs.c.
+pub const MAX_EDGE_FRACTION: i32 = 0xfff;
+
 /// Rows first to last, none where first is past last.
 #[derive(Clone, Copy, Debug, PartialEq, Eq)]
 pub struct RowRange {
     pub first: i32,
     pub last: i32,
 }
+
+/// The most openings of a view, where no option raises it. The original: `MAXOPENINGS`, r_plane.c.
+pub const MAX_OPENINGS: u32 = 20480;
 
 /// The numbers of a fragment.
 ///
@@ -131,9 +134,6 @@ pub enum Clip {
     Constant(i32),
     Saved(u32),
 }
-
-/// The most openings of a view, where no option raises it. The original: `MAXOPENINGS`, r_plane.c.
-pub const MAX_OPENINGS: u32 = 20480;
 
 /// The most openings to which an option may raise that limit.
 ///

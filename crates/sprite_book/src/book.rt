@@ -1,20 +1,20 @@
 // A book of frames.
-ghost use Rattle.std.specs.Prelude.{◌≡◌, ◌<◌, ◌≤◌, ◌+◌, ◌↔◌, true, ℕ, List, length, map, All, Contains, Option, Some, Ok, IfOk, IfErr, IfSome};
-ghost use Rattle.std.specs.List.Sorted.{IsStrictlyIncreasing};
-ghost use Rattle.outside.specs.Shelf.{IsLaterShelf, NameFiles};
-ghost use Rattle.outside.specs.Faults.{ResultIs, HasCauses, itself};
-ghost use Rattle.lump_rules.specs.Lookups.{lump_at};
-ghost use Rattle.lump_rules.specs.Contents.{AllWithin};
-ghost use Rattle.zone_rules.specs.declared.TheConstants.{MIN_FRAGMENT};
-ghost use Rattle.zone_rules.specs.Zones.{block_size, bytes_of};
-ghost use Rattle.zone_rules.specs.Orders.{Item, has_item, IsInOrder};
+ghost use Rattle.art_rules.specs.Books.{book_of, outlines_of, outline, frame_of, outline_of, each_of, first_needs, picked, book_lumps};
 ghost use Rattle.art_rules.specs.Frames.{mentions};
+ghost use Rattle.art_rules.specs.declared.shapes.Frame.{Frame};
 ghost use Rattle.lump_cache.specs.Caches.{IsFaithful, IsAtRest, KeepsCounts, lump_owner, composite_owner};
 ghost use Rattle.lump_cache.specs.Calls.{ReadsLumps, IfFull, LeavesInOrder};
-ghost use Rattle.art_rules.specs.declared.shapes.Frame.{Frame};
-ghost use Rattle.art_rules.specs.Books.{book_of, outlines_of, outline, frame_of, outline_of, each_of, first_needs, picked, book_lumps};
+ghost use Rattle.lump_rules.specs.Contents.{AllWithin};
+ghost use Rattle.lump_rules.specs.Lookups.{lump_at};
+ghost use Rattle.outside.specs.Faults.{ResultIs, HasCauses, itself};
+ghost use Rattle.outside.specs.Shelf.{IsLaterShelf, NameFiles};
 ghost use Rattle.sprite_book.specs.Calls.{IsWanted};
 ghost use Rattle.sprite_book.specs.Indexes.{IsPlaceOf};
+ghost use Rattle.std.specs.List.Sorted.{IsStrictlyIncreasing};
+ghost use Rattle.std.specs.Prelude.{◌≡◌, ◌<◌, ◌≤◌, ◌+◌, ◌↔◌, true, ℕ, List, length, map, All, Contains, Option, Some, Ok, IfOk, IfErr, IfSome};
+ghost use Rattle.zone_rules.specs.Orders.{Item, has_item, IsInOrder};
+ghost use Rattle.zone_rules.specs.Zones.{block_size, bytes_of};
+ghost use Rattle.zone_rules.specs.declared.TheConstants.{MIN_FRAGMENT};
 
 use crate::fault::SpriteFault;
 use crate::list::{FrameList, list_pictures};

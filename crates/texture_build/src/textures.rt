@@ -2,21 +2,21 @@
 //
 // Rules: `art_rules`, Textures, Columns, Lookups and Wanted; `specs/Views`, `specs/Sources`,
 // `specs/Asked` and `specs/Composites`. The original: r_data.c.
-ghost use Rattle.std.specs.Prelude.{◌≡◌, ◌<◌, ◌≤◌, ℕ, [], List, All, length, is_some, map, option_map, IfOk, IfSome, IsSome, Ok, OnErr, OnOk, Some};
-ghost use Rattle.outside.specs.Faults.{itself};
-ghost use Rattle.lump_rules.specs.Contents.{named_bytes};
-ghost use Rattle.lump_rules.specs.declared.wad.Lump.{Lump};
-ghost use Rattle.lump_rules.specs.Lookups.{last_of};
-ghost use Rattle.lump_cache.specs.Calls.{ReadsLumps};
-ghost use Rattle.lump_cache.specs.Sizes.{StandsBeside};
 ghost use Rattle.art_rules.specs.Columns.{is_single};
 ghost use Rattle.art_rules.specs.Lookups.{single_place};
 ghost use Rattle.art_rules.specs.Textures.{mask_of, texture_at, texture_lists, texture_number};
 ghost use Rattle.art_rules.specs.Wanted.{patch_lumps, prepared_textures};
-ghost use Rattle.texture_lists.specs.Asked.{IsListLump};
+ghost use Rattle.lump_cache.specs.Calls.{ReadsLumps};
+ghost use Rattle.lump_cache.specs.Sizes.{StandsBeside};
+ghost use Rattle.lump_rules.specs.Contents.{named_bytes};
+ghost use Rattle.lump_rules.specs.Lookups.{last_of};
+ghost use Rattle.lump_rules.specs.declared.wad.Lump.{Lump};
+ghost use Rattle.outside.specs.Faults.{itself};
+ghost use Rattle.std.specs.Prelude.{◌≡◌, ◌<◌, ◌≤◌, ℕ, [], List, All, length, is_some, map, option_map, IfOk, IfSome, IsSome, Ok, OnErr, OnOk, Some};
 ghost use Rattle.texture_build.specs.Asked.{IsWantedPatch, size_of};
 ghost use Rattle.texture_build.specs.Sources.{IsColumnThere, column_in, own_lookup, source_of};
 ghost use Rattle.texture_build.specs.Views.{AllTexturesListed, AllThere, ArePatchesThere, IsPrepared, is_wanted, prepared_at, prepared_texture};
+ghost use Rattle.texture_lists.specs.Asked.{IsListLump};
 
 mod columns;
 
