@@ -7,6 +7,8 @@
 #[cfg(test)]
 mod constants;
 #[cfg(test)]
+mod made;
+#[cfg(test)]
 mod messages;
 #[cfg(test)]
 mod shelf_tests;

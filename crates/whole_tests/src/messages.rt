@@ -4,85 +4,88 @@ use angle_tables::TablesFault;
 use art_rules::{SpriteRefusal, TexRefusal};
 use command_line::CommandFault;
 use csv_tables::{CsvFault, CsvRefusal};
+use frame_core::{LimitKind, ViewFault};
 use level_rules::MapRefusal;
 use level_scene::SceneFault;
 use lump_rules::DirRefusal;
 use map_lumps::MapFault;
 use outside::{Failed, Fault, PutFault};
 use scene_rules::{ArtRefusal, AuditRefusal, SceneRefusal, WeaponRefusal};
+use std::fmt::Display;
+use std::process::Abort;
 use std::test::Fail;
 use view_rules::TablesRefusal;
 use wad_dir::DirFault;
 use zone_heap::{ZoneFull, ZoneMake};
 
+// Compares what a refusal or a fault reads as with a sentence.
+fn reads<R: Abort + AllocGlobal, M: Display>(
+    rt: &R,
+    message: &M,
+    sentence: &str,
+) -> Result<(), Fail> {
+    let read = message.to_string(rt.alloc())?;
+    assert_eq!(rt; read.as_str(), sentence);
+    Ok(())
+}
+
 #[test]
 fn a_refusal_of_tables_says_which_entry_is_wrong(rt: HostRuntime) -> Result<(), Fail> {
-    let alloc = rt.alloc();
-    for (refusal, sentence) in [
-        (
-            TablesRefusal::Length { found: 65539 },
-            "the file of angle tables has 65539 bytes, but the tables take 65540",
-        ),
-        (
-            TablesRefusal::Angle { index: 2048 },
-            "angle 2048 of the angle tables is past an eighth of a turn, or below the one before it",
-        ),
-    ] {
-        let message = format!(in alloc; "{refusal}")?;
-        assert_eq!(rt; message.as_str(), sentence);
-    }
-    let fault = TablesFault::Refused(TablesRefusal::Tangent { index: 3072 });
-    let message = format!(in alloc; "{fault}")?;
-    let sentence = "tangent 3072 of the angle tables is below the one before it";
-    assert_eq!(rt; message.as_str(), sentence);
-    Ok(())
+    let length = TablesRefusal::Length { found: 65539 };
+    reads(
+        &rt,
+        &length,
+        "the file of angle tables has 65539 bytes, but the tables take 65540",
+    )?;
+    let angle = TablesRefusal::Angle { index: 2048 };
+    let sentence =
+        "angle 2048 of the angle tables is past an eighth of a turn, or below the one before it";
+    reads(&rt, &angle, sentence)?;
+    let tangent = TablesFault::Refused(TablesRefusal::Tangent { index: 3072 });
+    reads(
+        &rt,
+        &tangent,
+        "tangent 3072 of the angle tables is below the one before it",
+    )
 }
 
 #[test]
 fn a_refusal_of_a_text_table_says_which_field_is_wrong(rt: HostRuntime) -> Result<(), Fail> {
-    let alloc = rt.alloc();
-    for (refusal, sentence) in [
-        (
-            CsvRefusal::TooLong { bytes: 1048577 },
-            "the table has 1048577 bytes, but may have at most 1048576",
-        ),
-        (
-            CsvRefusal::Number { row: 12, column: 5 },
-            "row 12 of the table, column 5: the field is not a number",
-        ),
-    ] {
-        let message = format!(in alloc; "{refusal}")?;
-        assert_eq!(rt; message.as_str(), sentence);
-    }
-    let fault = CsvFault::Refused(CsvRefusal::Repeat { row: 31 });
-    let message = format!(in alloc; "{fault}")?;
-    let sentence = "row 31 of the table has the thing type of an earlier row";
-    assert_eq!(rt; message.as_str(), sentence);
-    Ok(())
+    let long = CsvRefusal::TooLong { bytes: 1048577 };
+    reads(
+        &rt,
+        &long,
+        "the table has 1048577 bytes, but may have at most 1048576",
+    )?;
+    let number = CsvRefusal::Number { row: 12, column: 5 };
+    reads(
+        &rt,
+        &number,
+        "row 12 of the table, column 5: the field is not a number",
+    )?;
+    let twice = CsvFault::Refused(CsvRefusal::Repeat { row: 31 });
+    reads(
+        &rt,
+        &twice,
+        "row 31 of the table has the thing type of an earlier row",
+    )
 }
 
 #[test]
 fn a_refusal_of_wads_says_which_entry_is_wrong(rt: HostRuntime) -> Result<(), Fail> {
-    let alloc = rt.alloc();
     let entry = DirRefusal::Entry { file: 2, index: 17 };
     let sentence = "WAD 2 ends before the lump of directory entry 17 does";
-    let message = format!(in alloc; "{entry}")?;
-    assert_eq!(rt; message.as_str(), sentence);
+    reads(&rt, &entry, sentence)?;
     let refused = DirFault::Refused(entry);
-    let message = format!(in alloc; "{refused}")?;
-    assert_eq!(rt; message.as_str(), sentence);
+    reads(&rt, &refused, sentence)?;
     let many = DirRefusal::TooMany;
-    let message = format!(in alloc; "{many}")?;
-    assert_eq!(rt; message.as_str(), "the WADs list more than 65535 lumps");
+    reads(&rt, &many, "the WADs list more than 65535 lumps")?;
     let absent = DirFault::ReadFault;
-    let message = format!(in alloc; "{absent}")?;
-    assert_eq!(rt; message.as_str(), "a WAD is absent or could not be read");
-    Ok(())
+    reads(&rt, &absent, "a WAD is absent or could not be read")
 }
 
 #[test]
 fn a_refusal_of_a_map_names_the_lump(rt: HostRuntime) -> Result<(), Fail> {
-    let alloc = rt.alloc();
     for (lump, sentence) in [
         (0, "THINGS has more than 65535 records"),
         (1, "LINEDEFS has more than 65535 records"),
@@ -93,166 +96,155 @@ fn a_refusal_of_a_map_names_the_lump(rt: HostRuntime) -> Result<(), Fail> {
         (6, "NODES has more than 65535 records"),
         (7, "SECTORS has more than 65535 records"),
     ] {
-        let refusal = MapRefusal::Size { lump };
-        let message = format!(in alloc; "{refusal}")?;
-        assert_eq!(rt; message.as_str(), sentence);
+        reads(&rt, &MapRefusal::Size { lump }, sentence)?;
     }
     Ok(())
 }
 
 #[test]
 fn a_refusal_of_a_map_says_which_record_is_wrong(rt: HostRuntime) -> Result<(), Fail> {
-    let alloc = rt.alloc();
     let index = MapRefusal::Index {
         lump: 4,
         record_no: 731,
         field: 3,
     };
-    let message = format!(in alloc; "{index}")?;
-    let sentence = "SEGS record 731: field 3 names nothing that is there";
-    assert_eq!(rt; message.as_str(), sentence);
-    let fault = MapFault::Refused(MapRefusal::TooDeep { node: 1025 });
-    let message = format!(in alloc; "{fault}")?;
-    let sentence = "NODES record 1025 is more than 1024 deep";
-    assert_eq!(rt; message.as_str(), sentence);
-    Ok(())
+    reads(
+        &rt,
+        &index,
+        "SEGS record 731: field 3 names nothing that is there",
+    )?;
+    let deep = MapFault::Refused(MapRefusal::TooDeep { node: 1025 });
+    reads(&rt, &deep, "NODES record 1025 is more than 1024 deep")
 }
 
 #[test]
 fn a_refusal_of_a_scene_says_what_is_missing(rt: HostRuntime) -> Result<(), Fail> {
-    let alloc = rt.alloc();
     let middle = SceneRefusal::Middle { side: 648 };
     let sentence =
         "SIDEDEFS record 648: a column of its masked mid texture has not exactly one patch";
-    let message = format!(in alloc; "{middle}")?;
-    assert_eq!(rt; message.as_str(), sentence);
+    reads(&rt, &middle, sentence)?;
     let refused = SceneFault::Refused(middle);
-    let message = format!(in alloc; "{refused}")?;
-    assert_eq!(rt; message.as_str(), sentence);
-    Ok(())
+    reads(&rt, &refused, sentence)
 }
 
 #[test]
 fn a_refusal_of_art_says_which_lump_is_wrong(rt: HostRuntime) -> Result<(), Fail> {
-    let alloc = rt.alloc();
-    let art = ArtRefusal::Colormap;
-    let message = format!(in alloc; "{art}")?;
-    let sentence = "COLORMAP is absent, or has fewer than 8192 bytes";
-    assert_eq!(rt; message.as_str(), sentence);
+    let colormap = ArtRefusal::Colormap;
+    reads(
+        &rt,
+        &colormap,
+        "COLORMAP is absent, or has fewer than 8192 bytes",
+    )?;
     let rotation = WeaponRefusal::MissingRotation {
         row: 9,
         rotation: 1,
     };
-    let message = format!(in alloc; "{rotation}")?;
-    let sentence = "weapon layer 9: no sprite lump has rotation 1 of its frame";
-    assert_eq!(rt; message.as_str(), sentence);
-    Ok(())
+    reads(
+        &rt,
+        &rotation,
+        "weapon layer 9: no sprite lump has rotation 1 of its frame",
+    )
 }
 
 #[test]
 fn a_refusal_of_the_files_of_a_level_reads_as_that_of_its_group(
     rt: HostRuntime,
 ) -> Result<(), Fail> {
-    let alloc = rt.alloc();
-    for (refusal, sentence) in [
-        (
-            AuditRefusal::Art(ArtRefusal::Playpal),
-            "PLAYPAL is absent, or has fewer than 768 bytes",
-        ),
-        (
-            AuditRefusal::Map(MapRefusal::EmptyLeaf { leaf: 45 }),
-            "SSECTORS record 45 has no seg",
-        ),
-        (
-            AuditRefusal::Texture(TexRefusal::TooBig { texture: 83 }),
-            "texture 83: its composed columns pass 65536 bytes",
-        ),
-    ] {
-        let message = format!(in alloc; "{refusal}")?;
-        assert_eq!(rt; message.as_str(), sentence);
-    }
-    Ok(())
+    let art = AuditRefusal::Art(ArtRefusal::Playpal);
+    reads(&rt, &art, "PLAYPAL is absent, or has fewer than 768 bytes")?;
+    let map = AuditRefusal::Map(MapRefusal::EmptyLeaf { leaf: 45 });
+    reads(&rt, &map, "SSECTORS record 45 has no seg")?;
+    let texture = AuditRefusal::Texture(TexRefusal::TooBig { texture: 83 });
+    reads(
+        &rt,
+        &texture,
+        "texture 83: its composed columns pass 65536 bytes",
+    )
 }
 
 #[test]
 fn a_refusal_of_a_picture_reads_as_that_of_its_group(rt: HostRuntime) -> Result<(), Fail> {
-    let alloc = rt.alloc();
-    for (refusal, sentence) in [
-        (
-            AuditRefusal::Sprite(SpriteRefusal::NoFrame { thing: 52 }),
-            "thing 52: no lump shows the sprite frame that it needs",
-        ),
-        (
-            AuditRefusal::Scene(SceneRefusal::SectorFlat { sector: 87 }),
-            "SECTORS record 87 names a flat that no WAD has",
-        ),
-        (
-            AuditRefusal::WeaponArt(WeaponRefusal::BadPatch { lump: 1204 }),
-            "lump 1204 is a weapon's picture, but no patch",
-        ),
-    ] {
-        let message = format!(in alloc; "{refusal}")?;
-        assert_eq!(rt; message.as_str(), sentence);
-    }
-    Ok(())
+    let sprite = AuditRefusal::Sprite(SpriteRefusal::NoFrame { thing: 52 });
+    reads(
+        &rt,
+        &sprite,
+        "thing 52: no lump shows the sprite frame that it needs",
+    )?;
+    let flat = AuditRefusal::Scene(SceneRefusal::SectorFlat { sector: 87 });
+    reads(&rt, &flat, "SECTORS record 87 names a flat that no WAD has")?;
+    let weapon = AuditRefusal::WeaponArt(WeaponRefusal::BadPatch { lump: 1204 });
+    reads(
+        &rt,
+        &weapon,
+        "lump 1204 is a weapon's picture, but no patch",
+    )
 }
 
 #[test]
 fn a_fault_reads_as_its_cause(rt: HostRuntime) -> Result<(), Fail> {
-    let alloc = rt.alloc();
-    let full = Fault::ZoneFull {
+    let node = Fault::Refused(MapRefusal::NodeTwice { node: 235 });
+    reads(
+        &rt,
+        &node,
+        "NODES record 235 is reached a second time from the root",
+    )?;
+    let read: Fault<MapRefusal> = Fault::ReadFault;
+    reads(&rt, &read, "a file is absent or could not be read")?;
+    let full: Fault<MapRefusal> = Fault::ZoneFull {
         wanted: 4120,
         widest: 4096,
     };
-    for (fault, sentence) in [
-        (
-            Fault::Refused(MapRefusal::NodeTwice { node: 235 }),
-            "NODES record 235 is reached a second time from the root",
-        ),
-        (Fault::ReadFault, "a file is absent or could not be read"),
-        (
-            full,
-            "the zone is full: a block of 4120 bytes was wanted, the widest gap has 4096",
-        ),
-        (Fault::OutOfMemory, "out of memory"),
-    ] {
-        let message = format!(in alloc; "{fault}")?;
-        assert_eq!(rt; message.as_str(), sentence);
-    }
-    Ok(())
+    let sentence = "the zone is full: a block of 4120 bytes was wanted, the widest gap has 4096";
+    reads(&rt, &full, sentence)?;
+    let memory: Fault<MapRefusal> = Fault::OutOfMemory;
+    reads(&rt, &memory, "out of memory")
 }
 
 #[test]
 fn a_fault_of_the_outside_says_what_failed(rt: HostRuntime) -> Result<(), Fail> {
-    let alloc = rt.alloc();
     let failed = Failed;
-    let message = format!(in alloc; "{failed}")?;
-    assert_eq!(rt; message.as_str(), "a file or an output could not be used");
+    reads(&rt, &failed, "a file or an output could not be used")?;
     let put = PutFault {
         call: 3,
         passed: 17,
     };
-    let message = format!(in alloc; "{put}")?;
-    assert_eq!(rt; message.as_str(), "put 3 fails after 17 bytes");
+    reads(&rt, &put, "put 3 fails after 17 bytes")?;
     let words = CommandFault::Usage;
-    let message = format!(in alloc; "{words}")?;
-    assert_eq!(rt; message.as_str(), "the words are no command");
-    Ok(())
+    reads(&rt, &words, "the words are no command")
 }
 
 #[test]
 fn a_fault_of_a_zone_has_its_sizes(rt: HostRuntime) -> Result<(), Fail> {
-    let alloc = rt.alloc();
     let size = ZoneMake::BadSize;
-    let message = format!(in alloc; "{size}")?;
-    let sentence = "a zone has 64 to 536870912 bytes, a multiple of 4";
-    assert_eq!(rt; message.as_str(), sentence);
+    reads(
+        &rt,
+        &size,
+        "a zone has 64 to 536870912 bytes, a multiple of 4",
+    )?;
     let full = ZoneFull {
         wanted: 8216,
         widest: 0,
     };
-    let message = format!(in alloc; "{full}")?;
-    let sentence = "the zone is full: a block of 8216 bytes was wanted, the widest gap has 0";
-    assert_eq!(rt; message.as_str(), sentence);
-    Ok(())
+    reads(
+        &rt,
+        &full,
+        "the zone is full: a block of 8216 bytes was wanted, the widest gap has 0",
+    )
+}
+
+#[test]
+fn a_fault_of_a_view_says_what_ended_it(rt: HostRuntime) -> Result<(), Fail> {
+    let limit = ViewFault::Limit {
+        kind: LimitKind::Openings,
+        count: 20800,
+    };
+    reads(&rt, &limit, "a limit of the view is passed: Openings 20800")?;
+    let full = ViewFault::ZoneFull {
+        wanted: 4120,
+        widest: 4096,
+    };
+    let sentence = "the zone is full: a block of 4120 bytes was wanted, the widest gap has 4096";
+    reads(&rt, &full, sentence)?;
+    let read = ViewFault::ReadFault;
+    reads(&rt, &read, "a lump could not be read")
 }

@@ -3,35 +3,24 @@
 ghost use Rattle.std.specs.Prelude.{◌≡◌, IfOk};
 ghost use Rattle.frame_core.specs.Views.{CanDrawView};
 
-use crate::test_levels::room_wad;
-use crate::view_tests::{
-    Assets, COMPOSITE_SLOTS, LIMITS, ZONE, draw, load_assets, made_angles, shelf_of, sum_of,
+use crate::made::{
+    Assets, FIRST, LIMITS, Tools, draw, made_assets, made_cache, made_tools, shelf_of, sum_of,
 };
-use angle_tables::Tables;
+use crate::test_levels::room_wad;
 use art_rules::{byte_at, half_at, word_at};
-use frame_core::{ViewFault, Workshop, draw_view, draw_view_on};
+use frame_core::{ViewFault, draw_view, draw_view_on};
 use level_maker::make_wad;
 use lump_cache::LumpCache;
 use lump_rules::Name8;
 use outside::{MemoryShelf, Shelf};
 use pixel_strips::Frame;
-use sound_scene::SoundScene;
-use std::alloc::Global;
+use std::alloc::{AllocError, Global};
 use std::test::Fail;
 use view_rules::{Eye, MAX_SIZE};
 use wad_dir::Directory;
 use zone_rules::Tag;
 
-// The first two views of the path.
-const FIRST: Eye = Eye {
-    x: 2_621_440,
-    y: 2_621_440,
-    z: 4_718_592,
-    angle: 0,
-    extralight: 0,
-    colormap: 0,
-};
-
+// The second view of the path.
 const SECOND: Eye = Eye {
     x: 5_046_272,
     y: 6_094_848,
@@ -58,8 +47,8 @@ const COLUMN_END: u8 = 255;
 // A shelf, and a cache of what was read from it.
 #[derive(Drop)]
 struct Source {
-    cache: LumpCache,
-    shelf: MemoryShelf,
+    cache: Box<LumpCache>,
+    shelf: Box<MemoryShelf>,
 }
 
 // Where a lump of that name begins in its file.
@@ -117,16 +106,9 @@ fn turn_patches(dir: &Directory, bytes: &mut [u8]) -> Option<()> {
     Some(())
 }
 
-// A shelf of the made WAD, with a level beside it that is not drawn.
-fn made_shelf(alloc: Global, made: Vec<u8>) -> Result<MemoryShelf, Fail> {
-    shelf_of(alloc, made, room_wad(alloc, b"FLAT0\0\0\0FLAT1\0\0\0")?)
-}
-
-// The scene of the made level over the made WAD.
-fn made_assets(alloc: Global) -> Result<Assets, Fail>
-    ensures { IfOk result (λ a. CanDrawView a.dir.lumps a.scene.scene a.cache) }
-{
-    load_assets(alloc, made_shelf(alloc, make_wad(alloc, 1)?)?, "MAP01")
+// A level beside the made WAD, of which nothing is drawn.
+fn other_level(alloc: Global) -> Result<Vec<u8>, AllocError> {
+    room_wad(alloc, b"FLAT0\0\0\0FLAT1\0\0\0")
 }
 
 // The bytes of the made WAD, with other art.
@@ -138,90 +120,57 @@ fn turned_wad(alloc: Global, dir: &Directory) -> Result<Vec<u8>, Fail> {
 }
 
 // A shelf of the made WAD with other art, its files found.
-fn turned_shelf(alloc: Global, dir: &Directory) -> Result<MemoryShelf, Fail> {
-    let mut shelf = made_shelf(alloc, turned_wad(alloc, dir)?)?;
+fn turned_shelf(alloc: Global, dir: &Directory) -> Result<Box<MemoryShelf>, Fail> {
+    let made = turned_wad(alloc, dir)?;
+    let mut shelf = shelf_of(alloc, made, other_level(alloc)?)?;
     shelf.find("made.wad")?;
     shelf.find("level.wad")?;
     Ok(shelf)
 }
 
-// A cache for a scene over another shelf, with the colormap.
-fn cache_over(alloc: Global, assets: &Assets, shelf: &mut MemoryShelf) -> Result<LumpCache, Fail>
-    requires { CanDrawView assets.now.dir.lumps assets.now.scene.scene assets.now.cache }
-    ensures { IfOk result (λ cache.
-        CanDrawView assets.now.dir.lumps assets.now.scene.scene cache) }
-{
-    let mut cache = LumpCache::new(alloc, &assets.dir, ZONE, COMPOSITE_SLOTS)?;
-    cache.fetch(shelf, &assets.dir, assets.scene.colormap(), Tag::Static)?;
-    Ok(cache)
-}
-
-// The other art for a scene of the made WAD.
+// The other art for a scene of the made WAD, with the colormap in its cache.
 fn turned_source(alloc: Global, assets: &Assets) -> Result<Source, Fail>
-    requires { CanDrawView assets.now.dir.lumps assets.now.scene.scene assets.now.cache }
-    ensures { IfOk result (λ source.
-        CanDrawView assets.now.dir.lumps assets.now.scene.scene source.cache) }
+    requires { CanDrawView assets.now.dir.value.lumps assets.now.scene.value.scene
+        assets.now.cache.value }
+    ensures { IfOk result (λ source. CanDrawView assets.now.dir.value.lumps
+        assets.now.scene.value.scene source.cache.value) }
 {
+    let mut cache = made_cache(alloc, &assets.dir)?;
     let mut shelf = turned_shelf(alloc, &assets.dir)?;
-    let cache = cache_over(alloc, assets, &mut shelf)?;
+    let colormap = assets.scene.colormap();
+    cache.fetch(&mut *shelf, &assets.dir, colormap, Tag::Static)?;
     Ok(Source { cache, shelf })
 }
 
-// The sum of the workshop's frame after a view.
-fn sum_drawn(
-    assets: &mut Assets,
-    tables: &Tables,
-    shop: &mut Workshop,
-    eye: Eye,
-) -> Result<u64, ViewFault>
-    requires { CanDrawView assets.old.dir.lumps assets.old.scene.scene assets.old.cache }
-    ensures drawable { CanDrawView assets.new.dir.lumps assets.new.scene.scene assets.new.cache }
-    ensures dir { assets.new.dir ≡ assets.old.dir }
-    ensures scene { assets.new.scene ≡ assets.old.scene }
-{
-    draw(assets, tables, shop, eye)?;
-    Ok(sum_of(shop.frame()))
-}
-
 // The sum of the workshop's frame after the first view, drawn with the art of that shelf.
-fn sum_over(
-    scene: &SoundScene,
-    dir: &Directory,
-    source: &mut Source,
-    tables: &Tables,
-    shop: &mut Workshop,
-) -> Result<u64, ViewFault>
-    requires { CanDrawView dir.now.lumps scene.now.scene source.old.cache }
-    ensures { CanDrawView dir.now.lumps scene.now.scene source.new.cache }
+fn sum_over(assets: &Assets, source: &mut Source, tools: &mut Tools) -> Result<u64, ViewFault>
+    requires { CanDrawView assets.now.dir.value.lumps assets.now.scene.value.scene
+        source.old.cache.value }
 {
     draw_view(
-        scene,
-        tables,
-        shop,
+        &assets.scene,
+        &tools.tables,
+        &mut tools.shop,
         &mut source.cache,
-        dir,
-        &mut source.shelf,
+        &assets.dir,
+        &mut *source.shelf,
         FIRST,
     )?;
-    Ok(sum_of(shop.frame()))
+    Ok(sum_of(tools.shop.frame()))
 }
 
 // The sum of a frame after the first view, drawn on that frame.
-fn sum_on(
-    assets: &mut Assets,
-    frame: &mut Frame,
-    tables: &Tables,
-    shop: &mut Workshop,
-) -> Result<u64, ViewFault>
-    requires { CanDrawView assets.old.dir.lumps assets.old.scene.scene assets.old.cache }
+fn sum_on(assets: &mut Assets, frame: &mut Frame, tools: &mut Tools) -> Result<u64, ViewFault>
+    requires { CanDrawView assets.old.dir.value.lumps assets.old.scene.value.scene
+        assets.old.cache.value }
 {
     draw_view_on(
         &assets.scene,
-        tables,
-        shop,
+        &tools.tables,
+        &mut tools.shop,
         &mut assets.cache,
         &assets.dir,
-        &mut assets.shelf,
+        &mut *assets.shelf,
         FIRST,
         frame,
     )?;
@@ -230,9 +179,20 @@ fn sum_on(
 
 // The sums of the first view over the made WAD, over its other art, and over the made WAD again.
 fn sums_over_both(alloc: Global) -> Result<[Result<u64, ViewFault>; 3], Fail> {
-    let mut assets = made_assets(alloc)?;
-    let mut turned = turned_source(alloc, &assets)?;
-    sums_by_turns(alloc, &mut assets, &mut turned)
+    let mut assets = made_assets(alloc, other_level(alloc)?, "MAP01")?;
+    sums_over_both_in(alloc, &mut assets)
+}
+
+// The same in a scene.
+fn sums_over_both_in(
+    alloc: Global,
+    assets: &mut Assets,
+) -> Result<[Result<u64, ViewFault>; 3], Fail>
+    requires { CanDrawView assets.old.dir.value.lumps assets.old.scene.value.scene
+        assets.old.cache.value }
+{
+    let mut turned = turned_source(alloc, assets)?;
+    sums_by_turns(alloc, assets, &mut turned)
 }
 
 // The sums of the first view in a scene, over other art, and over its own again, in one workshop.
@@ -241,47 +201,48 @@ fn sums_by_turns(
     assets: &mut Assets,
     turned: &mut Source,
 ) -> Result<[Result<u64, ViewFault>; 3], Fail>
-    requires made { CanDrawView assets.old.dir.lumps assets.old.scene.scene assets.old.cache }
-    requires turned { CanDrawView assets.old.dir.lumps assets.old.scene.scene turned.old.cache }
+    requires made { CanDrawView assets.old.dir.value.lumps assets.old.scene.value.scene
+        assets.old.cache.value }
+    requires turned { CanDrawView assets.old.dir.value.lumps assets.old.scene.value.scene
+        turned.old.cache.value }
 {
-    let tables = made_angles(alloc, MAX_SIZE)?;
-    let mut shop = Workshop::new(alloc, LIMITS)?;
-    let first = sum_drawn(assets, &tables, &mut shop, FIRST);
-    let other = sum_over(&assets.scene, &assets.dir, turned, &tables, &mut shop);
-    let again = sum_drawn(assets, &tables, &mut shop, FIRST);
+    let mut tools = made_tools(alloc, LIMITS, MAX_SIZE)?;
+    let first = draw(assets, &mut tools, FIRST);
+    let other = sum_over(assets, turned, &mut tools);
+    let again = draw(assets, &mut tools, FIRST);
     Ok([first, other, again])
 }
 
 // The sums of the workshop's frame after the first view and after the second; then of a frame that
 // the first is drawn on, and of the workshop's after that.
 fn sums_beside(alloc: Global) -> Result<[Result<u64, ViewFault>; 4], Fail> {
-    let mut assets = made_assets(alloc)?;
+    let mut assets = made_assets(alloc, other_level(alloc)?, "MAP01")?;
     sums_beside_in(alloc, &mut assets)
 }
 
 // The same in a scene.
 fn sums_beside_in(alloc: Global, assets: &mut Assets) -> Result<[Result<u64, ViewFault>; 4], Fail>
-    requires { CanDrawView assets.old.dir.lumps assets.old.scene.scene assets.old.cache }
+    requires { CanDrawView assets.old.dir.value.lumps assets.old.scene.value.scene
+        assets.old.cache.value }
 {
-    let tables = made_angles(alloc, MAX_SIZE)?;
-    let mut shop = Workshop::new(alloc, LIMITS)?;
-    let mut frame = Frame::new(alloc)?;
-    Ok(sums_with(assets, &tables, &mut shop, &mut frame))
+    let mut tools = made_tools(alloc, LIMITS, MAX_SIZE)?;
+    let mut frame = Box::new(alloc, Frame::new(alloc)?)?;
+    Ok(sums_with(assets, &mut tools, &mut frame))
 }
 
-// The same, with the workshop and the other frame.
+// The same, with the tools and the other frame.
 fn sums_with(
     assets: &mut Assets,
-    tables: &Tables,
-    shop: &mut Workshop,
+    tools: &mut Tools,
     frame: &mut Frame,
 ) -> [Result<u64, ViewFault>; 4]
-    requires { CanDrawView assets.old.dir.lumps assets.old.scene.scene assets.old.cache }
+    requires { CanDrawView assets.old.dir.value.lumps assets.old.scene.value.scene
+        assets.old.cache.value }
 {
-    let first = sum_drawn(assets, tables, shop, FIRST);
-    let second = sum_drawn(assets, tables, shop, SECOND);
-    let beside = sum_on(assets, frame, tables, shop);
-    let kept = sum_of(shop.frame());
+    let first = draw(assets, tools, FIRST);
+    let second = draw(assets, tools, SECOND);
+    let beside = sum_on(assets, frame, tools);
+    let kept = sum_of(tools.shop.frame());
     [first, second, beside, Ok(kept)]
 }
 

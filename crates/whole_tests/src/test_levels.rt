@@ -20,14 +20,11 @@ struct Wad {
 }
 
 impl Wad {
-    // With the label of MAP02.
-    fn new(alloc: Global) -> Result<Wad, AllocError> {
-        let mut wad = Wad {
+    fn new(alloc: Global) -> Wad {
+        Wad {
             lumps: Vec::new(alloc),
             directory: Vec::new(alloc),
-        };
-        wad.add(b"MAP02\0\0\0", b"")?;
-        Ok(wad)
+        }
     }
 
     fn add(&mut self, name: &[u8; 8], bytes: &[u8]) -> Result<(), AllocError> {
@@ -42,11 +39,16 @@ impl Wad {
 
     fn file(&self, alloc: Global) -> Result<Vec<u8>, AllocError> {
         let mut file = b"PWAD".to_vec(alloc)?;
-        file.extend_from_slice(&LUMPS.to_le_bytes())?;
-        put_size(&mut file, self.lumps.len().wrapping_add(HEADER_BYTES))?;
-        file.extend_from_slice(&self.lumps)?;
-        file.extend_from_slice(&self.directory)?;
+        self.put_into(&mut file)?;
         Ok(file)
+    }
+
+    // Puts all behind the file's first word.
+    fn put_into(&self, file: &mut Vec<u8>) -> Result<(), AllocError> {
+        file.extend_from_slice(&LUMPS.to_le_bytes())?;
+        put_size(file, self.lumps.len().wrapping_add(HEADER_BYTES))?;
+        file.extend_from_slice(&self.lumps)?;
+        file.extend_from_slice(&self.directory)
     }
 }
 
@@ -115,7 +117,14 @@ impl Parts {
 
     // The whole file.
     fn file(&self, alloc: Global) -> Result<Vec<u8>, AllocError> {
-        let mut wad = Wad::new(alloc)?;
+        let mut wad = Wad::new(alloc);
+        self.put_lumps(&mut wad)?;
+        wad.file(alloc)
+    }
+
+    // Adds all lumps of the level, behind the label of MAP02.
+    fn put_lumps(&self, wad: &mut Wad) -> Result<(), AllocError> {
+        wad.add(b"MAP02\0\0\0", b"")?;
         wad.add(b"THINGS\0\0", b"")?;
         wad.add(b"LINEDEFS", &self.lines)?;
         wad.add(b"SIDEDEFS", &self.sides)?;
@@ -123,14 +132,18 @@ impl Parts {
         wad.add(b"SEGS\0\0\0\0", &self.segs)?;
         wad.add(b"SSECTORS", &self.leaves)?;
         wad.add(b"NODES\0\0\0", &self.nodes)?;
-        wad.add(b"SECTORS\0", &self.sectors)?;
-        wad.file(alloc)
+        wad.add(b"SECTORS\0", &self.sectors)
     }
 }
 
 /// A room of one leaf, from -256 to 256 both ways, its floor at 0 and of light 160.
 pub(crate) fn room_wad(alloc: Global, flats: &[u8; 16]) -> Result<Vec<u8>, AllocError> {
-    let mut room = Parts::new(alloc);
+    let mut room = Box::new(alloc, Parts::new(alloc))?;
+    put_room(&mut room, flats)?;
+    room.file(alloc)
+}
+
+fn put_room(room: &mut Parts, flats: &[u8; 16]) -> Result<(), AllocError> {
     let low = 0u16.wrapping_sub(256);
     put_halves(
         &mut room.vertices,
@@ -141,22 +154,26 @@ pub(crate) fn room_wad(alloc: Global, flats: &[u8; 16]) -> Result<Vec<u8>, Alloc
     room.add_wall(2, 3, 16384, 0)?;
     room.add_wall(3, 0, 0, 0)?;
     room.add_leaf(0)?;
-    room.add_sector(0, flats, 160)?;
-    room.file(alloc)
+    room.add_sector(0, flats, 160)
 }
 
 /// A hall of that many leaves in a row to the east, each 128 long, 256 wide and 128 high, its floor
 /// at 0. Leaf c has light c; a 65th has light 63, and its floor at -8.
 pub(crate) fn hall_wad(alloc: Global, leaves: u16) -> Result<Vec<u8>, AllocError> {
-    let mut hall = Parts::new(alloc);
+    let mut hall = Box::new(alloc, Parts::new(alloc))?;
+    put_hall(&mut hall, leaves)?;
+    hall.file(alloc)
+}
+
+fn put_hall(hall: &mut Parts, leaves: u16) -> Result<(), AllocError> {
     for leaf in 0..leaves {
-        put_hall_leaf(&mut hall, leaf, leaves)?;
+        put_hall_leaf(hall, leaf, leaves)?;
     }
     put_end(&mut hall.vertices, leaves)?;
     for node in 1..leaves {
         put_node(&mut hall.nodes, node, leaves)?;
     }
-    hall.file(alloc)
+    Ok(())
 }
 
 // Where a leaf of the hall begins: the first 64 west of the origin.

@@ -2,22 +2,11 @@
 
 ghost use Rattle.std.specs.Prelude.{◌≡◌};
 
-use angle_tables::Tables;
-use level_maker::make_tables;
+use crate::made::{FIRST, made_angles};
+use std::process::Abort;
 use std::test::Fail;
 use view_frame::View;
-use view_rules::Eye;
 use vissprites::{Placed, Seen, Shape5, SortedSprites, SpriteEntry, Sprites, project};
-
-// The made path's first row: 40, 40 and 72 map units up, looking east.
-const EYE: Eye = Eye {
-    x: 2621440,
-    y: 2621440,
-    z: 4718592,
-    angle: 0,
-    extralight: 0,
-    colormap: 0,
-};
 
 // The made picture of a thing.
 const TREE: Shape5 = Shape5 {
@@ -50,6 +39,17 @@ fn put(sprites: &mut Sprites, view: &View<'_>, x: i32, y: i32, z: i32) {
     }
 }
 
+// The numbers and the columns of the next five.
+fn sorted_columns(sorted: &mut SortedSprites<'_>) -> [Option<(u16, i32, i32)>; 5] {
+    [
+        columns(sorted),
+        columns(sorted),
+        columns(sorted),
+        columns(sorted),
+        columns(sorted),
+    ]
+}
+
 // The number and the columns of the next one.
 fn columns(sorted: &mut SortedSprites<'_>) -> Option<(u16, i32, i32)> {
     match sorted.next() {
@@ -58,25 +58,30 @@ fn columns(sorted: &mut SortedSprites<'_>) -> Option<(u16, i32, i32)> {
     }
 }
 
-#[test]
-fn things_are_seen_ahead_alone(rt: HostRuntime) -> Result<(), Fail> {
-    let bytes = make_tables(rt.alloc())?;
-    let tables = Tables::from_bytes(rt.alloc(), &bytes, 11).expect(&rt, "accepted");
-    let view = View::new(&tables, EYE);
+// Looks at things before the eye, beside it and behind.
+fn look_ahead(rt: &impl Abort, view: &View<'_>) {
     let near = Seen {
         scale: 436746,
         side: -1572240,
         rotation: 5,
     };
-    assert_eq!(rt; project(&view, &thing(64, 64, 0, 0)), Some(near));
     let turned = Seen {
-        scale: 436746,
-        side: -1572240,
         rotation: 1,
+        ..near
     };
-    assert_eq!(rt; project(&view, &thing(64, 64, 0, 1 << 31)), Some(turned));
-    assert_eq!(rt; project(&view, &thing(64, 192, 16, 0)), None);
-    assert_eq!(rt; project(&view, &thing(16, 40, 0, 0)), None);
+    let seen = [
+        project(view, &thing(64, 64, 0, 0)),
+        project(view, &thing(64, 64, 0, 1 << 31)),
+        project(view, &thing(64, 192, 16, 0)),
+        project(view, &thing(16, 40, 0, 0)),
+    ];
+    assert_eq!(rt; seen, [Some(near), Some(turned), None, None]);
+}
+
+#[test]
+fn things_are_seen_ahead_alone(rt: HostRuntime) -> Result<(), Fail> {
+    let tables = made_angles(rt.alloc(), 11)?;
+    look_ahead(&rt, &View::new(&tables, FIRST));
     Ok(())
 }
 
@@ -99,26 +104,32 @@ const NEAR: SpriteEntry = SpriteEntry {
     map: 0,
 };
 
-#[test]
-fn smaller_things_are_drawn_first(rt: HostRuntime) -> Result<(), Fail> {
-    let bytes = make_tables(rt.alloc())?;
-    let tables = Tables::from_bytes(rt.alloc(), &bytes, 11).expect(&rt, "accepted");
-    let view = View::new(&tables, EYE);
-    let mut sprites = Sprites::new(rt.alloc())?;
+// Looks at a thing alone, then at it with three more, and at none after these are cleared.
+fn look_at_order(rt: &impl Abort, view: &View<'_>, sprites: &mut Sprites) {
     assert_eq!(rt; sprites.count(), 0);
-    put(&mut sprites, &view, 192, 64, 8);
+    put(sprites, view, 192, 64, 8);
     assert_eq!(rt; sprites.count(), 1);
     assert_eq!(rt; sprites.sorted().next(), Some(NEAR));
-    put(&mut sprites, &view, 64, 64, 0);
-    put(&mut sprites, &view, 192, 192, 24);
-    put(&mut sprites, &view, 192, 192, 24);
-    let mut sorted = sprites.sorted();
-    assert_eq!(rt; columns(&mut sorted), Some((2, 0, 15)));
-    assert_eq!(rt; columns(&mut sorted), Some((3, 0, 15)));
-    assert_eq!(rt; columns(&mut sorted), Some((0, 117, 150)));
-    assert_eq!(rt; columns(&mut sorted), Some((1, 0, 105)));
-    assert_eq!(rt; columns(&mut sorted), None);
+    put(sprites, view, 64, 64, 0);
+    put(sprites, view, 192, 192, 24);
+    put(sprites, view, 192, 192, 24);
+    let entries = sorted_columns(&mut sprites.sorted());
+    let expected = [
+        Some((2, 0, 15)),
+        Some((3, 0, 15)),
+        Some((0, 117, 150)),
+        Some((1, 0, 105)),
+        None,
+    ];
+    assert_eq!(rt; entries, expected);
     sprites.clear();
     assert_eq!(rt; sprites.count(), 0);
+}
+
+#[test]
+fn smaller_things_are_drawn_first(rt: HostRuntime) -> Result<(), Fail> {
+    let tables = made_angles(rt.alloc(), 11)?;
+    let mut sprites = Box::new(rt.alloc(), Sprites::new(rt.alloc())?)?;
+    look_at_order(&rt, &View::new(&tables, FIRST), &mut sprites);
     Ok(())
 }

@@ -1,28 +1,19 @@
 // A room of one leaf, whose walls are 256 map units from the eye, walked by a visitor that writes
 // down what it is given.
-ghost use Rattle.std.specs.Prelude.{◌≡◌, ◌+◌, ◌<◌, ◌≤◌, length, OnOk};
+ghost use Rattle.std.specs.Prelude.{◌≡◌, ◌+◌, ◌<◌, ◌≤◌, true, false, length, slice_set, OnOk};
+ghost use Rattle.level_rules.specs.maps.Lumps.{lump_no};
+ghost use Rattle.map_lumps.specs.Builders.{all_added, empty_builder, is_added};
 
-use angle_tables::Tables;
-use level_maker::make_tables;
+use crate::made::{EYE, made_angles};
 use level_rules::Surface;
-use map_lumps::{Level, LevelBuilder, MapFault, MapLump};
+use map_lumps::{Level, LevelBuilder, MapLump};
 use node_walk::{Cover, Visitor, WalkScene, walk};
 use std::alloc::{AllocError, Global};
+use std::process::Abort;
 use std::test::Fail;
 use view_frame::View;
-use view_rules::Eye;
 
 const UNIT: i32 = 65536;
-
-// An eye at the level's origin, looking east.
-const EAST: Eye = Eye {
-    x: 0,
-    y: 0,
-    z: 41 * UNIT,
-    angle: 0,
-    extralight: 0,
-    colormap: 0,
-};
 
 const ROOM: usize = 8;
 
@@ -133,33 +124,39 @@ fn bytes_of(alloc: Global, lump: usize) -> Result<Vec<u8>, AllocError> {
     Ok(bytes)
 }
 
-// The bytes of the eight lumps.
-fn lumps(alloc: Global) -> Result<[Vec<u8>; 8], AllocError> {
-    Ok([
-        bytes_of(alloc, 0)?,
-        bytes_of(alloc, 1)?,
-        bytes_of(alloc, 2)?,
-        bytes_of(alloc, 3)?,
-        bytes_of(alloc, 4)?,
-        bytes_of(alloc, 5)?,
-        bytes_of(alloc, 6)?,
-        bytes_of(alloc, 7)?,
-    ])
+// Adds a lump, of which the bytes have that number.
+#[tactic(auto, unfolding(map_lumps::specs::Builders::with_lump))]
+fn add(alloc: Global, builder: &mut LevelBuilder, lump: MapLump, number: usize) -> Result<(), Fail>
+    requires { is_added builder.old lump ≡ false }
+    ensures { OnOk result
+        (builder.new.added ≡ slice_set builder.old.added (lump_no lump) true) }
+{
+    let bytes = bytes_of(alloc, number)?;
+    builder.add(alloc, lump, &bytes)?;
+    Ok(())
+}
+
+// Adds the eight lumps.
+#[tactic(auto, unfolding(map_lumps::specs::Builders::empty_builder, map_lumps::specs::Builders::is_added, level_rules::specs::maps::Lumps::lump_no))]
+fn add_lumps(alloc: Global, builder: &mut LevelBuilder) -> Result<(), Fail>
+    requires { builder.old ≡ empty_builder }
+    ensures { OnOk result (builder.new.added ≡ all_added) }
+{
+    add(alloc, builder, MapLump::Things, 0)?;
+    add(alloc, builder, MapLump::Linedefs, 1)?;
+    add(alloc, builder, MapLump::Sidedefs, 2)?;
+    add(alloc, builder, MapLump::Vertexes, 3)?;
+    add(alloc, builder, MapLump::Segs, 4)?;
+    add(alloc, builder, MapLump::Ssectors, 5)?;
+    add(alloc, builder, MapLump::Nodes, 6)?;
+    add(alloc, builder, MapLump::Sectors, 7)
 }
 
 // The level of eight lumps.
-#[tactic(auto, unfolding(map_lumps::specs::Builders::empty_builder, map_lumps::specs::Builders::is_added, map_lumps::specs::Builders::with_lump, level_rules::specs::maps::Lumps::lump_no))]
-fn level(alloc: Global, lumps: &[Vec<u8>; 8]) -> Result<Level, MapFault> {
+fn level(alloc: Global) -> Result<Box<Level>, Fail> {
     let mut builder = LevelBuilder::new();
-    builder.add(alloc, MapLump::Things, &lumps[0])?;
-    builder.add(alloc, MapLump::Linedefs, &lumps[1])?;
-    builder.add(alloc, MapLump::Sidedefs, &lumps[2])?;
-    builder.add(alloc, MapLump::Vertexes, &lumps[3])?;
-    builder.add(alloc, MapLump::Segs, &lumps[4])?;
-    builder.add(alloc, MapLump::Ssectors, &lumps[5])?;
-    builder.add(alloc, MapLump::Nodes, &lumps[6])?;
-    builder.add(alloc, MapLump::Sectors, &lumps[7])?;
-    builder.finish(alloc)
+    add_lumps(alloc, &mut builder)?;
+    Ok(Box::new(alloc, builder.finish(alloc)?)?)
 }
 
 // Floor 0, ceiling 128, light 160.
@@ -172,7 +169,7 @@ const SURFACE: Surface = Surface {
 };
 
 // Walks a scene seen by a view, up to `limit` events.
-fn walked(scene: &WalkScene<'_>, view: &View<'_>, limit: usize) -> (Recorder, Result<(), Full>)
+fn walked(scene: &WalkScene<'_>, view: &View<'_>, limit: usize) -> ([Seen; ROOM], Result<(), Full>)
     requires surfaces { length scene.now.surfaces.now ≡ length scene.now.level.now.sectors }
     requires middles { length scene.now.middles.now ≡ length scene.now.level.now.sides }
     requires room { 0 < limit }
@@ -181,23 +178,18 @@ fn walked(scene: &WalkScene<'_>, view: &View<'_>, limit: usize) -> (Recorder, Re
     let mut cover = Cover::new(view.shape().width);
     let mut recorder = Recorder::new(limit);
     let answer = walk(scene, view, &mut cover, &mut recorder);
-    (recorder, answer)
+    (recorder.seen, answer)
 }
 
-#[test]
-fn a_room_is_walked_up_to_the_last_event_that_is_taken(rt: HostRuntime) -> Result<(), Fail> {
-    let bytes = make_tables(rt.alloc())?;
-    let tables = Tables::from_bytes(rt.alloc(), &bytes, 11).expect(&rt, "accepted");
-    let lumps = lumps(rt.alloc()).expect(&rt, "memory");
-    let level = level(rt.alloc(), &lumps).expect(&rt, "level");
+// Walks the room to its end, and up to the second event.
+fn look_at_walks(rt: &impl Abort, level: &Level, view: &View<'_>) {
     assert!(rt; level.sectors().len() == 1);
     assert!(rt; level.sides().len() == 4);
     let scene = WalkScene {
-        level: &level,
+        level: &*level,
         surfaces: &[SURFACE],
         middles: &[1; 4],
     };
-    let view = View::new(&tables, EAST);
     let east = Seen::Fragment {
         seg: 0,
         first: 1,
@@ -208,17 +200,20 @@ fn a_room_is_walked_up_to_the_last_event_that_is_taken(rt: HostRuntime) -> Resul
         first: 0,
         last: 0,
     };
-    let (recorder, answer) = walked(&scene, &view, ROOM);
+    let (seen, answer) = walked(&scene, view, ROOM);
     assert_eq!(rt; answer, Ok(()));
-    assert_eq!(rt;
-        &recorder.seen[..4],
-        [Seen::Leaf(0), east, north, Seen::Nothing].as_slice()
-    );
-    let (recorder, answer) = walked(&scene, &view, 2);
+    let whole = [Seen::Leaf(0), east, north, Seen::Nothing];
+    assert_eq!(rt; &seen[..4], whole.as_slice());
+    let (seen, answer) = walked(&scene, view, 2);
     assert_eq!(rt; answer, Err(Full));
-    assert_eq!(rt;
-        &recorder.seen[..3],
-        [Seen::Leaf(0), east, Seen::Nothing].as_slice()
-    );
+    let part = [Seen::Leaf(0), east, Seen::Nothing];
+    assert_eq!(rt; &seen[..3], part.as_slice());
+}
+
+#[test]
+fn a_room_is_walked_up_to_the_last_event_that_is_taken(rt: HostRuntime) -> Result<(), Fail> {
+    let tables = made_angles(rt.alloc(), 11)?;
+    let level = level(rt.alloc())?;
+    look_at_walks(&rt, &level, &View::new(&tables, EYE));
     Ok(())
 }
