@@ -75,7 +75,8 @@ fn is_built(job: &str) -> bool
 // The command of the job of that name.
 #[tactic(auto, unfolding(crate::specs::Commands::job_named))]
 fn job_named<'a>(alloc: Global, found: &ArgMatches<'a>, job: &str, rest: &[&'a str]) -> Taken<'a>
-    ensures { IsCommandOf (job_named (rows_of (found_of found.now)) job.now (map (λ w. w.now) rest.now)) result }
+    ensures { IsCommandOf (job_named (rows_of (found_of found.now)) job.now (map (λ w. w.now)
+        rest.now)) result }
 {
     if job == "flat" {
         flat_of(found, rest)
@@ -91,7 +92,8 @@ fn job_named<'a>(alloc: Global, found: &ArgMatches<'a>, job: &str, rest: &[&'a s
 // The command flat NAME FILE.
 #[tactic(auto, unfolding(crate::specs::Commands::flat_of))]
 fn flat_of<'a>(found: &ArgMatches<'a>, rest: &[&'a str]) -> Taken<'a>
-    ensures { IsDecidedBy (flat_of (rows_of (found_of found.now)) (map (λ w. w.now) rest.now)) result }
+    ensures { IsDecidedBy (flat_of (rows_of (found_of found.now)) (map (λ w. w.now) rest.now))
+        result }
 {
     match rest {
         [name, file] => {
@@ -110,7 +112,8 @@ fn flat_of<'a>(found: &ArgMatches<'a>, rest: &[&'a str]) -> Taken<'a>
 // The command make wad N, make path N, make tables or make things.
 #[tactic(auto, unfolding(crate::specs::Commands::make_of))]
 fn make_of<'a>(found: &ArgMatches<'a>, rest: &[&'a str]) -> Taken<'a>
-    ensures { IsDecidedBy (make_of (rows_of (found_of found.now)) (map (λ w. w.now) rest.now)) result }
+    ensures { IsDecidedBy (make_of (rows_of (found_of found.now)) (map (λ w. w.now) rest.now))
+        result }
 {
     if !has_no_options(found) {
         return Err(CommandFault::Usage);
@@ -176,7 +179,8 @@ fn count_of(text: &str) -> Option<u8>
 // The command exercise N.
 #[tactic(auto, unfolding(crate::specs::Commands::exercise_of))]
 fn exercise_of<'a>(found: &ArgMatches<'a>, rest: &[&'a str]) -> Taken<'a>
-    ensures { IsDecidedBy (exercise_of (rows_of (found_of found.now)) (map (λ w. w.now) rest.now)) result }
+    ensures { IsDecidedBy (exercise_of (rows_of (found_of found.now)) (map (λ w. w.now)
+        rest.now)) result }
 {
     match rest {
         [count] => {
@@ -211,7 +215,8 @@ fn exercise_numbers(found: &ArgMatches<'_>, count: &str) -> Option<(u8, u32, For
 // The command of a job over a level.
 #[tactic(auto, unfolding(crate::specs::Commands::level_of))]
 fn level_of<'a>(alloc: Global, found: &ArgMatches<'a>, job: &str, rest: &[&'a str]) -> Taken<'a>
-    ensures { IsCommandOf (level_of (rows_of (found_of found.now)) job.now (map (λ w. w.now) rest.now)) result }
+    ensures { IsCommandOf (level_of (rows_of (found_of found.now)) job.now (map (λ w. w.now)
+        rest.now)) result }
 {
     match rest.split_first() {
         None => Err(CommandFault::Usage),
@@ -231,7 +236,8 @@ fn level_with<'a>(
     name: &str,
     wads: &[&'a str],
 ) -> Taken<'a>
-    ensures { IsCommandOf (level_with (rows_of (found_of found.now)) task name.now (map (λ w. w.now) wads.now)) result }
+    ensures { IsCommandOf (level_with (rows_of (found_of found.now)) task name.now (map (λ w.
+        w.now) wads.now)) result }
 {
     if !are_wads(wads) {
         return Err(CommandFault::Usage);

@@ -92,8 +92,8 @@ abbrev pub CanDrawTools : {S C : Type 0} → ViewTools S C → Type 0
 CanDrawTools t = CanDrawView t.dir.now.lumps t.scene.now.scene t.cache.now
 
 -- tools hold the references that others held
-abbrev pub AreSameTools : {S C : Type 0} → ViewTools S C → ViewTools S C → Type 0
-AreSameTools old new =
+abbrev pub AreSameViewTools : {S C : Type 0} → ViewTools S C → ViewTools S C → Type 0
+AreSameViewTools old new =
     ((new.scene ≡ old.scene) × ((new.view ≡ old.view) × (new.dir ≡ old.dir)))
     × ((new.cache.ghost_name ≡ old.cache.ghost_name)
     × ((new.shelf.ghost_name ≡ old.shelf.ghost_name) × (new.canvas.ghost_name ≡ old.canvas.ghost_name)))

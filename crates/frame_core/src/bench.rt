@@ -23,7 +23,7 @@ ghost use Rattle.pixel_strips.specs.Dotted.{PlacedAlike};
 ghost use Rattle.frame_core.specs.Entered.{has_entered};
 ghost use Rattle.frame_core.specs.Scenes.{lists_of, scene_of};
 ghost use Rattle.frame_core.specs.Faults.{limit_of_view};
-ghost use Rattle.frame_core.specs.Views.{AreSameTools, CanCount, CanDrawTools, PaintsView, tools_scene, tools_state};
+ghost use Rattle.frame_core.specs.Views.{AreSameViewTools, CanCount, CanDrawTools, PaintsView, tools_scene, tools_state};
 ghost use Rattle.frame_core.specs.Painters.{IsPlacedIn};
 ghost use Rattle.frame_core.specs.Walked.{CanTake, HasWalked, IsEventIn, next_dots, with_sector};
 
@@ -206,7 +206,7 @@ impl Bench {
             (FragmentEvent seg first last) }
         requires takes { CanTake tools.old.view.now tools.old.scene.now.scene self.old }
         requires placed { IsPlacedIn tools.old.view.now (C.view tools.old.canvas.now) }
-        ensures same { AreSameTools tools.old tools.new }
+        ensures same { AreSameViewTools tools.old tools.new }
         ensures counts { KeepsCounts tools.old.cache.now tools.new.cache.now }
         ensures place { PlacedAlike (C.view tools.old.canvas.now) (C.view tools.new.canvas.now) }
         ensures walked { (bytes : ℕ → List ℕ) (limits : Limits) (events : List Event) →

@@ -7,7 +7,7 @@ ghost use Rattle.picture_rules.specs.Counts.{view_steps};
 ghost use Rattle.picture_rules.specs.Planes.{planes_dots, view_planes};
 ghost use Rattle.frame_core.specs.Faults.{limit_of_view};
 ghost use Rattle.frame_core.specs.Scenes.{lists_of};
-ghost use Rattle.frame_core.specs.Views.{AreSameTools, CanDrawTools, PaintsView, tools_scene, tools_state};
+ghost use Rattle.frame_core.specs.Views.{AreSameViewTools, CanDrawTools, PaintsView, tools_scene, tools_state};
 ghost use Rattle.frame_core.specs.Painters.{HasWalkedView, IsPlacedIn};
 
 use crate::bench::Bench;
@@ -27,7 +27,7 @@ pub(crate) fn draw_floors<S: Shelf, C: Canvas>(
     requires drawable { CanDrawTools tools.old }
     requires placed { IsPlacedIn tools.old.view.now (C.view tools.old.canvas.now) }
     requires walked { HasWalkedView tools.old.view.now tools.old.scene.now.scene bench.now }
-    ensures same { AreSameTools tools.old tools.new }
+    ensures same { AreSameViewTools tools.old tools.new }
     ensures faults { IfErr result (λ fault. limit_of_view fault ≡ None) }
     ensures paints { let v = tools.old.view.now in PaintsView C.mark (tools_scene tools.old)
         (λ scene. planes_dots v scene (view_planes

@@ -4,7 +4,7 @@
 ghost use Rattle.frame_core.specs.Faults.{limit_of_view};
 ghost use Rattle.frame_core.specs.Painters.{HasWalkedView, IsPlacedIn};
 ghost use Rattle.frame_core.specs.Scenes.{lists_of};
-ghost use Rattle.frame_core.specs.Views.{AreSameTools, CanDrawTools, PaintsView, tools_scene, tools_state};
+ghost use Rattle.frame_core.specs.Views.{AreSameViewTools, CanDrawTools, PaintsView, tools_scene, tools_state};
 ghost use Rattle.picture_rules.specs.Masked.{view_drawsegs};
 ghost use Rattle.picture_rules.specs.Things.{view_entries};
 ghost use Rattle.picture_rules.specs.Walls.{walls_of};
@@ -33,7 +33,7 @@ pub(crate) fn draw_masks<S: Shelf, C: Canvas>(
     requires placed { IsPlacedIn tools.old.view.now (C.view tools.old.canvas.now) }
     requires walked { HasWalkedView tools.old.view.now tools.old.scene.now.scene bench.now }
     requires marks { bench.now.walls.room ≤ length marks.old }
-    ensures same { AreSameTools tools.old tools.new }
+    ensures same { AreSameViewTools tools.old tools.new }
     ensures marks { length marks.new ≡ length marks.old }
     ensures faults { IfErr result (λ fault. limit_of_view fault ≡ None) }
     ensures paints { let v = tools.old.view.now in PaintsView C.mark (tools_scene tools.old)

@@ -5,7 +5,7 @@ ghost use Rattle.std.specs.Prelude.{◌≡◌, OnOk};
 ghost use Rattle.walk_rules.specs.Walk.{view_events};
 ghost use Rattle.frame_core.specs.Ends.{EndsOver};
 ghost use Rattle.frame_core.specs.Scenes.{lists_of};
-ghost use Rattle.frame_core.specs.Views.{AreSameTools, CanDrawTools, CanDrawView, PaintsView, tools_scene, tools_state, view_scene, view_state};
+ghost use Rattle.frame_core.specs.Views.{AreSameViewTools, CanDrawTools, CanDrawView, PaintsView, tools_scene, tools_state, view_scene, view_state};
 ghost use Rattle.frame_core.specs.Walked.{CanTake};
 ghost use Rattle.frame_core.specs.Painters.{HasWalkedNothing, HasWalkedView, IsPlacedIn, drawn_walls, limits_in};
 
@@ -132,7 +132,7 @@ pub(crate) fn draw_walls<S: Shelf, C: Canvas>(
     requires placed { IsPlacedIn tools.old.view.now (C.view tools.old.canvas.now) }
     requires takes { CanTake tools.old.view.now tools.old.scene.now.scene bench.old }
     requires walked { HasWalkedNothing tools.old.view.now tools.old.scene.now.scene bench.old }
-    ensures same { AreSameTools tools.old tools.new }
+    ensures same { AreSameViewTools tools.old tools.new }
     ensures walked { OnOk result
         (HasWalkedView tools.old.view.now tools.old.scene.now.scene bench.new) }
     ensures over { EndsOver tools.old.view.now tools.old.scene.now.scene (limits_in bench.old)

@@ -5,7 +5,7 @@ ghost use Rattle.frame_core.specs.Ends.{EndsComplete, EndsNotFull, EndsOver, End
 ghost use Rattle.frame_core.specs.Faults.{view_fault};
 ghost use Rattle.frame_core.specs.Painters.{limits_in};
 ghost use Rattle.frame_core.specs.Scenes.{scene_of};
-ghost use Rattle.frame_core.specs.Views.{AreSameTools, CanCount, CanDrawTools, CanDrawView, IsViewLump, IsViewTexture, PaintsView, placed_for, tools_scene, tools_state, view_scene, view_state};
+ghost use Rattle.frame_core.specs.Views.{AreSameViewTools, CanCount, CanDrawTools, CanDrawView, IsViewLump, IsViewTexture, PaintsView, placed_for, tools_scene, tools_state, view_scene, view_state};
 ghost use Rattle.lump_rules.specs.Contents.{lump_bytes};
 ghost use Rattle.picture_rules.specs.Counts.{view_counts, view_over};
 ghost use Rattle.picture_rules.specs.Paints.{view_paints};
@@ -221,7 +221,7 @@ fn draw_parts<S: Shelf, C: Canvas>(
 ) -> Result<(), ViewFault>
     requires drawable { CanDrawTools tools.old }
     requires marks { bench.old.walls.room ≤ length marks.old }
-    ensures same { AreSameTools tools.old tools.new }
+    ensures same { AreSameViewTools tools.old tools.new }
     ensures marks { length marks.new ≡ length marks.old }
     ensures within { EndsWithin tools.old.view.now tools.old.scene.now.scene (limits_in bench.old)
         result }

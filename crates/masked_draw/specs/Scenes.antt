@@ -46,12 +46,12 @@ abbrev pub state : ShelfView → Heap → CanvasView → MaskState
 state shelf cache canvas = record { shelf = shelf; cache = cache; canvas = canvas }
 
 -- what is written by these hands, whose shelf and canvas tell of themselves so
-abbrev pub hands_state : {S C : Type 0} → (S → ShelfView) → (C → CanvasView) → MaskHands S C → MaskState
-hands_state shelf canvas h = state (shelf h.shelf.now) h.cache.now (canvas h.canvas.now)
+abbrev pub mask_hands : {S C : Type 0} → (S → ShelfView) → (C → CanvasView) → MaskHands S C → MaskState
+mask_hands shelf canvas h = state (shelf h.shelf.now) h.cache.now (canvas h.canvas.now)
 
 -- hands hold the references that others held
-abbrev pub AreSameHands : {S C : Type 0} → MaskHands S C → MaskHands S C → Type 0
-AreSameHands old new = (new.cache.ghost_name ≡ old.cache.ghost_name)
+abbrev pub AreSameMaskHands : {S C : Type 0} → MaskHands S C → MaskHands S C → Type 0
+AreSameMaskHands old new = (new.cache.ghost_name ≡ old.cache.ghost_name)
     × ((new.shelf.ghost_name ≡ old.shelf.ghost_name)
     × ((new.canvas.ghost_name ≡ old.canvas.ghost_name) × (new.marks.ghost_name ≡ old.marks.ghost_name)))
 

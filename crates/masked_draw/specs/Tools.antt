@@ -24,12 +24,12 @@ tools_dots t notes sprites contents =
     (noted_drawsegs t.view.now t.textures.now (tools_lists t) t.openings.now notes) (draw_order sprites)
 
 -- the cache holds what the files of these contents give, and a colormap of `count` bytes
-abbrev pub HoldsTools : {S C : Type 0} → (S → ShelfView) → MaskedTools S C → List (List ℕ) → ℕ → Type 0
-HoldsTools shelf t contents count =
+abbrev pub HoldsMaskTools : {S C : Type 0} → (S → ShelfView) → MaskedTools S C → List (List ℕ) → ℕ → Type 0
+HoldsMaskTools shelf t contents count =
     HoldsArt (shelf t.shelf.now) t.dir.now t.textures.now contents t.colormap.0 count t.cache.now
 
 -- tools hold the references that others held
-abbrev pub AreSameTools : {S C : Type 0} → MaskedTools S C → MaskedTools S C → Type 0
-AreSameTools old new = (new.cache.ghost_name ≡ old.cache.ghost_name)
+abbrev pub AreSameMaskTools : {S C : Type 0} → MaskedTools S C → MaskedTools S C → Type 0
+AreSameMaskTools old new = (new.cache.ghost_name ≡ old.cache.ghost_name)
     × ((new.shelf.ghost_name ≡ old.shelf.ghost_name)
     × ((new.canvas.ghost_name ≡ old.canvas.ghost_name) × (new.marks.ghost_name ≡ old.marks.ghost_name)))

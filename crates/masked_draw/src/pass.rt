@@ -18,8 +18,8 @@ ghost use Rattle.masked_draw.specs.Clipped.{AreSpriteRows, TakesRows, row_in};
 ghost use Rattle.masked_draw.specs.Marks.{MarkedTo, MarksBy, MissesColumns, is_passed, mark_in, unmarked_dots};
 ghost use Rattle.masked_draw.specs.Passes.{DrawsSprite, PassesSprite};
 ghost use Rattle.masked_draw.specs.Ready.{IsListed, IsMiddleNumber, IsNotedMiddle, IsSpriteLump};
-ghost use Rattle.masked_draw.specs.Scenes.{AreSameHands, CanPaintNote, CanPass, PaintsDots, hands_state, scene_drawseg, scene_drawsegs, scene_lists};
-ghost use Rattle.masked_draw.specs.Tools.{AreSameTools, HoldsTools, tools_dots, tools_lists};
+ghost use Rattle.masked_draw.specs.Scenes.{AreSameMaskHands, CanPaintNote, CanPass, PaintsDots, mask_hands, scene_drawseg, scene_drawsegs, scene_lists};
+ghost use Rattle.masked_draw.specs.Tools.{AreSameMaskTools, HoldsMaskTools, tools_dots, tools_lists};
 
 use crate::clips::{SpriteClips, is_behind};
 use crate::middles::paint_middle;
@@ -60,14 +60,14 @@ pub fn draw_masked<S: Shelf, C: Canvas>(
     requires slots { length tools.old.dir.now.lumps ≤ tools.old.cache.now.lumps }
     requires colormap { tools.old.colormap.0 < length tools.old.dir.now.lumps }
     requires placed { StandsInFrame tools.old.view.now.shape (C.view tools.old.canvas.now) }
-    ensures same { AreSameTools tools.old tools.new }
+    ensures same { AreSameMaskTools tools.old tools.new }
     ensures marks { length tools.new.marks.now ≡ length tools.old.marks.now }
     ensures painted { (contents : List (List ℕ)) (count : ℕ) →
-        HoldsTools S.view tools.old contents count → OnOk result (HasDots C.mark
+        HoldsMaskTools S.view tools.old contents count → OnOk result (HasDots C.mark
         (tools_dots tools.old notes.now sprites.now contents)
         (C.view tools.old.canvas.now) (C.view tools.new.canvas.now)) }
     ensures fits { (contents : List (List ℕ)) (count : ℕ) →
-        HoldsTools S.view tools.old contents count → OnOk result (FitBeside
+        HoldsMaskTools S.view tools.old contents count → OnOk result (FitBeside
         tools.old.dir.now.lumps tools.old.textures.now tools.old.colormap.0 count
         tools.old.cache.now.size (tools_dots tools.old notes.now sprites.now contents)) }
     ensures draws { DrawsWith cache_fault
@@ -105,11 +105,12 @@ fn draw_sprites<S: Shelf, C: Canvas>(
     notes: &[FragmentNote],
     sprites: &Sprites,
 ) -> Result<(), CacheFault>
-    requires ready { CanPass scene.now notes.now (hands_state S.view C.view hands.old) hands.old.marks.now }
+    requires ready { CanPass scene.now notes.now (mask_hands S.view C.view hands.old)
+        hands.old.marks.now }
     requires unmarked { (p : ℕ) → mark_in hands.old.marks.now p ≡ false }
     requires columns { AllPass (lies_within scene.now.view.now.shape.width) sprites.now }
     requires lumps { AllPass (has_lump_below (length scene.now.dir.now.lumps)) sprites.now }
-    ensures same { AreSameHands hands.old hands.new }
+    ensures same { AreSameMaskHands hands.old hands.new }
     ensures marks { length hands.new.marks.now ≡ length hands.old.marks.now }
     ensures marked { OnOk result (MarkedTo (scene_drawseg scene.now) notes.now
         (draw_order sprites.now) (length notes.now) (λ k. length (draw_order sprites.now))
@@ -118,7 +119,7 @@ fn draw_sprites<S: Shelf, C: Canvas>(
         (IsSpriteLump sprites.now)
         (λ art. sprites_from scene.now.view.now art (scene_drawsegs scene.now notes.now)
         (draw_order sprites.now) 0 (draw_order sprites.now))
-        (hands_state S.view C.view hands.old) (hands_state S.view C.view hands.new) result }
+        (mask_hands S.view C.view hands.old) (mask_hands S.view C.view hands.new) result }
 {
     let mut clips = SpriteClips::new();
     for entry in sprites.sorted() {
@@ -133,15 +134,16 @@ fn draw_middles<S: Shelf, C: Canvas>(
     hands: &mut MaskHands<'_, S, C>,
     notes: &[FragmentNote],
 ) -> Result<(), CacheFault>
-    requires ready { CanPass scene.now notes.now (hands_state S.view C.view hands.old) hands.old.marks.now }
-    ensures same { AreSameHands hands.old hands.new }
+    requires ready { CanPass scene.now notes.now (mask_hands S.view C.view hands.old)
+        hands.old.marks.now }
+    ensures same { AreSameMaskHands hands.old hands.new }
     ensures marks { length hands.new.marks.now ≡ length hands.old.marks.now }
     ensures paints { (es : List SpriteEntry) → MarkedTo (scene_drawseg scene.now) notes.now es
         (length notes.now) (λ k. length es) hands.old.marks.now →
         PaintsDots C.mark scene.now (IsNotedMiddle (scene_lists scene.now) notes.now) (λ (n : ℕ). ⊥)
         (λ art. middles_at scene.now.view.now art (scene_drawsegs scene.now notes.now) es None
         (length notes.now))
-        (hands_state S.view C.view hands.old) (hands_state S.view C.view hands.new) result }
+        (mask_hands S.view C.view hands.old) (mask_hands S.view C.view hands.new) result }
 {
     for k in (0..notes.len()).rev() {
         let note = &notes[k];
@@ -159,17 +161,18 @@ fn draw_sprite<S: Shelf, C: Canvas>(
     entry: &SpriteEntry,
     clips: &mut SpriteClips,
 ) -> Result<(), CacheFault>
-    requires ready { CanPass scene.now notes.now (hands_state S.view C.view hands.old) hands.old.marks.now }
+    requires ready { CanPass scene.now notes.now (mask_hands S.view C.view hands.old)
+        hands.old.marks.now }
     requires within { lies_within scene.now.view.now.shape.width entry.now ≡ true }
     requires lump { entry.now.lump < length scene.now.dir.now.lumps }
-    ensures same { AreSameHands hands.old hands.new }
+    ensures same { AreSameMaskHands hands.old hands.new }
     ensures marks { length hands.new.marks.now ≡ length hands.old.marks.now }
     ensures sprite { (es : List SpriteEntry) (i : ℕ) → i < length es →
         slice_get es i ≡ Some entry.now →
         MarkedTo (scene_drawseg scene.now) notes.now es (length notes.now) (λ k. i)
         hands.old.marks.now →
         DrawsSprite C.mark scene.now notes.now es i entry.now hands.new.marks.now
-        (hands_state S.view C.view hands.old) (hands_state S.view C.view hands.new) result }
+        (mask_hands S.view C.view hands.old) (mask_hands S.view C.view hands.new) result }
 {
     if entry.last < entry.first {
         return Ok(());
@@ -190,14 +193,16 @@ fn pass_fragments<S: Shelf, C: Canvas>(
     entry: &SpriteEntry,
     clips: &mut SpriteClips,
 ) -> Result<(), CacheFault>
-    requires ready { CanPass scene.now notes.now (hands_state S.view C.view hands.old) hands.old.marks.now }
+    requires ready { CanPass scene.now notes.now (mask_hands S.view C.view hands.old)
+        hands.old.marks.now }
     requires within { lies_within scene.now.view.now.shape.width entry.now ≡ true }
     requires ordered { entry.now.first ≤ℤ entry.now.last }
     requires tops { (x : ℕ) → entry_has entry.now x ≡ true → row_in clips.old.tops x ≡ None }
     requires bottoms { (x : ℕ) → entry_has entry.now x ≡ true → row_in clips.old.bottoms x ≡ None }
-    ensures same { AreSameHands hands.old hands.new }
+    ensures same { AreSameMaskHands hands.old hands.new }
     ensures marks { length hands.new.marks.now ≡ length hands.old.marks.now }
-    ensures ready { OnOk result (CanPass scene.now notes.now (hands_state S.view C.view hands.new) hands.new.marks.now) }
+    ensures ready { OnOk result (CanPass scene.now notes.now (mask_hands S.view C.view
+        hands.new) hands.new.marks.now) }
     ensures rows { OnOk result ((x : ℕ) → entry_has entry.now x ≡ true →
         AreSpriteRows scene.now (scene_drawsegs scene.now notes.now) entry.now clips.new x) }
     ensures passed { (es : List SpriteEntry) (i : ℕ) → i < length es →
@@ -205,7 +210,7 @@ fn pass_fragments<S: Shelf, C: Canvas>(
         MarkedTo (scene_drawseg scene.now) notes.now es (length notes.now) (λ k. i)
         hands.old.marks.now →
         PassesSprite C.mark scene.now notes.now es i hands.new.marks.now
-        (hands_state S.view C.view hands.old) (hands_state S.view C.view hands.new) result }
+        (mask_hands S.view C.view hands.old) (mask_hands S.view C.view hands.new) result }
 {
     for k in (0..notes.len()).rev() {
         pass_fragment(scene, hands, &notes[k], k as u16, entry, clips)?;
@@ -223,11 +228,11 @@ fn pass_fragment<S: Shelf, C: Canvas>(
     entry: &SpriteEntry,
     clips: &mut SpriteClips,
 ) -> Result<(), CacheFault>
-    requires note { CanPaintNote scene.now note.now (hands_state S.view C.view hands.old) }
+    requires note { CanPaintNote scene.now note.now (mask_hands S.view C.view hands.old) }
     requires marks { length scene.now.openings.now ≤ length hands.old.marks.now }
     requires within { lies_within scene.now.view.now.shape.width entry.now ≡ true }
     requires ordered { entry.now.first ≤ℤ entry.now.last }
-    ensures same { AreSameHands hands.old hands.new }
+    ensures same { AreSameMaskHands hands.old hands.new }
     ensures marks { length hands.new.marks.now ≡ length hands.old.marks.now }
     ensures marked { OnOk result (MarksBy note.now
         (is_passed entry.now (scene_drawseg scene.now note.now)) hands.old.marks.now
@@ -239,7 +244,7 @@ fn pass_fragment<S: Shelf, C: Canvas>(
         (λ art. unmarked_dots scene.now.view.now art hands.old.marks.now note.now
         (is_passed entry.now (scene_drawseg scene.now note.now)) number
         (scene_drawseg scene.now note.now))
-        (hands_state S.view C.view hands.old) (hands_state S.view C.view hands.new) result }
+        (mask_hands S.view C.view hands.old) (mask_hands S.view C.view hands.new) result }
 {
     let first = column_of(entry.first);
     let last = column_of(entry.last);

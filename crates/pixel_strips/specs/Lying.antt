@@ -19,8 +19,8 @@ IsSpanIn s canvas = (s.first ≤ s.last)
     × ((s.y + canvas.top < FRAME_HEIGHT) × (s.last + canvas.left < FRAME_WIDTH))
 
 -- a canvas with the dots of a column
-abbrev pub with_column : (Painter → ℕ → ℕ) → ColumnStrip → CanvasView → CanvasView
-with_column mark s canvas = with_dots mark (column_strip_dots canvas.painter s.x
+abbrev pub with_column_cut : (Painter → ℕ → ℕ) → ColumnStrip → CanvasView → CanvasView
+with_column_cut mark s canvas = with_dots mark (column_strip_dots canvas.painter s.x
     (strip_colour s.source.now s.base s.colormap.now s.map s.fraction s.step s.first) s.first s.last) canvas
 
 -- with those of a span

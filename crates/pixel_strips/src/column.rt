@@ -1,7 +1,7 @@
 // Columns of pixels.
 ghost use Rattle.std.specs.Prelude.{◌≡◌, ◌*◌, ◌^◌, ◌<◌};
 ghost use Rattle.pixel_rules.specs.declared.TheConstants.{TEXEL_ROWS, MAP_COLOURS};
-ghost use Rattle.pixel_strips.specs.Lying.{IsColumnIn, with_column};
+ghost use Rattle.pixel_strips.specs.Lying.{IsColumnIn, with_column_cut};
 ghost use Rattle.pixel_strips.specs.Strips.{IsWindow};
 
 use crate::canvas::{Canvas, CutColumn};
@@ -36,7 +36,7 @@ pub struct ColumnStrip<'a> {
 pub fn paint_column<C: Canvas>(canvas: &mut C, strip: &ColumnStrip<'_>)
     requires within { IsColumnIn strip.now (C.view canvas.old) }
     requires base { strip.now.base < 2 ^ 63 }
-    ensures { C.view canvas.new ≡ with_column C.mark strip.now (C.view canvas.old) }
+    ensures { C.view canvas.new ≡ with_column_cut C.mark strip.now (C.view canvas.old) }
 {
     if let Some(texels) = window(strip.source, strip.base, TEXEL_ROWS as usize)
         && let Some(shades) = window(
@@ -57,7 +57,7 @@ pub fn paint_column<C: Canvas>(canvas: &mut C, strip: &ColumnStrip<'_>)
 pub fn paint_post<C: Canvas>(canvas: &mut C, strip: &ColumnStrip<'_>)
     requires within { IsColumnIn strip.now (C.view canvas.old) }
     requires base { strip.now.base < 2 ^ 63 }
-    ensures { C.view canvas.new ≡ with_column C.mark strip.now (C.view canvas.old) }
+    ensures { C.view canvas.new ≡ with_column_cut C.mark strip.now (C.view canvas.old) }
 {
     paint_column(canvas, strip);
 }
@@ -66,7 +66,7 @@ pub fn paint_post<C: Canvas>(canvas: &mut C, strip: &ColumnStrip<'_>)
 fn paint_any_column<C: Canvas>(canvas: &mut C, strip: &ColumnStrip<'_>)
     requires within { IsColumnIn strip.now (C.view canvas.old) }
     requires base { strip.now.base < 2 ^ 63 }
-    ensures { C.view canvas.new ≡ with_column C.mark strip.now (C.view canvas.old) }
+    ensures { C.view canvas.new ≡ with_column_cut C.mark strip.now (C.view canvas.old) }
 {
     let mut fraction = strip.fraction;
     for y in strip.first..strip.last + 1 {
@@ -93,7 +93,7 @@ fn paint_cut_column<C: Canvas>(
     requires texels { IsWindow strip.now.source.now strip.now.base TEXEL_ROWS texels.now }
     requires shades { IsWindow strip.now.colormap.now (MAP_COLOURS * strip.now.map) MAP_COLOURS
         shades.now }
-    ensures { C.view canvas.new ≡ with_column C.mark strip.now (C.view canvas.old) }
+    ensures { C.view canvas.new ≡ with_column_cut C.mark strip.now (C.view canvas.old) }
 {
     let cut = CutColumn {
         texels,

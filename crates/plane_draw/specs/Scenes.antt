@@ -38,12 +38,12 @@ abbrev pub plane_state : ShelfView → Heap → CanvasView → PlaneState
 plane_state shelf cache canvas = record { shelf = shelf; cache = cache; canvas = canvas }
 
 -- what is written by these hands, whose shelf and canvas tell of themselves so
-abbrev pub hands_state : {S C : Type 0} → (S → ShelfView) → (C → CanvasView) → PlaneHands S C → PlaneState
-hands_state shelf canvas h = plane_state (shelf h.shelf.now) h.cache.now (canvas h.canvas.now)
+abbrev pub plane_hands : {S C : Type 0} → (S → ShelfView) → (C → CanvasView) → PlaneHands S C → PlaneState
+plane_hands shelf canvas h = plane_state (shelf h.shelf.now) h.cache.now (canvas h.canvas.now)
 
 -- hands hold the references that others held
-abbrev pub AreSameHands : {S C : Type 0} → PlaneHands S C → PlaneHands S C → Type 0
-AreSameHands old new = (new.cache.ghost_name ≡ old.cache.ghost_name)
+abbrev pub AreSamePlaneHands : {S C : Type 0} → PlaneHands S C → PlaneHands S C → Type 0
+AreSamePlaneHands old new = (new.cache.ghost_name ≡ old.cache.ghost_name)
     × ((new.shelf.ghost_name ≡ old.shelf.ghost_name) × (new.canvas.ghost_name ≡ old.canvas.ghost_name))
 
 -- what each call asks

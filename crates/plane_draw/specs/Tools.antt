@@ -8,8 +8,8 @@ use Rattle.texture_build.specs.Draws.{HoldsArt}
 use Rattle.plane_draw.specs.declared.tools.PlaneTools.{PlaneTools}
 
 -- the cache holds what the files of these contents give, and a colormap of `count` bytes
-abbrev pub HoldsTools : {S C : Type 0} → (S → ShelfView) → PlaneTools S C → List (List ℕ) → ℕ → Type 0
-HoldsTools shelf t contents count =
+abbrev pub HoldsPlaneTools : {S C : Type 0} → (S → ShelfView) → PlaneTools S C → List (List ℕ) → ℕ → Type 0
+HoldsPlaneTools shelf t contents count =
     HoldsArt (shelf t.shelf.now) t.dir.now t.textures.now contents t.colormap.0 count t.cache.now
 
 -- a scene has their art, where the files have these contents, and the texture of their sky
@@ -21,6 +21,6 @@ abbrev pub HasToolsSky : {S C : Type 0} → PlaneTools S C → Scene → Type 0
 HasToolsSky t scene = IfSome t.sky (λ tex. scene.sky ≡ tex.0)
 
 -- tools hold the references that others held
-abbrev pub AreSameTools : {S C : Type 0} → PlaneTools S C → PlaneTools S C → Type 0
-AreSameTools old new = (new.cache.ghost_name ≡ old.cache.ghost_name)
+abbrev pub AreSamePlaneTools : {S C : Type 0} → PlaneTools S C → PlaneTools S C → Type 0
+AreSamePlaneTools old new = (new.cache.ghost_name ≡ old.cache.ghost_name)
     × ((new.shelf.ghost_name ≡ old.shelf.ghost_name) × (new.canvas.ghost_name ≡ old.canvas.ghost_name))

@@ -8,8 +8,8 @@ ghost use Rattle.picture_rules.specs.plane.Skies.{plane_dots};
 ghost use Rattle.pixel_strips.specs.Dotted.{HasDots, PlacedAlike};
 ghost use Rattle.pixel_strips.specs.Standing.{StandsInFrame};
 ghost use Rattle.plane_draw.specs.Planes.{CanDrawPlane, IsSky, IsFlatOf};
-ghost use Rattle.plane_draw.specs.Scenes.{AreSameHands, CanDrawAt, CanDrawPlanes, PaintsPlanes, first_planes, hands_state};
-ghost use Rattle.plane_draw.specs.Tools.{AreSameTools, HasToolsArt, HasToolsSky, HoldsTools};
+ghost use Rattle.plane_draw.specs.Scenes.{AreSamePlaneHands, CanDrawAt, CanDrawPlanes, PaintsPlanes, first_planes, plane_hands};
+ghost use Rattle.plane_draw.specs.Tools.{AreSamePlaneTools, HasToolsArt, HasToolsSky, HoldsPlaneTools};
 ghost use Rattle.std.specs.Prelude.{◌<◌, ◌≤◌, ℕ, List, All, IfSome, OnOk, length};
 ghost use Rattle.texture_build.specs.Draws.{CanDraw, FitBeside, DrawsWith};
 ghost use Rattle.visplanes.specs.Planes.{plane_at};
@@ -49,15 +49,15 @@ pub fn draw_planes<S: Shelf, C: Canvas>(
     requires slots { length tools.old.dir.now.lumps ≤ tools.old.cache.now.lumps }
     requires colormap { tools.old.colormap.0 < length tools.old.dir.now.lumps }
     requires placed { StandsInFrame tools.old.view.now.shape (C.view tools.old.canvas.now) }
-    ensures same { AreSameTools tools.old tools.new }
+    ensures same { AreSamePlaneTools tools.old tools.new }
     ensures painted { (scene : Scene) (contents : List (List ℕ)) (count : ℕ) →
-        HoldsTools S.view tools.old contents count → HasToolsArt tools.old contents scene →
+        HoldsPlaneTools S.view tools.old contents count → HasToolsArt tools.old contents scene →
         HasToolsSky tools.old scene →
         OnOk result (HasDots C.mark
         (planes_dots tools.old.view.now scene planes.now.planes)
         (C.view tools.old.canvas.now) (C.view tools.new.canvas.now)) }
     ensures fits { (scene : Scene) (contents : List (List ℕ)) (count : ℕ) →
-        HoldsTools S.view tools.old contents count → HasToolsArt tools.old contents scene →
+        HoldsPlaneTools S.view tools.old contents count → HasToolsArt tools.old contents scene →
         HasToolsSky tools.old scene →
         OnOk result (FitBeside tools.old.dir.now.lumps tools.old.textures.now
         tools.old.colormap.0 count tools.old.cache.now.size
@@ -88,12 +88,12 @@ fn draw_each<S: Shelf, C: Canvas>(
     scene: &PlaneScene<'_>,
     hands: &mut PlaneHands<'_, S, C>,
 ) -> Result<(), CacheFault>
-    requires { CanDrawPlanes scene.now (hands_state S.view C.view hands.old) }
-    ensures same { AreSameHands hands.old hands.new }
+    requires { CanDrawPlanes scene.now (plane_hands S.view C.view hands.old) }
+    ensures same { AreSamePlaneHands hands.old hands.new }
     ensures paints { PaintsPlanes C.mark scene.now
         (λ art sky. first_planes scene.now.view.now art sky scene.now.planes.now.planes
         (length scene.now.planes.now.planes))
-        (hands_state S.view C.view hands.old) (hands_state S.view C.view hands.new) result }
+        (plane_hands S.view C.view hands.old) (plane_hands S.view C.view hands.new) result }
 {
     for number in 0..scene.planes.count() {
         draw_one(scene, hands, PlaneNo(number as u16))?;
@@ -107,12 +107,12 @@ fn draw_one<S: Shelf, C: Canvas>(
     hands: &mut PlaneHands<'_, S, C>,
     plane: PlaneNo,
 ) -> Result<(), CacheFault>
-    requires ready { CanDrawAt scene.now plane.0 (hands_state S.view C.view hands.old) }
-    ensures same { AreSameHands hands.old hands.new }
+    requires ready { CanDrawAt scene.now plane.0 (plane_hands S.view C.view hands.old) }
+    ensures same { AreSamePlaneHands hands.old hands.new }
     ensures paints { PaintsPlanes C.mark scene.now
         (λ art sky. plane_dots scene.now.view.now art sky plane.0
         (plane_at scene.now.planes.now.planes plane.0))
-        (hands_state S.view C.view hands.old) (hands_state S.view C.view hands.new) result }
+        (plane_hands S.view C.view hands.old) (plane_hands S.view C.view hands.new) result }
 {
     if scene.planes.is_empty(plane) {
         return Ok(());

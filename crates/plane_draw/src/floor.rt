@@ -10,7 +10,7 @@ ghost use Rattle.picture_rules.specs.declared.plane.Flat4.TheVariants.{Lump};
 ghost use Rattle.picture_rules.specs.plane.Skies.{plane_dots};
 ghost use Rattle.visplanes.specs.Planes.{plane_at};
 ghost use Rattle.texture_build.specs.Draws.{HoldsArt, FitBeside};
-ghost use Rattle.plane_draw.specs.Scenes.{AreSameHands, CanDrawAt, PaintsPlanes, hands_state, plane_art};
+ghost use Rattle.plane_draw.specs.Scenes.{AreSamePlaneHands, CanDrawAt, PaintsPlanes, plane_hands, plane_art};
 
 use crate::scene::{PlaneHands, PlaneScene};
 use lump_cache::CacheFault;
@@ -27,13 +27,13 @@ pub fn draw_floor<S: Shelf, C: Canvas>(
     plane: PlaneNo,
     lump: LumpNo,
 ) -> Result<(), CacheFault>
-    requires ready { CanDrawAt scene.now plane.0 (hands_state S.view C.view hands.old) }
+    requires ready { CanDrawAt scene.now plane.0 (plane_hands S.view C.view hands.old) }
     requires flat { (plane_at scene.now.planes.now.planes plane.0).key.flat ≡ Lump lump.0 }
-    ensures same { AreSameHands hands.old hands.new }
+    ensures same { AreSamePlaneHands hands.old hands.new }
     ensures paints { PaintsPlanes C.mark scene.now
         (λ art sky. plane_dots scene.now.view.now art sky plane.0
         (plane_at scene.now.planes.now.planes plane.0))
-        (hands_state S.view C.view hands.old) (hands_state S.view C.view hands.new) result }
+        (plane_hands S.view C.view hands.old) (plane_hands S.view C.view hands.new) result }
 {
     hands.cache.fetch(hands.shelf, scene.dir, lump, Tag::Cache)?;
     paint_floor(scene, hands, plane, lump);
@@ -47,11 +47,11 @@ fn paint_floor<S: Shelf, C: Canvas>(
     plane: PlaneNo,
     lump: LumpNo,
 )
-    requires ready { CanDrawAt scene.now plane.0 (hands_state S.view C.view hands.old) }
+    requires ready { CanDrawAt scene.now plane.0 (plane_hands S.view C.view hands.old) }
     requires flat { (plane_at scene.now.planes.now.planes plane.0).key.flat ≡ Lump lump.0 }
     requires lump { lump.0 < length scene.now.dir.now.lumps }
     requires live { IsLive hands.old.cache.now (lump_owner lump.0) }
-    ensures same { AreSameHands hands.old hands.new }
+    ensures same { AreSamePlaneHands hands.old hands.new }
     ensures cache { hands.new.cache.now ≡ hands.old.cache.now }
     ensures shelf { hands.new.shelf.now ≡ hands.old.shelf.now }
     ensures painted { (view : ShelfView) (contents : List (List ℕ)) (count sky : ℕ) →

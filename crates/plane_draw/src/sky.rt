@@ -17,7 +17,7 @@ ghost use Rattle.texture_build.specs.Arts.{lookup_source};
 ghost use Rattle.texture_build.specs.Sources.{IsColumnLive, IsColumnThere, column_in, source_of};
 ghost use Rattle.texture_build.specs.Views.{prepared_texture};
 ghost use Rattle.texture_build.specs.Draws.{HoldsArt, FitBeside};
-ghost use Rattle.plane_draw.specs.Scenes.{AreSameHands, CanDrawAt, CanDrawPlanes, PaintsPlanes, hands_state, plane_art, sky_run};
+ghost use Rattle.plane_draw.specs.Scenes.{AreSamePlaneHands, CanDrawAt, CanDrawPlanes, PaintsPlanes, plane_hands, plane_art, sky_run};
 
 use crate::scene::{PlaneHands, PlaneScene};
 use art_rules::ColumnLookup;
@@ -120,13 +120,13 @@ pub fn draw_sky<S: Shelf, C: Canvas>(
     hands: &mut PlaneHands<'_, S, C>,
     plane: PlaneNo,
 ) -> Result<(), CacheFault>
-    requires ready { CanDrawAt scene.now plane.0 (hands_state S.view C.view hands.old) }
+    requires ready { CanDrawAt scene.now plane.0 (plane_hands S.view C.view hands.old) }
     requires flat { (plane_at scene.now.planes.now.planes plane.0).key.flat ≡ Sky }
-    ensures same { AreSameHands hands.old hands.new }
+    ensures same { AreSamePlaneHands hands.old hands.new }
     ensures paints { PaintsPlanes C.mark scene.now
         (λ art sky. plane_dots scene.now.view.now art sky plane.0
         (plane_at scene.now.planes.now.planes plane.0))
-        (hands_state S.view C.view hands.old) (hands_state S.view C.view hands.new) result }
+        (plane_hands S.view C.view hands.old) (plane_hands S.view C.view hands.new) result }
 {
     let Some(tex) = scene.sky else {
         return Ok(());
@@ -145,14 +145,14 @@ fn draw_sky_column<S: Shelf, C: Canvas>(
     tex: TexNo,
     x: u16,
 ) -> Result<(), CacheFault>
-    requires ready { CanDrawAt scene.now plane.0 (hands_state S.view C.view hands.old) }
+    requires ready { CanDrawAt scene.now plane.0 (plane_hands S.view C.view hands.old) }
     requires sky { scene.now.sky ≡ Some tex }
     requires column { x < scene.now.view.now.shape.width }
-    ensures same { AreSameHands hands.old hands.new }
+    ensures same { AreSamePlaneHands hands.old hands.new }
     ensures paints { PaintsPlanes C.mark scene.now
         (λ art sky. sky_run scene.now.view.now art plane.0 tex.0 x
         (column (plane_at scene.now.planes.now.planes plane.0) x))
-        (hands_state S.view C.view hands.old) (hands_state S.view C.view hands.new) result }
+        (plane_hands S.view C.view hands.old) (plane_hands S.view C.view hands.new) result }
 {
     let Some((first, last)) = scene.planes.column(plane, x) else {
         return Ok(());
@@ -173,16 +173,16 @@ fn draw_sky_rows<S: Shelf, C: Canvas>(
     hands: &mut PlaneHands<'_, S, C>,
     rows: &SkyRows,
 ) -> Result<(), CacheFault>
-    requires ready { CanDrawPlanes scene.now (hands_state S.view C.view hands.old) }
+    requires ready { CanDrawPlanes scene.now (plane_hands S.view C.view hands.old) }
     requires sky { scene.now.sky ≡ Some rows.now.tex }
     requires column { rows.now.x < scene.now.view.now.shape.width }
     requires rows { rows.now.first ≤ rows.now.last →
         rows.now.last < scene.now.view.now.shape.height }
-    ensures same { AreSameHands hands.old hands.new }
+    ensures same { AreSamePlaneHands hands.old hands.new }
     ensures paints { PaintsPlanes C.mark scene.now
         (λ art sky. sky_run scene.now.view.now art rows.now.number rows.now.tex.0 rows.now.x
         (Some (rows.now.first, rows.now.last)))
-        (hands_state S.view C.view hands.old) (hands_state S.view C.view hands.new) result }
+        (plane_hands S.view C.view hands.old) (plane_hands S.view C.view hands.new) result }
 {
     if rows.last < rows.first {
         return Ok(());
@@ -203,7 +203,7 @@ fn paint_sky<S: Shelf, C: Canvas>(
     rows: &SkyRows,
     lookup: ColumnLookup,
 )
-    requires ready { CanDrawPlanes scene.now (hands_state S.view C.view hands.old) }
+    requires ready { CanDrawPlanes scene.now (plane_hands S.view C.view hands.old) }
     requires sky { scene.now.sky ≡ Some rows.now.tex }
     requires column { rows.now.x < scene.now.view.now.shape.width }
     requires ordered { rows.now.first ≤ rows.now.last }
@@ -212,7 +212,7 @@ fn paint_sky<S: Shelf, C: Canvas>(
         (sky_column scene.now.view.now rows.now.x) }
     requires there { IsColumnThere scene.now.dir.now.lumps lookup }
     requires live { IsColumnLive rows.now.tex.0 hands.old.cache.now lookup }
-    ensures same { AreSameHands hands.old hands.new }
+    ensures same { AreSamePlaneHands hands.old hands.new }
     ensures cache { hands.new.cache.now ≡ hands.old.cache.now }
     ensures shelf { hands.new.shelf.now ≡ hands.old.shelf.now }
     ensures painted { (view : ShelfView) (contents : List (List ℕ)) (count : ℕ) →

@@ -12,8 +12,8 @@ use Rattle.wall_columns.specs.declared.tools.WallTools.{WallTools}
 use Rattle.wall_columns.specs.Built.{with_wall}
 
 -- the cache holds what the files of these contents give, and a colormap of `count` bytes
-abbrev pub HoldsTools : {S C : Type 0} → (S → ShelfView) → WallTools S C → List (List ℕ) → ℕ → Type 0
-HoldsTools shelf t contents count =
+abbrev pub HoldsWallTools : {S C : Type 0} → (S → ShelfView) → WallTools S C → List (List ℕ) → ℕ → Type 0
+HoldsWallTools shelf t contents count =
     HoldsArt (shelf t.shelf.now) t.dir.now t.textures.now contents t.colormap.0 count t.cache.now
 
 -- the dots of the fragment of a seg behind these, where the files have these contents

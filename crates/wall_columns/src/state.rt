@@ -16,7 +16,7 @@ ghost use Rattle.wall_columns.specs.Faults.{draw_fault, limit_of_result, IsPlane
 ghost use Rattle.pixel_strips.specs.Dotted.{HasDots, PlacedAlike};
 ghost use Rattle.wall_columns.specs.Draws.{IsWallTexture, IsNoPicture, IsUntouched};
 ghost use Rattle.wall_columns.specs.Noted.{HaveBacks};
-ghost use Rattle.wall_columns.specs.Tools.{HoldsTools, range_dots};
+ghost use Rattle.wall_columns.specs.Tools.{HoldsWallTools, range_dots};
 
 use crate::column_state::ColumnState;
 use crate::fault::DrawFault;
@@ -209,14 +209,14 @@ impl WallState {
         ensures painted { (walls : List Wall) (s : PlanesNow) (contents : List (List ℕ))
             (count : ℕ) →
             IsBuilt tools.old.view.now walls s self.old tools.old.planes.now.planes →
-            length walls < MAX_DRAWSEGS → HoldsTools S.view tools.old contents count →
+            length walls < MAX_DRAWSEGS → HoldsWallTools S.view tools.old contents count →
             OnOk result (HasDots C.mark
             (range_dots tools.old facts.now first last walls contents)
             (C.view tools.old.canvas.now) (C.view tools.new.canvas.now)) }
         ensures fits { (walls : List Wall) (s : PlanesNow) (contents : List (List ℕ))
             (count : ℕ) →
             IsBuilt tools.old.view.now walls s self.old tools.old.planes.now.planes →
-            length walls < MAX_DRAWSEGS → HoldsTools S.view tools.old contents count →
+            length walls < MAX_DRAWSEGS → HoldsWallTools S.view tools.old contents count →
             OnOk result (FitBeside tools.old.dir.now.lumps tools.old.textures.now
             tools.old.colormap.0 count tools.old.cache.now.size
             (range_dots tools.old facts.now first last walls contents)) }
