@@ -25,6 +25,7 @@ BUILT = os.path.join(TOP, 'out', PROGRAM)
 BUILD_FAILED = 70
 CRATE_MEMORY = 2 << 30  # bytes, about what the proof of a crate takes
 SHOWN_LINES = 60  # of what rt said of a crate that failed
+DEAR = ('command_line', 'level_audit', 'doom_run')  # whose proof takes twice as long a line as others'
 STOPS = (signal.SIGINT, signal.SIGTERM, signal.SIGHUP)
 IGNORED = (signal.SIGPIPE, signal.SIGXFSZ)  # by Python, and not by the program
 
@@ -65,18 +66,18 @@ def count_jobs(most):
 
 
 def count_lines(crate):
-    """How much there is to prove: the lines of its code, tests left out."""
+    """How much there is to prove: the lines of its code, tests left out, and twice as many of a dear one."""
     found = 0
     for folder, _, files in os.walk(os.path.join(TOP, 'crates', crate, 'src')):
         for name in files:
             if not name.endswith('tests.rt'):
                 with open(os.path.join(folder, name), 'rb') as file:
                     found += file.read().count(b'\n')
-    return found
+    return 2 * found if crate in DEAR else found
 
 
 def niceness(crates):
-    """How far a crate's proof gives way to others: 0 on the longest chain of crates, and up to 10 where the
+    """How far a crate's proof gives way to others: 0 on the longest chain of crates, and up to 19 where the
     longest chain through the crate is much shorter."""
     work = {crate: count_lines(crate) for crate in crates}
     below, above = {}, {}
@@ -86,7 +87,7 @@ def niceness(crates):
         above[crate] = work[crate] + max((above[it] for it in crates if crate in crates[it]), default=0)
     chain = {crate: below[crate] + above[crate] - work[crate] for crate in crates}
     most = max(chain.values())
-    return {crate: 10 * (most - chain[crate]) // max(1, most) for crate in crates}
+    return {crate: min(19, 20 * (most - chain[crate]) // max(1, most)) for crate in crates}
 
 
 def give_way(nice, ended):
