@@ -99,7 +99,7 @@ pub fn audit<S: Shelf>(
         IfOk result (λ sound. (lump : ℕ) → IsOfBase dir.now.lumps map.now lump →
         lump ≢ sound.scene.base.colormap →
         block_size (lump_at dir.now.lumps sound.scene.base.colormap).size + block_size (lump_at
-            dir.now.lumps lump).size ≤ cache.old.size) }
+        dir.now.lumps lump).size ≤ cache.old.size) }
     ensures whole { IfOk result (λ sound.
         IsWholeScene dir.now.lumps things.now map.now skill sound.scene) }
     ensures follows { IsLaterShelf (S.view shelf.old) (S.view shelf.new) }
