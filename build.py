@@ -184,7 +184,7 @@ def build():
     began = time.time()
     crates = crates_below(PROGRAM)
     say(f'building: {len(crates)} crates are proved, side by side. The first time '
-        'took 34 minutes on four processors that did nothing else')
+        'took 27 minutes on four processors that did nothing else')
     work = Build(crates)
     ended = threading.Event()
     threading.Thread(target=give_way, args=(niceness(crates), ended), daemon=True).start()
