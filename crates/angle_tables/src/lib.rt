@@ -19,5 +19,3 @@ pub use refusals::TablesFault;
 pub use tables::Tables;
 pub use view_rules::{TablesRefusal, ViewShape};
 
-#[cfg(test)]
-mod tests;

@@ -15,8 +15,6 @@ mod layout;
 mod patch;
 mod refusal;
 mod shapes;
-#[cfg(test)]
-mod tests;
 
 pub use bytes::{byte_at, half_at, signed_half_at, word_at};
 pub use layout::{

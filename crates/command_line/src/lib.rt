@@ -18,5 +18,3 @@ pub use crate::command::{
 };
 pub use crate::jobs::command_of;
 
-#[cfg(test)]
-mod tests;

@@ -20,5 +20,3 @@ pub use crate::things::ThingTable;
 pub use crate::weapons::{WeaponRow, WeaponTable};
 pub use level_rules::{ThingLine, ThingRow};
 
-#[cfg(test)]
-mod tests;

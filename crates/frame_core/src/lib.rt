@@ -16,8 +16,6 @@ mod floors;
 mod keys;
 mod masks;
 mod painter;
-#[cfg(test)]
-mod tests;
 mod things;
 mod tools;
 mod view;

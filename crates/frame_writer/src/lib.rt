@@ -7,8 +7,6 @@
 
 mod index;
 mod ppm;
-#[cfg(test)]
-mod tests;
 
 pub use index::put_index;
 pub use ppm::put_ppm;

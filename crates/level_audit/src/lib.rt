@@ -14,8 +14,6 @@
 mod art;
 mod audit_steps;
 mod base;
-#[cfg(test)]
-mod base_tests;
 mod checks;
 mod colours;
 mod fault;
@@ -23,8 +21,6 @@ mod middles;
 mod names;
 mod scene;
 pub mod scene_load;
-#[cfg(test)]
-mod tests;
 mod weapons;
 
 pub use audit_steps::audit;

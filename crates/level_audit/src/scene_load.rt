@@ -10,14 +10,10 @@
 //! `D_AddFile`, d_main.c, with `W_InitMultipleFiles`, w_wad.c, `R_Init`, r_main.c, and
 //! `P_SetupLevel`, p_setup.c; the files beside the WADs are this project's own.
 mod fault;
-#[cfg(test)]
-mod file_tests;
 mod load;
 mod named;
 mod read;
 mod tables;
-#[cfg(test)]
-mod tests;
 mod texts;
 mod wads;
 

@@ -14,13 +14,9 @@
 mod fault;
 mod flats;
 mod level;
-#[cfg(test)]
-mod level_tests;
 mod lumps;
 mod places;
 mod sides;
-#[cfg(test)]
-mod tests;
 
 pub use fault::{LevelFault, SceneFault};
 pub use flats::{find_flats, make_surfaces};

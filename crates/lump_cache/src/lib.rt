@@ -15,13 +15,9 @@
 mod cache;
 mod fault;
 mod fetch;
-#[cfg(test)]
-mod fetch_tests;
 mod fetching;
 mod read;
 mod tags;
-#[cfg(test)]
-mod tests;
 
 pub use cache::LumpCache;
 pub use fault::CacheFault;

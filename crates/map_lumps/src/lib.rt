@@ -16,8 +16,6 @@ mod lists;
 mod ranges;
 mod records;
 mod sizes;
-#[cfg(test)]
-mod tests;
 mod tree;
 
 pub use builder::LevelBuilder;

@@ -7,15 +7,11 @@
 #![tactic(auto)]
 
 mod clips;
-#[cfg(test)]
-mod counted;
 mod middles;
 mod pass;
 mod posts;
 mod scene;
 mod sprites;
-#[cfg(test)]
-mod tests;
 mod tools;
 
 pub use pass::draw_masked;

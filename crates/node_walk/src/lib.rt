@@ -17,8 +17,6 @@ mod ranges;
 mod runs;
 mod scene;
 mod segs;
-#[cfg(test)]
-mod tests;
 mod visitor;
 
 pub use cover::Cover;

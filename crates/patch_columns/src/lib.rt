@@ -10,12 +10,8 @@
 
 mod colours;
 mod compose;
-#[cfg(test)]
-mod composite_tests;
 mod lookups;
 mod posts;
-#[cfg(test)]
-mod tests;
 
 pub use art_rules::{Patch, byte_at};
 pub use colours::{flat_byte, palette_colour, shade};

@@ -11,8 +11,6 @@ mod column;
 mod frame;
 mod places;
 mod span;
-#[cfg(test)]
-mod tests;
 mod texels;
 
 pub use canvas::{Canvas, CutColumn, CutSpan};

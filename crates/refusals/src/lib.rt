@@ -8,8 +8,6 @@
 mod codes;
 mod lines;
 mod refusal;
-#[cfg(test)]
-mod tests;
 
 pub use art_rules::{SpriteRefusal, TexRefusal};
 pub use csv_tables::CsvRefusal;

@@ -17,8 +17,6 @@ mod mentions;
 mod needs;
 mod pictures;
 mod read;
-#[cfg(test)]
-mod tests;
 
 pub use art_rules::{Frame, Need, Shape, SpriteRefusal};
 pub use book::SpriteBook;

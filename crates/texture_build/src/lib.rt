@@ -16,8 +16,6 @@ mod prepared;
 mod prepared_list;
 mod ready;
 mod source;
-#[cfg(test)]
-mod tests;
 mod textures;
 
 pub use art_rules::{ColumnLookup, TexRefusal};

@@ -15,8 +15,6 @@ mod load;
 mod names;
 mod number;
 mod records;
-#[cfg(test)]
-mod tests;
 
 pub use art_rules::TexRefusal;
 pub use fault::TexFault;

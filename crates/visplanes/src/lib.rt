@@ -14,8 +14,6 @@ mod keys;
 mod planes;
 mod row_runs;
 mod rows;
-#[cfg(test)]
-mod tests;
 
 pub use draw::draw_plane;
 pub use picture_rules::{Flat4, PlaneKey};

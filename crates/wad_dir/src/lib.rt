@@ -10,8 +10,6 @@ mod fault;
 mod index;
 mod load;
 mod map;
-#[cfg(test)]
-mod tests;
 
 pub use directory::Directory;
 pub use fault::DirFault;

@@ -19,8 +19,6 @@ mod notes;
 mod openings;
 mod paint;
 mod state;
-#[cfg(test)]
-mod tests;
 mod tools;
 mod windows;
 

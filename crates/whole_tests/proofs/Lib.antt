@@ -1,5 +1,6 @@
 pub mod PictureRows
 pub mod PlaneRows
+mod PreparedLemmas
 pub mod RecorderLemmas
 pub mod SpriteRows
 pub mod ViewRows

@@ -1,7 +1,7 @@
-//! Tests that cross crates. It has no code of its own.
+//! Tests of the drawing, and tests that cross crates. It has no code of its own.
 //!
-//! Proved: nothing but that the tests are safe. Tested only: what the tests compare, with values
-//! from outside the definitions.
+//! Those of crate X are in `X_tests`. Proved: nothing but that the tests are safe. Tested only: what
+//! the tests compare, with values from outside the definitions.
 #![tactic(auto)]
 
 #[cfg(test)]
@@ -9,7 +9,13 @@ mod constants;
 #[cfg(test)]
 mod made;
 #[cfg(test)]
+mod made_lumps;
+#[cfg(test)]
+mod masked_draw_tests;
+#[cfg(test)]
 mod messages;
+#[cfg(test)]
+mod pixel_strips_tests;
 #[cfg(test)]
 mod shelf_tests;
 #[cfg(test)]
@@ -21,6 +27,10 @@ mod things;
 #[cfg(test)]
 mod view_tests;
 #[cfg(test)]
+mod visplanes_tests;
+#[cfg(test)]
 mod walks;
+#[cfg(test)]
+mod wall_columns_tests;
 #[cfg(test)]
 mod walls;

@@ -10,6 +10,7 @@ use level_scene::SceneFault;
 use lump_rules::DirRefusal;
 use map_lumps::MapFault;
 use outside::{Failed, Fault, PutFault};
+use refusals::Refusal;
 use scene_rules::{ArtRefusal, AuditRefusal, SceneRefusal, WeaponRefusal};
 use std::fmt::Display;
 use std::process::Abort;
@@ -177,6 +178,47 @@ fn a_refusal_of_a_picture_reads_as_that_of_its_group(rt: HostRuntime) -> Result<
         &rt,
         &weapon,
         "lump 1204 is a weapon's picture, but no patch",
+    )
+}
+
+#[test]
+fn a_refusal_of_lists_or_sprites_names_the_lump_or_the_thing(
+    rt: HostRuntime,
+) -> Result<(), Fail> {
+    let list = TexRefusal::Lump { which: 2 };
+    reads(
+        &rt,
+        &list,
+        "TEXTURE2 is absent or short, or textures pass 32767",
+    )?;
+    let rotation = SpriteRefusal::MissingRotation {
+        thing: 7,
+        rotation: 3,
+    };
+    reads(
+        &rt,
+        &rotation,
+        "thing 7: no lump shows its sprite frame from rotation 3",
+    )
+}
+
+#[test]
+fn a_refusal_of_a_job_names_the_file_and_the_place(rt: HostRuntime) -> Result<(), Fail> {
+    let record = Refusal::Map(MapRefusal::Index {
+        lump: 2,
+        record_no: 17,
+        field: 5,
+    });
+    reads(
+        &rt,
+        &record,
+        "SIDEDEFS record 17: field 5 names nothing that is there",
+    )?;
+    let field = Refusal::Path(CsvRefusal::Range { row: 4, column: 2 });
+    reads(
+        &rt,
+        &field,
+        "path: row 4 of the table, column 2: the field is out of its range",
     )
 }
 

@@ -1,0 +1,121 @@
+// What no clause says: values from outside over the made files of 10, and that memory is found.
+ghost use Rattle.std.specs.Prelude.{◌≡◌, ◌+◌, OnOk, length};
+ghost use Rattle.zone_rules.specs.Zones.{IsZoneSize};
+
+use level_audit::ZoneSizes;
+use level_audit::scene_load::{LoadFault, load_scene};
+use command_line::{Files, LevelJob, Settings};
+use level_maker::{make_path, make_tables, make_things, make_wad};
+use lump_rules::Name8;
+use outside::{Fault, MemoryFile, MemoryShelf};
+use std::alloc::{AllocError, Global};
+use std::test::Fail;
+
+const WEAPONS: &str = "view,sprite,frame,bright,sx,sy\n0,TREE,A,1,10485760,6553600\n";
+
+// The names of the files of a scene.
+const FILES: Files<'static> = Files {
+    tables: "tables",
+    things: "things",
+    path: "path",
+    weapon: None,
+};
+
+// Puts a file beside the others.
+fn put(
+    alloc: Global,
+    files: &mut Vec<MemoryFile>,
+    name: &str,
+    bytes: Vec<u8>,
+) -> Result<(), AllocError>
+    ensures { OnOk result (length files.new.items ≡ length files.old.items + 1) }
+{
+    let name = name.to_string(alloc)?;
+    files.push(MemoryFile { name, bytes })?;
+    Ok(())
+}
+
+// Puts the made files.
+fn put_made(alloc: Global, files: &mut Vec<MemoryFile>) -> Result<(), AllocError>
+    ensures { OnOk result (length files.new.items ≡ length files.old.items + 5) }
+{
+    put(alloc, files, "made.wad", make_wad(alloc, 10)?)?;
+    put(alloc, files, "tables", make_tables(alloc)?)?;
+    put(alloc, files, "things", make_things(alloc)?)?;
+    put(alloc, files, "path", make_path(alloc, 10)?)?;
+    put(alloc, files, "weapons", WEAPONS.as_bytes().to_vec(alloc)?)
+}
+
+fn made_shelf(alloc: Global) -> Result<MemoryShelf, AllocError> {
+    let mut files = Vec::new(alloc);
+    put_made(alloc, &mut files)?;
+    Ok(MemoryShelf::new(files, Vec::new(alloc)))
+}
+
+// The sizes of a loaded scene, and whether it has pictures of weapon layers.
+#[derive(Clone, Copy, Debug, PartialEq, Eq)]
+struct Seen {
+    sizes: ZoneSizes,
+    has_weapons: bool,
+}
+
+// What comes of the made files in a zone of that size.
+fn loaded(alloc: Global, zone: u32, weapon: Option<&str>) -> Result<Result<Seen, LoadFault>, Fail>
+    requires { IsZoneSize zone }
+{
+    let level = LevelJob {
+        map: Name8::from_text("map01").ok_or("a name")?,
+        files: Files { weapon, ..FILES },
+        settings: Settings {
+            zone,
+            skill: 3,
+            size: 11,
+            planes: 128,
+            openings: 20480,
+        },
+    };
+    let mut shelf = made_shelf(alloc)?;
+    Ok(loaded_on(alloc, &level, &mut shelf))
+}
+
+// The same, with this shelf.
+fn loaded_on(
+    alloc: Global,
+    level: &LevelJob<'_>,
+    shelf: &mut MemoryShelf,
+) -> Result<Seen, LoadFault>
+    requires zone { IsZoneSize level.now.settings.zone }
+    requires skill { level.now.settings.skill ≡ 3 }
+    requires size { level.now.settings.size ≡ 11 }
+{
+    let loaded = Box::new(alloc, load_scene(alloc, level, &["made.wad"], shelf)?)?;
+    Ok(Seen {
+        sizes: loaded.scene.sizes(),
+        has_weapons: loaded.weapons.is_some(),
+    })
+}
+
+// The picture of the weapon layer is one that the scene needs already.
+#[test]
+fn made_files_are_loaded_in_a_zone_that_is_enough(rt: HostRuntime) -> Result<(), Fail> {
+    let expected = Seen {
+        sizes: ZoneSizes {
+            enough: 108_512,
+            roomy: 204_328,
+        },
+        has_weapons: true,
+    };
+    assert_eq!(rt; loaded(rt.alloc(), 108_512, Some("weapons"))??, expected);
+    Ok(())
+}
+
+#[test]
+fn a_zone_without_room_for_the_sides_is_full(rt: HostRuntime) -> Result<(), Fail> {
+    let fault = loaded(rt.alloc(), 56_236, None)?.err();
+    let full = Fault::ZoneFull {
+        wanted: 48_024,
+        widest: 48_020,
+    };
+    assert_eq!(rt; fault, Some(full));
+    Ok(())
+}
