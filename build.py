@@ -2,8 +2,7 @@
 
 All crates that the program stands on are proved side by side: `rt all` starts a crate once those below it
 are done, and of those that go on at a time the ones with much still to come above them go first. At the
-end few crates can go on at a time; then each is built with all processors, one that has begun from where
-it was. The program gets its place,
+end few crates can go on at a time; then each is built with all processors. The program gets its place,
 out/doomview, as the last step, so no half-built one is ever run, and a build that was interrupted goes on
 where it was.
 
@@ -126,14 +125,15 @@ class Build:
         self.done.append(crate)
         say(f'crate {len(self.done)} of {len(self.crates)}: {crate}')
 
-    def is_narrow(self):
-        """Whether from here on at most half of the processors would have a crate each."""
+    def is_narrow(self, last):
+        """Whether from here on at most half of the processors would have a crate each, and each crate that
+        can go on waited for the last one, so that none has begun."""
         levels = {}
         for crate, below in self.crates.items():
             if crate not in self.done:
                 levels[crate] = 1 + max((levels[it] for it in below if it in levels), default=0)
         width = max(Counter(levels.values()).values(), default=0)
-        return 2 * width <= self.jobs
+        return 2 * width <= self.jobs and all(last in self.crates[it] for it, n in levels.items() if n == 1)
 
     def side_by_side(self):
         self.run = rt(PROGRAM, 'all', 'check', '--jobs', str(self.slots))
@@ -144,7 +144,7 @@ class Build:
                 crate = line.split()[1]
                 if crate in self.crates and crate not in self.done:
                     self.finish(crate)
-                    if self.is_narrow():
+                    if self.is_narrow(crate):
                         return self.stop()
             said.setdefault(crate, []).append(line)
         if self.run.wait():
