@@ -18,4 +18,3 @@ pub use columns::projection;
 pub use refusals::TablesFault;
 pub use tables::Tables;
 pub use view_rules::{TablesRefusal, ViewShape};
-

@@ -17,4 +17,3 @@ pub use crate::command::{
     Command, CommandFault, Files, Format, LevelJob, LevelTask, MakeJob, Settings,
 };
 pub use crate::jobs::command_of;
-

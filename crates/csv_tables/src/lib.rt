@@ -19,4 +19,3 @@ pub use crate::records::MAX_TABLE_BYTES;
 pub use crate::things::ThingTable;
 pub use crate::weapons::{WeaponRow, WeaponTable};
 pub use level_rules::{ThingLine, ThingRow};
-

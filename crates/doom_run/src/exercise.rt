@@ -80,7 +80,11 @@ fn made_map() -> Name8
 }
 
 // The scene of the made level, and the memory to draw it.
-fn prepare_made(alloc: Global, zone: u32, shelf: &mut MemoryShelf) -> Result<Box<ReadyViews>, LoadFault>
+fn prepare_made(
+    alloc: Global,
+    zone: u32,
+    shelf: &mut MemoryShelf,
+) -> Result<Box<ReadyViews>, LoadFault>
     requires { IsZoneSize zone }
     ensures answers { (files : List File) → Holds (memory_view shelf.old) files →
         ResultIsOrAbsent itself (memory_view shelf.old).steady (λ ready. loaded_value ready.value.loaded)

@@ -1,6 +1,6 @@
 // Patches of one column by hand, put one over the other.
-use patch_columns::{add_patch, place_columns, put_patch};
 use art_rules::{ColumnLookup, PlacedPatch};
+use patch_columns::{add_patch, place_columns, put_patch};
 
 // Width 1, height 4, its one post at byte 12: row 0, four bytes.
 const EARLIER: [u8; 21] = [

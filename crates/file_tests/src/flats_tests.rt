@@ -1,5 +1,5 @@
-use level_scene::{find_flats, make_surfaces};
 use level_rules::{SKY_FLAT, Sector, Surface};
+use level_scene::{find_flats, make_surfaces};
 use lump_rules::Name8;
 use outside::{MemoryFile, MemoryShelf, Shelf};
 use std::alloc::{AllocError, Global};

@@ -4,9 +4,9 @@
 // a function that owns many where it may return takes minutes to prove.
 ghost use Rattle.std.specs.Prelude.{◌<◌, ◌≤◌, ◌^◌, IfOk, length};
 
-use level_audit::{ArtRefusal, AuditFault, AuditRefusal, SceneRefusal, ZoneSizes, audit};
 use art_rules::{SpriteRefusal, TexRefusal};
 use csv_tables::ThingTable;
+use level_audit::{ArtRefusal, AuditFault, AuditRefusal, SceneRefusal, ZoneSizes, audit};
 use level_maker::make_wad;
 use level_rules::MapRefusal;
 use lump_cache::LumpCache;

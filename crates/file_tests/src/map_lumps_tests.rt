@@ -1,7 +1,7 @@
 // Levels from bytes, with values from outside the definitions: the made level of four cells, and
 // what its worked damages give.
-use map_lumps::*;
 use lump_rules::Name8;
+use map_lumps::*;
 use std::alloc::{AllocError, Global};
 
 // THINGS to SECTORS of a level of two by two cells, each 128 map units wide; of the sides and

@@ -7,12 +7,18 @@ fn a_file_of_the_system_is_read(rt: HostRuntime) -> Result<(), Fail> {
     fs::write(&rt, "a_file_of_the_system", "four score")?;
     let mut shelf = HostShelf::new(&rt, rt.alloc())?;
     let mut piece = [0; 5];
-    assert_eq!(rt; shelf.find("a_file_that_is_not_there"), Err(outside::Failed));
+    assert_eq!(rt;
+        shelf.find("a_file_that_is_not_there"),
+        Err(outside::Failed)
+    );
     assert_eq!(rt; shelf.find("a_file_of_the_system"), Ok(FileNo(0)));
     assert_eq!(rt; shelf.size_of(FileNo(0)), Ok(10));
     assert_eq!(rt; shelf.read_at(FileNo(0), 5, &mut piece), Ok(()));
     assert_eq!(rt; &piece, b"score");
-    assert_eq!(rt; shelf.read_at(FileNo(0), 6, &mut piece), Err(outside::Failed));
+    assert_eq!(rt;
+        shelf.read_at(FileNo(0), 6, &mut piece),
+        Err(outside::Failed)
+    );
     assert_eq!(rt; shelf.size_of(FileNo(1)), Err(outside::Failed));
     fs::remove_file(&rt, "a_file_of_the_system")?;
     Ok(())

@@ -1,5 +1,7 @@
 // A patch and other bytes by hand, as their formats have them.
-use patch_columns::{Patch, Post, column_place, flat_byte, next_place, palette_colour, post_at, shade};
+use patch_columns::{
+    Patch, Post, column_place, flat_byte, next_place, palette_colour, post_at, shade,
+};
 
 // A patch of one column: width 1, height 4, left 2, top -1, its posts at byte 12.
 const PATCH: [u8; 21] = [

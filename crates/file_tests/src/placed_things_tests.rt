@@ -3,10 +3,10 @@ ghost use Rattle.std.specs.Prelude.{◌≡◌, ◌≤◌, true, false, OnOk, rep
 ghost use Rattle.level_rules.specs.maps.Lumps.{lump_no};
 ghost use Rattle.map_lumps.specs.Builders.{all_added, is_added};
 
-use level_scene::places::{PlacedThings, place_things, sector_at};
 use art_rules::Need;
 use csv_tables::ThingTable;
 use level_rules::PlacedThing;
+use level_scene::places::{PlacedThings, place_things, sector_at};
 use map_lumps::{Level, LevelBuilder, MapFault, MapLump};
 use std::alloc::{AllocError, Global};
 use std::process::Abort;

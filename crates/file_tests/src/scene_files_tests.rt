@@ -2,9 +2,9 @@
 // found.
 ghost use Rattle.std.specs.Prelude.{◌≤◌, ◌+◌, length};
 
-use level_audit::scene_load::{LoadFault, Refusal, SceneFiles, read_files};
 use command_line::Files;
 use csv_tables::CsvRefusal;
+use level_audit::scene_load::{LoadFault, Refusal, SceneFiles, read_files};
 use outside::{Fault, MemoryFile, MemoryShelf};
 use std::alloc::{AllocError, Global};
 use std::process::Abort;

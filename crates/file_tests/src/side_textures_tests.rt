@@ -1,5 +1,5 @@
-use level_scene::{sky_name, wanted_textures};
 use level_rules::SideTextures;
+use level_scene::{sky_name, wanted_textures};
 use lump_rules::Name8;
 use std::test::Fail;
 use texture_lists::TexNo;

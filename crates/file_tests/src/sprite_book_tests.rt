@@ -1,7 +1,7 @@
 // Books of one sprite, by the names of its lumps.
-use sprite_book::{Need, Shape, SpriteBook, SpriteFault, SpriteRefusal};
 use lump_cache::LumpCache;
 use outside::{MemoryFile, MemoryShelf, Shelf};
+use sprite_book::{Need, Shape, SpriteBook, SpriteFault, SpriteRefusal};
 use std::alloc::{AllocError, Global};
 use std::test::Fail;
 use wad_dir::{Directory, LumpNo};

@@ -3,12 +3,12 @@ ghost use Rattle.std.specs.Prelude.{◌≡◌, ◌<◌, ◌≤◌, ◌^◌, All,
 ghost use Rattle.art_rules.specs.Textures.{texture_at};
 ghost use Rattle.texture_build.specs.Views.{ArePatchesThere, IsPrepared, prepared_texture};
 
-use texture_build::{ColumnSource, TexFault, TexNo, TexRefusal, Textures};
 use lump_cache::LumpCache;
 use outside::{MemoryFile, MemoryShelf, Shelf};
 use std::alloc::{AllocError, Global};
 use std::process::Abort;
 use std::test::Fail;
+use texture_build::{ColumnSource, TexFault, TexNo, TexRefusal, Textures};
 use wad_dir::{Directory, LumpNo};
 
 // PNAMES at 12 with three names, of which NOLUMP has no lump. TEXTURE1 at 40: GOOD of 5 by 3 at 56

@@ -1,11 +1,11 @@
 // Values from outside: a file of small lists, written by hand in their format.
-use texture_lists::{ListedTextures, TexFault, TexNo, TexRefusal};
 use art_rules::TextureEntry;
 use lump_cache::LumpCache;
 use lump_rules::Name8;
 use outside::{MemoryFile, MemoryShelf, Shelf};
 use std::alloc::Global;
 use std::test::Fail;
+use texture_lists::{ListedTextures, TexFault, TexNo, TexRefusal};
 use wad_dir::Directory;
 
 // PNAMES at 12, TEXTURE1 at 32 with textures of 64 by 128 and of 100 by 72, TEXTURE2 at 108 with

@@ -1,9 +1,9 @@
 // Values from outside: what is found in two small files, and what stops the loading of one.
-use wad_dir::{DirFault, DirRefusal, Directory, LumpNo, Name8};
 use outside::{FileNo, MemoryFile, MemoryShelf, Shelf};
 use std::alloc::{AllocError, Global};
 use std::process::Abort;
 use std::test::Fail;
+use wad_dir::{DirFault, DirRefusal, Directory, LumpNo, Name8};
 
 const TINY_BYTES: usize = 854;
 

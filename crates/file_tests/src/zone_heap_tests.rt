@@ -1,5 +1,5 @@
-use zone_heap::*;
 use std::alloc::Global;
+use zone_heap::*;
 
 #[test]
 fn a_zone_has_a_size_in_range_and_of_whole_words(rt: HostRuntime) {

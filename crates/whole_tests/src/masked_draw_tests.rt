@@ -16,13 +16,11 @@ mod counted;
 mod made;
 mod seen;
 
-use crate::made_lumps::{
-    eye_at, full_angles, lump_of, made_cache, made_directory, made_shelf,
-};
+use crate::made_lumps::{eye_at, full_angles, lump_of, made_cache, made_directory, made_shelf};
 use counted::Counted;
-use masked_draw::{FragmentNote, MaskedTools, draw_masked};
 use lump_cache::LumpCache;
 use made::prepare_grate;
+use masked_draw::{FragmentNote, MaskedTools, draw_masked};
 use outside::MemoryShelf;
 use pixel_strips::Canvas;
 use seen::{

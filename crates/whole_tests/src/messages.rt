@@ -182,9 +182,7 @@ fn a_refusal_of_a_picture_reads_as_that_of_its_group(rt: HostRuntime) -> Result<
 }
 
 #[test]
-fn a_refusal_of_lists_or_sprites_names_the_lump_or_the_thing(
-    rt: HostRuntime,
-) -> Result<(), Fail> {
+fn a_refusal_of_lists_or_sprites_names_the_lump_or_the_thing(rt: HostRuntime) -> Result<(), Fail> {
     let list = TexRefusal::Lump { which: 2 };
     reads(
         &rt,

@@ -2,7 +2,6 @@
 ghost use Rattle.std.specs.Prelude.{◌≡◌, ◌<◌, ◌≤◌};
 ghost use Rattle.view_rules.specs.declared.TheConstants.{FRAME_WIDTH, FRAME_HEIGHT};
 
-use visplanes::{Flat4, PlaneKey, PlaneNo, Planes, PlanesFull, draw_plane};
 use angle_tables::Tables;
 use level_maker::make_tables;
 use pixel_strips::{Canvas, Frame};
@@ -10,6 +9,7 @@ use std::alloc::{AllocError, Global};
 use std::test::Fail;
 use view_frame::View;
 use view_rules::{Eye, FRAME_HEIGHT, FRAME_WIDTH};
+use visplanes::{Flat4, PlaneKey, PlaneNo, Planes, PlanesFull, draw_plane};
 
 // The floor of this height.
 fn floor_at(height: i32) -> PlaneKey {

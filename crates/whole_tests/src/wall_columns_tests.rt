@@ -10,10 +10,7 @@ ghost use Rattle.wall_columns.specs.Draws.{IsWallTexture};
 
 mod made;
 
-use crate::made_lumps::{
-    eye_at, full_angles, lump_of, made_cache, made_directory, made_shelf,
-};
-use wall_columns::{DrawFault, LeafPlanes, WallFacts, WallState, WallTools};
+use crate::made_lumps::{eye_at, full_angles, lump_of, made_cache, made_directory, made_shelf};
 use level_rules::{SKY_FLAT, Seg, Surface};
 use lump_cache::LumpCache;
 use made::{WALL1, prepare_wall};
@@ -27,6 +24,7 @@ use view_frame::View;
 use view_rules::FRAME_WIDTH;
 use visplanes::{PlaneNo, Planes};
 use wad_dir::{Directory, LumpNo};
+use wall_columns::{DrawFault, LeafPlanes, WallFacts, WallState, WallTools};
 
 const EAST: Seg = Seg {
     x1: 256 << 16,

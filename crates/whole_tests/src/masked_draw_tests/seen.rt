@@ -5,9 +5,9 @@ ghost use Rattle.view_rules.specs.declared.ViewShape.{ViewShape};
 ghost use Rattle.vissprites.specs.Bounds.{lies_within, has_lump_below};
 ghost use Rattle.picture_rules.specs.Noted.{AreNoted, IsWholeNote};
 
-use masked_draw::{Clip, FragmentNote};
 use level_rules::{Sector, Seg, Side};
 use lump_rules::Name8;
+use masked_draw::{Clip, FragmentNote};
 use picture_rules::{Placed, Shape5};
 use std::alloc::{AllocError, Global};
 use std::test::Fail;
