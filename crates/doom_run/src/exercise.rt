@@ -80,28 +80,24 @@ fn made_map() -> Name8
 }
 
 // The scene of the made level, and the memory to draw it.
-fn prepare_made(
-    alloc: Global,
-    zone: u32,
-    shelf: &mut MemoryShelf,
-) -> Result<Box<ReadyViews>, LoadFault>
+fn prepare_made(alloc: Global, zone: u32, shelf: &mut MemoryShelf) -> Result<ReadyViews, LoadFault>
     requires { IsZoneSize zone }
     ensures answers { (files : List File) → Holds (memory_view shelf.old) files →
-        ResultIsOrAbsent itself (memory_view shelf.old).steady (λ ready. loaded_value ready.value.loaded)
+        ResultIsOrAbsent itself (memory_view shelf.old).steady (λ ready. loaded_value ready.loaded)
         (load_in (made_level zone) made_wads files) result }
-    ensures ready { IfOk result (λ ready. IsReady (made_level zone) ready.value) }
+    ensures ready { IfOk result (IsReady (made_level zone)) }
     ensures art { (files : List File) (contents : List (List ℕ)) →
         Holds (memory_view shelf.old) files → files_named made_wads files ≡ Some contents →
-        IfOk result (λ ready. HoldsArt (memory_view shelf.new) ready.value.loaded.files.dir
-        (textures_view ready.value.loaded.scene.scene) contents
-        ready.value.loaded.scene.scene.base.colormap
-        (lump_at ready.value.loaded.files.dir.lumps ready.value.loaded.scene.scene.base.colormap).size
-        ready.value.loaded.cache) }
+        IfOk result (λ ready. HoldsArt (memory_view shelf.new) ready.loaded.files.dir
+        (textures_view ready.loaded.scene.scene) contents
+        ready.loaded.scene.scene.base.colormap
+        (lump_at ready.loaded.files.dir.lumps ready.loaded.scene.scene.base.colormap).size
+        ready.loaded.cache) }
     ensures full { (files : List File) → Holds (memory_view shelf.old) files →
         IfErr result (λ fault. IfFull (itself fault)
         (IsFullLoad (made_level zone) made_wads files)) }
-    ensures fits { IfOk result (λ ready. IsBaseWithin ready.value.loaded.files.dir.lumps
-        (made_level zone) ready.value.loaded.scene.scene.base.colormap) }
+    ensures fits { IfOk result (λ ready. IsBaseWithin ready.loaded.files.dir.lumps
+        (made_level zone) ready.loaded.scene.scene.base.colormap) }
     ensures follows { IsLaterShelf (memory_view shelf.old) (memory_view shelf.new) }
 {
     let level = LevelJob {

@@ -50,31 +50,31 @@ pub fn prepare_views<S: Shelf>(
     level: &LevelJob<'_>,
     wads: &[&str],
     shelf: &mut S,
-) -> Result<Box<ReadyViews>, LoadFault>
+) -> Result<ReadyViews, LoadFault>
     requires { AreSettings level.now.settings }
     ensures answers { (files : List File) → Holds (S.view shelf.old) files →
-        ResultIsOrAbsent itself (S.view shelf.old).steady (λ ready. loaded_value ready.value.loaded)
+        ResultIsOrAbsent itself (S.view shelf.old).steady (λ ready. loaded_value ready.loaded)
         (load_in (level_job_value level.now) (map (λ wad. wad.now) wads.now) files) result }
-    ensures ready { IfOk result (λ ready. IsReady (level_job_value level.now) ready.value) }
+    ensures ready { IfOk result (IsReady (level_job_value level.now)) }
     ensures art { (files : List File) (contents : List (List ℕ)) →
         Holds (S.view shelf.old) files →
         files_named (map (λ wad. wad.now) wads.now) files ≡ Some contents →
-        IfOk result (λ ready. HoldsArt (S.view shelf.new) ready.value.loaded.files.dir
-        (textures_view ready.value.loaded.scene.scene) contents
-        ready.value.loaded.scene.scene.base.colormap
-        (lump_at ready.value.loaded.files.dir.lumps ready.value.loaded.scene.scene.base.colormap).size
-        ready.value.loaded.cache) }
+        IfOk result (λ ready. HoldsArt (S.view shelf.new) ready.loaded.files.dir
+        (textures_view ready.loaded.scene.scene) contents
+        ready.loaded.scene.scene.base.colormap
+        (lump_at ready.loaded.files.dir.lumps ready.loaded.scene.scene.base.colormap).size
+        ready.loaded.cache) }
     ensures full { (files : List File) → Holds (S.view shelf.old) files →
         IfErr result (λ fault. IfFull (itself fault)
         (IsFullLoad (level_job_value level.now) (map (λ wad. wad.now) wads.now) files)) }
-    ensures fits { IfOk result (λ ready. IsBaseWithin ready.value.loaded.files.dir.lumps
-        (level_job_value level.now) ready.value.loaded.scene.scene.base.colormap) }
+    ensures fits { IfOk result (λ ready. IsBaseWithin ready.loaded.files.dir.lumps
+        (level_job_value level.now) ready.loaded.scene.scene.base.colormap) }
     ensures order { (files : List File) (contents : List (List ℕ)) (expected : LoadedValue) →
         Holds (S.view shelf.old) files →
         files_named (map (λ wad. wad.now) wads.now) files ≡ Some contents →
         load_in (level_job_value level.now) (map (λ wad. wad.now) wads.now) files ≡ Ok expected →
         (loaded_sizes expected).roomy ≤ level.now.settings.zone →
-        LoadsOnce (λ ready. ready.value.loaded.cache) (level_job_value level.now)
+        LoadsOnce (λ ready. ready.loaded.cache) (level_job_value level.now)
         (map (λ wad. wad.now) wads.now) files expected
         (S.view shelf.old).taken (S.view shelf.new).taken result }
     ensures follows { IsLaterShelf (S.view shelf.old) (S.view shelf.new) }
@@ -86,11 +86,8 @@ pub fn prepare_views<S: Shelf>(
         planes: level.settings.planes,
         openings: level.settings.openings,
     };
-    let Ok(shop) = Workshop::new(alloc, limits) else {
-        return Err(Fault::OutOfMemory);
-    };
-    match Box::new(alloc, ReadyViews { loaded, shop }) {
-        Ok(ready) => Ok(ready),
+    match Workshop::new(alloc, limits) {
+        Ok(shop) => Ok(ReadyViews { loaded, shop }),
         Err(_) => Err(Fault::OutOfMemory),
     }
 }

@@ -6,7 +6,7 @@ ghost use Rattle.map_lumps.specs.Builders.{all_added, is_added};
 use art_rules::Need;
 use csv_tables::ThingTable;
 use level_rules::PlacedThing;
-use level_scene::places::{PlacedThings, place_things, sector_at};
+use level_scene::{PlacedThings, place_things, sector_at};
 use map_lumps::{Level, LevelBuilder, MapFault, MapLump};
 use std::alloc::{AllocError, Global};
 use std::process::Abort;

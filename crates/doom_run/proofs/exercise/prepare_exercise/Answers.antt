@@ -31,7 +31,7 @@ returns-clause-zone_full c wanted widest e =
 
 pub render_all-requires-clause-few : goal.render_all-requires-clause-few
 render_all-requires-clause-few c =
-    loaded_few (made_level c.args.zone) made_wads (made_files c.args.n) (loaded_value c.in-Ok-prepare_made.ready.value.loaded)
+    loaded_few (made_level c.args.zone) made_wads (made_files c.args.n) (loaded_value c.in-Ok-prepare_made.ready.loaded)
     (c.in-Ok-prepare_made.ensures.answers (made_files c.args.n) (memory_holds c.new-shelf.result _ (made_files c.args.n) _ c.new-shelf.ensures c.in-Ok.ensures)).ok
 
 pub render_all-requires-clause-scene : goal.render_all-requires-clause-scene
@@ -41,7 +41,7 @@ pub returns-in-Ok-prepare_made-clause-ends : goal.returns-in-Ok-prepare_made-cla
 returns-in-Ok-prepare_made-clause-ends c =
     let holds = memory_holds c.new-shelf.result _ (made_files c.args.n) _ c.new-shelf.ensures c.in-Ok.ensures in
     let steady = memory_steady c.new-shelf.result _ _ c.new-shelf.ensures c.new.ensures.items in
-    ready_exercise c.args.n c.args.zone c.args.format c.in-Ok-prepare_made.ready.value c.render_all.result
+    ready_exercise c.args.n c.args.zone c.args.format c.in-Ok-prepare_made.ready c.render_all.result
     (c.in-Ok-prepare_made.ensures.answers (made_files c.args.n) holds).ok c.in-Ok-prepare_made.ensures.ready.limits
     (c.render_all.ensures.ends (made_file (Wad c.args.n) ∷ []) _
     (c.in-Ok-prepare_made.ensures.art (made_files c.args.n) (made_file (Wad c.args.n) ∷ []) holds (wads_held c.args.n))
@@ -50,7 +50,7 @@ returns-in-Ok-prepare_made-clause-ends c =
 pub returns-in-Ok-prepare_made-clause-zone_full : goal.returns-in-Ok-prepare_made-clause-zone_full
 returns-in-Ok-prepare_made-clause-zone_full c wanted widest e =
     inr (record {
-      ready = c.in-Ok-prepare_made.ready.value;
+      ready = c.in-Ok-prepare_made.ready;
       is = (c.in-Ok-prepare_made.ensures.answers (made_files c.args.n) (memory_holds c.new-shelf.result _ (made_files c.args.n) _ c.new-shelf.ensures c.in-Ok.ensures)).ok;
       stands = c.in-Ok-prepare_made.ensures.ready;
       full = c.render_all.ensures.zone_full wanted widest e;
@@ -62,7 +62,7 @@ returns-clause-least c end = absurd (fault_no_end c.in-Err-prepare_made.fault (r
 pub returns-in-Ok-prepare_made-clause-least : goal.returns-in-Ok-prepare_made-clause-least
 returns-in-Ok-prepare_made-clause-least c =
     let holds = memory_holds c.new-shelf.result _ (made_files c.args.n) _ c.new-shelf.ensures c.in-Ok.ensures in
-    let ready = c.in-Ok-prepare_made.ready.value in
+    let ready = c.in-Ok-prepare_made.ready in
     let loaded = (c.in-Ok-prepare_made.ensures.answers (made_files c.args.n) holds).ok in
     let named = loaded_named (made_level c.args.zone) made_wads (made_files c.args.n) (loaded_value ready.loaded) loaded in
     let count = (lump_at ready.loaded.files.dir.lumps ready.loaded.scene.scene.base.colormap).size in

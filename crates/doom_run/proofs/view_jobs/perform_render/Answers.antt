@@ -24,7 +24,7 @@ returns-in-Ok-clause-ends g c files held =
     let none : is_some level.files.weapon ≡ false = same_weapon (λ (w : Bor (List ℕ)). w.now) c.args.level.now.files.weapon ∙ bare in
     let there = held (unarmed_asks level.files.weapon none) in
     unarmed_end (g.S.Shelf.view c.args.shelf.now).steady c.args.format level wads files _ _ c.deliver_render.result none
-    (frames_end (g.S.Shelf.view c.args.shelf.now).steady _ c.args.format level wads files c.in-Ok.ready.value _ _ c.deliver_render.result c.in-Ok.ensures.ready (c.in-Ok.ensures.answers files there).ok c.in-Ok.ensures.follows.steady
+    (frames_end (g.S.Shelf.view c.args.shelf.now).steady _ c.args.format level wads files c.in-Ok.ready _ _ c.deliver_render.result c.in-Ok.ensures.ready (c.in-Ok.ensures.answers files there).ok c.in-Ok.ensures.follows.steady
     (λ contents named. c.deliver_render.ensures.ends contents _ (c.in-Ok.ensures.art files contents there named)))
 
 pub returns-in-Ok-clause-unwritten : goal.returns-in-Ok-clause-unwritten
@@ -36,7 +36,7 @@ returns-in-Ok-clause-zone_full g c files wanted widest is held =
     let bare : is_some c.args.level.now.files.weapon ≡ false = cc (c.is_some.ensures, c.if-is_some.false) in
     let none : is_some level.files.weapon ≡ false = same_weapon (λ (w : Bor (List ℕ)). w.now) c.args.level.now.files.weapon ∙ bare in
     let there = held (unarmed_asks level.files.weapon none) in
-    inr (view_draw level (map (λ wad. wad.now) c.args.wads.now) files c.in-Ok.ready.value c.in-Ok.ensures.ready (c.in-Ok.ensures.answers files there).ok wanted widest (c.deliver_render.ensures.zone_full wanted widest is))
+    inr (view_draw level (map (λ wad. wad.now) c.args.wads.now) files c.in-Ok.ready c.in-Ok.ensures.ready (c.in-Ok.ensures.answers files there).ok wanted widest (c.deliver_render.ensures.zone_full wanted widest is))
 
 pub returns-in-Err-clause-zone_full : goal.returns-in-Err-clause-zone_full
 returns-in-Err-clause-zone_full g c files wanted widest is held =
@@ -54,10 +54,10 @@ returns-in-Ok-clause-least g c files end held =
     let none : is_some level.files.weapon ≡ false = same_weapon (λ (w : Bor (List ℕ)). w.now) c.args.level.now.files.weapon ∙ bare in
     let there = held (unarmed_asks level.files.weapon none) in
     let loaded = (c.in-Ok.ensures.answers files there).ok in
-    let named = loaded_named level wads files (loaded_value c.in-Ok.ready.value.loaded) loaded in
-    let count = (lump_at c.in-Ok.ready.value.loaded.files.dir.lumps c.in-Ok.ready.value.loaded.scene.scene.base.colormap).size in
-    least_render level wads files c.args.format c.in-Ok.ready.value loaded c.in-Ok.ensures.ready c.in-Ok.ensures.fits
-    (subst (λ (contents : List (List ℕ)). FitDue (lump_bytes contents c.in-Ok.ready.value.loaded.files.dir.lumps) count c.in-Ok.ready.value) (sym named.are)
+    let named = loaded_named level wads files (loaded_value c.in-Ok.ready.loaded) loaded in
+    let count = (lump_at c.in-Ok.ready.loaded.files.dir.lumps c.in-Ok.ready.loaded.scene.scene.base.colormap).size in
+    least_render level wads files c.args.format c.in-Ok.ready loaded c.in-Ok.ensures.ready c.in-Ok.ensures.fits
+    (subst (λ (contents : List (List ℕ)). FitDue (lump_bytes contents c.in-Ok.ready.loaded.files.dir.lumps) count c.in-Ok.ready) (sym named.are)
     (c.deliver_render.ensures.fits named.contents count (c.in-Ok.ensures.art files named.contents there named.named) end))
 
 pub returns-in-Ok-clause-taken : goal.returns-in-Ok-clause-taken
@@ -70,9 +70,9 @@ returns-in-Ok-clause-taken g c files held calm expected is room =
     let loaded = (c.in-Ok.ensures.answers files there).ok in
     let named = loaded_named level wads files expected is in
     let once = c.in-Ok.ensures.order files named.contents expected there named.named is room in
-    let asked : HasReadyAsked (loaded_items expected) c.in-Ok.ready.value =
-    subst (λ l. HasReadyAsked (loaded_items l) c.in-Ok.ready.value) (same_value (loaded_value c.in-Ok.ready.value.loaded) expected loaded is) (ready_asked level wads files c.in-Ok.ready.value loaded c.in-Ok.ensures.ready) in
-    renders_taken _ _ level wads files expected c.in-Ok.ready.value.loaded.cache c.deliver_render.new.ready.loaded.cache c.deliver_render.result once
+    let asked : HasReadyAsked (loaded_items expected) c.in-Ok.ready =
+    subst (λ l. HasReadyAsked (loaded_items l) c.in-Ok.ready) (same_value (loaded_value c.in-Ok.ready.loaded) expected loaded is) (ready_asked level wads files c.in-Ok.ready loaded c.in-Ok.ensures.ready) in
+    renders_taken _ _ level wads files expected c.in-Ok.ready.loaded.cache c.deliver_render.new.ready.loaded.cache c.deliver_render.result once
     (c.deliver_render.ensures.order (loaded_items expected) asked once.order)
     (λ fault. calm (omega (arith, c.in-Ok.ensures.follows.faults, c.deliver_render.ensures.read_fault fault)))
 
@@ -87,4 +87,4 @@ returns-in-Err-clause-taken g c files held calm expected is room =
     let none : is_some level.files.weapon ≡ false = same_weapon (λ (w : Bor (List ℕ)). w.now) c.args.level.now.files.weapon ∙ bare in
     let there = held (unarmed_asks level.files.weapon none) in
     let named = loaded_named level wads files expected is in
-    loads_taken _ _ (λ ready. ready.value.loaded.cache) level wads files expected c.prepare_views.result (c.prepare_views.ensures.order files named.contents expected there named.named is room) c.prepare_views.ensures.causes calm
+    loads_taken _ _ (λ ready. ready.loaded.cache) level wads files expected c.prepare_views.result (c.prepare_views.ensures.order files named.contents expected there named.named is room) c.prepare_views.ensures.causes calm
