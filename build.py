@@ -1,7 +1,8 @@
 """Builds doomview by the command rt, and then runs it with the words given: the script doomview calls it.
 
 All crates that the program stands on are proved side by side: `rt all` starts a crate once those below it
-are done, and of those that go on at a time the ones with much still to come above them go first. At the
+are done, and of those that go on at a time the ones with much still to come above them go first. While it
+reads all sources, before it proves anything, the other processors build the first crates in copies. At the
 end few crates can go on at a time; then each is built with all processors. The program gets its place,
 out/doomview, as the last step, so no half-built one is ever run, and a build that was interrupted goes on
 where it was.
@@ -15,6 +16,7 @@ import shutil
 import signal
 import subprocess
 import sys
+import tempfile
 import threading
 import time
 from collections import Counter
@@ -24,6 +26,7 @@ PROGRAM = 'doomview'
 BUILT = os.path.join(TOP, 'out', PROGRAM)
 BUILD_FAILED = 70
 CRATE_MEMORY = 2 << 30  # bytes, about what the proof of a crate takes
+READ_MEMORY = 6 << 30  # bytes, about what `rt all` takes to read all sources
 SHOWN_LINES = 60  # of what rt said of a crate that failed
 DEAR = ('command_line', 'level_audit', 'doom_run')  # whose proof takes twice as long a line as others'
 STOPS = (signal.SIGINT, signal.SIGTERM, signal.SIGHUP)
@@ -58,11 +61,11 @@ def crates_below(name):
     return found
 
 
-def count_jobs(most):
-    """As many as are asked for, and as memory allows."""
+def count_jobs(most, taken=0):
+    """As many as are asked for, and as memory allows beside so many bytes."""
     with open('/proc/meminfo') as file:
         free = 1024 * int(re.search(r'MemAvailable:\s+(\d+)', file.read())[1])
-    return max(1, min(most, free // CRATE_MEMORY))
+    return max(0 if taken else 1, min(most, (free - taken) // CRATE_MEMORY))
 
 
 def count_lines(crate):
@@ -76,18 +79,22 @@ def count_lines(crate):
     return 2 * found if crate in DEAR else found
 
 
-def niceness(crates):
-    """How far a crate's proof gives way to others: 0 on the longest chain of crates, and up to 19 where the
-    longest chain through the crate is much shorter."""
+def chain_lengths(crates):
+    """The lines of the longest chain of crates through each."""
     work = {crate: count_lines(crate) for crate in crates}
     below, above = {}, {}
     for crate in crates:
         below[crate] = work[crate] + max((below[it] for it in crates[crate]), default=0)
     for crate in reversed(list(crates)):
         above[crate] = work[crate] + max((above[it] for it in crates if crate in crates[it]), default=0)
-    chain = {crate: below[crate] + above[crate] - work[crate] for crate in crates}
+    return {crate: below[crate] + above[crate] - work[crate] for crate in crates}
+
+
+def niceness(chain):
+    """How far a crate's proof gives way to others: 0 on the longest chain of crates, and up to 19 where the
+    longest chain through the crate is much shorter."""
     most = max(chain.values())
-    return {crate: min(19, 20 * (most - chain[crate]) // max(1, most)) for crate in crates}
+    return {crate: min(19, 20 * (most - length) // max(1, most)) for crate, length in chain.items()}
 
 
 def give_way(nice, ended):
@@ -106,16 +113,70 @@ def give_way(nice, ended):
                 pass  # it has ended, or is not ours
 
 
-def rt(crate, *words):
+def rt(crate, *words, top=TOP, output=subprocess.PIPE):
     """A run of rt in a crate's folder, whose lines are read one by one; it ends with this program."""
-    return subprocess.Popen(['rt', *words], cwd=os.path.join(TOP, 'crates', crate), errors='replace',
-                            stdin=subprocess.DEVNULL, stdout=subprocess.PIPE, stderr=subprocess.STDOUT)
+    return subprocess.Popen(['rt', *words], cwd=os.path.join(top, 'crates', crate), errors='replace',
+                            stdin=subprocess.DEVNULL, stdout=output, stderr=subprocess.STDOUT)
+
+
+class Ahead:
+    """Builds crates in copies of the sources, those of the longest chain first, until it is told that no more
+    are to begin. rt takes what one copy has built into the others, and into the repository itself; where it
+    cannot, only the time of processors that were idle is lost."""
+
+    def __init__(self, crates, chain, copies):
+        self.crates = {crate: below for crate, below in crates.items() if crate != PROGRAM}
+        self.order = sorted(self.crates, key=lambda it: -chain[it])
+        self.begun, self.built, self.runs, self.turn = set(), set(), set(), threading.Lock()
+        self.copies, self.folders, self.threads = copies, [], []
+        self.ended = threading.Event()
+
+    def start(self):
+        for _ in range(self.copies):
+            self.folders.append(tempfile.mkdtemp(prefix='doomview-'))
+            self.threads.append(threading.Thread(target=self.work, args=self.folders[-1:], daemon=True))
+            self.threads[-1].start()
+
+    def begin(self, top):
+        """A build of the first crate that can go on, with its name, or None where there is none."""
+        with self.turn:
+            for crate in self.order if not self.ended.is_set() else []:
+                if crate not in self.begun and all(it in self.built for it in self.crates[crate]):
+                    self.begun.add(crate)
+                    run = rt(crate, 'lib', '--jobs', '1', top=top, output=subprocess.DEVNULL)
+                    self.runs.add(run)
+                    return crate, run
+        return None
+
+    def work(self, top):
+        shutil.copy(os.path.join(TOP, 'crates.txt'), top)
+        shutil.copytree(os.path.join(TOP, 'crates'), os.path.join(top, 'crates'),
+                        ignore=shutil.ignore_patterns('out'))
+        while not self.ended.is_set():
+            found = self.begin(top)
+            if not found:
+                self.ended.wait(0.1)
+            elif not found[1].wait():
+                self.built.add(found[0])
+
+    def stop(self):
+        """Ends all builds, and takes the copies away."""
+        with self.turn:
+            self.ended.set()
+        for run in self.runs:
+            if run.poll() is None:
+                run.terminate()
+        for it in self.threads:
+            it.join()
+        for it in self.folders:
+            shutil.rmtree(it, ignore_errors=True)
 
 
 class Build:
-    def __init__(self, crates):
+    def __init__(self, crates, chain):
         processors = len(os.sched_getaffinity(0))
         self.crates, self.done = crates, []
+        self.ahead = Ahead(crates, chain, count_jobs(processors - 1, READ_MEMORY))
         self.jobs = count_jobs(processors)
         # `rt all` counts a crate that waits for those below it as one that runs
         self.slots = count_jobs(3 * processors)
@@ -136,11 +197,13 @@ class Build:
         return 2 * width <= self.jobs and all(last in self.crates[it] for it, n in levels.items() if n == 1)
 
     def side_by_side(self):
+        self.ahead.start()
         self.run = rt(PROGRAM, 'all', 'check', '--jobs', str(self.slots))
         said = {'': []}
         crate = ''
         for line in self.run.stdout:
             if line.startswith('== '):
+                self.ahead.ended.set()
                 crate = line.split()[1]
                 if crate in self.crates and crate not in self.done:
                     self.finish(crate)
@@ -167,6 +230,7 @@ class Build:
 
     def stop(self):
         """Ends rt, and with it all that it started."""
+        self.ahead.stop()
         if self.run and self.run.poll() is None:
             self.run.terminate()
             self.run.communicate()
@@ -185,9 +249,10 @@ def build():
     crates = crates_below(PROGRAM)
     say(f'building: {len(crates)} crates are proved, side by side. The first time '
         'took 27 minutes on four processors that did nothing else')
-    work = Build(crates)
+    chain = chain_lengths(crates)
+    work = Build(crates, chain)
     ended = threading.Event()
-    threading.Thread(target=give_way, args=(niceness(crates), ended), daemon=True).start()
+    threading.Thread(target=give_way, args=(niceness(chain), ended), daemon=True).start()
     try:
         work.side_by_side()
         work.one_by_one()

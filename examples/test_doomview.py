@@ -76,6 +76,7 @@ class Doomview(unittest.TestCase):
             self.write(f'crates/{crate}/src/lib.rt', '')
         self.write('crates.txt', CRATES)
         os.makedirs(self.at('bin'))
+        os.makedirs(self.at('tmp'))
         for name in COMMANDS:
             os.symlink(shutil.which(name), self.at('bin', name))
         os.symlink(sys.executable, self.at('bin', 'python3'))
@@ -110,7 +111,7 @@ class Doomview(unittest.TestCase):
         self.fail('no rt waits')
 
     def start(self, *words, **more):
-        return subprocess.Popen([self.at('doomview'), *words], cwd='/', text=True, env={'PATH': self.at('bin'), **more},
+        return subprocess.Popen([self.at('doomview'), *words], cwd='/', text=True, env={'PATH': self.at('bin'), 'TMPDIR': self.at('tmp'), **more},
                                 stdin=subprocess.PIPE, stdout=subprocess.PIPE, stderr=subprocess.PIPE)
 
     def runs(self, *words, **more):
@@ -125,6 +126,7 @@ class Doomview(unittest.TestCase):
         lines = [line for line in error.splitlines() if ' of 5: ' in line]
         self.assertEqual(lines, [f'doomview: crate {k + 1} of 5: {name}' for k, name in enumerate(ORDER)])
         calls = self.calls()
+        self.assertEqual(os.listdir(self.at('tmp')), [])
         self.assertEqual(self.runs('again'), (5, 'input again\n', ''))
         self.assertEqual(self.calls(), [])
         return calls
@@ -165,6 +167,7 @@ class Doomview(unittest.TestCase):
             with self.assertRaises(ProcessLookupError):
                 os.kill(process, 0)
             self.assertFalse(os.path.exists(self.at('out', 'doomview')))
+            self.assertEqual(os.listdir(self.at('tmp')), [])
         self.assertNotIn('build low', self.builds())
 
     def test_killed(self):
@@ -182,7 +185,7 @@ class Doomview(unittest.TestCase):
         for crate, lines in [('low', 10), ('left', 30), ('right', 15), ('high', 10), ('doomview', 10)]:
             self.write(f'crates/{crate}/src/lib.rt', 'a line\n' * lines)
             self.write(f'crates/{crate}/src/tests.rt', 'a test\n' * 99)
-        words = 'import build; print(build.niceness(build.crates_below("doomview")))'
+        words = 'import build; print(build.niceness(build.chain_lengths(build.crates_below("doomview"))))'
         run = subprocess.run([sys.executable, '-c', words], cwd=self.folder, capture_output=True, text=True, check=True)
         self.assertEqual(run.stdout, "{'low': 0, 'left': 0, 'right': 5, 'high': 0, 'doomview': 0}\n")
 
