@@ -1,3 +1,6 @@
+// The flats and surfaces of sectors, over a file with one flat.
+ghost use Rattle.std.specs.Prelude.{◌≡◌, IfOk, length};
+
 use level_rules::{SKY_FLAT, Sector, Surface};
 use level_scene::{find_flats, make_surfaces};
 use lump_rules::Name8;

@@ -1,3 +1,4 @@
+// The made files: their bytes, or the sums of them, with values from outside the definitions.
 use level_maker::*;
 use std::test::Fail;
 

@@ -1,3 +1,4 @@
+// The skies of maps, and the textures that sides show.
 use level_rules::SideTextures;
 use level_scene::{sky_name, wanted_textures};
 use lump_rules::Name8;

@@ -1,3 +1,4 @@
+// Requests of a small zone: what they purge, and bytes in its blocks.
 use std::alloc::Global;
 use zone_heap::*;
 
