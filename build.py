@@ -121,8 +121,8 @@ def rt(crate, *words, top=TOP, output=subprocess.PIPE):
 
 class Ahead:
     """Builds crates in copies of the sources, those of the longest chain first, until it is told that no more
-    are to begin. rt takes what one copy has built into the others, and into the repository itself; where it
-    cannot, only the time of processors that were idle is lost."""
+    are to begin. rt takes what one copy has built into the others, and into the repository itself. Where it
+    cannot, since its store cannot be written, what the copies have begun is lost, and takes time from the rest."""
 
     def __init__(self, crates, chain, copies):
         self.crates = {crate: below for crate, below in crates.items() if crate != PROGRAM}
