@@ -18,14 +18,15 @@ use Rattle.sound_scene.proofs.SceneLemmas.{and_then-ok}
 use Rattle.level_audit.specs.scene_load.Files.{files_in, files_named}
 use Rattle.level_audit.specs.scene_load.Loads.{LoadedValue, load_in, loaded_value, wad_bytes, wad_contents}
 use Rattle.level_audit.proofs.scene_load.AcceptedLemmas.{wads_accepted}
+use Rattle.plain_jobs.specs.declared.status.Status.{Status}
+use Rattle.plain_jobs.specs.declared.status.Status.TheVariants.{Done, Usage, Refused, ReadFault, WriteFault, Limit, ZoneFull, OutOfMemory}
+use Rattle.plain_jobs.specs.Statuses.{DeliversBytes, status_of}
 use Rattle.doom_run.specs.declared.render.ReadyViews.{ReadyViews}
-use Rattle.doom_run.specs.declared.status.Status.{Status}
-use Rattle.doom_run.specs.declared.status.Status.TheVariants.{Done, Usage, Refused, ReadFault, WriteFault, Limit, ZoneFull, OutOfMemory}
-use Rattle.doom_run.specs.Ends.{DeliversAt, EndsAt, IfEnded, IsEnd, IsReadOrFull, IsUnwritten, RendersAt, StopsWith, status_of}
-use Rattle.doom_run.specs.Exercises.{DeliversLine, IsExercised, StopsAt}
+use Rattle.doom_run.specs.Ends.{DeliversAt, EndsAt, IfEnded, IsEnd, IsReadOrFull, IsUnwritten, RendersAt, StopsWith}
+use Rattle.doom_run.specs.Exercises.{IsExercised, StopsAt}
 use Rattle.doom_run.specs.Renders.{IsDelivered, IsReady, ready_views}
 use Rattle.doom_run.specs.Steps.{RunStop, at_step, usage}
-use Rattle.doom_run.specs.Verdict.{Accepted, counted, exercised, level_verdict, output, rendered}
+use Rattle.doom_run.specs.Verdict.{Accepted, counted, end_of, exercised, level_verdict, output, rendered}
 use Rattle.doom_run.specs.Views.{ViewsValue, views_of, views_verdict}
 
 -- where nothing was written a run may stop, whatever its verdict
@@ -50,6 +51,18 @@ delivers_end steady verdict accepted old new WriteFault is d = record { accepted
 delivers_end steady verdict accepted old new (Limit view kind count) is d = record { accepted = accepted; is = is; due = d.0; written = d.1 }
 delivers_end steady verdict accepted old new (ZoneFull wanted widest) is d = absurd d
 delivers_end steady verdict accepted old new OutOfMemory is d = absurd d
+
+-- the same of a job whose whole output is these bytes
+pub bytes_end : (steady : Bool) (verdict : Result Accepted RunStop) (accepted : Accepted) (old new : List ℕ → Type 0) (status : Status) →
+    end_of accepted ≡ Done → verdict ≡ Ok accepted → DeliversBytes (output accepted) old new status → EndsAt steady verdict old new status
+bytes_end steady verdict accepted old new Done due is d = record { accepted = accepted; is = is; due = due; written = d }
+bytes_end steady verdict accepted old new Usage due is d = absurd d
+bytes_end steady verdict accepted old new (Refused refusal) due is d = absurd d
+bytes_end steady verdict accepted old new ReadFault due is d = absurd d
+bytes_end steady verdict accepted old new WriteFault due is d = record { accepted = accepted; is = is; written = d }
+bytes_end steady verdict accepted old new (Limit view kind count) due is d = absurd d
+bytes_end steady verdict accepted old new (ZoneFull wanted widest) due is d = absurd d
+bytes_end steady verdict accepted old new OutOfMemory due is d = absurd d
 
 -- by its frames
 pub renders_end : (steady later : Bool) (verdict : Result Accepted RunStop) (accepted : Accepted) (old new : List ℕ → Type 0) (status : Status) →
@@ -202,7 +215,7 @@ module _ (steady : Bool) (n : ℕ) (format : Format) (verdict : Result ViewsValu
   accepts : (views : ViewsValue) → verdict ≡ Ok views → its_verdict ≡ Ok (exercised n format views)
   accepts views is = rw is refl
 
-  pub line_end : (line : List ℕ) (status : Status) → IsExercised n format verdict line Done → DeliversLine line old new status → EndsAt steady its_verdict old new status
+  pub line_end : (line : List ℕ) (status : Status) → IsExercised n format verdict line Done → DeliversBytes line old new status → EndsAt steady its_verdict old new status
   line_end line Done one d = record { accepted = exercised n format one.views; is = accepts one.views one.is; due = one.due; written = subst (Grew old new) (sym one.line) d }
   line_end line Usage one d = absurd d
   line_end line (Refused refusal) one d = absurd d

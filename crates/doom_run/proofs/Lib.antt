@@ -3,16 +3,12 @@ pub mod CountLemmas
 pub mod DrawnLemmas
 pub mod EndLemmas
 pub mod FitLemmas
-pub mod FlatLemmas
 pub mod FrameLemmas
 pub mod FullLemmas
 pub mod LeastLemmas
 pub mod LimitLemmas
-pub mod LumpLemmas
 pub mod MadeLemmas
 pub mod ReadyLemmas
 pub mod RunLemmas
-pub mod StepLemmas
 pub mod TakeLemmas
 pub mod TallyLemmas
-pub mod TilingLemmas

@@ -32,12 +32,12 @@ use Rattle.level_audit.specs.scene_load.Files.{FilesValue, files_in, files_named
 use Rattle.level_audit.specs.scene_load.Loads.{LoadedValue, audited_in, load_in, loaded_sizes, loaded_value, wad_bytes}
 use Rattle.level_audit.proofs.scene_load.AuditedLemmas.{audited_by}
 use Rattle.frame_core.specs.Scenes.{scene_of}
+use Rattle.plain_jobs.specs.declared.status.Status.{Status}
+use Rattle.plain_jobs.specs.Statuses.{status_of}
+use Rattle.plain_jobs.specs.Made.{made_file}
 use Rattle.doom_run.specs.declared.exercise.Summary.{Summary}
-use Rattle.doom_run.specs.declared.status.Status.{Status}
 use Rattle.doom_run.specs.declared.render.ReadyViews.{ReadyViews}
-use Rattle.doom_run.specs.Ends.{status_of}
 use Rattle.doom_run.specs.Exercises.{ExercisesAt, StopsAt, exercise_verdict, made_files, made_level, made_wads}
-use Rattle.doom_run.specs.Made.{made_file}
 use Rattle.doom_run.specs.Renders.{ready_views}
 use Rattle.doom_run.specs.Views.{ViewsValue, eye_of, limits_of_settings, views_of, views_verdict}
 

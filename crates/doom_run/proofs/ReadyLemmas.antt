@@ -23,8 +23,8 @@ use Rattle.level_audit.specs.scene_load.Loads.{loaded_sizes}
 use Rattle.command_line.specs.declared.command.Format.{Format}
 use Rattle.frame_core.specs.Scenes.{scene_of}
 use Rattle.frame_core.specs.Views.{CanDrawView, IsViewLump, IsViewTexture}
+use Rattle.plain_jobs.specs.declared.status.Status.{Status}
 use Rattle.doom_run.specs.declared.render.ReadyViews.{ReadyViews}
-use Rattle.doom_run.specs.declared.status.Status.{Status}
 use Rattle.doom_run.specs.Frames.{KeepsReady, ViewEnds}
 use Rattle.doom_run.specs.Renders.{IsFullView, ready_views}
 use Rattle.doom_run.specs.Views.{ViewsValue, eye_of}

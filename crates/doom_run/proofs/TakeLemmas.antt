@@ -20,9 +20,9 @@ use Rattle.frame_core.specs.declared.fault.ViewFault.{ViewFault}
 use Rattle.frame_core.specs.declared.fault.ViewFault.TheVariants as view
 use Rattle.frame_core.specs.Faults.{view_fault}
 use Rattle.frame_core.specs.Views.{IsViewLump, IsViewTexture}
+use Rattle.plain_jobs.specs.declared.status.Status.{Status}
+use Rattle.plain_jobs.specs.declared.status.Status.TheVariants.{Done, Usage, Refused, ReadFault, WriteFault, Limit, ZoneFull, OutOfMemory}
 use Rattle.doom_run.specs.declared.render.ReadyViews.{ReadyViews}
-use Rattle.doom_run.specs.declared.status.Status.{Status}
-use Rattle.doom_run.specs.declared.status.Status.TheVariants.{Done, Usage, Refused, ReadFault, WriteFault, Limit, ZoneFull, OutOfMemory}
 use Rattle.doom_run.specs.Frames.{KeepsReady, status_of_view}
 use Rattle.doom_run.specs.Renders.{HasReadyAsked}
 use Rattle.doom_run.specs.Takes.{InOrderAfter, LoadsOnce}

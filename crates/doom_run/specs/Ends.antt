@@ -1,11 +1,8 @@
 -- What a status says of a run.
 use Rattle.std.specs.Prelude.{◌≡◌, ℕ, Bool, IsTrue, List, [], MatchResult, Result, Ok, Err}
 use Rattle.outside.specs.Sink.{Grew, GrewByPrefix}
-use Rattle.outside.specs.declared.fault.Fault.{Fault}
-use Rattle.outside.specs.declared.fault.Fault.TheVariants as fault
-use Rattle.refusals.specs.declared.refusal.Refusal.{Refusal}
-use Rattle.doom_run.specs.declared.status.Status.{Status}
-use Rattle.doom_run.specs.declared.status.Status.TheVariants.{Done, Usage, Refused, ReadFault, WriteFault, Limit, ZoneFull, OutOfMemory}
+use Rattle.plain_jobs.specs.declared.status.Status.{Status}
+use Rattle.plain_jobs.specs.declared.status.Status.TheVariants.{Done, Usage, Refused, ReadFault, WriteFault, Limit, ZoneFull, OutOfMemory}
 use Rattle.doom_run.specs.Steps.{RunStop, usage, absent, refused}
 use Rattle.doom_run.specs.Verdict.{Accepted, end_of, output}
 
@@ -96,21 +93,3 @@ IsReadOrFull WriteFault = ⊥
 IsReadOrFull (Limit view kind count) = ⊥
 IsReadOrFull (ZoneFull wanted widest) = Unit {0}
 IsReadOrFull OutOfMemory = ⊥
-
--- the status of a fault
-abbrev pub status_of : Fault Refusal → Status
-status_of (fault.Refused refusal) = Refused refusal
-status_of fault.ReadFault = ReadFault
-status_of (fault.ZoneFull wanted widest) = ZoneFull wanted widest
-status_of fault.OutOfMemory = OutOfMemory
-
--- the number with which the program ends
-abbrev pub code_of : Status → ℕ
-code_of Done = 0
-code_of Usage = 1
-code_of (Refused refusal) = 2
-code_of ReadFault = 3
-code_of WriteFault = 4
-code_of (Limit view kind count) = 5
-code_of (ZoneFull wanted widest) = 6
-code_of OutOfMemory = 7

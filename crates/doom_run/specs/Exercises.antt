@@ -1,7 +1,6 @@
 -- The made files of a number, rendered and counted.
 use Rattle.std.specs.Prelude.{◌≡◌, ℕ, ◌++◌, ◌∷◌, ◌*◌, ◌%◌, ◌^◌, List, [], length, sum, codes, Option, Some, None, Result, Ok, Err}
 use Rattle.outside.specs.Shelf.{File}
-use Rattle.outside.specs.Sink.{Grew, GrewByPrefix}
 use Rattle.outside.specs.Stops.{Stop, stopped}
 use Rattle.command_line.specs.declared.command.Format.{Format}
 use Rattle.command_line.specs.declared.command.Format.TheVariants.{Index, Ppm}
@@ -9,10 +8,10 @@ use Rattle.command_line.specs.declared.command.MakeJob.TheVariants.{Wad, Path, T
 use Rattle.command_line.specs.LevelJobs.{LevelJobValue}
 use Rattle.refusals.specs.declared.refusal.Refusal.{Refusal}
 use Rattle.refusals.specs.Lines.{labelled}
+use Rattle.plain_jobs.specs.declared.status.Status.{Status}
+use Rattle.plain_jobs.specs.declared.status.Status.TheVariants.{Done, Usage, Refused, ReadFault, WriteFault, Limit, ZoneFull, OutOfMemory}
+use Rattle.plain_jobs.specs.Made.{made_file}
 use Rattle.doom_run.specs.declared.exercise.Summary.{Summary}
-use Rattle.doom_run.specs.declared.status.Status.{Status}
-use Rattle.doom_run.specs.declared.status.Status.TheVariants.{Done, Usage, Refused, ReadFault, WriteFault, Limit, ZoneFull, OutOfMemory}
-use Rattle.doom_run.specs.Made.{made_file}
 use Rattle.doom_run.specs.Views.{ViewsValue, due_views, first_over, rendered_bytes, rendered_end, views_verdict}
 
 -- the made files of a number, by name
@@ -89,14 +88,3 @@ StopsAt n format verdict OutOfMemory = Unit {0}
 abbrev pub ExercisesAt : ℕ → Format → Result ViewsValue (Stop Refusal) → Result Summary Status → Type 0
 ExercisesAt n format verdict (Ok summary) = IsExercised n format verdict (summary_line summary) Done
 ExercisesAt n format verdict (Err status) = StopsAt n format verdict status
-
--- what was written of a summary, by the status that its delivery gives
-abbrev pub DeliversLine : List ℕ → (List ℕ → Type 0) → (List ℕ → Type 0) → Status → Type 0
-DeliversLine line old new Done = Grew old new line
-DeliversLine line old new Usage = ⊥
-DeliversLine line old new (Refused refusal) = ⊥
-DeliversLine line old new ReadFault = ⊥
-DeliversLine line old new WriteFault = GrewByPrefix old new line
-DeliversLine line old new (Limit view kind count) = ⊥
-DeliversLine line old new (ZoneFull wanted widest) = ⊥
-DeliversLine line old new OutOfMemory = ⊥

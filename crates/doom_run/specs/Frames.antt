@@ -9,9 +9,9 @@ use Rattle.picture_rules.specs.Picture.{picture}
 use Rattle.command_line.specs.declared.command.Format.{Format}
 use Rattle.frame_core.specs.declared.fault.ViewFault.{ViewFault}
 use Rattle.frame_core.specs.declared.fault.ViewFault.TheVariants as fault
+use Rattle.plain_jobs.specs.declared.status.Status.{Status}
+use Rattle.plain_jobs.specs.declared.status.Status.TheVariants.{Done, Usage, Refused, ReadFault, WriteFault, Limit, ZoneFull, OutOfMemory}
 use Rattle.doom_run.specs.declared.render.ReadyViews.{ReadyViews}
-use Rattle.doom_run.specs.declared.status.Status.{Status}
-use Rattle.doom_run.specs.declared.status.Status.TheVariants.{Done, Usage, Refused, ReadFault, WriteFault, Limit, ZoneFull, OutOfMemory}
 use Rattle.doom_run.specs.Views.{ViewsValue, frame_bytes, over_at}
 
 -- these cells are the picture of view number k, which is there

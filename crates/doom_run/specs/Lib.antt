@@ -1,12 +1,9 @@
 pub mod Audits
 pub mod Ends
 pub mod Exercises
-pub mod Flats
 pub mod Frames
 pub mod Fulls
 pub mod Leasts
-pub mod Lines
-pub mod Made
 pub mod Renders
 pub mod Steps
 pub mod Takes

@@ -9,13 +9,13 @@ use Rattle.command_line.specs.declared.command.Format.{Format}
 use Rattle.command_line.specs.declared.command.LevelTask.{LevelTask}
 use Rattle.command_line.specs.declared.command.LevelTask.TheVariants.{Render, Audit, Limits, Trim, Trace}
 use Rattle.scene_rules.specs.declared.ZoneSizes.{ZoneSizes}
-use Rattle.doom_run.specs.declared.status.Status.{Status}
-use Rattle.doom_run.specs.declared.status.Status.TheVariants.{Done}
+use Rattle.plain_jobs.specs.declared.status.Status.{Status}
+use Rattle.plain_jobs.specs.declared.status.Status.TheVariants.{Done}
+use Rattle.plain_jobs.specs.Flats.{PictureValue, flat_verdict}
+use Rattle.plain_jobs.specs.Lines.{pair_line}
+use Rattle.plain_jobs.specs.Made.{made_file}
 use Rattle.doom_run.specs.Audits.{audit_verdict}
 use Rattle.doom_run.specs.Exercises.{exercise_verdict, exercised_bytes}
-use Rattle.doom_run.specs.Flats.{PictureValue, flat_verdict}
-use Rattle.doom_run.specs.Lines.{pair_line}
-use Rattle.doom_run.specs.Made.{made_file}
 use Rattle.doom_run.specs.Steps.{RunStop, usage, at_step, else_usage}
 use Rattle.doom_run.specs.Views.{ViewsValue, counted_bytes, rendered_bytes, rendered_end, views_verdict}
 

@@ -16,11 +16,10 @@ ghost use Rattle.std.specs.Prelude.{◌≡◌, ◌≤◌, ℕ, List, map, IfErr,
 ghost use Rattle.view_rules.specs.declared.TheConstants.{MIN_SIZE, MAX_SIZE};
 ghost use Rattle.zone_rules.specs.Zones.{IsZoneSize};
 
-use crate::notes::put_pair;
-use crate::status::Status;
 use command_line::LevelJob;
 use level_audit::{LoadFault, load_scene};
 use outside::{Shelf, Sink};
+use plain_jobs::{Status, put_pair};
 use scene_rules::ZoneSizes;
 use std::alloc::Global;
 

@@ -4,6 +4,7 @@ ghost use Rattle.outside.specs.Causes.{FaultsRose};
 ghost use Rattle.outside.specs.Faults.{itself};
 ghost use Rattle.outside.specs.MemoryShelf.{memory_view};
 ghost use Rattle.outside.specs.Shelf.{File, Holds, IsLaterShelf};
+ghost use Rattle.outside.specs.Sink.{Writes};
 ghost use Rattle.outside.specs.Stops.{ResultIsOrAbsent};
 ghost use Rattle.zone_rules.specs.Zones.{IsZoneSize};
 ghost use Rattle.lump_rules.specs.Contents.{lump_bytes};
@@ -18,20 +19,21 @@ ghost use Rattle.level_audit.specs.scene_load.Files.{files_named};
 ghost use Rattle.level_audit.specs.scene_load.Fulls.{IsBaseWithin, IsFullLoad};
 ghost use Rattle.level_audit.specs.scene_load.Loads.{load_in, loaded_value};
 ghost use Rattle.frame_core.specs.Views.{CanDrawView};
+ghost use Rattle.plain_jobs.specs.Statuses.{DeliversBytes};
 ghost use Rattle.doom_run.specs.Ends.{IfEnded};
-ghost use Rattle.doom_run.specs.Exercises.{DeliversLine, ExercisesAt, exercise_verdict, frame_size, made_files, made_level, made_wads, summary_line};
+ghost use Rattle.doom_run.specs.Exercises.{ExercisesAt, exercise_verdict, frame_size, made_files, made_level, made_wads, summary_line};
 ghost use Rattle.doom_run.specs.Leasts.{level_least};
 ghost use Rattle.doom_run.specs.Renders.{FitDue, IsFullReady, IsFullView, IsReady, ready_views};
 
-use crate::notes::put_summary;
 use crate::render::{ReadyViews, deliver_render, prepare_views};
-use crate::status::Status;
 use command_line::{Files, Format, LevelJob, Settings};
 use frame_writer::FRAME_BYTES;
 use level_audit::LoadFault;
 use level_maker::{make_path, make_tables, make_things, make_wad};
 use lump_rules::Name8;
-use outside::{MemoryFile, MemoryShelf, OutOfMemory, Sink, TallySink};
+use outside::{Failed, MemoryFile, MemoryShelf, OutOfMemory, Sink, TallySink};
+use plain_jobs::Status;
+use refusals::put_labelled;
 use std::alloc::Global;
 
 // What an exercise counted.
@@ -209,9 +211,22 @@ fn summary_of(n: u32, format: Format, ready: &ReadyViews, tally: &TallySink) -> 
     }
 }
 
+// Appends the line of an exercise.
+fn put_summary<K: Sink>(out: &mut K, summary: &Summary) -> Result<(), Failed>
+    ensures { Writes (K.written out.old) (K.written out.new) (K.faults out.old)
+        (K.faults out.new) (summary_line summary.now) result }
+{
+    put_labelled(out, b"sectors ", summary.sectors)?;
+    put_labelled(out, b" views ", summary.views)?;
+    put_labelled(out, b" frames ", summary.frames)?;
+    put_labelled(out, b" bytes ", summary.bytes)?;
+    put_labelled(out, b" sum ", summary.sum)?;
+    out.put(b"\n")
+}
+
 // Writes the line of an exercise. Takes no memory.
 pub fn deliver_exercise<K: Sink>(summary: Summary, out: &mut K) -> Status
-    ensures ends { DeliversLine (summary_line summary) (K.written out.old) (K.written out.new)
+    ensures ends { DeliversBytes (summary_line summary) (K.written out.old) (K.written out.new)
         result }
     ensures write_fault { result ≡ Status.WriteFault →
         FaultsRose (K.faults out.old) (K.faults out.new) }

@@ -8,11 +8,10 @@ ghost use Rattle.doom_run.specs.Renders.{ready_views};
 ghost use Rattle.doom_run.specs.Verdict.{counted};
 ghost use Rattle.doom_run.specs.Views.{counts_line, view_line_at, over_line};
 
-use crate::notes::put_limit_count;
 use crate::render::{ReadyViews, eye_of};
-use crate::status::Status;
 use frame_core::{Counts, OverLimit, count_view};
 use outside::{Failed, Sink};
+use plain_jobs::{Status, put_limit_count};
 use refusals::put_labelled;
 
 // Appends the line of a view's counts.

@@ -26,13 +26,13 @@ ghost use Rattle.std.specs.Prelude.{◌≡◌, ◌<◌, ◌≤◌, ℕ, List, le
 ghost use Rattle.texture_build.specs.Draws.{DrawsWith, HoldsArt};
 ghost use Rattle.zone_rules.specs.Orders.{Item, IsInOrder, KeepsOrder};
 
-use crate::status::Status;
 use command_line::{Format, LevelJob};
 use csv_tables::{PathRow, PathTable};
 use frame_core::{Limits, ViewFault, Workshop, draw_view};
 use frame_writer::{put_index, put_ppm};
 use level_audit::{LoadFault, LoadedScene, load_scene};
 use outside::{Failed, Fault, Shelf, Sink};
+use plain_jobs::Status;
 use std::alloc::Global;
 use view_rules::Eye;
 

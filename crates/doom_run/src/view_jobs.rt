@@ -20,9 +20,9 @@ ghost use Rattle.doom_run.specs.Words.{level_asks};
 use crate::exercise::{deliver_exercise, prepare_exercise};
 use crate::limits::deliver_limits;
 use crate::render::{deliver_render, prepare_views};
-use crate::status::Status;
 use command_line::{Format, LevelJob};
 use outside::{Shelf, Sink};
+use plain_jobs::Status;
 use std::alloc::Global;
 
 // The job `render`: the frames of the views of a path.

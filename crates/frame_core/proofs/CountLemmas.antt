@@ -4,10 +4,10 @@ use Rattle.std.specs.Prelude.{None, sum}
 use Rattle.std.proofs.lemmas.List.{length-append, length-map, length-take}
 use Rattle.std.proofs.lemmas.List.Sums.{sum_by-cons}
 use Rattle.view_rules.specs.View.{ViewValue}
-use Rattle.walk_rules.specs.declared.TheConstants.{MAX_DRAWSEGS}
-use Rattle.walk_rules.specs.Drawsegs.{drawsegs, leaf_fragments}
-use Rattle.walk_rules.specs.Events.{Event}
-use Rattle.walk_rules.specs.Walk.{view_events}
+use Rattle.level_rules.specs.declared.walk.TheConstants.{MAX_DRAWSEGS}
+use Rattle.level_rules.specs.walk.Drawsegs.{drawsegs, leaf_fragments}
+use Rattle.level_rules.specs.walk.Events.{Event}
+use Rattle.level_rules.specs.walk.Walk.{view_events}
 use Rattle.picture_rules.specs.wall.Walls.{Wall}
 use Rattle.picture_rules.specs.wall.Openings.{openings_of}
 use Rattle.picture_rules.specs.wall.Notes.{notes_from, openings_list, saved_by, saved_from, view_notes}

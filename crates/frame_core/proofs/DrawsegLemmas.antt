@@ -11,9 +11,9 @@ use Rattle.level_rules.specs.declared.Sector.{Sector}
 use Rattle.level_rules.specs.declared.SideTextures.{SideTextures}
 use Rattle.level_rules.specs.declared.Surface.{Surface}
 use Rattle.level_rules.specs.Levels.{no_surface, seg_at, surface_at}
-use Rattle.walk_rules.specs.Drawsegs.{LeafFragment, drawsegs}
-use Rattle.walk_rules.specs.Events.{Event}
-use Rattle.walk_rules.specs.Segs.{back_of}
+use Rattle.level_rules.specs.walk.Drawsegs.{LeafFragment, drawsegs}
+use Rattle.level_rules.specs.walk.Events.{Event}
+use Rattle.level_rules.specs.walk.Segs.{back_of}
 use Rattle.pixel_rules.specs.Art.{Art}
 use Rattle.picture_rules.specs.declared.wall.FragmentNote.{FragmentNote}
 use Rattle.picture_rules.specs.declared.wall.FragmentNumbers.{FragmentNumbers}

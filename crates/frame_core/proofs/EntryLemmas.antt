@@ -10,7 +10,7 @@ use Rattle.word_rules.specs.Listed.{joined_lists}
 use Rattle.word_rules.proofs.ListedLemmas.{joined_lists-cons}
 use Rattle.view_rules.specs.View.{ViewValue}
 use Rattle.level_rules.specs.declared.PlacedThing.{PlacedThing}
-use Rattle.walk_rules.specs.Events.{Event}
+use Rattle.level_rules.specs.walk.Events.{Event}
 use Rattle.art_rules.specs.declared.shapes.Frame.{Frame}
 use Rattle.art_rules.specs.declared.shapes.Shape.{Shape}
 use Rattle.art_rules.specs.Books.{book_lumps, is_frame, picked, shape_lumps}

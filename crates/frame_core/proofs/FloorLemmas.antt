@@ -18,8 +18,8 @@ use Rattle.view_rules.specs.declared.ViewShape.{ViewShape}
 use Rattle.level_rules.specs.declared.Sector.{Sector}
 use Rattle.level_rules.specs.declared.Surface.{Surface}
 use Rattle.level_rules.specs.Levels.{no_surface, surface_at}
-use Rattle.walk_rules.specs.Events.{Event}
-use Rattle.walk_rules.specs.Walk.{view_events}
+use Rattle.level_rules.specs.walk.Events.{Event}
+use Rattle.level_rules.specs.walk.Walk.{view_events}
 use Rattle.art_rules.specs.Books.{book_lumps}
 use Rattle.art_rules.specs.Textures.{Texture, texture_number}
 use Rattle.art_rules.specs.declared.PlacedPatch.{PlacedPatch}

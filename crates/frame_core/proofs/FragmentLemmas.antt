@@ -13,8 +13,8 @@ use Rattle.level_rules.specs.declared.Surface.{Surface}
 use Rattle.level_rules.specs.Levels.{seg_at, surface_at}
 use Rattle.level_rules.specs.maps.Sound.{IsSound}
 use Rattle.art_rules.specs.Wanted.{PreparedTexture}
-use Rattle.walk_rules.specs.declared.TheConstants.{MAX_DRAWSEGS}
-use Rattle.walk_rules.specs.Events.{Event}
+use Rattle.level_rules.specs.declared.walk.TheConstants.{MAX_DRAWSEGS}
+use Rattle.level_rules.specs.walk.Events.{Event}
 use Rattle.pixel_rules.specs.declared.Painter.{Painter}
 use Rattle.pixel_rules.specs.Dots.{Dot}
 use Rattle.pixel_strips.specs.Canvases.{CanvasView}

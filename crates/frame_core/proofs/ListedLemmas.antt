@@ -14,11 +14,11 @@ use Rattle.level_rules.specs.declared.Surface.{Surface}
 use Rattle.level_rules.specs.declared.ThingLine.{ThingLine}
 use Rattle.level_rules.specs.Levels.{no_seg, seg_at, surface_at}
 use Rattle.level_rules.specs.maps.Sound.{IsSound}
-use Rattle.walk_rules.specs.declared.TheConstants.{MAX_DRAWSEGS}
-use Rattle.walk_rules.specs.Drawsegs.{LeafFragment, drawsegs, leaf_fragments}
-use Rattle.walk_rules.specs.Events.{Event}
-use Rattle.walk_rules.specs.Events.Event.{LeafEvent, FragmentEvent}
-use Rattle.walk_rules.specs.Segs.{back_of}
+use Rattle.level_rules.specs.declared.walk.TheConstants.{MAX_DRAWSEGS}
+use Rattle.level_rules.specs.walk.Drawsegs.{LeafFragment, drawsegs, leaf_fragments}
+use Rattle.level_rules.specs.walk.Events.{Event}
+use Rattle.level_rules.specs.walk.Events.Event.{LeafEvent, FragmentEvent}
+use Rattle.level_rules.specs.walk.Segs.{back_of}
 use Rattle.picture_rules.specs.declared.wall.FragmentNote.{FragmentNote}
 use Rattle.picture_rules.specs.declared.wall.WallFacts.{WallFacts}
 use Rattle.picture_rules.specs.wall.Notes.{note_at, notes_from, place_if, room_if, view_notes}

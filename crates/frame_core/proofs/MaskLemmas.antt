@@ -18,7 +18,7 @@ use Rattle.level_rules.specs.declared.Sector.{Sector}
 use Rattle.level_rules.specs.declared.Side.{Side}
 use Rattle.level_rules.specs.maps.Levels.{LevelValue}
 use Rattle.level_rules.specs.maps.Sound.{IsSound}
-use Rattle.walk_rules.specs.Walk.{view_events}
+use Rattle.level_rules.specs.walk.Walk.{view_events}
 use Rattle.art_rules.specs.Books.{book_lumps}
 use Rattle.pixel_rules.specs.declared.Painter.{Painter}
 use Rattle.pixel_rules.specs.Dots.{Dot}

@@ -16,9 +16,9 @@ use Rattle.view_rules.specs.View.{ViewValue}
 use Rattle.level_rules.specs.declared.Surface.{Surface}
 use Rattle.level_rules.specs.Levels.{LevelLists}
 use Rattle.level_rules.specs.maps.Levels.{LevelValue}
-use Rattle.walk_rules.specs.Events.{Event}
-use Rattle.walk_rules.specs.Events.Event.{LeafEvent, FragmentEvent}
-use Rattle.walk_rules.specs.Walk.{view_events}
+use Rattle.level_rules.specs.walk.Events.{Event}
+use Rattle.level_rules.specs.walk.Events.Event.{LeafEvent, FragmentEvent}
+use Rattle.level_rules.specs.walk.Walk.{view_events}
 use Rattle.pixel_rules.specs.declared.Painter.{Painter}
 use Rattle.pixel_rules.specs.Dots.{Dot}
 use Rattle.pixel_strips.specs.Canvases.{CanvasView}

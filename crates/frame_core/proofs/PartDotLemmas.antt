@@ -10,7 +10,7 @@ use Rattle.word_rules.specs.Listed.{listed, listed_from, joined_lists}
 use Rattle.view_rules.specs.View.{ViewValue}
 use Rattle.view_rules.specs.declared.ViewShape.{ViewShape}
 use Rattle.view_rules.specs.declared.TheConstants.{FRAME_HEIGHT}
-use Rattle.walk_rules.specs.Events.{Event}
+use Rattle.level_rules.specs.walk.Events.{Event}
 use Rattle.pixel_rules.specs.declared.Painter.{Painter}
 use Rattle.pixel_rules.specs.Art.{Art}
 use Rattle.pixel_rules.specs.Dots.{Dot}

@@ -6,10 +6,10 @@ use Rattle.std.proofs.lemmas.Bool.{cases_lt}
 use Rattle.std.proofs.lemmas.List.{append-nil, append_assoc, map-append, length-map, length-take}
 use Rattle.std.proofs.lemmas.List.Folds.{find-append}
 use Rattle.view_rules.specs.View.{ViewValue}
-use Rattle.walk_rules.specs.declared.TheConstants.{MAX_DRAWSEGS}
-use Rattle.walk_rules.specs.Drawsegs.{drawsegs, last_leaf, leaf_fragments}
-use Rattle.walk_rules.specs.Events.{Event}
-use Rattle.walk_rules.specs.Events.Event.{LeafEvent, FragmentEvent}
+use Rattle.level_rules.specs.declared.walk.TheConstants.{MAX_DRAWSEGS}
+use Rattle.level_rules.specs.walk.Drawsegs.{drawsegs, last_leaf, leaf_fragments}
+use Rattle.level_rules.specs.walk.Events.{Event}
+use Rattle.level_rules.specs.walk.Events.Event.{LeafEvent, FragmentEvent}
 use Rattle.picture_rules.specs.wall.Walls.{Wall}
 use Rattle.picture_rules.specs.plane.Built.{after_event, after_events, no_planes, plane_counts}
 use Rattle.picture_rules.proofs.plane.BuiltLemmas.{after_events-more}

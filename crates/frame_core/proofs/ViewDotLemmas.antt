@@ -10,8 +10,8 @@ use Rattle.word_rules.specs.Listed.{listed_from}
 use Rattle.view_rules.specs.View.{ViewValue}
 use Rattle.view_rules.specs.declared.ViewShape.{ViewShape}
 use Rattle.view_rules.specs.declared.TheConstants.{FRAME_HEIGHT}
-use Rattle.walk_rules.specs.Events.{Event}
-use Rattle.walk_rules.specs.Walk.{view_events}
+use Rattle.level_rules.specs.walk.Events.{Event}
+use Rattle.level_rules.specs.walk.Walk.{view_events}
 use Rattle.pixel_rules.specs.declared.MaskedColumn.{MaskedColumn}
 use Rattle.pixel_rules.specs.declared.Painter.{Painter}
 use Rattle.pixel_rules.specs.declared.Post.{Post}

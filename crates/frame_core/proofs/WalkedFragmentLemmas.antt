@@ -8,11 +8,11 @@ use Rattle.std.proofs.lemmas.List.Elements.{All-push}
 use Rattle.view_rules.specs.View.{ViewValue}
 use Rattle.view_rules.specs.declared.TheConstants.{FRAME_HEIGHT}
 use Rattle.level_rules.specs.Levels.{seg_at, surface_at}
-use Rattle.walk_rules.specs.declared.TheConstants.{MAX_DRAWSEGS}
-use Rattle.walk_rules.specs.Drawsegs.{drawsegs, last_leaf, leaves_entered}
-use Rattle.walk_rules.specs.Events.{Event}
-use Rattle.walk_rules.specs.Events.Event.{FragmentEvent}
-use Rattle.walk_rules.proofs.DrawsegLemmas.{drawsegs-within, last_leaf-append, leaves_entered-append}
+use Rattle.level_rules.specs.declared.walk.TheConstants.{MAX_DRAWSEGS}
+use Rattle.level_rules.specs.walk.Drawsegs.{drawsegs, last_leaf, leaves_entered}
+use Rattle.level_rules.specs.walk.Events.{Event}
+use Rattle.level_rules.specs.walk.Events.Event.{FragmentEvent}
+use Rattle.level_rules.proofs.walk.DrawsegLemmas.{drawsegs-within, last_leaf-append, leaves_entered-append}
 use Rattle.picture_rules.specs.plane.Planes.{Plane}
 use Rattle.picture_rules.specs.plane.Built.{PlanesNow, after_event}
 use Rattle.picture_rules.specs.declared.wall.WallFacts.{WallFacts}

@@ -9,10 +9,10 @@ use Rattle.std.proofs.lemmas.List.Folds.{list_any-append}
 use Rattle.view_rules.specs.View.{ViewValue}
 use Rattle.level_rules.specs.Levels.{leaf_at, surface_at}
 use Rattle.art_rules.specs.Books.{book_lumps}
-use Rattle.walk_rules.specs.Drawsegs.{last_leaf, leaves_entered}
-use Rattle.walk_rules.specs.Events.{Event}
-use Rattle.walk_rules.specs.Events.Event.{LeafEvent}
-use Rattle.walk_rules.proofs.DrawsegLemmas.{last_leaf-append, leaves_entered-append}
+use Rattle.level_rules.specs.walk.Drawsegs.{last_leaf, leaves_entered}
+use Rattle.level_rules.specs.walk.Events.{Event}
+use Rattle.level_rules.specs.walk.Events.Event.{LeafEvent}
+use Rattle.level_rules.proofs.walk.DrawsegLemmas.{last_leaf-append, leaves_entered-append}
 use Rattle.picture_rules.specs.declared.plane.PlaneKey.{PlaneKey}
 use Rattle.picture_rules.specs.plane.Keys.{ceiling_key, floor_key}
 use Rattle.picture_rules.specs.plane.Planes.{Plane}

@@ -1,8 +1,8 @@
 -- Who is given the walk of a view: the painter and the counter by their values, and what they have made of the events.
 use Rattle.std.specs.Prelude.{◌≡◌, ℕ, List, [], Some, IfSome, IfErr, OnOk, Result}
 use Rattle.view_rules.specs.View.{ViewValue}
-use Rattle.walk_rules.specs.Events.{Event}
-use Rattle.walk_rules.specs.Walk.{view_events}
+use Rattle.level_rules.specs.walk.Events.{Event}
+use Rattle.level_rules.specs.walk.Walk.{view_events}
 use Rattle.pixel_rules.specs.declared.Painter.{Painter}
 use Rattle.pixel_rules.specs.Dots.{Dot}
 use Rattle.scene_rules.specs.Scenes.{SceneValue}

@@ -2,7 +2,7 @@
 ghost use Rattle.std.specs.Prelude.{◌≡◌, ◌<◌, ℕ, List, length};
 ghost use Rattle.level_rules.specs.Levels.{seg_at, surface_at};
 ghost use Rattle.level_rules.specs.maps.Sound.{IsSegIn, IsSound};
-ghost use Rattle.walk_rules.specs.Segs.{back_of};
+ghost use Rattle.level_rules.specs.walk.Segs.{back_of};
 ghost use Rattle.picture_rules.specs.Scene.{facts_of, side_at, textures_at, wall_texture};
 ghost use Rattle.frame_core.specs.Scenes.{lists_of, scene_of};
 
@@ -86,7 +86,7 @@ pub(crate) fn surface_at(scene: &SoundScene, sector: u16) -> Surface
 }
 
 // The sector behind a seg.
-#[tactic(auto, unfolding(walk_rules::specs::Segs::back_of))]
+#[tactic(auto, unfolding(level_rules::specs::walk::Segs::back_of))]
 fn back_of(scene: &SoundScene, seg: Seg) -> Option<Surface>
     requires flats { length scene.now.scene.faces.flats
         ≡ length scene.now.scene.base.level.sectors }

@@ -2,7 +2,7 @@
 //
 // Rules: `picture_rules`, Planes. The original: `R_DrawPlanes`, r_plane.c.
 ghost use Rattle.std.specs.Prelude.{◌≡◌, None, IfErr};
-ghost use Rattle.walk_rules.specs.Walk.{view_events};
+ghost use Rattle.level_rules.specs.walk.Walk.{view_events};
 ghost use Rattle.picture_rules.specs.Counts.{view_steps};
 ghost use Rattle.picture_rules.specs.Planes.{planes_dots, view_planes};
 ghost use Rattle.frame_core.specs.Faults.{limit_of_view};

@@ -11,7 +11,7 @@ ghost use Rattle.picture_rules.specs.Walls.{walls_of};
 ghost use Rattle.picture_rules.specs.sprite.Middles.{masked_dots};
 ghost use Rattle.picture_rules.specs.sprite.Order.{draw_order};
 ghost use Rattle.std.specs.Prelude.{◌≡◌, ◌≤◌, None, IfErr, length};
-ghost use Rattle.walk_rules.specs.Walk.{view_events};
+ghost use Rattle.level_rules.specs.walk.Walk.{view_events};
 
 use crate::bench::Bench;
 use crate::fault::ViewFault;

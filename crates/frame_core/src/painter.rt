@@ -2,7 +2,7 @@
 //
 // Rules: `picture_rules`, Walls; `specs/Painters`. The original: `R_RenderBSPNode`, r_bsp.c.
 ghost use Rattle.std.specs.Prelude.{◌≡◌, OnOk};
-ghost use Rattle.walk_rules.specs.Walk.{view_events};
+ghost use Rattle.level_rules.specs.walk.Walk.{view_events};
 ghost use Rattle.frame_core.specs.Ends.{EndsOver};
 ghost use Rattle.frame_core.specs.Scenes.{lists_of};
 ghost use Rattle.frame_core.specs.Views.{AreSameViewTools, CanDrawTools, CanDrawView, PaintsView, tools_scene, tools_state, view_scene, view_state};

@@ -1,16 +1,19 @@
 //! The records of a level, and its entries by number.
 //!
 //! Records, look-ups and the limits that they share; and in the folder `maps` how the bytes of the
-//! eight map lumps give them. A leaf is the field's subsector. Rules only.
+//! eight map lumps give them, in the folder `walk` what is seen of them in which order. A leaf is
+//! the field's subsector. Rules only.
 //! The original: r_defs.h, doomdata.h.
 #![tactic(auto)]
 
 pub mod maps;
+pub mod walk;
 
 use lump_rules::Name8;
 pub use maps::{
     LEAF_BIT, MAX_RECORDS, MapLeaf, MapLine, MapLump, MapRefusal, MapSeg, MapVertex, NO_SIDE,
 };
+pub use walk::{Corners, MAX_DRAWSEGS};
 
 /// A thing as its lump has it: point, angle, type and options.
 ///

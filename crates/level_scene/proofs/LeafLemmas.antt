@@ -9,7 +9,7 @@ use Rattle.level_rules.specs.Levels.{child_on}
 use Rattle.level_rules.specs.maps.Ranges.{is_there}
 use Rattle.level_rules.specs.maps.Trees.{is_within}
 use Rattle.view_rules.specs.Sides.{side_of}
-use Rattle.walk_rules.specs.Boxes.{partition_of}
+use Rattle.level_rules.specs.walk.Boxes.{partition_of}
 use Rattle.scene_rules.specs.Places.{leaf_below, leaf_from}
 
 -- a leaf is the leaf itself

@@ -8,7 +8,7 @@ ghost use Rattle.level_rules.specs.declared.Child.TheVariants.{Node as NodeChild
 ghost use Rattle.level_rules.specs.Levels.{child_on};
 ghost use Rattle.level_rules.specs.maps.Sound.{IsChildIn, IsNodeIn};
 ghost use Rattle.level_rules.specs.maps.Trees.{is_within};
-ghost use Rattle.walk_rules.specs.Boxes.{partition_of};
+ghost use Rattle.level_rules.specs.walk.Boxes.{partition_of};
 ghost use Rattle.scene_rules.specs.declared.Placed.{Placed};
 ghost use Rattle.scene_rules.specs.Places.{first_shadow, is_in_skill, is_shadow, leaf_from, need_of, placed_if, placed_in, placed_row, placed_thing, placed_things, sector_at, skill_option, thing_angle, thing_height, things_of};
 ghost use Rattle.level_scene.specs.Groups.{AreGroupsOf, IsIn};
@@ -80,7 +80,7 @@ fn node_at(level: &Level, n: u16) -> &Node
     &level.nodes()[n as usize]
 }
 
-#[tactic(auto, unfolding(walk_rules::specs::Boxes::partition_of))]
+#[tactic(auto, unfolding(level_rules::specs::walk::Boxes::partition_of))]
 fn partition_of(line: &Partition4) -> Partition
     ensures { result ≡ partition_of line.now }
 {

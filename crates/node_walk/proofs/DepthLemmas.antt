@@ -13,10 +13,10 @@ use Rattle.level_rules.specs.declared.Child.{Child}
 use Rattle.level_rules.specs.declared.Child.TheVariants.{Node as NodeChild, Leaf as LeafChild}
 use Rattle.level_rules.specs.Levels.{LevelLists, node_at, child_on}
 use Rattle.level_rules.specs.maps.Trees.{is_within}
-use Rattle.walk_rules.specs.Boxes.{partition_of, eye_side, near_child, far_child, far_box, box_passes}
-use Rattle.walk_rules.specs.Events.{WalkState}
-use Rattle.walk_rules.specs.Walk.{at_far, at_node, walk_child}
-use Rattle.walk_rules.proofs.WalkLemmas.{walk-leaf, walk-node}
+use Rattle.level_rules.specs.walk.Boxes.{partition_of, eye_side, near_child, far_child, far_box, box_passes}
+use Rattle.level_rules.specs.walk.Events.{WalkState}
+use Rattle.level_rules.specs.walk.Walk.{at_far, at_node, walk_child}
+use Rattle.level_rules.proofs.walk.WalkLemmas.{walk-leaf, walk-node}
 
 below_by : (b : Bool) (x y : ℕ) → x ≤ 1 → y ≤ 1 → cond b x y ≤ 1
 below_by true x y h k = h

@@ -3,9 +3,9 @@ use Rattle.std.proofs.Common.{◌≡◌, ℕ, Bool, List, [], ◌∷◌, ◌++�
 use Rattle.std.specs.List.{Contains}
 use Rattle.std.proofs.lemmas.List.{map-append}
 use Rattle.std.proofs.lemmas.List.Elements.{All-contains, Contains-append_right}
-use Rattle.walk_rules.specs.Covered.{fragments, IsFragment}
-use Rattle.walk_rules.specs.Events.Event.{FragmentEvent}
-use Rattle.walk_rules.proofs.RunLemmas.{fragments-are}
+use Rattle.level_rules.specs.walk.Covered.{fragments, IsFragment}
+use Rattle.level_rules.specs.walk.Events.Event.{FragmentEvent}
+use Rattle.level_rules.proofs.walk.RunLemmas.{fragments-are}
 
 -- the one that comes next is within first to last
 pub next_fragment : (columns : List Bool) (first last p q : ℕ) (before items rest : List (ℕ × ℕ)) → items ≡ (p, q) ∷ rest → before ++ items ≡ fragments columns first last → IsFragment columns first last p q

@@ -5,8 +5,8 @@ use Rattle.std.proofs.lemmas.Bool.{cases_lt}
 use Rattle.std.proofs.lemmas.Bool.Decides.{nat_tests}
 use Rattle.std.proofs.Math.Seq.{drop-cons}
 use Rattle.std.proofs.lemmas.List.{get_or-drop, get_or-take}
-use Rattle.walk_rules.specs.Covered.{runs, fragments, hides, is_covered}
-use Rattle.walk_rules.proofs.CoverLemmas.{runs-covered, runs-open, fragments-hides, hides-fragments}
+use Rattle.level_rules.specs.walk.Covered.{runs, fragments, hides, is_covered}
+use Rattle.level_rules.proofs.walk.CoverLemmas.{runs-covered, runs-open, fragments-hides, hides-fragments}
 use Rattle.node_walk.specs.declared.ranges.Range.{Range}
 use Rattle.node_walk.specs.Ranges.{is_in_range, is_within_range, columns_of, range_gaps, hides_in}
 use Rattle.node_walk.proofs.RangeLemmas.{AreApart, apart_from, columns_of-covered, length-columns_of}

@@ -12,13 +12,13 @@ use Rattle.level_rules.specs.declared.Surface.{Surface}
 use Rattle.level_rules.specs.declared.Child.{Child}
 use Rattle.level_rules.specs.declared.Child.TheVariants.{Node as NodeChild, Leaf as LeafChild}
 use Rattle.level_rules.specs.Levels.{LevelLists, seg_at, leaf_at, node_at, surface_at, child_on}
-use Rattle.walk_rules.specs.Covered.{fragments, cover}
-use Rattle.walk_rules.specs.Boxes.{eye_side, box_on, near_child, far_child, far_box, box_passes}
-use Rattle.walk_rules.specs.Segs.{seg_range, back_of, middle_of, is_solid, is_pass}
-use Rattle.walk_rules.specs.Events.{Event, WalkState}
-use Rattle.walk_rules.specs.Events.Event.{LeafEvent, FragmentEvent}
-use Rattle.walk_rules.specs.Walk.{walk_start, shows, covers, at_columns, at_range, at_seg_of, at_seg, at_segs, enters, at_leaf_of, at_leaf, at_far, at_node, walk_child}
-use Rattle.walk_rules.proofs.WalkLemmas.{walk-node, at_segs-more}
+use Rattle.level_rules.specs.walk.Covered.{fragments, cover}
+use Rattle.level_rules.specs.walk.Boxes.{eye_side, box_on, near_child, far_child, far_box, box_passes}
+use Rattle.level_rules.specs.walk.Segs.{seg_range, back_of, middle_of, is_solid, is_pass}
+use Rattle.level_rules.specs.walk.Events.{Event, WalkState}
+use Rattle.level_rules.specs.walk.Events.Event.{LeafEvent, FragmentEvent}
+use Rattle.level_rules.specs.walk.Walk.{walk_start, shows, covers, at_columns, at_range, at_seg_of, at_seg, at_segs, enters, at_leaf_of, at_leaf, at_far, at_node, walk_child}
+use Rattle.level_rules.proofs.walk.WalkLemmas.{walk-node, at_segs-more}
 use Rattle.node_walk.specs.Lists.{part_start}
 
 -- a state behind some events

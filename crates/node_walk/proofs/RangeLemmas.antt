@@ -6,8 +6,8 @@ use Rattle.std.proofs.lemmas.Bool.Decides.{nat_tests}
 use Rattle.std.proofs.lemmas.List.{length-replicate, get_or-replicate}
 use Rattle.word_rules.specs.Listed.{listed}
 use Rattle.word_rules.proofs.ListedLemmas.{length-listed, get_or-listed, listed-all}
-use Rattle.walk_rules.specs.Covered.{cover, is_covered}
-use Rattle.walk_rules.proofs.CoverLemmas.{length-cover, covered-before, covered-between, covered-after}
+use Rattle.level_rules.specs.walk.Covered.{cover, is_covered}
+use Rattle.level_rules.proofs.walk.CoverLemmas.{length-cover, covered-before, covered-between, covered-after}
 use Rattle.node_walk.specs.declared.ranges.Range.{Range}
 use Rattle.node_walk.specs.Ranges.{is_in_range, is_within_range, columns_of, are_apart, ends_before, starts_after, ranges_before, union, joined, with_range}
 

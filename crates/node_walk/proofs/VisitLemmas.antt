@@ -3,7 +3,7 @@ use Rattle.std.proofs.Common.{◌≡◌, ℕ, ◌+◌, Bool, List, [], ◌++◌,
 use Rattle.std.proofs.lemmas.List.{take-append-le, length-append}
 use Rattle.std.proofs.Math.Seq.{take-append-add}
 use Rattle.std.proofs.lemmas.Result.{on_ok_weaker, IfErr-weaker}
-use Rattle.walk_rules.specs.Events.{Event, WalkState}
+use Rattle.level_rules.specs.walk.Events.{Event, WalkState}
 use Rattle.node_walk.specs.Lists.{part_start}
 use Rattle.node_walk.specs.Visits.{Grew, StoppedAt, StillTakes, Visits, TakesAll, Walks}
 use Rattle.node_walk.proofs.PartLemmas.{behind}

@@ -13,7 +13,7 @@ use Rattle.level_rules.specs.declared.TheConstants.{MAX_DEPTH}
 use Rattle.level_rules.specs.declared.maps.lumps.TheConstants.{MAX_RECORDS}
 use Rattle.level_rules.specs.maps.Levels.{LevelValue}
 use Rattle.level_rules.specs.maps.Trees.{is_within}
-use Rattle.walk_rules.specs.Events.{WalkState}
+use Rattle.level_rules.specs.walk.Events.{WalkState}
 use Rattle.node_walk.specs.declared.scene.Lists.TheInside.{Inside}
 
 -- the part of a level that the walk reads, with its surfaces and middle textures

@@ -1,7 +1,7 @@
 -- What a visitor is given, one event after the other, and what its answers say of the lists of events for which it stands.
 use Rattle.std.specs.Prelude.{◌≡◌, ℕ, ◌<◌, ◌≤◌, Bool, List, ◌++◌, length, take, Result, OnOk, IfErr}
-use Rattle.walk_rules.specs.Events.{Event, WalkState}
-use Rattle.walk_rules.specs.Events.Event.{LeafEvent, FragmentEvent}
+use Rattle.level_rules.specs.walk.Events.{Event, WalkState}
+use Rattle.level_rules.specs.walk.Events.Event.{LeafEvent, FragmentEvent}
 
 -- Where the visitor stood for a start and a list, it now stands for that start and the list with these events appended.
 pub record Grew {A : Type 0} (stood stands : A → List Event → Type 0) (events : List Event) : Type 0 where

@@ -1,16 +1,15 @@
-// Near and far children of a node, and whether a far box is to be entered. Rules: `walk_rules`,
+// Near and far children of a node, and whether a far box is to be entered. Rules: `level_rules/walk`,
 // Boxes.
 ghost use Rattle.std.specs.Prelude.{◌≡◌, ℕ, ◌≤◌, length};
 ghost use Rattle.view_rules.specs.declared.ColumnRange.{ColumnRange};
 ghost use Rattle.level_rules.specs.Levels.{child_on};
-ghost use Rattle.walk_rules.specs.Boxes.{partition_of, eye_side, box_on, box_column, box_row, box_corners, corners_range, range_is_open, is_within_box, box_passes};
+ghost use Rattle.level_rules.specs.walk.Boxes.{partition_of, eye_side, box_on, box_column, box_row, box_corners, corners_range, range_is_open, is_within_box, box_passes};
 
 use crate::cover::Cover;
-use level_rules::{Box4, Child, Node, Partition4};
+use level_rules::{Box4, Child, Corners, Node, Partition4};
 use view_frame::{ColumnRange, Partition, View, side_of};
-use walk_rules::Corners;
 
-#[tactic(auto, unfolding(walk_rules::specs::Boxes::partition_of))]
+#[tactic(auto, unfolding(level_rules::specs::walk::Boxes::partition_of))]
 fn partition_of(line: &Partition4) -> Partition
     ensures { result ≡ partition_of line.now }
 {
@@ -23,7 +22,7 @@ fn partition_of(line: &Partition4) -> Partition
 }
 
 /// The side of the node's line on which the viewpoint is: 0 in front, 1 behind.
-#[tactic(auto, unfolding(walk_rules::specs::Boxes::eye_side))]
+#[tactic(auto, unfolding(level_rules::specs::walk::Boxes::eye_side))]
 pub(crate) fn eye_side(view: &View<'_>, node: &Node) -> u8
     ensures value { result ≡ eye_side view.now node.now }
     ensures bound { result ≤ 1 }
@@ -42,7 +41,7 @@ pub(crate) fn child_on(node: &Node, side: u8) -> Child
 }
 
 /// The box of that child.
-#[tactic(auto, unfolding(walk_rules::specs::Boxes::box_on))]
+#[tactic(auto, unfolding(level_rules::specs::walk::Boxes::box_on))]
 pub(crate) fn box_on(node: &Node, side: u8) -> &Box4
     requires { side ≤ 1 }
     ensures { result.now ≡ box_on node.now side }
@@ -51,7 +50,7 @@ pub(crate) fn box_on(node: &Node, side: u8) -> &Box4
 }
 
 // Left of the box, within its columns, or right of it: 0, 1, 2.
-#[tactic(auto, unfolding(walk_rules::specs::Boxes::box_column))]
+#[tactic(auto, unfolding(level_rules::specs::walk::Boxes::box_column))]
 fn box_column(view: &View<'_>, b: &Box4) -> u8
     ensures { result ≡ box_column view.now b.now }
 {
@@ -66,7 +65,7 @@ fn box_column(view: &View<'_>, b: &Box4) -> u8
 }
 
 // Above the box, within its rows, or below it: 0, 1, 2.
-#[tactic(auto, unfolding(walk_rules::specs::Boxes::box_row))]
+#[tactic(auto, unfolding(level_rules::specs::walk::Boxes::box_row))]
 fn box_row(view: &View<'_>, b: &Box4) -> u8
     ensures { result ≡ box_row view.now b.now }
 {
@@ -80,7 +79,7 @@ fn box_row(view: &View<'_>, b: &Box4) -> u8
     }
 }
 
-#[tactic(auto, unfolding(walk_rules::specs::Boxes::is_within_box))]
+#[tactic(auto, unfolding(level_rules::specs::walk::Boxes::is_within_box))]
 fn is_within_box(row: u8, column: u8) -> bool
     ensures { result ≡ is_within_box row column }
 {
@@ -94,7 +93,7 @@ fn corners(x1: i32, y1: i32, x2: i32, y2: i32) -> Corners
 }
 
 // The two corners between which the box is seen: from above it, from within its rows, or from below.
-#[tactic(auto, unfolding(walk_rules::specs::Boxes::box_corners, walk_rules::specs::Boxes::corners_above, walk_rules::specs::Boxes::corners_beside, walk_rules::specs::Boxes::corners_below))]
+#[tactic(auto, unfolding(level_rules::specs::walk::Boxes::box_corners, level_rules::specs::walk::Boxes::corners_above, level_rules::specs::walk::Boxes::corners_beside, level_rules::specs::walk::Boxes::corners_below))]
 fn box_corners(b: &Box4, row: u8, column: u8) -> Corners
     ensures { result ≡ box_corners b.now row column }
 {
@@ -116,7 +115,7 @@ fn box_corners(b: &Box4, row: u8, column: u8) -> Corners
     }
 }
 
-#[tactic(auto, unfolding(walk_rules::specs::Boxes::corners_range))]
+#[tactic(auto, unfolding(level_rules::specs::walk::Boxes::corners_range))]
 fn corners_range(view: &View<'_>, c: Corners) -> ColumnRange
     ensures value { result ≡ corners_range view.now c }
     ensures order { (x1 x2 : ℕ) → result ≡ ColumnRange.Columns x1 x2 →
@@ -126,7 +125,7 @@ fn corners_range(view: &View<'_>, c: Corners) -> ColumnRange
 }
 
 // Whether some column of the range is not covered.
-#[tactic(auto, unfolding(walk_rules::specs::Boxes::range_is_open))]
+#[tactic(auto, unfolding(level_rules::specs::walk::Boxes::range_is_open))]
 fn range_is_open(cover: &Cover, range: ColumnRange) -> bool
     requires { (x1 x2 : ℕ) → range ≡ ColumnRange.Columns x1 x2 →
         (x1 ≤ x2) × (x2 ≤ length cover.now) }
@@ -142,7 +141,7 @@ fn range_is_open(cover: &Cover, range: ColumnRange) -> bool
 /// Whether some column in which the box is seen is not covered.
 ///
 /// The original: `R_CheckBBox`, r_bsp.c.
-#[tactic(auto, unfolding(walk_rules::specs::Boxes::box_passes))]
+#[tactic(auto, unfolding(level_rules::specs::walk::Boxes::box_passes))]
 pub(crate) fn box_passes(view: &View<'_>, cover: &Cover, b: &Box4) -> bool
     requires { length cover.now ≡ view.now.shape.width }
     ensures { result ≡ box_passes view.now cover.now b.now }

@@ -1,6 +1,6 @@
 // The covered columns of a view.
 ghost use Rattle.std.specs.Prelude.{◌≡◌, ◌<◌, ◌≤◌, false, length, replicate};
-ghost use Rattle.walk_rules.specs.Covered.{fragments, cover, hides};
+ghost use Rattle.level_rules.specs.walk.Covered.{fragments, cover, hides};
 
 use crate::ranges::{MAX_RANGES, Range, add_range, hides_in};
 use crate::runs::Runs;

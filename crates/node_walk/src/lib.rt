@@ -2,7 +2,7 @@
 //! columns of a view that solid segs cover, with what they leave of a seg (solidsegs).
 //!
 //! A leaf is the field's subsector; an event that is no leaf is a wall range of a seg, here a
-//! fragment. Rules: `walk_rules`, Covered, Boxes, Segs, Events and Walk. Proved: each call of
+//! fragment. Rules: `level_rules/walk`, Covered, Boxes, Segs, Events and Walk. Proved: each call of
 //! `Cover` is its definition over the covered columns, of which alone the contracts speak; it keeps
 //! them as ranges, apart and in order (`specs/Ranges`). A visitor is given exactly the events of the
 //! view, in order, up to the first that it answers by a Stop, which is returned at once; the columns

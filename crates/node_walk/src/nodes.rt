@@ -1,7 +1,7 @@
-// The walk of the nodes under the root. Rules: `walk_rules`, Walk.
+// The walk of the nodes under the root. Rules: `level_rules/walk`, Walk.
 ghost use Rattle.std.specs.Prelude.{◌≡◌, ℕ, ◌≤◌, ◌<◌, ◌+◌, false, length, replicate, OnOk};
 ghost use Rattle.level_rules.specs.declared.maps.lumps.TheConstants.{MAX_RECORDS};
-ghost use Rattle.walk_rules.specs.Walk.{walk_start, at_segs, at_leaf, walk_child, view_events};
+ghost use Rattle.level_rules.specs.walk.Walk.{walk_start, at_segs, at_leaf, walk_child, view_events};
 ghost use Rattle.node_walk.specs.Lists.{walk_lists, part_start, IsThere};
 ghost use Rattle.node_walk.specs.Visits.{Visits, TakesAll, Walks};
 

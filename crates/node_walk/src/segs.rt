@@ -1,11 +1,11 @@
-// What a seg hides and what of it is seen. Rules: `walk_rules`, Segs and Walk.
+// What a seg hides and what of it is seen. Rules: `level_rules/walk`, Segs and Walk.
 ghost use Rattle.std.specs.Prelude.{◌≡◌, ℕ, ◌≤◌, ◌<◌, ◌-◌, length, map};
 ghost use Rattle.view_rules.specs.declared.ColumnRange.{ColumnRange};
 ghost use Rattle.level_rules.specs.Levels.{seg_at};
-ghost use Rattle.walk_rules.specs.Covered.{fragments};
-ghost use Rattle.walk_rules.specs.Events.Event.{FragmentEvent};
-ghost use Rattle.walk_rules.specs.Segs.{seg_range, back_of, middle_of, is_closed, is_solid, heights_differ, faces_differ, is_pass};
-ghost use Rattle.walk_rules.specs.Walk.{at_seg, at_columns};
+ghost use Rattle.level_rules.specs.walk.Covered.{fragments};
+ghost use Rattle.level_rules.specs.walk.Events.Event.{FragmentEvent};
+ghost use Rattle.level_rules.specs.walk.Segs.{seg_range, back_of, middle_of, is_closed, is_solid, heights_differ, faces_differ, is_pass};
+ghost use Rattle.level_rules.specs.walk.Walk.{at_seg, at_columns};
 ghost use Rattle.node_walk.specs.Lists.{IsSegOf, part_start};
 ghost use Rattle.node_walk.specs.Visits.{Visits, TakesAll, Walks};
 
@@ -17,7 +17,7 @@ use level_rules::{Seg, Surface};
 use view_frame::{ColumnRange, View};
 
 // The columns in which a seg is seen.
-#[tactic(auto, unfolding(walk_rules::specs::Segs::seg_range))]
+#[tactic(auto, unfolding(level_rules::specs::walk::Segs::seg_range))]
 fn seg_range(view: &View<'_>, seg: &Seg) -> ColumnRange
     ensures value { result ≡ seg_range view.now seg.now }
     ensures order { (x1 x2 : ℕ) → result ≡ ColumnRange.Columns x1 x2 →
@@ -30,21 +30,21 @@ fn seg_range(view: &View<'_>, seg: &Seg) -> ColumnRange
 }
 
 // Whether nothing is seen between two sectors.
-#[tactic(auto, unfolding(walk_rules::specs::Segs::is_closed))]
+#[tactic(auto, unfolding(level_rules::specs::walk::Segs::is_closed))]
 fn is_closed(front: &Surface, back: &Surface) -> bool
     ensures { result ≡ is_closed front.now back.now }
 {
     back.ceiling <= front.floor || front.ceiling <= back.floor
 }
 
-#[tactic(auto, unfolding(walk_rules::specs::Segs::heights_differ))]
+#[tactic(auto, unfolding(level_rules::specs::walk::Segs::heights_differ))]
 fn heights_differ(front: &Surface, back: &Surface) -> bool
     ensures { result ≡ heights_differ front.now back.now }
 {
     !same_word(front.ceiling, back.ceiling) || !same_word(front.floor, back.floor)
 }
 
-#[tactic(auto, unfolding(walk_rules::specs::Segs::faces_differ))]
+#[tactic(auto, unfolding(level_rules::specs::walk::Segs::faces_differ))]
 fn faces_differ(front: &Surface, back: &Surface) -> bool
     ensures { result ≡ faces_differ front.now back.now }
 {
@@ -54,7 +54,7 @@ fn faces_differ(front: &Surface, back: &Surface) -> bool
 }
 
 // Whether the seg covers what is behind it.
-#[tactic(auto, unfolding(walk_rules::specs::Segs::is_solid, walk_rules::specs::Segs::back_of))]
+#[tactic(auto, unfolding(level_rules::specs::walk::Segs::is_solid, level_rules::specs::walk::Segs::back_of))]
 fn is_solid(lists: &Lists<'_>, front: &Surface, seg: &Seg) -> bool
     requires { IsSegOf lists.now seg.now }
     ensures { result ≡ is_solid front.now (back_of lists.now seg.now) }
@@ -66,7 +66,7 @@ fn is_solid(lists: &Lists<'_>, front: &Surface, seg: &Seg) -> bool
 }
 
 // Whether the seg shows something where it is not solid.
-#[tactic(auto, unfolding(walk_rules::specs::Segs::is_pass, walk_rules::specs::Segs::back_of, walk_rules::specs::Segs::middle_of))]
+#[tactic(auto, unfolding(level_rules::specs::walk::Segs::is_pass, level_rules::specs::walk::Segs::back_of, level_rules::specs::walk::Segs::middle_of))]
 fn is_pass(lists: &Lists<'_>, front: &Surface, seg: &Seg) -> bool
     requires { IsSegOf lists.now seg.now }
     ensures { result ≡ is_pass front.now (back_of lists.now seg.now) (middle_of lists.now seg.now) }

@@ -2,8 +2,8 @@
 //!
 //! Rules: `specs/Visits`.
 ghost use Rattle.std.specs.Prelude.{List, [], ◌∷◌};
-ghost use Rattle.walk_rules.specs.Events.{Event};
-ghost use Rattle.walk_rules.specs.Events.Event.{LeafEvent, FragmentEvent};
+ghost use Rattle.level_rules.specs.walk.Events.{Event};
+ghost use Rattle.level_rules.specs.walk.Events.Event.{LeafEvent, FragmentEvent};
 ghost use Rattle.node_walk.specs.Visits.{Visits};
 
 /// Takes the leaves that are entered and the fragments that are seen, one after the other.

@@ -2,11 +2,11 @@
 use Rattle.std.proofs.Common.{◌≡◌, ℕ, ◌+◌, ◌<◌, ◌≤◌, List, [], ◌∷◌, ◌++◌, Some, length, map, refl, ap, sym, ◌∙◌, arith}
 use Rattle.std.proofs.lemmas.List.{map-append, length-map, append-nil, append_assoc}
 use Rattle.view_rules.specs.View.{ViewValue}
-use Rattle.walk_rules.specs.declared.TheConstants.{MAX_DRAWSEGS}
-use Rattle.walk_rules.specs.Events.{Event}
-use Rattle.walk_rules.specs.Events.Event.{LeafEvent, FragmentEvent}
-use Rattle.walk_rules.specs.Drawsegs.{last_leaf, leaf_fragments, drawsegs, leaves_entered}
-use Rattle.walk_rules.proofs.DrawsegLemmas.{drawsegs-leaf, drawsegs-room, drawsegs-full, room-drawsegs, full-drawsegs}
+use Rattle.level_rules.specs.declared.walk.TheConstants.{MAX_DRAWSEGS}
+use Rattle.level_rules.specs.walk.Events.{Event}
+use Rattle.level_rules.specs.walk.Events.Event.{LeafEvent, FragmentEvent}
+use Rattle.level_rules.specs.walk.Drawsegs.{last_leaf, leaf_fragments, drawsegs, leaves_entered}
+use Rattle.level_rules.proofs.walk.DrawsegLemmas.{drawsegs-leaf, drawsegs-room, drawsegs-full, room-drawsegs, full-drawsegs}
 use Rattle.picture_rules.specs.wall.Walls.{Wall}
 use Rattle.picture_rules.specs.wall.Strips.{wall_dots, ceiling_marks, floor_marks}
 use Rattle.picture_rules.specs.wall.Openings.{openings_of}

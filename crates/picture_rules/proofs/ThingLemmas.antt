@@ -5,10 +5,10 @@ use Rattle.std.specs.List.{list_any}
 use Rattle.std.proofs.lemmas.Bool.{eqb-true}
 use Rattle.std.proofs.lemmas.List.{map-append, append-nil}
 use Rattle.view_rules.specs.View.{ViewValue}
-use Rattle.walk_rules.specs.Events.{Event}
-use Rattle.walk_rules.specs.Events.Event.{LeafEvent, FragmentEvent}
-use Rattle.walk_rules.specs.Drawsegs.{leaves_entered}
-use Rattle.walk_rules.proofs.DrawsegLemmas.{leaves_entered-append}
+use Rattle.level_rules.specs.walk.Events.{Event}
+use Rattle.level_rules.specs.walk.Events.Event.{LeafEvent, FragmentEvent}
+use Rattle.level_rules.specs.walk.Drawsegs.{leaves_entered}
+use Rattle.level_rules.proofs.walk.DrawsegLemmas.{leaves_entered-append}
 use Rattle.picture_rules.specs.declared.sprite.SpriteEntry.{SpriteEntry}
 use Rattle.picture_rules.specs.Scene.{Scene, leaf_sector}
 use Rattle.picture_rules.specs.Things.{first_mentions, sectors_entered, is_entered, with_things, with_sectors, view_entries}

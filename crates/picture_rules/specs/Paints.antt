@@ -3,8 +3,8 @@ use Rattle.std.specs.Prelude.{List, ◌++◌}
 use Rattle.word_rules.specs.Listed.{joined_lists}
 use Rattle.picture_rules.specs.sprite.Weapons.{WeaponLayer, weapon_dots}
 use Rattle.view_rules.specs.View.{ViewValue}
-use Rattle.walk_rules.specs.Events.{Event}
-use Rattle.walk_rules.specs.Walk.{view_events}
+use Rattle.level_rules.specs.walk.Events.{Event}
+use Rattle.level_rules.specs.walk.Walk.{view_events}
 use Rattle.picture_rules.specs.wall.Walls.{Wall}
 use Rattle.picture_rules.specs.sprite.Order.{draw_order}
 use Rattle.picture_rules.specs.sprite.Middles.{masked_dots}

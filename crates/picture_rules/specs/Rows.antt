@@ -3,7 +3,7 @@ use Rattle.std.specs.Prelude.{ℕ, pos, List, [], ◌∷◌, None}
 use Rattle.view_rules.specs.View.{ViewValue}
 use Rattle.view_rules.specs.Shape.{shape_of_size}
 use Rattle.view_rules.specs.Made.{row_view}
-use Rattle.walk_rules.specs.Rows.{walk_unfolded, room, room_seg, room_surface}
+use Rattle.level_rules.specs.walk.Rows.{walk_unfolded, room, room_seg, room_surface}
 use Rattle.picture_rules.specs.wall.Rows.{walls_unfolded}
 use Rattle.picture_rules.specs.wall.Walls.{Wall, wall_edges}
 use Rattle.picture_rules.specs.declared.wall.Edges.{Edges}

@@ -10,8 +10,8 @@ use Rattle.pixel_rules.specs.Art.{Art}
 use Rattle.picture_rules.specs.declared.sprite.Shape5.{Shape5}
 use Rattle.picture_rules.specs.declared.wall.WallFacts.{WallFacts}
 use Rattle.picture_rules.specs.declared.wall.WallTexture.{WallTexture}
-use Rattle.walk_rules.specs.Drawsegs.{LeafFragment}
-use Rattle.walk_rules.specs.Segs.{back_of}
+use Rattle.level_rules.specs.walk.Drawsegs.{LeafFragment}
+use Rattle.level_rules.specs.walk.Segs.{back_of}
 
 pub record Scene : Type 0 where
   pub level : LevelLists

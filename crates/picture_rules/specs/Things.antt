@@ -5,8 +5,8 @@ use Rattle.view_rules.specs.View.{ViewValue}
 use Rattle.view_rules.specs.Lights.{light_number}
 use Rattle.level_rules.specs.declared.PlacedThing.{PlacedThing}
 use Rattle.level_rules.specs.Levels.{surface_at}
-use Rattle.walk_rules.specs.Events.{Event}
-use Rattle.walk_rules.specs.Drawsegs.{leaves_entered}
+use Rattle.level_rules.specs.walk.Events.{Event}
+use Rattle.level_rules.specs.walk.Drawsegs.{leaves_entered}
 use Rattle.picture_rules.specs.declared.sprite.Placed.{Placed}
 use Rattle.picture_rules.specs.declared.sprite.Seen.{Seen}
 use Rattle.picture_rules.specs.declared.sprite.Shape5.{Shape5}

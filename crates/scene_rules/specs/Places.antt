@@ -11,7 +11,7 @@ use Rattle.level_rules.specs.declared.Child.TheVariants.{Node as NodeChild, Leaf
 use Rattle.level_rules.specs.declared.PlacedThing.{PlacedThing}
 use Rattle.level_rules.specs.declared.TheConstants.{MAX_DEPTH}
 use Rattle.level_rules.specs.Levels.{child_on, no_leaf}
-use Rattle.walk_rules.specs.Boxes.{partition_of}
+use Rattle.level_rules.specs.walk.Boxes.{partition_of}
 use Rattle.level_rules.specs.maps.Levels.{LevelValue}
 use Rattle.level_rules.specs.declared.ThingRow.{ThingRow}
 use Rattle.level_rules.specs.declared.ThingLine.{ThingLine}

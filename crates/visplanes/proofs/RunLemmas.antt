@@ -4,8 +4,8 @@ use Rattle.std.specs.Prelude.{◌⊎◌, not}
 use Rattle.std.proofs.lemmas.Bool.{cases_lt}
 use Rattle.std.proofs.lemmas.List.{drop_more, get_or-drop, get_or_past, length-map, take_all}
 use Rattle.view_rules.specs.declared.TheConstants.{FRAME_WIDTH}
-use Rattle.walk_rules.specs.Covered.{runs, fragments, is_covered}
-use Rattle.walk_rules.proofs.CoverLemmas.{runs-open}
+use Rattle.level_rules.specs.walk.Covered.{runs, fragments, is_covered}
+use Rattle.level_rules.proofs.walk.CoverLemmas.{runs-open}
 use Rattle.picture_rules.specs.plane.Planes.{Plane}
 use Rattle.picture_rules.specs.plane.Spans.{holds_row, holds, plane_gaps, row_runs}
 use Rattle.picture_rules.proofs.plane.SpanLemmas.{covered-gaps}

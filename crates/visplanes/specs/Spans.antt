@@ -5,7 +5,7 @@ use Rattle.view_rules.specs.declared.TheConstants.{FRAME_WIDTH, FRAME_HEIGHT}
 use Rattle.view_rules.specs.declared.ViewShape.{ViewShape}
 use Rattle.view_rules.specs.View.{ViewValue}
 use Rattle.view_rules.specs.Lights.{light_number, distance_map}
-use Rattle.walk_rules.specs.Covered.{runs}
+use Rattle.level_rules.specs.walk.Covered.{runs}
 use Rattle.pixel_rules.specs.declared.Painter.{Painter}
 use Rattle.pixel_rules.specs.Dots.{Dot, last_dot, AreInFrame}
 use Rattle.pixel_rules.specs.Art.{Art}

@@ -25,7 +25,7 @@ use Rattle.picture_rules.specs.wall.Notes.{silhouette_of, saved_by, saved_from, 
 use Rattle.picture_rules.specs.wall.Walls.{Wall, wall_of, clip_past}
 use Rattle.picture_rules.proofs.wall.NoteLemmas.{length-saved_by, note-top_clip, note-bottom_clip}
 use Rattle.picture_rules.specs.Noted.{greatest_clip, least_clip, IsListAt, IsClipAmong, IsClip, IsWholeNote, ListsApart, AreNoted}
-use Rattle.walk_rules.specs.declared.TheConstants.{MAX_DRAWSEGS}
+use Rattle.level_rules.specs.declared.walk.TheConstants.{MAX_DRAWSEGS}
 use Rattle.wall_columns.specs.Windows.{IsClipIn}
 use Rattle.wall_columns.specs.Built.{IsDrawn}
 use Rattle.wall_columns.specs.Noted.{HaveBacks}

@@ -4,7 +4,7 @@
 ghost use Rattle.std.specs.Prelude.{◌≡◌, ◌<◌, ◌≤◌, ◌+◌, ◌↔◌, ℕ, [], List, None, Some, Ok, IfOk, IfErr, OnOk, IsTrue, length};
 ghost use Rattle.view_rules.specs.declared.TheConstants.{FRAME_WIDTH, FRAME_HEIGHT};
 ghost use Rattle.view_rules.specs.View.{ViewValue};
-ghost use Rattle.walk_rules.specs.declared.TheConstants.{MAX_DRAWSEGS};
+ghost use Rattle.level_rules.specs.declared.walk.TheConstants.{MAX_DRAWSEGS};
 ghost use Rattle.picture_rules.specs.declared.wall.TheConstants.{MOST_OPENINGS};
 ghost use Rattle.picture_rules.specs.wall.Walls.{Wall, wall_of};
 ghost use Rattle.picture_rules.specs.plane.Built.{PlanesNow, IsAmongPlanes, no_planes, after_event};
@@ -23,6 +23,7 @@ use crate::fault::DrawFault;
 use crate::leaf::LeafPlanes;
 use crate::notes::note_of;
 use crate::tools::WallTools;
+use level_rules::MAX_DRAWSEGS;
 use outside::Shelf;
 use picture_rules::{FragmentNote, WallFacts};
 use pixel_strips::Canvas;
@@ -30,7 +31,6 @@ use std::alloc::{AllocError, Global};
 use std::marker::Model;
 use view_frame::View;
 use visplanes::Planes;
-use walk_rules::MAX_DRAWSEGS;
 use wall_edges::Fragment;
 
 /// The walls of a view as far as they are drawn: the notes of the drawn fragments, the openings
@@ -47,7 +47,7 @@ pub struct WallState {
 
 impl Model for WallState {
     ghost use Rattle.std.specs.Prelude.{◌≤◌, length, vec_capacity};
-    ghost use Rattle.walk_rules.specs.declared.TheConstants.{MAX_DRAWSEGS};
+    ghost use Rattle.level_rules.specs.declared.walk.TheConstants.{MAX_DRAWSEGS};
     ghost use Rattle.wall_columns.specs.Walls.{WallsView};
     ghost use Rattle.wall_columns.specs.States.{walls_view};
 

@@ -1,7 +1,7 @@
 // Whether a fragment marks rows of its leaf's planes: rules `picture_rules/wall`, Marks.
 
 ghost use Rattle.std.specs.Prelude.{◌≡◌};
-ghost use Rattle.walk_rules.specs.Segs.{is_closed};
+ghost use Rattle.level_rules.specs.walk.Segs.{is_closed};
 ghost use Rattle.picture_rules.specs.wall.Marks.{floors_differ, ceilings_differ, floor_mark, ceiling_mark};
 
 use crate::heights::{is_sky, world_bottom, world_high, world_low, world_top};
@@ -9,7 +9,7 @@ use crate::silhouettes::{shuts_bottom, shuts_top};
 use level_rules::Surface;
 
 // Nothing is seen through the line.
-#[tactic(auto, unfolding(walk_rules::specs::Segs::is_closed, picture_rules::specs::wall::Silhouettes::shuts_bottom, picture_rules::specs::wall::Silhouettes::shuts_top))]
+#[tactic(auto, unfolding(level_rules::specs::walk::Segs::is_closed, picture_rules::specs::wall::Silhouettes::shuts_bottom, picture_rules::specs::wall::Silhouettes::shuts_top))]
 fn is_closed(front: Surface, back: Surface) -> bool
     ensures { result ≡ is_closed front back }
 {

@@ -1,7 +1,7 @@
 -- A visitor that counts the events that it is given.
 use Rattle.std.proofs.Common.{◌≡◌, ℕ, ◌+◌, ◌<◌, ◌≤◌, [], ◌∷◌, length, Result, Ok, Err, OnOk, arith}
 use Rattle.std.proofs.lemmas.List.{length_push}
-use Rattle.walk_rules.specs.Events.{Event}
+use Rattle.level_rules.specs.walk.Events.{Event}
 use Rattle.node_walk.specs.Visits.{Visits}
 
 -- one event more was given, and was the last one where the answer is a Stop

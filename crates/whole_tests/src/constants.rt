@@ -3,7 +3,9 @@
 use art_rules::{MAX_COMPOSITE, MAX_TEXTURES};
 use csv_tables::MAX_TABLE_BYTES;
 use frame_writer::{FRAME_BYTES, PALETTE_BYTES};
-use level_rules::{BOTTOM_UNPEGGED, MAX_DEPTH, MAX_RECORDS, SKY_FLAT, TOP_UNPEGGED, TWO_SIDED};
+use level_rules::{
+    BOTTOM_UNPEGGED, MAX_DEPTH, MAX_DRAWSEGS, MAX_RECORDS, SKY_FLAT, TOP_UNPEGGED, TWO_SIDED,
+};
 use lump_rules::MAX_LUMPS;
 use picture_rules::{
     MAX_OPENINGS, MAX_VISPLANES, MAX_VISSPRITES, MOST_OPENINGS, MOST_VISPLANES, SIL_BOTTOM, SIL_TOP,
@@ -12,7 +14,6 @@ use pixel_rules::FRAME_CELLS;
 use scene_rules::COLORMAP_SIZE;
 use std::process::Abort;
 use view_rules::{FRAME_HEIGHT, FRAME_WIDTH, MAX_SIZE, MIN_SIZE, TABLES_BYTES};
-use walk_rules::MAX_DRAWSEGS;
 use zone_rules::{HEADER_SIZE, MAX_ZONE_SIZE, MIN_FRAGMENT, MIN_ZONE_SIZE};
 
 // Compares a constant with its number.

@@ -3,7 +3,7 @@ use Rattle.std.proofs.Common.{◌≡◌, ℕ, zero, suc, ◌+◌, ◌-◌, ◌<�
 use Rattle.std.specs.Prelude.{◌⊎◌, not, map, Option, None, slice_index_or}
 use Rattle.std.proofs.lemmas.Bool.{cases_lt, not-true, not-false}
 use Rattle.view_rules.specs.declared.TheConstants.{FRAME_WIDTH}
-use Rattle.walk_rules.specs.Covered.{is_covered, IsFragment}
+use Rattle.level_rules.specs.walk.Covered.{is_covered, IsFragment}
 use Rattle.picture_rules.specs.plane.Planes.{Plane, column}
 use Rattle.picture_rules.specs.plane.Spans.{holds_row, holds, span_start, plane_gaps}
 

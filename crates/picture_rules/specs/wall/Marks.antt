@@ -3,7 +3,7 @@ use Rattle.std.specs.Prelude.{◌==◌, ◌||◌, ◌&&◌, ℤ, int_le, Bool, t
 use Rattle.word_rules.specs.Words.{same_word}
 use Rattle.level_rules.specs.declared.Surface.{Surface}
 use Rattle.level_rules.specs.Levels.{is_sky}
-use Rattle.walk_rules.specs.Segs.{is_closed}
+use Rattle.level_rules.specs.walk.Segs.{is_closed}
 use Rattle.picture_rules.specs.wall.Heights.{world_top, world_bottom, world_high, world_low}
 
 unfoldable pub floors_differ : ℤ → Surface → Surface → Bool

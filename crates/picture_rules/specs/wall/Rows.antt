@@ -10,7 +10,7 @@ use Rattle.picture_rules.specs.declared.wall.Edges.{Edges}
 use Rattle.picture_rules.specs.wall.Scales.{seg_normal, vertex_angle, vertex_dist, normal_turn, offset_angle, seg_distance, scale_of_column, scale_step}
 use Rattle.picture_rules.specs.wall.Heights.{both_sky, world_high, world_low, world_top, world_bottom}
 use Rattle.picture_rules.specs.wall.Silhouettes.{shuts_bottom, shuts_top, bottom_by_step, top_by_step, with_masked, bottom_silhouette, top_silhouette, bottom_is_constant, top_is_constant}
-use Rattle.walk_rules.specs.Segs.{is_closed}
+use Rattle.level_rules.specs.walk.Segs.{is_closed}
 use Rattle.picture_rules.specs.wall.Marks.{floors_differ, ceilings_differ, floor_shows, ceiling_shows, floor_mark, ceiling_mark}
 use Rattle.picture_rules.specs.wall.Parts.{has_texture, top_is_unpegged, bottom_is_unpegged, mid_from, middle_mid, middle_part, top_mid, top_part, bottom_mid, bottom_part, is_masked}
 use Rattle.picture_rules.specs.declared.wall.FragmentNumbers.{FragmentNumbers}

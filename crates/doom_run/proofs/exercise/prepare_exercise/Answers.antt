@@ -4,13 +4,13 @@ use Rattle.level_audit.specs.scene_load.Fulls.{IsFullLoad}
 use Rattle.level_audit.specs.scene_load.Loads.{loaded_value}
 use Rattle.lump_rules.specs.Contents.{lump_bytes}
 use Rattle.lump_rules.specs.Lookups.{lump_at}
+use Rattle.plain_jobs.specs.Made.{made_file}
+use Rattle.plain_jobs.proofs.StepLemmas.{status_full}
 use Rattle.doom_run.proofs.LeastLemmas.{least_render}
 use Rattle.doom_run.proofs.EndLemmas.{ended_more, fault_no_end, loaded_named}
 use Rattle.doom_run.specs.Renders.{FitDue}
 use Rattle.doom_run.specs.Exercises.{made_files, made_level, made_wads}
-use Rattle.doom_run.specs.Made.{made_file}
 use Rattle.doom_run.proofs.MadeLemmas.{loaded_few, made_count, made_stops, memory_holds, memory_steady, ready_exercise, wads_held}
-use Rattle.doom_run.proofs.StepLemmas.{status_full}
 use Rattle.doom_run.proofs.TallyLemmas.{same_status}
 use Rattle.doom_run.proofs.exercise.prepare_exercise.Goals as goal
 

@@ -1,8 +1,8 @@
 use Rattle.std.proofs.Common.{map, ◌∙◌, sym}
 use Rattle.command_line.specs.LevelJobs.{level_job_value}
 use Rattle.level_audit.specs.scene_load.Fulls.{IsFullLoad}
+use Rattle.plain_jobs.proofs.StepLemmas.{status_full}
 use Rattle.doom_run.proofs.EndLemmas.{fault_no_end}
-use Rattle.doom_run.proofs.StepLemmas.{status_full}
 use Rattle.doom_run.proofs.top.perform_audit.Goals as goal
 
 pub returns-in-Err-clause-zone_full : goal.returns-in-Err-clause-zone_full

@@ -2,15 +2,15 @@ use Rattle.std.proofs.Common.{[], map, ◌∙◌, sym, subst}
 use Rattle.command_line.specs.LevelJobs.{level_job_value}
 use Rattle.level_audit.specs.scene_load.Fulls.{IsFullLoad}
 use Rattle.level_audit.specs.scene_load.Loads.{loaded_value}
+use Rattle.plain_jobs.specs.declared.status.Status.{Status}
+use Rattle.plain_jobs.proofs.StepLemmas.{status_full}
 use Rattle.doom_run.proofs.TakeLemmas.{loads_taken}
 use Rattle.doom_run.proofs.LeastLemmas.{least_limits}
-use Rattle.doom_run.specs.declared.status.Status.{Status}
 use Rattle.doom_run.specs.Ends.{DeliversAt}
 use Rattle.doom_run.specs.Renders.{ready_views}
 use Rattle.doom_run.specs.Verdict.{counted}
 use Rattle.doom_run.proofs.CountLemmas.{can_count}
 use Rattle.doom_run.proofs.EndLemmas.{counted_end, delivers_all, delivers_more, fault_no_end, loaded_named}
-use Rattle.doom_run.proofs.StepLemmas.{status_full}
 use Rattle.doom_run.proofs.view_jobs.perform_limits.Goals as goal
 
 pub deliver_limits-requires : goal.deliver_limits-requires

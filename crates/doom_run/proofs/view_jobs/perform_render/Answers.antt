@@ -7,13 +7,13 @@ use Rattle.lump_rules.specs.Lookups.{lump_at}
 use Rattle.level_audit.specs.scene_load.Loads.{loaded_value}
 use Rattle.level_audit.specs.scene_load.Orders.{loaded_items}
 use Rattle.sound_scene.proofs.SceneLemmas.{same_value}
+use Rattle.plain_jobs.proofs.StepLemmas.{status_full}
 use Rattle.doom_run.proofs.AskedLemmas.{ready_asked}
 use Rattle.doom_run.proofs.TakeLemmas.{loads_taken, renders_taken}
 use Rattle.doom_run.proofs.LeastLemmas.{least_render}
 use Rattle.doom_run.specs.Renders.{FitDue, HasReadyAsked}
 use Rattle.doom_run.proofs.DrawnLemmas.{view_draw}
 use Rattle.doom_run.proofs.EndLemmas.{frames_end, frames_more, same_weapon, unarmed_asks, unarmed_end, fault_no_end, loaded_named}
-use Rattle.doom_run.proofs.StepLemmas.{status_full}
 use Rattle.doom_run.proofs.view_jobs.perform_render.Goals as goal
 
 pub returns-in-Ok-clause-ends : goal.returns-in-Ok-clause-ends

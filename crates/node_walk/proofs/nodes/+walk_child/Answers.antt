@@ -1,8 +1,8 @@
 use Rattle.std.proofs.Common.{Err, ap, sym, ◌∙◌}
 use Rattle.std.proofs.lemmas.Result.{err_from_is_err_and}
 use Rattle.level_rules.specs.declared.Child.{Child}
-use Rattle.walk_rules.specs.Walk.{walk_child}
-use Rattle.walk_rules.proofs.WalkLemmas.{walk-leaf, walk-too_deep}
+use Rattle.level_rules.specs.walk.Walk.{walk_child}
+use Rattle.level_rules.proofs.walk.WalkLemmas.{walk-leaf, walk-too_deep}
 use Rattle.node_walk.specs.Lists.{part_start}
 use Rattle.node_walk.proofs.PartLemmas.{node_front, node_near, node_both}
 use Rattle.node_walk.proofs.VisitLemmas.{walks_none, walks_same, walks_whole, walks_then, walks_stop}

@@ -1,7 +1,7 @@
 use Rattle.std.proofs.Common.{Err, refl, ap, sym, ◌∙◌}
 use Rattle.std.proofs.lemmas.Result.{err_from_is_err_and}
 use Rattle.level_rules.specs.Levels.{leaf_at, surface_at}
-use Rattle.walk_rules.specs.Events.{WalkState}
+use Rattle.level_rules.specs.walk.Events.{WalkState}
 use Rattle.node_walk.proofs.PartLemmas.{leaf_part}
 use Rattle.node_walk.proofs.VisitLemmas.{walks_then, walks_stop}
 use Rattle.node_walk.proofs.nodes.visit_leaf.Goals as goal

@@ -1,5 +1,5 @@
 use Rattle.std.proofs.Common.{◌≡◌, Ok, length}
-use Rattle.walk_rules.specs.Walk.{at_segs}
+use Rattle.level_rules.specs.walk.Walk.{at_segs}
 use Rattle.node_walk.specs.Lists.{part_start}
 use Rattle.node_walk.specs.Visits.{Walks}
 use Rattle.node_walk.proofs.nodes.visit_segs.Given as goal

@@ -1,4 +1,4 @@
-use Rattle.walk_rules.specs.Walk.{view_events}
+use Rattle.level_rules.specs.walk.Walk.{view_events}
 use Rattle.node_walk.proofs.DepthLemmas.{deeper_root}
 use Rattle.node_walk.proofs.PartLemmas.{root_part}
 use Rattle.node_walk.proofs.VisitLemmas.{walks_same}

@@ -1,6 +1,6 @@
 use Rattle.std.proofs.Common.{◌≡◌, ◌++◌, map, Ok}
-use Rattle.walk_rules.specs.Covered.{fragments}
-use Rattle.walk_rules.specs.Events.Event.{FragmentEvent}
+use Rattle.level_rules.specs.walk.Covered.{fragments}
+use Rattle.level_rules.specs.walk.Events.Event.{FragmentEvent}
 use Rattle.node_walk.specs.Visits.{Visits}
 use Rattle.node_walk.proofs.segs.show.Given as goal
 

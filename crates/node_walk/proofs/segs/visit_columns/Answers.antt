@@ -1,8 +1,8 @@
 use Rattle.std.proofs.Common.{[], Err, refl, ap, sym, ◌∙◌, append-nil}
 use Rattle.std.proofs.lemmas.Result.{err_from_is_err_and}
 use Rattle.level_rules.specs.declared.Seg.{Seg}
-use Rattle.walk_rules.specs.Segs.{back_of, middle_of, is_solid, is_pass}
-use Rattle.walk_rules.specs.Events.{WalkState}
+use Rattle.level_rules.specs.walk.Segs.{back_of, middle_of, is_solid, is_pass}
+use Rattle.level_rules.specs.walk.Events.{WalkState}
 use Rattle.node_walk.proofs.PartLemmas.{solid_part, pass_part, no_part}
 use Rattle.node_walk.proofs.VisitLemmas.{walks_none, walks_events, walks_whole, walks_stop}
 use Rattle.node_walk.proofs.segs.visit_columns.Goals as goal

@@ -1,5 +1,5 @@
 use Rattle.std.proofs.Common.{ap, sym, ◌∙◌}
-use Rattle.walk_rules.specs.Segs.{seg_range}
+use Rattle.level_rules.specs.walk.Segs.{seg_range}
 use Rattle.node_walk.proofs.PartLemmas.{behind_part, outside_part, no_columns_part, columns_part}
 use Rattle.node_walk.proofs.VisitLemmas.{walks_none, walks_same}
 use Rattle.node_walk.proofs.segs.visit_seg.Goals as goal

@@ -2,7 +2,7 @@ use Rattle.std.proofs.Common.{◌≡◌, ℕ, ◌+◌, ◌*◌, ◌<◌, ◌≤�
 use Rattle.std.specs.Prelude.{IsTrue}
 use Rattle.node_walk.specs.declared.ranges.Range.{Range}
 use Rattle.node_walk.specs.Ranges.{columns_of, are_apart, with_range}
-use Rattle.walk_rules.specs.Covered.{cover}
+use Rattle.level_rules.specs.walk.Covered.{cover}
 use Rattle.node_walk.proofs.RangeLemmas.{apart_parts, apart_test, length-apart, length-columns_of, with_range-apart, with_range-cover}
 use Rattle.node_walk.proofs.cover.Cover.cover.Goals as goal
 

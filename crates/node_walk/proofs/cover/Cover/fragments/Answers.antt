@@ -1,6 +1,6 @@
 use Rattle.std.proofs.Common.{◌≡◌, ℕ, ◌<◌, ◌≤◌, List, Bool, length, ap, sym, ◌∙◌, arith}
 use Rattle.node_walk.specs.Ranges.{columns_of, are_apart, range_gaps}
-use Rattle.walk_rules.specs.Covered.{fragments}
+use Rattle.level_rules.specs.walk.Covered.{fragments}
 use Rattle.node_walk.proofs.RangeLemmas.{apart_parts, apart_test, apart_wider, length-columns_of}
 use Rattle.node_walk.proofs.GapLemmas.{gaps-fragments}
 use Rattle.node_walk.proofs.cover.Cover.fragments.Goals as goal

@@ -1,6 +1,6 @@
 use Rattle.std.proofs.Common.{◌≡◌, ℕ, ◌<◌, List, Bool, length, ap, sym, ◌∙◌, arith}
 use Rattle.node_walk.specs.Ranges.{hides_in, columns_of}
-use Rattle.walk_rules.specs.Covered.{hides}
+use Rattle.level_rules.specs.walk.Covered.{hides}
 use Rattle.node_walk.proofs.RangeLemmas.{apart_parts, length-columns_of}
 use Rattle.node_walk.proofs.GapLemmas.{hides_in-hides}
 use Rattle.node_walk.proofs.cover.Cover.hides.Goals as goal

@@ -1,4 +1,4 @@
-use Rattle.walk_rules.specs.Events.Event.{FragmentEvent}
+use Rattle.level_rules.specs.walk.Events.Event.{FragmentEvent}
 use Rattle.whole_tests.proofs.RecorderLemmas.{recorded}
 use Rattle.whole_tests.proofs.walks.RecorderVisitor.fragment.Goals as goal
 

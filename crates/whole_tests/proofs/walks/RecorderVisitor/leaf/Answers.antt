@@ -1,4 +1,4 @@
-use Rattle.walk_rules.specs.Events.Event.{LeafEvent}
+use Rattle.level_rules.specs.walk.Events.Event.{LeafEvent}
 use Rattle.whole_tests.proofs.RecorderLemmas.{recorded}
 use Rattle.whole_tests.proofs.walks.RecorderVisitor.leaf.Goals as goal
 

@@ -1,0 +1,18 @@
+//! The walk of a level's nodes: covered columns, near and far children, the events of a view.
+//!
+//! Rules only: a constant, one record, and in `specs/` the columns that solid segs cover and what
+//! they leave of a seg (Covered), when a box is entered (Boxes), what a seg is (Segs), the walk
+//! (Events, Walk), and which fragments are drawn (Drawsegs). The uncovered runs are the field's
+//! wall ranges; a leaf is a subsector. The original: r_bsp.c.
+
+/// The most fragments of a view that are drawn (drawsegs).
+pub const MAX_DRAWSEGS: u32 = 256;
+
+/// The two corners between which a box is seen, the left one as seen first, map units 16.16.
+#[derive(Clone, Copy, Debug, PartialEq, Eq)]
+pub struct Corners {
+    pub x1: i32,
+    pub y1: i32,
+    pub x2: i32,
+    pub y2: i32,
+}

@@ -1,0 +1,4 @@
+pub mod FlatLemmas
+pub mod LumpLemmas
+pub mod StepLemmas
+pub mod TilingLemmas

@@ -1,0 +1,4 @@
+pub mod Flats
+pub mod Lines
+pub mod Made
+pub mod Statuses
