@@ -13,7 +13,8 @@ use Rattle.texture_build.proofs.TexelLemmas.{prepared_is}
 use Rattle.texture_build.proofs.ViewLemmas.{textures_columns}
 use Rattle.command_line.specs.LevelJobs.{LevelJobValue}
 use Rattle.sound_scene.specs.Sound.{art_with, textures_view}
-use Rattle.level_audit.specs.scene_load.Loads.{load_in, loaded_pictures, loaded_value, wad_contents, weapon_lumps}
+use Rattle.job_files.specs.Sizes.{wad_contents}
+use Rattle.level_audit.specs.scene_load.Loads.{load_in, loaded_pictures, loaded_value, weapon_lumps}
 use Rattle.level_audit.specs.scene_load.Orders.{loaded_items}
 use Rattle.level_audit.proofs.scene_load.OrderLemmas.{items_composite, items_lump}
 use Rattle.frame_core.specs.Views.{IsViewLump}

@@ -17,9 +17,10 @@ use Rattle.sound_scene.specs.Sound.{art_with, textures_view}
 use Rattle.sound_scene.proofs.SceneLemmas.{and_then-ok, from_below-ok, scene_parts}
 use Rattle.level_rules.specs.declared.ThingLine.{ThingLine}
 use Rattle.frame_core.proofs.EnoughLemmas.{IsArtFull, full-small, view_full}
-use Rattle.level_audit.specs.scene_load.Files.{files_in}
+use Rattle.job_files.specs.Files.{files_in}
 use Rattle.level_audit.specs.scene_load.Fulls.{IsFullLoad}
-use Rattle.level_audit.specs.scene_load.Loads.{LoadedValue, load_in, loaded_pictures, loaded_sizes, loaded_value, wad_bytes, wad_contents, weapon_lumps}
+use Rattle.job_files.specs.Sizes.{wad_contents}
+use Rattle.level_audit.specs.scene_load.Loads.{LoadedValue, load_in, loaded_pictures, loaded_sizes, loaded_value, wad_bytes, weapon_lumps}
 use Rattle.level_audit.proofs.scene_load.AuditedLemmas.{audited_by}
 use Rattle.level_audit.proofs.scene_load.LoadLemmas.{audited_of}
 use Rattle.doom_run.specs.declared.render.ReadyViews.{ReadyViews}

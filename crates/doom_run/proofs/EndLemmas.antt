@@ -15,12 +15,13 @@ use Rattle.command_line.specs.declared.command.LevelTask.TheVariants.{Limits, Re
 use Rattle.command_line.specs.LevelJobs.{LevelJobValue}
 use Rattle.refusals.specs.declared.refusal.Refusal.{Refusal}
 use Rattle.sound_scene.proofs.SceneLemmas.{and_then-ok}
-use Rattle.level_audit.specs.scene_load.Files.{files_in, files_named}
-use Rattle.level_audit.specs.scene_load.Loads.{LoadedValue, load_in, loaded_value, wad_bytes, wad_contents}
-use Rattle.level_audit.proofs.scene_load.AcceptedLemmas.{wads_accepted}
-use Rattle.plain_jobs.specs.declared.status.Status.{Status}
-use Rattle.plain_jobs.specs.declared.status.Status.TheVariants.{Done, Usage, Refused, ReadFault, WriteFault, Limit, ZoneFull, OutOfMemory}
-use Rattle.plain_jobs.specs.Statuses.{DeliversBytes, status_of}
+use Rattle.job_files.specs.Files.{files_in, files_named}
+use Rattle.job_files.specs.Sizes.{wad_contents}
+use Rattle.level_audit.specs.scene_load.Loads.{LoadedValue, load_in, loaded_value, wad_bytes}
+use Rattle.job_files.proofs.AcceptedLemmas.{wads_accepted}
+use Rattle.job_files.specs.declared.status.Status.{Status}
+use Rattle.job_files.specs.declared.status.Status.TheVariants.{Done, Usage, Refused, ReadFault, WriteFault, Limit, ZoneFull, OutOfMemory}
+use Rattle.job_files.specs.Statuses.{DeliversBytes, status_of}
 use Rattle.doom_run.specs.declared.render.ReadyViews.{ReadyViews}
 use Rattle.doom_run.specs.Ends.{DeliversAt, EndsAt, IfEnded, IsEnd, IsReadOrFull, IsUnwritten, RendersAt, StopsWith}
 use Rattle.doom_run.specs.Exercises.{IsExercised, StopsAt}

@@ -10,10 +10,10 @@ use Rattle.picture_rules.specs.Paints.{view_paints}
 use Rattle.texture_build.specs.Draws.{FitBeside}
 use Rattle.sound_scene.specs.Sound.{SoundValue, textures_view}
 use Rattle.command_line.specs.declared.command.Format.{Format}
-use Rattle.level_audit.specs.declared.scene_load.read.SceneFiles.{SceneFiles}
+use Rattle.job_files.specs.declared.read.SceneFiles.{SceneFiles}
 use Rattle.frame_core.specs.Scenes.{scene_of}
-use Rattle.plain_jobs.specs.declared.status.Status.{Status}
-use Rattle.plain_jobs.specs.declared.status.Status.TheVariants.{Done, Usage, Refused, ReadFault, WriteFault, Limit, ZoneFull, OutOfMemory}
+use Rattle.job_files.specs.declared.status.Status.{Status}
+use Rattle.job_files.specs.declared.status.Status.TheVariants.{Done, Usage, Refused, ReadFault, WriteFault, Limit, ZoneFull, OutOfMemory}
 use Rattle.doom_run.specs.declared.render.ReadyViews.{ReadyViews}
 use Rattle.doom_run.specs.Ends.{IsEnd}
 use Rattle.doom_run.specs.Frames.{KeepsReady, ViewEnds}

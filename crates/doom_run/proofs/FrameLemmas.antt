@@ -21,8 +21,8 @@ use Rattle.frame_core.specs.declared.fault.ViewFault.{ViewFault}
 use Rattle.frame_core.specs.declared.fault.ViewFault.TheVariants as fault
 use Rattle.frame_core.specs.Faults.{limit_of_view, view_fault}
 use Rattle.frame_core.specs.Scenes.{scene_of}
-use Rattle.plain_jobs.specs.declared.status.Status.{Status}
-use Rattle.plain_jobs.specs.declared.status.Status.TheVariants.{Done, Usage, Refused, ReadFault, WriteFault, Limit, ZoneFull, OutOfMemory}
+use Rattle.job_files.specs.declared.status.Status.{Status}
+use Rattle.job_files.specs.declared.status.Status.TheVariants.{Done, Usage, Refused, ReadFault, WriteFault, Limit, ZoneFull, OutOfMemory}
 use Rattle.doom_run.specs.declared.render.ReadyViews.{ReadyViews}
 use Rattle.doom_run.specs.Ends.{RendersAt}
 use Rattle.doom_run.specs.Frames.{IsPictureAt, ViewEnds, frame_at, status_of_view}

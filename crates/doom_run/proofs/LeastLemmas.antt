@@ -31,7 +31,7 @@ use Rattle.scene_rules.specs.Sizes.{greatest_by, is_last, is_list, is_map_lump, 
 use Rattle.level_audit.specs.Asked.{IsOfBase}
 use Rattle.sound_scene.specs.Sound.{textures_view}
 use Rattle.sound_scene.proofs.SceneLemmas.{IsBaseOf, and_then-ok, base_parts, scene_parts}
-use Rattle.level_audit.specs.scene_load.Files.{files_in}
+use Rattle.job_files.specs.Files.{files_in}
 use Rattle.level_audit.specs.scene_load.Fulls.{IsBaseWithin}
 use Rattle.level_audit.specs.scene_load.Loads.{LoadedValue, load_in, loaded_value, wad_bytes}
 use Rattle.level_audit.proofs.scene_load.AuditedLemmas.{audited_by}

@@ -27,14 +27,14 @@ use Rattle.refusals.specs.declared.refusal.Refusal.TheVariants as refusal
 use Rattle.refusals.specs.Groups.{of_audit}
 use Rattle.picture_rules.specs.declared.Limits.{Limits}
 use Rattle.sound_scene.proofs.SceneLemmas.{and_then-ok, from_below-ok}
-use Rattle.level_audit.specs.declared.scene_load.texts.TextTables.{TextTables}
-use Rattle.level_audit.specs.scene_load.Files.{FilesValue, files_in, files_named, in_file, in_optional_file, lumps_in, path_file, tables_file, texts_in, things_file, wad_files, weapons_file}
+use Rattle.job_files.specs.declared.texts.TextTables.{TextTables}
+use Rattle.job_files.specs.Files.{FilesValue, files_in, files_named, in_file, in_optional_file, lumps_in, path_file, tables_file, texts_in, things_file, wad_files, weapons_file}
 use Rattle.level_audit.specs.scene_load.Loads.{LoadedValue, audited_in, load_in, loaded_sizes, loaded_value, wad_bytes}
 use Rattle.level_audit.proofs.scene_load.AuditedLemmas.{audited_by}
 use Rattle.frame_core.specs.Scenes.{scene_of}
-use Rattle.plain_jobs.specs.declared.status.Status.{Status}
-use Rattle.plain_jobs.specs.Statuses.{status_of}
-use Rattle.plain_jobs.specs.Made.{made_file}
+use Rattle.job_files.specs.declared.status.Status.{Status}
+use Rattle.job_files.specs.Statuses.{status_of}
+use Rattle.job_files.specs.Made.{made_file}
 use Rattle.doom_run.specs.declared.exercise.Summary.{Summary}
 use Rattle.doom_run.specs.declared.render.ReadyViews.{ReadyViews}
 use Rattle.doom_run.specs.Exercises.{ExercisesAt, StopsAt, exercise_verdict, made_files, made_level, made_wads}

@@ -17,13 +17,13 @@ use Rattle.texture_build.specs.Views.{TexturesView, prepared_texture}
 use Rattle.texture_build.specs.Draws.{HoldsArt, IsFullForTexture, KeepsArt}
 use Rattle.texture_build.proofs.DrawLemmas.{holds_art-later, keeps_art-none, keeps_art-then}
 use Rattle.sound_scene.specs.Sound.{SoundValue, textures_view}
-use Rattle.level_audit.specs.declared.scene_load.read.SceneFiles.{SceneFiles}
-use Rattle.level_audit.specs.scene_load.Files.{value_of}
+use Rattle.job_files.specs.declared.read.SceneFiles.{SceneFiles}
+use Rattle.job_files.specs.Files.{value_of}
 use Rattle.level_audit.specs.scene_load.Loads.{loaded_sizes}
 use Rattle.command_line.specs.declared.command.Format.{Format}
 use Rattle.frame_core.specs.Scenes.{scene_of}
 use Rattle.frame_core.specs.Views.{CanDrawView, IsViewLump, IsViewTexture}
-use Rattle.plain_jobs.specs.declared.status.Status.{Status}
+use Rattle.job_files.specs.declared.status.Status.{Status}
 use Rattle.doom_run.specs.declared.render.ReadyViews.{ReadyViews}
 use Rattle.doom_run.specs.Frames.{KeepsReady, ViewEnds}
 use Rattle.doom_run.specs.Renders.{IsFullView, ready_views}

@@ -4,8 +4,8 @@ use Rattle.std.specs.Prelude.{MatchResult}
 use Rattle.outside.specs.Sink.{Grew, GrewByPrefix}
 use Rattle.outside.proofs.WriteLemmas.{grew_whole, prefix_of_none}
 use Rattle.refusals.specs.declared.refusal.Refusal.{Refusal}
-use Rattle.plain_jobs.specs.declared.status.Status.{Status}
-use Rattle.plain_jobs.specs.declared.status.Status.TheVariants.{Done, Usage, Refused, ReadFault, WriteFault, Limit, ZoneFull, OutOfMemory}
+use Rattle.job_files.specs.declared.status.Status.{Status}
+use Rattle.job_files.specs.declared.status.Status.TheVariants.{Done, Usage, Refused, ReadFault, WriteFault, Limit, ZoneFull, OutOfMemory}
 use Rattle.doom_run.specs.Ends.{EndsAt, EndsWith, IsEnd, IsUnwritten, StopsWith}
 use Rattle.doom_run.specs.Steps.{RunStop, usage, absent, refused}
 use Rattle.doom_run.specs.Verdict.{Accepted, end_of, output}

@@ -12,16 +12,17 @@ use Rattle.texture_build.specs.Draws.{HasTexturesAsked}
 use Rattle.sound_scene.specs.Sound.{SoundValue, textures_view}
 use Rattle.command_line.specs.LevelJobs.{LevelJobValue}
 use Rattle.refusals.specs.declared.refusal.Refusal.{Refusal}
-use Rattle.level_audit.specs.declared.scene_load.read.SceneFiles.{SceneFiles}
+use Rattle.job_files.specs.declared.read.SceneFiles.{SceneFiles}
 use Rattle.level_audit.specs.scene_load.Loads.{LoadedValue}
-use Rattle.level_audit.specs.scene_load.Orders.{IsLoadedInOrder, files_size, loaded_items, lumps_size}
+use Rattle.job_files.specs.Sizes.{files_size}
+use Rattle.level_audit.specs.scene_load.Orders.{IsLoadedInOrder, loaded_items, lumps_size}
 use Rattle.level_audit.proofs.scene_load.OrderLemmas.{items_read}
 use Rattle.frame_core.specs.declared.fault.ViewFault.{ViewFault}
 use Rattle.frame_core.specs.declared.fault.ViewFault.TheVariants as view
 use Rattle.frame_core.specs.Faults.{view_fault}
 use Rattle.frame_core.specs.Views.{IsViewLump, IsViewTexture}
-use Rattle.plain_jobs.specs.declared.status.Status.{Status}
-use Rattle.plain_jobs.specs.declared.status.Status.TheVariants.{Done, Usage, Refused, ReadFault, WriteFault, Limit, ZoneFull, OutOfMemory}
+use Rattle.job_files.specs.declared.status.Status.{Status}
+use Rattle.job_files.specs.declared.status.Status.TheVariants.{Done, Usage, Refused, ReadFault, WriteFault, Limit, ZoneFull, OutOfMemory}
 use Rattle.doom_run.specs.declared.render.ReadyViews.{ReadyViews}
 use Rattle.doom_run.specs.Frames.{KeepsReady, status_of_view}
 use Rattle.doom_run.specs.Renders.{HasReadyAsked}

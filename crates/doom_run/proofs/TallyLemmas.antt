@@ -20,8 +20,8 @@ use Rattle.picture_rules.specs.Scene.{Scene}
 use Rattle.command_line.specs.declared.command.Format.{Format}
 use Rattle.command_line.specs.declared.command.Format.TheVariants.{Index, Ppm}
 use Rattle.refusals.specs.Lines.{labelled}
-use Rattle.plain_jobs.specs.declared.status.Status.{Status}
-use Rattle.plain_jobs.specs.declared.status.Status.TheVariants.{Done, Usage, Refused, ReadFault, WriteFault, Limit, ZoneFull, OutOfMemory}
+use Rattle.job_files.specs.declared.status.Status.{Status}
+use Rattle.job_files.specs.declared.status.Status.TheVariants.{Done, Usage, Refused, ReadFault, WriteFault, Limit, ZoneFull, OutOfMemory}
 use Rattle.doom_run.specs.declared.exercise.Summary.{Summary}
 use Rattle.doom_run.specs.Ends.{RendersAt}
 use Rattle.doom_run.specs.Exercises.{IsExercised, StopsAt, exercise_line, frame_size, line_unless, summary_line}

@@ -8,9 +8,9 @@ use Rattle.command_line.specs.declared.command.MakeJob.TheVariants.{Wad, Path, T
 use Rattle.command_line.specs.LevelJobs.{LevelJobValue}
 use Rattle.refusals.specs.declared.refusal.Refusal.{Refusal}
 use Rattle.refusals.specs.Lines.{labelled}
-use Rattle.plain_jobs.specs.declared.status.Status.{Status}
-use Rattle.plain_jobs.specs.declared.status.Status.TheVariants.{Done, Usage, Refused, ReadFault, WriteFault, Limit, ZoneFull, OutOfMemory}
-use Rattle.plain_jobs.specs.Made.{made_file}
+use Rattle.job_files.specs.declared.status.Status.{Status}
+use Rattle.job_files.specs.declared.status.Status.TheVariants.{Done, Usage, Refused, ReadFault, WriteFault, Limit, ZoneFull, OutOfMemory}
+use Rattle.job_files.specs.Made.{made_file}
 use Rattle.doom_run.specs.declared.exercise.Summary.{Summary}
 use Rattle.doom_run.specs.Views.{ViewsValue, due_views, first_over, rendered_bytes, rendered_end, views_verdict}
 

@@ -9,8 +9,8 @@ use Rattle.picture_rules.specs.Picture.{picture}
 use Rattle.command_line.specs.declared.command.Format.{Format}
 use Rattle.frame_core.specs.declared.fault.ViewFault.{ViewFault}
 use Rattle.frame_core.specs.declared.fault.ViewFault.TheVariants as fault
-use Rattle.plain_jobs.specs.declared.status.Status.{Status}
-use Rattle.plain_jobs.specs.declared.status.Status.TheVariants.{Done, Usage, Refused, ReadFault, WriteFault, Limit, ZoneFull, OutOfMemory}
+use Rattle.job_files.specs.declared.status.Status.{Status}
+use Rattle.job_files.specs.declared.status.Status.TheVariants.{Done, Usage, Refused, ReadFault, WriteFault, Limit, ZoneFull, OutOfMemory}
 use Rattle.doom_run.specs.declared.render.ReadyViews.{ReadyViews}
 use Rattle.doom_run.specs.Views.{ViewsValue, frame_bytes, over_at}
 

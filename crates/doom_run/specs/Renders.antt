@@ -13,8 +13,8 @@ use Rattle.command_line.specs.LevelJobs.{LevelJobValue}
 use Rattle.level_audit.specs.scene_load.Loads.{load_in, loaded_sizes, loaded_value}
 use Rattle.frame_core.specs.Scenes.{scene_of}
 use Rattle.frame_core.specs.Views.{CanDrawView, IsViewLump, IsViewTexture}
-use Rattle.plain_jobs.specs.declared.status.Status.{Status}
-use Rattle.plain_jobs.specs.declared.status.Status.TheVariants.{Done, Usage, Refused, ReadFault, WriteFault, Limit, ZoneFull, OutOfMemory}
+use Rattle.job_files.specs.declared.status.Status.{Status}
+use Rattle.job_files.specs.declared.status.Status.TheVariants.{Done, Usage, Refused, ReadFault, WriteFault, Limit, ZoneFull, OutOfMemory}
 use Rattle.doom_run.specs.declared.render.ReadyViews.{ReadyViews}
 use Rattle.doom_run.specs.Views.{ViewsValue, eye_of, first_over, limits_of_settings}
 

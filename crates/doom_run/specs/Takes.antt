@@ -8,10 +8,11 @@ use Rattle.lump_cache.specs.Calls.{InOrderAt}
 use Rattle.command_line.specs.Commands.{CommandValue, exercise, flat, level_job, make}
 use Rattle.command_line.specs.LevelJobs.{LevelJobValue}
 use Rattle.level_audit.specs.scene_load.Loads.{LoadedValue, load_in, loaded_sizes}
-use Rattle.level_audit.specs.scene_load.Orders.{IsLoadedInOrder, files_size, lumps_size}
+use Rattle.job_files.specs.Sizes.{files_size}
+use Rattle.level_audit.specs.scene_load.Orders.{IsLoadedInOrder, lumps_size}
 use Rattle.refusals.specs.declared.refusal.Refusal.{Refusal}
-use Rattle.plain_jobs.specs.declared.status.Status.{Status}
-use Rattle.plain_jobs.specs.declared.status.Status.TheVariants.{Done, Usage, Refused, ReadFault, WriteFault, Limit, ZoneFull, OutOfMemory}
+use Rattle.job_files.specs.declared.status.Status.{Status}
+use Rattle.job_files.specs.declared.status.Status.TheVariants.{Done, Usage, Refused, ReadFault, WriteFault, Limit, ZoneFull, OutOfMemory}
 
 -- Where the files are in order and the zone is roomy, no more came on between these counts of bytes that were
 -- read than the files, the headers and directories of the WADs, and each needed lump once.

@@ -9,11 +9,11 @@ use Rattle.command_line.specs.declared.command.Format.{Format}
 use Rattle.command_line.specs.declared.command.LevelTask.{LevelTask}
 use Rattle.command_line.specs.declared.command.LevelTask.TheVariants.{Render, Audit, Limits, Trim, Trace}
 use Rattle.scene_rules.specs.declared.ZoneSizes.{ZoneSizes}
-use Rattle.plain_jobs.specs.declared.status.Status.{Status}
-use Rattle.plain_jobs.specs.declared.status.Status.TheVariants.{Done}
-use Rattle.plain_jobs.specs.Flats.{PictureValue, flat_verdict}
-use Rattle.plain_jobs.specs.Lines.{pair_line}
-use Rattle.plain_jobs.specs.Made.{made_file}
+use Rattle.job_files.specs.declared.status.Status.{Status}
+use Rattle.job_files.specs.declared.status.Status.TheVariants.{Done}
+use Rattle.job_files.specs.Flats.{PictureValue, flat_verdict}
+use Rattle.job_files.specs.Lines.{pair_line}
+use Rattle.job_files.specs.Made.{made_file}
 use Rattle.doom_run.specs.Audits.{audit_verdict}
 use Rattle.doom_run.specs.Exercises.{exercise_verdict, exercised_bytes}
 use Rattle.doom_run.specs.Steps.{RunStop, usage, at_step, else_usage}

@@ -24,9 +24,9 @@ use Rattle.picture_rules.specs.Counts.{view_counts, view_over}
 use Rattle.scene_rules.specs.declared.ZoneSizes.{ZoneSizes}
 use Rattle.level_audit.specs.scene_load.Loads.{LoadedValue, load_in, loaded_sizes, wad_bytes}
 use Rattle.frame_core.specs.Scenes.{scene_of}
-use Rattle.plain_jobs.specs.declared.status.Status.{Status}
-use Rattle.plain_jobs.specs.declared.status.Status.TheVariants.{Done, Limit}
-use Rattle.plain_jobs.specs.Lines.{limit_label}
+use Rattle.job_files.specs.declared.status.Status.{Status}
+use Rattle.job_files.specs.declared.status.Status.TheVariants.{Done, Limit}
+use Rattle.job_files.specs.Lines.{limit_label}
 
 -- what is seen: a scene, the views of a path, how much a view may have, the palette, and how large a
 -- zone has to be

@@ -12,14 +12,14 @@ ghost use Rattle.outside.specs.Causes.{FaultsRose};
 ghost use Rattle.outside.specs.Faults.{HasCauses, itself};
 ghost use Rattle.outside.specs.Shelf.{File, IsLaterShelf, Holds};
 ghost use Rattle.outside.specs.Stops.{ResultIsOrAbsent};
-ghost use Rattle.std.specs.Prelude.{◌≡◌, ◌≤◌, ℕ, List, map, IfErr, IfOk};
+ghost use Rattle.std.specs.Prelude.{◌≡◌, ◌≤◌, List, map, IfErr, IfOk};
 ghost use Rattle.view_rules.specs.declared.TheConstants.{MIN_SIZE, MAX_SIZE};
 ghost use Rattle.zone_rules.specs.Zones.{IsZoneSize};
 
 use command_line::LevelJob;
-use level_audit::{LoadFault, load_scene};
+use job_files::{LoadFault, Status, put_pair};
+use level_audit::load_scene;
 use outside::{Shelf, Sink};
-use plain_jobs::{Status, put_pair};
 use scene_rules::ZoneSizes;
 use std::alloc::Global;
 

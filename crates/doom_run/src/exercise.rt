@@ -15,11 +15,11 @@ ghost use Rattle.texture_build.specs.Draws.{HoldsArt};
 ghost use Rattle.sound_scene.specs.Sound.{textures_view};
 ghost use Rattle.command_line.specs.Commands.{IsCount};
 ghost use Rattle.command_line.specs.declared.command.LevelTask.TheVariants.{Render};
-ghost use Rattle.level_audit.specs.scene_load.Files.{files_named};
+ghost use Rattle.job_files.specs.Files.{files_named};
 ghost use Rattle.level_audit.specs.scene_load.Fulls.{IsBaseWithin, IsFullLoad};
 ghost use Rattle.level_audit.specs.scene_load.Loads.{load_in, loaded_value};
 ghost use Rattle.frame_core.specs.Views.{CanDrawView};
-ghost use Rattle.plain_jobs.specs.Statuses.{DeliversBytes};
+ghost use Rattle.job_files.specs.Statuses.{DeliversBytes};
 ghost use Rattle.doom_run.specs.Ends.{IfEnded};
 ghost use Rattle.doom_run.specs.Exercises.{ExercisesAt, exercise_verdict, frame_size, made_files, made_level, made_wads, summary_line};
 ghost use Rattle.doom_run.specs.Leasts.{level_least};
@@ -28,11 +28,10 @@ ghost use Rattle.doom_run.specs.Renders.{FitDue, IsFullReady, IsFullView, IsRead
 use crate::render::{ReadyViews, deliver_render, prepare_views};
 use command_line::{Files, Format, LevelJob, Settings};
 use frame_writer::FRAME_BYTES;
-use level_audit::LoadFault;
+use job_files::{LoadFault, Status};
 use level_maker::{make_path, make_tables, make_things, make_wad};
 use lump_rules::Name8;
 use outside::{Failed, MemoryFile, MemoryShelf, OutOfMemory, Sink, TallySink};
-use plain_jobs::Status;
 use refusals::put_labelled;
 use std::alloc::Global;
 

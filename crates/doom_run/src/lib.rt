@@ -4,7 +4,7 @@
 //! `prepare_..` reads and checks all that it needs and takes all memory, `deliver_..` writes. So
 //! nothing is written before the last step that can refuse has passed. `render` alone reads on while
 //! it writes: each frame goes out as it is drawn. The jobs `flat` and `make`, the statuses and their
-//! lines are in `plain_jobs`.
+//! lines are in `job_files`.
 //!
 //! Rules: specs, Words (whether the words ask for files), Audits (how large a zone has to be for a
 //! level), Views (the frames and the counts of a path, and the first view over a limit), Exercises
@@ -30,7 +30,7 @@ mod view_tests;
 #[cfg(test)]
 mod wad_tests;
 
+pub use job_files::{Status, put_note};
 pub use picture_rules::LimitKind;
-pub use plain_jobs::{Status, put_note};
 pub use refusals::{ArtRefusal, Refusal, SceneRefusal};
 pub use top::run;

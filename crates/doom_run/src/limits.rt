@@ -10,8 +10,8 @@ ghost use Rattle.doom_run.specs.Views.{counts_line, view_line_at, over_line};
 
 use crate::render::{ReadyViews, eye_of};
 use frame_core::{Counts, OverLimit, count_view};
+use job_files::{Status, put_limit_count};
 use outside::{Failed, Sink};
-use plain_jobs::{Status, put_limit_count};
 use refusals::put_labelled;
 
 // Appends the line of a view's counts.

@@ -1,8 +1,8 @@
 // What no clause says: values from outside, the lines as they are spelled, that memory is found.
 use crate::{LimitKind, Status, run};
+use job_files::put_note;
 use level_maker::{make_path, make_tables, make_things, make_wad};
 use outside::{MemoryFile, MemoryShelf, MemorySink, PutFault, Shelf};
-use plain_jobs::put_note;
 use std::alloc::{AllocError, Global};
 use std::test::Fail;
 

@@ -7,7 +7,7 @@ ghost use Rattle.command_line.specs.Commands.{IsCounted, IsCountedMake, command_
 ghost use Rattle.command_line.specs.LevelJobs.{IsLevelJob, level_job_value};
 ghost use Rattle.command_line.specs.declared.command.LevelTask.TheVariants.{Audit};
 ghost use Rattle.level_audit.specs.scene_load.Fulls.{IsFullLoad};
-ghost use Rattle.plain_jobs.specs.Lines.{line_of};
+ghost use Rattle.job_files.specs.Lines.{line_of};
 ghost use Rattle.doom_run.specs.Ends.{EndsAt, EndsWith, IsEnd, IsReadOrFull, IsUnwritten};
 ghost use Rattle.doom_run.specs.Fulls.{HasRoom, IsFullRun};
 ghost use Rattle.doom_run.specs.Leasts.{command_least, command_zone, level_least};
@@ -20,8 +20,8 @@ use crate::Refusal;
 use crate::audit::{deliver_audit, prepare_audit};
 use crate::view_jobs::{perform_exercise, perform_limits, perform_render};
 use command_line::{Command, CommandFault, LevelJob, LevelTask, MakeJob, command_of};
+use job_files::{Status, deliver_flat, deliver_make, prepare_flat, prepare_make, put_note};
 use outside::{Shelf, Sink};
-use plain_jobs::{Status, deliver_flat, deliver_make, prepare_flat, prepare_make, put_note};
 use std::alloc::Global;
 use wad_dir::Name8;
 

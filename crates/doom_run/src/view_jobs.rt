@@ -21,8 +21,8 @@ use crate::exercise::{deliver_exercise, prepare_exercise};
 use crate::limits::deliver_limits;
 use crate::render::{deliver_render, prepare_views};
 use command_line::{Format, LevelJob};
+use job_files::Status;
 use outside::{Shelf, Sink};
-use plain_jobs::Status;
 use std::alloc::Global;
 
 // The job `render`: the frames of the views of a path.

@@ -8,7 +8,7 @@
 ghost use Rattle.std.specs.Prelude.{◌≡◌};
 ghost use Rattle.std.specs.Process.{exit_status};
 ghost use Rattle.std.specs.IoError.{error_kind};
-ghost use Rattle.plain_jobs.specs.Statuses.{code_of};
+ghost use Rattle.job_files.specs.Statuses.{code_of};
 
 use doom_run::{Status, put_note, run};
 use outside::{HostShelf, HostSink};

@@ -4,8 +4,9 @@ ghost use Rattle.std.specs.Prelude.{◌≤◌, ◌+◌, length};
 
 use command_line::Files;
 use csv_tables::CsvRefusal;
-use level_audit::scene_load::{LoadFault, Refusal, SceneFiles, read_files};
+use job_files::{LoadFault, SceneFiles, read_files};
 use outside::{Fault, MemoryFile, MemoryShelf};
+use refusals::Refusal;
 use std::alloc::{AllocError, Global};
 use std::process::Abort;
 use std::test::Fail;

@@ -3,8 +3,8 @@ ghost use Rattle.std.specs.Prelude.{◌≡◌, ◌+◌, OnOk, length};
 ghost use Rattle.zone_rules.specs.Zones.{IsZoneSize};
 
 use command_line::{Files, LevelJob, Settings};
-use level_audit::ZoneSizes;
-use level_audit::scene_load::{LoadFault, load_scene};
+use job_files::LoadFault;
+use level_audit::{ZoneSizes, load_scene};
 use level_maker::{make_path, make_tables, make_things, make_wad};
 use lump_rules::Name8;
 use outside::{Fault, MemoryFile, MemoryShelf};

@@ -1,5 +1,5 @@
--- The lumps of colours by name, and the first palette.
-use Rattle.std.proofs.Common.{◌≡◌, ◌<◌, ◌≤◌, ◌-◌, ◌++◌, ℕ, List, length, take, min, Option, Some, None, Result, Ok, Err, refl, ap, ◌∙◌, arith, MatchResult, option_map}
+-- The first palette, as it is read.
+use Rattle.std.proofs.Common.{◌≡◌, ◌<◌, ◌≤◌, ◌-◌, ◌++◌, ℕ, List, length, take, min, ap, ◌∙◌, arith}
 use Rattle.std.proofs.lemmas.List.{append-nil, length-take, take_all}
 use Rattle.std.proofs.lemmas.List.Elements.{All-get_or}
 use lib.ListN.{replicate}
@@ -7,26 +7,7 @@ use Rattle.lump_rules.specs.Contents.{AllWithin, LiesWithin, lump_bytes}
 use Rattle.lump_rules.specs.Lookups.{lump_at, no_lump}
 use Rattle.lump_rules.proofs.ContentLemmas.{lump_bytes-length}
 use Rattle.lump_rules.specs.declared.wad.Lump.{Lump}
-use Rattle.std.specs.Option.{ok_or}
-use Rattle.lump_rules.specs.Names.{name_of, filled}
-use Rattle.lump_rules.specs.declared.wad.LumpNo.{LumpNo}
-use Rattle.scene_rules.specs.declared.TheConstants.{COLORMAP, PLAYPAL}
-use Rattle.scene_rules.specs.declared.refusal.ArtRefusal.{ArtRefusal}
-
--- the names are in capitals
-pub colormap_name : name_of COLORMAP ≡ COLORMAP
-unfolding filled
-colormap_name = refl
-
-pub playpal_name : name_of PLAYPAL ≡ PLAYPAL
-unfolding filled
-playpal_name = refl
-
--- what is told of a lump that was looked for
-pub long_told : (refusal : ArtRefusal) (found : Option LumpNo) (number : Option ℕ) (r : Result LumpNo ArtRefusal) → option_map (λ (lump : LumpNo). lump.0) found ≡ number → r ≡ ok_or found refusal →
-    MatchResult r (λ lump. ok_or number refusal ≡ Ok lump.0) (λ given. ok_or number refusal ≡ Err given)
-long_told refusal None number r e is = rw (is, ← e) refl
-long_told refusal (Some lump) number r e is = rw (is, ← e) refl
+use Rattle.lump_rules.specs.Names.{filled}
 
 -- where a list has the first so many, filling up adds nothing to them
 pub filled_first : (n count held left : ℕ) (bytes part filled : List ℕ) → count ≡ min n (length bytes) → part ≡ take count bytes → held ≡ length (take count bytes) → left ≡ n - held → filled ≡ take n part ++ replicate left 0 → n ≤ length bytes → filled ≡ take n bytes

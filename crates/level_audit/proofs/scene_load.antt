@@ -1,16 +1,9 @@
-pub mod AboveLemmas
-pub mod AcceptedLemmas
 pub mod ArtLemmas
 pub mod AuditedLemmas
-pub mod CheckLemmas
-pub mod FoundLemmas
 pub mod FullLemmas
 pub mod LayerLemmas
-pub mod LengthLemmas
 pub mod LoadLemmas
 pub mod MoreLemmas
 pub mod OrderLemmas
 pub mod ReadLemmas
 pub mod StayLemmas
-pub mod TakenLemmas
-pub mod WadLemmas

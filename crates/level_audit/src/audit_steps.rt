@@ -20,10 +20,10 @@ ghost use Rattle.sound_scene.specs.Whole.{IsWholeScene};
 ghost use Rattle.level_audit.specs.Reads.{IsFullAudit, IsReadBy, IsReadLater};
 
 use crate::base::read_base;
-use crate::colours::find_colormap;
 use crate::scene::{MapRequest, read_scene};
 use crate::{AuditFault, AuditRefusal, SoundScene};
 use csv_tables::ThingTable;
+use job_files::find_colormap;
 use lump_cache::LumpCache;
 use lump_rules::Name8;
 use outside::{Fault, Shelf};

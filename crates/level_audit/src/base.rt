@@ -17,9 +17,10 @@ ghost use Rattle.scene_rules.specs.Sizes.{is_map_lump};
 ghost use Rattle.level_audit.specs.Asked.{IsOfBase, IsOfMap};
 ghost use Rattle.sound_scene.specs.Bases.{base_of};
 
-use crate::colours::{find_playpal, read_palette};
+use crate::colours::read_palette;
 use crate::fault::{above_level, above_textures};
 use crate::{AuditFault, AuditRefusal};
+use job_files::find_playpal;
 use level_scene::{Level, read_level};
 use lump_cache::LumpCache;
 use lump_rules::Name8;

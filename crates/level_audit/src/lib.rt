@@ -1,6 +1,5 @@
 //! The audit of a level: a scene that every drawing layer may rely on, or the first thing that is
-//! wrong with the lumps; and in the folder `scene_load` the files of a job and its zone, up to that
-//! scene.
+//! wrong with the lumps; and in the folder `scene_load` the scene of a job over its files, in a zone.
 //!
 //! Rules: `scene_rules`, Scenes (`scene_in`, the order of all checks); what a sound scene is and
 //! lends is in `sound_scene`, which lumps an audit reads in `specs/Reads`, weapons in
@@ -24,11 +23,8 @@ pub mod scene_load;
 mod weapons;
 
 pub use audit_steps::audit;
-pub use colours::find_playpal;
 pub use fault::AuditFault;
-pub use scene_load::{
-    LoadFault, LoadedScene, Refusal, SceneFiles, load_dir, load_scene, read_files,
-};
+pub use scene_load::{LoadedScene, load_scene};
 pub use scene_rules::{ArtRefusal, AuditRefusal, SceneRefusal, WeaponRefusal};
 pub use sound_scene::{SoundScene, ZoneSizes};
 pub use weapons::audit_weapons;

@@ -21,7 +21,7 @@ use Rattle.scene_rules.specs.Scenes.{LevelBase, SceneValue, base_in, base_over, 
 use Rattle.scene_rules.specs.Sides.{is_wanted_texture}
 use Rattle.sound_scene.specs.Sound.{textures_view}
 use Rattle.sound_scene.proofs.SceneLemmas.{and_then-ok, from_below-ok, scene_parts}
-use Rattle.level_audit.specs.scene_load.Files.{FilesValue}
+use Rattle.job_files.specs.Files.{FilesValue}
 use Rattle.level_audit.specs.scene_load.Loads.{LoadedValue, audited_in}
 use Rattle.level_audit.proofs.scene_load.AuditedLemmas.{audited_by}
 

@@ -11,7 +11,7 @@ use Rattle.lump_rules.specs.declared.wad.Lump.{Lump}
 use Rattle.lump_cache.proofs.CallLemmas.{cause_later}
 use Rattle.art_rules.specs.declared.shapes.Frame.{Frame}
 use Rattle.command_line.specs.LevelJobs.{LevelJobValue}
-use Rattle.level_audit.specs.scene_load.Files.{FilesValue}
+use Rattle.job_files.specs.Files.{FilesValue}
 use Rattle.scene_rules.specs.Scenes.{SceneValue, scene_in}
 use Rattle.sound_scene.specs.Sound.{SoundValue, with_book}
 use Rattle.sound_scene.proofs.SceneLemmas.{and_then-ok}

@@ -14,8 +14,8 @@ use Rattle.lump_cache.specs.Caches.{IsAtRest, IsEmpty}
 use Rattle.lump_cache.specs.Calls.{IfFull, IsFullFor, HoldContents}
 use Rattle.art_rules.specs.declared.shapes.Frame.{Frame}
 use Rattle.command_line.specs.LevelJobs.{LevelJobValue}
-use Rattle.level_audit.specs.declared.scene_load.read.SceneFiles.{SceneFiles}
-use Rattle.level_audit.specs.scene_load.Files.{FilesValue, IsNeverFull, files_in, value_of}
+use Rattle.job_files.specs.declared.read.SceneFiles.{SceneFiles}
+use Rattle.job_files.specs.Files.{FilesValue, IsNeverFull, files_in, value_of}
 use Rattle.scene_rules.specs.Scenes.{SceneValue, colormap_of, scene_in, sizes_of}
 use Rattle.outside.specs.declared.fault.Fault.{Fault}
 use Rattle.outside.specs.declared.fault.Fault.TheVariants.{Refused, ReadFault, ZoneFull, OutOfMemory}

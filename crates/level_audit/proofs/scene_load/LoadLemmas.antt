@@ -12,14 +12,15 @@ use Rattle.lump_cache.specs.Caches.{IsFaithful}
 use Rattle.lump_cache.specs.Calls.{IfFull, HoldContents}
 use Rattle.command_line.specs.LevelJobs.{LevelJobValue}
 use Rattle.outside.specs.declared.fault.Fault.{Fault}
-use Rattle.level_audit.specs.scene_load.Files.{FilesValue, files_in, files_named}
+use Rattle.job_files.specs.Files.{FilesValue, files_in, files_named}
 use Rattle.outside.specs.Stops.{Stop, ResultIsOrAbsent, FaultFitsOrAbsent, no_file}
-use Rattle.level_audit.proofs.scene_load.AcceptedLemmas.{wads_accepted}
+use Rattle.job_files.proofs.AcceptedLemmas.{wads_accepted}
 use Rattle.outside.proofs.StopLemmas.{all_passed, no_file_agrees, step_stops}
 use Rattle.scene_rules.specs.declared.refusal.AuditRefusal.{AuditRefusal}
 use Rattle.refusals.specs.declared.refusal.Refusal.{Refusal}
 use Rattle.refusals.specs.Groups.{of_audit}
-use Rattle.level_audit.specs.scene_load.Loads.{LoadedValue, audited_in, load_in, stops_of_audit, wad_bytes, wad_contents}
+use Rattle.job_files.specs.Sizes.{wad_contents}
+use Rattle.level_audit.specs.scene_load.Loads.{LoadedValue, audited_in, load_in, stops_of_audit, wad_bytes}
 
 -- memory ran out, which no step decides
 pub memory_agrees : {A B : Type 0} {steady : Bool} {value : B → A} (expected : Result A (Stop Refusal)) (fault : (Fault Refusal)) (result : Result B (Fault Refusal)) → itself fault ≡ OutOfMemory → IsErrAnd result (λ e. e ≡ fault) → ResultIsOrAbsent itself steady value expected result

@@ -13,7 +13,7 @@ use Rattle.zone_rules.specs.Zones.{block_size}
 use Rattle.csv_tables.specs.declared.weapons.WeaponRow.{WeaponRow}
 use Rattle.art_rules.specs.declared.shapes.Frame.{Frame}
 use Rattle.art_rules.specs.Books.{book_lumps, each_of, first_needs, frame_of}
-use Rattle.level_audit.specs.scene_load.Files.{FilesValue}
+use Rattle.job_files.specs.Files.{FilesValue}
 use Rattle.scene_rules.specs.declared.refusal.AuditRefusal.TheVariants.{WeaponArt}
 use Rattle.scene_rules.specs.Scenes.{SceneValue, art_of, sizes_of}
 use Rattle.scene_rules.specs.Sizes.{enough, greatest_by, is_needed, lump_block, needed_lumps, zone_sizes}

@@ -33,7 +33,7 @@ use Rattle.level_audit.specs.Weapons.{weapon_needs}
 use Rattle.level_audit.proofs.AskedLemmas.{needed_later}
 use Rattle.sound_scene.proofs.NeededLemmas.{for_colormap, for_picture}
 use Rattle.sound_scene.proofs.SceneLemmas.{base_parts, colormap_there, same_value, scene_parts}
-use Rattle.level_audit.specs.scene_load.Files.{FilesValue}
+use Rattle.job_files.specs.Files.{FilesValue}
 use Rattle.level_audit.specs.scene_load.Fulls.{IsOfLayers, IsReadFor}
 use Rattle.level_audit.specs.scene_load.Loads.{LoadedValue, audited_in, loaded_pictures, weapon_lumps, weapons_of}
 use Rattle.level_audit.specs.scene_load.Orders.{loaded_items}

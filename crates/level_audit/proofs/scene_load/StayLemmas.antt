@@ -6,7 +6,7 @@ use Rattle.outside.specs.declared.fault.Fault.TheVariants.{Refused, ReadFault, Z
 use Rattle.outside.specs.Faults.{itself}
 use Rattle.lump_cache.specs.Calls.{IfFull, InOrderAt}
 use Rattle.lump_cache.proofs.CallLemmas.{order_at}
-use Rattle.level_audit.specs.scene_load.Files.{IsNeverFull}
+use Rattle.job_files.specs.Files.{IsNeverFull}
 
 never_full : {R : Type 0} (P : Type 0) (fault : Fault R) → IfFull fault (λ wanted widest'. ⊥) → P → InOrderAt fault P
 never_full P (Refused refusal) none p = p

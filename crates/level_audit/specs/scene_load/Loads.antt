@@ -1,6 +1,6 @@
 -- What the files of a job over a level give: tables, a scene and the pictures of weapon layers; or the
 -- first step that stops.
-use Rattle.std.specs.Prelude.{ℕ, List, [], ◌++◌, Option, Some, None, unwrap_or, Result, Ok}
+use Rattle.std.specs.Prelude.{ℕ, List, [], ◌++◌, Option, Some, None, Result, Ok}
 use Rattle.outside.specs.Shelf.{File}
 use Rattle.outside.specs.Faults.{and_then, from_below}
 use Rattle.lump_rules.specs.declared.wad.Lump.{Lump}
@@ -10,7 +10,7 @@ use Rattle.art_rules.specs.declared.shapes.Frame.{Frame}
 use Rattle.art_rules.specs.Books.{book_lumps}
 use Rattle.command_line.specs.LevelJobs.{LevelJobValue}
 use Rattle.refusals.specs.declared.refusal.Refusal.{Refusal}
-use Rattle.level_audit.specs.scene_load.Files.{FilesValue, files_in, files_named, value_of}
+use Rattle.job_files.specs.Files.{FilesValue, files_in, value_of}
 use Rattle.outside.specs.Stops.{Stop, no_file}
 use Rattle.scene_rules.specs.declared.ZoneSizes.{ZoneSizes}
 use Rattle.scene_rules.specs.declared.refusal.AuditRefusal.{AuditRefusal}
@@ -41,10 +41,7 @@ abbrev pub with_layers : List Lump → Option (List Frame) → SoundValue → So
 with_layers lumps None sound = sound
 with_layers lumps (Some book) sound = with_book lumps book sound
 
--- the bytes of the WADs of these names, and of a lump of theirs
-abbrev pub wad_contents : List (List ℕ) → List File → List (List ℕ)
-wad_contents wads files = unwrap_or (files_named wads files) []
-
+-- the bytes of a lump of the WADs of these names
 abbrev pub wad_bytes : List (List ℕ) → List File → List Lump → ℕ → List ℕ
 wad_bytes wads files lumps = lump_bytes (wad_contents wads files) lumps
 

@@ -1,18 +1,16 @@
 -- What loading and drawing ask the zone for, and how many bytes are read at most where the zone has
 -- room for all of it.
-use Rattle.std.specs.Prelude.{ℕ, ◌+◌, ◌≤◌, ◌==◌, cond, List, [], ◌∷◌, ◌++◌, map, length, sum_by, Option, Some, None}
-use Rattle.std.specs.Option.{option_map_or}
-use Rattle.outside.specs.Shelf.{File, file_named}
+use Rattle.std.specs.Prelude.{ℕ, ◌+◌, ◌≤◌, ◌==◌, cond, List, [], ◌∷◌, ◌++◌, map, sum_by, Option, Some, None}
+use Rattle.outside.specs.Shelf.{File}
 use Rattle.lump_rules.specs.declared.wad.Lump.{Lump}
 use Rattle.lump_rules.specs.Lookups.{lump_at}
-use Rattle.lump_rules.specs.Wads.{listing_sizes}
 use Rattle.zone_rules.specs.Zones.{Heap}
 use Rattle.zone_rules.specs.Orders.{Item, IsInOrder, live_sum, lump_size}
 use Rattle.lump_cache.specs.Caches.{composite_owner, lump_owner}
 use Rattle.art_rules.specs.Wanted.{PreparedTexture}
 use Rattle.texture_build.specs.Asked.{size_of}
-use Rattle.command_line.specs.LevelJobs.{FileNames, LevelJobValue}
-use Rattle.level_audit.specs.scene_load.Loads.{LoadedValue, loaded_lumps, wad_contents}
+use Rattle.command_line.specs.LevelJobs.{LevelJobValue}
+use Rattle.level_audit.specs.scene_load.Loads.{LoadedValue, loaded_lumps}
 
 -- a lump, as it is asked for
 abbrev pub lump_item : List Lump → ℕ → Item
@@ -31,22 +29,6 @@ composite_items number (t ∷ ts) = composite_item number t ++ composite_items (
 -- all that is asked for: the lumps that are needed, and the composites of the prepared textures
 unfoldable pub loaded_items : LoadedValue → List Item
 loaded_items loaded = map (lump_item loaded.files.lumps) (loaded_lumps loaded) ++ composite_items 0 loaded.scene.prepared
-
--- how many bytes the first file of a name has
-unfoldable pub named_size : List ℕ → List File → ℕ
-named_size name files = option_map_or length (file_named name files) 0
-
-abbrev pub optional_size : Option (List ℕ) → List File → ℕ
-optional_size None files = 0
-optional_size (Some name) files = named_size name files
-
--- the files that are read whole, but for the tables of angles
-unfoldable pub texts_size : FileNames → List File → ℕ
-texts_size names files = named_size names.things files + named_size names.path files + optional_size names.weapon files
-
--- these, the tables of angles, and the header and the directory of each WAD
-unfoldable pub files_size : FileNames → List (List ℕ) → List File → ℕ
-files_size names wads files = named_size names.tables files + texts_size names files + listing_sizes (wad_contents wads files)
 
 -- the needed lumps, each once
 unfoldable pub lumps_size : LoadedValue → ℕ

@@ -1,29 +1,12 @@
-// Why the files and the scene of a job over a level are not loaded.
+// A fault of an audit as that of a job.
 ghost use Rattle.std.specs.Prelude.{◌≡◌};
 ghost use Rattle.outside.specs.Faults.{fault_above};
-ghost use Rattle.wad_dir.specs.Faults.{dir_fault};
-ghost use Rattle.refusals.specs.declared.refusal.Refusal.TheVariants.{Wad};
 ghost use Rattle.refusals.specs.Groups.{of_audit};
 
 use crate::AuditFault;
+use job_files::LoadFault;
 use outside::Fault;
 use refusals::Refusal;
-use wad_dir::DirFault;
-
-/// Why there is no scene: the first refusal of the files' bytes, a file that is absent or could not
-/// be read, a zone without room for a lump, or out of memory.
-pub type LoadFault = Fault<Refusal>;
-
-/// A fault of a directory as that of the files.
-pub(crate) fn wad_fault(fault: DirFault) -> LoadFault
-    ensures { result ≡ fault_above Wad (dir_fault fault) }
-{
-    match fault {
-        DirFault::Refused(refusal) => Fault::Refused(Refusal::Wad(refusal)),
-        DirFault::ReadFault => Fault::ReadFault,
-        DirFault::OutOfMemory => Fault::OutOfMemory,
-    }
-}
 
 /// A fault of an audit as that of a scene.
 pub(crate) fn audit_fault(fault: AuditFault) -> LoadFault

@@ -4,8 +4,8 @@ use Rattle.level_audit.specs.scene_load.Fulls.{IsFullLoad}
 use Rattle.level_audit.specs.scene_load.Loads.{loaded_value}
 use Rattle.lump_rules.specs.Contents.{lump_bytes}
 use Rattle.lump_rules.specs.Lookups.{lump_at}
-use Rattle.plain_jobs.specs.Made.{made_file}
-use Rattle.plain_jobs.proofs.StepLemmas.{status_full}
+use Rattle.job_files.specs.Made.{made_file}
+use Rattle.job_files.proofs.StepLemmas.{status_full}
 use Rattle.doom_run.proofs.LeastLemmas.{least_render}
 use Rattle.doom_run.proofs.EndLemmas.{ended_more, fault_no_end, loaded_named}
 use Rattle.doom_run.specs.Renders.{FitDue}

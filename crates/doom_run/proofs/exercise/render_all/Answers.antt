@@ -2,7 +2,7 @@ use Rattle.std.proofs.Common.{◌≤◌, ap, length, subst, sym, ◌∙◌}
 use Rattle.outside.specs.TallySink.{IsTallyOf}
 use Rattle.lump_rules.specs.Contents.{lump_bytes}
 use Rattle.csv_tables.specs.declared.path.TheConstants.{MAX_VIEWS}
-use Rattle.level_audit.specs.declared.scene_load.read.SceneFiles.{SceneFiles}
+use Rattle.job_files.specs.declared.read.SceneFiles.{SceneFiles}
 use Rattle.doom_run.specs.Renders.{ready_views}
 use Rattle.doom_run.proofs.LimitLemmas.{length_views}
 use Rattle.doom_run.proofs.TallyLemmas.{finished_exercise, same_status, stopped_exercise, tally_of}

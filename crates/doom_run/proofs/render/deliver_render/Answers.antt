@@ -2,7 +2,7 @@
 use Rattle.std.proofs.Common.{◌≡◌, ◌<◌, length, ap, ◌∙◌, arith, inl, inr, subst}
 use Rattle.outside.proofs.ShelfLemmas.{follows_then}
 use Rattle.lump_rules.specs.Contents.{lump_bytes}
-use Rattle.level_audit.specs.declared.scene_load.read.SceneFiles.{SceneFiles}
+use Rattle.job_files.specs.declared.read.SceneFiles.{SceneFiles}
 use Rattle.std.proofs.lemmas.Bool.{cases_lt}
 use Rattle.zone_rules.proofs.OrderLemmas.{order_none, order_then}
 use Rattle.doom_run.proofs.TakeLemmas.{after_all, asked-later}

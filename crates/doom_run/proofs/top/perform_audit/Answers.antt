@@ -1,7 +1,7 @@
 use Rattle.std.proofs.Common.{map, ◌∙◌, sym}
 use Rattle.command_line.specs.LevelJobs.{level_job_value}
 use Rattle.level_audit.specs.scene_load.Fulls.{IsFullLoad}
-use Rattle.plain_jobs.proofs.StepLemmas.{status_full}
+use Rattle.job_files.proofs.StepLemmas.{status_full}
 use Rattle.doom_run.proofs.EndLemmas.{fault_no_end}
 use Rattle.doom_run.proofs.top.perform_audit.Goals as goal
 

@@ -1,5 +1,5 @@
 use Rattle.std.proofs.Common.{ap, Err}
-use Rattle.plain_jobs.specs.declared.status.Status.{Status}
+use Rattle.job_files.specs.declared.status.Status.{Status}
 use Rattle.doom_run.specs.Exercises.{made_files, made_level, made_wads}
 use Rattle.doom_run.proofs.DrawnLemmas.{load_or_draw}
 use Rattle.doom_run.proofs.view_jobs.perform_exercise.Goals as goal

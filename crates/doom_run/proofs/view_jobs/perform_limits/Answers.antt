@@ -2,8 +2,8 @@ use Rattle.std.proofs.Common.{[], map, ◌∙◌, sym, subst}
 use Rattle.command_line.specs.LevelJobs.{level_job_value}
 use Rattle.level_audit.specs.scene_load.Fulls.{IsFullLoad}
 use Rattle.level_audit.specs.scene_load.Loads.{loaded_value}
-use Rattle.plain_jobs.specs.declared.status.Status.{Status}
-use Rattle.plain_jobs.proofs.StepLemmas.{status_full}
+use Rattle.job_files.specs.declared.status.Status.{Status}
+use Rattle.job_files.proofs.StepLemmas.{status_full}
 use Rattle.doom_run.proofs.TakeLemmas.{loads_taken}
 use Rattle.doom_run.proofs.LeastLemmas.{least_limits}
 use Rattle.doom_run.specs.Ends.{DeliversAt}

@@ -7,7 +7,7 @@ use Rattle.lump_rules.specs.Lookups.{lump_at}
 use Rattle.level_audit.specs.scene_load.Loads.{loaded_value}
 use Rattle.level_audit.specs.scene_load.Orders.{loaded_items}
 use Rattle.sound_scene.proofs.SceneLemmas.{same_value}
-use Rattle.plain_jobs.proofs.StepLemmas.{status_full}
+use Rattle.job_files.proofs.StepLemmas.{status_full}
 use Rattle.doom_run.proofs.AskedLemmas.{ready_asked}
 use Rattle.doom_run.proofs.TakeLemmas.{loads_taken, renders_taken}
 use Rattle.doom_run.proofs.LeastLemmas.{least_render}

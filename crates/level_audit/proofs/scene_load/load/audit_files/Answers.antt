@@ -7,7 +7,7 @@ use Rattle.zone_rules.specs.Orders.{KeepsOrder}
 use Rattle.zone_rules.proofs.OrderLemmas.{order_then}
 use Rattle.lump_cache.specs.Caches.{IsAtRest}
 use Rattle.command_line.specs.LevelJobs.{level_job_value}
-use Rattle.level_audit.specs.scene_load.Files.{value_of}
+use Rattle.job_files.specs.Files.{value_of}
 use Rattle.scene_rules.specs.Scenes.{SceneValue}
 use Rattle.sound_scene.specs.Sound.{SoundValue}
 use Rattle.sound_scene.specs.Whole.{IsWholeScene}

@@ -4,11 +4,11 @@ use Rattle.lump_rules.specs.Contents.{lump_bytes}
 use Rattle.zone_rules.specs.Orders.{KeepsOrder}
 use Rattle.command_line.specs.LevelJobs.{level_job_value}
 use Rattle.refusals.specs.Groups.{of_audit}
-use Rattle.level_audit.specs.scene_load.Files.{value_of}
+use Rattle.job_files.specs.Files.{value_of}
 use Rattle.level_audit.specs.scene_load.Fulls.{IsFullOver}
 use Rattle.level_audit.specs.scene_load.Loads.{audited_in}
 use Rattle.level_audit.specs.scene_load.Orders.{loaded_items}
-use Rattle.level_audit.proofs.scene_load.AboveLemmas.{answers_above, causes_above, fulls_above, orders_above}
+use Rattle.job_files.proofs.AboveLemmas.{answers_above, causes_above, fulls_above, orders_above}
 use Rattle.level_audit.proofs.scene_load.load.audit_level.Goals as goal
 
 pub returns-clause-answers : goal.returns-clause-answers

@@ -3,10 +3,11 @@ use Rattle.outside.proofs.ShelfLemmas.{all_stand_later, follows_then}
 use Rattle.zone_rules.specs.Orders.{IsInOrder, KeepsOrder}
 use Rattle.command_line.specs.LevelJobs.{level_job_value}
 use Rattle.level_audit.specs.declared.scene_load.load.LoadedScene.{LoadedScene}
-use Rattle.level_audit.specs.scene_load.Files.{value_of}
+use Rattle.job_files.specs.Files.{value_of}
 use Rattle.level_audit.specs.scene_load.Fulls.{IsFullLoad}
-use Rattle.level_audit.specs.scene_load.Loads.{audited_value, wad_contents}
-use Rattle.level_audit.specs.scene_load.Orders.{IsLoadedInOrder, files_size, loaded_items, lumps_size}
+use Rattle.job_files.specs.Sizes.{files_size, wad_contents}
+use Rattle.level_audit.specs.scene_load.Loads.{audited_value}
+use Rattle.level_audit.specs.scene_load.Orders.{IsLoadedInOrder, loaded_items, lumps_size}
 use Rattle.level_audit.proofs.scene_load.ArtLemmas.{all_held}
 use Rattle.level_audit.proofs.scene_load.FullLemmas.{files_full, load_full}
 use Rattle.level_audit.proofs.scene_load.LoadLemmas.{all_loaded, audit_stopped, audited_of, files_stopped, memory_agrees, memory_full, told_wads}

@@ -1,0 +1,22 @@
+-- The lumps of colours by name.
+use Rattle.std.proofs.Common.{◌≡◌, ℕ, Option, Some, None, Result, Ok, Err, refl, MatchResult, option_map}
+use Rattle.std.specs.Option.{ok_or}
+use Rattle.lump_rules.specs.declared.wad.LumpNo.{LumpNo}
+use Rattle.lump_rules.specs.Names.{name_of, filled}
+use Rattle.scene_rules.specs.declared.TheConstants.{COLORMAP, PLAYPAL}
+use Rattle.scene_rules.specs.declared.refusal.ArtRefusal.{ArtRefusal}
+
+-- the names are in capitals
+pub colormap_name : name_of COLORMAP ≡ COLORMAP
+unfolding filled
+colormap_name = refl
+
+pub playpal_name : name_of PLAYPAL ≡ PLAYPAL
+unfolding filled
+playpal_name = refl
+
+-- what is told of a lump that was looked for
+pub long_told : (refusal : ArtRefusal) (found : Option LumpNo) (number : Option ℕ) (r : Result LumpNo ArtRefusal) → option_map (λ (lump : LumpNo). lump.0) found ≡ number → r ≡ ok_or found refusal →
+    MatchResult r (λ lump. ok_or number refusal ≡ Ok lump.0) (λ given. ok_or number refusal ≡ Err given)
+long_told refusal None number r e is = rw (is, ← e) refl
+long_told refusal (Some lump) number r e is = rw (is, ← e) refl

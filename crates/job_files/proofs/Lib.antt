@@ -1,0 +1,12 @@
+pub mod AboveLemmas
+pub mod AcceptedLemmas
+pub mod CheckLemmas
+pub mod ColourLemmas
+pub mod FlatLemmas
+pub mod FoundLemmas
+pub mod LengthLemmas
+pub mod LumpLemmas
+pub mod StepLemmas
+pub mod TakenLemmas
+pub mod TilingLemmas
+pub mod WadLemmas

@@ -1,0 +1,36 @@
+-- One step of a job after another.
+use Rattle.std.proofs.Common.{◌≡◌, ℕ, Bool, Result, Err, IsErrAnd, refl, subst}
+use Rattle.std.proofs.lemmas.Result.{err_from_is_err_and}
+use Rattle.outside.specs.declared.fault.Fault.{Fault}
+use Rattle.outside.specs.declared.fault.Fault.TheVariants as fault
+use Rattle.outside.specs.Faults.{and_then, FaultFits, ResultIs, itself}
+use Rattle.lump_cache.specs.Calls.{IfFull}
+use Rattle.refusals.specs.declared.refusal.Refusal.{Refusal}
+use Rattle.job_files.specs.declared.status.Status.TheVariants.{ZoneFull}
+use Rattle.job_files.specs.Statuses.{status_of}
+
+stops_same : {A C R : Type 0} (steady : Bool) (first : Result C R) (next : C → Result A R) (below : Fault R) →
+    FaultFits steady first below → FaultFits steady (and_then first next) below
+stops_same steady first next (fault.Refused reason) h = rw h refl
+stops_same steady first next fault.ReadFault h = h
+stops_same steady first next (fault.ZoneFull wanted widest) h = tt
+stops_same steady first next fault.OutOfMemory h = tt
+
+-- a step of the same layer has stopped the call
+pub stop_same : {A B C D R : Type 0} {steady later : Bool} {v : D → C} {value : B → A} {first : Result C R} {r : Result D (Fault R)} (next : C → Result A R) (below : Fault R) (result : Result B (Fault R)) →
+    ResultIs itself later v first r → r ≡ Err below → later ≡ steady → IsErrAnd result (λ e. e ≡ below) → ResultIs itself steady value (and_then first next) result
+stop_same {A} {B} {C} {D} {R} {steady} {later} {v} {value} {first} {r} next below result answers was s is =
+    let p : (y : Fault R) × (result ≡ Err y) × (y ≡ below) = err_from_is_err_and result is in
+    let h : FaultFits later first below = rw was at answers.err in
+    let k : FaultFits steady (and_then first next) (itself p.0) = rw (p.2, ← s) (stops_same later first next below h) in
+    rw p.1 (record { ok = tt; err = k })
+
+-- where the status of a fault is a full zone, the fault tells of that zone
+pub status_full : (P : ℕ → ℕ → Type 0) (below : Fault Refusal) (wanted widest : ℕ) → status_of below ≡ ZoneFull wanted widest → IfFull below P → P wanted widest
+status_full P (fault.Refused refusal) wanted widest e h = absurd (cc)
+status_full P fault.ReadFault wanted widest e h = absurd (cc)
+status_full P (fault.ZoneFull asked gap) wanted widest e h =
+    let first : asked ≡ wanted = cc in
+    let second : gap ≡ widest = cc in
+    subst (λ (n : ℕ). P n widest) first (subst (λ (n : ℕ). P asked n) second h)
+status_full P fault.OutOfMemory wanted widest e h = absurd (cc)

@@ -1,0 +1,48 @@
+-- The lumps of WADs that were asked for.
+use Rattle.std.proofs.Common.{◌≡◌, ℕ, Bool, List, Option, Some, Result, Ok, Err, IsErrAnd, refl}
+use Rattle.std.specs.Prelude.{IfOk}
+use Rattle.lump_rules.specs.Contents.{AllWithin}
+use Rattle.wad_dir.specs.DirectoryView.{DirectoryView}
+use Rattle.std.proofs.lemmas.Result.{err_from_is_err_and}
+use Rattle.outside.specs.declared.shelf.FileNo.{FileNo}
+use Rattle.outside.specs.Shelf.{File, ShelfView, NameFiles}
+use Rattle.outside.specs.Faults.{itself}
+use Rattle.lump_rules.specs.declared.wad.Lump.{Lump}
+use Rattle.refusals.specs.declared.refusal.Refusal.{Refusal}
+use Rattle.outside.specs.declared.fault.Fault.{Fault}
+use Rattle.job_files.specs.Files.{files_named, lumps_in, wad_files}
+use Rattle.job_files.specs.Found.{AllStandForNamed}
+use Rattle.outside.specs.Stops.{else_absent, no_file, FaultFitsOrAbsent, ResultIsOrAbsent}
+use Rattle.outside.proofs.StopLemmas.{stops_all}
+
+-- a file was not found
+pub wads_unfound : {B : Type 0} {steady : Bool} {value : B → List Lump} (names : List (List ℕ)) (files : List File) (fault : (Fault Refusal)) (result : Result B (Fault Refusal)) →
+    FaultFitsOrAbsent {R = Refusal} steady (else_absent (files_named names files)) (itself fault) → IsErrAnd result (λ e. e ≡ fault) →
+    ResultIsOrAbsent itself steady value (lumps_in names files) result
+unfolding lumps_in
+wads_unfound {B} {steady} names files fault result stops is =
+    let p : (y : (Fault Refusal)) × (result ≡ Err y) × (y ≡ fault) = err_from_is_err_and result is in
+    let k : FaultFitsOrAbsent steady (lumps_in names files) (itself p.0) = rw p.2 (stops_all steady (else_absent (files_named names files)) (λ contents. no_file (wad_files contents)) (itself fault) stops) in
+    rw p.1 (record { ok = tt; err = k })
+
+-- all files were found
+pub lumps_found : (names : List (List ℕ)) (files : List File) (contents : List (List ℕ)) → files_named names files ≡ Some contents → lumps_in names files ≡ no_file (wad_files contents)
+unfolding lumps_in
+lumps_found names files contents e = rw e refl
+
+same_found : {A : Type 0} (found : Option A) (one other : A) → found ≡ Some one → found ≡ Some other → one ≡ other
+same_found found one other e f = cc
+
+-- the numbers stand for the bytes of the files that have these names
+pub stand_named : (view : ShelfView) (numbers given : List FileNo) (names : List (List ℕ)) (files : List File) (contents : List (List ℕ)) →
+    AllStandForNamed view numbers names files → given ≡ numbers → files_named names files ≡ Some contents → NameFiles view given contents
+stand_named view numbers given names files contents found same named =
+    let these : found.contents ≡ contents = same_found (files_named names files) found.contents contents found.named named in
+    rw (same, ← these) found.stand
+
+-- a directory of the files of these numbers
+pub wads_stand : {E : Type 0} (view : ShelfView) (numbers : List FileNo) (contents : List (List ℕ)) (result : Result DirectoryView E) →
+    NameFiles view numbers contents → IfOk result (λ dir. dir.files ≡ numbers) → IfOk result (λ dir. AllWithin contents dir.lumps) →
+    IfOk result (λ dir. NameFiles view dir.files contents × AllWithin contents dir.lumps)
+wads_stand view numbers contents (Ok dir) stand files within = (rw files stand, within)
+wads_stand view numbers contents (Err fault) stand files within = tt

@@ -1,0 +1,11 @@
+use Rattle.std.proofs.Common.{◌∷◌, [], ◌∙◌}
+use Rattle.outside.specs.Shelf.{StandsForNamed, file_named}
+use Rattle.job_files.specs.Flats.{flat_picture}
+use Rattle.outside.proofs.StopLemmas.{file_agrees}
+use Rattle.job_files.proofs.flat.prepare_flat.Goals as goal
+
+pub returns-clause-answers : goal.returns-clause-answers
+returns-clause-answers g c files holds =
+    let found : StandsForNamed (g.S.Shelf.view c.find.new.self) c.in_ok-number.number.0 c.args.file.now files = rw holds at c.in_ok-number.ensures.found in
+    file_agrees (file_named c.args.file.now files) (λ bytes. flat_picture c.args.name.now (bytes ∷ [])) c.load_flat.result
+    found.is_held c.find.ensures.follows.steady (λ bytes is. c.load_flat.ensures.answers bytes (found.stands ∙ is))

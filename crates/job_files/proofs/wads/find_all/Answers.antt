@@ -1,0 +1,39 @@
+use Rattle.std.proofs.Common.{◌∷◌, [], ◌∙◌, length, length-append, refl, ap, arith}
+use Rattle.std.proofs.lemmas.List.{map_more, take_all}
+use Rattle.std.proofs.lemmas.Result.{err_from_is_err_and}
+use Rattle.outside.proofs.ShelfLemmas.{follows_none, follows_then}
+use Rattle.job_files.proofs.FoundLemmas.{none_found, found_more, lacking_stops}
+use Rattle.job_files.proofs.wads.find_all.Goals as goal
+
+pub loop-name-init : goal.loop-name-init
+loop-name-init g c = record {
+  count = ap length c.new-numbers.ensures.items;
+  follows = follows_none (g.S.Shelf.view c.args.shelf.now);
+  untaken = refl;
+  found = λ files holds. none_found _ _ files c.new-numbers.ensures.items;
+}
+
+pub returns-in_err-number-clause-stops : goal.returns-in_err-number-clause-stops
+returns-in_err-number-clause-stops g c files holds =
+    let p = err_from_is_err_and c.from_residual.result c.from_residual.ensures.1 in
+    let held = c.loop-name.invariant.follows.held ∙ holds in
+    rw (p.1, p.2)
+    (λ steady. lacking_stops c.args.names.now c.loop-name.name-index _ files c.find.result _ (omega arith)
+    (rw held at (c.find.ensures.steady (c.loop-name.invariant.follows.steady ∙ steady))) c.in_err-number.was)
+
+pub loop-name-preserved : goal.loop-name-preserved
+loop-name-preserved g c = record {
+  count = omega (arith, ap length c.in_ok-push.ensures.items, length-append c.loop-name.numbers.items (c.in_ok-number.number ∷ []));
+  follows = follows_then c.loop-name.invariant.follows c.find.ensures.follows;
+  untaken = c.find.ensures.untaken ∙ c.loop-name.invariant.untaken;
+  found = λ files holds.
+      let held = c.loop-name.invariant.follows.held ∙ holds in
+      let found = rw held at c.in_ok-number.ensures.found in
+      found_more _ _ c.loop-name.numbers.items c.push.new.self.items c.in_ok-number.number _ _ _ files found c.in_ok-push.ensures.items
+      (map_more (λ name. name.now) c.args.names.now c.loop-name.name-index _ (omega arith)) c.find.ensures.follows (c.loop-name.invariant.found files holds);
+}
+
+pub returns-clause-found : goal.returns-clause-found
+returns-clause-found g c files holds =
+    let all = take_all c.loop-name.name-index c.args.names.now (omega arith) in
+    rw all at (c.loop-name.invariant.found files holds)

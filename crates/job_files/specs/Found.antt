@@ -1,0 +1,11 @@
+-- Files that were all asked for.
+use Rattle.std.specs.Prelude.{◌≡◌, ℕ, List, Some}
+use Rattle.outside.specs.declared.shelf.FileNo.{FileNo}
+use Rattle.outside.specs.Shelf.{File, ShelfView, NameFiles}
+use Rattle.job_files.specs.Files.{files_named}
+
+-- each number stands for the first file of the name at its place
+pub record AllStandForNamed (view : ShelfView) (numbers : List FileNo) (names : List (List ℕ)) (files : List File) : Type 0 where
+  pub contents : List (List ℕ)
+  pub named : files_named names files ≡ Some contents
+  pub stand : NameFiles view numbers contents

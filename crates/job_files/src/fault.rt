@@ -1,0 +1,24 @@
+// Why the files of a job, or what it needs of them, are not loaded.
+ghost use Rattle.std.specs.Prelude.{◌≡◌};
+ghost use Rattle.outside.specs.Faults.{fault_above};
+ghost use Rattle.wad_dir.specs.Faults.{dir_fault};
+ghost use Rattle.refusals.specs.declared.refusal.Refusal.TheVariants.{Wad};
+
+use outside::Fault;
+use refusals::Refusal;
+use wad_dir::DirFault;
+
+/// Why a job has not what it needs: the first refusal of the files' bytes, a file that is absent or
+/// could not be read, a zone without room for a lump, or out of memory.
+pub type LoadFault = Fault<Refusal>;
+
+/// A fault of a directory as that of the files.
+pub(crate) fn wad_fault(fault: DirFault) -> LoadFault
+    ensures { result ≡ fault_above Wad (dir_fault fault) }
+{
+    match fault {
+        DirFault::Refused(refusal) => Fault::Refused(Refusal::Wad(refusal)),
+        DirFault::ReadFault => Fault::ReadFault,
+        DirFault::OutOfMemory => Fault::OutOfMemory,
+    }
+}

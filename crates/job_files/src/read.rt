@@ -1,0 +1,106 @@
+// All files of a job over a level, in their order.
+ghost use Rattle.std.specs.Prelude.{◌≡◌, ◌<◌, ◌≤◌, ◌+◌, ◌*◌, ◌^◌, ℕ, List, length, map, Some, IfOk};
+ghost use Rattle.outside.specs.Shelf.{NameFiles, File, IsLaterShelf, Holds};
+ghost use Rattle.outside.specs.Faults.{HasCauses, itself};
+ghost use Rattle.lump_rules.specs.Contents.{AllWithin};
+ghost use Rattle.lump_rules.specs.Wads.{listing_sizes};
+ghost use Rattle.view_rules.specs.declared.TheConstants.{MIN_SIZE, MAX_SIZE};
+ghost use Rattle.command_line.specs.LevelJobs.{file_names};
+ghost use Rattle.job_files.specs.Files.{IsNeverFull, files_in, files_named, value_of};
+ghost use Rattle.job_files.specs.Sizes.{files_size};
+ghost use Rattle.outside.specs.Stops.{ResultIsOrAbsent};
+
+use crate::fault::LoadFault;
+use crate::tables::load_tables;
+use crate::texts::{TextTables, load_texts};
+use crate::wads::load_wads;
+use angle_tables::Tables;
+use command_line::Files;
+use csv_tables::{MAX_TABLE_BYTES, PathTable, ThingTable, WeaponTable};
+use lump_rules::{ENTRY_SIZE, HEADER_SIZE};
+use outside::Shelf;
+use std::alloc::Global;
+use view_rules::TABLES_BYTES;
+use wad_dir::Directory;
+
+/// What the files of a job over a level give: the tables of angles, how things look, the views of
+/// the path, the weapon layers where a file of them is named, and the directory of the WADs.
+#[derive(Drop)]
+pub struct SceneFiles {
+    pub tables: Tables,
+    pub things: ThingTable,
+    pub path: PathTable,
+    pub weapons: Option<WeaponTable>,
+    pub dir: Directory,
+}
+
+/// The files of these names, for views of `size`, 3 to 11, with the WADs in the order given.
+///
+/// Each file is asked for and read in its turn: tables of angles, things, path, and the weapon
+/// layers where they are named. Then all WADs are asked for, and after that their directories are
+/// read; the lumps are not. The length of a table's file is looked at first, so that however long
+/// it is, no more is read of it than a table may have. No more bytes are read than these files
+/// have, and the header and the directory of each WAD, each once (`taken_of`). Takes memory for
+/// each table's file while it is checked, for what the tables hold, and for the directory.
+///
+/// Errors: `Refused` with the first refusal, by the step at which it came. `ReadFault` only where a
+/// call of the shelf failed; over a steady shelf only where the step's file is not held.
+/// `OutOfMemory`. The shelf goes on to stand for what it stood for.
+///
+/// The original: `W_InitMultipleFiles`, w_wad.c, which leaves out files that are not there. This
+/// project's own: the files beside the WADs, and that a file that is not there ends the reading.
+pub fn read_files<S: Shelf>(
+    alloc: Global,
+    names: &Files<'_>,
+    wads: &[&str],
+    size: u8,
+    shelf: &mut S,
+) -> Result<SceneFiles, LoadFault>
+    requires least { MIN_SIZE ≤ size }
+    requires greatest { size ≤ MAX_SIZE }
+    ensures answers { (files : List File) → Holds (S.view shelf.old) files →
+        ResultIsOrAbsent itself (S.view shelf.old).steady value_of
+        (files_in (file_names names.now) (map (λ wad. wad.now) wads.now) size files) result }
+    ensures contents { (files : List File) (contents : List (List ℕ)) →
+        Holds (S.view shelf.old) files →
+        files_named (map (λ wad. wad.now) wads.now) files ≡ Some contents →
+        IfOk result (λ found. NameFiles (S.view shelf.new) found.dir.files contents
+        × AllWithin contents found.dir.lumps) }
+    ensures files { IfOk result (λ found. length found.dir.files ≡ length wads.now) }
+    ensures count { IfOk result (λ found. length found.dir.lumps < 2 ^ 16) }
+    ensures size { IfOk result (λ found. found.tables.size ≡ size) }
+    ensures full { IsNeverFull result }
+    ensures follows { IsLaterShelf (S.view shelf.old) (S.view shelf.new) }
+    ensures causes { HasCauses itself
+        (S.view shelf.old).faults (S.view shelf.new).faults result }
+    ensures taken { (files : List File) (contents : List (List ℕ)) →
+        Holds (S.view shelf.old) files →
+        files_named (map (λ wad. wad.now) wads.now) files ≡ Some contents →
+        (S.view shelf.new).taken ≤ (S.view shelf.old).taken
+        + (TABLES_BYTES + 3 * MAX_TABLE_BYTES + listing_sizes contents) }
+    ensures taken_by_count { IfOk result (λ found.
+        (S.view shelf.new).taken ≤ (S.view shelf.old).taken
+        + (TABLES_BYTES + 3 * MAX_TABLE_BYTES
+        + HEADER_SIZE * length found.dir.files + ENTRY_SIZE * length found.dir.lumps)) }
+    ensures taken_of { (files : List File) (contents : List (List ℕ)) →
+        Holds (S.view shelf.old) files →
+        files_named (map (λ wad. wad.now) wads.now) files ≡ Some contents →
+        (S.view shelf.new).taken ≤ (S.view shelf.old).taken
+        + files_size (file_names names.now) (map (λ wad. wad.now) wads.now) files }
+{
+    let tables = load_tables(alloc, shelf, names.tables, size)?;
+    let texts = load_texts(alloc, shelf, names)?;
+    let dir = load_wads(alloc, shelf, wads)?;
+    let TextTables {
+        things,
+        path,
+        weapons,
+    } = texts;
+    Ok(SceneFiles {
+        tables,
+        things,
+        path,
+        weapons,
+        dir,
+    })
+}

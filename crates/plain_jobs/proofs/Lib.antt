@@ -1,4 +1,0 @@
-pub mod FlatLemmas
-pub mod LumpLemmas
-pub mod StepLemmas
-pub mod TilingLemmas

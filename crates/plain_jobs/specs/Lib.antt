@@ -1,4 +1,0 @@
-pub mod Flats
-pub mod Lines
-pub mod Made
-pub mod Statuses
