@@ -1,11 +1,11 @@
 """Builds doomview by the command rt, and then runs it with the words given: the script doomview calls it.
 
-All crates that the program stands on are proved side by side: `rt all` starts a crate once those below it
-are done, and of those that go on at a time the ones with much still to come above them go first. While it
-reads all sources, before it proves anything, the other processors build the first crates in copies. At the
-end few crates can go on at a time; then each is built with all processors. The program gets its place,
-out/doomview, as the last step, so no half-built one is ever run, and a build that was interrupted goes on
-where it was.
+Crates are proved side by side, one on a processor, each in one of some copies of the sources: rt lets one
+command at a time into a checkout, and takes what another checkout has built. Of the crates that can go on
+those with the most above them go first. The last crates, which stand on all others, are built in the
+repository itself, each with all processors. Where rt cannot share what it builds, since nothing can be
+written beside it, `rt all` does the same in the repository, and takes longer. The program gets its place,
+out/doomview, as the last step, so no half-built one is ever run.
 
 Ends with 70 if the build fails, with 128 and the signal's number if a signal stops it, else with the
 program's status."""
@@ -16,17 +16,16 @@ import shutil
 import signal
 import subprocess
 import sys
-import tempfile
 import threading
 import time
-from collections import Counter
 
 TOP = os.path.dirname(os.path.abspath(__file__))
 PROGRAM = 'doomview'
 BUILT = os.path.join(TOP, 'out', PROGRAM)
+COPIES = os.path.join(TOP, 'out', 'copies')
+SOURCES = ('HANDLES', 'crates.txt')  # and crates/
 BUILD_FAILED = 70
 CRATE_MEMORY = 2 << 30  # bytes, about what the proof of a crate takes
-READ_MEMORY = 6 << 30  # bytes, about what `rt all` takes to read all sources
 SHOWN_LINES = 60  # of what rt said of a crate that failed
 DEAR = ('command_line', 'level_audit', 'doom_run')  # whose proof takes twice as long a line as others'
 STOPS = (signal.SIGINT, signal.SIGTERM, signal.SIGHUP)
@@ -61,11 +60,20 @@ def crates_below(name):
     return found
 
 
-def count_jobs(most, taken=0):
-    """As many as are asked for, and as memory allows beside so many bytes."""
+def last_crates(crates):
+    """The crates from the first on that stands on all before it, and so do those after it."""
+    under, last = {}, []
+    for crate, below in crates.items():
+        under[crate] = set(below).union(*(under[it] for it in below))
+        last = [*last, crate] if len(under[crate]) == len(under) - 1 else []
+    return last
+
+
+def count_jobs():
+    """A job a processor, as many as memory allows."""
     with open('/proc/meminfo') as file:
         free = 1024 * int(re.search(r'MemAvailable:\s+(\d+)', file.read())[1])
-    return max(0 if taken else 1, min(most, (free - taken) // CRATE_MEMORY))
+    return max(1, min(len(os.sched_getaffinity(0)), free // CRATE_MEMORY))
 
 
 def count_lines(crate):
@@ -79,161 +87,133 @@ def count_lines(crate):
     return 2 * found if crate in DEAR else found
 
 
-def chain_lengths(crates):
-    """The lines of the longest chain of crates through each."""
-    work = {crate: count_lines(crate) for crate in crates}
-    below, above = {}, {}
-    for crate in crates:
-        below[crate] = work[crate] + max((below[it] for it in crates[crate]), default=0)
+def lines_above(crates):
+    """The lines of the longest chain of crates that begins with each."""
+    above = {}
     for crate in reversed(list(crates)):
-        above[crate] = work[crate] + max((above[it] for it in crates if crate in crates[it]), default=0)
-    return {crate: below[crate] + above[crate] - work[crate] for crate in crates}
+        above[crate] = count_lines(crate) + max((above[it] for it in crates if crate in crates[it]), default=0)
+    return above
 
 
-def niceness(chain):
-    """How far a crate's proof gives way to others: 0 on the longest chain of crates, and up to 19 where the
-    longest chain through the crate is much shorter."""
-    most = max(chain.values())
-    return {crate: min(19, 20 * (most - length) // max(1, most)) for crate, length in chain.items()}
-
-
-def give_way(nice, ended):
-    """Sets how nice the processes are that prove crates, until an event ends it."""
-    folders = {os.path.realpath(os.path.join(TOP, 'crates', crate)): value for crate, value in nice.items()}
-    while not ended.wait(1):
-        for pid in filter(str.isdigit, os.listdir('/proc')):
-            try:
-                value = folders.get(os.readlink(f'/proc/{pid}/cwd'), 0)
-                with open(f'/proc/{pid}/cmdline', errors='replace') as file:
-                    is_proof = '--crate-name' in file.read().split('\0')
-                for thread in map(int, os.listdir(f'/proc/{pid}/task') if value and is_proof else []):
-                    if os.getpriority(os.PRIO_PROCESS, thread) < value:
-                        os.setpriority(os.PRIO_PROCESS, thread, value)
-            except OSError:
-                pass  # it has ended, or is not ours
-
-
-def rt(crate, *words, top=TOP, output=subprocess.PIPE):
-    """A run of rt in a crate's folder, whose lines are read one by one; it ends with this program."""
-    return subprocess.Popen(['rt', *words], cwd=os.path.join(top, 'crates', crate), errors='replace',
-                            stdin=subprocess.DEVNULL, stdout=output, stderr=subprocess.STDOUT)
-
-
-class Ahead:
-    """Builds crates in copies of the sources, those of the longest chain first, until it is told that no more
-    are to begin. rt takes what one copy has built into the others, and into the repository itself. Where it
-    cannot, since its store cannot be written, what the copies have begun is lost, and takes time from the rest."""
-
-    def __init__(self, crates, chain, copies):
-        self.crates = {crate: below for crate, below in crates.items() if crate != PROGRAM}
-        self.order = sorted(self.crates, key=lambda it: -chain[it])
-        self.begun, self.built, self.runs, self.turn = set(), set(), set(), threading.Lock()
-        self.copies, self.folders, self.threads = copies, [], []
-        self.ended = threading.Event()
-
-    def start(self):
-        for _ in range(self.copies):
-            self.folders.append(tempfile.mkdtemp(prefix='doomview-'))
-            self.threads.append(threading.Thread(target=self.work, args=self.folders[-1:], daemon=True))
-            self.threads[-1].start()
-
-    def begin(self, top):
-        """A build of the first crate that can go on, with its name, or None where there is none."""
-        with self.turn:
-            for crate in self.order if not self.ended.is_set() else []:
-                if crate not in self.begun and all(it in self.built for it in self.crates[crate]):
-                    self.begun.add(crate)
-                    run = rt(crate, 'lib', '--jobs', '1', top=top, output=subprocess.DEVNULL)
-                    self.runs.add(run)
-                    return crate, run
-        return None
-
-    def work(self, top):
-        shutil.copy(os.path.join(TOP, 'crates.txt'), top)
-        shutil.copytree(os.path.join(TOP, 'crates'), os.path.join(top, 'crates'),
-                        ignore=shutil.ignore_patterns('out'))
-        while not self.ended.is_set():
-            found = self.begin(top)
-            if not found:
-                self.ended.wait(0.1)
-            elif not found[1].wait():
-                self.built.add(found[0])
-
-    def stop(self):
-        """Ends all builds, and takes the copies away."""
-        with self.turn:
-            self.ended.set()
-        for run in self.runs:
-            if run.poll() is None:
-                run.terminate()
-        for it in self.threads:
-            it.join()
-        for it in self.folders:
-            shutil.rmtree(it, ignore_errors=True)
+def shares_work():
+    """Whether rt can note beside itself what it builds, so that another checkout takes it."""
+    kit = os.path.dirname(os.path.dirname(os.path.realpath(shutil.which('rt'))))
+    store = os.path.join(os.path.dirname(kit), 'rattle-kept')
+    if os.path.exists(store):
+        return os.path.isdir(store) and os.stat(store).st_uid == os.geteuid()
+    return os.access(os.path.dirname(kit), os.W_OK)
 
 
 class Build:
-    def __init__(self, crates, chain):
-        processors = len(os.sched_getaffinity(0))
-        self.crates, self.done = crates, []
-        self.ahead = Ahead(crates, chain, count_jobs(processors - 1, READ_MEMORY))
-        self.jobs = count_jobs(processors)
-        # `rt all` counts a crate that waits for those below it as one that runs
-        self.slots = count_jobs(3 * processors)
-        self.run = None
+    def __init__(self, crates):
+        self.crates, self.jobs = crates, count_jobs()
+        self.begun, self.done, self.failure = set(), [], None
+        self.workers, self.runs = [], []
+        self.turn, self.ended = threading.Lock(), threading.Event()
+
+    def rt(self, top, crate, *words):
+        """Starts rt in a crate's folder, unless the build has ended."""
+        with self.turn:
+            if self.ended.is_set():
+                return None
+            run = subprocess.Popen(['rt', *words], cwd=os.path.join(top, 'crates', crate), errors='replace',
+                                   stdin=subprocess.DEVNULL, stdout=subprocess.PIPE, stderr=subprocess.STDOUT)
+            self.runs.append(run)
+            return run
 
     def finish(self, crate):
         self.done.append(crate)
         say(f'crate {len(self.done)} of {len(self.crates)}: {crate}')
 
-    def is_narrow(self, last):
-        """Whether from here on at most half of the processors would have a crate each, and each crate that
-        can go on waited for the last one, so that none has begun."""
-        levels = {}
-        for crate, below in self.crates.items():
-            if crate not in self.done:
-                levels[crate] = 1 + max((levels[it] for it in below if it in levels), default=0)
-        width = max(Counter(levels.values()).values(), default=0)
-        return 2 * width <= self.jobs and all(last in self.crates[it] for it, n in levels.items() if n == 1)
+    def fail(self, text, said):
+        """Ends the build, unless it has ended."""
+        if not self.ended.is_set():
+            self.failure = (text, said)
+            self.end()
 
-    def side_by_side(self):
-        self.ahead.start()
-        self.run = rt(PROGRAM, 'all', 'check', '--jobs', str(self.slots))
-        said = {'': []}
-        crate = ''
-        for line in self.run.stdout:
-            if line.startswith('== '):
-                self.ahead.ended.set()
-                crate = line.split()[1]
-                if crate in self.crates and crate not in self.done:
-                    self.finish(crate)
-                    if self.is_narrow(crate):
-                        return self.stop()
-            said.setdefault(crate, []).append(line)
-        if self.run.wait():
-            failed = [it.partition(':')[0] for it in said.get('summary', []) if ': failed (' in it]
-            fail('the build failed', [line for it in failed or [''] for line in said.get(it, [])])
+    def end(self):
+        """Lets no rt begin, and ends each that runs, with all that it started."""
+        self.ended.set()
+        for run in self.runs:
+            if run.poll() is None:
+                run.terminate()
 
-    def one_by_one(self):
+    def make(self, top, crate, *words):
+        """Builds a crate by rt, and says so."""
+        run = self.rt(top, crate, *words)
+        said = run.communicate()[0].splitlines(True) if run else []
+        with self.turn:
+            if run and not run.returncode:
+                self.finish(crate)
+            else:
+                self.fail(f'the build of {crate} failed', said)
+
+    def next_crate(self, order):
+        """The first crate that has not begun and of which all below it are done, or None."""
+        with self.turn:
+            for crate in order:
+                if crate not in self.begun and all(it in self.done for it in self.crates[crate]):
+                    self.begun.add(crate)
+                    return crate
+        return None
+
+    def work(self, top, order):
+        shutil.copytree(os.path.join(TOP, 'crates'), os.path.join(top, 'crates'),
+                        ignore=shutil.ignore_patterns('out'))
+        for name in SOURCES:
+            shutil.copy(os.path.join(TOP, name), top)
+        while len(self.begun) < len(order) and not self.ended.is_set():
+            crate = self.next_crate(order)
+            if crate:
+                self.make(top, crate, 'lib', '--jobs', '1')
+            else:
+                self.ended.wait(0.1)
+
+    def side_by_side(self, last):
+        above = lines_above(self.crates)
+        order = sorted((it for it in self.crates if it not in last), key=lambda it: -above[it])
+        for number in range(self.jobs):
+            top = os.path.join(COPIES, str(number))
+            self.workers.append(threading.Thread(target=self.work, args=(top, order)))
+            self.workers[-1].start()
+        for it in self.workers:
+            it.join()
+
+    def by_rt(self):
+        """All crates by `rt all`, which counts a crate that waits for those below it as one that runs."""
+        run = self.rt(TOP, PROGRAM, 'all', 'check', '--jobs', str(3 * self.jobs))
+        said = []
+        for line in run.stdout:
+            said.append(line)
+            crate = line.split()[1] if line.startswith('== ') else PROGRAM
+            if crate in self.crates and crate not in (PROGRAM, *self.done):
+                self.finish(crate)
+        if run.wait():
+            self.fail('the build failed', said)
+
+    def all_crates(self):
+        jobs = ('--jobs', str(self.jobs))
+        if shares_work():
+            self.side_by_side(last_crates(self.crates))
+        else:
+            self.by_rt()
         for crate in self.crates:
-            if crate not in self.done and crate != PROGRAM:
-                self.alone(crate, 'lib', '--jobs', str(self.jobs))
-        self.done = [it for it in self.done if it != PROGRAM]
-        self.alone(PROGRAM, 'run', '--jobs', str(self.jobs), '--', 'make', 'things')
-
-    def alone(self, crate, *words):
-        self.run = rt(crate, *words)
-        said = list(self.run.stdout)
-        if self.run.wait():
-            fail(f'the build of {crate} failed', said)
-        self.finish(crate)
+            if crate == PROGRAM:
+                self.make(TOP, crate, 'run', *jobs, '--', 'make', 'things')
+            elif crate not in self.done:
+                self.make(TOP, crate, 'lib', *jobs)
+        if self.failure:
+            fail(*self.failure)
 
     def stop(self):
-        """Ends rt, and with it all that it started."""
-        self.ahead.stop()
-        if self.run and self.run.poll() is None:
-            self.run.terminate()
-            self.run.communicate()
+        """Ends what still runs, and takes the copies away."""
+        with self.turn:
+            self.end()
+        for it in self.workers:
+            it.join()
+        for run in self.runs:
+            run.wait()
+        shutil.rmtree(COPIES, ignore_errors=True)
 
 
 def put_in_place(began):
@@ -249,15 +229,11 @@ def build():
     crates = crates_below(PROGRAM)
     say(f'building: {len(crates)} crates are proved, side by side. The first time '
         'took 27 minutes on four processors that did nothing else')
-    chain = chain_lengths(crates)
-    work = Build(crates, chain)
-    ended = threading.Event()
-    threading.Thread(target=give_way, args=(niceness(chain), ended), daemon=True).start()
+    shutil.rmtree(COPIES, ignore_errors=True)
+    work = Build(crates)
     try:
-        work.side_by_side()
-        work.one_by_one()
+        work.all_crates()
     finally:
-        ended.set()
         work.stop()
     put_in_place(began)
 

@@ -22,13 +22,19 @@ doomview: high low
 tests: doomview
 '''
 ORDER = ['low', 'left', 'right', 'high', 'doomview']
-# Does as rt does, without a proof: notes its calls in the file calls, keeps what is built in out/, fails
-# at the crate FAILS, and waits at the crate WAITS.
+# Does as rt does, without a proof: notes its calls in the file CALLS, takes what another checkout has
+# built (the folder beside the kit tells where), fails at the crate FAILS, and waits at the crate WAITS.
 RT = '''#!PYTHON
-import os, sys, time
+import os, shutil, sys, time
 top = os.path.dirname(os.path.dirname(os.getcwd()))
+kept = os.path.join(os.path.dirname(os.path.dirname(os.path.dirname(os.path.realpath(__file__)))), 'rattle-kept')
+below = {}
+for line in open(f'{top}/crates.txt'):
+    head, _, rest = line.partition('#')[0].partition(':')
+    if head.strip():
+        below[head] = [it for it in rest.split() if it in below]
 def note(text):
-    with open(f'{top}/calls', 'a') as file:
+    with open(os.environ['CALLS'], 'a') as file:
         file.write(text + '\\n')
 def build(crate):
     note('build ' + crate)
@@ -39,10 +45,21 @@ def build(crate):
     return crate != os.environ.get('FAILS')
 def made(crate):
     return f'{top}/crates/{crate}/out/made'
+def take(crate):
+    try:
+        shutil.copy(open(f'{kept}/{crate}').read(), made(crate))
+    except OSError:
+        pass
 def lib(crate):
+    if not all([lib(it) for it in below[crate]]):
+        return False
+    os.makedirs(os.path.dirname(made(crate)), exist_ok=True)
+    if not os.path.exists(made(crate)):
+        take(crate)
     if not os.path.exists(made(crate)) and build(crate):
-        os.makedirs(os.path.dirname(made(crate)), exist_ok=True)
         open(made(crate), 'w').close()
+        if os.path.isdir(kept):
+            open(f'{kept}/{crate}', 'w').write(made(crate))
     return os.path.exists(made(crate))
 here = os.path.basename(os.getcwd())
 note(here + ': ' + ' '.join(sys.argv[1:]))
@@ -51,10 +68,8 @@ if sys.argv[1] == 'all':
     for crate in 'low left right high doomview'.split():
         ended[crate] = lib(crate)
         print('== ' + crate + '\\nend of ' + crate, flush=True)
-        time.sleep(0.05)
         if not ended[crate]:
             break
-    print('== summary', *(f'{it}: ' + ('ok' if well else 'failed (1)') for it, well in ended.items()), sep='\\n')
     sys.exit(not all(ended.values()))
 if not lib(here):
     sys.exit(1)
@@ -75,14 +90,16 @@ class Doomview(unittest.TestCase):
             os.makedirs(self.at('crates', crate, 'src'))
             self.write(f'crates/{crate}/src/lib.rt', '')
         self.write('crates.txt', CRATES)
-        os.makedirs(self.at('bin'))
-        os.makedirs(self.at('tmp'))
+        self.write('HANDLES', '')
+        for folder in ('bin', 'opt/kit/bin', 'opt/rattle-kept'):
+            os.makedirs(self.at(folder))
         for name in COMMANDS:
             os.symlink(shutil.which(name), self.at('bin', name))
         os.symlink(sys.executable, self.at('bin', 'python3'))
         for name in ('doomview', 'build.py'):
             shutil.copy(os.path.join(TOP, name), self.folder)
-        os.chmod(self.write('bin/rt', RT.replace('PYTHON', sys.executable)), 0o755)
+        os.chmod(self.write('opt/kit/bin/rt', RT.replace('PYTHON', sys.executable)), 0o755)
+        os.symlink('../opt/kit/bin/rt', self.at('bin', 'rt'))
         self.seen = 0
 
     def at(self, *parts):
@@ -111,7 +128,8 @@ class Doomview(unittest.TestCase):
         self.fail('no rt waits')
 
     def start(self, *words, **more):
-        return subprocess.Popen([self.at('doomview'), *words], cwd='/', text=True, env={'PATH': self.at('bin'), 'TMPDIR': self.at('tmp'), **more},
+        env = {'PATH': self.at('bin'), 'CALLS': self.at('calls'), **more}
+        return subprocess.Popen([self.at('doomview'), *words], cwd='/', text=True, env=env,
                                 stdin=subprocess.PIPE, stdout=subprocess.PIPE, stderr=subprocess.PIPE)
 
     def runs(self, *words, **more):
@@ -123,10 +141,12 @@ class Doomview(unittest.TestCase):
         """The program is built and run with its words and its input, and then needs no rt."""
         status, output, error = self.runs('make', 'two words')
         self.assertEqual((status, output), (5, 'input make two words\n'))
-        lines = [line for line in error.splitlines() if ' of 5: ' in line]
-        self.assertEqual(lines, [f'doomview: crate {k + 1} of 5: {name}' for k, name in enumerate(ORDER)])
+        told = [line.rpartition(': ') for line in error.splitlines() if ' of 5: ' in line]
+        self.assertEqual([first for first, _, _ in told], [f'doomview: crate {k + 1} of 5' for k in range(5)])
+        names = [name for _, _, name in told]
+        self.assertEqual([names[0], {*names[1:3]}, *names[3:]], ['low', {'left', 'right'}, 'high', 'doomview'])
         calls = self.calls()
-        self.assertEqual(os.listdir(self.at('tmp')), [])
+        self.assertFalse(os.path.exists(self.at('out/copies')))
         self.assertEqual(self.runs('again'), (5, 'input again\n', ''))
         self.assertEqual(self.calls(), [])
         return calls
@@ -134,9 +154,22 @@ class Doomview(unittest.TestCase):
     def test_first(self):
         calls = self.builds()
         builds = [line for line in calls if line.startswith('build ')]
-        self.assertEqual(builds, [f'build {it}' for it in ORDER] + ['build program'])
+        self.assertEqual(sorted(builds), sorted(f'build {it}' for it in [*ORDER, 'program']))
+        self.assertEqual([calls[0], calls[-2]], ['low: lib --jobs 1', 'build doomview'])
+        self.assertRegex(calls[-3], 'doomview: run --jobs [0-9]+ -- make things')
+        self.assertEqual({'left: lib --jobs 1', 'right: lib --jobs 1'} - {*calls}, set())
+
+    def test_unshared(self):
+        """Where rt cannot note what it builds, it builds all of it in the repository."""
+        shutil.rmtree(self.at('opt/rattle-kept'))
+        self.write('opt/rattle-kept', '')
+        calls = self.builds()
+        self.assertEqual([line for line in calls if line.startswith('build ')], [f'build {it}' for it in [*ORDER, 'program']])
         self.assertRegex(calls[0], 'doomview: all check --jobs [0-9]+')
-        self.assertRegex(calls[-2], 'build doomview|doomview: run --jobs [0-9]+ -- make things')
+        self.write('crates/left/src/lib.rt', 'changed')
+        shutil.rmtree(self.at('crates/left/out'))
+        self.assertEqual(self.runs('make', FAILS='left')[0], 70)
+        self.builds()
 
     def test_newer_source(self):
         self.builds()
@@ -147,14 +180,16 @@ class Doomview(unittest.TestCase):
 
     def test_failure(self):
         self.builds()
-        for crate in ORDER:
-            shutil.rmtree(self.at('crates', crate, 'out'))
+        for folder in ('opt/rattle-kept', *(f'crates/{crate}/out' for crate in ORDER)):
+            shutil.rmtree(self.at(folder))
+        os.makedirs(self.at('opt/rattle-kept'))
         self.write('crates.txt', CRATES + '# changed\n')
         for crate in ['left', 'high', 'doomview', 'program']:
             status, output, error = self.runs('make', FAILS=crate)
             self.assertEqual((status, output), (70, ''))
-            self.assertRegex(error, 'doomview: the build (of [a-z]+ )?failed\n$')
-            self.assertRegex(error, f'proving {crate}|end of {crate}')
+            self.assertRegex(error, 'doomview: the build of [a-z]+ failed\n$')
+            self.assertIn(f'proving {crate}', error)
+            self.assertFalse(os.path.exists(self.at('out/copies')))
         self.builds()
 
     def test_interrupt(self):
@@ -167,8 +202,8 @@ class Doomview(unittest.TestCase):
             with self.assertRaises(ProcessLookupError):
                 os.kill(process, 0)
             self.assertFalse(os.path.exists(self.at('out', 'doomview')))
-            self.assertEqual(os.listdir(self.at('tmp')), [])
-        self.assertNotIn('build low', self.builds())
+            self.assertFalse(os.path.exists(self.at('out/copies')))
+        self.builds()
 
     def test_killed(self):
         """Nothing half-built is run after a build that could not clear up."""
@@ -181,19 +216,20 @@ class Doomview(unittest.TestCase):
         self.builds()
 
     def test_longest_chain_first(self):
-        """A crate beside the longest chain (here of 10 + 30 + 10 + 10 lines) gives way by what it is shorter."""
-        for crate, lines in [('low', 10), ('left', 30), ('right', 15), ('high', 10), ('doomview', 10)]:
+        """A crate goes first that begins the longest chain, by lines; the last ones stand on all others."""
+        for crate, lines in [('low', 10), ('left', 15), ('right', 30), ('high', 10), ('doomview', 10)]:
             self.write(f'crates/{crate}/src/lib.rt', 'a line\n' * lines)
             self.write(f'crates/{crate}/src/tests.rt', 'a test\n' * 99)
-        words = 'import build; print(build.niceness(build.chain_lengths(build.crates_below("doomview"))))'
+        words = 'import build; it = build.crates_below("doomview"); print(build.lines_above(it), build.last_crates(it))'
         run = subprocess.run([sys.executable, '-c', words], cwd=self.folder, capture_output=True, text=True, check=True)
-        self.assertEqual(run.stdout, "{'low': 0, 'left': 0, 'right': 5, 'high': 0, 'doomview': 0}\n")
+        above = {'doomview': 10, 'high': 20, 'right': 50, 'left': 35, 'low': 60}
+        self.assertEqual(run.stdout, f"{above} ['high', 'doomview']\n")
 
     def test_two_at_once(self):
         runs = [self.start(word) for word in ('one', 'two')]
         for word, run in zip(('one', 'two'), runs):
             self.assertEqual(run.communicate('')[0], word + '\n')
-        self.assertEqual(sum(': all check' in line for line in self.calls()), 1)
+        self.assertEqual(sum(line == 'build high' for line in self.calls()), 1)
 
     def test_missing(self):
         os.remove(self.at('bin', 'rt'))
