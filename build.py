@@ -28,6 +28,7 @@ BUILD_FAILED = 70
 CRATE_MEMORY = 2 << 30  # bytes, about what the proof of a crate takes
 SHOWN_LINES = 60  # of what rt said of a crate that failed
 DEAR = ('command_line', 'level_audit', 'doom_run')  # whose proof takes twice as long a line as others'
+NEEDED = {'avx2', 'bmi1', 'bmi2', 'fma', 'f16c', 'abm', 'movbe'}  # of a processor, for cpu=x86-64-v3
 STOPS = (signal.SIGINT, signal.SIGTERM, signal.SIGHUP)
 IGNORED = (signal.SIGPIPE, signal.SIGXFSZ)  # by Python, and not by the program
 
@@ -40,6 +41,12 @@ def fail(text, said=()):
     sys.stderr.writelines(said[-SHOWN_LINES:])
     say(text)
     sys.exit(BUILD_FAILED)
+
+
+def lacking(cpuinfo):
+    """The instructions that the program is compiled to and the processor has not, by the text of /proc/cpuinfo."""
+    found = re.search(r'^flags\s*:(.*)$', cpuinfo, re.M)
+    return sorted(NEEDED - {*found[1].split()}) if found else []
 
 
 def crates_below(name):
@@ -243,6 +250,10 @@ def main():
         signal.signal(number, lambda number, _: sys.exit(128 + number))
     if not shutil.which('rt'):
         fail('the build needs the command rt')
+    with open('/proc/cpuinfo') as file:
+        lacks = lacking(file.read())
+    if lacks:
+        fail(f'the processor lacks {" ".join(lacks)}: take cpu=x86-64-v3 out of crates.txt')
     os.makedirs(os.path.dirname(BUILT), exist_ok=True)
     with open(BUILT + '.lock', 'w') as lock:
         try:

@@ -225,6 +225,12 @@ class Doomview(unittest.TestCase):
         above = {'doomview': 10, 'high': 20, 'right': 50, 'left': 35, 'low': 60}
         self.assertEqual(run.stdout, f"{above} ['high', 'doomview']\n")
 
+    def test_processor(self):
+        """What the program is compiled to is asked of the processor."""
+        words = 'import build; print(*(build.lacking(it) for it in ("flags\t: sse", "flags : " + " ".join(build.NEEDED), "")))'
+        run = subprocess.run([sys.executable, '-c', words], cwd=self.folder, capture_output=True, text=True, check=True)
+        self.assertEqual(run.stdout, "['abm', 'avx2', 'bmi1', 'bmi2', 'f16c', 'fma', 'movbe'] [] []\n")
+
     def test_two_at_once(self):
         runs = [self.start(word) for word in ('one', 'two')]
         for word, run in zip(('one', 'two'), runs):

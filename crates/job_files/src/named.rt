@@ -92,7 +92,7 @@ fn read_whole<S: Shelf>(
 }
 
 // The length of a file, where it is not refused.
-#[tactic(auto, unfolding(crate::specs::scene_load::Lengths::length_refusal, crate::specs::scene_load::Lengths::tables_length_refusal, crate::specs::scene_load::Lengths::text_length_refusal))]
+#[tactic(auto, unfolding(crate::specs::Lengths::length_refusal, crate::specs::Lengths::tables_length_refusal, crate::specs::Lengths::text_length_refusal))]
 fn check_length(kind: FileKind, size: u64) -> Result<usize, Refusal>
     ensures value { result ≡ unless_refused (length_refusal kind size) size }
     ensures most { IfOk result (λ same. same ≤ most_bytes kind) }
@@ -104,7 +104,7 @@ fn check_length(kind: FileKind, size: u64) -> Result<usize, Refusal>
 }
 
 // The refusal of a length.
-#[tactic(auto, unfolding(crate::specs::scene_load::Lengths::length_refusal))]
+#[tactic(auto, unfolding(crate::specs::Lengths::length_refusal))]
 fn length_refusal(kind: FileKind, size: u64) -> Option<Refusal>
     ensures { result ≡ length_refusal kind size }
 {
@@ -117,7 +117,7 @@ fn length_refusal(kind: FileKind, size: u64) -> Option<Refusal>
 }
 
 // The refusal of the length of a file of tables of angles.
-#[tactic(auto, unfolding(crate::specs::scene_load::Lengths::tables_length_refusal))]
+#[tactic(auto, unfolding(crate::specs::Lengths::tables_length_refusal))]
 fn tables_length_refusal(size: u64) -> Option<TablesRefusal>
     ensures { result ≡ tables_length_refusal size }
 {
@@ -128,7 +128,7 @@ fn tables_length_refusal(size: u64) -> Option<TablesRefusal>
 }
 
 // The refusal of the length of a file of text.
-#[tactic(auto, unfolding(crate::specs::scene_load::Lengths::text_length_refusal))]
+#[tactic(auto, unfolding(crate::specs::Lengths::text_length_refusal))]
 fn text_length_refusal(size: u64) -> Option<CsvRefusal>
     ensures { result ≡ text_length_refusal size }
 {

@@ -40,7 +40,7 @@ pub fn load_tables<S: Shelf>(
     check_tables(alloc, &bytes, size)
 }
 
-#[tactic(auto, unfolding(crate::specs::scene_load::Files::tables_in))]
+#[tactic(auto, unfolding(crate::specs::Files::tables_in))]
 fn check_tables(alloc: Global, bytes: &[u8], size: u8) -> Result<Tables, LoadFault>
     requires least { MIN_SIZE ≤ size }
     requires greatest { size ≤ MAX_SIZE }
