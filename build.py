@@ -28,7 +28,8 @@ BUILD_FAILED = 70
 CRATE_MEMORY = 2 << 30  # bytes, about what the proof of a crate takes
 SHOWN_LINES = 60  # of what rt said of a crate that failed
 DEAR = ('command_line', 'level_audit', 'doom_run')  # whose proof takes twice as long a line as others'
-NEEDED = {'avx2', 'bmi1', 'bmi2', 'fma', 'f16c', 'abm', 'movbe'}  # of a processor, for cpu=x86-64-v3
+NEWER = '--cpu=x86-64-v3'  # for a processor that has all of these, in the words of /proc/cpuinfo
+NEEDED = {'abm', 'avx2', 'bmi1', 'bmi2', 'f16c', 'fma', 'movbe'}
 STOPS = (signal.SIGINT, signal.SIGTERM, signal.SIGHUP)
 IGNORED = (signal.SIGPIPE, signal.SIGXFSZ)  # by Python, and not by the program
 
@@ -43,10 +44,10 @@ def fail(text, said=()):
     sys.exit(BUILD_FAILED)
 
 
-def lacking(cpuinfo):
-    """The instructions that the program is compiled to and the processor has not, by the text of /proc/cpuinfo."""
+def compiled_for(cpuinfo):
+    """What rt is told of the processor that the program is compiled for, by the text of /proc/cpuinfo."""
     found = re.search(r'^flags\s*:(.*)$', cpuinfo, re.M)
-    return sorted(NEEDED - {*found[1].split()}) if found else []
+    return [NEWER] if found and NEEDED <= {*found[1].split()} else []
 
 
 def crates_below(name):
@@ -206,7 +207,9 @@ class Build:
             self.by_rt()
         for crate in self.crates:
             if crate == PROGRAM:
-                self.make(TOP, crate, 'run', *jobs, '--', 'make', 'things')
+                with open('/proc/cpuinfo') as file:
+                    words = compiled_for(file.read())
+                self.make(TOP, crate, 'run', *jobs, *words, '--', 'make', 'things')
             elif crate not in self.done:
                 self.make(TOP, crate, 'lib', *jobs)
         if self.failure:
@@ -250,10 +253,6 @@ def main():
         signal.signal(number, lambda number, _: sys.exit(128 + number))
     if not shutil.which('rt'):
         fail('the build needs the command rt')
-    with open('/proc/cpuinfo') as file:
-        lacks = lacking(file.read())
-    if lacks:
-        fail(f'the processor lacks {" ".join(lacks)}: take cpu=x86-64-v3 out of crates.txt')
     os.makedirs(os.path.dirname(BUILT), exist_ok=True)
     with open(BUILT + '.lock', 'w') as lock:
         try:

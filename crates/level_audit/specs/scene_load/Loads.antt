@@ -11,6 +11,7 @@ use Rattle.art_rules.specs.Books.{book_lumps}
 use Rattle.command_line.specs.LevelJobs.{LevelJobValue}
 use Rattle.refusals.specs.declared.refusal.Refusal.{Refusal}
 use Rattle.job_files.specs.Files.{FilesValue, files_in, value_of}
+use Rattle.job_files.specs.Sizes.{wad_contents}
 use Rattle.outside.specs.Stops.{Stop, no_file}
 use Rattle.scene_rules.specs.declared.ZoneSizes.{ZoneSizes}
 use Rattle.scene_rules.specs.declared.refusal.AuditRefusal.{AuditRefusal}
