@@ -5,7 +5,8 @@ command at a time into a checkout, and takes what another checkout has built. Of
 those with the most above them go first. The last crates, which stand on all others, are built in the
 repository itself, each with all processors. Where rt cannot share what it builds, since nothing can be
 written beside it, `rt all` does the same in the repository, and takes longer. The program gets its place,
-out/doomview, as the last step, so no half-built one is ever run.
+out/doomview, as the last step, so no half-built one is ever run; a build that is interrupted goes on where
+it was.
 
 Ends with 70 if the build fails, with 128 and the signal's number if a signal stops it, else with the
 program's status."""
@@ -112,6 +113,18 @@ def shares_work():
     return os.access(os.path.dirname(kit), os.W_OK)
 
 
+def copy_sources(top):
+    """Copies the sources beside what an interrupted build may have left in their folders out/."""
+    crates = os.path.join(top, 'crates')
+    for crate in os.listdir(crates) if os.path.exists(crates) else []:
+        for part in os.listdir(os.path.join(crates, crate)):
+            if part != 'out':
+                shutil.rmtree(os.path.join(crates, crate, part))
+    shutil.copytree(os.path.join(TOP, 'crates'), crates, ignore=shutil.ignore_patterns('out'), dirs_exist_ok=True)
+    for name in SOURCES:
+        shutil.copy(os.path.join(TOP, name), top)
+
+
 class Build:
     def __init__(self, crates):
         self.crates, self.jobs = crates, count_jobs()
@@ -166,10 +179,7 @@ class Build:
         return None
 
     def work(self, top, order):
-        shutil.copytree(os.path.join(TOP, 'crates'), os.path.join(top, 'crates'),
-                        ignore=shutil.ignore_patterns('out'))
-        for name in SOURCES:
-            shutil.copy(os.path.join(TOP, name), top)
+        copy_sources(top)
         while len(self.begun) < len(order) and not self.ended.is_set():
             crate = self.next_crate(order)
             if crate:
@@ -216,14 +226,13 @@ class Build:
             fail(*self.failure)
 
     def stop(self):
-        """Ends what still runs, and takes the copies away."""
+        """Ends what still runs."""
         with self.turn:
             self.end()
         for it in self.workers:
             it.join()
         for run in self.runs:
             run.wait()
-        shutil.rmtree(COPIES, ignore_errors=True)
 
 
 def put_in_place(began):
@@ -239,13 +248,13 @@ def build():
     crates = crates_below(PROGRAM)
     say(f'building: {len(crates)} crates are proved, side by side. The first time '
         'took 27 minutes on four processors that did nothing else')
-    shutil.rmtree(COPIES, ignore_errors=True)
     work = Build(crates)
     try:
         work.all_crates()
     finally:
         work.stop()
     put_in_place(began)
+    shutil.rmtree(COPIES, ignore_errors=True)
 
 
 def main():
