@@ -117,9 +117,9 @@ def copy_sources(top):
     """Copies the sources beside what an interrupted build may have left in their folders out/."""
     crates = os.path.join(top, 'crates')
     for crate in os.listdir(crates) if os.path.exists(crates) else []:
-        for part in os.listdir(os.path.join(crates, crate)):
-            if part != 'out':
-                shutil.rmtree(os.path.join(crates, crate, part))
+        for part in os.scandir(os.path.join(crates, crate)):
+            if part.name != 'out':
+                (shutil.rmtree if part.is_dir() else os.remove)(part.path)
     shutil.copytree(os.path.join(TOP, 'crates'), crates, ignore=shutil.ignore_patterns('out'), dirs_exist_ok=True)
     for name in SOURCES:
         shutil.copy(os.path.join(TOP, name), top)

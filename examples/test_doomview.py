@@ -91,6 +91,7 @@ class Doomview(unittest.TestCase):
             self.write(f'crates/{crate}/src/lib.rt', '')
         self.write('crates.txt', CRATES)
         self.write('HANDLES', '')
+        self.write('crates/doomview/args', '')
         for folder in ('bin', 'opt/kit/bin', 'opt/rattle-kept'):
             os.makedirs(self.at(folder))
         for name in COMMANDS:
