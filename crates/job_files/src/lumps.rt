@@ -12,31 +12,6 @@ use outside::{Failed, Shelf};
 use std::alloc::Global;
 use wad_dir::{Directory, LumpNo};
 
-// The first bytes of a lump, so many of them.
-pub fn read_front<S: Shelf>(
-    alloc: Global,
-    shelf: &mut S,
-    dir: &Directory,
-    lump: LumpNo,
-    size: usize,
-) -> Result<Vec<u8>, LoadFault>
-    requires lump { lump.0 < length dir.now.lumps }
-    requires within { size ≤ (lump_at dir.now.lumps lump.0).size }
-    ensures answers { (contents : List (List ℕ)) →
-        NameFiles (S.view shelf.old) dir.now.files contents → AllWithin contents dir.now.lumps →
-        ResultIs itself (S.view shelf.old).steady (λ piece. piece.items)
-        (Ok (take size (lump_bytes contents dir.now.lumps lump.0))) result }
-    ensures size { IfOk result (λ piece. length piece.items ≡ size) }
-    ensures full { IsNeverFull result }
-    ensures follows { IsLaterShelf (S.view shelf.old) (S.view shelf.new) }
-    ensures causes { HasCauses itself
-        (S.view shelf.old).faults (S.view shelf.new).faults result }
-{
-    let mut piece = vec![in alloc; 0; size]?;
-    fill_front(shelf, dir, lump, &mut piece)?;
-    Ok(piece)
-}
-
 // Fills a piece with the first bytes of a lump. For an empty piece the shelf is not called.
 fn fill_front<S: Shelf>(
     shelf: &mut S,
@@ -60,6 +35,31 @@ fn fill_front<S: Shelf>(
         return Ok(());
     }
     shelf.read_at(dir.file(lump), dir.place(lump) as u64, piece)
+}
+
+// The first bytes of a lump, so many of them.
+pub fn read_front<S: Shelf>(
+    alloc: Global,
+    shelf: &mut S,
+    dir: &Directory,
+    lump: LumpNo,
+    size: usize,
+) -> Result<Vec<u8>, LoadFault>
+    requires lump { lump.0 < length dir.now.lumps }
+    requires within { size ≤ (lump_at dir.now.lumps lump.0).size }
+    ensures answers { (contents : List (List ℕ)) →
+        NameFiles (S.view shelf.old) dir.now.files contents → AllWithin contents dir.now.lumps →
+        ResultIs itself (S.view shelf.old).steady (λ piece. piece.items)
+        (Ok (take size (lump_bytes contents dir.now.lumps lump.0))) result }
+    ensures size { IfOk result (λ piece. length piece.items ≡ size) }
+    ensures full { IsNeverFull result }
+    ensures follows { IsLaterShelf (S.view shelf.old) (S.view shelf.new) }
+    ensures causes { HasCauses itself
+        (S.view shelf.old).faults (S.view shelf.new).faults result }
+{
+    let mut piece = vec![in alloc; 0; size]?;
+    fill_front(shelf, dir, lump, &mut piece)?;
+    Ok(piece)
 }
 
 // All bytes of a lump.
