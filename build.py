@@ -29,8 +29,6 @@ BUILD_FAILED = 70
 CRATE_MEMORY = 2 << 30  # bytes, about what the proof of a crate takes
 SHOWN_LINES = 60  # of what rt said of a crate that failed
 DEAR = ('command_line', 'level_audit', 'doom_run')  # whose proof takes twice as long a line as others'
-NEWER = '--cpu=x86-64-v3'  # for a processor that has all of these, in the words of /proc/cpuinfo
-NEEDED = {'abm', 'avx2', 'bmi1', 'bmi2', 'f16c', 'fma', 'movbe'}
 STOPS = (signal.SIGINT, signal.SIGTERM, signal.SIGHUP)
 IGNORED = (signal.SIGPIPE, signal.SIGXFSZ)  # by Python, and not by the program
 
@@ -43,12 +41,6 @@ def fail(text, said=()):
     sys.stderr.writelines(said[-SHOWN_LINES:])
     say(text)
     sys.exit(BUILD_FAILED)
-
-
-def compiled_for(cpuinfo):
-    """What rt is told of the processor that the program is compiled for, by the text of /proc/cpuinfo."""
-    found = re.search(r'^flags\s*:(.*)$', cpuinfo, re.M)
-    return [NEWER] if found and NEEDED <= {*found[1].split()} else []
 
 
 def crates_below(name):
@@ -217,9 +209,7 @@ class Build:
             self.by_rt()
         for crate in self.crates:
             if crate == PROGRAM:
-                with open('/proc/cpuinfo') as file:
-                    words = compiled_for(file.read())
-                self.make(TOP, crate, 'run', *jobs, *words, '--', 'make', 'things')
+                self.make(TOP, crate, 'run', *jobs, '--', 'make', 'things')
             elif crate not in self.done:
                 self.make(TOP, crate, 'lib', *jobs)
         if self.failure:
@@ -247,7 +237,7 @@ def build():
     began = time.time()
     crates = crates_below(PROGRAM)
     say(f'building: {len(crates)} crates are proved, side by side. The first time '
-        'took 27 minutes on four processors that did nothing else')
+        'took 25 minutes on four processors that did nothing else')
     work = Build(crates)
     try:
         work.all_crates()

@@ -157,7 +157,7 @@ class Doomview(unittest.TestCase):
         builds = [line for line in calls if line.startswith('build ')]
         self.assertEqual(sorted(builds), sorted(f'build {it}' for it in [*ORDER, 'program']))
         self.assertEqual([calls[0], calls[-2]], ['low: lib --jobs 1', 'build doomview'])
-        self.assertRegex(calls[-3], 'doomview: run --jobs [0-9]+ (--cpu=x86-64-v3 )?-- make things')
+        self.assertRegex(calls[-3], 'doomview: run --jobs [0-9]+ -- make things')
         self.assertEqual({'left: lib --jobs 1', 'right: lib --jobs 1'} - {*calls}, set())
 
     def test_unshared(self):
@@ -223,12 +223,6 @@ class Doomview(unittest.TestCase):
         run = subprocess.run([sys.executable, '-c', words], cwd=self.folder, capture_output=True, text=True, check=True)
         above = {'doomview': 10, 'high': 20, 'right': 50, 'left': 35, 'low': 60}
         self.assertEqual(run.stdout, f"{above} ['high', 'doomview']\n")
-
-    def test_processor(self):
-        """A processor that has all that is asked for gets what is compiled for it, and another what all run."""
-        words = r'import build; print(*(build.compiled_for(it) for it in ("flags\t: sse avx2", "x\nflags : a " + " ".join(build.NEEDED), "")))'
-        run = subprocess.run([sys.executable, '-c', words], cwd=self.folder, capture_output=True, text=True, check=True)
-        self.assertEqual(run.stdout, "[] ['--cpu=x86-64-v3'] []\n")
 
     def test_two_at_once(self):
         runs = [self.start(word) for word in ('one', 'two')]
