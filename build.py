@@ -171,13 +171,18 @@ class Build:
         return None
 
     def work(self, top, order):
-        copy_sources(top)
-        while len(self.begun) < len(order) and not self.ended.is_set():
-            crate = self.next_crate(order)
-            if crate:
-                self.make(top, crate, 'lib', '--jobs', '1')
-            else:
-                self.ended.wait(0.1)
+        """Builds crates in a copy as long as some have not begun."""
+        try:
+            copy_sources(top)
+            while len(self.begun) < len(order) and not self.ended.is_set():
+                crate = self.next_crate(order)
+                if crate:
+                    self.make(top, crate, 'lib', '--jobs', '1')
+                else:
+                    self.ended.wait(0.1)
+        except OSError as error:
+            with self.turn:
+                self.fail(f'the build failed: {error}', [])
 
     def side_by_side(self, last):
         above = lines_above(self.crates)

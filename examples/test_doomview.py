@@ -192,6 +192,16 @@ class Doomview(unittest.TestCase):
             self.assertIn(f'proving {crate}', error)
         self.builds()
 
+    def test_no_room(self):
+        """Where the sources cannot be copied, the build says so."""
+        os.makedirs(self.at('out/copies'))
+        self.write('out/copies/0', '')
+        status, output, error = self.runs('make')
+        self.assertEqual((status, output), (70, ''))
+        self.assertRegex(error, 'doomview: the build failed: .*out/copies/0')
+        os.remove(self.at('out/copies/0'))
+        self.builds()
+
     def test_interrupt(self):
         for stop, crate in [(signal.SIGTERM, 'right'), (signal.SIGINT, 'high'), (signal.SIGTERM, 'program')]:
             run = self.start('make', WAITS=crate)
