@@ -29,7 +29,8 @@ use zone_heap::{Tag, ZoneFull};
 // no memory.
 //
 // Errors: `ZoneFull` where no gap of the zone held the block of the composite or of a patch,
-// `ReadFault` where a call of the shelf failed.
+// `ReadFault` where a call of the shelf failed. Not inlined, since it is seldom called.
+#[inline(never)]
 pub(crate) fn build_composite<S: Shelf>(
     texture: &PreparedTexture,
     number: u32,

@@ -1,5 +1,5 @@
 -- Laws of the columns of a fragment as they are painted one by one.
-use Rattle.std.proofs.Common.{◌≡◌, ◌≢◌, ℕ, zero, suc, ◌+◌, ◌-◌, ◌<◌, ◌≤◌, ℤ, pos, ◌≤ℤ◌, ◌<ℤ◌, List, [], ◌∷◌, ◌++◌, length, Result, Ok, Err, OnOk, IsErrAnd, refl, ap, sym, ◌∙◌, subst, inl, inr, arith}
+use Rattle.std.proofs.Common.{◌≡◌, ◌≢◌, Bool, cond, ℕ, zero, suc, ◌+◌, ◌-◌, ◌<◌, ◌≤◌, ℤ, pos, ◌≤ℤ◌, ◌<ℤ◌, List, [], ◌∷◌, ◌++◌, length, Result, Ok, Err, OnOk, IsErrAnd, refl, ap, sym, ◌∙◌, subst, inl, inr, arith}
 use Rattle.std.specs.Prelude.{map}
 use Rattle.std.specs.List.{All, AllByRecursion, range_with_len}
 use Rattle.std.proofs.lemmas.List.Elements.{recursion_from_All}
@@ -27,7 +27,8 @@ use Rattle.picture_rules.specs.wall.Columns.{texture_column}
 use Rattle.picture_rules.specs.wall.Edges.{edges_at}
 use Rattle.picture_rules.specs.wall.Numbers.{fragment_numbers}
 use Rattle.picture_rules.specs.wall.Walls.{Wall, wall_of, wall_edges, clip_before}
-use Rattle.picture_rules.specs.wall.Strips.{WallStrip, strip_dots, wall_strips, wall_column_by, wall_column, wall_dots}
+use Rattle.picture_rules.specs.wall.Clips.{middle_rows, top_rows, bottom_rows}
+use Rattle.picture_rules.specs.wall.Strips.{WallStrip, strip_of, strip_dots, wall_strips, wall_column_by, wall_column, wall_dots}
 use Rattle.wall_edges.specs.Fragments.{FragmentValue, fragment_of}
 use Rattle.pixel_strips.specs.Canvases.{CanvasView}
 use Rattle.pixel_strips.specs.Dotted.{HasDots, PlacedAlike}
@@ -41,7 +42,7 @@ use Rattle.wall_columns.specs.declared.clips.ColumnPlan.{ColumnPlan}
 use Rattle.wall_columns.specs.declared.fault.DrawFault.{DrawFault}
 use Rattle.wall_columns.specs.Draws.{IsNoPicture, IsWallTexture}
 use Rattle.wall_columns.specs.Faults.{draw_fault}
-use Rattle.wall_columns.specs.Plans.{IsPartTexture, IsPlanTexture, plan_of, strips_by, HasRows, IsInRows, AreEdgeWords}
+use Rattle.wall_columns.specs.Plans.{IsBare, IsPartTexture, IsPlanTexture, plan_of, strips_by, HasRows, IsInRows, AreEdgeWords}
 use Rattle.wall_columns.specs.Windows.{IsClipIn}
 use Rattle.wall_columns.specs.Columns.{column_edges, columns_of}
 use Rattle.wall_columns.specs.Drawn.{IsDrawnTexture, column_painted, dots_along, CanPaint, PaintsColumns}
@@ -77,6 +78,40 @@ unfolding dots_along
 paints_columns-none v dir textures colormap mark k f before view z canvas = record {
   painted = λ facts first last contents count is hold. has_dots-none mark canvas;
   fits = λ facts first last contents count is hold. fit_beside-none dir.lumps textures colormap count z.size;
+  draws = draws-none view dir textures z tt;
+  place = placed-none canvas;
+}
+
+-- a fragment without a texture has no strip, and so no dot
+bare_strips : (n : FragmentNumbers) (clip : ColumnClip) (e : Edges) → IsBare n → wall_strips n clip e ≡ []
+unfolding wall_strips strip_of
+bare_strips n clip e h =
+    ap (λ (b : Bool). cond b (strip_of n.middle_part (middle_rows clip e)) (strip_of n.top_part (top_rows clip e) ++ strip_of n.bottom_part (bottom_rows n clip e))) h.0
+    ∙ ap (λ (b : Bool). cond b (record { part = n.top_part; rows = top_rows clip e } ∷ []) [] ++ strip_of n.bottom_part (bottom_rows n clip e)) h.1.0
+    ∙ ap (λ (b : Bool). cond b (record { part = n.bottom_part; rows = bottom_rows n clip e } ∷ []) []) h.1.1
+
+bare_column : (v : ViewValue) (art : Art) (k : ℕ) (f : FragmentValue) (facts : WallFacts) (before : ℕ → ColumnClip) (x : ℕ) → IsBare f.numbers → column_painted v art k f facts before x ≡ []
+unfolding column_painted joined_lists
+bare_column v art k f facts before x h =
+    ap (joined_lists (strip_dots v art k x f.numbers.light (texture_column v facts x) (column_edges f x).scale)) (bare_strips f.numbers (before x) (column_edges f x) h)
+
+bare_along : (column : ℕ → List Dot) (first n : ℕ) → ((x : ℕ) → column x ≡ []) → [] ≡ dots_along column first n
+unfolding dots_along
+bare_along column first zero h = refl
+bare_along column first (suc n) h = ap (λ (ds : List Dot). ds ++ []) (bare_along column first n h) ∙ ap (λ (ds : List Dot). dots_along column first n ++ ds) (sym (h (first + n)))
+
+-- so nothing is painted of it
+pub paints_columns-bare : (v : ViewValue) (dir : DirectoryView) (textures : TexturesView) (colormap : ℕ) (mark : Painter → ℕ → ℕ) (k : ℕ) (f : FragmentValue) (before : ℕ → ColumnClip) (n : ℕ)
+    (view : ShelfView) (z : Heap) (canvas : CanvasView) → IsBare f.numbers → PaintsColumns v dir textures colormap mark k f before n view view z z canvas canvas (Ok tt)
+paints_columns-bare v dir textures colormap mark k f before n view z canvas h = record {
+  painted = λ facts first last contents count is hold.
+      has_dots-as (bare_along (column_painted v (view_art (lump_bytes contents dir.lumps) textures colormap) k f facts before) f.first n
+      (λ x. bare_column v (view_art (lump_bytes contents dir.lumps) textures colormap) k f facts before x h))
+      (has_dots-none mark canvas);
+  fits = λ facts first last contents count is hold.
+      fit_beside-as dir.lumps textures colormap count z.size (bare_along (column_painted v (view_art (lump_bytes contents dir.lumps) textures colormap) k f facts before) f.first n
+      (λ x. bare_column v (view_art (lump_bytes contents dir.lumps) textures colormap) k f facts before x h))
+      (fit_beside-none dir.lumps textures colormap count z.size);
   draws = draws-none view dir textures z tt;
   place = placed-none canvas;
 }

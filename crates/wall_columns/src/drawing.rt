@@ -6,6 +6,7 @@ ghost use Rattle.wall_columns.specs.Windows.{window_at};
 ghost use Rattle.wall_columns.specs.Columns.{plane_number, columns_of, HasMarked, HasSaved, ArePlacesIn};
 ghost use Rattle.wall_columns.specs.Drawn.{CanPaint, PaintsColumns};
 
+use crate::clips::has_part;
 use crate::column_state::{ColumnState, save_column};
 use crate::fault::DrawFault;
 use crate::notes::SavePlaces;
@@ -17,7 +18,8 @@ use pixel_strips::Canvas;
 use wall_edges::{Fragment, Stepper};
 
 impl ColumnState {
-    /// Marks, paints and saves the columns of fragment `number`, from left to right.
+    /// Marks, paints and saves the columns of fragment `number`, from left to right. One without a
+    /// texture paints nothing.
     pub fn draw_columns<S: Shelf, C: Canvas>(
         &mut self,
         tools: &mut WallTools<'_, S, C>,
@@ -53,6 +55,10 @@ impl ColumnState {
         ensures room { self.new.openings.room ≡ self.old.openings.room }
         ensures planes_room { tools.new.planes.now.room ≡ tools.old.planes.now.room }
     {
+        if !has_part(numbers) {
+            self.count_columns(tools.view, tools.planes, fragment, numbers, places);
+            return Ok(());
+        }
         let mut stepper = Stepper::new(fragment);
         let mut k: u32 = 0;
         loop {

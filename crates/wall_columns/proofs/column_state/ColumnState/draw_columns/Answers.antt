@@ -3,6 +3,7 @@ use Rattle.std.proofs.Common.{◌≡◌, ◌<◌, ◌+◌, ℕ, length, ap, sym,
 use Rattle.view_rules.specs.View.{ViewValue}
 use Rattle.view_rules.specs.declared.TheConstants.{FRAME_WIDTH}
 use Rattle.picture_rules.specs.declared.wall.Edges.{Edges}
+use Rattle.picture_rules.specs.declared.wall.FragmentNumbers.{FragmentNumbers}
 use Rattle.picture_rules.specs.declared.wall.WallFacts.{WallFacts}
 use Rattle.picture_rules.specs.wall.Columns.{texture_column}
 use Rattle.picture_rules.specs.wall.Edges.{edges_at}
@@ -10,13 +11,21 @@ use Rattle.visplanes.specs.Planes.{PlanesView}
 use Rattle.wall_edges.specs.Fragments.{FragmentValue, fragment_of}
 use Rattle.wall_columns.specs.declared.column_state.ColumnState.{ColumnState}
 use Rattle.wall_columns.specs.Columns.{columns_of, HasMarked}
-use Rattle.wall_columns.specs.Plans.{AreEdgeWords}
+use Rattle.wall_columns.specs.Plans.{AreEdgeWords, IsBare}
 use Rattle.wall_columns.specs.Saved.{OpeningsView, column_saved}
 use Rattle.wall_columns.specs.Windows.{window_at}
 use Rattle.wall_columns.proofs.ClipLemmas.{edges_at-words}
-use Rattle.wall_columns.proofs.DrawnLemmas.{can_paint-later, can_paint-over, paints_columns-none, paints_columns-more, paints_columns-stop, paints_columns-count, paints-column, paints_column-over, strips-in, strips-drawn}
+use Rattle.wall_columns.proofs.DrawnLemmas.{can_paint-later, can_paint-over, paints_columns-bare, paints_columns-none, paints_columns-more, paints_columns-stop, paints_columns-count, paints-column, paints_column-over, strips-in, strips-drawn}
 use Rattle.wall_columns.proofs.MarkLemmas.{has_marked-none, has_marked-more, has_saved-none, has_saved-more, passes-column, passes-as, column-after, window_is, edges_are, height_of}
 use Rattle.wall_columns.proofs.column_state.ColumnState.draw_columns.Goals as goal
+
+-- a fragment without a texture paints nothing
+pub returns-then-not-has_part-clause-paints : goal.returns-then-not-has_part-clause-paints
+returns-then-not-has_part-clause-paints g c =
+    let P : FragmentNumbers → Type 0 = IsBare in
+    let start = c.args.tools.now in
+    paints_columns-bare start.view.now start.dir.now start.textures.now start.colormap.0 g.C.Canvas.mark c.args.number c.args.fragment.now (window_at c.args.self.now.windows) (columns_of c.args.fragment.now)
+    (g.S.Shelf.view start.shelf.now) start.cache.now (g.C.Canvas.view start.canvas.now) (subst P c.requires.numbers (c.has_part.ensures c.if-not-has_part.true))
 
 pub loop-edges-init : goal.loop-edges-init
 loop-edges-init g c = record {
