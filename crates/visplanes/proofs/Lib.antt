@@ -1,5 +1,6 @@
 pub mod ColumnLemmas
 pub mod ListLemmas
+pub mod RecentLemmas
 pub mod RunLemmas
 pub mod RowLemmas
 pub mod DotLemmas

@@ -1,8 +1,8 @@
 -- What a contract sees of planes: their list, and the room that was taken for them.
-use Rattle.std.specs.Prelude.{ℕ, pos, List, slice_index_or}
+use Rattle.std.specs.Prelude.{◌≡◌, ℕ, ◌-◌, ◌<◌, ◌≤◌, pos, List, Some, length, slice_index_or}
 use Rattle.picture_rules.specs.declared.plane.Flat4.{Flat4}
 use Rattle.picture_rules.specs.declared.plane.Flat4.TheVariants.{Sky, Lump}
-use Rattle.picture_rules.specs.plane.Planes.{Plane, empty_plane}
+use Rattle.picture_rules.specs.plane.Planes.{Plane, empty_plane, number_of}
 
 pub record PlanesView : Type 0 where
   pub planes : List Plane
@@ -18,6 +18,11 @@ no_plane = empty_plane (record { height = pos 0; flat = Sky; light = pos 0 })
 -- plane number n
 abbrev pub plane_at : List Plane → ℕ → Plane
 plane_at planes n = slice_index_or planes n no_plane
+
+-- plane n is the first of its key, and n is 0 where there is no plane
+pub record IsFirst (planes : List Plane) (n : ℕ) : Type 0 where
+  pub within : n ≤ length planes - 1
+  pub first : n < length planes → number_of planes (plane_at planes n).key ≡ Some n
 
 -- the lump of a flat, 0 where it is the sky
 abbrev pub flat_lump : Flat4 → ℕ

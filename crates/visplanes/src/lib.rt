@@ -3,8 +3,9 @@
 //! Rules: `picture_rules/plane`, Planes, Spans and Floors. Proved: each call is its definition, and
 //! `PlanesFull` comes exactly where a new plane is wanted and there is no room for one; a canvas is
 //! given exactly a plane's pixels, each by the fractions of its span's first column. How a plane
-//! keeps its runs (`specs/Columns`) and that spans are opened and closed from column to column are
-//! the code's own ways. Tested only: that memory is found. The original: r_plane.c.
+//! keeps its runs (`specs/Columns`), that the two planes found last are looked at first, and that
+//! spans are opened and closed from column to column are the code's own ways. Tested only: that
+//! memory is found. The original: r_plane.c.
 #![tactic(auto)]
 
 mod columns;

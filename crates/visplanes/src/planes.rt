@@ -1,11 +1,12 @@
 // The planes of a view.
-ghost use Rattle.std.specs.Prelude.{◌≡◌, ℕ, ◌+◌, ◌<◌, ◌≤◌, ◌↔◌, true, [], None, length, position, IfOk, IfErr, IfSome, IsErr, OnOk, OnErr};
+ghost use Rattle.std.specs.Prelude.{◌≡◌, ℕ, ◌+◌, ◌<◌, ◌≤◌, ◌↔◌, true, Some, [], None, length, position, IfOk, IfErr, IfSome, IsErr, OnOk, OnErr};
 ghost use Rattle.view_rules.specs.declared.TheConstants.{FRAME_WIDTH, FRAME_HEIGHT};
 ghost use Rattle.picture_rules.specs.declared.plane.TheConstants.{MOST_VISPLANES};
+ghost use Rattle.picture_rules.specs.plane.Keys.{same_key};
 ghost use Rattle.picture_rules.specs.plane.Planes.{find, check, mark, add, column, number_of, AreWide};
 ghost use Rattle.picture_rules.specs.plane.Spans.{holds, row_runs};
 ghost use Rattle.visplanes.specs.Full.{StaysFull};
-ghost use Rattle.visplanes.specs.Planes.{PlanesView, with_planes, plane_at};
+ghost use Rattle.visplanes.specs.Planes.{PlanesView, with_planes, plane_at, IsFirst};
 
 use crate::columns::Visplane;
 use crate::keys::same_key;
@@ -34,13 +35,17 @@ pub struct PlanesFull {
 pub struct Planes {
     planes: Vec<Visplane>,
     count: usize,
+    // The planes that `find` gave last since `clear`, the later one first, and 0 for each that it
+    // did not give yet. Each is the first of its key where there is such a plane.
+    recent: usize,
+    older: usize,
 }
 
 impl Model for Planes {
     ghost use Rattle.std.specs.Prelude.{take, length, ◌≤◌};
     ghost use Rattle.picture_rules.specs.declared.plane.TheConstants.{MOST_VISPLANES};
     ghost use Rattle.picture_rules.specs.plane.Planes.{AreWide};
-    ghost use Rattle.visplanes.specs.Planes.{PlanesView};
+    ghost use Rattle.visplanes.specs.Planes.{PlanesView, IsFirst};
 
     ghost Value = { PlanesView };
 
@@ -50,7 +55,9 @@ impl Model for Planes {
     } };
 
     ghost invariant = { λ p. (p.count ≤ length p.planes.items)
-        × (length p.planes.items ≤ MOST_VISPLANES) × AreWide p.planes.items };
+        × (length p.planes.items ≤ MOST_VISPLANES) × AreWide p.planes.items
+        × IsFirst (take p.count p.planes.items) p.recent
+        × IsFirst (take p.count p.planes.items) p.older };
 }
 
 impl Planes {
@@ -66,7 +73,12 @@ impl Planes {
         ensures { IfOk result (λ planes. planes ≡ record { planes = []; room = room }) }
     {
         let planes = blank_planes(alloc, room as usize)?;
-        Ok(Planes { planes, count: 0 })
+        Ok(Planes {
+            planes,
+            count: 0,
+            recent: 0,
+            older: 0,
+        })
     }
 
     /// How many planes there are.
@@ -86,12 +98,14 @@ impl Planes {
         ensures { self.new ≡ with_planes [] self.old }
     {
         self.count = 0;
+        self.recent = 0;
+        self.older = 0;
     }
 
     /// The first plane of equal key, or else a new one behind the others with no column marked.
     ///
-    /// `key.height` is in map units, 16.16 fixed point. Linear in the planes there are. Takes no
-    /// memory.
+    /// `key.height` is in map units, 16.16 fixed point. Linear in the planes there are; the two
+    /// planes that it gave last are looked at first. Takes no memory.
     ///
     /// Errors: `PlanesFull` exactly where a new plane is wanted and the room is full; the count is
     /// the room and one. Nothing changes then.
@@ -106,10 +120,12 @@ impl Planes {
         ensures count { IfErr result (λ e. e.count ≡ self.old.room + 1) }
         ensures err { OnErr result (self.new ≡ self.old) }
     {
-        match self.number_of(key) {
-            Some(number) => Ok(PlaneNo(number as u16)),
-            None => self.add(key),
+        if let Some(number) = self.recent_of(key) {
+            return Ok(PlaneNo(number as u16));
         }
+        let plane = self.search_or_add(key)?;
+        self.remember(plane);
+        Ok(plane)
     }
 
     /// The plane itself where none of its columns `first` to `last` is marked, else a new plane of
@@ -208,6 +224,53 @@ impl Planes {
         ensures { result.now ≡ plane_at self.now.planes plane.0 }
     {
         &self.planes[plane.0 as usize]
+    }
+
+    // The number of the first plane of equal key, where it is one of the two that `find` gave last.
+    fn recent_of(&self, key: PlaneKey) -> Option<usize>
+        ensures value { IfSome result (λ number. number_of self.now.planes key ≡ Some number) }
+        ensures small { IfSome result (λ number. number < MOST_VISPLANES) }
+        ensures room { length self.now.planes ≤ self.now.room }
+    {
+        if self.has_key(self.recent, key) {
+            return Some(self.recent);
+        }
+        if self.has_key(self.older, key) {
+            return Some(self.older);
+        }
+        None
+    }
+
+    // Whether the plane of that number is there and has that key.
+    fn has_key(&self, number: usize, key: PlaneKey) -> bool
+        ensures within { result ≡ true → number < length self.now.planes }
+        ensures key { result ≡ true → same_key (plane_at self.now.planes number).key key ≡ true }
+    {
+        number < self.count && same_key(self.planes[number].key(), key)
+    }
+
+    // Lets a plane that `find` gives be the one that it gave last.
+    fn remember(&mut self, plane: PlaneNo)
+        requires { IsFirst self.old.planes plane.0 }
+        ensures { self.new ≡ self.old }
+    {
+        self.older = self.recent;
+        self.recent = plane.0 as usize;
+    }
+
+    // The first plane of equal key, or else a new one, whatever `find` gave last.
+    fn search_or_add(&mut self, key: PlaneKey) -> Result<PlaneNo, PlanesFull>
+        ensures ok { OnOk result
+            (self.new ≡ with_planes (find self.old.planes key).planes self.old) }
+        ensures number { IfOk result (λ plane. plane.0 ≡ (find self.old.planes key).number) }
+        ensures within { IfOk result (λ plane. plane.0 < length self.new.planes) }
+        ensures full { IsErr result ↔ (self.old.room < length (find self.old.planes key).planes) }
+        ensures refused { StaysFull self.old self.new result }
+    {
+        match self.number_of(key) {
+            Some(number) => Ok(PlaneNo(number as u16)),
+            None => self.add(key),
+        }
     }
 
     // The number of the first plane of equal key.

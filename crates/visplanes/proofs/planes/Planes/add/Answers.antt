@@ -2,6 +2,7 @@ use Rattle.std.proofs.Common.{ap, ◌∙◌, arith}
 use Rattle.std.proofs.Common.{length, length-set}
 use Rattle.picture_rules.specs.plane.Planes.{Plane}
 use Rattle.visplanes.proofs.ListLemmas.{wide-put, length-empty_plane}
+use Rattle.visplanes.proofs.RecentLemmas.{first-put_next}
 use Rattle.visplanes.proofs.planes.Planes.add.Goals as goal
 
 pub invariant_of-self : goal.invariant_of-self
@@ -10,4 +11,6 @@ invariant_of-self c =
       omega (arith, length-set {A = Plane}),
       omega (arith, length-set {A = Plane}),
       wide-put i.planes.items i.count c.reset.new.self (ap (λ (p : Plane). length p.runs) c.reset.ensures ∙ length-empty_plane c.args.key) c.self.invariant.2,
+      first-put_next i.planes.items i.count i.recent c.reset.new.self (omega arith) c.self.invariant.3,
+      first-put_next i.planes.items i.count i.older c.reset.new.self (omega arith) c.self.invariant.4,
     )
