@@ -123,7 +123,6 @@ impl LumpCache {
     /// `fetch_..` in `proofs/FetchLemmas`.
     ///
     /// The original: `W_CacheLumpNum`, w_wad.c.
-    #[inline(never)]
     pub fn fetch<S: Shelf>(
         &mut self,
         shelf: &mut S,

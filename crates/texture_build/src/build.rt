@@ -29,8 +29,7 @@ use zone_heap::{Tag, ZoneFull};
 // no memory.
 //
 // Errors: `ZoneFull` where no gap of the zone held the block of the composite or of a patch,
-// `ReadFault` where a call of the shelf failed. Not inlined, since it is seldom called.
-#[inline(never)]
+// `ReadFault` where a call of the shelf failed.
 pub(crate) fn build_composite<S: Shelf>(
     texture: &PreparedTexture,
     number: u32,

@@ -97,7 +97,6 @@ fn is_lump_live(cache: &LumpCache, lump: u16) -> bool
 }
 
 // Makes the composite of a texture live.
-#[inline(always)]
 fn ready_composite<S: Shelf>(
     texture: &PreparedTexture,
     number: u32,
@@ -120,7 +119,6 @@ fn ready_composite<S: Shelf>(
     build_composite(texture, number, dir, cache, shelf)
 }
 
-#[inline(always)]
 fn is_composite_live(cache: &LumpCache, number: u32) -> bool
     requires { number < cache.now.composites }
     ensures { result ≡ is_live cache.now.blocks (composite_owner number) }
