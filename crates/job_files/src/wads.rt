@@ -54,6 +54,7 @@ pub fn load_wads<S: Shelf>(
 /// what it stood for.
 ///
 /// The original: `W_InitMultipleFiles`, w_wad.c.
+#[tactic(auto, using(outside::proofs::ThroughLemmas::ok_through))]
 pub fn load_dir<S: Shelf>(
     alloc: Global,
     shelf: &mut S,

@@ -128,6 +128,7 @@ fn read_map<S: Shelf>(
 }
 
 // The label of the map and its level, with the faults of an audit.
+#[tactic(auto, using(outside::proofs::ThroughLemmas::ok_through))]
 fn read_labelled<S: Shelf>(
     alloc: Global,
     name: &Name8,
@@ -148,6 +149,7 @@ fn read_labelled<S: Shelf>(
 }
 
 // The lists of textures, none of which is prepared, with the faults of an audit.
+#[tactic(auto, using(outside::proofs::ThroughLemmas::ok_through, outside::proofs::ThroughLemmas::done_through))]
 fn load_lists<S: Shelf>(
     alloc: Global,
     dir: &Directory,

@@ -166,6 +166,7 @@ fn make_cache(alloc: Global, dir: &Directory, size: u32) -> Result<LumpCache, Lo
 }
 
 // The audit of the level, and the pictures of its weapon layers, with the faults of loading.
+#[tactic(auto, using(outside::proofs::ThroughLemmas::ok_through))]
 fn audit_level<S: Shelf>(
     alloc: Global,
     level: &LevelJob<'_>,

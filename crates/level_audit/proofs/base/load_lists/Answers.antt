@@ -1,4 +1,3 @@
-use Rattle.outside.proofs.ThroughLemmas.{done_through, ok_through}
 use Rattle.scene_rules.specs.declared.refusal.AuditRefusal.TheVariants.{Texture}
 use Rattle.scene_rules.specs.Scenes.{lists_in}
 use Rattle.level_audit.proofs.PartLemmas.{above_reads}
@@ -7,12 +6,3 @@ use Rattle.level_audit.proofs.base.load_lists.Goals as goal
 pub returns-clause-tells : goal.returns-clause-tells
 unfolding lists_in
 returns-clause-tells g c = above_reads Texture c.load.result c.map_err.result c.map_err.ensures.cases c.load.ensures.tells
-
-pub returns-clause-fits : goal.returns-clause-fits
-returns-clause-fits g c = done_through _ _ c.load.result c.map_err.result c.map_err.ensures.cases c.load.ensures.fits
-
-pub returns-clause-few : goal.returns-clause-few
-returns-clause-few g c = ok_through _ _ c.load.result c.map_err.result c.map_err.ensures.cases c.load.ensures.few
-
-pub returns-clause-unprepared : goal.returns-clause-unprepared
-returns-clause-unprepared g c = ok_through _ _ c.load.result c.map_err.result c.map_err.ensures.cases c.load.ensures.unprepared

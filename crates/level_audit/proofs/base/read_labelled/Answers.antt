@@ -6,11 +6,5 @@ use Rattle.level_audit.proofs.base.read_labelled.Goals as goal
 pub returns-clause-tells : goal.returns-clause-tells
 returns-clause-tells g c = above_reads Map c.read_level.result c.map_err.result c.map_err.ensures.cases c.read_level.ensures.tells
 
-pub returns-clause-label : goal.returns-clause-label
-returns-clause-label g c = ok_through _ _ c.read_level.result c.map_err.result c.map_err.ensures.cases c.read_level.ensures.label
-
-pub returns-clause-there : goal.returns-clause-there
-returns-clause-there g c = ok_through _ _ c.read_level.result c.map_err.result c.map_err.ensures.cases c.read_level.ensures.there
-
 pub returns-clause-fits : goal.returns-clause-fits
 returns-clause-fits g c = ok_through _ _ c.read_level.result c.map_err.result c.map_err.ensures.cases c.read_level.ensures.fits

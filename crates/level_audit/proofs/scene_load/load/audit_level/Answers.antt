@@ -1,5 +1,4 @@
 use Rattle.outside.specs.Faults.{itself}
-use Rattle.outside.proofs.ThroughLemmas.{ok_through}
 use Rattle.lump_rules.specs.Contents.{lump_bytes}
 use Rattle.zone_rules.specs.Orders.{KeepsOrder}
 use Rattle.command_line.specs.LevelJobs.{level_job_value}
@@ -15,33 +14,12 @@ pub returns-clause-answers : goal.returns-clause-answers
 returns-clause-answers g c contents told =
     answers_above itself of_audit (audited_in (lump_bytes contents c.args.files.now.dir.lumps) (level_job_value c.args.level.now) (value_of c.args.files.now)) c.audit_files.result c.map_err.result c.map_err.ensures.cases (c.audit_files.ensures.answers contents told)
 
-pub returns-clause-named : goal.returns-clause-named
-returns-clause-named g c = ok_through _ _ c.audit_files.result c.map_err.result c.map_err.ensures.cases c.audit_files.ensures.named
-
-pub returns-clause-sizes : goal.returns-clause-sizes
-returns-clause-sizes g c = ok_through _ _ c.audit_files.result c.map_err.result c.map_err.ensures.cases c.audit_files.ensures.sizes
-
 pub returns-clause-full : goal.returns-clause-full
 returns-clause-full g c contents told =
     fulls_above itself of_audit (IsFullOver (lump_bytes contents c.args.files.now.dir.lumps) (level_job_value c.args.level.now) (value_of c.args.files.now)) c.audit_files.result c.map_err.result c.map_err.ensures.cases (c.audit_files.ensures.full contents told)
 
-pub returns-clause-rest : goal.returns-clause-rest
-returns-clause-rest g c = ok_through _ _ c.audit_files.result c.map_err.result c.map_err.ensures.cases c.audit_files.ensures.rest
-
 pub returns-clause-causes : goal.returns-clause-causes
 returns-clause-causes g c = causes_above itself of_audit c.audit_files.result c.map_err.result c.map_err.ensures.cases c.audit_files.ensures.causes
-
-pub returns-clause-fits : goal.returns-clause-fits
-returns-clause-fits g c = ok_through _ _ c.audit_files.result c.map_err.result c.map_err.ensures.cases c.audit_files.ensures.fits
-
-pub returns-clause-whole : goal.returns-clause-whole
-returns-clause-whole g c = ok_through _ _ c.audit_files.result c.map_err.result c.map_err.ensures.cases c.audit_files.ensures.whole
-
-pub returns-clause-colormap : goal.returns-clause-colormap
-returns-clause-colormap g c = ok_through _ _ c.audit_files.result c.map_err.result c.map_err.ensures.cases c.audit_files.ensures.colormap
-
-pub returns-clause-fresh : goal.returns-clause-fresh
-returns-clause-fresh g c = ok_through _ _ c.audit_files.result c.map_err.result c.map_err.ensures.cases c.audit_files.ensures.fresh
 
 pub returns-clause-order : goal.returns-clause-order
 returns-clause-order g c contents expected told accepted order =
