@@ -1,5 +1,5 @@
 -- The parts of a region, one for each block, and the blocks that they are.
-use Rattle.std.proofs.Common.{◌≡◌, ℕ, zero, suc, ◌+◌, ◌<◌, ◌≤◌, Bool, true, false, cond, ◌&&◌, List, [], ◌∷◌, ◌++◌, length, take, drop, Some, None, refl, sym, subst, ap, ap₂, ◌∙◌, arith, one-add}
+use Rattle.std.proofs.Common.{◌≡◌, ℕ, zero, suc, ◌+◌, ◌-◌, ◌<◌, ◌≤◌, Bool, true, false, cond, ◌&&◌, List, [], ◌∷◌, ◌++◌, length, take, drop, Some, None, refl, sym, subst, ap, ap₂, ◌∙◌, arith, one-add}
 use Rattle.std.specs.Prelude.{◌==◌, ◌||◌, not, is_none, nat_le}
 use Rattle.std.specs.List.{position_or_len}
 use Rattle.std.proofs.lemmas.Bool.{cond-true, cond-false}
@@ -116,6 +116,10 @@ opened region at s lt h e = opened_word region at s lt h.size (ap (λ (x : Heade
 -- there is room for the header of a block
 pub head_fits : (region : List ℕ) (at : ℕ) → IsSplit region at → at < length region → at + 24 ≤ length region
 head_fits region at s lt = let o = opened_word region at s lt (word_at region at) refl in let l = o.large in let f = o.fits in omega arith
+
+-- less is left behind the block at a place
+pub less_left : (region : List ℕ) (at : ℕ) (s : IsSplit region at) → at < length region → (h : Header) → h ≡ header_in (drop at region) → length region - (at + h.size) < length region - at
+less_left region at s lt h e = let o = opened region at s lt h e in let l = o.large in let f = o.fits in omega arith
 
 -- a place at the region's end has no block
 pub nothing_left : (region : List ℕ) (at : ℕ) (s : IsSplit region at) → length region ≤ at → s.rest ≡ []

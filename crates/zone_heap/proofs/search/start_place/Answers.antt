@@ -3,7 +3,7 @@ use Rattle.std.specs.List.{position_or_len}
 use Rattle.std.proofs.lemmas.List.{length-append}
 use Rattle.zone_heap.specs.Regions.{blocks_from}
 use Rattle.zone_heap.specs.Walks.{starts_at}
-use Rattle.zone_heap.proofs.PartLemmas.{opened, head_fits, nothing_left, split_first, blocks_laid, starts_told, position_here, position_later}
+use Rattle.zone_heap.proofs.PartLemmas.{opened, less_left, head_fits, nothing_left, split_first, blocks_laid, starts_told, position_here, position_later}
 use Rattle.zone_heap.proofs.search.start_place.Goals as goal
 
 pub loop-at-init : goal.loop-at-init
@@ -19,11 +19,7 @@ starts_search-requires c =
     omega arith
 
 pub loop-at-smaller : goal.loop-at-smaller
-loop-at-smaller c =
-    let o = opened c.args.region.now c.loop-at.at c.loop-at.invariant.split c.loop-at-test.true c.header_at-header.result c.header_at-header.ensures in
-    let l = o.large in
-    let f = o.fits in
-    omega arith
+loop-at-smaller c = less_left c.args.region.now c.loop-at.at c.loop-at.invariant.split c.loop-at-test.true c.header_at-header.result c.header_at-header.ensures
 
 pub returns-then-starts_search : goal.returns-then-starts_search
 returns-then-starts_search c =
