@@ -1,5 +1,5 @@
 -- The zone's fields, and what its calls need and give back.
-use Rattle.std.proofs.Common.{◌≡◌, ℕ, ◌+◌, ◌-◌, ◌*◌, ◌/◌, ◌%◌, ◌<◌, ◌≤◌, Bool, true, false, cond, List, length, map, take, drop, ◌++◌, Global, Option, Some, None, refl, sym, subst, ap, ap₂, ◌∙◌, arith, option_map, inl, inr}
+use Rattle.std.proofs.Common.{◌≡◌, ℕ, ◌+◌, ◌-◌, ◌*◌, ◌/◌, ◌%◌, ◌<◌, ◌≤◌, true, false, List, length, map, take, drop, ◌++◌, Global, Option, Some, None, refl, sym, subst, ap, ap₂, ◌∙◌, arith, option_map, inl, inr}
 use Rattle.std.specs.Prelude.{◌==◌, ◌⊎◌, slice_index, slice_range, IsSome, option_and_then, vec_len, IsNone, is_some, not}
 use Rattle.std.proofs.lemmas.Bool.{false≢true, cases_eq, eq-eqb, ne_eqb}
 use Rattle.std.proofs.lemmas.List.{length-take, length-drop}
@@ -8,7 +8,7 @@ use Rattle.zone_rules.specs.declared.Tag.{Tag}
 use Rattle.zone_rules.specs.Zones.{Heap, Block, Holding, Owner, AllFit, IsSound, is_held_by, owner_at, owned_block, holding_of, slot_count, IsLive, bytes_of, same_owner}
 use Rattle.zone_rules.proofs.OwnerLemmas.{owned_apart}
 use Rattle.zone_rules.specs.Frees.{retag_block, write_block, with_bytes}
-use Rattle.zone_rules.proofs.ChangeLemmas.{with_bytes_sound}
+use Rattle.zone_rules.proofs.ChangeLemmas.{retag_keeps, with_bytes_sound, write_keeps}
 use Rattle.zone_heap.specs.declared.look.Span.{Span}
 use Rattle.zone_rules.proofs.OwnerLemmas.{owned_block-map, retag_held, write_held}
 use Rattle.zone_rules.proofs.SoundLemmas.{in_range_of}
@@ -35,23 +35,11 @@ home_map f places (Some b) = places b
 pub exact_map : (l : ℕ) (homes : List ℕ) (bs : List Block) (f : Block → Block) (stays : (o : Owner) (b : Block) → is_held_by o (f b) ≡ is_held_by o b) (places : (b : Block) → (f b).place ≡ b.place) → AreExact l homes bs → AreExact l homes (map f bs)
 exact_map l homes bs f stays places e = λ o s. e o s ∙ sym (ap home_of (owned_block-map o f (stays o) bs) ∙ home_map f places (owned_block o bs))
 
-retag_place : (p : Owner) (tag : Tag) (b : Block) → (retag_block p tag b).place ≡ b.place
-retag_place p tag b = go (is_held_by p b) where
-  go : (t : Bool) → (cond t (record b { holding = Rattle.zone_rules.specs.Frees.set_tag tag b.holding }) b).place ≡ b.place
-  go true = refl
-  go false = refl
-
-write_place : (p : Owner) (w : List ℕ) (b : Block) → (write_block p w b).place ≡ b.place
-write_place p w b = go (is_held_by p b) where
-  go : (t : Bool) → (cond t (record b { holding = Rattle.zone_rules.specs.Frees.write_holding w b.holding }) b).place ≡ b.place
-  go true = refl
-  go false = refl
-
 pub exact_tagged : (l : ℕ) (homes : List ℕ) (bs : List Block) (p : Owner) (tag : Tag) → AreExact l homes bs → AreExact l homes (map (retag_block p tag) bs)
-exact_tagged l homes bs p tag = exact_map l homes bs (retag_block p tag) (λ o. retag_held o p tag) (retag_place p tag)
+exact_tagged l homes bs p tag = exact_map l homes bs (retag_block p tag) (λ o. retag_held o p tag) (retag_keeps p tag).place
 
 pub exact_written : (l : ℕ) (homes : List ℕ) (bs : List Block) (p : Owner) (w : List ℕ) → AreExact l homes bs → AreExact l homes (map (write_block p w) bs)
-exact_written l homes bs p w = exact_map l homes bs (write_block p w) (λ o. write_held o p w) (write_place p w)
+exact_written l homes bs p w = exact_map l homes bs (write_block p w) (λ o. write_held o p w) (write_keeps p w).place
 
 held_some : (x : Option Block) → IsSome (option_and_then (λ (b : Block). b.holding) x) → IsSome x
 held_some None k = k
