@@ -216,6 +216,7 @@ pub record HasPassed (rover : ℕ) (region : List ℕ) (at : ℕ) : Type 0 where
   pub split : IsSplit region at
   pub value : position_or_len (starts_at rover) (blocks_in region) ≡ length split.front + position_or_len (starts_at rover) (blocks_from at split.rest)
 
+-- a search starts at the block of the place
 abbrev pub StartsAt : ℕ → List ℕ → ℕ → Type 0
 StartsAt rover region at = (s : IsSplit region at) × (length s.front ≡ position_or_len (starts_at rover) (blocks_in region))
 

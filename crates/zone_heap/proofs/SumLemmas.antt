@@ -8,6 +8,7 @@ use Rattle.zone_heap.specs.Headers.{block_in, header_in}
 use Rattle.zone_heap.specs.Regions.{blocks_in, blocks_from, IsLaid, IsSplit}
 use Rattle.zone_heap.proofs.PartLemmas.{opened, nothing_left, split_first, blocks_laid}
 
+-- the blocks of a sort before the place add up to `so`
 pub record IsSum (sort : Block → Bool) (region : List ℕ) (at so : ℕ) : Type 0 where
   pub split : IsSplit region at
   pub few : so ≤ at
@@ -28,6 +29,7 @@ module _ (sort : Block → Bool) (region : List ℕ) (at so : ℕ) (i : IsSum so
       let v = i.value in
       record { split = o.next; few = omega arith; value = omega arith }
 
+  -- the next sum is a word
   pub sum_small : at < length region → (h : Header) → h ≡ header_in (drop at region) → length region < 2 ^ 32 → (more : ℕ) → more ≤ h.size → so + more < 2 ^ 32
   sum_small lt h e small more most =
       let o = opened region at i.split lt h e in
@@ -35,5 +37,6 @@ module _ (sort : Block → Bool) (region : List ℕ) (at so : ℕ) (i : IsSum so
       let few = i.few in
       omega arith
 
+  -- at the end it is the sum of all blocks
   pub sum_all : length region ≤ at → so ≡ sum_by (λ x. cond (sort x) x.size 0) (blocks_in region)
   sum_all le = sym (i.value ∙ ap (λ cs. so + sum_by (λ x. cond (sort x) x.size 0) (blocks_from at cs)) (nothing_left region at i.split le) ∙ omega arith)
