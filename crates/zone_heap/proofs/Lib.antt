@@ -5,6 +5,7 @@ pub mod RunLemmas
 pub mod FullLemmas
 pub mod WordLemmas
 pub mod PartLemmas
+pub mod SumLemmas
 pub mod EditLemmas
 pub mod HomeLemmas
 pub mod PurgeLemmas

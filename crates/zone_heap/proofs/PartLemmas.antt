@@ -1,5 +1,5 @@
 -- The parts of a region, one for each block, and the blocks that they are.
-use Rattle.std.proofs.Common.{◌≡◌, ℕ, zero, suc, ◌+◌, ◌<◌, ◌≤◌, Bool, true, false, cond, ◌&&◌, List, [], ◌∷◌, ◌++◌, length, take, drop, Some, None, refl, sym, subst, ap, ap₂, ◌∙◌, arith, one-add}
+use Rattle.std.proofs.Common.{◌≡◌, ℕ, zero, suc, ◌+◌, ◌-◌, ◌<◌, ◌≤◌, Bool, true, false, cond, ◌&&◌, List, [], ◌∷◌, ◌++◌, length, take, drop, Some, None, refl, sym, subst, ap, ap₂, ◌∙◌, arith}
 use Rattle.std.specs.Prelude.{◌==◌, ◌||◌, not, is_none, nat_le}
 use Rattle.std.specs.List.{position_or_len}
 use Rattle.std.proofs.lemmas.Bool.{cond-true, cond-false}
@@ -10,7 +10,7 @@ use Rattle.zone_heap.specs.Headers.{word_at, header_in, block_in, live_in, code_
 use Rattle.zone_heap.specs.Regions.{joined, parts_in, blocks_from, blocks_in, AllWhole, IsLaid, IsSplit}
 use Rattle.zone_heap.proofs.WordLemmas.{word_in_front, word_from}
 use Rattle.zone_rules.specs.declared.Tag.{Tag}
-use Rattle.zone_rules.specs.Zones.{Block, Tiles, is_free, is_pinned, is_purgeable, is_purgeable_tag}
+use Rattle.zone_rules.specs.Zones.{Tiles, is_free, is_pinned, is_purgeable, is_purgeable_tag}
 
 pub joined-append : (xs ys : List (List ℕ)) → joined (xs ++ ys) ≡ joined xs ++ joined ys
 joined-append [] ys = refl
@@ -117,6 +117,10 @@ opened region at s lt h e = opened_word region at s lt h.size (ap (λ (x : Heade
 pub head_fits : (region : List ℕ) (at : ℕ) → IsSplit region at → at < length region → at + 24 ≤ length region
 head_fits region at s lt = let o = opened_word region at s lt (word_at region at) refl in let l = o.large in let f = o.fits in omega arith
 
+-- less is left behind the block at a place
+pub less_left : (region : List ℕ) (at : ℕ) (s : IsSplit region at) → at < length region → (h : Header) → h ≡ header_in (drop at region) → length region - (at + h.size) < length region - at
+less_left region at s lt h e = let o = opened region at s lt h e in let l = o.large in let f = o.fits in omega arith
+
 -- a place at the region's end has no block
 pub nothing_left : (region : List ℕ) (at : ℕ) (s : IsSplit region at) → length region ≤ at → s.rest ≡ []
 nothing_left region at s le = go s.rest refl s.rest_whole where
@@ -204,14 +208,44 @@ length-blocks p [] = refl
 length-blocks p (c ∷ cs) = ap suc (length-blocks (p + length c) cs)
 
 -- the block at which a search starts
-pub starts_told : (rover p : ℕ) (c : List ℕ) (h : Header) → h ≡ header_in c → h.size ≡ length c → starts_at rover (block_in p c) ≡ (nat_le rover p || (is_free_header h && (p + h.size == rover)))
+starts_told : (rover p : ℕ) (c : List ℕ) (h : Header) → h ≡ header_in c → h.size ≡ length c → starts_at rover (block_in p c) ≡ (nat_le rover p || (is_free_header h && (p + h.size == rover)))
 starts_told rover p c h e n = ap₂ (λ t m. nat_le rover p || (t && (p + m == rover))) (free_told p c ∙ ap is_free_header (sym e)) (sym n)
 
-pub position_here : (rover : ℕ) (b : Block) (bs : List Block) → starts_at rover b ≡ true → position_or_len (starts_at rover) (b ∷ bs) ≡ 0
-position_here rover b bs e = cond-false _ _ _ (ap not e)
+-- no search starts before the place
+pub record HasPassed (rover : ℕ) (region : List ℕ) (at : ℕ) : Type 0 where
+  pub split : IsSplit region at
+  pub value : position_or_len (starts_at rover) (blocks_in region) ≡ length split.front + position_or_len (starts_at rover) (blocks_from at split.rest)
 
-pub position_later : (rover : ℕ) (b : Block) (bs : List Block) → starts_at rover b ≡ false → position_or_len (starts_at rover) (b ∷ bs) ≡ suc (position_or_len (starts_at rover) bs)
-position_later rover b bs e = cond-true _ _ _ (ap not e) ∙ one-add _
+-- a search starts at the block of the place
+abbrev pub StartsAt : ℕ → List ℕ → ℕ → Type 0
+StartsAt rover region at = (s : IsSplit region at) × (length s.front ≡ position_or_len (starts_at rover) (blocks_in region))
+
+pub passed_none : (rover : ℕ) (region : List ℕ) → IsLaid region → HasPassed rover region 0
+passed_none rover region l = record { split = split_first region l; value = ap (position_or_len (starts_at rover)) (blocks_laid region l) ∙ omega arith }
+
+module _ (rover : ℕ) (region : List ℕ) (at : ℕ) (p : HasPassed rover region at) where
+  module _ (lt : at < length region) (h : Header) (e : h ≡ header_in (drop at region)) (t : Bool) (t_is : t ≡ (nat_le rover at || (is_free_header h && (at + h.size == rover)))) where
+    abbrev o : Opened region at p.split h.size
+    o = opened region at p.split lt h e
+
+    told : starts_at rover (block_in at o.part) ≡ t
+    told = starts_told rover at o.part h (e ∙ o.header) (sym o.len) ∙ sym t_is
+
+    pub start_here : t ≡ true → StartsAt rover region at
+    start_here starts =
+        let here = ap (position_or_len (starts_at rover)) o.blocks ∙ cond-false _ _ _ (ap not (told ∙ starts)) in
+        (p.split, let v = p.value in omega arith)
+
+    pub passed_then : t ≡ false → HasPassed rover region (at + h.size)
+    passed_then passes =
+        let later = ap (position_or_len (starts_at rover)) o.blocks ∙ cond-true _ _ _ (ap not (told ∙ passes)) in
+        let grown = ap length o.front ∙ length-append p.split.front (o.part ∷ []) in
+        record { split = o.next; value = let v = p.value in omega arith }
+
+  pub start_last : length region ≤ at → StartsAt rover region at
+  start_last le =
+      let none = ap (λ cs. position_or_len (starts_at rover) (blocks_from at cs)) (nothing_left region at p.split le) in
+      (p.split, let v = p.value in omega arith)
 
 -- a part replaced by one of the same length, in another region
 module _ (region : List ℕ) (at n : ℕ) (s : IsSplit region at) (o : Opened region at s n) where

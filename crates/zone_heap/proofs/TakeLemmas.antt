@@ -243,6 +243,13 @@ module _ (region : List ℕ) (place wanted : ℕ) (laid : IsLaid region) (small 
   pub word_here : word_at region place ≡ r.size
   word_here = ap (λ xs. word_at xs place) region_is ∙ word_within (joined m.split.front) c (joined m.others) 0 place (let d = m.split.at_is in omega arith) (let k = whole.0 in omega arith) ∙ whole.1 ∙ size_is
 
+  -- what is wanted lies in the block, and the block in the region
+  pub inside : place + wanted ≤ length region
+  inside = let f = fits in let l = r.large in omega arith
+
+  pub size_here : (size : ℕ) → size ≡ word_at region place → (wanted ≤ size) × (place + size ≤ length region)
+  size_here size e = let w = e ∙ word_here in let f = fits in let l = r.large in (omega arith, omega arith)
+
   tiles : Tiles 0 (length region) (r.front ++ (free_block place r.size ∷ r.rest))
   tiles = subst (Tiles 0 (length region)) r.is (subst (Tiles 0 (length region)) (sym (blocks_laid region laid)) (subst (λ n. Tiles 0 n (blocks_from 0 laid.parts)) (let e = ap length laid.is in omega arith) (tiles_laid 0 laid.parts laid.whole)))
 

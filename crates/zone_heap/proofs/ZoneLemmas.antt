@@ -1,21 +1,21 @@
 -- The zone's fields, and what its calls need and give back.
-use Rattle.std.proofs.Common.{◌≡◌, ℕ, ◌+◌, ◌-◌, ◌*◌, ◌/◌, ◌%◌, ◌<◌, ◌≤◌, Bool, true, false, cond, List, length, map, take, drop, ◌++◌, Global, Option, Some, None, refl, sym, subst, ap, ap₂, ◌∙◌, arith, option_map, inl, inr}
+use Rattle.std.proofs.Common.{◌≡◌, ℕ, ◌+◌, ◌-◌, ◌*◌, ◌/◌, ◌%◌, ◌<◌, ◌≤◌, true, false, List, length, map, take, drop, ◌++◌, Global, Option, Some, None, refl, sym, subst, ap, ap₂, ◌∙◌, arith, option_map, inl, inr}
 use Rattle.std.specs.Prelude.{◌==◌, ◌⊎◌, slice_index, slice_range, IsSome, option_and_then, vec_len, IsNone, is_some, not}
 use Rattle.std.proofs.lemmas.Bool.{false≢true, cases_eq, eq-eqb, ne_eqb}
 use Rattle.std.proofs.lemmas.List.{length-take, length-drop}
 use Rattle.std.specs.declared.vec.Vec.{Vec}
 use Rattle.zone_rules.specs.declared.Tag.{Tag}
-use Rattle.zone_rules.specs.Zones.{Block, Holding, Owner, AllFit, IsSound, is_held_by, owner_at, owned_block, holding_of, slot_count, IsLive, bytes_of, same_owner}
+use Rattle.zone_rules.specs.Zones.{Heap, Block, Holding, Owner, AllFit, IsSound, is_held_by, owner_at, owned_block, holding_of, slot_count, IsLive, bytes_of, same_owner}
 use Rattle.zone_rules.proofs.OwnerLemmas.{owned_apart}
 use Rattle.zone_rules.specs.Frees.{retag_block, write_block, with_bytes}
-use Rattle.zone_rules.proofs.ChangeLemmas.{with_bytes_sound}
+use Rattle.zone_rules.proofs.ChangeLemmas.{retag_keeps, with_bytes_sound, write_keeps}
 use Rattle.zone_heap.specs.declared.look.Span.{Span}
 use Rattle.zone_rules.proofs.OwnerLemmas.{owned_block-map, retag_held, write_held}
 use Rattle.zone_rules.proofs.SoundLemmas.{in_range_of}
 use Rattle.zone_heap.specs.declared.zone.Zone.TheInside.{Inside}
 use Rattle.zone_heap.specs.View.{heap_of, IsZone}
 use Rattle.zone_heap.specs.Headers.{owner_in, word_at, live_in}
-use Rattle.zone_heap.specs.Regions.{blocks_in}
+use Rattle.zone_heap.specs.Regions.{blocks_in, IsRing}
 use Rattle.zone_heap.specs.Homes.{home_index, home_of, IsSlot, AreExact, AreHome}
 use Rattle.zone_heap.proofs.LookLemmas.{IsFound, look, holding_found}
 use Rattle.zone_heap.proofs.ChangeLemmas.{asked_fits, bytes_found}
@@ -35,27 +35,43 @@ home_map f places (Some b) = places b
 pub exact_map : (l : ℕ) (homes : List ℕ) (bs : List Block) (f : Block → Block) (stays : (o : Owner) (b : Block) → is_held_by o (f b) ≡ is_held_by o b) (places : (b : Block) → (f b).place ≡ b.place) → AreExact l homes bs → AreExact l homes (map f bs)
 exact_map l homes bs f stays places e = λ o s. e o s ∙ sym (ap home_of (owned_block-map o f (stays o) bs) ∙ home_map f places (owned_block o bs))
 
-retag_place : (p : Owner) (tag : Tag) (b : Block) → (retag_block p tag b).place ≡ b.place
-retag_place p tag b = go (is_held_by p b) where
-  go : (t : Bool) → (cond t (record b { holding = Rattle.zone_rules.specs.Frees.set_tag tag b.holding }) b).place ≡ b.place
-  go true = refl
-  go false = refl
-
-write_place : (p : Owner) (w : List ℕ) (b : Block) → (write_block p w b).place ≡ b.place
-write_place p w b = go (is_held_by p b) where
-  go : (t : Bool) → (cond t (record b { holding = Rattle.zone_rules.specs.Frees.write_holding w b.holding }) b).place ≡ b.place
-  go true = refl
-  go false = refl
-
 pub exact_tagged : (l : ℕ) (homes : List ℕ) (bs : List Block) (p : Owner) (tag : Tag) → AreExact l homes bs → AreExact l homes (map (retag_block p tag) bs)
-exact_tagged l homes bs p tag = exact_map l homes bs (retag_block p tag) (λ o. retag_held o p tag) (retag_place p tag)
+exact_tagged l homes bs p tag = exact_map l homes bs (retag_block p tag) (λ o. retag_held o p tag) (retag_keeps p tag).place
 
 pub exact_written : (l : ℕ) (homes : List ℕ) (bs : List Block) (p : Owner) (w : List ℕ) → AreExact l homes bs → AreExact l homes (map (write_block p w) bs)
-exact_written l homes bs p w = exact_map l homes bs (write_block p w) (λ o. write_held o p w) (write_place p w)
+exact_written l homes bs p w = exact_map l homes bs (write_block p w) (λ o. write_held o p w) (write_keeps p w).place
 
 held_some : (x : Option Block) → IsSome (option_and_then (λ (b : Block). b.holding) x) → IsSome x
 held_some None k = k
 held_some (Some b) k = refl
+
+-- where the bytes of a live slot lie, in the fields of a zone
+pub record IsSpan (i : Inside) (z : Heap) (kind number : ℕ) (s : Span) : Type 0 where
+  pub view : heap_of i ≡ z
+  pub known : kind ≤ 1
+  pub inside : number < slot_count (heap_of i) kind
+  pub live : IsLive (heap_of i) (owner_at kind number)
+  pub from_is : s.from ≡ slice_index i.homes.items (home_index i.lumps kind number) + 24
+  pub to_is : s.to ≡ s.from + word_at i.region.items (slice_index i.homes.items (home_index i.lumps kind number) + 4)
+
+pub span_is : (i : Inside) (z : Heap) → heap_of i ≡ z → (kind number : ℕ) → kind ≤ 1 → number < slot_count z kind → IsLive z (owner_at kind number) → (region homes : List ℕ) → region ≡ i.region.items → homes ≡ i.homes.items → (k n : ℕ) → k ≡ kind → n ≡ number
+    → (s : Span) → s.from ≡ slice_index homes (home_index i.lumps k n) + 24 → s.to ≡ s.from + word_at region (slice_index homes (home_index i.lumps k n) + 4) → IsSpan i z kind number s
+span_is i z view kind number known inside live region homes region_is homes_is k n k_is n_is s from to =
+    let home = ap₂ slice_index homes_is (ap₂ (home_index i.lumps) k_is n_is) in
+    record {
+      view = view;
+      known = known;
+      inside = subst (λ (y : Heap). number < slot_count y kind) (sym view) inside;
+      live = subst (λ (y : Heap). IsLive y (owner_at kind number)) (sym view) live;
+      from_is = from ∙ ap (λ at. at + 24) home;
+      to_is = to ∙ ap₂ (λ xs at. s.from + word_at xs (at + 4)) region_is home;
+    }
+
+-- what a call that wrote the bytes of a slot left
+pub record IsRewritten (owner : Owner) (old new : Heap) (x w : List ℕ) : Type 0 where
+  pub x_is : bytes_of owner old.blocks ≡ Some x
+  pub len : length w ≡ length x
+  pub zone : new ≡ with_bytes owner w old
 
 module _ (i : Inside) (zone : IsZone i) where
   pub homes_len : length i.homes.items ≡ i.lumps + i.composites
@@ -72,6 +88,21 @@ module _ (i : Inside) (zone : IsZone i) where
 
   pub home_all : AreHome i.lumps i.homes.items (blocks_in i.region.items)
   home_all = record { few = few; unique = zone.sound.unique; fits = subst (λ m. AllFit i.lumps m (blocks_in i.region.items)) (sym others) zone.sound.fits; exact = zone.exact }
+
+  -- another region and other homes of as many bytes and slots
+  pub zone_with : (region homes : Vec ℕ Global) (rover purges : ℕ) → vec_len region ≡ vec_len i.region → vec_len homes ≡ vec_len i.homes → IsSound (heap_of (record i { region = region; homes = homes; rover = rover; purges = purges })) → IsRing region.items → AreExact i.lumps homes.items (blocks_in region.items)
+      → IsZone (record i { region = region; homes = homes; rover = rover; purges = purges })
+  zone_with region homes rover purges r h sound ring exact = record {
+    sound = sound;
+    ring = ring;
+    exact = exact;
+    region = r ∙ zone.region;
+    least = zone.least;
+    small = zone.small;
+    lumps = zone.lumps;
+    composites = zone.composites;
+    homes = h ∙ zone.homes;
+  }
 
   module _ (kind number : ℕ) (known : kind ≤ 1) (inside : number < slot_count (heap_of i) kind) where
     pub slot_is : IsSlot i.lumps (length i.homes.items - i.lumps) (owner_at kind number)
@@ -91,72 +122,6 @@ module _ (i : Inside) (zone : IsZone i) where
       pub found : IsFound i.region.items (owner_at kind number) (slice_index i.homes.items (home_index i.lumps kind number))
       found = look i.region.items zone.ring.laid (owner_at kind number) (slice_index i.homes.items (home_index i.lumps kind number)) owned_live (zone.exact (owner_at kind number) slot_is)
 
-      from_word : word_at i.region.items (slice_index i.homes.items (home_index i.lumps kind number) + 4) ≡ word_at found.part 4
-      from_word = found.words 4 (omega arith)
-
-      -- the span of a live slot
-      module _ (s : Span) (from_is : s.from ≡ slice_index i.homes.items (home_index i.lumps kind number) + 24) (to_is : s.to ≡ s.from + word_at i.region.items (slice_index i.homes.items (home_index i.lumps kind number) + 4)) where
-        fits : word_at found.part 4 + 24 ≤ length found.part
-        fits = asked_fits i.region.items (owner_at kind number) (slice_index i.homes.items (home_index i.lumps kind number)) found i.lumps i.composites zone.sound.fits
-
-        to_word : s.to ≡ slice_index i.homes.items (home_index i.lumps kind number) + 24 + word_at found.part 4
-        to_word = let a = from_word in omega arith
-
-        pub span_order : s.from ≤ s.to
-        span_order = omega arith
-
-        pub span_bound : s.to ≤ i.size
-        span_bound = let a = to_word in let b = fits in let c = found.fits in let d = region_len in omega arith
-
-        pub span_bytes : bytes_of (owner_at kind number) (blocks_in i.region.items) ≡ Some (slice_range i.region.items s.from s.to)
-        span_bytes =
-            let a = to_word in
-            let n : word_at found.part 4 ≡ s.to - s.from = omega arith in
-            bytes_found i.region.items (owner_at kind number) (slice_index i.homes.items (home_index i.lumps kind number)) found i.lumps i.composites zone.sound.fits ∙ ap₂ (λ k p. Some (take k (drop p i.region.items))) n (sym from_is)
-
-        pub span_len : length (slice_range i.region.items s.from s.to) ≡ s.to - s.from
-        span_len =
-            let a = length-take (s.to - s.from) (drop s.from i.region.items) in
-            let b = length-drop s.from i.region.items in
-            let c = span_bound in
-            let d = region_len in
-            omega arith
-
-        pub span_within : (s.from ≡ found.block.place + 24) × (s.to ≤ found.block.place + found.block.size)
-        span_within = let a = found.place_is in let b = ap (λ (x : Block). x.size) found.block_is in let c = fits in let d = to_word in (omega arith, omega arith)
-
-        -- other bytes there
-        module _ (w : List ℕ) (len : length w ≡ s.to - s.from) (v : Vec ℕ Global) (is : v.items ≡ take s.from i.region.items ++ (w ++ drop s.to i.region.items)) (same : vec_len v ≡ vec_len i.region) where
-          w_len : length w ≡ word_at found.part 4
-          w_len = let a = to_word in omega arith
-
-          items : v.items ≡ take (slice_index i.homes.items (home_index i.lumps kind number) + 24) i.region.items ++ (w ++ drop (slice_index i.homes.items (home_index i.lumps kind number) + 24 + word_at found.part 4) i.region.items)
-          items = is ∙ ap₂ (λ m n. take m i.region.items ++ (w ++ drop n i.region.items)) from_is to_word
-
-          blocks : blocks_in v.items ≡ map (write_block (owner_at kind number) w) (blocks_in i.region.items)
-          blocks = written_blocks i.region.items (owner_at kind number) (slice_index i.homes.items (home_index i.lumps kind number)) found zone.ring zone.sound.unique w v.items w_len fits items
-
-          pub written_heap : heap_of (record i { region = v }) ≡ with_bytes (owner_at kind number) w (heap_of i)
-          written_heap = λ j. record { size = i.size; lumps = i.lumps; composites = i.composites; blocks = blocks j; rover = i.rover; purges = i.purges }
-
-          right : (h : Holding) → holding_of (owner_at kind number) (blocks_in i.region.items) ≡ Some h → length w ≡ h.asked
-          right h e = let k : live_in found.part ≡ h = some_same (live_in found.part) h (sym (holding_found i.region.items (owner_at kind number) (slice_index i.homes.items (home_index i.lumps kind number)) found) ∙ e) in w_len ∙ ap (λ (x : Holding). x.asked) k where
-            some_same : (x y : Holding) → ◌≡◌ {A = Option Holding} (Some x) (Some y) → x ≡ y
-            some_same x y e = cc
-
-          pub written_zone : IsZone (record i { region = v })
-          written_zone = record {
-            sound = subst IsSound (sym written_heap) (with_bytes_sound (owner_at kind number) w (heap_of i) zone.sound right);
-            ring = written_ring i.region.items (owner_at kind number) (slice_index i.homes.items (home_index i.lumps kind number)) found zone.ring zone.sound.unique w v.items w_len fits items;
-            exact = subst (AreExact i.lumps i.homes.items) (sym blocks) (exact_written i.lumps i.homes.items (blocks_in i.region.items) (owner_at kind number) w zone.exact);
-            region = same ∙ zone.region;
-            least = zone.least;
-            small = zone.small;
-            lumps = zone.lumps;
-            composites = zone.composites;
-            homes = zone.homes;
-          }
-
     -- whether a slot is live, by its home
     pub live_told : (home : ℕ) → home ≡ slice_index i.homes.items (home_index i.lumps kind number) → not (home == 4294967295) ≡ is_some (holding_of (owner_at kind number) (blocks_in i.region.items))
     live_told home e = go (owned_block (owner_at kind number) (blocks_in i.region.items)) refl where
@@ -173,6 +138,82 @@ module _ (i : Inside) (zone : IsZone i) where
           let s = zone.small in
           ap not (ne_eqb home 4294967295 (λ x. omega arith)) ∙ sym (ap is_some (holding_found i.region.items (owner_at kind number) home f))
 
+  -- the span of a live slot
+  module _ (z : Heap) (kind number : ℕ) (s : Span) (p : IsSpan i z kind number s) where
+    abbrev home : ℕ
+    home = slice_index i.homes.items (home_index i.lumps kind number)
+
+    abbrev there : IsFound i.region.items (owner_at kind number) home
+    there = found kind number p.known p.inside p.live
+
+    fits : word_at there.part 4 + 24 ≤ length there.part
+    fits = asked_fits i.region.items (owner_at kind number) home there i.lumps i.composites zone.sound.fits
+
+    to_word : s.to ≡ home + 24 + word_at there.part 4
+    to_word = let a = there.words 4 (omega arith) in let b = p.from_is in let c = p.to_is in omega arith
+
+    pub span_bound : s.to ≤ vec_len i.region
+    span_bound = let a = to_word in let b = fits in let c = there.fits in let d = region_len in let e = zone.region in omega arith
+
+    pub span_bytes : bytes_of (owner_at kind number) z.blocks ≡ Some (slice_range i.region.items s.from s.to)
+    span_bytes =
+        let a = to_word in
+        let b = p.from_is in
+        let n : word_at there.part 4 ≡ s.to - s.from = omega arith in
+        ap (λ (y : Heap). bytes_of (owner_at kind number) y.blocks) (sym p.view) ∙ bytes_found i.region.items (owner_at kind number) home there i.lumps i.composites zone.sound.fits ∙ ap₂ (λ k q. Some (take k (drop q i.region.items))) n (sym p.from_is)
+
+    span_len : length (slice_range i.region.items s.from s.to) ≡ s.to - s.from
+    span_len =
+        let a = length-take (s.to - s.from) (drop s.from i.region.items) in
+        let b = length-drop s.from i.region.items in
+        let c = span_bound in
+        let d = region_len in
+        let e = zone.region in
+        omega arith
+
+    span_within : (s.from ≡ there.block.place + 24) × (s.to ≤ there.block.place + there.block.size)
+    span_within = let a = there.place_is in let b = ap (λ (x : Block). x.size) there.block_is in let c = fits in let d = to_word in let e = p.from_is in (omega arith, omega arith)
+
+    -- other bytes there
+    module _ (w : List ℕ) (len : length w ≡ s.to - s.from) (v : Vec ℕ Global) (is : v.items ≡ take s.from i.region.items ++ (w ++ drop s.to i.region.items)) (same : vec_len v ≡ vec_len i.region) where
+      w_len : length w ≡ word_at there.part 4
+      w_len = let a = to_word in let b = p.from_is in omega arith
+
+      items : v.items ≡ take (home + 24) i.region.items ++ (w ++ drop (home + 24 + word_at there.part 4) i.region.items)
+      items = is ∙ ap₂ (λ m n. take m i.region.items ++ (w ++ drop n i.region.items)) p.from_is to_word
+
+      blocks : blocks_in v.items ≡ map (write_block (owner_at kind number) w) (blocks_in i.region.items)
+      blocks = written_blocks i.region.items (owner_at kind number) home there zone.ring zone.sound.unique w v.items w_len fits items
+
+      written_heap : heap_of (record i { region = v }) ≡ with_bytes (owner_at kind number) w (heap_of i)
+      written_heap = λ j. record { size = i.size; lumps = i.lumps; composites = i.composites; blocks = blocks j; rover = i.rover; purges = i.purges }
+
+      pub rewritten : IsRewritten (owner_at kind number) z (heap_of (record i { region = v })) (slice_range i.region.items s.from s.to) w
+      rewritten = record { x_is = span_bytes; len = len ∙ sym span_len; zone = written_heap ∙ ap (with_bytes (owner_at kind number) w) p.view }
+
+      right : (h : Holding) → holding_of (owner_at kind number) (blocks_in i.region.items) ≡ Some h → length w ≡ h.asked
+      right h e = let k : live_in there.part ≡ h = some_same (live_in there.part) h (sym (holding_found i.region.items (owner_at kind number) home there) ∙ e) in w_len ∙ ap (λ (x : Holding). x.asked) k where
+        some_same : (x y : Holding) → ◌≡◌ {A = Option Holding} (Some x) (Some y) → x ≡ y
+        some_same x y e = cc
+
+      pub written_zone : IsZone (record i { region = v })
+      written_zone =
+          zone_with v i.homes i.rover i.purges same refl (subst IsSound (sym written_heap) (with_bytes_sound (owner_at kind number) w (heap_of i) zone.sound right))
+          (written_ring i.region.items (owner_at kind number) home there zone.ring zone.sound.unique w v.items w_len fits items)
+          (subst (AreExact i.lumps i.homes.items) (sym blocks) (exact_written i.lumps i.homes.items (blocks_in i.region.items) (owner_at kind number) w zone.exact))
+
+  -- the parts of two live slots lie apart
+  pub spans_apart : (z : Heap) (kind number other n : ℕ) (s t : Span) (p : IsSpan i z kind number s) (q : IsSpan i z other n t) → same_owner (owner_at kind number) (owner_at other n) ≡ false → (s.to ≤ t.from) ⊎ (t.to ≤ s.from)
+  spans_apart z kind number other n s t p q apart =
+      let f = there z kind number s p in
+      let h = there z other n t q in
+      let x = span_within z kind number s p in
+      let y = span_within z other n t q in
+      elim (owned_apart (owner_at kind number) (owner_at other n) 0 i.size (blocks_in i.region.items) f.block h.block apart zone.sound.tiles f.owned h.owned) [
+        | inl d ↦ inl (let u = x.1 in let v = y.0 in omega arith)
+        | inr d ↦ inr (let u = x.0 in let v = y.1 in omega arith)
+      ]
+
 pub none_is : (x : Option ℕ) → is_some x ≡ false → (x ≡ None) × IsNone x
 none_is None e = (refl, refl)
 none_is (Some p) e = absurd (false≢true (sym e))
@@ -180,12 +221,3 @@ none_is (Some p) e = absurd (false≢true (sym e))
 pub some_place : (x : Option ℕ) → is_some x ≡ true → (p : ℕ) × (x ≡ Some p)
 some_place None e = absurd (false≢true e)
 some_place (Some p) e = (p, refl)
-
--- the parts of two live slots lie apart
-pub spans_apart : (i : Inside) (zone : IsZone i) (o q : Owner) (p r : ℕ) (f : IsFound i.region.items o p) (h : IsFound i.region.items q r) (s t : Span) → same_owner o q ≡ false
-    → (s.from ≡ f.block.place + 24) × (s.to ≤ f.block.place + f.block.size) → (t.from ≡ h.block.place + 24) × (t.to ≤ h.block.place + h.block.size) → (s.to ≤ t.from) ⊎ (t.to ≤ s.from)
-spans_apart i zone o q p r f h s t apart x y =
-    elim (owned_apart o q 0 i.size (blocks_in i.region.items) f.block h.block apart zone.sound.tiles f.owned h.owned) [
-      | inl z ↦ inl (let u = x.1 in let v = y.0 in omega arith)
-      | inr z ↦ inr (let u = x.0 in let v = y.1 in omega arith)
-    ]

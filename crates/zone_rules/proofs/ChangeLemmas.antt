@@ -1,36 +1,65 @@
--- A change of each block that leaves it its place, its size and its owner: a new tag, or new bytes.
+-- A change of each block that leaves it its place, its size and what its owner asked for: a new tag, or new bytes.
 use Rattle.std.proofs.Common.{◌≡◌, ℕ, ◌+◌, Bool, true, false, cond, ◌&&◌, List, [], ◌∷◌, length, map, Option, Some, None, refl, sym, subst, ap, ap₂, ◌∙◌}
 use Rattle.std.specs.Prelude.{◌==◌, is_none, find, option_and_then}
 use Rattle.std.proofs.lemmas.Bool.{cond-true, cond-false}
 use Rattle.zone_rules.specs.declared.Tag.{Tag}
-use Rattle.zone_rules.specs.Zones.{Block, Holding, Owner, Heap, Tiles, Apart, Lacks, OwnsOnce, Unique, AllFit, FitsHolding, IsSound, is_free, is_held_by, starts_free, has_place, holding_of}
+use Rattle.zone_rules.specs.Zones.{Block, Holding, Owner, Heap, Tiles, Apart, Lacks, OwnsOnce, Unique, AllFit, FitsHolding, IsSound, is_held_by, starts_free, has_place, holding_of, holds_for, same_owner}
 use Rattle.zone_rules.specs.Frees.{retag_block, set_tag, with_tag, write_block, write_holding, with_bytes}
-use Rattle.zone_rules.proofs.OwnerLemmas.{retag_held, write_held, lacks_held}
+use Rattle.zone_rules.specs.Orders.{Item}
+use Rattle.zone_rules.proofs.OwnerLemmas.{lacks_held}
+use Rattle.zone_rules.proofs.OrderSumLemmas.{item}
 
--- what such a change is to leave
-pub record Keeps (f : Block → Block) : Type 0 where
+-- what a block's owner asked for
+abbrev pub use_of : Option Holding → Option Item
+use_of None = None
+use_of (Some h) = Some (item h.owner h.asked)
+
+pub record KeepsUse (f : Block → Block) : Type 0 where
   pub place : (b : Block) → (f b).place ≡ b.place
   pub size : (b : Block) → (f b).size ≡ b.size
-  pub free : (b : Block) → is_free (f b) ≡ is_free b
-  pub held : (p : Owner) (b : Block) → is_held_by p (f b) ≡ is_held_by p b
-  pub owns : (b : Block) (bs : List Block) → OwnsOnce b.holding bs → OwnsOnce (f b).holding bs
+  pub same : (b : Block) → use_of (f b).holding ≡ use_of b.holding
 
-module _ (f : Block → Block) (k : Keeps f) where
+-- what is told by it alone
+pub by_use : {A : Type 0} (g : Option Holding → A) (k : Option Item → A) → ((h : Option Holding) → g h ≡ k (use_of h)) → (x y : Option Holding) → use_of x ≡ use_of y → g x ≡ g y
+by_use g k told x y e = told x ∙ ap k e ∙ sym (told y)
+
+abbrev pub held_use : Owner → Option Item → Bool
+held_use o None = false
+held_use o (Some i) = same_owner i.owner o
+
+pub held_same : (o : Owner) (x y : Option Holding) → use_of x ≡ use_of y → holds_for o x ≡ holds_for o y
+held_same o x y e = by_use (holds_for o) (held_use o) told x y e where
+  told : (h : Option Holding) → holds_for o h ≡ held_use o (use_of h)
+  told None = refl
+  told (Some h) = refl
+
+pub free_same : (x y : Option Holding) → use_of x ≡ use_of y → is_none x ≡ is_none y
+free_same x y e = by_use is_none (λ u. is_none u) told x y e where
+  told : (h : Option Holding) → is_none h ≡ is_none (use_of h)
+  told None = refl
+  told (Some h) = refl
+
+owns_same : (bs : List Block) (x y : Option Holding) → use_of x ≡ use_of y → OwnsOnce y bs → OwnsOnce x bs
+owns_same bs None y e k = tt
+owns_same bs (Some g) None e k = cc
+owns_same bs (Some g) (Some h) e k = let i : item g.owner g.asked ≡ item h.owner h.asked = cc in subst (λ (u : Item). Lacks u.owner bs) (sym i) k
+
+module _ (f : Block → Block) (k : KeepsUse f) where
   pub Tiles-map : (p q : ℕ) (bs : List Block) → Tiles p q bs → Tiles p q (map f bs)
   Tiles-map p q [] t = t
   Tiles-map p q (b ∷ bs) t = (k.place b ∙ t.0, rw (k.size b) t.1, rw (k.size b) (Tiles-map (p + b.size) q bs t.2))
 
   starts_map : (bs : List Block) → starts_free (map f bs) ≡ starts_free bs
   starts_map [] = refl
-  starts_map (b ∷ bs) = k.free b
+  starts_map (b ∷ bs) = free_same (f b).holding b.holding (k.same b)
 
   pub Apart-map : (bs : List Block) → Apart bs → Apart (map f bs)
   Apart-map [] a = tt
-  Apart-map (b ∷ bs) a = (ap₂ ◌&&◌ (k.free b) (starts_map bs) ∙ a.0, Apart-map bs a.1)
+  Apart-map (b ∷ bs) a = (ap₂ ◌&&◌ (free_same (f b).holding b.holding (k.same b)) (starts_map bs) ∙ a.0, Apart-map bs a.1)
 
   pub Lacks-map : (p : Owner) (bs : List Block) → Lacks p bs → Lacks p (map f bs)
   Lacks-map p [] l = tt
-  Lacks-map p (b ∷ bs) l = (k.held p b ∙ l.0, Lacks-map p bs l.1)
+  Lacks-map p (b ∷ bs) l = (held_same p (f b).holding b.holding (k.same b) ∙ l.0, Lacks-map p bs l.1)
 
   owns_map : (h : Option Holding) (bs : List Block) → OwnsOnce h bs → OwnsOnce h (map f bs)
   owns_map None bs x = tt
@@ -38,49 +67,39 @@ module _ (f : Block → Block) (k : Keeps f) where
 
   pub Unique-map : (bs : List Block) → Unique bs → Unique (map f bs)
   Unique-map [] u = tt
-  Unique-map (b ∷ bs) u = (k.owns b (map f bs) (owns_map b.holding bs u.0), Unique-map bs u.1)
+  Unique-map (b ∷ bs) u = (owns_same (map f bs) (f b).holding b.holding (k.same b) (owns_map b.holding bs u.0), Unique-map bs u.1)
 
   pub place_map : (p : ℕ) (bs : List Block) → has_place p (map f bs) ≡ has_place p bs
   place_map p [] = refl
   place_map p (b ∷ bs) = ap₂ (λ n (t : Bool). cond (n == p) true t) (k.place b) (place_map p bs)
 
+-- another holding in the block of one owner
+module _ (o : Owner) (g : Option Holding → Option Holding) (same : (h : Option Holding) → use_of (g h) ≡ use_of h) where
+  changed_keeps : KeepsUse (λ b. cond (is_held_by o b) (record b { holding = g b.holding }) b)
+  changed_keeps = record { place = λ b. place (is_held_by o b) b; size = λ b. size (is_held_by o b) b; same = λ b. asked (is_held_by o b) b } where
+    place : (t : Bool) (b : Block) → (cond t (record b { holding = g b.holding }) b).place ≡ b.place
+    place true b = refl
+    place false b = refl
+
+    size : (t : Bool) (b : Block) → (cond t (record b { holding = g b.holding }) b).size ≡ b.size
+    size true b = refl
+    size false b = refl
+
+    asked : (t : Bool) (b : Block) → use_of (cond t (record b { holding = g b.holding }) b).holding ≡ use_of b.holding
+    asked true b = same b.holding
+    asked false b = refl
+
 -- a new tag
 module _ (o : Owner) (tag : Tag) where
-  free_stays : (h : Option Holding) → is_none (set_tag tag h) ≡ is_none h
-  free_stays None = refl
-  free_stays (Some h) = refl
-
-  owns_stays : (h : Option Holding) (bs : List Block) → OwnsOnce h bs → OwnsOnce (set_tag tag h) bs
-  owns_stays None bs x = tt
-  owns_stays (Some h) bs x = x
+  pub retag_keeps : KeepsUse (retag_block o tag)
+  retag_keeps = changed_keeps o (set_tag tag) same where
+    same : (h : Option Holding) → use_of (set_tag tag h) ≡ use_of h
+    same None = refl
+    same (Some h) = refl
 
   fits_stays : (l m size : ℕ) (h : Option Holding) → FitsHolding l m size h → FitsHolding l m size (set_tag tag h)
   fits_stays l m size None x = tt
   fits_stays l m size (Some h) x = x
-
-  retag_keeps : Keeps (retag_block o tag)
-  retag_keeps = record {
-    place = λ b. place (is_held_by o b) b;
-    size = λ b. size (is_held_by o b) b;
-    free = λ b. free (is_held_by o b) b;
-    held = λ p b. retag_held p o tag b;
-    owns = λ b bs x. owns (is_held_by o b) b bs x;
-  } where
-    place : (t : Bool) (b : Block) → (cond t (record b { holding = set_tag tag b.holding }) b).place ≡ b.place
-    place true b = refl
-    place false b = refl
-
-    size : (t : Bool) (b : Block) → (cond t (record b { holding = set_tag tag b.holding }) b).size ≡ b.size
-    size true b = refl
-    size false b = refl
-
-    free : (t : Bool) (b : Block) → is_free (cond t (record b { holding = set_tag tag b.holding }) b) ≡ is_free b
-    free true b = free_stays b.holding
-    free false b = refl
-
-    owns : (t : Bool) (b : Block) (bs : List Block) → OwnsOnce b.holding bs → OwnsOnce (cond t (record b { holding = set_tag tag b.holding }) b).holding bs
-    owns true b bs x = owns_stays b.holding bs x
-    owns false b bs x = x
 
   AllFit-retag : (l m : ℕ) (bs : List Block) → AllFit l m bs → AllFit l m (map (retag_block o tag) bs)
   AllFit-retag l m [] f = tt
@@ -100,37 +119,11 @@ module _ (o : Owner) (tag : Tag) where
 
 -- new bytes
 module _ (o : Owner) (w : List ℕ) where
-  free_same : (h : Option Holding) → is_none (write_holding w h) ≡ is_none h
-  free_same None = refl
-  free_same (Some h) = refl
-
-  owns_same : (h : Option Holding) (bs : List Block) → OwnsOnce h bs → OwnsOnce (write_holding w h) bs
-  owns_same None bs x = tt
-  owns_same (Some h) bs x = x
-
-  write_keeps : Keeps (write_block o w)
-  write_keeps = record {
-    place = λ b. place (is_held_by o b) b;
-    size = λ b. size (is_held_by o b) b;
-    free = λ b. free (is_held_by o b) b;
-    held = λ p b. write_held p o w b;
-    owns = λ b bs x. owns (is_held_by o b) b bs x;
-  } where
-    place : (t : Bool) (b : Block) → (cond t (record b { holding = write_holding w b.holding }) b).place ≡ b.place
-    place true b = refl
-    place false b = refl
-
-    size : (t : Bool) (b : Block) → (cond t (record b { holding = write_holding w b.holding }) b).size ≡ b.size
-    size true b = refl
-    size false b = refl
-
-    free : (t : Bool) (b : Block) → is_free (cond t (record b { holding = write_holding w b.holding }) b) ≡ is_free b
-    free true b = free_same b.holding
-    free false b = refl
-
-    owns : (t : Bool) (b : Block) (bs : List Block) → OwnsOnce b.holding bs → OwnsOnce (cond t (record b { holding = write_holding w b.holding }) b).holding bs
-    owns true b bs x = owns_same b.holding bs x
-    owns false b bs x = x
+  pub write_keeps : KeepsUse (write_block o w)
+  write_keeps = changed_keeps o (write_holding w) same where
+    same : (h : Option Holding) → use_of (write_holding w h) ≡ use_of h
+    same None = refl
+    same (Some h) = refl
 
   pub write_none : (bs : List Block) → Lacks o bs → map (write_block o w) bs ≡ bs
   write_none [] l = refl

@@ -1,50 +1,21 @@
 -- A change of blocks that leaves each its place, its size and what its owner asked for leaves a zone in order: a new tag, or new bytes.
-use Rattle.std.proofs.Common.{◌≡◌, ℕ, ◌+◌, Bool, true, false, cond, ◌||◌, List, [], ◌∷◌, ◌++◌, map, Option, Some, None, refl, sym, subst, ap, ap₂, ◌∙◌, arith, inl, inr}
-use Rattle.std.specs.Prelude.{◌⊎◌, is_none}
+use Rattle.std.proofs.Common.{◌≡◌, ℕ, ◌+◌, Bool, true, cond, ◌||◌, List, [], ◌∷◌, ◌++◌, map, Option, Some, None, refl, sym, subst, ap, ap₂, ◌∙◌, arith, inl, inr}
+use Rattle.std.specs.Prelude.{◌⊎◌}
 use Rattle.std.proofs.lemmas.List.{map-append}
 use Rattle.zone_rules.specs.declared.Tag.{Tag}
-use Rattle.zone_rules.specs.Zones.{Owner, Holding, Block, Heap, is_held_by, holds_for, same_owner, free_block, block_size}
-use Rattle.zone_rules.specs.Frees.{retag_block, set_tag, with_tag, write_block, write_holding, with_bytes}
+use Rattle.zone_rules.specs.Zones.{Owner, Holding, Block, Heap, free_block, block_size}
+use Rattle.zone_rules.specs.Frees.{retag_block, with_tag, write_block, with_bytes}
 use Rattle.zone_rules.specs.Orders.{Item, has_item, is_listed, AllListed, LiveFirst, is_live, AllLive, IsExact, AllExact, LeavesRest, IsInOrder, live_sum, lump_size, KeepsOrder}
-use Rattle.zone_rules.proofs.OrderSumLemmas.{item, live_step}
-
--- what a block's owner asked for
-abbrev pub use_of : Option Holding → Option Item
-use_of None = None
-use_of (Some h) = Some (item h.owner h.asked)
-
-pub record KeepsUse (f : Block → Block) : Type 0 where
-  pub place : (b : Block) → (f b).place ≡ b.place
-  pub size : (b : Block) → (f b).size ≡ b.size
-  pub same : (b : Block) → use_of (f b).holding ≡ use_of b.holding
-
--- what is told by it alone
-by_use : {A : Type 0} (g : Option Holding → A) (k : Option Item → A) → ((h : Option Holding) → g h ≡ k (use_of h)) → (x y : Option Holding) → use_of x ≡ use_of y → g x ≡ g y
-by_use g k told x y e = told x ∙ ap k e ∙ sym (told y)
+use Rattle.zone_rules.proofs.OrderSumLemmas.{live_step, item}
+use Rattle.zone_rules.proofs.ChangeLemmas.{KeepsUse, use_of, by_use, held_same, free_same, retag_keeps, write_keeps}
 
 abbrev pub listed_use : List Item → Option Item → Bool
 listed_use items None = true
 listed_use items (Some i) = has_item items i.owner i.size
 
-abbrev pub held_use : Owner → Option Item → Bool
-held_use o None = false
-held_use o (Some i) = same_owner i.owner o
-
 listed_same : (items : List Item) (x y : Option Holding) → use_of x ≡ use_of y → is_listed items x ≡ is_listed items y
 listed_same items x y e = by_use (is_listed items) (listed_use items) told x y e where
   told : (h : Option Holding) → is_listed items h ≡ listed_use items (use_of h)
-  told None = refl
-  told (Some h) = refl
-
-held_same : (o : Owner) (x y : Option Holding) → use_of x ≡ use_of y → holds_for o x ≡ holds_for o y
-held_same o x y e = by_use (holds_for o) (held_use o) told x y e where
-  told : (h : Option Holding) → holds_for o h ≡ held_use o (use_of h)
-  told None = refl
-  told (Some h) = refl
-
-free_same : (x y : Option Holding) → use_of x ≡ use_of y → is_none x ≡ is_none y
-free_same x y e = by_use is_none (λ u. is_none u) told x y e where
-  told : (h : Option Holding) → is_none h ≡ is_none (use_of h)
   told None = refl
   told (Some h) = refl
 
@@ -113,53 +84,17 @@ module _ (f : Block → Block) (k : KeepsUse f) where
 
 -- a new tag
 module _ (o : Owner) (tag : Tag) where
-  retag_keeps : KeepsUse (retag_block o tag)
-  retag_keeps = record { place = λ b. place (is_held_by o b) b; size = λ b. size (is_held_by o b) b; same = λ b. same (is_held_by o b) b } where
-    place : (t : Bool) (b : Block) → (cond t (record b { holding = set_tag tag b.holding }) b).place ≡ b.place
-    place true b = refl
-    place false b = refl
-
-    size : (t : Bool) (b : Block) → (cond t (record b { holding = set_tag tag b.holding }) b).size ≡ b.size
-    size true b = refl
-    size false b = refl
-
-    set : (h : Option Holding) → use_of (set_tag tag h) ≡ use_of h
-    set None = refl
-    set (Some h) = refl
-
-    same : (t : Bool) (b : Block) → use_of (cond t (record b { holding = set_tag tag b.holding }) b).holding ≡ use_of b.holding
-    same true b = set b.holding
-    same false b = refl
-
   pub order_retagged : (items : List Item) (z : Heap) (taken : ℕ) → IsInOrder items z → KeepsOrder items z (with_tag o tag z) taken taken
-  order_retagged items z taken k = order-map (retag_block o tag) retag_keeps items z taken k
+  order_retagged items z taken k = order-map (retag_block o tag) (retag_keeps o tag) items z taken k
 
   pub live_retagged : (p : Owner) (z : Heap) → is_live (with_tag o tag z).blocks p ≡ is_live z.blocks p
-  live_retagged p z = live-map (retag_block o tag) retag_keeps p z.blocks
+  live_retagged p z = live-map (retag_block o tag) (retag_keeps o tag) p z.blocks
 
 -- new bytes
 module _ (o : Owner) (w : List ℕ) where
-  write_keeps : KeepsUse (write_block o w)
-  write_keeps = record { place = λ b. place (is_held_by o b) b; size = λ b. size (is_held_by o b) b; same = λ b. same (is_held_by o b) b } where
-    place : (t : Bool) (b : Block) → (cond t (record b { holding = write_holding w b.holding }) b).place ≡ b.place
-    place true b = refl
-    place false b = refl
-
-    size : (t : Bool) (b : Block) → (cond t (record b { holding = write_holding w b.holding }) b).size ≡ b.size
-    size true b = refl
-    size false b = refl
-
-    set : (h : Option Holding) → use_of (write_holding w h) ≡ use_of h
-    set None = refl
-    set (Some h) = refl
-
-    same : (t : Bool) (b : Block) → use_of (cond t (record b { holding = write_holding w b.holding }) b).holding ≡ use_of b.holding
-    same true b = set b.holding
-    same false b = refl
-
   pub order_written : (items : List Item) (z : Heap) (taken : ℕ) → IsInOrder items z → KeepsOrder items z (with_bytes o w z) taken taken
-  order_written items z taken k = order-map (write_block o w) write_keeps items z taken k
+  order_written items z taken k = order-map (write_block o w) (write_keeps o w) items z taken k
 
   -- who is live stays so
   pub live_written : (p : Owner) (z : Heap) → is_live (with_bytes o w z).blocks p ≡ is_live z.blocks p
-  live_written p z = live-map (write_block o w) write_keeps p z.blocks
+  live_written p z = live-map (write_block o w) (write_keeps o w) p z.blocks

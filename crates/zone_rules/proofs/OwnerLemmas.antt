@@ -193,23 +193,20 @@ beside_owner o q (Some h) apart e = go (same_owner h.owner q) refl where
   go true k = absurd (false≢true (sym apart ∙ ap (λ p. same_owner p q) (sym (owner_eq h.owner o e)) ∙ k))
   go false k = refl
 
+-- the first block lies before that of an owner among the rest
+before_owned : (q : Owner) (p end' : ℕ) (a b c : Block) (bs : List Block) → Tiles p end' (a ∷ bs) → a ≡ b → owned_block q bs ≡ Some c → b.place + b.size ≤ c.place
+before_owned q p end' a b c bs t e f =
+    let pl = ap (λ (d : Block). d.place) e in
+    let sz = ap (λ (d : Block). d.size) e in
+    let low = low_place q (p + a.size) end' bs c t.2 f in
+    let z = t.0 in
+    omega arith
+
 pub owned_apart : (o q : Owner) (p end' : ℕ) (bs : List Block) (b c : Block) → same_owner o q ≡ false → Tiles p end' bs → owned_block o bs ≡ Some b → owned_block q bs ≡ Some c → (b.place + b.size ≤ c.place) ⊎ (c.place + c.size ≤ b.place)
 owned_apart o q p end' [] b c s t e f = cc
 owned_apart o q p end' (a ∷ bs) b c s t e f = go (is_held_by o a) (is_held_by q a) refl refl e f (λ x y. owned_apart o q (p + a.size) end' bs b c s t.2 x y) where
   go : (u v : Bool) → is_held_by o a ≡ u → is_held_by q a ≡ v → cond u (Some a) (owned_block o bs) ≡ Some b → cond v (Some a) (owned_block q bs) ≡ Some c → (owned_block o bs ≡ Some b → owned_block q bs ≡ Some c → (b.place + b.size ≤ c.place) ⊎ (c.place + c.size ≤ b.place)) → (b.place + b.size ≤ c.place) ⊎ (c.place + c.size ≤ b.place)
   go true true h k e f rest = absurd (false≢true (sym (beside_owner o q a.holding s h) ∙ k))
-  go true false h k e f rest =
-      let x : a ≡ b = cc in
-      let pl = ap (λ (d : Block). d.place) x in
-      let sz = ap (λ (d : Block). d.size) x in
-      let low = low_place q (p + a.size) end' bs c t.2 f in
-      let z = t.0 in
-      inl (omega arith)
-  go false true h k e f rest =
-      let x : a ≡ c = cc in
-      let pl = ap (λ (d : Block). d.place) x in
-      let sz = ap (λ (d : Block). d.size) x in
-      let low = low_place o (p + a.size) end' bs b t.2 e in
-      let z = t.0 in
-      inr (omega arith)
+  go true false h k e f rest = inl (before_owned q p end' a b c bs t (cc) f)
+  go false true h k e f rest = inr (before_owned o p end' a c b bs t (cc) e)
   go false false h k e f rest = rest e f

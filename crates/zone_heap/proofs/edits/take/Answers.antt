@@ -1,64 +1,38 @@
 use Rattle.std.proofs.Common.{arith, ltb-true, ltb-false, rules, ◌+◌, ◌-◌, ◌<◌, ◌≤◌, ◌∙◌, ap, sym, length, cond}
 use Rattle.std.specs.Prelude.{◌==◌}
 use Rattle.zone_heap.specs.Regions.{joined}
-use Rattle.zone_heap.proofs.TakeLemmas.{m, size_is, region_is, word_here, fits, whole_laid, whole_blocks, whole_rover, whole_len, cut_laid, cut_blocks, cut_rover, cut_len}
+use Rattle.zone_heap.proofs.TakeLemmas.{m, size_is, region_is, word_here, fits, inside, size_here, whole_laid, whole_blocks, whole_rover, whole_len, cut_laid, cut_blocks, cut_rover, cut_len}
 use Rattle.zone_heap.proofs.edits.take.Goals as goal
 
 pub word_at-size-requires : goal.word_at-size-requires
-word_at-size-requires c =
-    let w = word_here c.args.region.now c.args.place c.args.wanted c.requires.laid c.requires.small c.requires.room c.args.used c.requires.large c.requires.live c.requires.owner c.requires.tag in
-    let f = fits c.args.region.now c.args.place c.args.wanted c.requires.laid c.requires.small c.requires.room c.args.used c.requires.large c.requires.live c.requires.owner c.requires.tag in
-    let l = c.requires.room.large in
-    omega arith
+word_at-size-requires c = let k = inside c.args.region.now c.args.place c.args.wanted c.requires.laid c.requires.small c.requires.room c.args.used c.requires.large c.requires.live c.requires.owner c.requires.tag in omega arith
 
 pub overflow_sub-size : goal.overflow_sub-size
-overflow_sub-size c =
-    let w = word_here c.args.region.now c.args.place c.args.wanted c.requires.laid c.requires.small c.requires.room c.args.used c.requires.large c.requires.live c.requires.owner c.requires.tag in
-    let f = fits c.args.region.now c.args.place c.args.wanted c.requires.laid c.requires.small c.requires.room c.args.used c.requires.large c.requires.live c.requires.owner c.requires.tag in
-    let l = c.requires.room.large in
-    let e = c.word_at-size.ensures in
-    omega arith
+overflow_sub-size c = (size_here c.args.region.now c.args.place c.args.wanted c.requires.laid c.requires.small c.requires.room c.args.used c.requires.large c.requires.live c.requires.owner c.requires.tag c.word_at-size.result c.word_at-size.ensures).0
 
 pub cut-requires-clause-inside : goal.cut-requires-clause-inside
 cut-requires-clause-inside c =
-    let w = word_here c.args.region.now c.args.place c.args.wanted c.requires.laid c.requires.small c.requires.room c.args.used c.requires.large c.requires.live c.requires.owner c.requires.tag in
-    let f = fits c.args.region.now c.args.place c.args.wanted c.requires.laid c.requires.small c.requires.room c.args.used c.requires.large c.requires.live c.requires.owner c.requires.tag in
-    let l = c.requires.room.large in
-    let e = c.word_at-size.ensures in
+    let k = (size_here c.args.region.now c.args.place c.args.wanted c.requires.laid c.requires.small c.requires.room c.args.used c.requires.large c.requires.live c.requires.owner c.requires.tag c.word_at-size.result c.word_at-size.ensures).1 in
     let over = ltb-true _ _ (sym c.is_rest.ensures ∙ c.if-is_rest.true) in
     omega arith
 
 pub set_use-requires : goal.set_use-requires
-set_use-requires c =
-    let w = word_here c.args.region.now c.args.place c.args.wanted c.requires.laid c.requires.small c.requires.room c.args.used c.requires.large c.requires.live c.requires.owner c.requires.tag in
-    let f = fits c.args.region.now c.args.place c.args.wanted c.requires.laid c.requires.small c.requires.room c.args.used c.requires.large c.requires.live c.requires.owner c.requires.tag in
-    let l = c.requires.room.large in
-    let n = c.cut.ensures.len in
-    omega arith
+set_use-requires c = let k = inside c.args.region.now c.args.place c.args.wanted c.requires.laid c.requires.small c.requires.room c.args.used c.requires.large c.requires.live c.requires.owner c.requires.tag in let n = c.cut.ensures.len in omega arith
 
 pub overflow_add-result : goal.overflow_add-result
 overflow_add-result c =
-    let w = word_here c.args.region.now c.args.place c.args.wanted c.requires.laid c.requires.small c.requires.room c.args.used c.requires.large c.requires.live c.requires.owner c.requires.tag in
-    let f = fits c.args.region.now c.args.place c.args.wanted c.requires.laid c.requires.small c.requires.room c.args.used c.requires.large c.requires.live c.requires.owner c.requires.tag in
-    let l = c.requires.room.large in
+    let k = inside c.args.region.now c.args.place c.args.wanted c.requires.laid c.requires.small c.requires.room c.args.used c.requires.large c.requires.live c.requires.owner c.requires.tag in
     let small = c.requires.small in
     let h : c.args.place + c.args.wanted < 18446744073709551616 = omega arith in
     search rules
 
 pub set_use-requires-else-is_rest : goal.set_use-requires-else-is_rest
-set_use-requires-else-is_rest c =
-    let w = word_here c.args.region.now c.args.place c.args.wanted c.requires.laid c.requires.small c.requires.room c.args.used c.requires.large c.requires.live c.requires.owner c.requires.tag in
-    let f = fits c.args.region.now c.args.place c.args.wanted c.requires.laid c.requires.small c.requires.room c.args.used c.requires.large c.requires.live c.requires.owner c.requires.tag in
-    let l = c.requires.room.large in
-    omega arith
+set_use-requires-else-is_rest c = let k = inside c.args.region.now c.args.place c.args.wanted c.requires.laid c.requires.small c.requires.room c.args.used c.requires.large c.requires.live c.requires.owner c.requires.tag in omega arith
 
 pub overflow_add-result-else-is_rest : goal.overflow_add-result-else-is_rest
 overflow_add-result-else-is_rest c =
-    let w = word_here c.args.region.now c.args.place c.args.wanted c.requires.laid c.requires.small c.requires.room c.args.used c.requires.large c.requires.live c.requires.owner c.requires.tag in
-    let f = fits c.args.region.now c.args.place c.args.wanted c.requires.laid c.requires.small c.requires.room c.args.used c.requires.large c.requires.live c.requires.owner c.requires.tag in
-    let l = c.requires.room.large in
+    let k = (size_here c.args.region.now c.args.place c.args.wanted c.requires.laid c.requires.small c.requires.room c.args.used c.requires.large c.requires.live c.requires.owner c.requires.tag c.word_at-size.result c.word_at-size.ensures).1 in
     let small = c.requires.small in
-    let e = c.word_at-size.ensures in
     let h : c.args.place + c.word_at-size.result < 18446744073709551616 = omega arith in
     search rules
 

@@ -1,17 +1,13 @@
-use Rattle.std.proofs.Common.{◌≡◌, ◌≤◌, ◌-◌, ◌+◌, length}
-use Rattle.zone_rules.specs.Zones.{used_size, purgeable_size, free_size}
-use Rattle.zone_heap.specs.Regions.{blocks_in, blocks_from, IsSplit}
+use Rattle.std.proofs.Common.{◌-◌, length}
+use Rattle.zone_rules.specs.Zones.{is_pinned, is_purgeable, is_free}
+use Rattle.zone_heap.proofs.SumLemmas.{IsSum}
 use Rattle.zone_heap.proofs.figures.add_up.Given as goal
 
 abbrev pub invariant-loop-at : goal.invariant-loop-at
 invariant-loop-at l = record {
-  split : IsSplit l.region l.at;
-  few : l.pinned ≤ l.at;
-  small : l.purgeable ≤ l.at;
-  low : l.free ≤ l.at;
-  pins : used_size (blocks_in l.region) ≡ l.pinned + used_size (blocks_from l.at split.rest);
-  purges : purgeable_size (blocks_in l.region) ≡ l.purgeable + purgeable_size (blocks_from l.at split.rest);
-  frees : free_size (blocks_in l.region) ≡ l.free + free_size (blocks_from l.at split.rest);
+  pins : IsSum is_pinned l.region l.at l.pinned;
+  purges : IsSum is_purgeable l.region l.at l.purgeable;
+  frees : IsSum is_free l.region l.at l.free;
 }
 
 abbrev pub decreases-loop-at : goal.decreases-loop-at

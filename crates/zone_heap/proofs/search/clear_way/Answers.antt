@@ -1,8 +1,9 @@
-use Rattle.std.proofs.Common.{arith, ◌≡◌, ◌+◌, ◌++◌, ◌≤◌, [], ap, ap₂, sym, ◌∙◌, take, drop, subst, map, count_by, length, List, ℕ, Option}
+use Rattle.std.proofs.Common.{arith, ◌≡◌, ◌+◌, ◌++◌, ◌≤◌, [], ap, ap₂, sym, ◌∙◌, take, drop, subst, map, count_by, length, List, ℕ, Option, Some, None}
+use Rattle.std.specs.List.{position_or_len}
 use Rattle.std.proofs.lemmas.List.{take_at, drop_at, take_all, drop_all, append-nil, length-append}
 use Rattle.zone_rules.specs.Zones.{Block, Tiles, is_purgeable}
 use Rattle.zone_rules.specs.Requests.{purge_block, join_free}
-use Rattle.zone_heap.specs.Walks.{fit_from, SearchIs}
+use Rattle.zone_heap.specs.Walks.{fit_from, starts_at, CanSearch, SearchIs}
 use Rattle.zone_rules.specs.Rooms.{RoomAt}
 use Rattle.zone_heap.proofs.SearchLemmas.{fit_first, fit_second, fit_never}
 use Rattle.zone_heap.proofs.RunLemmas.{room_first, room_second}
@@ -59,6 +60,37 @@ module _ (region : List ℕ) (laid : IsLaid region) (start : ℕ) (s : IsSplit r
 from_first : (region : List ℕ) (laid : IsLaid region) (new : List Block) (e : ℕ) → new ≡ [] ++ (map purge_block (take e (blocks_from 0 laid.parts)) ++ drop e (blocks_from 0 laid.parts)) → new ≡ map purge_block (take e (blocks_in region)) ++ drop e (blocks_in region)
 from_first region laid new e k = k ∙ ap (λ bs. map purge_block (take e bs) ++ drop e bs) (sym (blocks_laid region laid))
 
+-- what a search that ended from the start on, or from the front on, found and left
+module _ (lumps rover wanted : ℕ) (homes region : List ℕ) (q : CanSearch lumps rover wanted homes region) (start : ℕ) (split : (s : IsSplit region start) × (length s.front ≡ position_or_len (starts_at rover) (blocks_in region))) (place e : ℕ) where
+  abbrev s : IsSplit region start
+  s = split.0
+
+  found_first : ((s : IsSplit region start) → Some (place, e) ≡ fit_from wanted 0 0 0 (blocks_from start s.rest)) → (new : List Block) → ((s : IsSplit region start) → new ≡ blocks_from 0 s.front ++ (map purge_block (take e (blocks_from start s.rest)) ++ drop e (blocks_from start s.rest)))
+      → (n : ℕ) → ((s : IsSplit region start) → n ≡ count_by is_purgeable (take e (blocks_from start s.rest))) → SearchIs wanted rover (blocks_in region) (Some place) new n × RoomAt place wanted (join_free new)
+  found_first fit new left n count =
+      let same = sym (rest_is region q.laid start s) in
+      let here = fit s ∙ ap (fit_from wanted 0 0 0) same in
+      let is = parts_again region q.laid start s new e (left s) in
+      let r = fit_first wanted rover 0 (length region) (blocks_in region) q.positive (tiles_region region q.laid) q.rover_is (length s.front) split.1 place e here in (
+        with_after _ _ _ _ _ _ _ _ r is (count s ∙ ap (λ bs. count_by is_purgeable (take e bs)) same),
+        subst (λ bs. RoomAt place wanted (join_free bs)) (sym is) (room_first wanted rover 0 (length region) (blocks_in region) q.positive (tiles_region region q.laid) q.apart q.rover_is (length s.front) split.1 place e here),
+      )
+
+  found_second : ((s : IsSplit region start) → None ≡ fit_from wanted 0 0 0 (blocks_from start s.rest)) → ((s : IsSplit region 0) → Some (place, e) ≡ fit_from wanted 0 0 0 (blocks_from 0 s.rest))
+      → (later : List ℕ) → IsLaid later → ((s : IsSplit region start) → blocks_in later ≡ blocks_from 0 s.front ++ (map purge_block (take (length region) (blocks_from start s.rest)) ++ drop (length region) (blocks_from start s.rest)))
+      → (m : ℕ) → ((s : IsSplit region start) → m ≡ count_by is_purgeable (take (length region) (blocks_from start s.rest)))
+      → (new : List Block) → ((s : IsSplit later 0) → new ≡ blocks_from 0 s.front ++ (map purge_block (take e (blocks_from 0 s.rest)) ++ drop e (blocks_from 0 s.rest)))
+      → (n : ℕ) → ((s : IsSplit later 0) → n ≡ count_by is_purgeable (take e (blocks_from 0 s.rest))) → SearchIs wanted rover (blocks_in region) (Some place) new (m + n) × RoomAt place wanted (join_free new)
+  found_second none fit later laid cleared_is m cleared_count new left n count =
+      let first = none s ∙ ap (fit_from wanted 0 0 0) (sym (rest_is region q.laid start s)) in
+      let again = fit (split_first region q.laid) ∙ ap (fit_from wanted 0 0 0) (sym (blocks_laid region q.laid)) in
+      let clear = cleared region q.laid start s (blocks_in later) (cleared_is s) in
+      let is = from_first later laid new e (left (split_first later laid)) ∙ ap (λ bs. map purge_block (take e bs) ++ drop e bs) clear in
+      let r = fit_second wanted rover 0 (length region) (blocks_in region) q.positive (tiles_region region q.laid) q.rover_is (length s.front) split.1 place e first again in (
+        with_after _ _ _ _ _ _ _ _ r is (ap₂ ◌+◌ (cleared_count s ∙ counted region q.laid start s) (count (split_first later laid) ∙ ap (λ bs. count_by is_purgeable (take e bs)) (sym (blocks_laid later laid) ∙ clear))),
+        subst (λ bs. RoomAt place wanted (join_free bs)) (sym is) (room_second wanted rover 0 (length region) (blocks_in region) q.positive (tiles_region region q.laid) q.apart q.rover_is (length s.front) split.1 place e again),
+      )
+
 pub first_fit-requires-2-clause-split : goal.first_fit-requires-2-clause-split
 first_fit-requires-2-clause-split c = split_first c.args.region.now c.requires.laid
 
@@ -69,59 +101,16 @@ pub purge-purges-requires-2-clause-split : goal.purge-purges-requires-2-clause-s
 purge-purges-requires-2-clause-split c = split_first c.args.region.now c.requires.laid
 
 pub returns-in-Some-clause-search : goal.returns-in-Some-clause-search
-returns-in-Some-clause-search c =
-    let region = c.args.region.now in
-    let start = c.start_place-start.result in
-    let s = c.start_place-start.ensures.split.0 in
-    let at = c.start_place-start.ensures.split.1 in
-    let e = c.in-Some.fit.end in
-    let here = c.in-Some.ensures.value s ∙ ap (fit_from c.args.wanted 0 0 0) (sym (rest_is region c.requires.laid start s)) in
-    let r = fit_first c.args.wanted c.args.rover 0 (length region) (blocks_in region) c.requires.positive (tiles_region region c.requires.laid) c.requires.rover_is (length s.front) at c.in-Some.fit.place e here in
-    with_after _ _ _ _ _ _ _ _ r (parts_again region c.requires.laid start s _ e (c.purge-purges.ensures.blocks s)) (c.purge-purges.ensures.count s ∙ ap (λ bs. count_by is_purgeable (take e bs)) (sym (rest_is region c.requires.laid start s)))
+returns-in-Some-clause-search c = (found_first _ _ _ _ _ c.requires _ c.start_place-start.ensures.split c.in-Some.fit.place c.in-Some.fit.end c.in-Some.ensures.value _ c.purge-purges.ensures.blocks _ c.purge-purges.ensures.count).0
 
 pub returns-in-Some-clause-room : goal.returns-in-Some-clause-room
-returns-in-Some-clause-room c =
-    let region = c.args.region.now in
-    let start = c.start_place-start.result in
-    let s = c.start_place-start.ensures.split.0 in
-    let at = c.start_place-start.ensures.split.1 in
-    let e = c.in-Some.fit.end in
-    let here = c.in-Some.ensures.value s ∙ ap (fit_from c.args.wanted 0 0 0) (sym (rest_is region c.requires.laid start s)) in
-    let r = room_first c.args.wanted c.args.rover 0 (length region) (blocks_in region) c.requires.positive (tiles_region region c.requires.laid) c.requires.apart c.requires.rover_is (length s.front) at c.in-Some.fit.place e here in
-    subst (λ bs. RoomAt c.in-Some.fit.place c.args.wanted (join_free bs)) (sym (parts_again region c.requires.laid start s _ e (c.purge-purges.ensures.blocks s))) r
+returns-in-Some-clause-room c = (found_first _ _ _ _ _ c.requires _ c.start_place-start.ensures.split c.in-Some.fit.place c.in-Some.fit.end c.in-Some.ensures.value _ c.purge-purges.ensures.blocks _ c.purge-purges.ensures.count).1
 
 pub returns-in-Some-first_fit-clause-search : goal.returns-in-Some-first_fit-clause-search
-returns-in-Some-first_fit-clause-search c =
-    let region = c.args.region.now in
-    let laid = c.requires.laid in
-    let start = c.start_place-start.result in
-    let s = c.start_place-start.ensures.split.0 in
-    let at = c.start_place-start.ensures.split.1 in
-    let e = c.in-Some-first_fit.fit.end in
-    let first = c.in_default.ensures.value s ∙ ap (fit_from c.args.wanted 0 0 0) (sym (rest_is region laid start s)) in
-    let again = c.in-Some-first_fit.ensures.value (split_first region laid) ∙ ap (fit_from c.args.wanted 0 0 0) (sym (blocks_laid region laid)) in
-    let r = fit_second c.args.wanted c.args.rover 0 (length region) (blocks_in region) c.requires.positive (tiles_region region laid) c.requires.rover_is (length s.front) at c.in-Some-first_fit.fit.place e first again in
-    let later = c.purge-later.new.region in
-    let laid2 = c.purge-later.ensures.laid in
-    let clear = cleared region laid start s (blocks_in later) (c.purge-later.ensures.blocks s) in
-    with_after _ _ _ _ _ _ _ _ r
-    (from_first later laid2 _ e (c.purge-earlier.ensures.blocks (split_first later laid2)) ∙ ap (λ bs. map purge_block (take e bs) ++ drop e bs) clear)
-    (ap₂ ◌+◌ (c.purge-later.ensures.count s ∙ counted region laid start s) (c.purge-earlier.ensures.count (split_first later laid2) ∙ ap (λ bs. count_by is_purgeable (take e bs)) (sym (blocks_laid later laid2) ∙ clear)))
+returns-in-Some-first_fit-clause-search c = (found_second _ _ _ _ _ c.requires _ c.start_place-start.ensures.split c.in-Some-first_fit.fit.place c.in-Some-first_fit.fit.end c.in_default.ensures.value c.in-Some-first_fit.ensures.value _ c.purge-later.ensures.laid c.purge-later.ensures.blocks _ c.purge-later.ensures.count _ c.purge-earlier.ensures.blocks _ c.purge-earlier.ensures.count).0
 
 pub returns-in-Some-first_fit-clause-room : goal.returns-in-Some-first_fit-clause-room
-returns-in-Some-first_fit-clause-room c =
-    let region = c.args.region.now in
-    let laid = c.requires.laid in
-    let start = c.start_place-start.result in
-    let s = c.start_place-start.ensures.split.0 in
-    let at = c.start_place-start.ensures.split.1 in
-    let e = c.in-Some-first_fit.fit.end in
-    let again = c.in-Some-first_fit.ensures.value (split_first region laid) ∙ ap (fit_from c.args.wanted 0 0 0) (sym (blocks_laid region laid)) in
-    let r = room_second c.args.wanted c.args.rover 0 (length region) (blocks_in region) c.requires.positive (tiles_region region laid) c.requires.apart c.requires.rover_is (length s.front) at c.in-Some-first_fit.fit.place e again in
-    let later = c.purge-later.new.region in
-    let laid2 = c.purge-later.ensures.laid in
-    let clear = cleared region laid start s (blocks_in later) (c.purge-later.ensures.blocks s) in
-    subst (λ bs. RoomAt c.in-Some-first_fit.fit.place c.args.wanted (join_free bs)) (sym (from_first later laid2 _ e (c.purge-earlier.ensures.blocks (split_first later laid2)) ∙ ap (λ bs. map purge_block (take e bs) ++ drop e bs) clear)) r
+returns-in-Some-first_fit-clause-room c = (found_second _ _ _ _ _ c.requires _ c.start_place-start.ensures.split c.in-Some-first_fit.fit.place c.in-Some-first_fit.fit.end c.in_default.ensures.value c.in-Some-first_fit.ensures.value _ c.purge-later.ensures.laid c.purge-later.ensures.blocks _ c.purge-later.ensures.count _ c.purge-earlier.ensures.blocks _ c.purge-earlier.ensures.count).1
 
 pub returns-clause-search : goal.returns-clause-search
 returns-clause-search c =

@@ -2,7 +2,7 @@ use Rattle.std.proofs.Common.{arith, ◌+◌, ◌∙◌, ap, sym, max}
 use Rattle.std.proofs.lemmas.Bool.{cond-true, cond-false}
 use Rattle.zone_heap.specs.Regions.{blocks_from}
 use Rattle.zone_heap.specs.Walks.{widest_from}
-use Rattle.zone_heap.proofs.PartLemmas.{opened, head_fits, nothing_left, split_first, blocks_laid, pinned_at}
+use Rattle.zone_heap.proofs.PartLemmas.{opened, less_left, head_fits, nothing_left, split_first, blocks_laid, pinned_at}
 use Rattle.zone_heap.proofs.search.widest_gap.Goals.{After-is_pinned, then-is_pinned, else-is_pinned}
 use Rattle.zone_heap.proofs.search.widest_gap.Goals as goal
 
@@ -13,11 +13,7 @@ pub header_at-header-requires : goal.header_at-header-requires
 header_at-header-requires c = head_fits c.args.region.now c.loop-at.at c.loop-at.invariant.split c.loop-at-test.true
 
 pub loop-at-smaller : goal.loop-at-smaller
-loop-at-smaller c =
-    let o = opened c.args.region.now c.loop-at.at c.loop-at.invariant.split c.loop-at-test.true c.header_at-header.result c.header_at-header.ensures in
-    let l = o.large in
-    let f = o.fits in
-    omega arith
+loop-at-smaller c = less_left c.args.region.now c.loop-at.at c.loop-at.invariant.split c.loop-at-test.true c.header_at-header.result c.header_at-header.ensures
 
 pub loop-at-preserved : goal.loop-at-preserved
 loop-at-preserved c =

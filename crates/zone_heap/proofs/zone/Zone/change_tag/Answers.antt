@@ -1,4 +1,4 @@
-use Rattle.std.proofs.Common.{◌≡◌, ◌∙◌, ap, ap₂, sym, subst, map, option_map, List, ℕ, length, arith}
+use Rattle.std.proofs.Common.{◌≡◌, ◌∙◌, ap, ap₂, sym, subst, refl, map, option_map, List, ℕ, length, arith}
 use Rattle.std.specs.Vec.{with_items}
 use Rattle.std.proofs.lemmas.List.{with_items_is}
 use Rattle.zone_rules.specs.Zones.{Heap, Owner, IsSound, owner_at, owned_block}
@@ -8,7 +8,7 @@ use Rattle.zone_rules.proofs.OwnerLemmas.{owned_block-map, owned_retagged_others
 use Rattle.zone_heap.specs.View.{heap_of}
 use Rattle.zone_heap.specs.Regions.{blocks_in, IsRing}
 use Rattle.zone_heap.specs.Homes.{AreExact}
-use Rattle.zone_heap.proofs.ZoneLemmas.{exact_tagged}
+use Rattle.zone_heap.proofs.ZoneLemmas.{exact_tagged, zone_with}
 use Rattle.zone_heap.proofs.zone.Zone.change_tag.Given.{Over}
 use Rattle.zone_heap.proofs.zone.Zone.change_tag.Goals.{After-retag}
 use Rattle.zone_heap.proofs.zone.Zone.change_tag.Goals as goal
@@ -27,19 +27,9 @@ sound_after g c = rw (after g c) (with_tag_sound (owner_at g.K.SlotKind.CODE c.a
 pub invariant_of-self : goal.invariant_of-self
 invariant_of-self g c =
     let d = (goal.at.invariant_of-self g c).After-retag in
-    let zone = c.self.invariant in
     let i = c.self.inside in
-    record {
-      sound = sound_after g d;
-      ring = subst IsRing (sym (items_are g d)) c.retag.ensures.ring;
-      exact = subst (AreExact i.lumps i.homes.items) (sym (after g d)) (exact_tagged i.lumps i.homes.items (blocks_in i.region.items) (owner_at g.K.SlotKind.CODE c.args.slot.number) c.args.tag zone.exact);
-      region = zone.region;
-      least = zone.least;
-      small = zone.small;
-      lumps = zone.lumps;
-      composites = zone.composites;
-      homes = zone.homes;
-    }
+    zone_with i c.self.invariant (with_items i.region c.retag.new.region) i.homes i.rover i.purges refl refl (sound_after g d) (subst IsRing (sym (items_are g d)) c.retag.ensures.ring)
+    (subst (AreExact i.lumps i.homes.items) (sym (after g d)) (exact_tagged i.lumps i.homes.items (blocks_in i.region.items) (owner_at g.K.SlotKind.CODE c.args.slot.number) c.args.tag c.self.invariant.exact))
 
 pub returns-clause-sound : goal.returns-clause-sound
 returns-clause-sound g c = sound_after g (goal.at.returns-clause-sound g c).After-retag

@@ -9,6 +9,7 @@ use Rattle.zone_rules.proofs.SoundLemmas.{without_block_sound}
 use Rattle.zone_rules.proofs.OwnerLemmas.{owned_freed, owned_freed_others}
 use Rattle.zone_heap.specs.Regions.{blocks_in, IsRing}
 use Rattle.zone_heap.specs.Homes.{AreExact}
+use Rattle.zone_heap.proofs.ZoneLemmas.{zone_with}
 use Rattle.zone_heap.proofs.zone.Zone.free.Given.{Over}
 use Rattle.zone_heap.proofs.zone.Zone.free.Goals.{After-place_in}
 use Rattle.zone_heap.proofs.zone.Zone.free.Goals as goal
@@ -28,25 +29,18 @@ after g c =
     let r = c.place_in.ensures.value ∙ ap (λ xs. place_around i.rover 0 (blocks_in xs)) c.deref.ensures.value in
     rw (r, b) refl
 
+sound_after : (g : Over) (c : After-place_in g) → IsSound (record { size = c.self.inside.size; lumps = c.self.inside.lumps; composites = c.self.inside.composites; blocks = blocks_in (with_items c.self.inside.region c.release.new.region).items; rover = c.place_in.result; purges = c.self.inside.purges })
+sound_after g c = subst IsSound (sym (after g c)) (without_block_sound (owner_at g.K.SlotKind.CODE c.args.slot.number) (heap_of c.self.inside) c.self.invariant.sound c.self.invariant.least)
+
 pub invariant_of-self : goal.invariant_of-self
 invariant_of-self g c =
     let d = (goal.at.invariant_of-self g c).After-place_in in
-    let zone = c.self.invariant in
     let i = c.self.inside in
-    record {
-      sound = subst IsSound (sym (after g d)) (without_block_sound (owner_at g.K.SlotKind.CODE c.args.slot.number) (heap_of i) zone.sound zone.least);
-      ring = subst IsRing (sym (items_are g d)) c.release.ensures.ring;
-      exact = subst (λ xs. AreExact i.lumps (with_items i.homes c.release.new.homes).items (blocks_in xs)) (sym (items_are g d)) (subst (λ hs. AreExact i.lumps hs (blocks_in c.release.new.region)) (sym (homes_are g d)) c.release.ensures.home.exact);
-      region = zone.region;
-      least = zone.least;
-      small = zone.small;
-      lumps = zone.lumps;
-      composites = zone.composites;
-      homes = zone.homes;
-    }
+    zone_with i c.self.invariant (with_items i.region c.release.new.region) (with_items i.homes c.release.new.homes) c.place_in.result i.purges refl refl (sound_after g d) (subst IsRing (sym (items_are g d)) c.release.ensures.ring)
+    (subst (λ xs. AreExact i.lumps (with_items i.homes c.release.new.homes).items (blocks_in xs)) (sym (items_are g d)) (subst (λ hs. AreExact i.lumps hs (blocks_in c.release.new.region)) (sym (homes_are g d)) c.release.ensures.home.exact))
 
 pub returns-clause-sound : goal.returns-clause-sound
-returns-clause-sound g c = subst IsSound (sym (after g (goal.at.returns-clause-sound g c).After-place_in)) (without_block_sound (owner_at g.K.SlotKind.CODE c.args.slot.number) (heap_of c.self.inside) c.self.invariant.sound c.self.invariant.least)
+returns-clause-sound g c = sound_after g (goal.at.returns-clause-sound g c).After-place_in
 
 pub returns-clause-empty : goal.returns-clause-empty
 returns-clause-empty g c = ap (λ (z : Heap). owned_block (owner_at g.K.SlotKind.CODE c.args.slot.number) z.blocks) (after g (goal.at.returns-clause-empty g c).After-place_in) ∙ owned_freed (owner_at g.K.SlotKind.CODE c.args.slot.number) (blocks_in c.self.inside.region.items)

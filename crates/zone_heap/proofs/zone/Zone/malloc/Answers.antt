@@ -3,7 +3,7 @@ use Rattle.std.specs.Vec.{with_items}
 use Rattle.std.proofs.lemmas.Bool.{false≢true}
 use Rattle.std.proofs.lemmas.List.{with_items_is}
 use Rattle.std.specs.Prelude.{IsNone, All, not}
-use Rattle.zone_heap.specs.View.{heap_of}
+use Rattle.zone_heap.specs.View.{heap_of, IsZone}
 use Rattle.zone_rules.specs.Zones.{is_purgeable, Block, owned_block, Heap, Holding, Owner, IsSound, Lacks, owner_at, block_size, slot_count, holding_of}
 use Rattle.zone_rules.specs.Requests.{after_search, passed_blocks, block_left, cap_count, without_room, with_block, take_at, TakesBlock, place_around, place_after, gaps, widest, total, first_room, stretches, purge_count, count_among}
 use Rattle.zone_heap.specs.Walks.{widest_from}
@@ -18,7 +18,7 @@ use Rattle.zone_heap.specs.Regions.{blocks_in, IsRing}
 use Rattle.zone_heap.specs.Homes.{AreExact}
 use Rattle.zone_heap.specs.Asks.{heap_at}
 use Rattle.zone_heap.proofs.ChangeLemmas.{code_back}
-use Rattle.zone_heap.proofs.ZoneLemmas.{owner_back, number_small, region_len, none_is, some_place}
+use Rattle.zone_heap.proofs.ZoneLemmas.{owner_back, number_small, region_len, zone_with, none_is, some_place}
 use Rattle.zone_heap.proofs.zone.Zone.malloc.Given.{Over}
 use Rattle.zone_heap.proofs.zone.Zone.malloc.Goals.{After-deref_mut-2, After-is_none, Then-is_none, Else-is_none}
 use Rattle.zone_heap.proofs.zone.Zone.malloc.Goals as goal
@@ -120,46 +120,24 @@ made_sound : (g : Over) (c : After-is_none g) (m : IsMade g c) → IsSound (with
 made_sound g c m =
     with_block_sound c.block_size-wanted.result m.place (heap_of c.self.inside) (held g c m) c.self.invariant.sound c.self.invariant.least (sym c.block_size-wanted.ensures.value) m.len c.block_size-wanted.ensures.least (lacks_it g (earlier g c)) (slot_is g (earlier g c)) m.room
 
-ring_is : (g : Over) (c : After-is_none g) → IsRing (with_items c.self.inside.region c.serve-outcome.new.region).items
-ring_is g c = subst IsRing (sym (items_are g c)) c.serve-outcome.ensures.ring
-
-exact_is : (g : Over) (c : After-is_none g) → AreExact c.self.inside.lumps (with_items c.self.inside.homes c.serve-outcome.new.homes).items (blocks_in (with_items c.self.inside.region c.serve-outcome.new.region).items)
-exact_is g c =
+-- whatever came of the search, the fields are a zone where the blocks are sound
+kept : (g : Over) (c : After-is_none g) → IsSound (new_heap g c)
+    → IsZone (record c.self.inside { region = with_items c.self.inside.region c.serve-outcome.new.region; homes = with_items c.self.inside.homes c.serve-outcome.new.homes; rover = c.serve-outcome.result.rover; purges = c.saturating_add-self-inside.result })
+kept g c sound =
     let i = c.self.inside in
-    subst (λ xs. AreExact i.lumps (with_items i.homes c.serve-outcome.new.homes).items (blocks_in xs)) (sym (items_are g c)) (subst (λ hs. AreExact i.lumps hs (blocks_in c.serve-outcome.new.region)) (sym (homes_are g c)) c.serve-outcome.ensures.exact)
+    zone_with i c.self.invariant (with_items i.region c.serve-outcome.new.region) (with_items i.homes c.serve-outcome.new.homes) c.serve-outcome.result.rover c.saturating_add-self-inside.result refl refl sound (subst IsRing (sym (items_are g c)) c.serve-outcome.ensures.ring)
+    (subst (λ xs. AreExact i.lumps (with_items i.homes c.serve-outcome.new.homes).items (blocks_in xs)) (sym (items_are g c)) (subst (λ hs. AreExact i.lumps hs (blocks_in c.serve-outcome.new.region)) (sym (homes_are g c)) c.serve-outcome.ensures.exact))
 
 pub invariant_of-self : goal.invariant_of-self
 invariant_of-self g c =
     let d = (goal.at.invariant_of-self g c).After-is_none in
-    let zone = c.self.invariant in
-    record {
-      sound = subst IsSound (sym (none_heap g d c.if-is_none.true)) (without_room_sound c.block_size-wanted.result (heap_of c.self.inside) zone.sound zone.least);
-      ring = ring_is g d;
-      exact = exact_is g d;
-      region = zone.region;
-      least = zone.least;
-      small = zone.small;
-      lumps = zone.lumps;
-      composites = zone.composites;
-      homes = zone.homes;
-    }
+    kept g d (subst IsSound (sym (none_heap g d c.if-is_none.true)) (without_room_sound c.block_size-wanted.result (heap_of c.self.inside) c.self.invariant.sound c.self.invariant.least))
 
 pub invariant_of-self-2 : goal.invariant_of-self-2
 invariant_of-self-2 g c =
     let d = (goal.at.invariant_of-self-2 g c).After-is_none in
     let m = made g d c.if-is_none.false in
-    let zone = c.self.invariant in
-    record {
-      sound = subst IsSound (sym m.heap) (made_sound g d m);
-      ring = ring_is g d;
-      exact = exact_is g d;
-      region = zone.region;
-      least = zone.least;
-      small = zone.small;
-      lumps = zone.lumps;
-      composites = zone.composites;
-      homes = zone.homes;
-    }
+    kept g d (subst IsSound (sym m.heap) (made_sound g d m))
 
 pub returns-clause-sound : goal.returns-clause-sound
 returns-clause-sound g c = let d = (goal.at.returns-clause-sound g c).After-is_none in let m = made g d c.if-is_none.false in subst IsSound (sym m.heap) (made_sound g d m)
