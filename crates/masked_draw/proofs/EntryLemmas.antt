@@ -200,30 +200,24 @@ front_has e d drawseg first last x s f l t =
 skip_behind : (a b c d : Bool) → b ≡ false → c ≡ d → (a && c) ≡ (a && (not b && d))
 skip_behind a b c d h e = ap (λ (z : Bool). a && z) e ∙ sym (ap (λ (z : Bool). a && (not z && d)) h)
 
-front_bottom : (e : SpriteEntry) (d : FragmentNote) (drawseg : Drawseg) (first last x : ℕ) → IsSegOf d drawseg → e.first ≡ pos first → e.last ≡ pos last → entry_has e x ≡ true → is_behind drawseg e ≡ false →
-    (is_between (max first d.first) (min last d.last) x && clips_bottom d e) ≡ gives_bottom e x drawseg
-unfolding gives_bottom
-front_bottom e d drawseg first last x s f l t b =
-    let h = s.has_bottom in
-    let z = s.bottom_height in
-    let same : clips_bottom d e ≡ (drawseg.has_bottom && int_lt e.gz drawseg.bottom_height) = sym (ap (λ (c : Bool). c && int_lt e.gz drawseg.bottom_height) h ∙ ap (λ (y : ℤ). not (bit_and d.silhouette SIL_BOTTOM == 0) && int_lt e.gz y) z) in
-    ap (λ (c : Bool). c && clips_bottom d e) (front_has e d drawseg first last x s f l t)
-    ∙ skip_behind (drawseg_has drawseg x) (is_behind drawseg e) (clips_bottom d e) (drawseg.has_bottom && int_lt e.gz drawseg.bottom_height) b same
+-- so it gives a clip in its columns where it has one of that kind
+front_gives : (e : SpriteEntry) (d : FragmentNote) (drawseg : Drawseg) (first last x : ℕ) (clips gives : Bool) → IsSegOf d drawseg → e.first ≡ pos first → e.last ≡ pos last → entry_has e x ≡ true → is_behind drawseg e ≡ false → clips ≡ gives →
+    (is_between (max first d.first) (min last d.last) x && clips) ≡ (drawseg_has drawseg x && (not (is_behind drawseg e) && gives))
+front_gives e d drawseg first last x clips gives s f l t b same =
+    ap (λ (c : Bool). c && clips) (front_has e d drawseg first last x s f l t) ∙ skip_behind (drawseg_has drawseg x) (is_behind drawseg e) clips gives b same
 
-front_top : (e : SpriteEntry) (d : FragmentNote) (drawseg : Drawseg) (first last x : ℕ) → IsSegOf d drawseg → e.first ≡ pos first → e.last ≡ pos last → entry_has e x ≡ true → is_behind drawseg e ≡ false →
-    (is_between (max first d.first) (min last d.last) x && clips_top d e) ≡ gives_top e x drawseg
-unfolding gives_top
-front_top e d drawseg first last x s f l t b =
-    let h = s.has_top in
-    let z = s.top_height in
-    let same : clips_top d e ≡ (drawseg.has_top && int_lt drawseg.top_height e.gzt) = sym (ap (λ (c : Bool). c && int_lt drawseg.top_height e.gzt) h ∙ ap (λ (y : ℤ). not (bit_and d.silhouette SIL_TOP == 0) && int_lt y e.gzt) z) in
-    ap (λ (c : Bool). c && clips_top d e) (front_has e d drawseg first last x s f l t)
-    ∙ skip_behind (drawseg_has drawseg x) (is_behind drawseg e) (clips_top d e) (drawseg.has_top && int_lt drawseg.top_height e.gzt) b same
+clips_bottom-seg : (e : SpriteEntry) (d : FragmentNote) (drawseg : Drawseg) → IsSegOf d drawseg → clips_bottom d e ≡ (drawseg.has_bottom && int_lt e.gz drawseg.bottom_height)
+clips_bottom-seg e d drawseg s = sym (ap (λ (c : Bool). c && int_lt e.gz drawseg.bottom_height) s.has_bottom ∙ ap (λ (y : ℤ). not (bit_and d.silhouette SIL_BOTTOM == 0) && int_lt e.gz y) s.bottom_height)
+
+clips_top-seg : (e : SpriteEntry) (d : FragmentNote) (drawseg : Drawseg) → IsSegOf d drawseg → clips_top d e ≡ (drawseg.has_top && int_lt drawseg.top_height e.gzt)
+clips_top-seg e d drawseg s = sym (ap (λ (c : Bool). c && int_lt drawseg.top_height e.gzt) s.has_top ∙ ap (λ (y : ℤ). not (bit_and d.silhouette SIL_TOP == 0) && int_lt y e.gzt) s.top_height)
 
 pub front-bottom : (e : SpriteEntry) (d : FragmentNote) (drawseg : Drawseg) (first last x : ℕ) (row : ℤ) (old new : Option ℤ) → IsSegOf d drawseg → e.first ≡ pos first → e.last ≡ pos last → entry_has e x ≡ true → is_behind drawseg e ≡ false →
     new ≡ row_after (is_between (max first d.first) (min last d.last) x && clips_bottom d e) row old → new ≡ row_after (gives_bottom e x drawseg) row old
-front-bottom e d drawseg first last x row old new s f l t b h = h ∙ ap (λ (c : Bool). row_after c row old) (front_bottom e d drawseg first last x s f l t b)
+unfolding gives_bottom
+front-bottom e d drawseg first last x row old new s f l t b h = h ∙ ap (λ (c : Bool). row_after c row old) (front_gives e d drawseg first last x _ _ s f l t b (clips_bottom-seg e d drawseg s))
 
 pub front-top : (e : SpriteEntry) (d : FragmentNote) (drawseg : Drawseg) (first last x : ℕ) (row : ℤ) (old new : Option ℤ) → IsSegOf d drawseg → e.first ≡ pos first → e.last ≡ pos last → entry_has e x ≡ true → is_behind drawseg e ≡ false →
     new ≡ row_after (is_between (max first d.first) (min last d.last) x && clips_top d e) row old → new ≡ row_after (gives_top e x drawseg) row old
-front-top e d drawseg first last x row old new s f l t b h = h ∙ ap (λ (c : Bool). row_after c row old) (front_top e d drawseg first last x s f l t b)
+unfolding gives_top
+front-top e d drawseg first last x row old new s f l t b h = h ∙ ap (λ (c : Bool). row_after c row old) (front_gives e d drawseg first last x _ _ s f l t b (clips_top-seg e d drawseg s))

@@ -5,6 +5,7 @@ pub mod RowLemmas
 pub mod DownLemmas
 pub mod StepLemmas
 pub mod SceneLemmas
+pub mod KeptLemmas
 pub mod EntryLemmas
 pub mod PostLemmas
 pub mod LoopLemmas

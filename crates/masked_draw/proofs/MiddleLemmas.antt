@@ -35,7 +35,7 @@ use Rattle.picture_rules.specs.declared.wall.FragmentNote.{FragmentNote}
 use Rattle.picture_rules.specs.sprite.Drawsegs.{Drawseg}
 use Rattle.picture_rules.specs.sprite.Middles.{drawseg_scale, middle_by as dots_by, middle_column, middle_masked}
 use Rattle.texture_build.specs.Arts.{view_art}
-use Rattle.texture_build.specs.Sources.{column_in, column_index}
+use Rattle.texture_build.specs.Sources.{IsColumnLive, IsColumnThere, column_in, column_index}
 use Rattle.texture_build.specs.Views.{TexturesView, prepared_texture}
 use Rattle.texture_build.specs.Draws.{FitsBeside, FitBeside, HoldsArt}
 use Rattle.texture_build.proofs.BesideLemmas.{fit_beside-append, fit_beside-as, fit_beside-column_dots}
@@ -163,6 +163,32 @@ read-from s note middle x lump place col is column single = record {
       ∙ ap (column_in (prepared_texture s.textures.now middle.tex.0)) (sym column)
       ∙ single-lookup _ lump place single;
 }
+
+-- and the lump is there and live
+pub record IsReadLive (s : MaskScene) (note : FragmentNote) (x : ℕ) (z : Heap) (lump place : ℕ) :
+    Type 0 where
+  pub from : IsReadFrom s.textures.now (scene_drawseg s note) x lump place
+  pub there : lump < length s.dir.now.lumps
+  pub live : IsLive z (lump_owner lump)
+
+pub read-live : {s : MaskScene} {note : FragmentNote} {middle : Middle} {x lump place : ℕ}
+    {col asked : ℤ} (z : Heap) → asked ≡ col → IsMiddleOf s note middle.number middle →
+    col ≡ (scene_drawseg s note).column x →
+    IsColumnThere s.dir.now.lumps (column_in (prepared_texture s.textures.now middle.tex.0) col) →
+    IsColumnLive middle.tex.0 z (column_in (prepared_texture s.textures.now middle.tex.0) col) →
+    single_place (column_in (prepared_texture s.textures.now middle.tex.0) asked)
+    ≡ Some (lump, place) → IsReadLive s note x z lump place
+read-live {s} {note} {middle} {x} {lump} {place} {col} z same is column there live asked =
+    let single : single_place (column_in (prepared_texture s.textures.now middle.tex.0) col)
+    ≡ Some (lump, place) =
+    ap (λ (k : ℤ). single_place (column_in (prepared_texture s.textures.now middle.tex.0) k))
+    (sym same) ∙ asked in
+    let lookup = single-lookup _ lump place single in
+    record {
+      from = read-from s note middle x lump place col is column single;
+      there = subst (IsColumnThere s.dir.now.lumps) lookup there;
+      live = subst (IsColumnLive middle.tex.0 z) lookup live;
+    }
 
 -- a canvas on which its painter began, and its posts were painted
 pub middle-painted : (mark : Painter → ℕ → ℕ) (v : ViewValue) (bytes : ℕ → List ℕ)

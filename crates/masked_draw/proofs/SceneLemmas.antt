@@ -114,24 +114,24 @@ has_parts : (a : Drawseg) (x : ℕ) → drawseg_has a x ≡ true → (a.first �
 unfolding drawseg_has
 has_parts a x h = let p = and_parts (nat_le a.first x) (nat_le x a.last) h in (leb-true a.first x p.0, leb-true x a.last p.1)
 
+given_parts : (a : Drawseg) (e : SpriteEntry) (x : ℕ) (has meets : Bool) → (drawseg_has a x && (not (is_behind a e) && (has && meets))) ≡ true → ((a.first ≤ x) × (x ≤ a.last)) × (has ≡ true)
+given_parts a e x has meets g =
+    let one = and_parts (drawseg_has a x) (not (is_behind a e) && (has && meets)) g in
+    let two = and_parts (not (is_behind a e)) (has && meets) one.1 in
+    (has_parts a x one.0, (and_parts has meets two.1).0)
+
 pub gives_bottom-bounds : (s : MaskScene) (d : FragmentNote) (e : SpriteEntry) (x : ℕ) → IsWholeNote s.view.now.shape s.openings.now d → gives_bottom e x (scene_drawseg s d) ≡ true →
     (least_clip ≤ℤ (scene_drawseg s d).bottom_clip x) × ((scene_drawseg s d).bottom_clip x ≤ℤ pos s.view.now.shape.height)
 unfolding gives_bottom noted_drawseg
 gives_bottom-bounds s d e x whole g =
     let seg = scene_drawseg s d in
-    let one = and_parts (drawseg_has seg x) (not (is_behind seg e) && (seg.has_bottom && int_lt e.gz seg.bottom_height)) g in
-    let two = and_parts (not (is_behind seg e)) (seg.has_bottom && int_lt e.gz seg.bottom_height) one.1 in
-    let three = and_parts seg.has_bottom (int_lt e.gz seg.bottom_height) two.1 in
-    let columns = has_parts seg x one.0 in
-    whole.bottom_rows x columns.0 columns.1 (whole.bottom (not_zero _ three.0))
+    let given = given_parts seg e x seg.has_bottom (int_lt e.gz seg.bottom_height) g in
+    whole.bottom_rows x given.0.0 given.0.1 (whole.bottom (not_zero _ given.1))
 
 pub gives_top-bounds : (s : MaskScene) (d : FragmentNote) (e : SpriteEntry) (x : ℕ) → IsWholeNote s.view.now.shape s.openings.now d → gives_top e x (scene_drawseg s d) ≡ true →
     (minus_one ≤ℤ (scene_drawseg s d).top_clip x) × ((scene_drawseg s d).top_clip x ≤ℤ greatest_clip)
 unfolding gives_top noted_drawseg
 gives_top-bounds s d e x whole g =
     let seg = scene_drawseg s d in
-    let one = and_parts (drawseg_has seg x) (not (is_behind seg e) && (seg.has_top && int_lt seg.top_height e.gzt)) g in
-    let two = and_parts (not (is_behind seg e)) (seg.has_top && int_lt seg.top_height e.gzt) one.1 in
-    let three = and_parts seg.has_top (int_lt seg.top_height e.gzt) two.1 in
-    let columns = has_parts seg x one.0 in
-    whole.top_rows x columns.0 columns.1 (whole.top (not_zero _ three.0))
+    let given = given_parts seg e x seg.has_top (int_lt seg.top_height e.gzt) g in
+    whole.top_rows x given.0.0 given.0.1 (whole.top (not_zero _ given.1))

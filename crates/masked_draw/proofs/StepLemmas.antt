@@ -1,7 +1,6 @@
 -- Laws of what a call of the masked pass paints: nothing, one after the other, an error, and the same dots by other words.
 use Rattle.std.proofs.Common.{◌≡◌, ℕ, List, ◌++◌, [], Result, Ok, Err, IsErrAnd, OnOk, subst}
 use Rattle.lump_cache.specs.declared.fault.CacheFault.{CacheFault}
-use Rattle.lump_cache.specs.Caches.{KeepsCounts}
 use Rattle.pixel_rules.specs.declared.Painter.{Painter}
 use Rattle.pixel_rules.specs.Dots.{Dot}
 use Rattle.pixel_rules.specs.Art.{Art}
@@ -101,13 +100,9 @@ paints-wider wider more one = record { painted = one.painted; fits = one.fits; d
 -- what a call asks it may ask again
 pub can_paint-later : {A : Type 0} {mark : Painter → ℕ → ℕ} {s : MaskScene} {among pictures : ℕ → Type 0} {f : Art → List Dot} {a b : MaskState} {result : Result A CacheFault} →
     PaintsDots mark s among pictures f a b result → CanPaint s a → CanPaint s b
-can_paint-later {s = s} {a = a} {b} one can =
-    let counts : KeepsCounts a.cache b.cache = one.draws.keeps.counts in
-    let left = one.place.left in
-    let top = one.place.top in
-    record {
-      slots = rw counts.1 can.slots;
-      colormap = can.colormap;
-      left = rw left can.left;
-      top = rw top can.top;
-    }
+can_paint-later one can = record {
+  slots = rw one.draws.keeps.counts.1 can.slots;
+  colormap = can.colormap;
+  left = rw one.place.left can.left;
+  top = rw one.place.top can.top;
+}

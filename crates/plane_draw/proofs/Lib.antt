@@ -1,4 +1,5 @@
 pub mod StepLemmas
+pub mod KeptLemmas
 pub mod PlaneLemmas
 pub mod SkyLemmas
 pub mod CanLemmas

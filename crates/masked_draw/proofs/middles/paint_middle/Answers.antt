@@ -1,5 +1,5 @@
 -- The loop paints and marks the columns one by one.
-use Rattle.std.proofs.Common.{◌≡◌, ℕ, ◌+◌, ◌≤◌, Bool, List, ◌++◌, Some, refl, sym, ap, ◌∙◌, arith}
+use Rattle.std.proofs.Common.{◌≡◌, ℕ, ◌+◌, ◌≤◌, Bool, List, ◌++◌, Some, sym, ap, ◌∙◌, arith}
 use Rattle.pixel_rules.specs.Art.{Art}
 use Rattle.view_rules.specs.View.{ViewValue}
 use Rattle.picture_rules.specs.declared.wall.FragmentNote.{FragmentNote}
@@ -8,6 +8,7 @@ use Rattle.picture_rules.specs.sprite.Middles.{middle_column}
 use Rattle.masked_draw.specs.Marks.{MarksBy, if_unmarked, is_between, mark_of, unmarked_dots}
 use Rattle.masked_draw.specs.Scenes.{scene_drawseg}
 use Rattle.masked_draw.proofs.MarkLemmas.{between, marks-here, marks-more, marks-start, unmarked-more, unmarked-plain, unmarked-start}
+use Rattle.masked_draw.proofs.KeptLemmas.{keeps-none, keeps-then}
 use Rattle.masked_draw.proofs.StepLemmas.{can_paint-later, paints-none, paints-same, paints-then, paints-then_stop}
 use Rattle.masked_draw.proofs.SceneLemmas.{listed_note-later}
 use Rattle.masked_draw.proofs.middles.paint_middle.Goals as goal
@@ -29,11 +30,7 @@ pub loop-x-init : goal.loop-x-init
 loop-x-init g c =
     let s = c.args.scene.now in
     record {
-      same_cache = refl;
-      same_shelf = refl;
-      same_canvas = refl;
-      same_marks = refl;
-      marks = refl;
+      kept = keeps-none _;
       ready = c.requires.note.paint;
       listed = c.requires.note.listed;
       marked = marks-start c.args.note.now c.args.first c.args.hands.now.marks.now;
@@ -52,11 +49,7 @@ loop-x-preserved g c =
     let e = c.in_ok-paint_unmarked.ensures in
     let masked = c.middle_of-middle.ensures.middle.place in
     record {
-      same_cache = e.same.0 ∙ i.same_cache;
-      same_shelf = e.same.1.0 ∙ i.same_shelf;
-      same_canvas = e.same.1.1.0 ∙ i.same_canvas;
-      same_marks = e.same.1.1.1 ∙ i.same_marks;
-      marks = e.marks ∙ i.marks;
+      kept = keeps-then i.kept e.same e.marks;
       ready = can_paint-later e.paints i.ready;
       listed = listed_note-later e.paints i.listed;
       marked = marks-more d c.middle_of-middle.result.place c.args.first c.loop-x.x _ _ _ masked c.requires.begins c.loop-x.auto.x (omega arith) i.marked e.marked e.others;

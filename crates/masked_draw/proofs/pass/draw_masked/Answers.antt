@@ -1,4 +1,5 @@
 -- The sprites, and then the columns that are left.
+use Rattle.std.proofs.Common.{rules}
 use Rattle.picture_rules.specs.sprite.Order.{draw_order}
 use Rattle.masked_draw.proofs.PassLemmas.{pass-end}
 use Rattle.masked_draw.proofs.SceneLemmas.{can_pass-later}
@@ -23,30 +24,15 @@ draw_middles-requires g c =
       });
     }
 
-pub returns-clause-painted : goal.returns-clause-painted
-returns-clause-painted g c =
-    let sprites = c.args.sprites.now in
-    let middles = c.draw_middles.ensures.paints (draw_order sprites) c.in_ok-draw_sprites.ensures.marked in
-    let all = pass-end _ c.args.notes.now sprites c.in_ok-draw_sprites.ensures.paints middles in
-    λ contents count art. all.painted contents count art
-
-pub returns-clause-fits : goal.returns-clause-fits
-returns-clause-fits g c =
-    let sprites = c.args.sprites.now in
-    let middles = c.draw_middles.ensures.paints (draw_order sprites) c.in_ok-draw_sprites.ensures.marked in
-    let all = pass-end _ c.args.notes.now sprites c.in_ok-draw_sprites.ensures.paints middles in
-    λ contents count art. all.fits contents count art
-
-pub returns-clause-draws : goal.returns-clause-draws
-returns-clause-draws g c =
-    let sprites = c.args.sprites.now in
-    let middles = c.draw_middles.ensures.paints (draw_order sprites) c.in_ok-draw_sprites.ensures.marked in
-    let all = pass-end _ c.args.notes.now sprites c.in_ok-draw_sprites.ensures.paints middles in
-    all.draws
-
-pub returns-clause-place : goal.returns-clause-place
-returns-clause-place g c =
-    let sprites = c.args.sprites.now in
-    let middles = c.draw_middles.ensures.paints (draw_order sprites) c.in_ok-draw_sprites.ensures.marked in
-    let all = pass-end _ c.args.notes.now sprites c.in_ok-draw_sprites.ensures.paints middles in
-    all.place
+pub returns : goal.returns
+returns g c =
+    let sprites = c.in_ok-draw_sprites.ensures in
+    let all = pass-end _ c.args.notes.now c.args.sprites.now sprites.paints (c.draw_middles.ensures.paints (draw_order c.args.sprites.now) sprites.marked) in
+    record {
+      same = search rules;
+      marks = search rules;
+      painted = all.painted;
+      fits = all.fits;
+      draws = all.draws;
+      place = all.place;
+    }

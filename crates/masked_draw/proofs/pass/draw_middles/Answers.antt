@@ -1,24 +1,20 @@
 -- One fragment after the other, from the last down.
-use Rattle.std.proofs.Common.{◌≡◌, ◌+◌, ◌-◌, ◌<◌, length, refl, ◌∙◌, arith}
+use Rattle.std.proofs.Common.{◌≡◌, ◌+◌, ◌-◌, ◌<◌, length, refl, arith}
+use Rattle.masked_draw.proofs.KeptLemmas.{keeps-more, keeps-start}
 use Rattle.masked_draw.proofs.LoopLemmas.{leaves-end, leaves-more, leaves-start, leaves-stop, note-get}
-use Rattle.masked_draw.proofs.SceneLemmas.{can_pass-later, can_pass-note, scene-apart, scene-whole}
+use Rattle.masked_draw.proofs.SceneLemmas.{can_pass-note, scene-apart, scene-whole}
 use Rattle.masked_draw.proofs.pass.draw_middles.Goals as goal
 
 pub loop-k-init : goal.loop-k-init
 loop-k-init g c = record {
-  same_cache = refl;
-  same_shelf = refl;
-  same_canvas = refl;
-  same_marks = refl;
-  marks = refl;
-  ready = c.requires.ready;
+  kept = keeps-start c.requires.ready;
   leaves = λ es h. leaves-start c.args.scene.now c.args.notes.now es g.C.Canvas.mark _ _ h;
 }
 
 pub paint_middle-requires-clause-note : goal.paint_middle-requires-clause-note
 paint_middle-requires-clause-note g c =
     let below : c.loop-k.k - 1 < length c.args.notes.now = omega arith in
-    can_pass-note (c.loop-k.k - 1) _ c.loop-k.invariant.ready (note-get c.args.notes.now (c.loop-k.k - 1) _ below) below
+    can_pass-note (c.loop-k.k - 1) _ c.loop-k.invariant.kept.ready (note-get c.args.notes.now (c.loop-k.k - 1) _ below) below
 
 pub paint_middle-requires-clause-ordered : goal.paint_middle-requires-clause-ordered
 paint_middle-requires-clause-ordered g c = (scene-whole (c.loop-k.k - 1) _ c.requires.ready.noted (note-get c.args.notes.now (c.loop-k.k - 1) _ (omega arith))).ordered
@@ -28,16 +24,11 @@ loop-k-preserved g c =
     let i = c.loop-k.invariant in
     let e = c.in_ok-paint_middle.ensures in
     record {
-      same_cache = e.same.0 ∙ i.same_cache;
-      same_shelf = e.same.1.0 ∙ i.same_shelf;
-      same_canvas = e.same.1.1.0 ∙ i.same_canvas;
-      same_marks = e.same.1.1.1 ∙ i.same_marks;
-      marks = e.marks ∙ i.marks;
-      ready = can_pass-later _ _ e.paints e.marks i.ready;
+      kept = keeps-more i.kept e.same e.marks e.paints;
       leaves = λ es h.
           let up : c.loop-k.k ≡ c.loop-k.k - 1 + 1 = omega arith in
           let below : c.loop-k.k - 1 < length c.args.notes.now = omega arith in
-          leaves-more c.args.scene.now c.args.notes.now es c.loop-k.k (c.loop-k.k - 1) _ _ _ _ (scene-apart i.ready.noted) below (note-get c.args.notes.now (c.loop-k.k - 1) _ below) refl up (i.leaves es h) e.paints e.marked;
+          leaves-more c.args.scene.now c.args.notes.now es c.loop-k.k (c.loop-k.k - 1) _ _ _ _ (scene-apart i.kept.ready.noted) below (note-get c.args.notes.now (c.loop-k.k - 1) _ below) refl up (i.leaves es h) e.paints e.marked;
     }
 
 pub returns-in_err-paint_middle-clause-paints : goal.returns-in_err-paint_middle-clause-paints

@@ -30,19 +30,13 @@ returns-then-entry-clause-sprite g c = λ es i l f h.
     let e = c.args.entry.now in
     sprite-none c.args.scene.now c.args.notes.now es i e _ _ l f (empty_by _ _ e.first e.last (to_z-of_z w32 e.first (search rules)) (to_z-of_z w32 e.last (search rules)) c.if-entry.true) h
 
-pub column_of-first-requires-clause-least : goal.column_of-first-requires-clause-least
-column_of-first-requires-clause-least g c =
+pub column_of-first-requires : goal.column_of-first-requires
+column_of-first-requires g c =
     let e = c.args.entry.now in
     let o = ordered_by _ _ e.first e.last (to_z-of_z w32 e.first (search rules)) (to_z-of_z w32 e.last (search rules)) c.if-entry.false in
     let n = entry-numbers e c.args.scene.now.view.now.shape.width (omega (arith, c.requires.ready.paint.left)) c.requires.within o in
-    subst (λ (z : ℤ). pos 0 ≤ℤ z) (sym (to_z-of_z w32 e.first (search rules))) n.first_least
-
-pub column_of-first-requires-clause-greatest : goal.column_of-first-requires-clause-greatest
-column_of-first-requires-clause-greatest g c =
-    let e = c.args.entry.now in
-    let o = ordered_by _ _ e.first e.last (to_z-of_z w32 e.first (search rules)) (to_z-of_z w32 e.last (search rules)) c.if-entry.false in
-    let n = entry-numbers e c.args.scene.now.view.now.shape.width (omega (arith, c.requires.ready.paint.left)) c.requires.within o in
-    subst (λ (z : ℤ). z <ℤ pos (2 ^ 16)) (sym (to_z-of_z w32 e.first (search rules))) n.first_greatest
+    let first = sym (to_z-of_z w32 e.first (search rules)) in
+    record { least = subst (λ (z : ℤ). pos 0 ≤ℤ z) first n.first_least; greatest = subst (λ (z : ℤ). z <ℤ pos (2 ^ 16)) first n.first_greatest }
 
 pub column_of-last-requires-clause-greatest : goal.column_of-last-requires-clause-greatest
 column_of-last-requires-clause-greatest g c =

@@ -1,5 +1,5 @@
 -- One sprite after the other, in drawing order.
-use Rattle.std.proofs.Common.{◌≡◌, ℕ, List, length, refl, sym, ap, ◌∙◌, subst}
+use Rattle.std.proofs.Common.{◌≡◌, ℕ, List, length, sym, ap, ◌∙◌, subst}
 use Rattle.std.proofs.lemmas.List.{length_push, map-id}
 use Rattle.std.proofs.lemmas.Iterator.Consumers.{YieldsList-end, YieldsList-from_first, YieldsList-turn}
 use Rattle.picture_rules.specs.declared.sprite.SpriteEntry.{SpriteEntry}
@@ -8,18 +8,13 @@ use Rattle.picture_rules.specs.sprite.Middles.{sprites_from}
 use Rattle.masked_draw.specs.Marks.{MarkedTo}
 use Rattle.masked_draw.specs.Scenes.{scene_drawseg, scene_drawsegs}
 use Rattle.masked_draw.proofs.PassLemmas.{marked-first, sprite-get, sprite-lies, sprite-lump, sprites-more, sprites-start, sprites-stop}
-use Rattle.masked_draw.proofs.SceneLemmas.{can_pass-later}
+use Rattle.masked_draw.proofs.KeptLemmas.{keeps-more, keeps-start}
 use Rattle.masked_draw.proofs.StepLemmas.{paints-same}
 use Rattle.masked_draw.proofs.pass.draw_sprites.Goals as goal
 
 pub loop-entry-init : goal.loop-entry-init
 loop-entry-init g c = record {
-  same_cache = refl;
-  same_shelf = refl;
-  same_canvas = refl;
-  same_marks = refl;
-  marks = refl;
-  ready = c.requires.ready;
+  kept = keeps-start c.requires.ready;
   marked = marked-first (scene_drawseg c.args.scene.now) c.args.notes.now (draw_order c.args.sprites.now) _ _ c.requires.unmarked;
   paints = sprites-start c.args.scene.now c.args.notes.now c.args.sprites.now _;
 }
@@ -43,12 +38,7 @@ loop-entry-preserved g c =
     let e = c.in_ok-draw_sprite.ensures in
     let sprite = e.sprite es (length c.loop-entry.yielded) t.0 (sprite-get es (length c.loop-entry.yielded) c.in-Some.entry t) i.marked in
     record {
-      same_cache = e.same.0 ∙ i.same_cache;
-      same_shelf = e.same.1.0 ∙ i.same_shelf;
-      same_canvas = e.same.1.1.0 ∙ i.same_canvas;
-      same_marks = e.same.1.1.1 ∙ i.same_marks;
-      marks = e.marks ∙ i.marks;
-      ready = can_pass-later _ _ sprite.paints e.marks i.ready;
+      kept = keeps-more i.kept e.same e.marks sprite.paints;
       marked = subst (λ (n : ℕ). MarkedTo (scene_drawseg s) c.args.notes.now es (length c.args.notes.now) (λ k. n) c.draw_sprite.new.hands.marks.now) (sym (length_push c.loop-entry.yielded c.in-Some.entry)) sprite.marked;
       paints = sprites-more s c.args.notes.now c.args.sprites.now c.loop-entry.yielded c.in-Some.entry _ t i.paints sprite;
     }

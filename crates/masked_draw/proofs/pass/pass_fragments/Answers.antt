@@ -1,17 +1,13 @@
 -- One fragment after the other, from the last down.
-use Rattle.std.proofs.Common.{◌≡◌, ◌+◌, ◌-◌, ◌<◌, length, refl, ◌∙◌, arith}
+use Rattle.std.proofs.Common.{◌≡◌, ◌+◌, ◌-◌, ◌<◌, length, refl, arith}
+use Rattle.masked_draw.proofs.KeptLemmas.{keeps-more, keeps-start}
 use Rattle.masked_draw.proofs.LoopLemmas.{clips-end, clips-more, clips-start, note-get, passes-end, passes-more, passes-start, passes-stop}
-use Rattle.masked_draw.proofs.SceneLemmas.{can_pass-later, can_pass-note, scene-apart, scene-whole}
+use Rattle.masked_draw.proofs.SceneLemmas.{can_pass-note, scene-apart, scene-whole}
 use Rattle.masked_draw.proofs.pass.pass_fragments.Goals as goal
 
 pub loop-k-init : goal.loop-k-init
 loop-k-init g c = record {
-  same_cache = refl;
-  same_shelf = refl;
-  same_canvas = refl;
-  same_marks = refl;
-  marks = refl;
-  ready = c.requires.ready;
+  kept = keeps-start c.requires.ready;
   clips = clips-start c.args.scene.now c.args.notes.now c.args.entry.now c.args.clips.now c.requires.tops c.requires.bottoms;
   passes = λ es i l e h. passes-start c.args.scene.now c.args.notes.now es g.C.Canvas.mark i _ _ h;
 }
@@ -19,7 +15,7 @@ loop-k-init g c = record {
 pub pass_fragment-requires-clause-note : goal.pass_fragment-requires-clause-note
 pass_fragment-requires-clause-note g c =
     let below : c.loop-k.k - 1 < length c.args.notes.now = omega arith in
-    can_pass-note (c.loop-k.k - 1) _ c.loop-k.invariant.ready (note-get c.args.notes.now (c.loop-k.k - 1) _ below) below
+    can_pass-note (c.loop-k.k - 1) _ c.loop-k.invariant.kept.ready (note-get c.args.notes.now (c.loop-k.k - 1) _ below) below
 
 pub loop-k-preserved : goal.loop-k-preserved
 loop-k-preserved g c =
@@ -28,16 +24,11 @@ loop-k-preserved g c =
     let up : c.loop-k.k ≡ c.loop-k.k - 1 + 1 = omega arith in
     let below : c.loop-k.k - 1 < length c.args.notes.now = omega arith in
     record {
-      same_cache = e.same.0 ∙ i.same_cache;
-      same_shelf = e.same.1.0 ∙ i.same_shelf;
-      same_canvas = e.same.1.1.0 ∙ i.same_canvas;
-      same_marks = e.same.1.1.1 ∙ i.same_marks;
-      marks = e.marks ∙ i.marks;
-      ready = can_pass-later _ _ e.paints e.marks i.ready;
-      clips = clips-more c.args.scene.now c.args.notes.now c.args.entry.now c.loop-k.k (c.loop-k.k - 1) _ _ _ (scene-whole (c.loop-k.k - 1) _ i.ready.noted (note-get c.args.notes.now (c.loop-k.k - 1) _ below))
+      kept = keeps-more i.kept e.same e.marks e.paints;
+      clips = clips-more c.args.scene.now c.args.notes.now c.args.entry.now c.loop-k.k (c.loop-k.k - 1) _ _ _ (scene-whole (c.loop-k.k - 1) _ i.kept.ready.noted (note-get c.args.notes.now (c.loop-k.k - 1) _ below))
           (note-get c.args.notes.now (c.loop-k.k - 1) _ below) e.rows up i.clips;
       passes = λ es n l f h.
-          passes-more c.args.scene.now c.args.notes.now es c.args.entry.now n c.loop-k.k (c.loop-k.k - 1) _ _ _ _ (scene-apart i.ready.noted) below (note-get c.args.notes.now (c.loop-k.k - 1) _ below) refl l f up (i.passes es n l f h) e.paints e.marked;
+          passes-more c.args.scene.now c.args.notes.now es c.args.entry.now n c.loop-k.k (c.loop-k.k - 1) _ _ _ _ (scene-apart i.kept.ready.noted) below (note-get c.args.notes.now (c.loop-k.k - 1) _ below) refl l f up (i.passes es n l f h) e.paints e.marked;
     }
 
 pub returns-in_err-pass_fragment-clause-passed : goal.returns-in_err-pass_fragment-clause-passed

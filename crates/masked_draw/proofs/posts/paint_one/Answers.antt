@@ -2,7 +2,10 @@ use Rattle.std.proofs.Common.{◌≡◌, ◌≤ℤ◌, ◌<ℤ◌, ℕ, ℤ, pos
 use Rattle.std.specs.Prelude.{int_lt}
 use Rattle.std.proofs.lemmas.Int.{ints, to_z-of_z}
 use Rattle.word_rules.specs.Words.{fixed, minus, plus, times}
+use Rattle.view_rules.specs.declared.ViewShape.{ViewShape}
+use Rattle.pixel_rules.specs.declared.MaskedColumn.{MaskedColumn}
 use Rattle.pixel_rules.specs.declared.Painter.{Painter}
+use Rattle.pixel_rules.specs.declared.Post.{Post}
 use Rattle.pixel_rules.specs.Dots.{Dot}
 use Rattle.pixel_rules.specs.Posts.{post_first, post_last, post_top, post_bottom, picture_top}
 use Rattle.pixel_rules.specs.Strips.{row_fraction, shade}
@@ -23,29 +26,27 @@ in_order first last h = grind (arith, ints)
 past : (first last : ℤ) → last <ℤ first → int_lt last first ≡ true
 past first last h = grind (arith, ints)
 
-pub returns-then-first-last : goal.returns-then-first-last
+-- the rows of a post, whose top is at `begin`
+record ArePostRows (shape : ViewShape) (column : MaskedColumn) (post : Post) (begin row_first row_last : ℤ) : Type 0 where
+  top : begin ≡ post_top (picture_top shape column.mid column.scale) column.scale post.topdelta
+  first : row_first ≡ post_first column.top_clip begin
+  last : row_last ≡ post_last column.bottom_clip (post_bottom begin column.scale post.length)
+
+-- by the words that they are made of
+rows-words : (shape : ViewShape) (column : MaskedColumn) (post : Post) (top begin down end far row_first row_last : ℤ) → top ≡ picture_top shape column.mid column.scale → begin ≡ plus top down → down ≡ times column.scale (pos post.topdelta) →
+    end ≡ plus begin far → far ≡ times column.scale (pos post.length) → row_first ≡ post_first column.top_clip begin → row_last ≡ post_last column.bottom_clip end → ArePostRows shape column post begin row_first row_last
 unfolding post_top post_bottom
+rows-words shape column post top begin down end far row_first row_last is_top is_begin is_down is_end is_far first last = record {
+  top = is_begin ∙ ap (λ (z : ℤ). plus z down) is_top ∙ ap (plus (picture_top shape column.mid column.scale)) is_down;
+  first = first;
+  last = last ∙ ap (post_last column.bottom_clip) (is_end ∙ ap (plus begin) is_far);
+}
+
+pub returns-then-first-last : goal.returns-then-first-last
 returns-then-first-last g c =
-    let begin : c.plus-begin.result ≡ plus c.args.top c.times.result = search (rules, to_z-of_z) in
-    let down : c.times.result ≡ times c.args.column.now.scale (pos c.args.post.topdelta) =
-    search (rules, to_z-of_z) in
-    let top : c.plus-begin.result ≡ post_top (picture_top c.args.shape c.args.column.now.mid
-    c.args.column.now.scale) c.args.column.now.scale c.args.post.topdelta =
-    begin ∙ ap (λ (z : ℤ). plus z c.times.result) c.requires.top
-    ∙ ap (λ (z : ℤ). plus (picture_top c.args.shape c.args.column.now.mid
-    c.args.column.now.scale) z) down in
-    let far : c.times-2.result ≡ times c.args.column.now.scale (pos c.args.post.length) =
-    search (rules, to_z-of_z) in
-    let end : c.plus.result ≡ post_bottom c.plus-begin.result c.args.column.now.scale
-    c.args.post.length =
-    (let e : c.plus.result ≡ plus c.plus-begin.result c.times-2.result =
-    search (rules, to_z-of_z) in e ∙ ap (plus c.plus-begin.result) far) in
-    let first : c.first_row-first.result
-    ≡ post_first c.args.column.now.top_clip c.plus-begin.result = search (rules, to_z-of_z) in
-    let last : c.last_row-last.result ≡ post_last c.args.column.now.bottom_clip
-    (post_bottom c.plus-begin.result c.args.column.now.scale c.args.post.length) =
-    (let e : c.last_row-last.result ≡ post_last c.args.column.now.bottom_clip c.plus.result =
-    search (rules, to_z-of_z) in e ∙ ap (post_last c.args.column.now.bottom_clip) end) in
+    let rows : ArePostRows c.args.shape c.args.column.now c.args.post c.plus-begin.result c.first_row-first.result c.last_row-last.result =
+    rows-words _ _ _ c.args.top _ c.times.result c.plus.result c.times-2.result _ _ c.requires.top (search (rules, to_z-of_z)) (search (rules, to_z-of_z))
+    (search (rules, to_z-of_z)) (search (rules, to_z-of_z)) (search (rules, to_z-of_z)) (search (rules, to_z-of_z)) in
     let low : pos 0 ≤ℤ c.first_row-first.result = search (rules, to_z-of_z) in
     let ordered : c.first_row-first.result ≤ℤ c.last_row-last.result = search (rules, to_z-of_z) in
     let high : pos 0 ≤ℤ c.last_row-last.result = omega (arith, ints) in
@@ -70,44 +71,26 @@ returns-then-first-last g c =
     ∙ ap (λ (n : ℕ). column_strip_dots painter c.args.x (strip_colour bytes r.base shades n
     r.fraction r.step r.first) r.first r.last) t.map
     ∙ post-strip c.args.shape painter c.args.x c.args.column.now bytes shades m c.args.post
-    c.plus-begin.result r.first r.last r.base r.fraction r.step top t.base t.step
+    c.plus-begin.result r.first r.last r.base r.fraction r.step rows.top t.base t.step
     (t.fraction ∙ ap (row_fraction c.args.shape.centre_y (minus c.args.column.now.mid
     (fixed (pos c.args.post.topdelta))) c.args.column.now.iscale) (sym t.first))
-    (by_number r.first c.first_row-first.result first_no low ∙ first)
-    (by_number r.last c.last_row-last.result last_no high ∙ last)
+    (by_number r.first c.first_row-first.result first_no low ∙ rows.first)
+    (by_number r.last c.last_row-last.result last_no high ∙ rows.last)
     (subst (λ (z : ℤ). int_lt z (post_first c.args.column.now.top_clip c.plus-begin.result) ≡ false)
-    last (subst (λ (z : ℤ). int_lt c.last_row-last.result z ≡ false) first
+    rows.last (subst (λ (z : ℤ). int_lt c.last_row-last.result z ≡ false) rows.first
     (in_order c.first_row-first.result c.last_row-last.result ordered))))
 
 pub returns-else-first-last : goal.returns-else-first-last
-unfolding post_top post_bottom
 returns-else-first-last g c =
-    let begin : c.plus-begin.result ≡ plus c.args.top c.times.result = search (rules, to_z-of_z) in
-    let down : c.times.result ≡ times c.args.column.now.scale (pos c.args.post.topdelta) =
-    search (rules, to_z-of_z) in
-    let top : c.plus-begin.result ≡ post_top (picture_top c.args.shape c.args.column.now.mid
-    c.args.column.now.scale) c.args.column.now.scale c.args.post.topdelta =
-    begin ∙ ap (λ (z : ℤ). plus z c.times.result) c.requires.top
-    ∙ ap (λ (z : ℤ). plus (picture_top c.args.shape c.args.column.now.mid
-    c.args.column.now.scale) z) down in
-    let far : c.times-2.result ≡ times c.args.column.now.scale (pos c.args.post.length) =
-    search (rules, to_z-of_z) in
-    let end : c.plus.result ≡ post_bottom c.plus-begin.result c.args.column.now.scale
-    c.args.post.length =
-    (let e : c.plus.result ≡ plus c.plus-begin.result c.times-2.result =
-    search (rules, to_z-of_z) in e ∙ ap (plus c.plus-begin.result) far) in
-    let first : c.first_row-first.result
-    ≡ post_first c.args.column.now.top_clip c.plus-begin.result = search (rules, to_z-of_z) in
-    let last : c.last_row-last.result ≡ post_last c.args.column.now.bottom_clip
-    (post_bottom c.plus-begin.result c.args.column.now.scale c.args.post.length) =
-    (let e : c.last_row-last.result ≡ post_last c.args.column.now.bottom_clip c.plus.result =
-    search (rules, to_z-of_z) in e ∙ ap (post_last c.args.column.now.bottom_clip) end) in
+    let rows : ArePostRows c.args.shape c.args.column.now c.args.post c.plus-begin.result c.first_row-first.result c.last_row-last.result =
+    rows-words _ _ _ c.args.top _ c.times.result c.plus.result c.times-2.result _ _ c.requires.top (search (rules, to_z-of_z)) (search (rules, to_z-of_z))
+    (search (rules, to_z-of_z)) (search (rules, to_z-of_z)) (search (rules, to_z-of_z)) (search (rules, to_z-of_z)) in
     let over : c.last_row-last.result <ℤ c.first_row-first.result = search (rules, to_z-of_z) in
     dots_none g.C.Canvas.mark (g.C.Canvas.view c.args.canvas.now)
     ∙ ap (λ (dots : List Dot). with_dots g.C.Canvas.mark dots (g.C.Canvas.view c.args.canvas.now))
     (post-none c.args.shape (g.C.Canvas.view c.args.canvas.now).painter c.args.x c.args.column.now
     (byte_at c.args.art.now.bytes.now) (shade c.args.art.now.colormap.now c.args.art.now.map)
-    c.args.post c.plus-begin.result top
+    c.args.post c.plus-begin.result rows.top
     (subst (λ (z : ℤ). int_lt z (post_first c.args.column.now.top_clip c.plus-begin.result) ≡ true)
-    last (subst (λ (z : ℤ). int_lt c.last_row-last.result z ≡ true) first
+    rows.last (subst (λ (z : ℤ). int_lt c.last_row-last.result z ≡ true) rows.first
     (past c.first_row-first.result c.last_row-last.result over))))

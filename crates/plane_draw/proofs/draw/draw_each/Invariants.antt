@@ -1,18 +1,7 @@
 -- The planes below the number are painted.
-use Rattle.std.proofs.Common.{◌≡◌}
-use Rattle.std.specs.Prelude.{Ok}
-use Rattle.plane_draw.specs.Scenes.{CanDrawPlanes, PaintsPlanes, first_planes, plane_state}
+use Rattle.plane_draw.specs.Scenes.{first_planes}
+use Rattle.plane_draw.proofs.KeptLemmas.{KeepsPlanes}
 use Rattle.plane_draw.proofs.draw.draw_each.Given as goal
 
 abbrev pub invariant-loop-number : goal.invariant-loop-number
-invariant-loop-number g l = record {
-  same_cache : l.hands.cache.ghost_name ≡ l.initial.hands.cache.ghost_name;
-  same_shelf : l.hands.shelf.ghost_name ≡ l.initial.hands.shelf.ghost_name;
-  same_canvas : l.hands.canvas.ghost_name ≡ l.initial.hands.canvas.ghost_name;
-  ready : CanDrawPlanes l.scene (plane_state (g.S.Shelf.view l.hands.shelf.now) l.hands.cache.now (g.C.Canvas.view l.hands.canvas.now));
-  paints : PaintsPlanes g.C.Canvas.mark l.scene
-      (λ art sky. first_planes l.scene.view.now art sky l.scene.planes.now.planes l.number)
-      (plane_state (g.S.Shelf.view l.initial.hands.shelf.now) l.initial.hands.cache.now (g.C.Canvas.view l.initial.hands.canvas.now))
-      (plane_state (g.S.Shelf.view l.hands.shelf.now) l.hands.cache.now (g.C.Canvas.view l.hands.canvas.now))
-      (Ok (tt {0}));
-}
+invariant-loop-number g l = KeepsPlanes g.S.Shelf.view g.C.Canvas.view g.C.Canvas.mark l.scene (λ art sky. first_planes l.scene.view.now art sky l.scene.planes.now.planes l.number) l.initial.hands l.hands

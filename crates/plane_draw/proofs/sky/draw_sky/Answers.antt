@@ -1,23 +1,17 @@
 -- One column after the other.
-use Rattle.std.proofs.Common.{◌≡◌, refl, ap, ◌∙◌, arith}
+use Rattle.std.proofs.Common.{◌≡◌, ap, ◌∙◌, arith}
 use Rattle.view_rules.specs.declared.ViewShape.{ViewShape}
 use Rattle.visplanes.specs.Planes.{plane_at}
 use Rattle.plane_draw.specs.Scenes.{first_columns}
 use Rattle.plane_draw.proofs.CanLemmas.{sky-number}
+use Rattle.plane_draw.proofs.KeptLemmas.{keeps-more, keeps-start}
 use Rattle.plane_draw.proofs.PlaneLemmas.{columns-end, columns-more, columns-start}
-use Rattle.plane_draw.proofs.StepLemmas.{can_draw_planes-later, paints-none, paints-same, paints-then, paints-then_stop}
+use Rattle.plane_draw.proofs.StepLemmas.{paints-same, paints-then_stop}
 use Rattle.plane_draw.proofs.sky.draw_sky.Goals as goal
 
 pub loop-x-init : goal.loop-x-init
 loop-x-init g c =
-    let s = c.args.scene.now in
-    record {
-      same_cache = refl;
-      same_shelf = refl;
-      same_canvas = refl;
-      ready = c.requires.ready.0;
-      paints = paints-same _ (λ art sky is. columns-start s.view.now art c.args.plane.0 c.in-Some.tex.0 (plane_at s.planes.now.planes c.args.plane.0)) (paints-none _ _);
-    }
+    keeps-start (λ art sky. columns-start _ art c.args.plane.0 c.in-Some.tex.0 _) c.requires.ready.0
 
 pub returns-in_err-draw_sky_column-clause-paints : goal.returns-in_err-draw_sky_column-clause-paints
 returns-in_err-draw_sky_column-clause-paints g c =
@@ -25,16 +19,8 @@ returns-in_err-draw_sky_column-clause-paints g c =
 
 pub loop-x-preserved : goal.loop-x-preserved
 loop-x-preserved g c =
-    let s = c.args.scene.now in
-    let i = c.loop-x.invariant in
     let e = c.in_ok-draw_sky_column.ensures in
-    record {
-      same_cache = e.same.0 ∙ i.same_cache;
-      same_shelf = e.same.1.0 ∙ i.same_shelf;
-      same_canvas = e.same.1.1 ∙ i.same_canvas;
-      ready = can_draw_planes-later e.paints i.ready;
-      paints = paints-same _ (λ art sky is. columns-more s.view.now art c.args.plane.0 c.in-Some.tex.0 (plane_at s.planes.now.planes c.args.plane.0) c.loop-x.x) (paints-then i.paints e.paints);
-    }
+    keeps-more (λ art sky. columns-more _ art c.args.plane.0 c.in-Some.tex.0 _ c.loop-x.x) c.loop-x.invariant e.same e.paints
 
 pub returns-clause-paints : goal.returns-clause-paints
 returns-clause-paints g c =
