@@ -43,7 +43,15 @@ use Rattle.wall_columns.specs.declared.fault.DrawFault.{DrawFault}
 use Rattle.wall_columns.specs.Draws.{IsNoPicture, IsWallTexture}
 use Rattle.wall_columns.specs.Faults.{draw_fault}
 use Rattle.wall_columns.specs.Plans.{IsBare, IsPartTexture, IsPlanTexture, plan_of, strips_by, HasRows, IsInRows, AreEdgeWords}
-use Rattle.wall_columns.specs.Windows.{IsClipIn}
+use Rattle.picture_rules.specs.declared.wall.FragmentNote.{FragmentNote}
+use Rattle.picture_rules.specs.plane.Planes.{Plane}
+use Rattle.picture_rules.specs.plane.Built.{PlanesNow}
+use Rattle.wall_columns.specs.declared.column_state.ColumnState.{ColumnState}
+use Rattle.wall_columns.specs.Built.{IsBuilt, with_wall}
+use Rattle.wall_columns.specs.States.{walls_view}
+use Rattle.wall_columns.specs.Walls.{WallsView}
+use Rattle.wall_columns.specs.Windows.{IsClipIn, WindowsView, window_at}
+use Rattle.wall_columns.proofs.BuiltLemmas.{built-count, built-window}
 use Rattle.wall_columns.specs.Columns.{column_edges, columns_of}
 use Rattle.wall_columns.specs.Drawn.{IsDrawnTexture, column_painted, dots_along, CanPaint, PaintsColumns}
 use Rattle.wall_columns.proofs.PlanLemmas.{plan_strips-in, plan_strips-there, plan_strips-dots}
@@ -304,11 +312,24 @@ wall_is v art ws k number facts first last before e h =
     (λ x l m. column_wall v art ws k number facts first last before x e (h x l m))
 
 -- the dots of a fragment
-pub along-wall : (v : ViewValue) (art : Art) (ws : List Wall) (k number : ℕ) (facts : WallFacts) (first last : ℕ) (f : FragmentValue) (before : ℕ → ColumnClip) → f ≡ fragment_of v facts first last → number ≡ k →
+along-wall : (v : ViewValue) (art : Art) (ws : List Wall) (k number : ℕ) (facts : WallFacts) (first last : ℕ) (f : FragmentValue) (before : ℕ → ColumnClip) → f ≡ fragment_of v facts first last → number ≡ k →
     ((x : ℕ) → first ≤ x → x ≤ last → before x ≡ clip_before v.shape ws k x) →
     dots_along (column_painted v art number f facts before) f.first (columns_of f) ≡ wall_dots v art ws k (wall_of v facts first last)
 along-wall v art ws k number facts first last f before is e h =
     ap (λ (f : FragmentValue). dots_along (column_painted v art number f facts before) f.first (columns_of f)) is ∙ wall_is v art ws k number facts first last before e h
+
+-- so does that which is drawn where walls are built
+pub along-built : (v : ViewValue) (art : Art) (walls : List Wall) (s : PlanesNow) (state : WallsView) (notes : List FragmentNote) (columns : ColumnState) (windows : WindowsView) (planes : List Plane)
+    (facts : WallFacts) (first last number : ℕ) (f : FragmentValue) → walls_view notes columns ≡ state → IsBuilt v walls s state planes → windows ≡ columns.windows → f ≡ fragment_of v facts first last →
+    number ≡ length notes → last < v.shape.width →
+    dots_along (column_painted v art number f facts (window_at windows)) f.first (columns_of f)
+    ≡ wall_dots v art (with_wall walls (wall_of v facts first last)) (length walls) (wall_of v facts first last)
+along-built v art walls s state notes columns windows planes facts first last number f view built same is count within =
+    let P : WallsView → Type 0 = λ w. IsBuilt v walls s w planes in
+    let b : IsBuilt v walls s (walls_view notes columns) planes = subst P (sym view) built in
+    let w : Wall = wall_of v facts first last in
+    along-wall v art (with_wall walls w) (length walls) number facts first last f (window_at windows) is (count ∙ built-count v walls s (walls_view notes columns) planes b)
+    (λ x l m. built-window v walls s notes columns windows planes w x b same (omega arith))
 
 scale_least : (z : ℤ) → pos 0 <ℤ z → pos 0 ≤ℤ z
 scale_least z h = omega (arith, ints)

@@ -1,5 +1,5 @@
 -- Laws of the strips of a fragment's column, and of calls that paint some of them.
-use Rattle.std.proofs.Common.{append-nil, ◌≡◌, ◌<◌, ◌+◌, ◌++◌, ℕ, ℤ, pos, List, [], ◌∷◌, length, Result, Ok, Err, refl, sym, ap, subst, ◌∙◌, IsErrAnd}
+use Rattle.std.proofs.Common.{append-nil, SFits, to_z, of_z, to_z-of_z, w32, ◌≡◌, ◌<◌, ◌+◌, ◌++◌, ℕ, ℤ, pos, List, [], ◌∷◌, length, Result, Ok, Err, refl, sym, ap, subst, ◌∙◌, IsErrAnd}
 use Rattle.std.specs.Prelude.{int_lt, true, false}
 use Rattle.std.proofs.lemmas.Result.{err_from_is_err_and}
 use Rattle.outside.specs.Shelf.{ShelfView}
@@ -34,6 +34,8 @@ use Rattle.texture_build.proofs.BesideLemmas.{fit_beside-none, fit_beside-append
 use Rattle.texture_build.proofs.DrawLemmas.{draws-none, draws-then, draws-wider, holds_art-later}
 use Rattle.picture_rules.specs.declared.wall.Part.{Part}
 use Rattle.picture_rules.specs.declared.wall.RowRange.{RowRange}
+use Rattle.picture_rules.specs.declared.wall.WallFacts.{WallFacts}
+use Rattle.picture_rules.specs.wall.Columns.{texture_column}
 use Rattle.picture_rules.specs.wall.Strips.{WallStrip, strip_dots, wall_colour}
 use Rattle.wall_columns.specs.declared.fault.DrawFault.{DrawFault}
 use Rattle.wall_columns.specs.declared.paint.ColumnLook.{ColumnLook}
@@ -128,7 +130,7 @@ strip-by_look v art look light scale s is_step is_map =
     ∙ ap (λ (m : ℕ). look_dots v.shape art (record look { step = inverse_word scale; map = m }) s)
     is_map
 
-pub strips-by_look : (v : ViewValue) (bytes : ℕ → List ℕ) (textures : TexturesView) (colormap : ℕ)
+strips-by_look : (v : ViewValue) (bytes : ℕ → List ℕ) (textures : TexturesView) (colormap : ℕ)
     (look : ColumnLook) (light : ℕ) (scale : ℤ) (strips : List WallStrip) →
     look.step ≡ inverse_word scale → look.map ≡ scale_map v light scale →
     strips_dots v.shape bytes textures colormap look strips
@@ -138,6 +140,26 @@ unfolding strips_dots
 strips-by_look v bytes textures colormap look light scale strips is_step is_map =
     ap (λ (f : WallStrip → List Dot). joined_lists f strips)
     (λ i s. strip-by_look v (view_art bytes textures colormap) look light scale s is_step is_map i)
+
+-- and where its column, its step and its map are told by words
+pub strips-by_words : (v : ViewValue) (bytes : ℕ → List ℕ) (textures : TexturesView) (colormap number x light map : ℕ)
+    (facts : WallFacts) (scale step column : ℤ) (strips : List WallStrip) →
+    SFits w32 scale → SFits w32 step → SFits w32 column → step ≡ inverse_word (to_z w32 (of_z w32 scale)) → map ≡ scale_map v light (to_z w32 (of_z w32 scale)) →
+    column ≡ texture_column v facts x →
+    strips_dots v.shape bytes textures colormap (record {
+      number = number;
+      x = x;
+      column = to_z w32 (of_z w32 column);
+      step = to_z w32 (of_z w32 step);
+      map = map;
+    }) strips
+    ≡ joined_lists (strip_dots v (view_art bytes textures colormap) number x light
+    (texture_column v facts x) scale) strips
+strips-by_words v bytes textures colormap number x light map facts scale step column strips s t c is_step is_map is_column =
+    let look : ColumnLook = record { number = number; x = x; column = to_z w32 (of_z w32 column); step = to_z w32 (of_z w32 step); map = map } in
+    strips-by_look v bytes textures colormap look light scale strips
+    (to_z-of_z t ∙ is_step ∙ ap inverse_word (to_z-of_z s)) (is_map ∙ ap (scale_map v light) (to_z-of_z s))
+    ∙ ap (λ (y : ℤ). joined_lists (strip_dots v (view_art bytes textures colormap) number x light y scale) strips) (to_z-of_z c ∙ is_column)
 
 strips-none : (shape : ViewShape) (textures : TexturesView) (colormap : ℕ) (look : ColumnLook)
     (bytes : ℕ → List ℕ) → [] ≡ strips_dots shape bytes textures colormap look []

@@ -15,9 +15,8 @@ use Rattle.wall_columns.specs.Built.{IsBuilt, with_wall, step_of_wall}
 use Rattle.wall_columns.specs.Places.{places_of}
 use Rattle.wall_columns.specs.States.{walls_view}
 use Rattle.wall_columns.specs.Walls.{WallsView}
-use Rattle.wall_columns.specs.Windows.{window_at}
-use Rattle.wall_columns.proofs.BuiltLemmas.{built-now, built-wall, built-count, built-window, wall-drawn}
-use Rattle.wall_columns.proofs.DrawnLemmas.{along-wall, can_paint-of, drawn-textures}
+use Rattle.wall_columns.proofs.BuiltLemmas.{built-now, built-wall, built-count, wall-drawn}
+use Rattle.wall_columns.proofs.DrawnLemmas.{along-built, can_paint-of, drawn-textures}
 use Rattle.wall_columns.proofs.LeafLemmas.{limit-passed_on}
 use Rattle.wall_columns.proofs.OverLemmas.{over-range}
 use Rattle.wall_columns.proofs.state.WallState.store_range.Goals as goal
@@ -118,35 +117,13 @@ returns-clause-built g c = λ walls s h few.
 
 pub returns-clause-painted : goal.returns-clause-painted
 returns-clause-painted g c = λ walls s contents count h few hold.
-    let v = c.args.tools.now.view.now in
-    let facts = c.args.facts.now in
-    let planes = c.args.tools.now.planes.now in
-    let P : WallsView → Type 0 = λ w. IsBuilt v walls s w planes.planes in
-    let columns = c.self.inside.columns in
-    let old : List FragmentNote = c.self.inside.notes.items in
-    let b : IsBuilt v walls s (walls_view old columns) planes.planes = subst P (sym c.self.view_is) h in
-    let art = view_art (lump_bytes contents c.args.tools.now.dir.now.lumps) c.args.tools.now.textures.now c.args.tools.now.colormap.0 in
-    let w = wall_of v facts c.args.first c.args.last in
-    let within = c.requires.within in
-    let number : c.len-number.result ≡ length walls = omega (arith, built-count v walls s (walls_view old columns) planes.planes b) in
-    has_dots-as (along-wall v art (with_wall walls w) (length walls) c.len-number.result facts c.args.first c.args.last c.new-fragment.result (window_at c.begin.new.self.windows) c.new-fragment.ensures number
-    (λ x l m. built-window v walls s old columns c.begin.new.self.windows planes.planes w x b c.in_ok-places.ensures.windows (omega arith)))
-    (c.in_ok-draw_columns.ensures.paints.painted facts c.args.first c.args.last contents count c.new-fragment.ensures hold)
+    has_dots-as (along-built c.args.tools.now.view.now (view_art (lump_bytes contents c.args.tools.now.dir.now.lumps) c.args.tools.now.textures.now c.args.tools.now.colormap.0) walls s c.args.self.now c.self.inside.notes.items c.self.inside.columns c.begin.new.self.windows
+    c.args.tools.now.planes.now.planes c.args.facts.now c.args.first c.args.last c.len-number.result c.new-fragment.result c.self.view_is h c.in_ok-places.ensures.windows c.new-fragment.ensures (omega arith) c.requires.within)
+    (c.in_ok-draw_columns.ensures.paints.painted c.args.facts.now c.args.first c.args.last contents count c.new-fragment.ensures hold)
 
 pub returns-clause-fits : goal.returns-clause-fits
 returns-clause-fits g c = λ walls s contents count h few hold.
-    let v = c.args.tools.now.view.now in
-    let facts = c.args.facts.now in
-    let planes = c.args.tools.now.planes.now in
-    let P : WallsView → Type 0 = λ w. IsBuilt v walls s w planes.planes in
-    let columns = c.self.inside.columns in
-    let old : List FragmentNote = c.self.inside.notes.items in
-    let b : IsBuilt v walls s (walls_view old columns) planes.planes = subst P (sym c.self.view_is) h in
-    let art = view_art (lump_bytes contents c.args.tools.now.dir.now.lumps) c.args.tools.now.textures.now c.args.tools.now.colormap.0 in
-    let w = wall_of v facts c.args.first c.args.last in
-    let within = c.requires.within in
-    let number : c.len-number.result ≡ length walls = omega (arith, built-count v walls s (walls_view old columns) planes.planes b) in
     fit_beside-as c.args.tools.now.dir.now.lumps c.args.tools.now.textures.now c.args.tools.now.colormap.0 count c.args.tools.now.cache.now.size
-    (along-wall v art (with_wall walls w) (length walls) c.len-number.result facts c.args.first c.args.last c.new-fragment.result (window_at c.begin.new.self.windows) c.new-fragment.ensures number
-    (λ x l m. built-window v walls s old columns c.begin.new.self.windows planes.planes w x b c.in_ok-places.ensures.windows (omega arith)))
-    (c.in_ok-draw_columns.ensures.paints.fits facts c.args.first c.args.last contents count c.new-fragment.ensures hold)
+    (along-built c.args.tools.now.view.now (view_art (lump_bytes contents c.args.tools.now.dir.now.lumps) c.args.tools.now.textures.now c.args.tools.now.colormap.0) walls s c.args.self.now c.self.inside.notes.items c.self.inside.columns c.begin.new.self.windows
+    c.args.tools.now.planes.now.planes c.args.facts.now c.args.first c.args.last c.len-number.result c.new-fragment.result c.self.view_is h c.in_ok-places.ensures.windows c.new-fragment.ensures (omega arith) c.requires.within)
+    (c.in_ok-draw_columns.ensures.paints.fits c.args.facts.now c.args.first c.args.last contents count c.new-fragment.ensures hold)
