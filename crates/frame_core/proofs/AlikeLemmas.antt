@@ -140,23 +140,21 @@ passes_that : (t : Drawseg → Bool) (ds : List Drawseg) (k : ℕ) → greatest_
 unfolding greatest_that
 passes_that t ds k e = (greatest-is (λ k. passes_at t (slice_get ds k)) (length ds) k e).1
 
+passed_read : (has masked first behind test : Bool) (z : ℤ) → (first && (not behind && (has && test))) ≡ true → cond (has || masked) z (pos 0) ≡ z
+passed_read has masked first behind test z p =
+    read_first has masked z (and_parts has test (and_parts (not behind) (has && test) (and_parts first (not behind && (has && test)) p).1).1).0
+
 bottom_of_some : (e : SpriteEntry) (x : ℕ) (without : ℤ) (o : Option Drawseg) → passes_at (gives_bottom e x) o ≡ true →
     clip_of_some (λ d. d.bottom_clip x) without (option_map as_read o) ≡ clip_of_some (λ d. d.bottom_clip x) without o
 unfolding clip_of_some passes_at gives_bottom
 bottom_of_some e x without None p = refl
-bottom_of_some e x without (Some d) p =
-    let later = (and_parts (drawseg_has d x) (not (is_behind d e) && (d.has_bottom && int_lt e.gz d.bottom_height)) p).1 in
-    let has = (and_parts (not (is_behind d e)) (d.has_bottom && int_lt e.gz d.bottom_height) later).1 in
-    read_first d.has_bottom d.masked (d.bottom_clip x) (and_parts d.has_bottom (int_lt e.gz d.bottom_height) has).0
+bottom_of_some e x without (Some d) p = passed_read d.has_bottom d.masked (drawseg_has d x) (is_behind d e) (int_lt e.gz d.bottom_height) (d.bottom_clip x) p
 
 top_of_some : (e : SpriteEntry) (x : ℕ) (without : ℤ) (o : Option Drawseg) → passes_at (gives_top e x) o ≡ true →
     clip_of_some (λ d. d.top_clip x) without (option_map as_read o) ≡ clip_of_some (λ d. d.top_clip x) without o
 unfolding clip_of_some passes_at gives_top
 top_of_some e x without None p = refl
-top_of_some e x without (Some d) p =
-    let later = (and_parts (drawseg_has d x) (not (is_behind d e) && (d.has_top && int_lt d.top_height e.gzt)) p).1 in
-    let has = (and_parts (not (is_behind d e)) (d.has_top && int_lt d.top_height e.gzt) later).1 in
-    read_first d.has_top d.masked (d.top_clip x) (and_parts d.has_top (int_lt d.top_height e.gzt) has).0
+top_of_some e x without (Some d) p = passed_read d.has_top d.masked (drawseg_has d x) (is_behind d e) (int_lt d.top_height e.gzt) (d.top_clip x) p
 
 number_read : (t : Drawseg → Bool) (f : Drawseg → ℤ) (without : ℤ) → ((o : Option Drawseg) → passes_at t o ≡ true → clip_of_some f without (option_map as_read o) ≡ clip_of_some f without o) →
     (ds : List Drawseg) (o : Option ℕ) → ((k : ℕ) → o ≡ Some k → passes_at t (slice_get ds k) ≡ true) → clip_of_number f without (map as_read ds) o ≡ clip_of_number f without ds o

@@ -67,19 +67,12 @@ module _ (P : Plane → Type 0) where
   unfolding check
   all_check planes i first last new all = all_check_some planes i (slice_get planes i) first last refl new all
 
-  all_with_ceiling : (m : Bool) (o : Option ℕ) (first last : ℕ) (s : PlanesNow) → ((p : Plane) → P p → P (empty_plane p.key)) → All P s.planes →
-      All P (with_ceiling (checked_plane m s.planes o first last) s).planes
-  unfolding with_ceiling checked_plane
-  all_with_ceiling false o first last s new all = all
-  all_with_ceiling true None first last s new all = all
-  all_with_ceiling true (Some i) first last s new all = all_check s.planes i first last new all
-
-  all_with_floor : (m : Bool) (o : Option ℕ) (first last : ℕ) (s : PlanesNow) → ((p : Plane) → P p → P (empty_plane p.key)) → All P s.planes →
-      All P (with_floor (checked_plane m s.planes o first last) s).planes
-  unfolding with_floor checked_plane
-  all_with_floor false o first last s new all = all
-  all_with_floor true None first last s new all = all
-  all_with_floor true (Some i) first last s new all = all_check s.planes i first last new all
+  all_checked : (m : Bool) (o : Option ℕ) (first last : ℕ) (s : PlanesNow) → ((p : Plane) → P p → P (empty_plane p.key)) → All P s.planes →
+      All P (with_ceiling (checked_plane m s.planes o first last) s).planes × All P (with_floor (checked_plane m s.planes o first last) s).planes
+  unfolding with_ceiling with_floor checked_plane
+  all_checked false o first last s new all = (all, all)
+  all_checked true None first last s new all = (all, all)
+  all_checked true (Some i) first last s new all = let all1 = all_check s.planes i first last new all in (all1, all1)
 
   all_mark_some : (planes : List Plane) (i : ℕ) (o : Option Plane) (x : ℕ) (rows : ℕ × ℕ) → slice_get planes i ≡ o → ((p : Plane) → P p → P (with_run p x rows)) → All P planes →
       All P (mark_some planes i o x rows)
@@ -114,7 +107,7 @@ module _ (P : Plane → Type 0) where
       let t = ceiling_checked w s in
       let u = floor_checked w t in
       all_columns w u.ceiling u.floor (w.last + 1 - w.first) u.planes (omega arith) c f
-      (all_with_floor w.floor_mark t.floor w.first w.last t new (all_with_ceiling w.ceiling_mark s.ceiling w.first w.last s new all))
+      (all_checked w.floor_mark t.floor w.first w.last t new (all_checked w.ceiling_mark s.ceiling w.first w.last s new all).0).1
 
 -- the run of a column of a plane with one run more: the new one at its own column, else that of before
 set_column : (runs : List (Option (ℕ × ℕ))) (x k : ℕ) (r : Option (ℕ × ℕ)) →

@@ -18,7 +18,7 @@ use Rattle.frame_core.specs.Scenes.{lists_of, scene_of}
 use Rattle.frame_core.specs.Views.{CanCount}
 use Rattle.frame_core.specs.Walked.{CanTake, HasWalked, IsEventIn}
 use Rattle.frame_core.specs.Painters.{CanCountNext, CounterValue, HasCounted, HasWalkedView, counter_value, limits_in}
-use Rattle.frame_core.proofs.PainterLemmas.{all-ok, longer, view-over}
+use Rattle.frame_core.proofs.PainterLemmas.{all-ok, longer, view-over, visits-one}
 
 all_over : {A E X : Type 0} (P : X → E → Type 0) (result : Result A E) → ((x : X) → IfErr result (P x)) → IfErr result (λ e. (x : X) → P x e)
 all_over P (Ok a) h = tt
@@ -79,21 +79,9 @@ CounterVisits p q events result =
     (λ start es stop. HasCounted start q es (Err stop)) events result
 
 pub counter-visits : {e : Event} (p q : CounterValue) (result : Result (Unit {0}) OverLimit) → IsCounted p.view p.scene p q e result → CounterVisits p q (e ∷ []) result
-counter-visits {e} p q (Ok unit) given = record {
-  ok = record { each = λ start before stood. counted_more p q start before stood given };
-  takes_on = record { each = λ event can. takes_later p q e event given can };
-  err = tt;
-}
-counter-visits p q (Err stop) given = record {
-  ok = tt;
-  takes_on = tt;
-  err = record {
-    count = 1;
-    given = omega arith;
-    within = omega arith;
-    each = λ start before stood. counted_more p q start before stood given;
-  };
-}
+counter-visits {e} p q result given =
+    visits-one (CanCountNext p) (CanCountNext q) (λ start es. HasCounted start p es (Ok tt)) (λ start es. HasCounted start q es) e result (λ start before stood. counted_more p q start before stood given)
+    (λ ok event can. takes_later p q e event (subst (IsCounted p.view p.scene p q e) ok given) can)
 
 -- a walk of a counter that no event was given
 counted_none : (p : CounterValue) → ((bytes : ℕ → List ℕ) → HasWalked p.view bytes p.scene (limits_in p.bench) [] p.bench) → HasCounted p p [] (Ok tt)
@@ -115,12 +103,14 @@ counter-walked p q events (Ok unit) walked visits = visits.ok.each p [] (counted
 counter-walked p q events (Err stop) walked visits =
     stopped_all p q visits.err.count events stop (visits.err.each p [] (counted_none p walked))
 
--- an event that was counted
-pub counts-passed : (v : ViewValue) (scene : SceneValue) (name : ℕ) (b c : Bench) (e : Event) →
-    ((bytes : ℕ → List ℕ) (limits : Limits) (events : List Event) → HasWalked v bytes scene limits events b → HasWalked v bytes scene limits (events ++ e ∷ []) c) →
-    CanTake v scene c → limits_in c ≡ limits_in b → CounterVisits (counter_value v scene b name) (counter_value v scene c name) (e ∷ []) (Ok tt)
-counts-passed v scene name b c e walked takes limits =
-    counter-visits (counter_value v scene b name) (counter_value v scene c name) (Ok tt) (record {
+-- an event that a counter was given whose view, scene and name stay
+counts_at : (v : ViewValue) (scene : SceneValue) (name : ℕ) (b c : Bench) (e : Event) (result : Result (Unit {0}) OverLimit) →
+    ((bytes : ℕ → List ℕ) (limits : Limits) (events : List Event) → HasWalked v bytes scene limits events b → OnOk result (HasWalked v bytes scene limits (events ++ e ∷ []) c)) →
+    ((bytes : ℕ → List ℕ) (limits : Limits) (events : List Event) → HasWalked v bytes scene limits events b →
+    IfErr result (λ over. steps_over limits (view_steps v (scene_of bytes scene) (events ++ e ∷ [])) ≡ Some over)) →
+    OnOk result (CanTake v scene c) → limits_in c ≡ limits_in b → CounterVisits (counter_value v scene b name) (counter_value v scene c name) (e ∷ []) result
+counts_at v scene name b c e result walked over takes limits =
+    counter-visits (counter_value v scene b name) (counter_value v scene c name) result (record {
       view_before = refl;
       view = refl;
       scene_before = refl;
@@ -128,26 +118,22 @@ counts-passed v scene name b c e walked takes limits =
       name = refl;
       limits = limits;
       walked = walked;
-      over = λ bytes most events h. tt;
+      over = over;
       takes = takes;
     })
+
+-- an event that was counted
+pub counts-passed : (v : ViewValue) (scene : SceneValue) (name : ℕ) (b c : Bench) (e : Event) →
+    ((bytes : ℕ → List ℕ) (limits : Limits) (events : List Event) → HasWalked v bytes scene limits events b → HasWalked v bytes scene limits (events ++ e ∷ []) c) →
+    CanTake v scene c → limits_in c ≡ limits_in b → CounterVisits (counter_value v scene b name) (counter_value v scene c name) (e ∷ []) (Ok tt)
+counts-passed v scene name b c e walked takes limits = counts_at v scene name b c e (Ok tt) walked (λ bytes most events h. tt) takes limits
 
 -- an event at which a limit was passed
 pub counts-stopped : (v : ViewValue) (scene : SceneValue) (name : ℕ) (b c : Bench) (e : Event) (fault : DrawFault) (over : OverLimit) → limit_of_fault fault ≡ Some over →
     ((bytes : ℕ → List ℕ) (limits : Limits) (events : List Event) → HasWalked v bytes scene limits events b → limit_of_fault fault ≡ steps_over limits (view_steps v (scene_of bytes scene) (events ++ e ∷ []))) →
     limits_in c ≡ limits_in b → CounterVisits (counter_value v scene b name) (counter_value v scene c name) (e ∷ []) (Err over)
 counts-stopped v scene name b c e fault over is told limits =
-    counter-visits (counter_value v scene b name) (counter_value v scene c name) (Err over) (record {
-      view_before = refl;
-      view = refl;
-      scene_before = refl;
-      scene = refl;
-      name = refl;
-      limits = limits;
-      walked = λ bytes most events h. tt;
-      over = λ bytes most events h. sym (told bytes most events h) ∙ is;
-      takes = tt;
-    })
+    counts_at v scene name b c e (Err over) (λ bytes most events h. tt) (λ bytes most events h. sym (told bytes most events h) ∙ is) tt limits
 
 -- the whole walk of a view, of the lists of its scene
 pub counter-viewed : (p q : CounterValue) (lists : LevelLists) {result : Result (Unit {0}) OverLimit} → lists ≡ lists_of p.scene →

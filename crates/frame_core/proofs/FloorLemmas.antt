@@ -58,7 +58,7 @@ use Rattle.frame_core.specs.Views.{CanDrawView, IsViewLump, IsViewTexture, Paint
 use Rattle.frame_core.specs.Walked.{HasWalked, IsFlatOf as IsFlatIn, IsFlatShown, IsPlaneIn, planes_after}
 use Rattle.frame_core.specs.Painters.{HasWalkedView, IsPlacedIn, limits_in}
 use Rattle.frame_core.proofs.PaintLemmas.{paints-stop, paints-value}
-use Rattle.frame_core.proofs.SceneLemmas.{are_meant, flats_at, no_flats, no_sector, sky_of_surface, surface_from}
+use Rattle.frame_core.proofs.SceneLemmas.{are_meant, flats_at, no_flats, no_sector, patches_there, sky_of_surface, surface_from}
 
 -- the sky's texture of a scene, as drawing has it
 abbrev pub IsSkyOf : SceneValue → Option TexNo → Type 0
@@ -111,17 +111,6 @@ sky_listed lumps scene z n can e =
     sky_by (has_sky scene.base.level.sectors) scene.base.lists.textures can.name scene.faces.sky n
     (are_meant lumps can.name scene.base.level scene.base.lists scene.faces can.whole.faces).sky e
 
--- what holds of each prepared texture holds of the one of a number
-prepared_has : (P : PreparedTexture → Type 0) (ts : List (Option PreparedTexture)) (number : ℕ) → All (λ (t : Option PreparedTexture). IfSome t P) ts → IfSome (prepared_at ts number) P
-prepared_has P [] number all = tt
-prepared_has P (t ∷ ts) zero all = All-head (λ (t : Option PreparedTexture). IfSome t P) t ts all
-prepared_has P (t ∷ ts) (suc number) all = prepared_has P ts number (All-tail (λ (t : Option PreparedTexture). IfSome t P) t ts all)
-
--- a texture that is not prepared has no patch
-there_or_none : (lumps : List Lump) (o : Option PreparedTexture) → IfSome o (ArePatchesThere lumps) → ArePatchesThere lumps (unwrap_or o unprepared)
-there_or_none lumps None there = All-nil (λ (patch : PlacedPatch). patch.lump < length lumps)
-there_or_none lumps (Some t) there = there
-
 -- the sky's texture may be drawn
 pub sky_can : (lumps : List Lump) (scene : SceneValue) (z : Heap) (sky : Option TexNo) → CanDrawView lumps scene z → IsSkyOf scene sky → IfSome sky (λ (tex : TexNo). CanDraw lumps (textures_view scene) z tex.0)
 sky_can lumps scene z None can is = tt
@@ -131,7 +120,7 @@ sky_can lumps scene z (Some tex) can is =
     record {
       prepared = subst (λ (o : Option ℕ). IfSome o (IsPrepared (textures_view scene))) (sym is) art.sky;
       slot = omega (arith, listed, can.composites);
-      there = there_or_none lumps (prepared_at (textures_view scene).prepared tex.0) (prepared_has (ArePatchesThere lumps) (textures_view scene).prepared tex.0 art.patches);
+      there = patches_there lumps (textures_view scene).prepared tex.0 art.patches;
     }
 
 -- the planes of the bench are those of the events

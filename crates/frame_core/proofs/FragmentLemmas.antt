@@ -46,18 +46,8 @@ use Rattle.frame_core.specs.Faults.{from_draw, limit_of_view, view_fault}
 use Rattle.frame_core.specs.Scenes.{lists_of, scene_of}
 use Rattle.frame_core.specs.Views.{CanDrawView, PaintsView, ViewScene, ViewState, held_scene}
 use Rattle.frame_core.specs.Walked.{HasWalked, next_dots, next_wall, planes_after}
-use Rattle.frame_core.proofs.SceneLemmas.{AreFactsReady, IsNoneOrReady, facts_ready}
+use Rattle.frame_core.proofs.SceneLemmas.{AreFactsReady, IsNoneOrReady, facts_ready, patches_there}
 use Rattle.frame_core.proofs.WalkedFragmentLemmas.{next_wall-facts, notes_full}
-
--- the patches of a prepared texture are there
-patches_at : (lumps : List Lump) (prepared : List (Option PreparedTexture)) (number : ℕ) → All (λ (t : Option PreparedTexture). IfSome t (ArePatchesThere lumps)) prepared → IfSome (slice_index_or prepared number None) (ArePatchesThere lumps)
-patches_at lumps [] number all = tt
-patches_at lumps (t ∷ ts) zero all = All-head (λ (t : Option PreparedTexture). IfSome t (ArePatchesThere lumps)) t ts all
-patches_at lumps (t ∷ ts) (suc number) all = patches_at lumps ts number (All-tail (λ (t : Option PreparedTexture). IfSome t (ArePatchesThere lumps)) t ts all)
-
-patches_or : (lumps : List Lump) (t : Option PreparedTexture) → IfSome t (ArePatchesThere lumps) → ArePatchesThere lumps (unwrap_or t unprepared)
-patches_or lumps None there = All-nil _
-patches_or lumps (Some t) there = there
 
 ready_of : (scene : SceneValue) (number n : ℕ) → number ≢ 0 → number ≡ n → IsNoneOrReady scene n → IsPrepared (textures_view scene) number × (number < length scene.base.lists.textures)
 ready_of scene number n some is (inl none) = absurd (some (is ∙ none))
@@ -90,7 +80,7 @@ can_draw-facts lumps scene z facts textures number can ready same is =
     subst (λ (t : TexturesView). CanDraw lumps t z number) (sym same) (record {
       prepared = r.0;
       slot = omega arith;
-      there = patches_or lumps (prepared_at scene.prepared number) (patches_at lumps scene.prepared number can.whole.art.patches);
+      there = patches_there lumps scene.prepared number can.whole.art.patches;
     })
 
 -- a fault of drawing is told here as it was there

@@ -41,6 +41,7 @@ use Rattle.masked_draw.specs.Ready.{CanDrawMiddle, IsListed, IsNotedMiddle}
 use Rattle.frame_core.specs.Scenes.{scene_of}
 use Rattle.frame_core.specs.Walked.{IsEventIn}
 use Rattle.frame_core.proofs.DrawsegLemmas.{mask_lists}
+use Rattle.frame_core.proofs.SceneLemmas.{patches_there}
 
 -- the seg of each fragment of events that name what is there is there
 segs_there : (v : ViewValue) (s : SceneValue) (leaf : ℕ) (events : List Event) → AllByRecursion (IsEventIn v s) events → AllByRecursion (λ (f : LeafFragment). f.seg < length s.base.level.segs) (leaf_fragments leaf events)
@@ -59,17 +60,6 @@ pub drawsegs_there : (v : ViewValue) (s : SceneValue) (events : List Event) → 
 unfolding drawsegs
 drawsegs_there v s events h =
     some_taken (λ (f : LeafFragment). f.seg < length s.base.level.segs) MAX_DRAWSEGS (leaf_fragments 0 events) (segs_there v s 0 events (recursion_from_All (IsEventIn v s) events h))
-
--- what holds of each prepared texture holds of the one of a number
-prepared_has : (P : PreparedTexture → Type 0) (ts : List (Option PreparedTexture)) (number : ℕ) → All (λ (t : Option PreparedTexture). IfSome t P) ts → IfSome (prepared_at ts number) P
-prepared_has P [] number all = tt
-prepared_has P (t ∷ ts) zero all = All-head (λ (t : Option PreparedTexture). IfSome t P) t ts all
-prepared_has P (t ∷ ts) (suc number) all = prepared_has P ts number (All-tail (λ (t : Option PreparedTexture). IfSome t P) t ts all)
-
--- a texture that is not prepared has no patch
-there_or_none : (lumps : List Lump) (o : Option PreparedTexture) → IfSome o (ArePatchesThere lumps) → ArePatchesThere lumps (unwrap_or o unprepared)
-there_or_none lumps None there = All-nil (λ (patch : PlacedPatch). patch.lump < length lumps)
-there_or_none lumps (Some t) there = there
 
 -- a number that is a texture's is not none
 prepared_some : (P : Type 0) (number : ℕ) → (number ≡ 0) ⊎ P → 0 < number → P
@@ -112,7 +102,7 @@ module _ (lumps : List Lump) (lines : List ThingLine) (name : List ℕ) (skill :
       record {
         prepared = prepared_some (IsPrepared (textures_view s) number) number (whole.art.textures side no_textures inside).middle some;
         slot = let among = middle_among side inside some in omega (arith, among, slots);
-        there = there_or_none lumps (prepared_at s.prepared number) (prepared_has (ArePatchesThere lumps) s.prepared number whole.art.patches);
+        there = patches_there lumps s.prepared number whole.art.patches;
       }
 
   -- and is of single columns, behind the side of a seg with a sector behind it

@@ -128,6 +128,14 @@ takes_later mark p q e dots event given can = record {
   there = subst (λ (s : ViewScene). IsEventIn s.view s.scene event) (sym given.after) can.there;
 }
 
+-- What a visitor stands for after one event, told of its answer: that it was given the event.
+pub visits-one : {A E : Type 0} (took takes : Event → Type 0) (before : A → List Event → Type 0) (after : A → List Event → Result (Unit {0}) E → Type 0) (e : Event) (result : Result (Unit {0}) E) →
+    ((start : A) (events : List Event) → before start events → after start (events ++ e ∷ []) result) → (result ≡ Ok tt → (event : Event) → took event → takes event) →
+    Visits {A = A} {E = E} took takes before (λ start es. after start es (Ok tt)) (λ start es stop. after start es (Err stop)) (e ∷ []) result
+visits-one took takes before after e (Ok unit) more still = record { ok = record { each = more }; takes_on = record { each = still refl }; err = tt }
+visits-one took takes before after e (Err stop) more still =
+    record { ok = tt; takes_on = tt; err = record { count = 1; given = omega arith; within = omega arith; each = more } }
+
 -- the answer of a visitor that was given one event
 abbrev pub PainterVisits : (Painter → ℕ → ℕ) → PainterValue → PainterValue → List Event → Result (Unit {0}) ViewFault → Type 0
 PainterVisits mark p q events result =
@@ -136,21 +144,9 @@ PainterVisits mark p q events result =
 
 pub painter-visits : {mark : Painter → ℕ → ℕ} {e : Event} {dots : List Event → Scene → List Dot} (p q : PainterValue) (result : Result (Unit {0}) ViewFault) →
     IsGiven mark p.scene p q e dots result → PainterVisits mark p q (e ∷ []) result
-painter-visits {mark} {e} {dots} p q (Ok unit) given = record {
-  ok = record { each = λ start before stood. painted_more p q start before stood given };
-  takes_on = record { each = λ event can. takes_later mark p q e dots event given can };
-  err = tt;
-}
-painter-visits p q (Err stop) given = record {
-  ok = tt;
-  takes_on = tt;
-  err = record {
-    count = 1;
-    given = omega arith;
-    within = omega arith;
-    each = λ start before stood. painted_more p q start before stood given;
-  };
-}
+painter-visits {mark} {e} {dots} p q result given =
+    visits-one (CanPaintNext p) (CanPaintNext q) (λ start es. HasPainted mark start p es (Ok tt)) (λ start es. HasPainted mark start q es) e result (λ start before stood. painted_more p q start before stood given)
+    (λ ok event can. takes_later mark p q e dots event (subst (IsGiven mark p.scene p q e dots) ok given) can)
 
 -- a walk of a painter that no event was given
 painted_none : (mark : Painter → ℕ → ℕ) (p : PainterValue) → ((bytes : ℕ → List ℕ) → HasWalked p.scene.view bytes p.scene.scene (limits_in p.bench) [] p.bench) →

@@ -46,19 +46,16 @@ run_in : (shape : ViewShape) (scene : SceneValue) (x : ℕ) (run : Option (ℕ �
 run_in shape scene x None w l = tt
 run_in shape scene x (Some rows) w l = λ p h. plane_run shape scene p x rows w l h
 
-ceiling_in : (v : ViewValue) (walls : List Wall) (k : ℕ) (w : Wall) (x : ℕ) → v.shape.height ≤ FRAME_HEIGHT → IsRunIn v.shape.height (ceiling_marks v walls k w x)
-unfolding ceiling_marks wall_edges
-ceiling_in v walls k w x tall =
+rows_in : (v : ViewValue) (walls : List Wall) (k : ℕ) (w : Wall) (x : ℕ) → v.shape.height ≤ FRAME_HEIGHT → IsRunIn v.shape.height (ceiling_marks v walls k w x) × IsRunIn v.shape.height (floor_marks v walls k w x)
+unfolding ceiling_marks floor_marks wall_edges
+rows_in v walls k w x tall =
     let clip = clip_before v.shape walls k x in
-    marked_rows-in v.shape.height (ceiling_rows clip (wall_edges v.shape w x)) w.numbers.ceiling_mark
-    (ceiling_rows-in v.shape.height clip (wall_edges v.shape w x) tall (clip_before-in v.shape walls k x tall) (edges_at-words v.shape w.numbers (x - w.first)))
-
-floor_in : (v : ViewValue) (walls : List Wall) (k : ℕ) (w : Wall) (x : ℕ) → v.shape.height ≤ FRAME_HEIGHT → IsRunIn v.shape.height (floor_marks v walls k w x)
-unfolding floor_marks wall_edges
-floor_in v walls k w x tall =
-    let clip = clip_before v.shape walls k x in
-    marked_rows-in v.shape.height (floor_rows clip (wall_edges v.shape w x)) w.numbers.floor_mark
-    (floor_rows-in v.shape.height clip (wall_edges v.shape w x) tall (clip_before-in v.shape walls k x tall) (edges_at-words v.shape w.numbers (x - w.first)))
+    let edges = wall_edges v.shape w x in
+    let within = clip_before-in v.shape walls k x tall in
+    let words = edges_at-words v.shape w.numbers (x - w.first) in (
+      marked_rows-in v.shape.height (ceiling_rows clip edges) w.numbers.ceiling_mark (ceiling_rows-in v.shape.height clip edges tall within words),
+      marked_rows-in v.shape.height (floor_rows clip edges) w.numbers.floor_mark (floor_rows-in v.shape.height clip edges tall within words),
+    )
 
 -- after a fragment of columns of the view
 pub planes-wall : (v : ViewValue) (scene : SceneValue) (walls : List Wall) (k : ℕ) (w : Wall) (s : PlanesNow) → v.shape.height ≤ FRAME_HEIGHT → w.first ≤ w.last → w.last < v.shape.width →
@@ -66,8 +63,8 @@ pub planes-wall : (v : ViewValue) (scene : SceneValue) (walls : List Wall) (k : 
 unfolding wall_step plane_wall
 planes-wall v scene walls k w s tall ordered within all =
     all-draws (IsPlaneIn v.shape scene) (plane_wall v walls k w) s ordered (plane_again v.shape scene)
-    (λ x l m. run_in v.shape scene x (ceiling_marks v walls k w x) (omega arith) (ceiling_in v walls k w x tall))
-    (λ x l m. run_in v.shape scene x (floor_marks v walls k w x) (omega arith) (floor_in v walls k w x tall))
+    (λ x l m. run_in v.shape scene x (ceiling_marks v walls k w x) (omega arith) (rows_in v walls k w x tall).0)
+    (λ x l m. run_in v.shape scene x (floor_marks v walls k w x) (omega arith) (rows_in v walls k w x tall).1)
     all
 
 -- the keys by whether the flat is sky

@@ -1,9 +1,10 @@
 -- What a view asks of a scene that has all that drawing asks of it.
 use Rattle.std.proofs.Common.{◌≡◌, inl, inr, ℕ, zero, suc, ◌<◌, ◌≤◌, ◌||◌, Bool, true, false, cond, List, [], ◌∷◌, length, get_or, Option, Some, None, Result, Ok, Err, refl, sym, ap, subst, ◌∙◌, arith}
-use Rattle.std.specs.Prelude.{All, IsSome, option_map, pos, ◌⊎◌}
+use Rattle.std.specs.Prelude.{All, IfSome, IsSome, option_map, pos, unwrap_or, ◌⊎◌}
 use Rattle.std.specs.Option.{ok_or, option_and_then}
 use Rattle.std.proofs.lemmas.Bool.Decides.{nat_tests}
 use Rattle.std.proofs.lemmas.List.{length-map}
+use Rattle.std.proofs.lemmas.List.Elements.{All-head, All-nil, All-tail}
 use Rattle.std.proofs.lemmas.List.Folds.{list_any_at}
 use Rattle.outside.specs.Faults.{and_then}
 use Rattle.lump_rules.specs.declared.wad.Lump.{Lump}
@@ -23,7 +24,9 @@ use Rattle.scene_rules.specs.Scenes.{Faces, SceneValue, faces_in}
 use Rattle.scene_rules.specs.SectorFlats.{both_flats, flat_named, flat_number, flats_of, lump_flat, sector_flats, surface_of, surfaces_of}
 use Rattle.scene_rules.specs.Sides.{found_sky, side_textures, sky_texture}
 use Rattle.scene_rules.specs.Skies.{has_sky, is_sky_name, shows_sky, sky_name}
-use Rattle.texture_build.specs.Views.{IsPrepared}
+use Rattle.art_rules.specs.declared.PlacedPatch.{PlacedPatch}
+use Rattle.art_rules.specs.Wanted.{PreparedTexture}
+use Rattle.texture_build.specs.Views.{ArePatchesThere, IsPrepared, prepared_at, unprepared}
 use Rattle.level_scene.specs.Bounds.{IsNoneOrBelow, IsThere}
 use Rattle.sound_scene.specs.Sound.{middles_of, textures_view}
 use Rattle.sound_scene.specs.Whole.{IsNoneOrPrepared, IsWholeScene}
@@ -239,3 +242,14 @@ module _ (lumps : List Lump) (lines : List ThingLine) (name : List ℕ) (skill :
         bottom = none_or_ready scene _ prepared.bottom below.bottom;
         middle = none_or_ready scene _ prepared.middle below.middle;
       }
+
+-- the patches of the texture of a number are there: one that is not prepared has none
+patches_of_some : (lumps : List Lump) (o : Option PreparedTexture) → IfSome o (ArePatchesThere lumps) → ArePatchesThere lumps (unwrap_or o unprepared)
+patches_of_some lumps None there = All-nil (λ (patch : PlacedPatch). patch.lump < length lumps)
+patches_of_some lumps (Some t) there = there
+
+pub patches_there : (lumps : List Lump) (prepared : List (Option PreparedTexture)) (number : ℕ) → All (λ (t : Option PreparedTexture). IfSome t (ArePatchesThere lumps)) prepared →
+    ArePatchesThere lumps (unwrap_or (prepared_at prepared number) unprepared)
+patches_there lumps [] number all = patches_of_some lumps None tt
+patches_there lumps (t ∷ ts) zero all = patches_of_some lumps t (All-head (λ (t : Option PreparedTexture). IfSome t (ArePatchesThere lumps)) t ts all)
+patches_there lumps (t ∷ ts) (suc number) all = patches_there lumps ts number (All-tail (λ (t : Option PreparedTexture). IfSome t (ArePatchesThere lumps)) t ts all)
