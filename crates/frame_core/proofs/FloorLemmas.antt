@@ -1,8 +1,8 @@
 -- Laws of the planes of a view: what drawing them asks is there, and what it paints is the view's.
-use Rattle.std.proofs.Common.{◌≡◌, inl, inr, ℕ, zero, suc, ◌<◌, ◌||◌, ◌==◌, Bool, true, false, cond, List, [], ◌∷◌, length, get_or, Option, Some, None, Result, Ok, Err, IsErrAnd, eq-eqb, refl, sym, ap, subst, ◌∙◌, arith}
+use Rattle.std.proofs.Common.{◌≡◌, inl, inr, ℕ, ◌<◌, ◌||◌, ◌==◌, Bool, true, false, cond, List, [], length, get_or, Option, Some, None, Result, Ok, Err, IsErrAnd, eq-eqb, refl, sym, ap, subst, ◌∙◌, arith}
 use Rattle.std.specs.Prelude.{All, IfSome, IsSome, OnOk, option_map, unwrap_or}
 use Rattle.std.specs.List.{list_any}
-use Rattle.std.proofs.lemmas.List.Elements.{All-contains, All-head, All-nil, All-tail}
+use Rattle.std.proofs.lemmas.List.Elements.{All-contains}
 use Rattle.std.proofs.lemmas.List.Folds.{list_any_at}
 use Rattle.outside.specs.Faults.{fault_above}
 use Rattle.lump_rules.specs.declared.wad.Lump.{Lump}
@@ -22,8 +22,6 @@ use Rattle.level_rules.specs.walk.Events.{Event}
 use Rattle.level_rules.specs.walk.Walk.{view_events}
 use Rattle.art_rules.specs.Books.{book_lumps}
 use Rattle.art_rules.specs.Textures.{Texture, texture_number}
-use Rattle.art_rules.specs.declared.PlacedPatch.{PlacedPatch}
-use Rattle.art_rules.specs.Wanted.{PreparedTexture}
 use Rattle.pixel_rules.specs.declared.Painter.{Painter}
 use Rattle.pixel_rules.specs.Dots.{Dot}
 use Rattle.pixel_strips.specs.Canvases.{CanvasView}
@@ -46,7 +44,7 @@ use Rattle.picture_rules.specs.Scene.{Scene}
 use Rattle.texture_lists.specs.declared.number.TexNo.{TexNo}
 use Rattle.texture_build.specs.Arts.{view_art}
 use Rattle.texture_build.specs.Draws.{CanDraw, DrawsWith, FitBeside, HoldsArt}
-use Rattle.texture_build.specs.Views.{ArePatchesThere, IsPrepared, TexturesView, prepared_at, unprepared}
+use Rattle.texture_build.specs.Views.{IsPrepared, TexturesView}
 use Rattle.texture_build.proofs.DrawLemmas.{draws-above, draws-wider}
 use Rattle.plane_draw.specs.Planes.{CanDrawPlane, HasFlat, IsFlatOf, IsSky}
 use Rattle.sound_scene.specs.Sound.{textures_view}

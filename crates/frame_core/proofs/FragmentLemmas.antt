@@ -1,9 +1,8 @@
 -- Laws of a fragment that is stored: its textures may be drawn, what it paints, and the limit that its fault tells.
-use Rattle.std.proofs.Common.{◌≡◌, ℕ, zero, suc, ◌<◌, ◌≤◌, Bool, true, false, cond, List, [], ◌∷◌, Option, Some, None, Result, Ok, Err, IfErr, IsErrAnd, OnOk, length, refl, ap, sym, ◌∙◌, subst, inl, inr, arith}
-use Rattle.std.specs.Prelude.{◌≢◌, All, IfSome, nat_lt, slice_index_or, unwrap_or}
+use Rattle.std.proofs.Common.{◌≡◌, ℕ, ◌<◌, ◌≤◌, Bool, true, false, cond, List, [], Option, Some, Result, Ok, Err, IfErr, IsErrAnd, OnOk, length, refl, ap, sym, ◌∙◌, subst, inl, inr, arith}
+use Rattle.std.specs.Prelude.{◌≢◌, IfSome, nat_lt}
 use Rattle.std.proofs.lemmas.Bool.{cases_lt}
 use Rattle.std.proofs.lemmas.Bool.Decides.{nat_tests}
-use Rattle.std.proofs.lemmas.List.Elements.{All-head, All-nil, All-tail}
 use Rattle.outside.specs.Faults.{fault_above}
 use Rattle.lump_rules.specs.Contents.{lump_bytes}
 use Rattle.lump_rules.specs.declared.wad.Lump.{Lump}
@@ -12,7 +11,6 @@ use Rattle.view_rules.specs.View.{ViewValue}
 use Rattle.level_rules.specs.declared.Surface.{Surface}
 use Rattle.level_rules.specs.Levels.{seg_at, surface_at}
 use Rattle.level_rules.specs.maps.Sound.{IsSound}
-use Rattle.art_rules.specs.Wanted.{PreparedTexture}
 use Rattle.level_rules.specs.declared.walk.TheConstants.{MAX_DRAWSEGS}
 use Rattle.level_rules.specs.walk.Events.{Event}
 use Rattle.pixel_rules.specs.declared.Painter.{Painter}
@@ -32,7 +30,7 @@ use Rattle.picture_rules.specs.Scene.{Scene, facts_of}
 use Rattle.picture_rules.specs.Walls.{walls_of}
 use Rattle.texture_build.specs.Arts.{view_art}
 use Rattle.texture_build.specs.Draws.{CanDraw, DrawsWith, FitBeside, HoldsArt}
-use Rattle.texture_build.specs.Views.{ArePatchesThere, IsPrepared, TexturesView, prepared_at, unprepared}
+use Rattle.texture_build.specs.Views.{IsPrepared, TexturesView}
 use Rattle.texture_build.proofs.DrawLemmas.{IsMapped, draws-mapped, draws-wider, on_ok-mapped}
 use Rattle.sound_scene.specs.Sound.{textures_view}
 use Rattle.wall_columns.specs.declared.fault.DrawFault.{DrawFault}

@@ -1,10 +1,10 @@
 -- The seg of each note of a view, with its side and its sectors, is among the lists of its scene, and the middle texture of a masked one may be drawn.
 use Rattle.std.proofs.Common.{◌≡◌, ◌⊎◌, inl, inr, ℕ, zero, suc, ◌+◌, ◌<◌, ◌≤◌, true, false, List, [], ◌∷◌, map, take, length, get_or, Option, Some, None, IfSome, IsSome, refl, sym, subst, arith}
-use Rattle.std.specs.Prelude.{option_map, not, unwrap_or, ◌==◌}
+use Rattle.std.specs.Prelude.{option_map, not, ◌==◌}
 use Rattle.std.specs.List.{All, AllByRecursion}
 use Rattle.std.specs.Option.{ForSome}
 use Rattle.std.proofs.lemmas.List.{length-map}
-use Rattle.std.proofs.lemmas.List.Elements.{All-from_recursion, All-head, All-nil, All-tail, recursion_from_All}
+use Rattle.std.proofs.lemmas.List.Elements.{All-from_recursion, recursion_from_All}
 use Rattle.std.proofs.Math.ListN.{get_or-map}
 use Rattle.lump_rules.specs.declared.wad.Lump.{Lump}
 use Rattle.zone_rules.specs.Zones.{Heap}
@@ -26,14 +26,12 @@ use Rattle.picture_rules.specs.wall.Numbers.{fragment_numbers, numbers_by}
 use Rattle.picture_rules.specs.wall.Openings.{saves_bottom, saves_top}
 use Rattle.picture_rules.specs.wall.Parts.{is_masked}
 use Rattle.picture_rules.specs.wall.Walls.{Wall, wall_of}
-use Rattle.art_rules.specs.declared.PlacedPatch.{PlacedPatch}
-use Rattle.art_rules.specs.Wanted.{PreparedTexture}
 use Rattle.scene_rules.specs.Scenes.{SceneValue}
 use Rattle.scene_rules.specs.Sides.{three_textures}
 use Rattle.picture_rules.specs.Scene.{facts_of, fragment_facts, no_textures, textures_at, wall_texture}
 use Rattle.picture_rules.specs.Walls.{fragment_wall, walls_of}
 use Rattle.texture_build.specs.Draws.{CanDraw}
-use Rattle.texture_build.specs.Views.{ArePatchesThere, IsPrepared, prepared_at, prepared_texture, unprepared}
+use Rattle.texture_build.specs.Views.{IsPrepared, prepared_texture}
 use Rattle.sound_scene.specs.Sound.{middles_of, textures_view}
 use Rattle.sound_scene.specs.Whole.{AllColumnsSingle, IsNoneOrSingle, IsWholeScene}
 use Rattle.masked_draw.specs.Lists.{middle_by, note_seg}
