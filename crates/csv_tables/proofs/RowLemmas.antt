@@ -1,7 +1,9 @@
 -- Laws of `rows_after`, for a loop over the records, and for a table of which the first ones are read.
-use Rattle.std.proofs.Common.{◌≡◌, ℕ, zero, suc, ◌+◌, ◌<◌, ◌≤◌, List, [], ◌∷◌, ◌++◌, length, take, drop, get_or, Result, Ok, Err, refl, sym, ◌∙◌, arith, inl, inr}
+use Rattle.std.proofs.Common.{◌≡◌, ℕ, zero, suc, ◌+◌, ◌<◌, ◌≤◌, List, [], ◌∷◌, ◌++◌, length, map, take, drop, get_or, Result, Ok, Err, refl, ap, sym, ◌∙◌, arith, inl, inr}
+use Rattle.std.specs.List.{All}
 use Rattle.std.proofs.Math.ListN.{drop_of_length-le}
-use Rattle.std.proofs.lemmas.List.{at_drop_more, length-append}
+use Rattle.std.proofs.lemmas.List.{at_drop_more, get_or-map, length-append, length-map}
+use Rattle.std.proofs.lemmas.List.Elements.{All-push}
 use Rattle.std.proofs.lemmas.Bool.{cases_eq}
 use Rattle.csv_tables.specs.declared.fault.CsvRefusal.{CsvRefusal}
 use Rattle.csv_tables.specs.declared.fault.CsvRefusal.TheVariants.{TooMany}
@@ -61,3 +63,33 @@ rows_after-first {A} read limit (suc n) rows (fields ∷ records) past l m =
 -- two refusals of one result
 pub refusal-same : {T : Type 0} (a b : CsvRefusal) → ◌≡◌ {A = Result T CsvFault} (Err (Refused a)) (Err (Refused b)) → a ≡ b
 refusal-same a b e = cc
+
+-- the rows so far, one a record, and those of the records from i on, are those of all records
+pub record ReadSoFar {A R : Type 0} (kept : A → Type 0) (read : List A → ℕ → List (List ℕ) → Result A CsvRefusal) (fields_of : R → List (List ℕ)) (records : List R) (rows : List A) (i : ℕ) : Type 0 where
+  pub so_far : rows_after read [] (map fields_of records) ≡ rows_after read rows (drop i (map fields_of records))
+  pub count : length rows ≡ i
+  pub all : All kept rows
+
+-- the record at i among the fields
+within_fields : {R : Type 0} (fields_of : R → List (List ℕ)) (records : List R) (i : ℕ) → i < length records → i < length (map fields_of records)
+within_fields fields_of records i l = let len = length-map records fields_of in rw len l
+
+fields_at : {R : Type 0} (fields_of : R → List (List ℕ)) (records : List R) (i : ℕ) (record_ : R) → i < length records → record_ ≡ get_or records i record_ → get_or (map fields_of records) i [] ≡ fields_of record_
+fields_at fields_of records i record_ l is = get_or-map fields_of records i record_ [] l ∙ ap fields_of (sym is)
+
+pub read_more : {A R : Type 0} (kept : A → Type 0) (read : List A → ℕ → List (List ℕ) → Result A CsvRefusal) (fields_of : R → List (List ℕ)) (records : List R) (rows : List A) (i : ℕ) (record_ : R) (row : A) → ReadSoFar kept read fields_of records rows i
+    → i < length records → record_ ≡ get_or records i record_ → Ok row ≡ read rows (i + 1) (fields_of record_) → kept row → ReadSoFar kept read fields_of records (rows ++ row ∷ []) (i + 1)
+read_more kept read fields_of records rows i record_ row old l is e k = record {
+  so_far = old.so_far ∙ rows_after-taken read rows (map fields_of records) i (fields_of record_) row (within_fields fields_of records i l) (fields_at fields_of records i record_ l is) old.count (sym e);
+  count = length-append rows (row ∷ []) ∙ ap (λ n. n + 1) old.count;
+  all = All-push kept rows row old.all k;
+}
+
+pub read_refused : {A R T : Type 0} (kept : A → Type 0) (read : List A → ℕ → List (List ℕ) → Result A CsvRefusal) (fields_of : R → List (List ℕ)) (records : List R) (rows : List A) (i : ℕ) (record_ : R) (a b : CsvRefusal) → ReadSoFar kept read fields_of records rows i
+    → i < length records → record_ ≡ get_or records i record_ → Err a ≡ read rows (i + 1) (fields_of record_) → ◌≡◌ {A = Result T CsvFault} (Err (Refused a)) (Err (Refused b)) → rows_after read [] (map fields_of records) ≡ Err b
+read_refused {A} {R} {T} kept read fields_of records rows i record_ a b old l is e same =
+    old.so_far ∙ rows_after-refused read rows (map fields_of records) i (fields_of record_) b (within_fields fields_of records i l) (fields_at fields_of records i record_ l is) old.count (sym e ∙ ap Err (refusal-same {T = T} a b same))
+
+pub read_to_end : {A R : Type 0} (kept : A → Type 0) (read : List A → ℕ → List (List ℕ) → Result A CsvRefusal) (fields_of : R → List (List ℕ)) (records : List R) (rows : List A) (i : ℕ) → ReadSoFar kept read fields_of records rows i
+    → length records ≤ i → rows_after read [] (map fields_of records) ≡ Ok rows
+read_to_end kept read fields_of records rows i old l = let len = length-map records fields_of in old.so_far ∙ rows_after-end read rows (map fields_of records) i (rw len l)

@@ -162,6 +162,10 @@ pub length-columns_of : (width : ℕ) (rs : List Range) → length (columns_of w
 unfolding columns_of
 length-columns_of width rs = length-listed (is_within_range rs) width
 
+-- a column of a cover lies within the width
+pub column_within : (width column : ℕ) (rs : List Range) (columns : List Bool) → columns_of width rs ≡ columns → column < length columns → column < width
+column_within width column rs columns is l = omega (arith, l, ap length is, length-columns_of width rs)
+
 -- the columns before the width are those of the ranges
 pub columns_of-covered : (width x : ℕ) (rs : List Range) → x < width → is_covered (columns_of width rs) x ≡ is_within_range rs x
 unfolding columns_of is_covered

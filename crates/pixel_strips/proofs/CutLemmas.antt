@@ -1,6 +1,8 @@
 -- Colours of texels and shades that are cut out.
-use Rattle.std.proofs.Common.{◌≡◌, ℕ, ◌+◌, ◌-◌, ◌*◌, ◌<◌, List, ap, ◌∙◌, arith}
+use Rattle.std.proofs.Common.{◌≡◌, ℕ, ◌+◌, ◌-◌, ◌*◌, ◌<◌, List, FitsSigned, ap, ap₂, ◌∙◌, arith, to_z, of_z}
 use Rattle.std.specs.Prelude.{slice_index, ℤ}
+use Rattle.std.specs.Int.{w32}
+use Rattle.std.proofs.lemmas.Int.{to_z-of_z}
 use Rattle.pixel_rules.specs.declared.TheConstants.{TEXEL_ROWS, MAP_COLOURS}
 use Rattle.pixel_rules.specs.Strips.{texel_row, flat_place, shade, column_colour, span_colour}
 use Rattle.word_rules.specs.Steps.{step_at}
@@ -65,3 +67,24 @@ cut_row flat colormap texels shades map x_fraction y_fraction x_step y_step firs
     λ x. cut_span flat colormap texels shades map (step_at x_fraction x_step (x - first)) (step_at y_fraction y_step (x - first)) t s
     (bytes (flat_place (step_at x_fraction x_step (x - first)) (step_at y_fraction y_step (x - first)))) in
     λ i x. same x i
+
+-- a number that was written to a word and read again
+abbrev word : ℤ → ℤ
+word z = to_z w32 (of_z w32 z)
+
+-- the same where the fractions are words, as the code has them
+pub cut_strip_words : (source colormap texels shades : List ℕ) (base map : ℕ) (fraction step : ℤ) (first : ℕ) → FitsSigned w32 fraction → FitsSigned w32 step →
+    IsWindow source base TEXEL_ROWS texels → IsWindow colormap (MAP_COLOURS * map) MAP_COLOURS shades → ((k : ℕ) → slice_index texels k < MAP_COLOURS) →
+    cut_strip_colour texels shades (word fraction) (word step) first ≡ strip_colour source base colormap map fraction step first
+cut_strip_words source colormap texels shades base map fraction step first f g t s bytes =
+    ap₂ (λ (a b : ℤ). cut_strip_colour texels shades a b first) (to_z-of_z w32 fraction f) (to_z-of_z w32 step g)
+    ∙ cut_strip source colormap texels shades base map fraction step first t s bytes
+
+pub cut_row_words : (flat colormap texels shades : List ℕ) (map : ℕ) (x_fraction y_fraction x_step y_step : ℤ) (first : ℕ) →
+    FitsSigned w32 x_fraction → FitsSigned w32 y_fraction → FitsSigned w32 x_step → FitsSigned w32 y_step →
+    IsWindow flat 0 4096 texels → IsWindow colormap (MAP_COLOURS * map) MAP_COLOURS shades → ((k : ℕ) → slice_index texels k < MAP_COLOURS) →
+    cut_row_colour texels shades (word x_fraction) (word y_fraction) (word x_step) (word y_step) first ≡ row_colour flat colormap map x_fraction y_fraction x_step y_step first
+cut_row_words flat colormap texels shades map x_fraction y_fraction x_step y_step first f g h k t s bytes =
+    ap₂ (λ (a b : ℤ). cut_row_colour texels shades a b (word x_step) (word y_step) first) (to_z-of_z w32 x_fraction f) (to_z-of_z w32 y_fraction g)
+    ∙ ap₂ (λ (a b : ℤ). cut_row_colour texels shades x_fraction y_fraction a b first) (to_z-of_z w32 x_step h) (to_z-of_z w32 y_step k)
+    ∙ cut_row flat colormap texels shades map x_fraction y_fraction x_step y_step first t s bytes

@@ -1,4 +1,5 @@
 pub mod CanvasLemmas
+pub mod SoFarLemmas
 pub mod CutLemmas
 pub mod FillLemmas
 pub mod DottedLemmas

@@ -7,6 +7,9 @@ use Rattle.std.proofs.lemmas.List.Sums.{sum_by-cons}
 use Rattle.std.proofs.Math.Seq.{drop-cons}
 use Rattle.outside.specs.declared.fault.Fault.{Fault}
 use Rattle.outside.specs.Faults.{FaultFits, ResultIs}
+use Rattle.outside.specs.Shelf.{ShelfView, IsLaterShelf, NameFiles, Stands}
+use Rattle.outside.specs.declared.shelf.FileNo.{FileNo}
+use Rattle.outside.proofs.ShelfLemmas.{as_many, stands_at}
 use Rattle.lump_rules.specs.declared.wad.Header.{Header}
 use Rattle.lump_rules.specs.declared.wad.Lump.{Lump}
 use Rattle.lump_rules.specs.declared.wad.DirRefusal.{DirRefusal}
@@ -85,3 +88,12 @@ listing_left contents i lt =
     ap (λ rest. sum_by listing_size rest) (drop-cons contents i [] lt)
     ∙ sum_by-cons listing_size (get_or contents i []) (drop (suc i) contents)
     ∙ ap (λ k. listing_size (get_or contents i []) + sum_by listing_size (drop k contents)) (sym (add-one i))
+
+-- what the file at i takes of the shelf is what it lists, so that the files that are left have theirs
+pub file_taken : (first now later : ShelfView) (files : List FileNo) (contents : List (List ℕ)) (i : ℕ) (d : FileNo) → NameFiles first files contents → i < length files → IsLaterShelf first now →
+    now.taken + listing_sizes (drop i contents) ≤ first.taken + listing_sizes contents →
+    ((bytes : List ℕ) → Stands now (get_or files i d).0 bytes → later.taken ≤ now.taken + listing_size bytes) →
+    later.taken + listing_sizes (drop (i + 1) contents) ≤ first.taken + listing_sizes contents
+file_taken first now later files contents i d stand lt follows taken more =
+    let many = as_many first files contents stand in
+    omega (arith, taken, listing_left contents i (omega (arith, many)), more _ (follows.file _ _ (stands_at first files contents i d stand lt)))

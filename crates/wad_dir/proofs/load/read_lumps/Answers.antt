@@ -1,7 +1,7 @@
 use Rattle.std.proofs.Common.{◌≡◌, ◌+◌, ◌++◌, ◌∙◌, length, length-append, ap, arith}
 use Rattle.outside.proofs.ShelfLemmas.{follows_then, as_many, stands_at}
 use Rattle.wad_dir.proofs.EntryLemmas.{all_joined, grown_by}
-use Rattle.wad_dir.proofs.FileLemmas.{file_more, file_stops, all_read, listing_left}
+use Rattle.wad_dir.proofs.FileLemmas.{file_more, file_stops, all_read, file_taken}
 use Rattle.wad_dir.proofs.load.read_lumps.Goals as goal
 
 pub returns-in_err-found-clause-answers : goal.returns-in_err-found-clause-answers
@@ -14,24 +14,10 @@ returns-in_err-found-clause-answers g c contents stand =
     c.in_err-found.was c.from_residual.ensures.1
 
 pub returns-in_err-found-clause-taken : goal.returns-in_err-found-clause-taken
-returns-in_err-found-clause-taken g c contents stand =
-    let many : length c.args.files.now ≡ length contents = as_many (g.S.Shelf.view c.args.shelf.now) _ _ stand in
-    omega (
-      arith,
-      c.loop-i.invariant.taken contents stand,
-      listing_left contents c.loop-i.i (omega arith),
-      c.read_file.ensures.taken _ (c.loop-i.invariant.follows.file _ _ (stands_at (g.S.Shelf.view c.args.shelf.now) _ contents c.loop-i.i _ stand (omega arith))),
-    )
+returns-in_err-found-clause-taken g c contents stand = omega (arith, file_taken (g.S.Shelf.view c.args.shelf.now) (g.S.Shelf.view c.loop-i.shelf) (g.S.Shelf.view c.read_file.new.shelf) _ contents c.loop-i.i _ stand (omega arith) c.loop-i.invariant.follows (c.loop-i.invariant.taken contents stand) c.read_file.ensures.taken)
 
 pub returns-in_err-extend_from_slice-clause-taken : goal.returns-in_err-extend_from_slice-clause-taken
-returns-in_err-extend_from_slice-clause-taken g c contents stand =
-    let many : length c.args.files.now ≡ length contents = as_many (g.S.Shelf.view c.args.shelf.now) _ _ stand in
-    omega (
-      arith,
-      c.loop-i.invariant.taken contents stand,
-      listing_left contents c.loop-i.i (omega arith),
-      c.read_file.ensures.taken _ (c.loop-i.invariant.follows.file _ _ (stands_at (g.S.Shelf.view c.args.shelf.now) _ contents c.loop-i.i _ stand (omega arith))),
-    )
+returns-in_err-extend_from_slice-clause-taken g c contents stand = omega (arith, file_taken (g.S.Shelf.view c.args.shelf.now) (g.S.Shelf.view c.loop-i.shelf) (g.S.Shelf.view c.read_file.new.shelf) _ contents c.loop-i.i _ stand (omega arith) c.loop-i.invariant.follows (c.loop-i.invariant.taken contents stand) c.read_file.ensures.taken)
 
 pub loop-i-preserved : goal.loop-i-preserved
 loop-i-preserved g c =
@@ -49,14 +35,7 @@ loop-i-preserved g c =
           file_more contents c.loop-i.i c.loop-i.lumps.items c.extend_from_slice.new.self.items c.in_ok-found.found.items (omega arith) grown longer
           (rw n at (c.in_ok-found.ensures.answers _ (c.loop-i.invariant.follows.file _ _ (stands_at (g.S.Shelf.view c.args.shelf.now) _ contents c.loop-i.i _ stand (omega arith)))).ok)
           (c.loop-i.invariant.read contents stand);
-      taken = λ contents stand.
-          let many : length c.args.files.now ≡ length contents = as_many (g.S.Shelf.view c.args.shelf.now) _ _ stand in
-          omega (
-            arith,
-            c.loop-i.invariant.taken contents stand,
-            listing_left contents c.loop-i.i (omega arith),
-            c.read_file.ensures.taken _ (c.loop-i.invariant.follows.file _ _ (stands_at (g.S.Shelf.view c.args.shelf.now) _ contents c.loop-i.i _ stand (omega arith))),
-          );
+      taken = λ contents stand. file_taken (g.S.Shelf.view c.args.shelf.now) (g.S.Shelf.view c.loop-i.shelf) (g.S.Shelf.view c.read_file.new.shelf) _ contents c.loop-i.i _ stand (omega arith) c.loop-i.invariant.follows (c.loop-i.invariant.taken contents stand) c.read_file.ensures.taken;
       taken_by_count = omega (arith, c.in_ok-found.ensures.taken_by_count);
     }
 

@@ -1,14 +1,12 @@
-use Rattle.std.proofs.Common.{◌∙◌, ap, map, rules, arith, Err}
+use Rattle.std.proofs.Common.{rules, arith, Err}
 use Rattle.csv.specs.Records.{fields_of}
 use Rattle.csv_tables.proofs.TableLemmas.{path_in-first}
 use Rattle.csv_tables.proofs.path.PathTable.read.Goals as goal
 
 pub returns-in_err-rows-clause-refused : goal.returns-in_err-rows-clause-refused
 returns-in_err-rows-clause-refused c r e =
-    let first = ap (map fields_of) c.deref.ensures.value ∙ c.in_ok-records.ensures.records in
-    path_in-first c.args.bytes.now 10002 _ (Err r) c.in_ok-records.ensures.whole first (omega arith) (c.in_err-rows.ensures.refused r (search rules))
+    path_in-first fields_of c.args.bytes.now 10002 _ _ (Err r) c.in_ok-records.ensures.whole c.deref.ensures.value c.in_ok-records.ensures.records (omega arith) (c.in_err-rows.ensures.refused r (search rules))
 
 pub returns-clause-ok : goal.returns-clause-ok
 returns-clause-ok c =
-    let first = ap (map fields_of) c.deref.ensures.value ∙ c.in_ok-records.ensures.records in
-    path_in-first c.args.bytes.now 10002 _ _ c.in_ok-records.ensures.whole first (omega arith) c.in_ok-rows.ensures.ok
+    path_in-first fields_of c.args.bytes.now 10002 _ _ _ c.in_ok-records.ensures.whole c.deref.ensures.value c.in_ok-records.ensures.records (omega arith) c.in_ok-rows.ensures.ok

@@ -1,7 +1,7 @@
-use Rattle.std.proofs.Common.{◌≡◌, ℕ, ◌<◌, ◌≤◌, List, Bool, length, ap, sym, ◌∙◌, arith}
+use Rattle.std.proofs.Common.{◌≤◌, List, Bool, length, ap, ◌∙◌, arith}
 use Rattle.node_walk.specs.Ranges.{columns_of, are_apart, range_gaps}
 use Rattle.level_rules.specs.walk.Covered.{fragments}
-use Rattle.node_walk.proofs.RangeLemmas.{apart_parts, apart_test, apart_wider, length-columns_of}
+use Rattle.node_walk.proofs.RangeLemmas.{apart_parts, apart_test, apart_wider, column_within, length-columns_of}
 use Rattle.node_walk.proofs.GapLemmas.{gaps-fragments}
 use Rattle.node_walk.proofs.cover.Cover.fragments.Goals as goal
 
@@ -17,8 +17,6 @@ new-requires-clause-apart c =
 
 pub returns : goal.returns
 returns c =
-    let within : c.args.last < c.self.inside.width =
-    omega (arith, ap length c.self.view_is, length-columns_of c.self.inside.width c.self.inside.ranges.items) in
     c.new.ensures ∙ ap (range_gaps c.args.first c.args.last) c.deref.ensures.0
-    ∙ gaps-fragments c.self.inside.width c.args.first c.args.last c.self.inside.ranges.items (apart_parts 0 _ _ c.self.invariant.1) c.requires.ordered within
+    ∙ gaps-fragments c.self.inside.width c.args.first c.args.last c.self.inside.ranges.items (apart_parts 0 _ _ c.self.invariant.1) c.requires.ordered (column_within _ _ _ _ c.self.view_is c.requires.within)
     ∙ ap (λ (columns : List Bool). fragments columns c.args.first c.args.last) c.self.view_is
