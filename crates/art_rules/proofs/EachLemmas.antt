@@ -21,7 +21,8 @@ range_split a (suc k) (suc n) h =
     let e : (a + 1) + k ≡ a + suc k = omega arith in
     (r.0, ap (λ v. a ∷ v) (r.1 ∙ ap (λ m. range_with_len (a + 1) k ++ m ∷ r.0) e))
 
-range_more : (a n : ℕ) → range_with_len a (n + 1) ≡ range_with_len a n ++ (a + n) ∷ []
+-- a range of one number more
+pub range_more : (a n : ℕ) → range_with_len a (n + 1) ≡ range_with_len a n ++ (a + n) ∷ []
 range_more a zero = ap (λ m. m ∷ []) (sym (add-zero a))
 range_more a (suc n) =
     let e : (a + 1) + n ≡ a + suc n = omega arith in

@@ -81,15 +81,15 @@ unfolding in_file
 in_two_steps first read name files law = two_steps first read (file_named name files) law
 
 -- the file's bytes were not read
-pub unread : {A B D : Type 0} {steady : Bool} {v : D → List ℕ} {value : B → A} {r : Result D (Fault Refusal)} (first : List ℕ → Result (List ℕ) Refusal) (read : List ℕ → Result A Refusal) (name : List ℕ) (files : List File) (fault : (Fault Refusal)) (result : Result B (Fault Refusal)) →
+pub unread : {A B D : Type 0} {steady : Bool} {v : D → List ℕ} {value : B → A} {r : Result D (Fault Refusal)} {read : List ℕ → Result A Refusal} (first : List ℕ → Result (List ℕ) Refusal) (name : List ℕ) (files : List File) {fault : Fault Refusal} {result : Result B (Fault Refusal)} →
     ((bytes : List ℕ) → read bytes ≡ and_then (first bytes) read) →
     ResultIsOrAbsent itself steady v (in_file first name files) r → r ≡ Err fault → IsErrAnd result (λ e. e ≡ fault) → ResultIsOrAbsent itself steady value (in_file read name files) result
-unread first read name files fault result law agrees was is =
+unread {read} first name files {fault} {result} law agrees was is =
     rw (in_two_steps first read name files law) (step_stops (λ given. no_file (read given)) fault result agrees was refl is)
 
 -- the file's bytes were read and checked
-pub checked : {A B : Type 0} {steady : Bool} {value : B → A} (first : List ℕ → Result (List ℕ) Refusal) (read : List ℕ → Result A Refusal) (name : List ℕ) (files : List File) (found given : List ℕ) (result : Result B (Fault Refusal)) →
+pub checked : {A B : Type 0} {steady : Bool} {value : B → A} {read : List ℕ → Result A Refusal} (first : List ℕ → Result (List ℕ) Refusal) (name : List ℕ) (files : List File) {found given : List ℕ} {result : Result B (Fault Refusal)} →
     ((bytes : List ℕ) → read bytes ≡ and_then (first bytes) read) →
     in_file first name files ≡ Ok found → given ≡ found → ResultIs itself true value (read given) result → ResultIsOrAbsent itself steady value (in_file read name files) result
-checked first read name files found given result law e same answers =
+checked {read} first name files {found} {result} law e same answers =
     rw (in_two_steps first read name files law, e) (unread_agrees (read found) result (rw same at answers))

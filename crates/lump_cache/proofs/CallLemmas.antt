@@ -17,11 +17,12 @@ use Rattle.wad_dir.specs.DirectoryView.{DirectoryView}
 use Rattle.lump_cache.specs.Caches.{composite_owner}
 use Rattle.lump_cache.specs.Calls.{ReadsLumps, PreservesCache, HoldContents, IsFullFor, IfFull, InOrderAt}
 
-bytes_stay : (x : Option (List ℕ)) → IfSome x (λ bytes. x ≡ Some bytes)
+-- bytes that are there are the same
+pub bytes_stay : (x : Option (List ℕ)) → IfSome x (λ bytes. x ≡ Some bytes)
 bytes_stay None = tt
 bytes_stay (Some bytes) = refl
 
-bytes_then : (x y z : Option (List ℕ)) → IfSome y (λ bytes. x ≡ Some bytes) → IfSome z (λ bytes. y ≡ Some bytes) → IfSome z (λ bytes. x ≡ Some bytes)
+pub bytes_then : (x y z : Option (List ℕ)) → IfSome y (λ bytes. x ≡ Some bytes) → IfSome z (λ bytes. y ≡ Some bytes) → IfSome z (λ bytes. x ≡ Some bytes)
 bytes_then x y None h k = tt
 bytes_then x y (Some bytes) h k = subst (λ (w : Option (List ℕ)). IfSome w (λ bytes. x ≡ Some bytes)) k h
 

@@ -29,23 +29,24 @@ pub divisible : (part : Part) → part.west < part.east → part.south < part.no
 unfolding is_one_cell
 divisible part p q e = record { columns = p; rows = q; size = grind (arith, nat_tests, e) }
 
-front_by : (part : Part) (b : Bool) → divides_columns part ≡ b → IsDivisible part → IsPiece part (cond b (record part { west = made_middle_column part }) (record part { north = middle_row part }))
+-- both parts of a division
+pieces_by : (part : Part) (b : Bool) → divides_columns part ≡ b → IsDivisible part →
+    IsPiece part (cond b (record part { west = made_middle_column part }) (record part { north = middle_row part })) × IsPiece part (cond b (record part { east = made_middle_column part }) (record part { south = middle_row part }))
 unfolding divides_columns made_middle_column middle_row
-front_by part true e d = let wide : height part ≤ width part = grind (arith, nat_tests, e) in record { columns = omega arith; rows = omega arith; smaller = omega arith; east = omega arith; north = omega arith }
-front_by part false e d = let high : width part < height part = grind (arith, nat_tests, e) in record { columns = omega arith; rows = omega arith; smaller = omega arith; east = omega arith; north = omega arith }
+pieces_by part true e d =
+    let wide : height part ≤ width part = grind (arith, nat_tests, e) in
+    (record { columns = omega arith; rows = omega arith; smaller = omega arith; east = omega arith; north = omega arith }, record { columns = omega arith; rows = omega arith; smaller = omega arith; east = omega arith; north = omega arith })
+pieces_by part false e d =
+    let high : width part < height part = grind (arith, nat_tests, e) in
+    (record { columns = omega arith; rows = omega arith; smaller = omega arith; east = omega arith; north = omega arith }, record { columns = omega arith; rows = omega arith; smaller = omega arith; east = omega arith; north = omega arith })
 
 pub front-piece : (part : Part) → IsDivisible part → IsPiece part (front_part part)
 unfolding front_part
-front-piece part d = front_by part (divides_columns part) refl d
-
-back_by : (part : Part) (b : Bool) → divides_columns part ≡ b → IsDivisible part → IsPiece part (cond b (record part { east = made_middle_column part }) (record part { south = middle_row part }))
-unfolding divides_columns made_middle_column middle_row
-back_by part true e d = let wide : height part ≤ width part = grind (arith, nat_tests, e) in record { columns = omega arith; rows = omega arith; smaller = omega arith; east = omega arith; north = omega arith }
-back_by part false e d = let high : width part < height part = grind (arith, nat_tests, e) in record { columns = omega arith; rows = omega arith; smaller = omega arith; east = omega arith; north = omega arith }
+front-piece part d = (pieces_by part (divides_columns part) refl d).0
 
 pub back-piece : (part : Part) → IsDivisible part → IsPiece part (back_part part)
 unfolding back_part
-back-piece part d = back_by part (divides_columns part) refl d
+back-piece part d = (pieces_by part (divides_columns part) refl d).1
 
 -- the same of parts that are not one cell
 pub front-is_part : (part piece : Part) → IsPart part → is_one_cell part ≡ false → piece ≡ front_part part → IsPart piece

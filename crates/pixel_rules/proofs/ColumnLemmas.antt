@@ -2,7 +2,8 @@
 use Rattle.std.proofs.Common.{◌≡◌, ℕ, zero, suc, ◌+◌, ◌-◌, ◌<◌, ◌≤◌, ◌≢◌, Bool, true, false, cond, List, [], ◌∷◌, Option, Some, None, refl, ap, sym, ◌∙◌, arith, eq-eqb, inl, inr}
 use Rattle.std.specs.Prelude.{◌==◌, ◌&&◌, ◌⊎◌, map}
 use Rattle.std.specs.List.{range_with_len, flat_map}
-use Rattle.std.proofs.lemmas.Bool.{cases_eq, cases_lt, ne_eqb, and_left, and_right, and_from}
+use Rattle.std.proofs.lemmas.Bool.{cases_eq, cases_lt, ne_eqb, and_right}
+use Rattle.std.proofs.lemmas.List.{map-id}
 use Rattle.word_rules.specs.Least.{or_else}
 use Rattle.word_rules.specs.Listed.{listed, listed_from, joined_lists}
 use Rattle.pixel_rules.specs.declared.Painter.{Painter}
@@ -85,113 +86,78 @@ pub last_dot-listed_columns : (f : ℕ → List Dot) (x y n : ℕ) → ((c : ℕ
 unfolding joined_lists listed
 last_dot-listed_columns f x y n a l = own_column f x y 0 n a (omega arith) (omega arith)
 
+-- of dots by number, the one whose number is t is at the pixel, and no other
+module _ (dot : ℕ → Dot) (x y t : ℕ) (at : (k : ℕ) → is_at x y (dot k) ≡ (k == t)) where
+  dots_from : (b : Option Dot) (k n : ℕ) (s : Bool) → (k == t) ≡ s → last_dot_from b x y (map dot (range_with_len k (suc n))) ≡ last_dot_from (cond s (Some (dot k)) b) x y (map dot (range_with_len (k + 1) n))
+  unfolding last_dot_from
+  dots_from b k n s e = ap (λ (c : Bool). last_dot_from (cond c (Some (dot k)) b) x y (map dot (range_with_len (k + 1) n))) (at k ∙ e)
+
+  dots_past : (b : Option Dot) (k n : ℕ) → t < k → last_dot_from b x y (map dot (range_with_len k n)) ≡ b
+  unfolding last_dot_from
+  dots_past b k zero l = refl
+  dots_past b k (suc n) l = dots_from b k n false (ne_eqb k t (λ e. absurd (omega arith))) ∙ dots_past b (k + 1) n (omega arith)
+
+  dots_short : (b : Option Dot) (k n : ℕ) → k + n ≤ t → last_dot_from b x y (map dot (range_with_len k n)) ≡ b
+  unfolding last_dot_from
+  dots_short b k zero l = refl
+  dots_short b k (suc n) l = dots_from b k n false (ne_eqb k t (λ e. absurd (omega arith))) ∙ dots_short b (k + 1) n (omega arith)
+
+  dots_at : (b : Option Dot) (k n : ℕ) → k ≤ t → t < k + n → last_dot_from b x y (map dot (range_with_len k n)) ≡ Some (dot t)
+  dots_at b k zero l m = absurd (omega arith)
+  dots_at b k (suc n) l m =
+      elim (cases_eq k t) [
+        | inl e ↦ dots_from b k n true (eq-eqb k t e) ∙ dots_past (Some (dot k)) (k + 1) n (omega arith) ∙ ap (λ (j : ℕ). Some (dot j)) e
+        | inr e ↦ dots_from b k n false (ne_eqb k t e) ∙ dots_at b (k + 1) n (omega arith) (omega arith)
+      ]
+
+  dots_beside : (first last : ℕ) → (t < first) ⊎ (last < t) → last_dot x y (listed_from dot first last) ≡ None
+  unfolding last_dot listed_from
+  dots_beside first last (inl l) = dots_past None first (last + 1 - first) l
+  dots_beside first last (inr l) =
+      elim (cases_lt t first) [
+        | inl h ↦ dots_past None first (last + 1 - first) h
+        | inr h ↦ dots_short None first (last + 1 - first) (omega arith)
+      ]
+
+  dots_among : (first last : ℕ) → first ≤ t → t ≤ last → last_dot x y (listed_from dot first last) ≡ Some (dot t)
+  unfolding last_dot listed_from
+  dots_among first last l m = dots_at None first (last + 1 - first) l (omega arith)
+
 -- a strip of a column has a dot at each of its rows, and none elsewhere
-first_row : (painter : Painter) (x y : ℕ) (colour : ℕ → ℕ) (first n : ℕ) (b : Option Dot) (t : Bool) → (x == x && first == y) ≡ t →
-    last_dot_from b x y (column_dots painter x colour (map (λ r. r) (range_with_len first (suc n))))
-    ≡ last_dot_from (cond t (Some (record { x = x; y = first; colour = colour first; painter = painter })) b) x y (column_dots painter x colour (map (λ r. r) (range_with_len (first + 1) n)))
-unfolding column_dots last_dot_from is_at
-first_row painter x y colour first n b t e =
-    ap (λ (c : Bool). last_dot_from (cond c (Some (record { x = x; y = first; colour = colour first; painter = painter })) b) x y (column_dots painter x colour (map (λ r. r) (range_with_len (first + 1) n)))) e
+abbrev row_dot : Painter → ℕ → (ℕ → ℕ) → ℕ → Dot
+row_dot painter x colour r = record { x = x; y = r; colour = colour r; painter = painter }
 
-row_apart : (x y first : ℕ) → first ≢ y → (x == x && first == y) ≡ false
-row_apart x y first n = and_right (x == x) (first == y) (ne_eqb first y n)
+in_row : (painter : Painter) (x y : ℕ) (colour : ℕ → ℕ) (r : ℕ) → is_at x y (row_dot painter x colour r) ≡ (r == y)
+unfolding is_at
+in_row painter x y colour r = ap (λ b. b && r == y) (eq-eqb x x refl)
 
-row_same : (x y first : ℕ) → first ≡ y → (x == x && first == y) ≡ true
-row_same x y first e = and_from (x == x) (first == y) (eq-eqb x x refl) (eq-eqb first y e)
-
-column_above : (painter : Painter) (x y : ℕ) (colour : ℕ → ℕ) (first n : ℕ) (b : Option Dot) → y < first →
-    last_dot_from b x y (column_dots painter x colour (map (λ r. r) (range_with_len first n))) ≡ b
-unfolding column_dots last_dot_from is_at
-column_above painter x y colour first zero b l = refl
-column_above painter x y colour first (suc n) b l =
-    first_row painter x y colour first n b false (row_apart x y first (λ e. absurd (omega arith))) ∙ column_above painter x y colour (first + 1) n b (omega arith)
-
-column_at : (painter : Painter) (x y : ℕ) (colour : ℕ → ℕ) (first n : ℕ) (b : Option Dot) → first ≤ y → y < first + n →
-    last_dot_from b x y (column_dots painter x colour (map (λ r. r) (range_with_len first n))) ≡ Some (record { x = x; y = y; colour = colour y; painter = painter })
-unfolding column_dots last_dot_from is_at
-column_at painter x y colour first zero b l m = absurd (omega arith)
-column_at painter x y colour first (suc n) b l m =
-    elim (cases_eq first y) [
-      | inl e ↦
-          first_row painter x y colour first n b true (row_same x y first e)
-          ∙ column_above painter x y colour (first + 1) n (Some (record { x = x; y = first; colour = colour first; painter = painter })) (omega arith)
-          ∙ ap (λ (r : ℕ). Some (record { x = x; y = r; colour = colour r; painter = painter })) e
-      | inr e ↦ first_row painter x y colour first n b false (row_apart x y first e) ∙ column_at painter x y colour (first + 1) n b (omega arith) (omega arith)
-    ]
-
-column_below : (painter : Painter) (x y : ℕ) (colour : ℕ → ℕ) (first n : ℕ) (b : Option Dot) → first + n ≤ y →
-    last_dot_from b x y (column_dots painter x colour (map (λ r. r) (range_with_len first n))) ≡ b
-unfolding column_dots last_dot_from is_at
-column_below painter x y colour first zero b l = refl
-column_below painter x y colour first (suc n) b l =
-    first_row painter x y colour first n b false (row_apart x y first (λ e. absurd (omega arith))) ∙ column_below painter x y colour (first + 1) n b (omega arith)
+strip_listed : (painter : Painter) (x : ℕ) (colour : ℕ → ℕ) (first last : ℕ) → column_dots painter x colour (listed_from (λ r. r) first last) ≡ listed_from (row_dot painter x colour) first last
+unfolding column_dots listed_from
+strip_listed painter x colour first last = ap (map (row_dot painter x colour)) (map-id (range_with_len first (last + 1 - first)))
 
 pub last_dot-column_dots : (painter : Painter) (x y : ℕ) (colour : ℕ → ℕ) (first last : ℕ) → first ≤ y → y ≤ last →
     last_dot x y (column_dots painter x colour (listed_from (λ r. r) first last)) ≡ Some (record { x = x; y = y; colour = colour y; painter = painter })
-unfolding last_dot listed_from
-last_dot-column_dots painter x y colour first last l m = column_at painter x y colour first (last + 1 - first) None l (omega arith)
+last_dot-column_dots painter x y colour first last l m = ap (last_dot x y) (strip_listed painter x colour first last) ∙ dots_among (row_dot painter x colour) x y y (in_row painter x y colour) first last l m
 
 pub last_dot-no_row : (painter : Painter) (x y : ℕ) (colour : ℕ → ℕ) (first last : ℕ) → (y < first) ⊎ (last < y) →
     last_dot x y (column_dots painter x colour (listed_from (λ r. r) first last)) ≡ None
-unfolding last_dot listed_from
-last_dot-no_row painter x y colour first last (inl l) = column_above painter x y colour first (last + 1 - first) None l
-last_dot-no_row painter x y colour first last (inr l) =
-    elim (cases_lt y first) [
-      | inl h ↦ column_above painter x y colour first (last + 1 - first) None h
-      | inr h ↦ column_below painter x y colour first (last + 1 - first) None (omega arith)
-    ]
+last_dot-no_row painter x y colour first last l = ap (last_dot x y) (strip_listed painter x colour first last) ∙ dots_beside (row_dot painter x colour) x y y (in_row painter x y colour) first last l
 
 -- the same of spans: a dot at each of the columns, and none elsewhere
-first_column : (painter : Painter) (x y : ℕ) (colour : ℕ → ℕ) (first n : ℕ) (b : Option Dot) (t : Bool) → (first == x && y == y) ≡ t →
-    last_dot_from b x y (map (λ c. record { x = c; y = y; colour = colour c; painter = painter }) (range_with_len first (suc n)))
-    ≡ last_dot_from (cond t (Some (record { x = first; y = y; colour = colour first; painter = painter })) b) x y (map (λ c. record { x = c; y = y; colour = colour c; painter = painter }) (range_with_len (first + 1) n))
-unfolding last_dot_from is_at
-first_column painter x y colour first n b t e =
-    ap (λ (t : Bool). last_dot_from (cond t (Some (record { x = first; y = y; colour = colour first; painter = painter })) b) x y (map (λ c. record { x = c; y = y; colour = colour c; painter = painter }) (range_with_len (first + 1) n))) e
+and_true : (b : Bool) → (b && true) ≡ b
+and_true true = refl
+and_true false = refl
 
-column_apart : (x y first : ℕ) → first ≢ x → (first == x && y == y) ≡ false
-column_apart x y first n = and_left (first == x) (y == y) (ne_eqb first x n)
-
-column_same : (x y first : ℕ) → first ≡ x → (first == x && y == y) ≡ true
-column_same x y first e = and_from (first == x) (y == y) (eq-eqb first x e) (eq-eqb y y refl)
-
-span_right : (painter : Painter) (x y : ℕ) (colour : ℕ → ℕ) (first n : ℕ) (b : Option Dot) → x < first →
-    last_dot_from b x y (map (λ c. record { x = c; y = y; colour = colour c; painter = painter }) (range_with_len first n)) ≡ b
-unfolding last_dot_from
-span_right painter x y colour first zero b l = refl
-span_right painter x y colour first (suc n) b l =
-    first_column painter x y colour first n b false (column_apart x y first (λ e. absurd (omega arith))) ∙ span_right painter x y colour (first + 1) n b (omega arith)
-
-span_at : (painter : Painter) (x y : ℕ) (colour : ℕ → ℕ) (first n : ℕ) (b : Option Dot) → first ≤ x → x < first + n →
-    last_dot_from b x y (map (λ c. record { x = c; y = y; colour = colour c; painter = painter }) (range_with_len first n)) ≡ Some (record { x = x; y = y; colour = colour x; painter = painter })
-span_at painter x y colour first zero b l m = absurd (omega arith)
-span_at painter x y colour first (suc n) b l m =
-    elim (cases_eq first x) [
-      | inl e ↦
-          first_column painter x y colour first n b true (column_same x y first e)
-          ∙ span_right painter x y colour (first + 1) n (Some (record { x = first; y = y; colour = colour first; painter = painter })) (omega arith)
-          ∙ ap (λ (c : ℕ). Some (record { x = c; y = y; colour = colour c; painter = painter })) e
-      | inr e ↦ first_column painter x y colour first n b false (column_apart x y first e) ∙ span_at painter x y colour (first + 1) n b (omega arith) (omega arith)
-    ]
-
-span_left : (painter : Painter) (x y : ℕ) (colour : ℕ → ℕ) (first n : ℕ) (b : Option Dot) → first + n ≤ x →
-    last_dot_from b x y (map (λ c. record { x = c; y = y; colour = colour c; painter = painter }) (range_with_len first n)) ≡ b
-unfolding last_dot_from
-span_left painter x y colour first zero b l = refl
-span_left painter x y colour first (suc n) b l =
-    first_column painter x y colour first n b false (column_apart x y first (λ e. absurd (omega arith))) ∙ span_left painter x y colour (first + 1) n b (omega arith)
+in_column : (painter : Painter) (x y : ℕ) (colour : ℕ → ℕ) (c : ℕ) → is_at x y (record { x = c; y = y; colour = colour c; painter = painter }) ≡ (c == x)
+unfolding is_at
+in_column painter x y colour c = ap (λ b. c == x && b) (eq-eqb y y refl) ∙ and_true (c == x)
 
 pub last_dot-span_dots : (painter : Painter) (x y : ℕ) (colour : ℕ → ℕ) (first last : ℕ) → first ≤ x → x ≤ last →
     last_dot x y (span_dots painter y colour first last) ≡ Some (record { x = x; y = y; colour = colour x; painter = painter })
-unfolding last_dot span_dots listed_from
-last_dot-span_dots painter x y colour first last l m = span_at painter x y colour first (last + 1 - first) None l (omega arith)
+unfolding span_dots
+last_dot-span_dots painter x y colour first last l m = dots_among (λ c. record { x = c; y = y; colour = colour c; painter = painter }) x y x (in_column painter x y colour) first last l m
 
 pub last_dot-beside_span : (painter : Painter) (x y : ℕ) (colour : ℕ → ℕ) (first last : ℕ) → (x < first) ⊎ (last < x) →
     last_dot x y (span_dots painter y colour first last) ≡ None
-unfolding last_dot span_dots listed_from
-last_dot-beside_span painter x y colour first last (inl l) = span_right painter x y colour first (last + 1 - first) None l
-last_dot-beside_span painter x y colour first last (inr l) =
-    elim (cases_lt x first) [
-      | inl h ↦ span_right painter x y colour first (last + 1 - first) None h
-      | inr h ↦ span_left painter x y colour first (last + 1 - first) None (omega arith)
-    ]
+unfolding span_dots
+last_dot-beside_span painter x y colour first last l = dots_beside (λ c. record { x = c; y = y; colour = colour c; painter = painter }) x y x (in_column painter x y colour) first last l

@@ -8,7 +8,7 @@ use Rattle.std.proofs.lemmas.Slice.Eq.{bytes_eq-Decides}
 use Rattle.std.proofs.lemmas.List.{take_more}
 use Rattle.art_rules.specs.declared.Mention.{Mention}
 use Rattle.art_rules.specs.Frames.{mentions}
-use Rattle.std.proofs.lemmas.List.Elements.{filter-append}
+use Rattle.std.proofs.lemmas.List.Elements.{Contains-get_or, filter-append}
 use Rattle.outside.specs.Faults.{and_then}
 use Rattle.art_rules.specs.declared.refusal.SpriteRefusal.{SpriteRefusal}
 use Rattle.lump_rules.specs.declared.wad.Lump.{Lump}
@@ -16,6 +16,7 @@ use Rattle.art_rules.specs.declared.shapes.Need.{Need}
 use Rattle.art_rules.specs.declared.shapes.Frame.{Frame}
 use Rattle.art_rules.specs.Books.{each_of, first_needs, same_frame, is_frame, outline, outline_of, outline_in, pictures_of, mention_outline, Outline}
 use Rattle.art_rules.proofs.EachLemmas.{each_of-push, each_of-stop}
+use Rattle.sprite_book.specs.Calls.{IsWanted, IsWantedBy}
 use Rattle.sprite_book.proofs.FrameLemmas.{split_at}
 
 -- one of the needs asks for the frame
@@ -154,8 +155,12 @@ some_place p i [] = refl
 some_place p i (x ∷ xs) = some_step p i xs (p x) (some_place p (i + 1) xs)
 
 -- the frame is there exactly where it was asked for
-pub placed_asked : (lumps : List Lump) (needs : List Need) (frames : List Frame) (n : Need) → each_of (outline_of lumps) (first_needs needs) ≡ Ok (map outline frames) → is_some (position_from (is_frame n.sprite n.frame) 0 frames) ≡ asked needs n
+placed_asked : (lumps : List Lump) (needs : List Need) (frames : List Frame) (n : Need) → each_of (outline_of lumps) (first_needs needs) ≡ Ok (map outline frames) → is_some (position_from (is_frame n.sprite n.frame) 0 frames) ≡ asked needs n
 placed_asked lumps needs frames n e = some_place (is_frame n.sprite n.frame) 0 frames ∙ sym (any_outlines lumps n (first_needs needs) frames e) ∙ asked_first needs n
+
+pub need_asked : (lumps : List Lump) (needs : List Need) (frames : List Frame) {has known : Bool} (n : Need) → each_of (outline_of lumps) (first_needs needs) ≡ Ok (map outline frames) →
+    has ≡ is_some (position_from (is_frame n.sprite n.frame) 0 frames) → has ≡ known → asked needs n ≡ known
+need_asked lumps needs frames n made is e = sym (placed_asked lumps needs frames n made) ∙ sym is ∙ e
 
 none_placed : (r : Option ℕ) → is_some r ≡ false → r ≡ None
 none_placed None e = refl
@@ -183,3 +188,7 @@ module _ {Y : Type 0} (f : Need → Result Y SpriteRefusal) where
 
 pub need_same : (needs : List Need) (i : ℕ) (d : Need) → i < length needs → asked (take i needs) (get_or needs i d) ≡ true → first_needs (take i needs) ≡ first_needs (take (i + 1) needs)
 need_same needs i d h old = sym (ap first_needs (take_more needs i d h) ∙ needs_same (take i needs) (get_or needs i d) old)
+
+-- a lump that one of the needs asks for
+pub wanted_need : {lumps : List Lump} (needs : List Need) (i : ℕ) (d : Need) → i < length needs → (lump : ℕ) → IsWantedBy lumps (get_or needs i d) lump → IsWanted lumps needs lump
+wanted_need needs i d h lump w = record { need = get_or needs i d; is = Contains-get_or needs i d h; wanted = w }

@@ -10,6 +10,7 @@ use Rattle.zone_rules.specs.Orders.{Item, IsInOrder, KeepsOrder}
 use Rattle.zone_rules.proofs.OwnerLemmas.{owned_block-map, write_held}
 use Rattle.zone_rules.proofs.OrderChangeLemmas.{order_written}
 use Rattle.lump_cache.specs.Caches.{HasAsked, HasBlock, HasUse, IsAsked, IsAtRestExcept, IsFaithful, IsFilled, IsPinned, KeepsCounts, KeptOrPurged, composite_owner}
+use Rattle.lump_cache.proofs.CallLemmas.{bytes_stay, bytes_then}
 use Rattle.lump_cache.proofs.FaithLemmas.{bytes_in}
 use Rattle.lump_cache.proofs.FillLemmas.{filled_others}
 use Rattle.lump_cache.proofs.RestButLemmas.{rest_but_written, written_pinned}
@@ -59,14 +60,6 @@ pub building_same : {number : ℕ} (size : ℕ) {old new : Heap} → owned_block
 building_same size e b = record { pinned = subst IsPinned (sym e) b.pinned; asked = subst (HasAsked size) (sym e) b.asked }
 
 -- the bytes of other composites
-bytes_stay : (x : Option (List ℕ)) → IfSome x (λ bytes. x ≡ Some bytes)
-bytes_stay None = tt
-bytes_stay (Some bytes) = refl
-
-bytes_then : (x y z : Option (List ℕ)) → IfSome y (λ bytes. x ≡ Some bytes) → IfSome z (λ bytes. y ≡ Some bytes) → IfSome z (λ bytes. x ≡ Some bytes)
-bytes_then x y None h k = tt
-bytes_then x y (Some bytes) h k = subst (λ (w : Option (List ℕ)). IfSome w (λ bytes. x ≡ Some bytes)) k h
-
 pub others_none : (number : ℕ) (z : Heap) → OthersKeep number z z
 others_none number z = record { at = λ n apart. bytes_stay (bytes_of (composite_owner n) z.blocks) }
 

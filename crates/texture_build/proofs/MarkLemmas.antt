@@ -6,6 +6,7 @@ use Rattle.std.proofs.Math.Seq.{take-length}
 use Rattle.std.proofs.lemmas.List.{take-append-le}
 use Rattle.std.proofs.lemmas.List.Elements.{filter-append}
 use Rattle.art_rules.specs.Wanted.{PreparedTexture, is_patch_of_any, patch_lumps}
+use Rattle.art_rules.proofs.EachLemmas.{range_more}
 
 -- two tests that agree at each number keep the same ones
 pub filter_same : (f g : ℕ → Bool) (a n : ℕ) → ((k : ℕ) → k < a + n → f k ≡ g k) → filter f (range_with_len a n) ≡ filter g (range_with_len a n)
@@ -29,13 +30,6 @@ no_lumps a (suc n) = no_lumps (a + 1) n
 pub lumps_none : (n : ℕ) → [] ≡ patch_lumps [] n
 unfolding patch_lumps
 lumps_none n = sym (no_lumps 0 n)
-
-range_more : (a n : ℕ) → range_with_len a (n + 1) ≡ range_with_len a n ++ (a + n) ∷ []
-range_more a zero = ap (λ m. m ∷ []) (sym (add-zero a))
-range_more a (suc n) =
-    let e : (a + 1) + n ≡ a + suc n = omega arith in
-    let s : suc n + 1 ≡ suc (n + 1) = omega arith in
-    rw s (ap (λ v. a ∷ v) (range_more (a + 1) n ∙ ap (λ m. range_with_len (a + 1) n ++ m ∷ []) e))
 
 -- the numbers up to n that pass, where n does and where it does not
 pub passed_on : (passes : ℕ → Bool) (n : ℕ) → passes n ≡ true → filter passes (range_with_len 0 (n + 1)) ≡ filter passes (range_with_len 0 n) ++ n ∷ []

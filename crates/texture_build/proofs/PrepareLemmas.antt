@@ -7,9 +7,11 @@ use Rattle.std.proofs.lemmas.Bool.Decides.{nat_tests}
 use Rattle.std.proofs.lemmas.Bool.{cases_lt, false≢true}
 use Rattle.std.proofs.lemmas.List.{get_or-map, get_or-replicate, length-append, length-map, length-replicate, length-take-le, take_all, take_more}
 use Rattle.std.proofs.lemmas.List.Folds.{list_any_at, list_any_none}
+use Rattle.std.proofs.lemmas.Option.{slice_get-get_or}
 use Rattle.outside.specs.Shelf.{ShelfView}
 use Rattle.outside.specs.Faults.{and_then, itself}
 use Rattle.word_rules.proofs.ListedLemmas.{listed-all}
+use Rattle.lump_rules.specs.declared.wad.Lump.{Lump}
 use Rattle.lump_rules.specs.Lookups.{last_of}
 use Rattle.zone_rules.specs.Zones.{Heap}
 use Rattle.wad_dir.specs.DirectoryView.{DirectoryView}
@@ -30,7 +32,7 @@ use Rattle.outside.specs.declared.fault.Fault.{Fault}
 use Rattle.outside.specs.declared.fault.Fault.TheVariants.{Refused}
 use Rattle.texture_lists.specs.declared.number.TexNo.{TexNo}
 use Rattle.texture_build.specs.Asked.{IsWantedPatch}
-use Rattle.texture_build.specs.Parts.{PatchesPart, or_missing, patches_part}
+use Rattle.texture_build.specs.Parts.{IsEntryPatch, PatchesPart, or_missing, patches_part}
 use Rattle.texture_build.specs.Views.{IsListedAs, is_marked, is_wanted, prepared_at}
 use Rattle.texture_build.proofs.PlaceLemmas.{found_is, missing_is}
 
@@ -177,6 +179,12 @@ module _ (prepare : ℕ → Texture → Result PreparedTexture TexRefusal) (want
       ap (prepared_from prepare wanted 0) (split_at ts k unlisted l) ∙ prepared_from-append 0 k (take k ts) (t ∷ drop (suc k) ts) count
       ∙ ap (λ r. and_then r (λ xs. and_then (prepared_from prepare wanted k (t ∷ drop (suc k) ts)) (λ ys. Ok (xs ++ ys)))) e
       ∙ ap (λ r. and_then r (λ ys. Ok (ps ++ ys))) (first_refused k t (drop (suc k) ts) reason step)
+
+-- a patch that preparing one texture asks for is one of all that are wanted
+pub wanted_patch : {lumps : List Lump} {lists : TextureLists} {wanted : ℕ → Bool} {k : ℕ} → k < length lists.textures → (lump : ℕ) →
+    (wanted k ≡ true) × IsEntryPatch lumps lists.names (texture_at lists.textures k).patches lump → IsWantedPatch lumps lists wanted lump
+wanted_patch {lists} {k} l lump w =
+    record { number = k; texture = texture_at lists.textures k; at = slice_get-get_or lists.textures k unlisted l; chosen = w.0; entry = w.1.entry; among = w.1.among; is = w.1.is }
 
 -- all textures, and the first k
 pub from_textures : (last : List ℕ → Option ℕ) (bytes : ℕ → List ℕ) (lists : TextureLists) (wanted : ℕ → Bool) → prepared_textures last bytes lists wanted ≡ prepared_from (prepared last bytes lists.names) wanted 0 lists.textures

@@ -1,15 +1,10 @@
 use Rattle.job_files.specs.declared.named.FileKind.TheVariants.{Weapons}
-use Rattle.job_files.specs.Files.{weapons_file}
 use Rattle.job_files.specs.Lengths.{bytes_in}
 use Rattle.job_files.proofs.CheckLemmas.{weapons_length, unread, checked}
 use Rattle.job_files.proofs.texts.load_layers.Goals as goal
 
 pub returns-in_err-bytes-clause-answers : goal.returns-in_err-bytes-clause-answers
-returns-in_err-bytes-clause-answers g c files holds =
-    unread (bytes_in Weapons) weapons_file c.args.name.now files _ c.from_residual.result weapons_length
-    (c.read_named.ensures.answers files holds) c.in_err-bytes.was c.from_residual.ensures.1
+returns-in_err-bytes-clause-answers g c files holds = unread (bytes_in Weapons) c.args.name.now files weapons_length (c.read_named.ensures.answers files holds) c.in_err-bytes.was c.from_residual.ensures.1
 
 pub returns-clause-answers : goal.returns-clause-answers
-returns-clause-answers g c files holds =
-    checked (bytes_in Weapons) weapons_file c.args.name.now files c.in_ok-bytes.bytes.items c.deref.result.now c.check_layers.result weapons_length
-    (c.in_ok-bytes.ensures.answers files holds).ok c.deref.ensures.value c.check_layers.ensures.answers
+returns-clause-answers g c files holds = checked (bytes_in Weapons) c.args.name.now files weapons_length (c.in_ok-bytes.ensures.answers files holds).ok c.deref.ensures.value c.check_layers.ensures.answers

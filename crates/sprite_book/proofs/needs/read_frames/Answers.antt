@@ -1,13 +1,12 @@
 use Rattle.std.proofs.Common.{◌≡◌, ◌<◌, ◌+◌, ◌++◌, ◌∷◌, [], List, length, get_or, take, map, Ok, sym, subst, ap, ◌∙◌, arith}
 use Rattle.std.proofs.lemmas.List.{map-append}
-use Rattle.std.proofs.lemmas.List.Elements.{Contains-get_or}
 use Rattle.outside.specs.declared.fault.Fault.TheVariants.{OutOfMemory}
 use Rattle.art_rules.specs.declared.shapes.Need.{Need}
 use Rattle.art_rules.specs.declared.shapes.Frame.{Frame}
 use Rattle.art_rules.specs.Books.{each_of, frame_of, first_needs, outline, outline_of}
 use Rattle.sprite_book.specs.Calls.{Reads, IsWanted}
 use Rattle.sprite_book.proofs.CallLemmas.{reads_known, reads_more, reads_stop, reads_same, reads_short}
-use Rattle.sprite_book.proofs.NeedLemmas.{needs_none, need_same, need_push, need_stop, placed_asked, frame_absent}
+use Rattle.sprite_book.proofs.NeedLemmas.{needs_none, need_same, need_push, need_stop, need_asked, wanted_need, frame_absent}
 use Rattle.sprite_book.proofs.needs.read_frames.Goals as goal
 
 abbrev no_need : Need
@@ -22,7 +21,7 @@ loop-need-init g c = record {
 
 pub loop-need-preserved-then-has : goal.loop-need-preserved-then-has
 loop-need-preserved-then-has g c =
-    let same = need_same c.args.needed.now c.loop-need.need-index no_need (omega arith) (sym (placed_asked c.args.dir.now.lumps (take c.loop-need.need-index c.args.needed.now) c.loop-need.list.frames.items (get_or c.args.needed.now c.loop-need.need-index no_need) c.loop-need.invariant.outlines) ∙ sym c.has.ensures ∙ c.if-has.true) in
+    let same = need_same c.args.needed.now c.loop-need.need-index no_need (omega arith) (need_asked _ _ _ (get_or c.args.needed.now c.loop-need.need-index no_need) c.loop-need.invariant.outlines c.has.ensures c.if-has.true) in
     record {
       tells = subst (λ ns. Reads (g.S.Shelf.view c.args.shelf.now) (g.S.Shelf.view c.loop-need.shelf) c.args.dir.now c.args.cache.now c.loop-need.cache c.args.patches.now c.loop-need.patches (IsWanted c.args.dir.now.lumps c.args.needed.now) (λ (_ : Unit {0}). c.loop-need.list.frames.items) (λ bytes. each_of (frame_of bytes c.args.dir.now.lumps) ns) (Ok tt)) same c.loop-need.invariant.tells;
       outlines = subst (λ ns. each_of (outline_of c.args.dir.now.lumps) ns ≡ Ok (map outline c.loop-need.list.frames.items)) same c.loop-need.invariant.outlines;
@@ -40,10 +39,9 @@ loop-need-preserved g c =
     let frames = c.loop-need.list.frames.items in
     let lumps = c.args.dir.now.lumps in
     let h : i < length needed = omega arith in
-    let new = sym (placed_asked lumps (take i needed) frames (get_or needed i d) c.loop-need.invariant.outlines) ∙ sym c.has.ensures ∙ c.if-has.false in
+    let new = need_asked lumps (take i needed) frames (get_or needed i d) c.loop-need.invariant.outlines c.has.ensures c.if-has.false in
     record {
-      tells = reads_more (λ bytes. each_of (frame_of bytes lumps) (first_needs (take (i + 1) needed))) c.in_ok-frame.frame tt c.loop-need.invariant.tells c.read_frame.result c.read_frame.ensures.tells c.in_ok-frame.was
-          (λ lump w. record { need = get_or needed i d; is = Contains-get_or needed i d h; wanted = w })
+      tells = reads_more (λ bytes. each_of (frame_of bytes lumps) (first_needs (take (i + 1) needed))) c.in_ok-frame.frame tt c.loop-need.invariant.tells c.read_frame.result c.read_frame.ensures.tells c.in_ok-frame.was (wanted_need needed i d h)
           (λ bytes one two. need_push (frame_of bytes lumps) needed i d frames c.in_ok-frame.frame h new one two ∙ ap Ok (sym c.in_ok-add.ensures.frames));
       outlines = need_push (outline_of lumps) needed i d (map outline frames) (outline c.in_ok-frame.frame) h new c.loop-need.invariant.outlines c.in_ok-frame.ensures.outline
           ∙ ap Ok (sym (ap (map outline) c.in_ok-add.ensures.frames ∙ map-append outline frames (c.in_ok-frame.frame ∷ [])));
@@ -52,29 +50,21 @@ loop-need-preserved g c =
 
 pub returns-in_err-frame-clause-tells : goal.returns-in_err-frame-clause-tells
 returns-in_err-frame-clause-tells g c =
-    let d = no_need in
     let i = c.loop-need.need-index in
     let needed = c.args.needed.now in
-    let frames = c.loop-need.list.frames.items in
-    let lumps = c.args.dir.now.lumps in
     let h : i < length needed = omega arith in
-    let new = sym (placed_asked lumps (take i needed) frames (get_or needed i d) c.loop-need.invariant.outlines) ∙ sym c.has.ensures ∙ c.if-has.false in
-    reads_same c.from_residual.result c.in_err-frame.field-0.0 (λ bytes. each_of (frame_of bytes lumps) (first_needs needed)) c.from_residual.ensures.1
-    (reads_stop (λ bytes. each_of (frame_of bytes lumps) (first_needs needed)) c.in_err-frame.field-0.0 c.loop-need.invariant.tells c.read_frame.result c.read_frame.ensures.tells c.in_err-frame.was
-    (λ lump w. record { need = get_or needed i d; is = Contains-get_or needed i d h; wanted = w })
-    (λ bytes e one two. need_stop (frame_of bytes lumps) needed i d frames e h new one two))
+    reads_same c.from_residual.result c.in_err-frame.field-0.0 _ c.from_residual.ensures.1
+    (reads_stop _ c.in_err-frame.field-0.0 c.loop-need.invariant.tells c.read_frame.result c.read_frame.ensures.tells c.in_err-frame.was (wanted_need needed i no_need h)
+    (λ bytes e. need_stop (frame_of bytes c.args.dir.now.lumps) needed i no_need c.loop-need.list.frames.items e h (need_asked _ _ _ (get_or needed i no_need) c.loop-need.invariant.outlines c.has.ensures c.if-has.false)))
 
 pub returns-in_err-add-clause-tells : goal.returns-in_err-add-clause-tells
 returns-in_err-add-clause-tells g c =
-    let d = no_need in
     let i = c.loop-need.need-index in
     let needed = c.args.needed.now in
-    let frames = c.loop-need.list.frames.items in
     let lumps = c.args.dir.now.lumps in
+    let frames = c.loop-need.list.frames.items in
     let h : i < length needed = omega arith in
-    let new = sym (placed_asked lumps (take i needed) frames (get_or needed i d) c.loop-need.invariant.outlines) ∙ sym c.has.ensures ∙ c.if-has.false in
     let value : Unit {0} → List Frame = λ done. frames ++ c.in_ok-frame.frame ∷ [] in
-    let one = reads_more {wants = IsWanted lumps needed} {value = value} (λ bytes. each_of (frame_of bytes lumps) (first_needs (take (i + 1) needed))) c.in_ok-frame.frame tt c.loop-need.invariant.tells c.read_frame.result c.read_frame.ensures.tells c.in_ok-frame.was
-    (λ lump w. record { need = get_or needed i d; is = Contains-get_or needed i d h; wanted = w })
-    (λ bytes one two. need_push (frame_of bytes lumps) needed i d frames c.in_ok-frame.frame h new one two) in
-    reads_same c.from_residual-in_err-add.result OutOfMemory (λ bytes. each_of (frame_of bytes lumps) (first_needs needed)) c.from_residual-in_err-add.ensures.1 (reads_short one)
+    let one = reads_more {wants = IsWanted lumps needed} {value = value} (λ bytes. each_of (frame_of bytes lumps) (first_needs (take (i + 1) needed))) c.in_ok-frame.frame tt c.loop-need.invariant.tells c.read_frame.result c.read_frame.ensures.tells c.in_ok-frame.was (wanted_need needed i no_need h)
+    (λ bytes. need_push (frame_of bytes lumps) needed i no_need frames c.in_ok-frame.frame h (need_asked _ _ _ (get_or needed i no_need) c.loop-need.invariant.outlines c.has.ensures c.if-has.false)) in
+    reads_same c.from_residual-in_err-add.result OutOfMemory _ c.from_residual-in_err-add.ensures.1 (reads_short one)

@@ -1,16 +1,15 @@
-use Rattle.std.proofs.Common.{◌<◌, ◌+◌, ◌++◌, ◌∷◌, [], ℕ, List, Option, length, get_or, map, take, false, Ok, refl, sym, subst, ap, ◌∙◌, arith}
+use Rattle.std.proofs.Common.{◌<◌, ◌+◌, ◌++◌, ◌∷◌, [], ℕ, List, Option, length, map, take, false, Ok, refl, sym, subst, ap, ◌∙◌, arith}
 use Rattle.std.specs.Prelude.{All, IfSome, is_some}
 use Rattle.std.proofs.lemmas.List.{map-append, take_more}
 use Rattle.std.proofs.lemmas.List.Elements.{All-nil, All-push}
-use Rattle.std.proofs.lemmas.Option.{slice_get-get_or}
 use Rattle.lump_rules.specs.Lookups.{last_of}
 use Rattle.lump_cache.proofs.CallLemmas.{reads_as, reads_known, reads_more, reads_same, reads_short, reads_stop}
-use Rattle.art_rules.specs.Textures.{texture_at, unlisted}
-use Rattle.art_rules.specs.Wanted.{PreparedTexture, prepared, prepared_from, prepared_textures}
+use Rattle.art_rules.specs.Textures.{texture_at}
+use Rattle.art_rules.specs.Wanted.{PreparedTexture, prepared, prepared_from}
 use Rattle.outside.specs.declared.fault.Fault.TheVariants.{OutOfMemory}
 use Rattle.texture_build.specs.Asked.{IsWantedPatch}
 use Rattle.texture_build.specs.Views.{ArePatchesThere, IsListedAs, is_marked, prepared_at}
-use Rattle.texture_build.proofs.PrepareLemmas.{count_marked, from_all, from_none, from_push, from_stop, from_textures, listed_none, listed_push}
+use Rattle.texture_build.proofs.PrepareLemmas.{count_marked, from_all, from_none, from_push, from_stop, from_textures, listed_none, listed_push, wanted_patch}
 use Rattle.texture_build.proofs.prepare.prepare_marked.Goals as goal
 
 pub loop-number-init : goal.loop-number-init
@@ -34,7 +33,7 @@ loop-number-preserved g c =
     record {
       tells = reads_more (λ bytes. prepared_from (prepared (last_of c.args.dir.now.lumps) bytes lists.names) (is_marked marks) 0 (take (k + 1) lists.textures)) texture tt
           inv.tells c.prepare_if.result c.prepare_if.ensures.tells c.in_ok-texture.was
-          (λ lump w. record { number = k; texture = get_or lists.textures k unlisted; at = slice_get-get_or lists.textures k unlisted l; chosen = w.0; entry = w.1.entry; among = w.1.among; is = w.1.is })
+          (wanted_patch l)
           (λ bytes one two. from_push (prepared (last_of c.args.dir.now.lumps) bytes lists.names) (is_marked marks) lists.textures k before texture l one two ∙ ap Ok (sym c.in_ok-push.ensures.items));
       there = subst (All (λ (t : Option PreparedTexture). IfSome t (ArePatchesThere c.args.dir.now.lumps))) (sym c.in_ok-push.ensures.items)
           (All-push (λ (t : Option PreparedTexture). IfSome t (ArePatchesThere c.args.dir.now.lumps)) before texture inv.there c.in_ok-texture.ensures.there);
@@ -47,14 +46,11 @@ loop-number-preserved g c =
 pub returns-in_err-texture-clause-tells : goal.returns-in_err-texture-clause-tells
 returns-in_err-texture-clause-tells g c =
     let lists = c.args.lists.now in
-    let marks = c.args.marks.now in
     let k = c.loop-number.number in
     let l : k < length lists.textures = omega (arith, c.requires.count, c.loop-number-test.true) in
-    let expected = λ (bytes : ℕ → List ℕ). prepared_textures (last_of c.args.dir.now.lumps) bytes lists (is_marked marks) in
-    reads_same c.from_residual.result c.in_err-texture.field-0.0 expected c.from_residual.ensures.1
-    (reads_stop expected c.in_err-texture.field-0.0 c.loop-number.invariant.tells c.prepare_if.result c.prepare_if.ensures.tells c.in_err-texture.was
-    (λ lump w. record { number = k; texture = get_or lists.textures k unlisted; at = slice_get-get_or lists.textures k unlisted l; chosen = w.0; entry = w.1.entry; among = w.1.among; is = w.1.is })
-    (λ bytes e one two. from_textures (last_of c.args.dir.now.lumps) bytes lists (is_marked marks) ∙ from_stop (prepared (last_of c.args.dir.now.lumps) bytes lists.names) (is_marked marks) lists.textures k _ e l one two))
+    reads_same c.from_residual.result c.in_err-texture.field-0.0 _ c.from_residual.ensures.1
+    (reads_stop _ c.in_err-texture.field-0.0 c.loop-number.invariant.tells c.prepare_if.result c.prepare_if.ensures.tells c.in_err-texture.was (wanted_patch l)
+    (λ bytes e one two. from_textures _ bytes lists _ ∙ from_stop _ _ lists.textures k _ e l one two))
 
 pub returns-in_err-push-clause-tells : goal.returns-in_err-push-clause-tells
 returns-in_err-push-clause-tells g c =
@@ -64,14 +60,13 @@ returns-in_err-push-clause-tells g c =
     let l : k < length lists.textures = omega (arith, c.requires.count, c.loop-number-test.true) in
     let before = c.loop-number.textures.items in
     let texture = c.in_ok-texture.texture in
-    let expected = λ (bytes : ℕ → List ℕ). prepared_textures (last_of c.args.dir.now.lumps) bytes lists (is_marked marks) in
     let value : Unit {0} → List (Option PreparedTexture) = λ done. before ++ texture ∷ [] in
     let one = reads_more {wants = IsWantedPatch c.args.dir.now.lumps lists (is_marked marks)} {value = value}
     (λ bytes. prepared_from (prepared (last_of c.args.dir.now.lumps) bytes lists.names) (is_marked marks) 0 (take (k + 1) lists.textures)) texture tt
     c.loop-number.invariant.tells c.prepare_if.result c.prepare_if.ensures.tells c.in_ok-texture.was
-    (λ lump w. record { number = k; texture = get_or lists.textures k unlisted; at = slice_get-get_or lists.textures k unlisted l; chosen = w.0; entry = w.1.entry; among = w.1.among; is = w.1.is })
+    (wanted_patch l)
     (λ bytes one two. from_push (prepared (last_of c.args.dir.now.lumps) bytes lists.names) (is_marked marks) lists.textures k before texture l one two) in
-    reads_same c.from_residual-in_err-push.result OutOfMemory expected c.from_residual-in_err-push.ensures.1 (reads_short OutOfMemory refl (λ lump w. w) one)
+    reads_same c.from_residual-in_err-push.result OutOfMemory _ c.from_residual-in_err-push.ensures.1 (reads_short OutOfMemory refl (λ lump w. w) one)
 
 pub returns-clause-tells : goal.returns-clause-tells
 returns-clause-tells g c =
