@@ -28,6 +28,10 @@ is_item o size i = same_owner o i.owner && (i.size == size)
 abbrev is_of : Owner → Item → Bool
 is_of o i = same_owner o i.owner
 
+-- none of two lists
+neither_has : (owner : Owner) (first second : List Item) → has_owner first owner ≡ false → has_owner second owner ≡ false → has_owner (first ++ second) owner ≡ false
+neither_has owner first second e f = list_any-append (is_of owner) first second ∙ or_from (has_owner first owner) (has_owner second owner) e f
+
 -- the item of a composite of that size
 abbrev made_item : ℕ → ℕ → Item
 made_item number size = record { owner = composite_owner number; size = size }
@@ -64,9 +68,7 @@ module _ (lumps : List Lump) where
   lumps_distinct p a zero others none distinct = distinct
   lumps_distinct p a (suc n) others none distinct = go (p a) (lumps_distinct p (a + 1) n others none distinct) where
     alone : has_owner (passing p (a + 1) n ++ others) (lump_owner a) ≡ false
-    alone =
-        list_any-append (is_of (lump_owner a)) (passing p (a + 1) n) others
-        ∙ or_from (has_owner (passing p (a + 1) n) (lump_owner a)) (has_owner others (lump_owner a)) (lump_past p (a + 1) n a (omega arith)) (none a)
+    alone = neither_has (lump_owner a) (passing p (a + 1) n) others (lump_past p (a + 1) n a (omega arith)) (none a)
 
     go : (b : Bool) → AreDistinct (passing p (a + 1) n ++ others) → AreDistinct (map (lump_item lumps) (cond b (a ∷ filter p (range_with_len (a + 1) n)) (filter p (range_with_len (a + 1) n))) ++ others)
     go true rest = (alone, rest)
@@ -142,16 +144,14 @@ composites_of_lump : (ts : List (Option PreparedTexture)) (number k : ℕ) → h
 unfolding composite_items
 composites_of_lump [] number k = refl
 composites_of_lump (t ∷ ts) number k =
-    list_any-append (is_of (lump_owner k)) (composite_item number t) (composite_items (number + 1) ts)
-    ∙ or_from (has_owner (composite_item number t) (lump_owner k)) (has_owner (composite_items (number + 1) ts) (lump_owner k)) (one_of_lump number k t) (composites_of_lump ts (number + 1) k)
+    neither_has (lump_owner k) (composite_item number t) (composite_items (number + 1) ts) (one_of_lump number k t) (composites_of_lump ts (number + 1) k)
 
 -- none is of a texture before them
 composites_past : (ts : List (Option PreparedTexture)) (number k : ℕ) → k < number → has_owner (composite_items number ts) (composite_owner k) ≡ false
 unfolding composite_items
 composites_past [] number k l = refl
 composites_past (t ∷ ts) number k l =
-    list_any-append (is_of (composite_owner k)) (composite_item number t) (composite_items (number + 1) ts)
-    ∙ or_from (has_owner (composite_item number t) (composite_owner k)) (has_owner (composite_items (number + 1) ts) (composite_owner k)) (one_past number k t l) (composites_past ts (number + 1) k (omega (arith, l)))
+    neither_has (composite_owner k) (composite_item number t) (composite_items (number + 1) ts) (one_past number k t l) (composites_past ts (number + 1) k (omega (arith, l)))
 
 -- each is once
 made_distinct : (number size : ℕ) (none : Bool) (rest : List Item) → has_owner rest (composite_owner number) ≡ false → AreDistinct rest → AreDistinct (made_items number size none ++ rest)

@@ -1,4 +1,4 @@
-use Rattle.std.proofs.Common.{ℕ, List, length, map, Ok, Err, refl, ap, arith}
+use Rattle.std.proofs.Common.{length, map, Ok, Err, refl, ap, arith}
 use Rattle.lump_cache.proofs.CallLemmas.{reads_more, reads_same, reads_stop, reads_stop_first}
 use Rattle.sprite_book.specs.Calls.{IsWanted}
 use Rattle.level_audit.specs.Faults.{above_scene}
@@ -26,29 +26,21 @@ check_scene-requires-clause-few g c = omega (arith, c.segs.ensures.sound.counts.
 pub returns-in-Err-clause-tells : goal.returns-in-Err-clause-tells
 returns-in-Err-clause-tells g c =
     let dir = c.args.dir.now in
-    let stands = base_of c.args.base in
-    let faces = faces_of c.args.faces in
-    let prepared = c.args.base.textures.prepared in
     let fault = above_scene c.in-Err.fault in
-    let expected = λ (bytes : ℕ → List ℕ). scene_over bytes dir.lumps stands faces c.args.placed prepared in
-    reads_same (Err c.above_scene.result) fault expected c.above_scene.ensures
-    (reads_stop expected fault c.in_ok-book.ensures.tells (Err fault)
-    (checks_told (g.S.Shelf.view c.read_book.new.shelf) dir c.read_book.new.cache (IsWanted dir.lumps (map need_of c.args.placed)) c.args.placed prepared stands.level.segs c.segs.result.now faces.sides c.deref.result.now (Err c.in-Err.fault)
+    reads_same (Err c.above_scene.result) fault _ c.above_scene.ensures
+    (reads_stop _ fault c.in_ok-book.ensures.tells (Err fault)
+    (checks_told (g.S.Shelf.view c.read_book.new.shelf) dir c.read_book.new.cache (IsWanted dir.lumps (map need_of c.args.placed)) c.args.placed _ _ c.segs.result.now _ c.deref.result.now (Err c.in-Err.fault)
     c.segs.ensures.value c.deref.ensures.value c.in-Err.ensures.value)
-    refl (λ lump wanted. wanted) (λ bytes refusal read stopped. scene_over-unsound bytes dir.lumps stands faces c.args.placed prepared c.in_ok-book.book refusal read stopped))
+    refl (λ lump wanted. wanted) (λ bytes refusal read stopped. scene_over-unsound bytes dir.lumps _ _ c.args.placed _ c.in_ok-book.book refusal read stopped))
 
 pub returns-in-Ok-clause-tells : goal.returns-in-Ok-clause-tells
 returns-in-Ok-clause-tells g c =
     let dir = c.args.dir.now in
-    let stands = base_of c.args.base in
-    let faces = faces_of c.args.faces in
-    let prepared = c.args.base.textures.prepared in
-    reads_more (λ bytes. scene_over bytes dir.lumps stands faces c.args.placed prepared) tt
-    (record { base = c.args.base; faces = c.args.faces; placed = c.args.placed; book = c.in_ok-book.book })
+    reads_more _ tt (record { base = c.args.base; faces = c.args.faces; placed = c.args.placed; book = c.in_ok-book.book })
     c.in_ok-book.ensures.tells (Ok tt)
-    (checks_told (g.S.Shelf.view c.read_book.new.shelf) dir c.read_book.new.cache (IsWanted dir.lumps (map need_of c.args.placed)) c.args.placed prepared stands.level.segs c.segs.result.now faces.sides c.deref.result.now (Ok tt)
+    (checks_told (g.S.Shelf.view c.read_book.new.shelf) dir c.read_book.new.cache (IsWanted dir.lumps (map need_of c.args.placed)) c.args.placed _ _ c.segs.result.now _ c.deref.result.now (Ok tt)
     c.segs.ensures.value c.deref.ensures.value c.in-Ok.ensures.value)
-    refl (λ lump wanted. wanted) (λ bytes read sound. scene_over-sound bytes dir.lumps stands faces c.args.placed prepared c.in_ok-book.book read sound)
+    refl (λ lump wanted. wanted) (λ bytes read sound. scene_over-sound bytes dir.lumps _ _ c.args.placed _ c.in_ok-book.book read sound)
 
 pub returns-in-Ok-clause-middles : goal.returns-in-Ok-clause-middles
 returns-in-Ok-clause-middles g c = middles_told c.args.base.textures c.args.base.level.segs c.segs.result.now c.args.faces.sides.items c.deref.result.now c.segs.ensures.value c.deref.ensures.value c.in-Ok.ensures.middles

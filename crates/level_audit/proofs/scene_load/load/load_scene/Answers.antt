@@ -1,13 +1,11 @@
-use Rattle.std.proofs.Common.{◌+◌, ◌≤◌, Bor, ℕ, List, map, refl, arith}
+use Rattle.std.proofs.Common.{Bor, ℕ, List, map, refl, arith}
 use Rattle.outside.proofs.ShelfLemmas.{all_stand_later, follows_then}
 use Rattle.zone_rules.specs.Orders.{IsInOrder, KeepsOrder}
 use Rattle.command_line.specs.LevelJobs.{level_job_value}
-use Rattle.level_audit.specs.declared.scene_load.load.LoadedScene.{LoadedScene}
 use Rattle.job_files.specs.Files.{value_of}
 use Rattle.level_audit.specs.scene_load.Fulls.{IsFullLoad}
-use Rattle.job_files.specs.Sizes.{files_size, wad_contents}
 use Rattle.level_audit.specs.scene_load.Loads.{audited_value}
-use Rattle.level_audit.specs.scene_load.Orders.{IsLoadedInOrder, loaded_items, lumps_size}
+use Rattle.level_audit.specs.scene_load.Orders.{loaded_items}
 use Rattle.level_audit.proofs.scene_load.ArtLemmas.{all_held}
 use Rattle.level_audit.proofs.scene_load.FullLemmas.{files_full, load_full}
 use Rattle.level_audit.proofs.scene_load.LoadLemmas.{all_loaded, audit_stopped, audited_of, files_stopped, memory_agrees, memory_full, told_wads}
@@ -35,31 +33,25 @@ returns-in_err-cache-clause-full g c = λ files holds.
 pub returns-in_err-scene-clause-answers : goal.returns-in_err-scene-clause-answers
 returns-in_err-scene-clause-answers g c = λ files holds.
     let level = level_job_value c.args.level.now in
-    let wads = map (λ (wad : Bor (List ℕ)). wad.now) c.args.wads.now in
-    let found = value_of c.in_ok-files.files in
     let are = (c.in_ok-files.ensures.answers files holds).ok in
-    let told = told_wads level wads files found are (λ contents named. c.in_ok-files.ensures.contents files contents holds named) c.in_ok-cache.ensures.faithful in
-    audit_stopped level wads files found c.in_err-scene.field-0.0 c.from_residual-in_err-scene.result are c.in_ok-files.ensures.follows.steady
-    (c.audit_level.ensures.answers (wad_contents wads files) told) c.in_err-scene.was c.from_residual-in_err-scene.ensures.1
+    let told = told_wads level _ files _ are (λ contents named. c.in_ok-files.ensures.contents files contents holds named) c.in_ok-cache.ensures.faithful in
+    audit_stopped level _ files _ c.in_err-scene.field-0.0 c.from_residual-in_err-scene.result are c.in_ok-files.ensures.follows.steady
+    (c.audit_level.ensures.answers _ told) c.in_err-scene.was c.from_residual-in_err-scene.ensures.1
 
 pub returns-in_err-scene-clause-full : goal.returns-in_err-scene-clause-full
 returns-in_err-scene-clause-full g c = λ files holds.
     let level = level_job_value c.args.level.now in
-    let wads = map (λ (wad : Bor (List ℕ)). wad.now) c.args.wads.now in
-    let found = value_of c.in_ok-files.files in
     let are = (c.in_ok-files.ensures.answers files holds).ok in
-    let told = told_wads level wads files found are (λ contents named. c.in_ok-files.ensures.contents files contents holds named) c.in_ok-cache.ensures.faithful in
-    load_full level wads files found c.audit_level.result c.in_err-scene.field-0.0 c.from_residual-in_err-scene.result are
-    (c.audit_level.ensures.full (wad_contents wads files) told) c.in_err-scene.was c.from_residual-in_err-scene.ensures.1
+    let told = told_wads level _ files _ are (λ contents named. c.in_ok-files.ensures.contents files contents holds named) c.in_ok-cache.ensures.faithful in
+    load_full level _ files _ c.audit_level.result c.in_err-scene.field-0.0 c.from_residual-in_err-scene.result are
+    (c.audit_level.ensures.full _ told) c.in_err-scene.was c.from_residual-in_err-scene.ensures.1
 
 pub returns-clause-answers : goal.returns-clause-answers
 returns-clause-answers g c = λ files holds.
     let level = level_job_value c.args.level.now in
-    let wads = map (λ (wad : Bor (List ℕ)). wad.now) c.args.wads.now in
-    let found = value_of c.in_ok-files.files in
     let are = (c.in_ok-files.ensures.answers files holds).ok in
-    let told = told_wads level wads files found are (λ contents named. c.in_ok-files.ensures.contents files contents holds named) c.in_ok-cache.ensures.faithful in
-    all_loaded level wads files found _ are (c.in_ok-scene.ensures.answers (wad_contents wads files) told).ok
+    let told = told_wads level _ files _ are (λ contents named. c.in_ok-files.ensures.contents files contents holds named) c.in_ok-cache.ensures.faithful in
+    all_loaded level _ files _ _ are (c.in_ok-scene.ensures.answers _ told).ok
 
 pub returns-clause-contents : goal.returns-clause-contents
 returns-clause-contents g c = λ files contents holds named.
@@ -83,49 +75,31 @@ returns-clause-art g c = λ files contents holds named.
 
 pub returns-in_err-files-clause-order : goal.returns-in_err-files-clause-order
 returns-in_err-files-clause-order g c = λ files contents expected holds named loads room.
-    let level = level_job_value c.args.level.now in
-    let wads = map (λ (wad : Bor (List ℕ)). wad.now) c.args.wads.now in
-    let before = (g.S.Shelf.view c.args.shelf.now).taken in
-    let after = (g.S.Shelf.view c.read_files.new.shelf).taken in
     let read = c.read_files.ensures.taken_of files contents holds named in
-    files_order (λ (loaded : LoadedScene). IsLoadedInOrder level wads files expected before after loaded.cache) (after ≤ before + (files_size level.files wads files + lumps_size expected))
-    c.read_files.result c.in_err-files.field-0.0 c.from_residual.result c.read_files.ensures.full c.in_err-files.was c.from_residual.ensures.1 (omega (arith, read))
+    files_order _ _ c.read_files.result c.in_err-files.field-0.0 c.from_residual.result c.read_files.ensures.full c.in_err-files.was c.from_residual.ensures.1 (omega (arith, read))
 
 pub returns-in_err-cache-clause-order : goal.returns-in_err-cache-clause-order
 returns-in_err-cache-clause-order g c = λ files contents expected holds named loads room.
-    let level = level_job_value c.args.level.now in
-    let wads = map (λ (wad : Bor (List ℕ)). wad.now) c.args.wads.now in
-    let before = (g.S.Shelf.view c.args.shelf.now).taken in
-    let after = (g.S.Shelf.view c.read_files.new.shelf).taken in
     let read = c.in_ok-files.ensures.taken_of files contents holds named in
-    memory_order (λ (loaded : LoadedScene). IsLoadedInOrder level wads files expected before after loaded.cache) (after ≤ before + (files_size level.files wads files + lumps_size expected))
-    c.in_err-cache.field-0.0 c.from_residual-in_err-cache.result c.in_err-cache.ensures.memory c.from_residual-in_err-cache.ensures.1 (omega (arith, read))
+    memory_order _ _ c.in_err-cache.field-0.0 c.from_residual-in_err-cache.result c.in_err-cache.ensures.memory c.from_residual-in_err-cache.ensures.1 (omega (arith, read))
 
 pub returns-in_err-scene-clause-order : goal.returns-in_err-scene-clause-order
 returns-in_err-scene-clause-order g c = λ files contents expected holds named loads room.
     let level = level_job_value c.args.level.now in
-    let wads = map (λ (wad : Bor (List ℕ)). wad.now) c.args.wads.now in
-    let found = value_of c.in_ok-files.files in
     let are = (c.in_ok-files.ensures.answers files holds).ok in
-    let told = told_wads level wads files found are (λ contents named. c.in_ok-files.ensures.contents files contents holds named) c.in_ok-cache.ensures.faithful in
+    let told = told_wads level _ files _ are (λ contents named. c.in_ok-files.ensures.contents files contents holds named) c.in_ok-cache.ensures.faithful in
     let first : IsInOrder (loaded_items expected) c.in_ok-cache.cache = c.in_ok-cache.ensures.order (loaded_items expected) (items_roomy expected c.args.level.now.settings.zone room) in
-    let before = (g.S.Shelf.view c.args.shelf.now).taken in
-    let between = (g.S.Shelf.view c.read_files.new.shelf).taken in
-    let after = (g.S.Shelf.view c.audit_level.new.shelf).taken in
     let read = c.in_ok-files.ensures.taken_of files contents holds named in
-    call_order (λ (loaded : LoadedScene). IsLoadedInOrder level wads files expected before after loaded.cache) (after ≤ before + (files_size level.files wads files + lumps_size expected))
-    (KeepsOrder (loaded_items expected) c.in_ok-cache.cache c.audit_level.new.cache between after) c.audit_level.result c.in_err-scene.field-0.0 c.from_residual-in_err-scene.result
-    (c.audit_level.ensures.order (wad_contents wads files) expected told (audited_of level wads files found expected are loads) first) c.in_err-scene.was c.from_residual-in_err-scene.ensures.1
+    call_order _ _ (KeepsOrder (loaded_items expected) c.in_ok-cache.cache c.audit_level.new.cache (g.S.Shelf.view c.read_files.new.shelf).taken (g.S.Shelf.view c.audit_level.new.shelf).taken) c.audit_level.result c.in_err-scene.field-0.0 c.from_residual-in_err-scene.result
+    (c.audit_level.ensures.order _ expected told (audited_of level _ files _ expected are loads) first) c.in_err-scene.was c.from_residual-in_err-scene.ensures.1
     (λ k. omega (arith, read, lumps_taken expected k))
 
 pub returns-clause-order : goal.returns-clause-order
 returns-clause-order g c = λ files contents expected holds named loads room.
     let level = level_job_value c.args.level.now in
-    let wads = map (λ (wad : Bor (List ℕ)). wad.now) c.args.wads.now in
-    let found = value_of c.in_ok-files.files in
     let are = (c.in_ok-files.ensures.answers files holds).ok in
-    let told = told_wads level wads files found are (λ contents named. c.in_ok-files.ensures.contents files contents holds named) c.in_ok-cache.ensures.faithful in
+    let told = told_wads level _ files _ are (λ contents named. c.in_ok-files.ensures.contents files contents holds named) c.in_ok-cache.ensures.faithful in
     let first : IsInOrder (loaded_items expected) c.in_ok-cache.cache = c.in_ok-cache.ensures.order (loaded_items expected) (items_roomy expected c.args.level.now.settings.zone room) in
     let read = c.in_ok-files.ensures.taken_of files contents holds named in
-    let keeps = c.in_ok-scene.ensures.order (wad_contents wads files) expected told (audited_of level wads files found expected are loads) first in
+    let keeps = c.in_ok-scene.ensures.order _ expected told (audited_of level _ files _ expected are loads) first in
     record { order = keeps.order; taken = omega (arith, keeps.taken, read) }
