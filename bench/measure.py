@@ -5,7 +5,8 @@ measure.py PROGRAM                              exercise 1, 4, 16 and 32, and re
 measure.py PROGRAM WAD MAP.. [--beside OTHER]   render of a map's places, each 60 times over
 
 PROGRAM and OTHER take doomview's words. The time of a view is the processor time of a long run less that
-of a short one, by the views that the long one has more. Of five runs the least counts."""
+of a short one, by the views that the long one has more. Of five runs the least counts; beside OTHER of 15,
+the two programs by turns, since a machine that others use changes its pace from second to second."""
 import argparse
 import os
 import resource
@@ -19,19 +20,29 @@ VIEWS_PER_NUMBER = 3
 TIMES = 60
 MADE_VIEWS = 4000
 RUNS = 5
+TURNS = 15
+
+
+def spent(words):
+    """The processor time of a run, whose output is thrown away."""
+    before = resource.getrusage(resource.RUSAGE_CHILDREN)
+    run = subprocess.run(words, stdout=subprocess.DEVNULL)
+    after = resource.getrusage(resource.RUSAGE_CHILDREN)
+    if run.returncode:
+        sys.exit(f'measure: status {run.returncode} of {" ".join(words)}')
+    return after.ru_utime + after.ru_stime - before.ru_utime - before.ru_stime
 
 
 def seconds(words):
-    """The least processor time of some runs, whose output is thrown away."""
-    least = None
-    for _ in range(RUNS):
-        before = resource.getrusage(resource.RUSAGE_CHILDREN)
-        run = subprocess.run(words, stdout=subprocess.DEVNULL)
-        after = resource.getrusage(resource.RUSAGE_CHILDREN)
-        if run.returncode:
-            sys.exit(f'measure: status {run.returncode} of {" ".join(words)}')
-        spent = after.ru_utime + after.ru_stime - before.ru_utime - before.ru_stime
-        least = spent if least is None else min(least, spent)
+    """The least of some runs."""
+    return least_by_turns([words], RUNS)[0]
+
+
+def least_by_turns(jobs, turns):
+    """The least of some runs of each job, the jobs by turns."""
+    least = [spent(words) for words in jobs]
+    for _ in range(turns - 1):
+        least = [min(best, spent(words)) for best, words in zip(least, jobs)]
     return least
 
 
@@ -87,10 +98,10 @@ def renders(programs, wad, maps):
               + ' |\n|---' + '|---' * len(programs) + '|')
         for name in maps:
             short, path, more = long_path(folder, wad, name)
-            found = []
-            for program in programs:
-                words = [program, 'render', name, wad, '--tables', tables, '--things', things, '--path']
-                found.append(1e6 * (seconds([*words, path]) - seconds([*words, short])) / more)
+            words = [[program, 'render', name, wad, '--tables', tables, '--things', things, '--path', file]
+                     for program in programs for file in (path, short)]
+            least = least_by_turns(words, TURNS if len(programs) > 1 else RUNS)
+            found = [1e6 * (long - brief) / more for long, brief in zip(least[::2], least[1::2])]
             print(f'| {name} | ' + ' | '.join(f'{it:.0f}' for it in found) + ' |')
 
 
