@@ -1,28 +1,27 @@
 -- A texture column or a lump that was made live, as a call that draws.
-use Rattle.std.proofs.Common.{◌≡◌, ◌<◌, ◌⊎◌, ℕ, ℤ, List, length, Bool, Result, Ok, Err, refl, sym, subst, inl, inr, MatchResult}
+use Rattle.std.proofs.Common.{◌≡◌, ◌<◌, ◌⊎◌, ℕ, ℤ, List, length, Bool, Result, Ok, Err, refl, sym, subst, inl, inr}
 use Rattle.std.specs.Prelude.{IfErr, IsTrue}
-use Rattle.outside.specs.Shelf.{ShelfView, IsLaterShelf, NameFiles}
+use Rattle.outside.specs.Shelf.{ShelfView}
 use Rattle.outside.specs.declared.fault.Fault.{Fault}
 use Rattle.outside.specs.declared.fault.Fault.TheVariants.{Refused, ReadFault, ZoneFull, OutOfMemory}
-use Rattle.outside.specs.Faults.{FaultFits, HasCauses, ResultIs}
+use Rattle.outside.specs.Faults.{FaultFits, ResultIs}
 use Rattle.lump_rules.specs.declared.wad.Lump.{Lump}
-use Rattle.lump_rules.specs.Contents.{AllWithin, lump_bytes}
+use Rattle.lump_rules.specs.Contents.{lump_bytes}
 use Rattle.zone_rules.specs.declared.Tag.TheVariants.{Cache}
 use Rattle.zone_rules.specs.Zones.{Heap}
-use Rattle.zone_rules.specs.Orders.{Item, IsInOrder, KeepsOrder}
 use Rattle.wad_dir.specs.DirectoryView.{DirectoryView}
 use Rattle.lump_cache.specs.declared.fault.CacheFault.{CacheFault}
-use Rattle.lump_cache.specs.Caches.{IsAtRest, IsFaithful, KeepsCounts, cache_fault, composite_owner}
-use Rattle.lump_cache.specs.Calls.{HoldContents, IfFull, InOrderAt, IsFullFor}
+use Rattle.lump_cache.specs.Caches.{cache_fault, composite_owner}
+use Rattle.lump_cache.specs.Calls.{IfFull, IsFullFor}
 use Rattle.lump_cache.specs.Fetches.{FetchesLump}
 use Rattle.lump_cache.proofs.CallLemmas.{full_at}
 use Rattle.lump_cache.proofs.FetchLemmas.{fetch_reads}
 use Rattle.art_rules.specs.declared.ColumnLookup.{ColumnLookup}
 use Rattle.texture_build.specs.Asked.{HasColumnAsked, IsFullForColumn}
-use Rattle.texture_build.specs.Composites.{AreComposites}
 use Rattle.texture_build.specs.Sources.{column_in}
 use Rattle.texture_build.specs.Views.{TexturesView, prepared_texture}
-use Rattle.texture_build.specs.Draws.{IsNoReadFault, IsFullForTexture, DrawsWith}
+use Rattle.texture_build.specs.Draws.{IsNoReadFault, IsFullForTexture, KeepsArt, DrawsWith}
+use Rattle.texture_build.specs.Ready.{MakesColumnLive}
 use Rattle.texture_build.proofs.ReadyLemmas.{composites_kept}
 
 no_read-fits : {A R : Type 0} (steady : Bool) (expected : Result A R) (fault : Fault R) →
@@ -63,49 +62,25 @@ full-lump lumps textures among dir z lump (Err fault) k =
 
 module _ {view after : ShelfView} {dir : DirectoryView} {textures : TexturesView} {old new : Heap}
     {result : Result (Unit {0}) CacheFault} where
-  -- a texture column was made live: the clauses of `ready_at`, by a column that has that lookup
+  -- a texture column was made live: by a column that has that lookup
   pub draws-ready : {pictures : ℕ → Type 0} (number : ℕ) (column : ℤ) (lookup : ColumnLookup) →
       lookup ≡ column_in (prepared_texture textures number) column →
-      IsLaterShelf view after → HasCauses cache_fault view.faults after.faults result →
-      KeepsCounts old new →
-      ((colormap count : ℕ) → IsAtRest colormap count old → IsAtRest colormap count new) →
-      ((contents : List (List ℕ)) → NameFiles view dir.files contents →
-      IsFaithful contents dir.lumps old → IsFaithful contents dir.lumps new) →
-      ((contents : List (List ℕ)) → HoldContents view dir old contents →
-      AreComposites (lump_bytes contents dir.lumps) textures old →
-      AreComposites (lump_bytes contents dir.lumps) textures new) →
-      ((contents : List (List ℕ)) → NameFiles view dir.files contents →
-      AllWithin contents dir.lumps →
-      ResultIs cache_fault view.steady (λ (done : Unit {0}). done) (Ok tt) result) →
-      IfErr result (λ fault. IfFull (cache_fault fault)
-      (IsFullForColumn dir.lumps number (prepared_texture textures number) lookup old)) →
-      ((items : List Item) →
-      HasColumnAsked items dir.lumps number (prepared_texture textures number) lookup →
-      IsInOrder items old →
-      MatchResult result (λ _. KeepsOrder items old new view.taken after.taken)
-      (λ fault. InOrderAt (cache_fault fault)
-      (KeepsOrder items old new view.taken after.taken))) →
+      KeepsArt view after dir textures old new →
+      MakesColumnLive number (prepared_texture textures number) lookup view after dir old new result →
       DrawsWith cache_fault (λ n. n ≡ number) pictures view after dir textures old new result
-  draws-ready {pictures} number column lookup is follows causes counts rest faithful composites
-      answers full order = record {
-        keeps = record {
-          follows = follows;
-          counts = counts;
-          rest = rest;
-          faithful = faithful;
-          composites = composites;
-        };
-        causes = causes;
-        steady = λ contents stand within steady. no_read-answers view.steady (Ok tt)
-            (λ (done : Unit {0}). done) result steady (answers contents stand within);
-        full = full-texture dir.lumps textures old number column result (IsFullFor pictures dir old)
-            (subst (λ (l : ColumnLookup). IfErr result (λ fault. IfFull (cache_fault fault)
-            (IsFullForColumn dir.lumps number (prepared_texture textures number) l old))) is full);
-        order = λ items asked all k. order items
-            (subst (λ (l : ColumnLookup).
-            HasColumnAsked items dir.lumps number (prepared_texture textures number) l) (sym is)
-            (asked number column refl)) k;
-      }
+  draws-ready {pictures} number column lookup is keeps r = record {
+    keeps = keeps;
+    causes = r.causes;
+    steady = λ contents stand within steady. no_read-answers view.steady (Ok tt)
+        (λ (done : Unit {0}). done) result steady (r.answers contents stand within);
+    full = full-texture dir.lumps textures old number column result (IsFullFor pictures dir old)
+        (subst (λ (l : ColumnLookup). IfErr result (λ fault. IfFull (cache_fault fault)
+        (IsFullForColumn dir.lumps number (prepared_texture textures number) l old))) is r.full);
+    order = λ items asked all k. r.order items
+        (subst (λ (l : ColumnLookup).
+        HasColumnAsked items dir.lumps number (prepared_texture textures number) l) (sym is)
+        (asked number column refl)) k;
+  }
 
   -- a lump was made live, and nothing pinned
   pub draws-fetch : {among : ℕ → Type 0} (lump : ℕ) → lump < length dir.lumps →

@@ -1,13 +1,14 @@
 -- What a column is read from, made live: by each kind of column.
-use Rattle.std.proofs.Common.{◌≡◌, ℕ, ◌<◌, ◌+◌, Bool, true, false, List, Option, Some, None, Result, Ok, Err, refl, sym, subst, inl}
+use Rattle.std.proofs.Common.{◌≡◌, ℕ, ◌<◌, ◌+◌, Bool, true, false, length, List, Option, Some, None, Result, Ok, Err, refl, sym, subst, inl}
 use Rattle.std.specs.Prelude.{IfErr, IfSome, OnErr, OnOk, ◌==◌}
 use Rattle.std.proofs.lemmas.Bool.{eqb-true}
 use Rattle.outside.specs.Shelf.{ShelfView}
 use Rattle.outside.proofs.ShelfLemmas.{follows_none}
 use Rattle.lump_rules.specs.declared.wad.Lump.{Lump}
+use Rattle.lump_rules.specs.Contents.{lump_bytes}
 use Rattle.lump_rules.specs.Lookups.{lump_at}
 use Rattle.zone_rules.specs.declared.TheConstants.{MIN_FRAGMENT}
-use Rattle.zone_rules.specs.Zones.{Block, Heap, block_size, bytes_of, owned_block}
+use Rattle.zone_rules.specs.Zones.{Block, Heap, IsLive, block_size, bytes_of, owned_block}
 use Rattle.zone_rules.proofs.OrderLemmas.{order_none}
 use Rattle.wad_dir.specs.DirectoryView.{DirectoryView}
 use Rattle.lump_cache.specs.declared.fault.CacheFault.{CacheFault}
@@ -15,12 +16,17 @@ use Rattle.lump_cache.specs.declared.fault.CacheFault.TheVariants.{ZoneFull, Rea
 use Rattle.lump_cache.specs.Caches.{IsAtRest, KeptOrPurged, NoRoom, WhereFull, cache_fault, composite_owner, lump_owner}
 use Rattle.lump_cache.proofs.FaithLemmas.{bytes_in, kept_bytes}
 use Rattle.lump_cache.specs.Calls.{IfFull}
+use Rattle.lump_cache.specs.Fetches.{FetchesLump}
+use Rattle.lump_cache.proofs.FetchLemmas.{fetch_no_room, fetch_reads, fetch_room}
+use Rattle.zone_rules.specs.declared.Tag.TheVariants.{Cache}
+use Rattle.zone_rules.specs.Orders.{has_item}
 use Rattle.art_rules.specs.declared.ColumnLookup.{ColumnLookup}
 use Rattle.art_rules.specs.declared.ColumnLookup.TheVariants.{Single}
 use Rattle.art_rules.specs.Wanted.{PreparedTexture}
 use Rattle.texture_build.specs.Asked.{IsFullForColumn}
 use Rattle.texture_build.specs.Builds.{OthersKeep}
 use Rattle.texture_build.specs.Composites.{AreComposites, composite_of}
+use Rattle.texture_build.specs.Draws.{KeepsArt}
 use Rattle.texture_build.specs.Ready.{MakesColumnLive}
 use Rattle.texture_build.specs.Sources.{IsColumnLive}
 use Rattle.texture_build.specs.Views.{TexturesView, prepared_at}
@@ -81,6 +87,38 @@ module _ (bytes : ℕ → List ℕ) (textures : TexturesView) (old new : Heap) w
     go : (n : ℕ) (b : Bool) → (number == n) ≡ b → is_its n new (prepared_at textures.prepared n)
     go n false e = beside n (prepared_at textures.prepared n) e (k.at n)
     go n true e = subst (λ m. is_its m new (prepared_at textures.prepared m)) (eqb-true number n e) (subst (is_its number new) (sym is) here)
+
+-- the lump of a column was fetched
+pub readies_single : {dir : DirectoryView} {view after : ShelfView} {old new : Heap} {result : Result (Unit {0}) CacheFault} (number : ℕ) (t : PreparedTexture) (lump place : ℕ) → lump < length dir.lumps →
+    FetchesLump dir lump Cache view after old new result → OnOk result (IsLive new (lump_owner lump)) → MakesColumnLive number t (Single lump place) view after dir old new result
+readies_single {dir} {view} {after} {old} {new} {result} number t lump place there f live =
+    let reads = fetch_reads f there in record {
+      answers = f.answers;
+      live = live;
+      follows = f.follows;
+      causes = f.causes;
+      counts = reads.keeps.counts;
+      rest = reads.keeps.rest;
+      faithful = reads.keeps.faithful;
+      composites = λ contents textures is hold k. composites_kept (lump_bytes contents dir.lumps) textures old new (λ n. f.others (composite_owner n) refl) k;
+      empty = not_composed result (owned_block (composite_owner number) new.blocks ≡ None);
+      full = single_full dir.lumps number t lump place old result (fetch_no_room f) (fetch_room f);
+      order = λ items all k. reads.order items (λ n is. subst (λ m. has_item items (lump_owner m) (lump_at dir.lumps m).size ≡ true) (sym is) (all (lump_owner lump) (lump_at dir.lumps lump).size (refl, refl))) k;
+    } where
+      not_composed : (r : Result (Unit {0}) CacheFault) (P : Type 0) → OnErr r (⊥ → P)
+      not_composed (Ok done) P = tt
+      not_composed (Err fault) P = λ none. absurd none
+
+-- what is kept of the composites of these textures
+pub readies_keeps : {number : ℕ} {t : PreparedTexture} {lookup : ColumnLookup} {dir : DirectoryView} {view after : ShelfView} {old new : Heap} {result : Result (Unit {0}) CacheFault} (textures : TexturesView) →
+    prepared_at textures.prepared number ≡ Some t → MakesColumnLive number t lookup view after dir old new result → KeepsArt view after dir textures old new
+readies_keeps textures is r = record {
+  follows = r.follows;
+  counts = r.counts;
+  rest = r.rest;
+  faithful = r.faithful;
+  composites = λ contents. r.composites contents textures is;
+}
 
 -- what stands in the slot of a composite that was built, or was not
 pub built_here : {A E : Type 0} (r : Result A E) (b : Option Block) (ys : List ℕ) → OnOk r (bytes_in b ≡ Some ys) → OnErr r (b ≡ None) → IfSome (bytes_in b) (λ xs. xs ≡ ys)

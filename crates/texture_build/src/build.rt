@@ -1,18 +1,13 @@
 // The composite of a texture, built in the zone.
 //
 // Rules: `specs/Builds`, over `art_rules`, Lookups. The original: `R_GenerateComposite`, r_data.c.
-ghost use Rattle.std.specs.Prelude.{◌≡◌, ◌<◌, ◌≤◌, ◌+◌, ℕ, List, Contains, length, replicate, Ok, Some, None, slice_get, IfErr, OnOk, OnErr, MatchResult, IsNone};
-ghost use Rattle.outside.specs.Shelf.{NameFiles, IsLaterShelf};
-ghost use Rattle.outside.specs.Faults.{ResultIs, HasCauses};
-ghost use Rattle.lump_rules.specs.Contents.{AllWithin, lump_bytes};
-ghost use Rattle.zone_rules.specs.Zones.{IsLive, bytes_of, holding_of, owned_block};
-ghost use Rattle.zone_rules.specs.Orders.{Item, IsInOrder};
-ghost use Rattle.lump_cache.specs.Caches.{IsAtRest, IsFaithful, IsFilled, KeepsCounts, cache_fault, composite_owner, lump_owner};
-ghost use Rattle.lump_cache.specs.Calls.{IfFull, LeavesInOrder, HoldContents};
+ghost use Rattle.std.specs.Prelude.{◌≡◌, ◌<◌, ◌≤◌, ◌+◌, ℕ, Contains, length, replicate, Ok, Some, slice_get, MatchResult, IsNone};
+ghost use Rattle.zone_rules.specs.Zones.{IsLive, holding_of};
+ghost use Rattle.lump_cache.specs.Caches.{IsFilled, composite_owner, lump_owner};
 ghost use Rattle.art_rules.specs.declared.ColumnLookup.TheVariants.{Composed};
-ghost use Rattle.texture_build.specs.Asked.{HasColumnAsked, IsFullForColumn, size_of};
-ghost use Rattle.texture_build.specs.Builds.{StartsComposite, EndsComposite, FailsToBegin, IsBuilding, OthersKeep, PutsPatch, PutsPatches};
-ghost use Rattle.texture_build.specs.Composites.{composite_of};
+ghost use Rattle.texture_build.specs.Asked.{size_of};
+ghost use Rattle.texture_build.specs.Builds.{StartsComposite, EndsComposite, FailsToBegin, IsBuilding, PutsPatch, PutsPatches};
+ghost use Rattle.texture_build.specs.Ready.{MakesColumnLive};
 ghost use Rattle.texture_build.specs.Views.{ArePatchesThere};
 
 use crate::prepared::PreparedTexture;
@@ -41,33 +36,9 @@ pub(crate) fn build_composite<S: Shelf>(
     requires composite { number < cache.old.composites }
     requires there { ArePatchesThere dir.now.lumps texture.now }
     requires empty { IsNone (holding_of (composite_owner number) cache.old.blocks) }
-    ensures answers { (contents : List (List ℕ)) →
-        NameFiles (S.view shelf.old) dir.now.files contents → AllWithin contents dir.now.lumps →
-        ResultIs cache_fault (S.view shelf.old).steady (λ done. done) (Ok tt) result }
-    ensures live { OnOk result (IsLive cache.new (composite_owner number)) }
-    ensures follows { IsLaterShelf (S.view shelf.old) (S.view shelf.new) }
-    ensures causes { HasCauses cache_fault (S.view shelf.old).faults (S.view shelf.new).faults
-        result }
-    ensures counts { KeepsCounts cache.old cache.new }
-    ensures rest { (colormap count : ℕ) → IsAtRest colormap count cache.old →
-        IsAtRest colormap count cache.new }
-    ensures faithful { (contents : List (List ℕ)) →
-        NameFiles (S.view shelf.old) dir.now.files contents →
-        IsFaithful contents dir.now.lumps cache.old → IsFaithful contents dir.now.lumps cache.new }
-    ensures composite { (contents : List (List ℕ)) →
-        HoldContents (S.view shelf.old) dir.now cache.old contents →
-        OnOk result (bytes_of (composite_owner number) cache.new.blocks
-        ≡ Some (composite_of (lump_bytes contents dir.now.lumps) texture.now)) }
-    ensures others { OthersKeep number cache.old cache.new }
-    ensures empty { OnErr result (owned_block (composite_owner number) cache.new.blocks ≡ None) }
-    ensures full { (place : ℕ) →
-        IfErr result (λ fault. IfFull (cache_fault fault)
-        (IsFullForColumn dir.now.lumps number texture.now (Composed place) cache.old)) }
-    ensures order { (place : ℕ) (items : List Item) →
-        HasColumnAsked items dir.now.lumps number texture.now (Composed place) →
-        IsInOrder items cache.old →
-        LeavesInOrder cache_fault items (S.view shelf.old) (S.view shelf.new)
-        cache.old cache.new result }
+    ensures { (place : ℕ) →
+        MakesColumnLive number texture.now (Composed place) (S.view shelf.old) (S.view shelf.new)
+        dir.now cache.old cache.new result }
 {
     begin_composite(cache, number, texture.size())?;
     let built = put_patches(texture, number, dir, cache, shelf);

@@ -89,6 +89,12 @@ pub built-now : (v : ViewValue) (walls : List Wall) (s : PlanesNow) (notes : Lis
     IsBuilt v walls s (walls_view notes state) planes.planes → s ≡ now_of state planes
 built-now v walls s notes state planes h = now_is v walls s notes state planes h
 
+pub built-inside : (v : ViewValue) (walls : List Wall) (s : PlanesNow) {notes : List FragmentNote} {columns : ColumnState} {state : WallsView} (planes : PlanesView) → walls_view notes columns ≡ state →
+    IsBuilt v walls s state planes.planes → IsBuilt v walls s (walls_view notes columns) planes.planes
+built-inside v walls s planes view h =
+    let P : WallsView → Type 0 = λ w. IsBuilt v walls s w planes.planes in
+    subst P (sym view) h
+
 leaf_after : (s : PlanesNow) (floor ceiling : Option PlaneKey) → ceiling_found ceiling (floor_found floor s) ≡ after_event s (Finds floor ceiling)
 unfolding after_event
 leaf_after s floor ceiling = refl

@@ -233,10 +233,8 @@ pub ceiling_rows-in : (height : ℕ) (clip : ColumnClip) (e : Edges) → height 
 unfolding ceiling_rows
 ceiling_rows-in height clip e s i w =
     let o = opened height clip e s i w in
-    let c = o.ceiling in
-    let l = c.low in let h = c.high in
-    let b = row_before (wall_first clip e) (first_is height clip e o) in
-    let bl = b.low in
+    let l = o.ceiling.low in let h = o.ceiling.high in
+    let b = (row_before (wall_first clip e) (first_is height clip e o)).low in
     let p = plus_near clip.ceiling_clip (omega (arith, ints)) (omega (arith, ints)) in
     let g = last_above height clip.floor_clip (minus (wall_first clip e) (pos 1)) s o.floor.low o.floor.high (omega (arith, ints)) in
     let low : pos 0 ≤ℤ (clip.ceiling_clip +ℤ pos 1) = omega (arith, ints) in
@@ -247,11 +245,10 @@ pub floor_rows-in : (height : ℕ) (clip : ColumnClip) (e : Edges) → height �
 unfolding floor_rows
 floor_rows-in height clip e s i w =
     let o = opened height clip e s i w in
-    let f = o.floor in
-    let l = f.low in let h = f.high in
-    let b = row_past height (wall_last clip e) s (last_is height clip e o) in
-    let bh = b.high in
+    let l = o.floor.low in let h = o.floor.high in
     let p = minus_near clip.floor_clip (omega (arith, ints)) (omega (arith, ints)) in
+    let below = row_past height (wall_last clip e) s (last_is height clip e o) in
+    let past = below.high in
     let c = first_below clip.ceiling_clip (plus (wall_last clip e) (pos 1)) o.ceiling.low o.ceiling.high (omega (arith, ints)) in
     let high : (clip.floor_clip -ℤ pos 1) <ℤ pos height = omega (arith, ints) in
     let P : ℤ → Type 0 = λ z. z <ℤ pos height in

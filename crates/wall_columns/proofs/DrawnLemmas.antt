@@ -1,11 +1,12 @@
 -- Laws of the columns of a fragment as they are painted one by one.
 use Rattle.std.proofs.Common.{◌≡◌, ◌≢◌, Bool, cond, ℕ, zero, suc, ◌+◌, ◌-◌, ◌<◌, ◌≤◌, ℤ, pos, ◌≤ℤ◌, ◌<ℤ◌, List, [], ◌∷◌, ◌++◌, length, Result, Ok, Err, OnOk, IsErrAnd, refl, ap, sym, ◌∙◌, subst, inl, inr, arith}
-use Rattle.std.specs.Prelude.{map}
+use Rattle.std.specs.Prelude.{map, ◌||◌, false}
 use Rattle.std.specs.List.{All, AllByRecursion, range_with_len}
 use Rattle.std.proofs.lemmas.List.Elements.{recursion_from_All}
 use Rattle.std.proofs.lemmas.List.{append-nil}
 use Rattle.std.proofs.lemmas.List.FromFn.{map-range_with_len_more}
 use Rattle.std.proofs.lemmas.Int.{ints}
+use Rattle.std.proofs.lemmas.Bool.{or_parts}
 use Rattle.std.proofs.lemmas.Result.{err_from_is_err_and}
 use Rattle.outside.specs.Shelf.{ShelfView}
 use Rattle.word_rules.specs.Listed.{listed_from, joined_lists}
@@ -42,7 +43,7 @@ use Rattle.wall_columns.specs.declared.clips.ColumnPlan.{ColumnPlan}
 use Rattle.wall_columns.specs.declared.fault.DrawFault.{DrawFault}
 use Rattle.wall_columns.specs.Draws.{IsNoPicture, IsWallTexture}
 use Rattle.wall_columns.specs.Faults.{draw_fault}
-use Rattle.wall_columns.specs.Plans.{IsBare, IsPartTexture, IsPlanTexture, plan_of, strips_by, HasRows, IsInRows, AreEdgeWords}
+use Rattle.wall_columns.specs.Plans.{has_part, IsPartTexture, IsPlanTexture, plan_of, strips_by, HasRows, IsInRows, AreEdgeWords}
 use Rattle.picture_rules.specs.declared.wall.FragmentNote.{FragmentNote}
 use Rattle.picture_rules.specs.plane.Planes.{Plane}
 use Rattle.picture_rules.specs.plane.Built.{PlanesNow}
@@ -91,14 +92,14 @@ paints_columns-none v dir textures colormap mark k f before view z canvas = reco
 }
 
 -- a fragment without a texture has no strip, and so no dot
-bare_strips : (n : FragmentNumbers) (clip : ColumnClip) (e : Edges) → IsBare n → wall_strips n clip e ≡ []
-unfolding wall_strips strip_of
+bare_strips : (n : FragmentNumbers) (clip : ColumnClip) (e : Edges) → has_part n ≡ false → wall_strips n clip e ≡ []
+unfolding has_part wall_strips strip_of
 bare_strips n clip e h =
-    ap (λ (b : Bool). cond b (strip_of n.middle_part (middle_rows clip e)) (strip_of n.top_part (top_rows clip e) ++ strip_of n.bottom_part (bottom_rows n clip e))) h.0
-    ∙ ap (λ (b : Bool). cond b (record { part = n.top_part; rows = top_rows clip e } ∷ []) [] ++ strip_of n.bottom_part (bottom_rows n clip e)) h.1.0
-    ∙ ap (λ (b : Bool). cond b (record { part = n.bottom_part; rows = bottom_rows n clip e } ∷ []) []) h.1.1
+    let upper = or_parts (has_texture n.middle_part || has_texture n.top_part) (has_texture n.bottom_part) h in
+    let middle = or_parts (has_texture n.middle_part) (has_texture n.top_part) upper.0 in
+    rw (middle.0, middle.1, upper.1) refl
 
-bare_column : (v : ViewValue) (art : Art) (k : ℕ) (f : FragmentValue) (facts : WallFacts) (before : ℕ → ColumnClip) (x : ℕ) → IsBare f.numbers → column_painted v art k f facts before x ≡ []
+bare_column : (v : ViewValue) (art : Art) (k : ℕ) (f : FragmentValue) (facts : WallFacts) (before : ℕ → ColumnClip) (x : ℕ) → has_part f.numbers ≡ false → column_painted v art k f facts before x ≡ []
 unfolding column_painted joined_lists
 bare_column v art k f facts before x h =
     ap (joined_lists (strip_dots v art k x f.numbers.light (texture_column v facts x) (column_edges f x).scale)) (bare_strips f.numbers (before x) (column_edges f x) h)
@@ -110,7 +111,7 @@ bare_along column first (suc n) h = ap (λ (ds : List Dot). ds ++ []) (bare_alon
 
 -- so nothing is painted of it
 pub paints_columns-bare : (v : ViewValue) (dir : DirectoryView) (textures : TexturesView) (colormap : ℕ) (mark : Painter → ℕ → ℕ) (k : ℕ) (f : FragmentValue) (before : ℕ → ColumnClip) (n : ℕ)
-    (view : ShelfView) (z : Heap) (canvas : CanvasView) → IsBare f.numbers → PaintsColumns v dir textures colormap mark k f before n view view z z canvas canvas (Ok tt)
+    (view : ShelfView) (z : Heap) (canvas : CanvasView) → has_part f.numbers ≡ false → PaintsColumns v dir textures colormap mark k f before n view view z z canvas canvas (Ok tt)
 paints_columns-bare v dir textures colormap mark k f before n view z canvas h = record {
   painted = λ facts first last contents count is hold.
       has_dots-as (bare_along (column_painted v (view_art (lump_bytes contents dir.lumps) textures colormap) k f facts before) f.first n

@@ -132,23 +132,12 @@ wider : (height : ℕ) (rows : RowRange) → height ≤ FRAME_HEIGHT → AreRows
 wider height rows s h = λ r. ((h r).0, (let l : rows.last <ℤ pos height = (h r).1 in omega (arith, ints)))
 
 -- what a plan marks lies in a frame, and what it leaves open in the view
-pub plan_ceiling-in : (height : ℕ) (n : FragmentNumbers) (clip : ColumnClip) (e : Edges) (plan : ColumnPlan) → plan ≡ plan_of height n clip e → height ≤ FRAME_HEIGHT → IsClipIn height clip → AreEdgeWords e →
-    AreRowsIn FRAME_HEIGHT plan.ceiling
-unfolding plan_of
-plan_ceiling-in height n clip e plan p s i w =
-    let P : ColumnPlan → Type 0 = λ plan. AreRowsIn FRAME_HEIGHT plan.ceiling in
-    subst P (sym p) (wider height (ceiling_rows clip e) s (ceiling_rows-in height clip e s i w))
+abbrev pub IsPlanIn : ℕ → ColumnPlan → Type 0
+IsPlanIn height plan = AreRowsIn FRAME_HEIGHT plan.ceiling × (AreRowsIn FRAME_HEIGHT plan.floor × IsClipIn height plan.after)
 
-pub plan_floor-in : (height : ℕ) (n : FragmentNumbers) (clip : ColumnClip) (e : Edges) (plan : ColumnPlan) → plan ≡ plan_of height n clip e → height ≤ FRAME_HEIGHT → IsClipIn height clip → AreEdgeWords e →
-    AreRowsIn FRAME_HEIGHT plan.floor
+pub plan-in : {own height : ℕ} {n : FragmentNumbers} {clip : ColumnClip} {e : Edges} {plan : ColumnPlan} → plan ≡ plan_of own n clip e → own ≡ height → height ≤ FRAME_HEIGHT → IsClipIn height clip → AreEdgeWords e →
+    IsPlanIn height plan
 unfolding plan_of
-plan_floor-in height n clip e plan p s i w =
-    let P : ColumnPlan → Type 0 = λ plan. AreRowsIn FRAME_HEIGHT plan.floor in
-    subst P (sym p) (wider height (floor_rows clip e) s (floor_rows-in height clip e s i w))
-
-pub plan_after-in : (height : ℕ) (n : FragmentNumbers) (clip : ColumnClip) (e : Edges) (plan : ColumnPlan) → plan ≡ plan_of height n clip e → height ≤ FRAME_HEIGHT → IsClipIn height clip → AreEdgeWords e →
-    IsClipIn height plan.after
-unfolding plan_of
-plan_after-in height n clip e plan p s i w =
-    let P : ColumnPlan → Type 0 = λ plan. IsClipIn height plan.after in
-    subst P (sym p) (clip_after-in height n clip e s i w)
+plan-in {own} {height} {n} {clip} {e} p same s i w =
+    subst (IsPlanIn height) (sym (p ∙ ap (λ (h : ℕ). plan_of h n clip e) same))
+    (wider height (ceiling_rows clip e) s (ceiling_rows-in height clip e s i w), (wider height (floor_rows clip e) s (floor_rows-in height clip e s i w), clip_after-in height n clip e s i w))

@@ -1,5 +1,5 @@
 -- What a fragment does in one of its columns: its plan, and the strips that a plan has.
-use Rattle.std.specs.Prelude.{◌≡◌, ◌⊎◌, ◌≤ℤ◌, ◌<ℤ◌, ℕ, pos, Bool, false, cond, List, [], ◌∷◌, FitsSigned}
+use Rattle.std.specs.Prelude.{◌≡◌, ◌⊎◌, ◌≤ℤ◌, ◌<ℤ◌, ◌||◌, ℕ, pos, Bool, cond, List, [], ◌∷◌, FitsSigned}
 use Rattle.std.specs.Int.{w32}
 use Rattle.word_rules.specs.Words.{minus_one}
 use Rattle.picture_rules.specs.declared.wall.ColumnClip.{ColumnClip}
@@ -18,10 +18,9 @@ no_rows = record { first = pos 0; last = minus_one }
 abbrev pub rows_if : Bool → RowRange → RowRange
 rows_if is_there rows = cond is_there rows no_rows
 
--- a fragment without a texture
-abbrev pub IsBare : FragmentNumbers → Type 0
-IsBare n = (has_texture n.middle_part ≡ false)
-    × ((has_texture n.top_part ≡ false) × (has_texture n.bottom_part ≡ false))
+-- whether a fragment has a texture
+unfoldable pub has_part : FragmentNumbers → Bool
+has_part n = (has_texture n.middle_part || has_texture n.top_part) || has_texture n.bottom_part
 
 -- the plan of a fragment in a column with this clip and these edges
 unfoldable pub plan_of : ℕ → FragmentNumbers → ColumnClip → Edges → ColumnPlan

@@ -1,8 +1,11 @@
 -- What walls are drawn with, by the values of their tools.
-use Rattle.std.specs.Prelude.{ℕ, List, length}
+use Rattle.std.specs.Prelude.{◌≡◌, ◌<◌, ◌≤◌, ◌+◌, ℕ, List, length}
 use Rattle.outside.specs.Shelf.{ShelfView}
 use Rattle.lump_rules.specs.Contents.{lump_bytes}
+use Rattle.view_rules.specs.declared.TheConstants.{FRAME_WIDTH, FRAME_HEIGHT}
+use Rattle.view_rules.specs.View.{ViewValue}
 use Rattle.pixel_rules.specs.Dots.{Dot}
+use Rattle.pixel_strips.specs.Canvases.{CanvasView}
 use Rattle.picture_rules.specs.declared.wall.WallFacts.{WallFacts}
 use Rattle.picture_rules.specs.wall.Walls.{Wall, wall_of}
 use Rattle.picture_rules.specs.wall.Strips.{wall_dots}
@@ -23,3 +26,16 @@ range_dots t facts first last walls contents =
     let w : Wall = wall_of t.view.now facts first last in
     wall_dots t.view.now (view_art (lump_bytes contents t.dir.now.lumps) t.textures.now t.colormap.0)
     (with_wall walls w) (length walls) w
+
+-- tools hold the references that others held, to the same view, textures, directory and colormap
+abbrev pub AreSameWallTools : {S C : Type 0} → WallTools S C → WallTools S C → Type 0
+AreSameWallTools old new = (new.view ≡ old.view) × ((new.textures ≡ old.textures)
+    × ((new.dir ≡ old.dir) × ((new.colormap ≡ old.colormap)
+    × ((new.cache.ghost_name ≡ old.cache.ghost_name) × ((new.shelf.ghost_name ≡ old.shelf.ghost_name)
+    × ((new.planes.ghost_name ≡ old.planes.ghost_name)
+    × (new.canvas.ghost_name ≡ old.canvas.ghost_name)))))))
+
+-- a column of a view that lies on a canvas
+abbrev pub IsColumnOn : CanvasView → ViewValue → ℕ → Type 0
+IsColumnOn canvas v x = (x < v.shape.width) × ((canvas.left + v.shape.width ≤ FRAME_WIDTH)
+    × (canvas.top + v.shape.height ≤ FRAME_HEIGHT))

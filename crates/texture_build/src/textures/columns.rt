@@ -2,21 +2,17 @@
 //
 // Rules: `art_rules`, Columns and Lookups; `specs/Sources`, `specs/Asked` and `specs/Composites`.
 // The original: `R_GetColumn` and `R_GenerateComposite`, r_data.c.
-ghost use Rattle.std.specs.Prelude.{◌≡◌, ◌<◌, ◌≤◌, ◌+◌, ℕ, ℤ, List, length, IfErr, IfSome, Ok, OnErr, OnOk, None, ◌^◌};
-ghost use Rattle.outside.specs.Shelf.{NameFiles, IsLaterShelf};
-ghost use Rattle.outside.specs.Faults.{ResultIs, HasCauses};
-ghost use Rattle.lump_rules.specs.Contents.{AllWithin, lump_bytes};
+ghost use Rattle.std.specs.Prelude.{◌≡◌, ◌<◌, ◌≤◌, ◌+◌, ℕ, ℤ, List, length, IfSome, Ok, None, ◌^◌};
+ghost use Rattle.lump_rules.specs.Contents.{lump_bytes};
 ghost use Rattle.lump_rules.specs.declared.wad.Lump.{Lump};
-ghost use Rattle.zone_rules.specs.Zones.{owned_block};
-ghost use Rattle.zone_rules.specs.Orders.{Item, IsInOrder};
-ghost use Rattle.lump_cache.specs.Caches.{IsAtRest, IsFaithful, KeepsCounts, cache_fault, composite_owner};
-ghost use Rattle.lump_cache.specs.Calls.{IfFull, LeavesInOrder, HoldContents};
+ghost use Rattle.lump_cache.specs.Caches.{IsAtRest, IsFaithful};
 ghost use Rattle.art_rules.specs.Bytes.{byte_at};
 ghost use Rattle.art_rules.specs.Columns.{texel};
 ghost use Rattle.art_rules.specs.Lookups.{single_place};
-ghost use Rattle.texture_build.specs.Asked.{HasColumnAsked, IsFullForColumn};
 ghost use Rattle.texture_build.specs.Composites.{AreComposites};
-ghost use Rattle.texture_build.specs.Sources.{IsColumnLive, IsColumnThere, IsComposedColumn, IsLentBeside, column_in, column_view, column_index};
+ghost use Rattle.texture_build.specs.Draws.{KeepsArt};
+ghost use Rattle.texture_build.specs.Ready.{MakesColumnLive};
+ghost use Rattle.texture_build.specs.Sources.{IsColumnLive, IsColumnThere, IsLentBeside, column_in, column_view, column_index};
 ghost use Rattle.texture_build.specs.Views.{AreTexturesOf, ArePatchesThere, IsPrepared, prepared_texture};
 
 use super::Textures;
@@ -51,42 +47,16 @@ impl Textures {
         requires composite { tex.0 < cache.old.composites }
         requires prepared { IsPrepared self.now tex.0 }
         requires there { ArePatchesThere dir.now.lumps (prepared_texture self.now tex.0) }
-        ensures answers { (contents : List (List ℕ)) →
-            NameFiles (S.view shelf.old) dir.now.files contents → AllWithin contents dir.now.lumps →
-            ResultIs cache_fault (S.view shelf.old).steady (λ done. done) (Ok tt) result }
-        ensures live { OnOk result (IsColumnLive tex.0 cache.new
-            (column_in (prepared_texture self.now tex.0) col)) }
+        ensures readies { MakesColumnLive tex.0 (prepared_texture self.now tex.0)
+            (column_in (prepared_texture self.now tex.0) col) (S.view shelf.old)
+            (S.view shelf.new) dir.now cache.old cache.new result }
+        ensures keeps { KeepsArt (S.view shelf.old) (S.view shelf.new) dir.now self.now
+            cache.old cache.new }
         ensures there { IsColumnThere dir.now.lumps
             (column_in (prepared_texture self.now tex.0) col) }
         ensures hit { IsColumnLive tex.0 cache.old
             (column_in (prepared_texture self.now tex.0) col) →
             (result ≡ Ok tt) × (shelf.new ≡ shelf.old) }
-        ensures follows { IsLaterShelf (S.view shelf.old) (S.view shelf.new) }
-        ensures causes { HasCauses cache_fault (S.view shelf.old).faults (S.view shelf.new).faults
-            result }
-        ensures counts { KeepsCounts cache.old cache.new }
-        ensures rest { (colormap count : ℕ) → IsAtRest colormap count cache.old →
-            IsAtRest colormap count cache.new }
-        ensures faithful { (contents : List (List ℕ)) →
-            NameFiles (S.view shelf.old) dir.now.files contents →
-            IsFaithful contents dir.now.lumps cache.old →
-            IsFaithful contents dir.now.lumps cache.new }
-        ensures composites { (contents : List (List ℕ)) →
-            HoldContents (S.view shelf.old) dir.now cache.old contents →
-            AreComposites (lump_bytes contents dir.now.lumps) self.now cache.old →
-            AreComposites (lump_bytes contents dir.now.lumps) self.now cache.new }
-        ensures empty { OnErr result
-            (IsComposedColumn (column_in (prepared_texture self.now tex.0) col) →
-            owned_block (composite_owner tex.0) cache.new.blocks ≡ None) }
-        ensures full { IfErr result
-            (λ fault. IfFull (cache_fault fault)
-            (IsFullForColumn dir.now.lumps tex.0 (prepared_texture self.now tex.0)
-            (column_in (prepared_texture self.now tex.0) col) cache.old)) }
-        ensures order { (items : List Item) →
-            HasColumnAsked items dir.now.lumps tex.0 (prepared_texture self.now tex.0)
-            (column_in (prepared_texture self.now tex.0) col) → IsInOrder items cache.old →
-            LeavesInOrder cache_fault items (S.view shelf.old) (S.view shelf.new)
-            cache.old cache.new result }
     {
         self.ready_at(cache, dir, shelf, tex, self.lookup(tex, col))
     }
@@ -110,38 +80,12 @@ impl Textures {
         requires prepared { IsPrepared self.now tex.0 }
         requires there { ArePatchesThere dir.now.lumps (prepared_texture self.now tex.0) }
         requires listed { IsColumnThere dir.now.lumps lookup }
-        ensures answers { (contents : List (List ℕ)) →
-            NameFiles (S.view shelf.old) dir.now.files contents → AllWithin contents dir.now.lumps →
-            ResultIs cache_fault (S.view shelf.old).steady (λ done. done) (Ok tt) result }
-        ensures live { OnOk result (IsColumnLive tex.0 cache.new lookup) }
+        ensures readies { MakesColumnLive tex.0 (prepared_texture self.now tex.0) lookup
+            (S.view shelf.old) (S.view shelf.new) dir.now cache.old cache.new result }
+        ensures keeps { KeepsArt (S.view shelf.old) (S.view shelf.new) dir.now self.now
+            cache.old cache.new }
         ensures hit { IsColumnLive tex.0 cache.old lookup →
             (result ≡ Ok tt) × (shelf.new ≡ shelf.old) }
-        ensures follows { IsLaterShelf (S.view shelf.old) (S.view shelf.new) }
-        ensures causes { HasCauses cache_fault (S.view shelf.old).faults (S.view shelf.new).faults
-            result }
-        ensures counts { KeepsCounts cache.old cache.new }
-        ensures rest { (colormap count : ℕ) → IsAtRest colormap count cache.old →
-            IsAtRest colormap count cache.new }
-        ensures faithful { (contents : List (List ℕ)) →
-            NameFiles (S.view shelf.old) dir.now.files contents →
-            IsFaithful contents dir.now.lumps cache.old →
-            IsFaithful contents dir.now.lumps cache.new }
-        ensures composites { (contents : List (List ℕ)) →
-            HoldContents (S.view shelf.old) dir.now cache.old contents →
-            AreComposites (lump_bytes contents dir.now.lumps) self.now cache.old →
-            AreComposites (lump_bytes contents dir.now.lumps) self.now cache.new }
-        ensures empty { OnErr result
-            (IsComposedColumn lookup →
-            owned_block (composite_owner tex.0) cache.new.blocks ≡ None) }
-        ensures full { IfErr result
-            (λ fault. IfFull (cache_fault fault)
-            (IsFullForColumn dir.now.lumps tex.0 (prepared_texture self.now tex.0) lookup
-            cache.old)) }
-        ensures order { (items : List Item) →
-            HasColumnAsked items dir.now.lumps tex.0 (prepared_texture self.now tex.0) lookup →
-            IsInOrder items cache.old →
-            LeavesInOrder cache_fault items (S.view shelf.old) (S.view shelf.new)
-            cache.old cache.new result }
     {
         let texture = self.prepared.texture(tex.0);
         make_ready_at(texture, u32::from(tex.0), lookup, dir, cache, shelf)

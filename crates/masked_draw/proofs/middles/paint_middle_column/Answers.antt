@@ -22,7 +22,6 @@ returns-clause-paints g c =
     (draws-ready {pictures = λ (n : ℕ). ⊥} c.args.middle.tex.0
     (to_z w32 (of_z w32 c.saved_column-col.result))
     (column_in (prepared_texture c.args.scene.now.textures.now c.args.middle.tex.0)
-    (to_z w32 (of_z w32 c.saved_column-col.result))) refl r.follows r.causes r.counts r.rest r.faithful
-    r.composites r.answers r.full r.order))
+    (to_z w32 (of_z w32 c.saved_column-col.result))) refl r.keeps r.readies))
     c.paint_ready.ensures.painted c.paint_ready.ensures.fits c.paint_ready.ensures.place
     (ap g.S.Shelf.view c.paint_ready.ensures.shelf) c.paint_ready.ensures.cache

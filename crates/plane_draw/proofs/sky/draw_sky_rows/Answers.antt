@@ -29,6 +29,6 @@ returns-clause-paints g c =
     live-paints tt
     (draws-wider {lumps = IsFlatOf s.planes.now.planes} (sky-among s.sky rows.tex c.requires.sky) (λ lump is. is)
     (draws-ready rows.tex.0 (sky_column s.view.now rows.x) c.lookup-lookup.result is_lookup
-    r.follows r.causes r.counts r.rest r.faithful r.composites r.answers r.full r.order))
+    r.keeps r.readies))
     (λ view contents count sky. c.paint_sky.ensures.painted view contents count) (λ view contents count sky. c.paint_sky.ensures.fits view contents count) c.paint_sky.ensures.place
     (ap g.S.Shelf.view c.paint_sky.ensures.shelf) c.paint_sky.ensures.cache

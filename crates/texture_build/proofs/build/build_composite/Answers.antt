@@ -1,16 +1,20 @@
-use Rattle.std.proofs.Common.{◌≡◌, ◌∙◌, [], Err, refl, subst, ap, inl, inr}
+use Rattle.std.proofs.Common.{◌≡◌, ℕ, ◌∙◌, [], Err, refl, subst, ap, inl, inr}
 use Rattle.std.proofs.lemmas.Result.{err_from_is_err_and}
 use Rattle.outside.proofs.ShelfLemmas.{follows_none}
 use Rattle.lump_rules.specs.Contents.{lump_bytes}
+use Rattle.zone_rules.specs.Zones.{owned_block}
 use Rattle.lump_cache.specs.declared.fault.CacheFault.TheVariants.{ZoneFull}
 use Rattle.lump_cache.specs.Caches.{composite_owner}
+use Rattle.lump_cache.proofs.FillLemmas.{on_err}
 use Rattle.lump_cache.proofs.RestButLemmas.{rest_of_none}
 use Rattle.lump_cache.specs.Calls.{HoldContents}
 use Rattle.texture_build.specs.Asked.{size_of}
-use Rattle.texture_build.specs.Builds.{StartsComposite, FailsToBegin}
+use Rattle.texture_build.specs.Builds.{StartsComposite, FailsToBegin, OthersKeep}
+use Rattle.texture_build.specs.Composites.{composite_of}
 use Rattle.texture_build.proofs.FillLemmas.{building_live, others_kept, others_then}
 use Rattle.texture_build.proofs.BuildLemmas.{counts_then}
 use Rattle.texture_build.proofs.EndLemmas.{built_none, ends_live, ends_built, ends_order, composite_full, ends_full}
+use Rattle.texture_build.proofs.ReadyLemmas.{composites_built, built_here}
 use Rattle.texture_build.proofs.build.build_composite.Given.{Over}
 use Rattle.texture_build.proofs.build.build_composite.Goals as goal
 use Rattle.texture_build.proofs.build.build_composite.Goals.{In_ok-begin_composite}
@@ -19,7 +23,7 @@ begins : (g : Over) (c : In_ok-begin_composite g) → StartsComposite c.args.num
 begins g c = subst (λ n. StartsComposite c.args.number n c.args.cache.now c.begin_composite.new.cache) c.size.ensures.value c.in_ok-begin_composite.ensures
 
 pub returns-in_err-begin_composite : goal.returns-in_err-begin_composite
-returns-in_err-begin_composite g c =
+returns-in_err-begin_composite g c = λ place.
     let s = err_from_is_err_and c.from_residual.result c.from_residual.ensures.1 in
     let fails : FailsToBegin c.args.number (size_of c.args.texture.now) c.args.cache.now c.begin_composite.new.cache c.in_err-begin_composite.field-0.0.wanted c.in_err-begin_composite.field-0.0.widest =
     subst (λ n. FailsToBegin c.args.number n c.args.cache.now c.begin_composite.new.cache c.in_err-begin_composite.field-0.0.wanted c.in_err-begin_composite.field-0.0.widest) c.size.ensures.value c.in_err-begin_composite.ensures in
@@ -32,18 +36,19 @@ returns-in_err-begin_composite g c =
       counts = fails.counts;
       rest = fails.rest;
       faithful = λ contents stand k. fails.faithful contents c.args.dir.now.lumps k;
-      composite = λ contents told. rw e tt;
-      others = fails.others;
-      empty = rw e fails.empty;
-      full = λ place. rw e (composite_full c.args.dir.now.lumps c.args.number c.args.texture.now place c.args.cache.now c.begin_composite.new.cache _ _ fails);
-      order = λ place items all k. absurd (fails.order items (all (composite_owner c.args.number) (size_of c.args.texture.now) (inl (refl, refl))) k);
+      composites = λ contents textures is told k.
+          let bytes = lump_bytes contents c.args.dir.now.lumps in
+          composites_built bytes textures c.args.cache.now c.begin_composite.new.cache c.args.number c.args.texture.now is fails.others (built_here {A = ℕ} {E = ℕ} (Err 0) (owned_block (composite_owner c.args.number) c.begin_composite.new.cache.blocks) (composite_of bytes c.args.texture.now) tt fails.empty) k;
+      empty = rw e (λ composed. fails.empty);
+      full = rw e (composite_full c.args.dir.now.lumps c.args.number c.args.texture.now place c.args.cache.now c.begin_composite.new.cache _ _ fails);
+      order = λ items all k. absurd (fails.order items (all (composite_owner c.args.number) (size_of c.args.texture.now) (inl (refl, refl))) k);
     }
 
 pub end_composite-requires-clause-live : goal.end_composite-requires-clause-live
 end_composite-requires-clause-live g c = building_live (c.put_patches-built.ensures.keeps.building (size_of c.args.texture.now) (begins g (goal.at.end_composite-requires-clause-live g c).In_ok-begin_composite).building)
 
 pub returns : goal.returns
-returns g c =
+returns g c = λ place.
     let o = composite_owner c.args.number in
     let t = c.args.texture.now in
     let old = c.args.cache.now in
@@ -56,6 +61,7 @@ returns g c =
     let b = begins g (goal.at.returns g c).In_ok-begin_composite in
     let p = c.put_patches-built.ensures in
     let e = c.end_composite.ensures in
+    let others : OthersKeep c.args.number old new = others_then b.others (others_then p.keeps.others (others_kept c.args.number put new (λ n apart. inl (e.others (composite_owner n) apart)))) in
     record {
       answers = p.answers;
       live = ends_live c.args.number put new built (building_live (p.keeps.building (size_of t) b.building)) e.released;
@@ -64,14 +70,14 @@ returns g c =
       counts = counts_then old begun new b.counts (counts_then begun put new p.keeps.counts e.counts);
       rest = λ colormap count k. rest_of_none colormap count new (e.rest colormap count [] (p.keeps.rest colormap count (b.rest colormap count k)));
       faithful = λ contents stand k. e.faithful contents c.args.dir.now.lumps (p.keeps.faithful contents stand (b.faithful contents c.args.dir.now.lumps k));
-      composite = λ contents told.
+      composites = λ contents textures is told k.
           let bytes = lump_bytes contents c.args.dir.now.lumps in
           let later : HoldContents (g.S.Shelf.view c.args.shelf.now) c.args.dir.now begun contents = record { stand = told.stand; within = told.within; faithful = b.faithful contents c.args.dir.now.lumps told.faithful } in
-          ends_built c.args.number put new built bytes t (p.put contents later (built_none bytes c.args.number t begun b.zeros)) e.released;
-      others = others_then b.others (others_then p.keeps.others (others_kept c.args.number put new (λ n apart. inl (e.others (composite_owner n) apart))));
-      empty = e.empty;
-      full = λ place. ends_full c.args.dir.now.lumps c.args.number t place old begun built b p.full;
-      order = λ place items all k.
+          let whole = ends_built c.args.number put new built bytes t (p.put contents later (built_none bytes c.args.number t begun b.zeros)) e.released in
+          composites_built bytes textures old new c.args.number t is others (built_here built (owned_block o new.blocks) (composite_of bytes t) whole e.empty) k;
+      empty = on_err built (λ none composed. none) e.empty;
+      full = ends_full c.args.dir.now.lumps c.args.number t place old begun built b p.full;
+      order = λ items all k.
           let k1 = b.order items before (all o (size_of t) (inl (refl, refl))) k in
           ends_order items old begun put new before after built k1 (p.order items (λ owner size is. all owner size (inr is)) k1.order) e.order;
     }

@@ -20,8 +20,8 @@ returns-then-rows-clause-paints g c =
 pub paint_live-requires-clause-texture : goal.paint_live-requires-clause-texture
 paint_live-requires-clause-texture g c =
     let ordered : c.args.rows.first ≤ℤ c.args.rows.last = grind (arith, ints) in
-    can_draw-later (ap (λ d. d.now.lumps) c.in_ok-ready_part.ensures.same_dir)
-    (ap (λ t. t.now) c.in_ok-ready_part.ensures.same_textures)
+    can_draw-later (ap (λ d. d.now.lumps) c.in_ok-ready_part.ensures.same.1.1.0)
+    (ap (λ t. t.now) c.in_ok-ready_part.ensures.same.1.0)
     (c.in_ok-ready_part.ensures.draws c.args.look.now.column (c.lookup-lookup.ensures.value
     ∙ ap (column_in (prepared_texture c.args.tools.now.textures.now c.args.part.number))
     (to_z-of_z {w = w32} {z = c.args.look.now.column} (search rules)))).keeps.counts
@@ -47,10 +47,10 @@ returns-clause-paints g c =
     live-over g.C.Canvas.mark c.args.look.now c.args.part c.args.rows c.lookup-lookup.result
     c.ready_part.new.tools.cache.now (g.C.Canvas.view c.ready_part.new.tools.canvas.now)
     (g.C.Canvas.view c.paint_live.new.tools.canvas.now)
-    (ap (λ v. v.now.shape) c.in_ok-ready_part.ensures.same_view)
-    (ap (λ d. d.now) c.in_ok-ready_part.ensures.same_dir)
-    (ap (λ t. t.now) c.in_ok-ready_part.ensures.same_textures)
-    (ap (λ m. m.0) c.in_ok-ready_part.ensures.same_colormap) (record {
+    (ap (λ v. v.now.shape) c.in_ok-ready_part.ensures.same.0)
+    (ap (λ d. d.now) c.in_ok-ready_part.ensures.same.1.1.0)
+    (ap (λ t. t.now) c.in_ok-ready_part.ensures.same.1.0)
+    (ap (λ m. m.0) c.in_ok-ready_part.ensures.same.1.1.1.0) (record {
       painted = c.paint_live.ensures.painted;
       fits = c.paint_live.ensures.fits;
       place = c.paint_live.ensures.place;

@@ -9,8 +9,7 @@ use Rattle.texture_build.specs.Draws.{FitBeside}
 use Rattle.texture_build.proofs.BesideLemmas.{fit_beside-as, fit_beside-none}
 use Rattle.picture_rules.specs.wall.Columns.{texture_column}
 use Rattle.wall_columns.specs.Plans.{strips_by}
-use Rattle.wall_columns.proofs.PaintedLemmas.{strips-by_words}
-use Rattle.wall_columns.proofs.PlannedLemmas.{plan-none}
+use Rattle.wall_columns.proofs.PlannedLemmas.{plan-none, strips-by_words}
 use Rattle.wall_columns.proofs.paint.paint_plan.Goals as goal
 
 pub returns-then-not-paints-clause-painted : goal.returns-then-not-paints-clause-painted

@@ -20,14 +20,14 @@ pub paint_part-requires-2-clause-rows : goal.paint_part-requires-2-clause-rows
 paint_part-requires-2-clause-rows g c =
     subst (λ (v : ViewValue). IsInRows v.shape.height
     (strip_with c.args.numbers.now.top_part c.args.plan.now.top))
-    (sym (ap (λ r. r.now) c.in_ok-paint_part.ensures.same_view))
+    (sym (ap (λ r. r.now) c.in_ok-paint_part.ensures.same.0))
     (plan-rows c.args.tools.now.view.now.shape.height c.args.numbers.now c.args.plan.now
     c.requires.strips).1.0
 
 pub paint_part-requires-2-clause-texture : goal.paint_part-requires-2-clause-texture
 paint_part-requires-2-clause-texture g c = λ some.
-    can_draw-later (ap (λ d. d.now.lumps) c.in_ok-paint_part.ensures.same_dir)
-    (ap (λ t. t.now) c.in_ok-paint_part.ensures.same_textures)
+    can_draw-later (ap (λ d. d.now.lumps) c.in_ok-paint_part.ensures.same.1.1.0)
+    (ap (λ t. t.now) c.in_ok-paint_part.ensures.same.1.0)
     c.in_ok-paint_part.ensures.paints.draws.keeps.counts
     ((plan-textures c.args.tools.now.dir.now.lumps c.args.tools.now.textures.now
     c.args.tools.now.cache.now c.args.numbers.now c.args.plan.now c.requires.textures).1.0 some)
@@ -36,19 +36,19 @@ pub paint_part-requires-3-clause-rows : goal.paint_part-requires-3-clause-rows
 paint_part-requires-3-clause-rows g c =
     subst (λ (v : ViewValue). IsInRows v.shape.height
     (strip_with c.args.numbers.now.bottom_part c.args.plan.now.bottom))
-    (sym (ap (λ r. r.now) c.in_ok-paint_part-2.ensures.same_view
-    ∙ ap (λ r. r.now) c.in_ok-paint_part.ensures.same_view))
+    (sym (ap (λ r. r.now) c.in_ok-paint_part-2.ensures.same.0
+    ∙ ap (λ r. r.now) c.in_ok-paint_part.ensures.same.0))
     (plan-rows c.args.tools.now.view.now.shape.height c.args.numbers.now c.args.plan.now
     c.requires.strips).1.1.0
 
 pub paint_part-requires-3-clause-texture : goal.paint_part-requires-3-clause-texture
 paint_part-requires-3-clause-texture g c = λ some.
     can_draw-later {x = c.paint_part.new.tools.cache.now}
-    (ap (λ d. d.now.lumps) c.in_ok-paint_part-2.ensures.same_dir)
-    (ap (λ t. t.now) c.in_ok-paint_part-2.ensures.same_textures)
+    (ap (λ d. d.now.lumps) c.in_ok-paint_part-2.ensures.same.1.1.0)
+    (ap (λ t. t.now) c.in_ok-paint_part-2.ensures.same.1.0)
     c.in_ok-paint_part-2.ensures.paints.draws.keeps.counts
-    (can_draw-later (ap (λ d. d.now.lumps) c.in_ok-paint_part.ensures.same_dir)
-    (ap (λ t. t.now) c.in_ok-paint_part.ensures.same_textures)
+    (can_draw-later (ap (λ d. d.now.lumps) c.in_ok-paint_part.ensures.same.1.1.0)
+    (ap (λ t. t.now) c.in_ok-paint_part.ensures.same.1.0)
     c.in_ok-paint_part.ensures.paints.draws.keeps.counts
     ((plan-textures c.args.tools.now.dir.now.lumps c.args.tools.now.textures.now
     c.args.tools.now.cache.now c.args.numbers.now c.args.plan.now c.requires.textures).1.1.0 some))
@@ -66,10 +66,10 @@ returns-in_err-paint_part-2-clause-paints g c =
     (paints-wider {among = IsPlanTexture c.args.numbers.now c.args.plan.now} (λ n e. inl e)
     c.in_ok-paint_part.ensures.paints)
     (paints-over
-    (ap (λ r. r.now.shape) c.in_ok-paint_part.ensures.same_view)
-    (ap (λ r. r.now) c.in_ok-paint_part.ensures.same_dir)
-    (ap (λ r. r.now) c.in_ok-paint_part.ensures.same_textures)
-    (ap (λ r. r.0) c.in_ok-paint_part.ensures.same_colormap)
+    (ap (λ r. r.now.shape) c.in_ok-paint_part.ensures.same.0)
+    (ap (λ r. r.now) c.in_ok-paint_part.ensures.same.1.1.0)
+    (ap (λ r. r.now) c.in_ok-paint_part.ensures.same.1.0)
+    (ap (λ r. r.0) c.in_ok-paint_part.ensures.same.1.1.1.0)
     (paints-wider {among = IsPlanTexture c.args.numbers.now c.args.plan.now} (λ n e. inr (inl e))
     c.in_err-paint_part-2.ensures.paints)))
 
@@ -79,16 +79,16 @@ returns-clause-paints g c =
     (paints-wider {among = IsPlanTexture c.args.numbers.now c.args.plan.now} (λ n e. inl e)
     c.in_ok-paint_part.ensures.paints)
     (paints-then (paints-over
-    (ap (λ r. r.now.shape) c.in_ok-paint_part.ensures.same_view)
-    (ap (λ r. r.now) c.in_ok-paint_part.ensures.same_dir)
-    (ap (λ r. r.now) c.in_ok-paint_part.ensures.same_textures)
-    (ap (λ r. r.0) c.in_ok-paint_part.ensures.same_colormap)
+    (ap (λ r. r.now.shape) c.in_ok-paint_part.ensures.same.0)
+    (ap (λ r. r.now) c.in_ok-paint_part.ensures.same.1.1.0)
+    (ap (λ r. r.now) c.in_ok-paint_part.ensures.same.1.0)
+    (ap (λ r. r.0) c.in_ok-paint_part.ensures.same.1.1.1.0)
     (paints-wider {among = IsPlanTexture c.args.numbers.now c.args.plan.now} (λ n e. inr (inl e))
     c.in_ok-paint_part-2.ensures.paints))
     (paints-over
-    (ap (λ r. r.now.shape) c.in_ok-paint_part-2.ensures.same_view ∙ ap (λ r. r.now.shape) c.in_ok-paint_part.ensures.same_view)
-    (ap (λ r. r.now) c.in_ok-paint_part-2.ensures.same_dir ∙ ap (λ r. r.now) c.in_ok-paint_part.ensures.same_dir)
-    (ap (λ r. r.now) c.in_ok-paint_part-2.ensures.same_textures ∙ ap (λ r. r.now) c.in_ok-paint_part.ensures.same_textures)
-    (ap (λ r. r.0) c.in_ok-paint_part-2.ensures.same_colormap ∙ ap (λ r. r.0) c.in_ok-paint_part.ensures.same_colormap)
+    (ap (λ r. r.now.shape) c.in_ok-paint_part-2.ensures.same.0 ∙ ap (λ r. r.now.shape) c.in_ok-paint_part.ensures.same.0)
+    (ap (λ r. r.now) c.in_ok-paint_part-2.ensures.same.1.1.0 ∙ ap (λ r. r.now) c.in_ok-paint_part.ensures.same.1.1.0)
+    (ap (λ r. r.now) c.in_ok-paint_part-2.ensures.same.1.0 ∙ ap (λ r. r.now) c.in_ok-paint_part.ensures.same.1.0)
+    (ap (λ r. r.0) c.in_ok-paint_part-2.ensures.same.1.1.1.0 ∙ ap (λ r. r.0) c.in_ok-paint_part.ensures.same.1.1.1.0)
     (paints-wider {among = IsPlanTexture c.args.numbers.now c.args.plan.now} (λ n e. inr (inr e))
     c.paint_part-3.ensures.paints)))

@@ -1,4 +1,5 @@
 -- A column more is marked, painted and saved.
+use Rattle.std.specs.Prelude.{false}
 use Rattle.std.proofs.Common.{◌≡◌, ◌<◌, ◌+◌, ℕ, length, ap, sym, refl, subst, ◌∙◌, arith}
 use Rattle.view_rules.specs.View.{ViewValue}
 use Rattle.view_rules.specs.declared.TheConstants.{FRAME_WIDTH}
@@ -11,7 +12,7 @@ use Rattle.visplanes.specs.Planes.{PlanesView}
 use Rattle.wall_edges.specs.Fragments.{FragmentValue, fragment_of}
 use Rattle.wall_columns.specs.declared.column_state.ColumnState.{ColumnState}
 use Rattle.wall_columns.specs.Columns.{columns_of, HasMarked}
-use Rattle.wall_columns.specs.Plans.{AreEdgeWords, IsBare}
+use Rattle.wall_columns.specs.Plans.{AreEdgeWords, has_part}
 use Rattle.wall_columns.specs.Saved.{OpeningsView, column_saved}
 use Rattle.wall_columns.specs.Windows.{window_at}
 use Rattle.wall_columns.proofs.ClipLemmas.{edges_at-words}
@@ -22,10 +23,10 @@ use Rattle.wall_columns.proofs.column_state.ColumnState.draw_columns.Goals as go
 -- a fragment without a texture paints nothing
 pub returns-then-not-has_part-clause-paints : goal.returns-then-not-has_part-clause-paints
 returns-then-not-has_part-clause-paints g c =
-    let P : FragmentNumbers → Type 0 = IsBare in
+    let P : FragmentNumbers → Type 0 = λ n. has_part n ≡ false in
     let start = c.args.tools.now in
     paints_columns-bare start.view.now start.dir.now start.textures.now start.colormap.0 g.C.Canvas.mark c.args.number c.args.fragment.now (window_at c.args.self.now.windows) (columns_of c.args.fragment.now)
-    (g.S.Shelf.view start.shelf.now) start.cache.now (g.C.Canvas.view start.canvas.now) (subst P c.requires.numbers (c.has_part.ensures c.if-not-has_part.true))
+    (g.S.Shelf.view start.shelf.now) start.cache.now (g.C.Canvas.view start.canvas.now) (subst P c.requires.numbers (sym c.has_part.ensures ∙ c.if-not-has_part.true))
 
 pub loop-edges-init : goal.loop-edges-init
 loop-edges-init g c = record {
@@ -122,7 +123,7 @@ loop-edges-preserved g c =
     (window_at state.windows x) c.in-Some.edges c.pass_column-plan.result p.plan c.requires.numbers
     (window_is f k x c.args.self.now state before between i.marked is inside) (step.0 ∙ edges_are f k x is)
     q.painted q.fits q.draws q.place in
-    let view = q.same_view ∙ i.view in
+    let view = q.same.0 ∙ i.view in
     let M : PlanesView → Type 0 = λ planes. HasMarked f (k + 1) c.args.self.now next before planes in
     let S : ViewValue → Type 0 = λ v. (facts : WallFacts) (first last : ℕ) → f ≡ fragment_of v facts first last →
     c.save_column.new.openings.saved ≡ column_saved c.args.places k (texture_column v facts x) c.pass_column-plan.result.after passed.openings.saved in
@@ -139,13 +140,13 @@ loop-edges-preserved g c =
       paints = paints_columns-more start.view.now start.dir.now start.textures.now start.colormap.0 g.C.Canvas.mark c.args.number f (window_at c.args.self.now.windows) k x is i.paints
           (paints_column-over g.C.Canvas.mark c.args.number f (window_at c.args.self.now.windows) x (ap (λ r. r.now) i.view) (ap (λ r. r.now) i.dir) (ap (λ r. r.now) i.textures) (ap (λ r. r.0) i.colormap) one);
       view = view;
-      textures = q.same_textures ∙ i.textures;
-      dir = q.same_dir ∙ i.dir;
-      colormap = q.same_colormap ∙ i.colormap;
-      same_cache = q.same_cache ∙ i.same_cache;
-      same_shelf = q.same_shelf ∙ i.same_shelf;
-      same_planes = q.same_planes ∙ i.same_planes;
-      same_canvas = q.same_canvas ∙ i.same_canvas;
+      textures = q.same.1.0 ∙ i.textures;
+      dir = q.same.1.1.0 ∙ i.dir;
+      colormap = q.same.1.1.1.0 ∙ i.colormap;
+      same_cache = q.same.1.1.1.1.0 ∙ i.same_cache;
+      same_shelf = q.same.1.1.1.1.1.0 ∙ i.same_shelf;
+      same_planes = q.same.1.1.1.1.1.1.0 ∙ i.same_planes;
+      same_canvas = q.same.1.1.1.1.1.1.1 ∙ i.same_canvas;
     }
 
 pub returns-clause-paints : goal.returns-clause-paints

@@ -15,7 +15,7 @@ use Rattle.wall_columns.specs.Built.{IsBuilt, with_wall, step_of_wall}
 use Rattle.wall_columns.specs.Places.{places_of}
 use Rattle.wall_columns.specs.States.{walls_view}
 use Rattle.wall_columns.specs.Walls.{WallsView}
-use Rattle.wall_columns.proofs.BuiltLemmas.{built-now, built-wall, built-count, wall-drawn}
+use Rattle.wall_columns.proofs.BuiltLemmas.{built-inside, built-now, built-wall, built-count, wall-drawn}
 use Rattle.wall_columns.proofs.DrawnLemmas.{along-built, can_paint-of, drawn-textures}
 use Rattle.wall_columns.proofs.LeafLemmas.{limit-passed_on}
 use Rattle.wall_columns.proofs.OverLemmas.{over-range}
@@ -45,11 +45,9 @@ pub returns-in_err-places-clause-limit : goal.returns-in_err-places-clause-limit
 returns-in_err-places-clause-limit g c = λ walls s h few.
     let v = c.args.tools.now.view.now in
     let planes = c.args.tools.now.planes.now in
-    let P : WallsView → Type 0 = λ w. IsBuilt v walls s w planes.planes in
     let columns = c.self.inside.columns in
-    let b : IsBuilt v walls s (walls_view c.self.inside.notes.items columns) planes.planes = subst P (sym c.self.view_is) h in
     limit-passed_on c.from_residual.result c.in_err-places.field-0.0 c.from_residual.ensures.0 c.from_residual.ensures.1
-    ∙ c.in_err-places.ensures.limit s (built-now v walls s c.self.inside.notes.items columns planes b)
+    ∙ c.in_err-places.ensures.limit s (built-now v walls s c.self.inside.notes.items columns planes (built-inside v walls s planes c.self.view_is h))
     ∙ over-range v walls c.args.facts.now c.args.first c.args.last c.numbers-numbers.result c.new-fragment.result c.new-fragment.ensures c.numbers-numbers.ensures
     c.self.inside.notes.items columns c.args.self.now planes s c.self.view_is
 
@@ -63,12 +61,10 @@ pub returns-in_err-draw_columns-clause-limit : goal.returns-in_err-draw_columns-
 returns-in_err-draw_columns-clause-limit g c = λ walls s h few.
     let v = c.args.tools.now.view.now in
     let planes = c.args.tools.now.planes.now in
-    let P : WallsView → Type 0 = λ w. IsBuilt v walls s w planes.planes in
     let columns = c.self.inside.columns in
-    let b : IsBuilt v walls s (walls_view c.self.inside.notes.items columns) planes.planes = subst P (sym c.self.view_is) h in
     limit-passed_on c.from_residual-in_err-draw_columns.result c.in_err-draw_columns.field-0.0 c.from_residual-in_err-draw_columns.ensures.0 c.from_residual-in_err-draw_columns.ensures.1
     ∙ c.in_err-draw_columns.ensures.limit
-    ∙ c.in_ok-places.ensures.limit s (built-now v walls s c.self.inside.notes.items columns planes b)
+    ∙ c.in_ok-places.ensures.limit s (built-now v walls s c.self.inside.notes.items columns planes (built-inside v walls s planes c.self.view_is h))
     ∙ over-range v walls c.args.facts.now c.args.first c.args.last c.numbers-numbers.result c.new-fragment.result c.new-fragment.ensures c.numbers-numbers.ensures
     c.self.inside.notes.items columns c.args.self.now planes s c.self.view_is
 
@@ -81,10 +77,8 @@ pub returns-clause-limit : goal.returns-clause-limit
 returns-clause-limit g c = λ walls s h few.
     let v = c.args.tools.now.view.now in
     let planes = c.args.tools.now.planes.now in
-    let P : WallsView → Type 0 = λ w. IsBuilt v walls s w planes.planes in
     let columns = c.self.inside.columns in
-    let b : IsBuilt v walls s (walls_view c.self.inside.notes.items columns) planes.planes = subst P (sym c.self.view_is) h in
-    c.in_ok-places.ensures.limit s (built-now v walls s c.self.inside.notes.items columns planes b)
+    c.in_ok-places.ensures.limit s (built-now v walls s c.self.inside.notes.items columns planes (built-inside v walls s planes c.self.view_is h))
     ∙ over-range v walls c.args.facts.now c.args.first c.args.last c.numbers-numbers.result c.new-fragment.result c.new-fragment.ensures c.numbers-numbers.ensures
     c.self.inside.notes.items columns c.args.self.now planes s c.self.view_is
 
@@ -97,10 +91,9 @@ returns-clause-built g c = λ walls s h few.
     let v = c.args.tools.now.view.now in
     let facts = c.args.facts.now in
     let planes = c.args.tools.now.planes.now in
-    let P : WallsView → Type 0 = λ w. IsBuilt v walls s w planes.planes in
     let columns = c.self.inside.columns in
     let old : List FragmentNote = c.self.inside.notes.items in
-    let b : IsBuilt v walls s (walls_view old columns) planes.planes = subst P (sym c.self.view_is) h in
+    let b : IsBuilt v walls s (walls_view old columns) planes.planes = built-inside v walls s planes c.self.view_is h in
     let shape = ap (λ (s : ViewShape). s.width) c.shape-shape.ensures.value in
     let wide = c.shape-shape.ensures.frame.width in
     let frame : v.shape.width ≤ FRAME_WIDTH = omega arith in
