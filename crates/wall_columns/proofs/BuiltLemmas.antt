@@ -89,9 +89,9 @@ pub built-now : (v : ViewValue) (walls : List Wall) (s : PlanesNow) (notes : Lis
     IsBuilt v walls s (walls_view notes state) planes.planes → s ≡ now_of state planes
 built-now v walls s notes state planes h = now_is v walls s notes state planes h
 
-pub built-inside : (v : ViewValue) (walls : List Wall) (s : PlanesNow) {notes : List FragmentNote} {columns : ColumnState} {state : WallsView} (planes : PlanesView) → walls_view notes columns ≡ state →
+pub built-inside : (v : ViewValue) (walls : List Wall) (s : PlanesNow) (notes : List FragmentNote) (columns : ColumnState) {state : WallsView} (planes : PlanesView) → walls_view notes columns ≡ state →
     IsBuilt v walls s state planes.planes → IsBuilt v walls s (walls_view notes columns) planes.planes
-built-inside v walls s planes view h =
+built-inside v walls s notes columns planes view h =
     let P : WallsView → Type 0 = λ w. IsBuilt v walls s w planes.planes in
     subst P (sym view) h
 

@@ -1,5 +1,5 @@
 -- Laws of the columns of a fragment as they are painted one by one.
-use Rattle.std.proofs.Common.{◌≡◌, ◌≢◌, Bool, cond, ℕ, zero, suc, ◌+◌, ◌-◌, ◌<◌, ◌≤◌, ℤ, pos, ◌≤ℤ◌, ◌<ℤ◌, List, [], ◌∷◌, ◌++◌, length, Result, Ok, Err, OnOk, IsErrAnd, refl, ap, sym, ◌∙◌, subst, inl, inr, arith}
+use Rattle.std.proofs.Common.{◌≡◌, ◌≢◌, ℕ, zero, suc, ◌+◌, ◌-◌, ◌<◌, ◌≤◌, ℤ, pos, ◌≤ℤ◌, ◌<ℤ◌, List, [], ◌∷◌, ◌++◌, length, Result, Ok, Err, OnOk, IsErrAnd, refl, ap, sym, ◌∙◌, subst, inl, inr, arith}
 use Rattle.std.specs.Prelude.{map, ◌||◌, false}
 use Rattle.std.specs.List.{All, AllByRecursion, range_with_len}
 use Rattle.std.proofs.lemmas.List.Elements.{recursion_from_All}
@@ -24,11 +24,11 @@ use Rattle.picture_rules.specs.declared.wall.ColumnClip.{ColumnClip}
 use Rattle.picture_rules.specs.declared.wall.Edges.{Edges}
 use Rattle.picture_rules.specs.declared.wall.FragmentNumbers.{FragmentNumbers}
 use Rattle.picture_rules.specs.declared.wall.WallFacts.{WallFacts}
+use Rattle.picture_rules.specs.wall.Parts.{has_texture}
 use Rattle.picture_rules.specs.wall.Columns.{texture_column}
 use Rattle.picture_rules.specs.wall.Edges.{edges_at}
 use Rattle.picture_rules.specs.wall.Numbers.{fragment_numbers}
 use Rattle.picture_rules.specs.wall.Walls.{Wall, wall_of, wall_edges, clip_before}
-use Rattle.picture_rules.specs.wall.Clips.{middle_rows, top_rows, bottom_rows}
 use Rattle.picture_rules.specs.wall.Strips.{WallStrip, strip_of, strip_dots, wall_strips, wall_column_by, wall_column, wall_dots}
 use Rattle.wall_edges.specs.Fragments.{FragmentValue, fragment_of}
 use Rattle.pixel_strips.specs.Canvases.{CanvasView}

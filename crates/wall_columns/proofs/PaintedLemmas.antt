@@ -1,17 +1,14 @@
 -- Laws of the strips of a fragment's column, and of calls that paint some of them.
-use Rattle.std.proofs.Common.{append-nil, SFits, to_z, of_z, to_z-of_z, w32, ◌≡◌, ◌<◌, ◌+◌, ◌++◌, ℕ, ℤ, pos, List, [], ◌∷◌, length, Result, Ok, Err, refl, sym, ap, subst, ◌∙◌, IsErrAnd}
+use Rattle.std.proofs.Common.{append-nil, ◌≡◌, ◌<◌, ◌+◌, ◌++◌, ℕ, ℤ, pos, List, [], ◌∷◌, length, Result, Ok, Err, refl, sym, ap, subst, ◌∙◌, IsErrAnd}
 use Rattle.std.specs.Prelude.{int_lt, true, false}
 use Rattle.std.proofs.lemmas.Result.{err_from_is_err_and}
 use Rattle.outside.specs.Shelf.{ShelfView}
-use Rattle.word_rules.specs.Words.{inverse_word}
 use Rattle.word_rules.specs.Listed.{listed_from, joined_lists}
 use Rattle.word_rules.proofs.ListedLemmas.{joined_lists-append}
 use Rattle.lump_rules.specs.declared.wad.Lump.{Lump}
 use Rattle.lump_rules.specs.Contents.{lump_bytes}
 use Rattle.zone_rules.specs.Zones.{Heap}
 use Rattle.view_rules.specs.declared.ViewShape.{ViewShape}
-use Rattle.view_rules.specs.View.{ViewValue}
-use Rattle.view_rules.specs.Lights.{scale_map}
 use Rattle.wad_dir.specs.DirectoryView.{DirectoryView}
 use Rattle.lump_cache.specs.Caches.{KeepsCounts}
 use Rattle.art_rules.specs.declared.ColumnLookup.{ColumnLookup}
@@ -19,7 +16,6 @@ use Rattle.art_rules.specs.Bytes.{byte_at}
 use Rattle.pixel_rules.specs.declared.Painter.{Painter}
 use Rattle.pixel_rules.specs.declared.TheConstants.{WALL}
 use Rattle.pixel_rules.specs.Art.{Art, painter_of}
-use Rattle.pixel_rules.specs.Dots.{Dot}
 use Rattle.pixel_rules.specs.Strips.{row_fraction, rows_between, shade, texel_row, column_dots}
 use Rattle.pixel_strips.specs.Canvases.{CanvasView, with_dots, with_painter}
 use Rattle.pixel_strips.specs.Dotted.{HasDots, PlacedAlike}
@@ -34,9 +30,7 @@ use Rattle.texture_build.proofs.BesideLemmas.{fit_beside-none, fit_beside-append
 use Rattle.texture_build.proofs.DrawLemmas.{draws-none, draws-then, draws-wider, holds_art-later}
 use Rattle.picture_rules.specs.declared.wall.Part.{Part}
 use Rattle.picture_rules.specs.declared.wall.RowRange.{RowRange}
-use Rattle.picture_rules.specs.declared.wall.WallFacts.{WallFacts}
-use Rattle.picture_rules.specs.wall.Columns.{texture_column}
-use Rattle.picture_rules.specs.wall.Strips.{WallStrip, strip_dots, wall_colour}
+use Rattle.picture_rules.specs.wall.Strips.{WallStrip}
 use Rattle.wall_columns.specs.declared.fault.DrawFault.{DrawFault}
 use Rattle.wall_columns.specs.declared.paint.ColumnLook.{ColumnLook}
 use Rattle.wall_columns.specs.Draws.{IsNoPicture}

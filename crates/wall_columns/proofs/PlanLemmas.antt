@@ -135,9 +135,9 @@ wider height rows s h = λ r. ((h r).0, (let l : rows.last <ℤ pos height = (h 
 abbrev pub IsPlanIn : ℕ → ColumnPlan → Type 0
 IsPlanIn height plan = AreRowsIn FRAME_HEIGHT plan.ceiling × (AreRowsIn FRAME_HEIGHT plan.floor × IsClipIn height plan.after)
 
-pub plan-in : {own height : ℕ} {n : FragmentNumbers} {clip : ColumnClip} {e : Edges} {plan : ColumnPlan} → plan ≡ plan_of own n clip e → own ≡ height → height ≤ FRAME_HEIGHT → IsClipIn height clip → AreEdgeWords e →
+pub plan-in : {own height : ℕ} (n : FragmentNumbers) (clip : ColumnClip) (e : Edges) {plan : ColumnPlan} → plan ≡ plan_of own n clip e → own ≡ height → height ≤ FRAME_HEIGHT → IsClipIn height clip → AreEdgeWords e →
     IsPlanIn height plan
 unfolding plan_of
-plan-in {own} {height} {n} {clip} {e} p same s i w =
+plan-in {own} {height} n clip e p same s i w =
     subst (IsPlanIn height) (sym (p ∙ ap (λ (h : ℕ). plan_of h n clip e) same))
     (wider height (ceiling_rows clip e) s (ceiling_rows-in height clip e s i w), (wider height (floor_rows clip e) s (floor_rows-in height clip e s i w), clip_after-in height n clip e s i w))

@@ -1,21 +1,29 @@
 -- Laws of the strips of a plan.
-use Rattle.std.proofs.Common.{arith, ◌≡◌, ℕ, ℤ, List, [], refl}
+use Rattle.std.proofs.Common.{SFits, arith, to_z, of_z, to_z-of_z, w32, ◌≡◌, ℕ, ℤ, List, [], refl, ap, ◌∙◌}
 use Rattle.std.proofs.lemmas.Int.{ints}
 use Rattle.std.specs.Prelude.{◌<ℤ◌, int_lt, true}
 use Rattle.std.specs.List.{All, AllByRecursion}
 use Rattle.std.proofs.lemmas.List.Elements.{recursion_from_All}
+use Rattle.word_rules.specs.Words.{inverse_word}
 use Rattle.word_rules.specs.Listed.{joined_lists}
 use Rattle.lump_rules.specs.declared.wad.Lump.{Lump}
 use Rattle.zone_rules.specs.Zones.{Heap}
 use Rattle.view_rules.specs.View.{ViewValue}
+use Rattle.view_rules.specs.Lights.{scale_map}
 use Rattle.pixel_rules.specs.Art.{Art}
+use Rattle.pixel_rules.specs.Dots.{Dot}
 use Rattle.pixel_rules.specs.Strips.{rows_between, column_dots}
+use Rattle.texture_build.specs.Arts.{view_art}
 use Rattle.texture_build.specs.Views.{TexturesView}
 use Rattle.texture_build.specs.Draws.{CanDraw}
 use Rattle.picture_rules.specs.declared.wall.FragmentNumbers.{FragmentNumbers}
 use Rattle.picture_rules.specs.declared.wall.RowRange.{RowRange}
-use Rattle.picture_rules.specs.wall.Strips.{strip_dots}
+use Rattle.picture_rules.specs.declared.wall.WallFacts.{WallFacts}
+use Rattle.picture_rules.specs.wall.Columns.{texture_column}
+use Rattle.picture_rules.specs.wall.Strips.{WallStrip, strip_dots, wall_colour}
 use Rattle.wall_columns.specs.declared.clips.ColumnPlan.{ColumnPlan}
+use Rattle.wall_columns.specs.declared.paint.ColumnLook.{ColumnLook}
+use Rattle.wall_columns.specs.Painted.{look_colour, look_dots, strips_dots}
 use Rattle.wall_columns.specs.Plans.{HasNoRows, HasRows, IsInRows, strips_by}
 
 -- each of the strips of a plan is in the view, and its texture may be drawn

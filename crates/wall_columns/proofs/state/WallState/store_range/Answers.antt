@@ -47,7 +47,7 @@ returns-in_err-places-clause-limit g c = λ walls s h few.
     let planes = c.args.tools.now.planes.now in
     let columns = c.self.inside.columns in
     limit-passed_on c.from_residual.result c.in_err-places.field-0.0 c.from_residual.ensures.0 c.from_residual.ensures.1
-    ∙ c.in_err-places.ensures.limit s (built-now v walls s c.self.inside.notes.items columns planes (built-inside v walls s planes c.self.view_is h))
+    ∙ c.in_err-places.ensures.limit s (built-now v walls s c.self.inside.notes.items columns planes (built-inside v walls s c.self.inside.notes.items columns planes c.self.view_is h))
     ∙ over-range v walls c.args.facts.now c.args.first c.args.last c.numbers-numbers.result c.new-fragment.result c.new-fragment.ensures c.numbers-numbers.ensures
     c.self.inside.notes.items columns c.args.self.now planes s c.self.view_is
 
@@ -64,7 +64,7 @@ returns-in_err-draw_columns-clause-limit g c = λ walls s h few.
     let columns = c.self.inside.columns in
     limit-passed_on c.from_residual-in_err-draw_columns.result c.in_err-draw_columns.field-0.0 c.from_residual-in_err-draw_columns.ensures.0 c.from_residual-in_err-draw_columns.ensures.1
     ∙ c.in_err-draw_columns.ensures.limit
-    ∙ c.in_ok-places.ensures.limit s (built-now v walls s c.self.inside.notes.items columns planes (built-inside v walls s planes c.self.view_is h))
+    ∙ c.in_ok-places.ensures.limit s (built-now v walls s c.self.inside.notes.items columns planes (built-inside v walls s c.self.inside.notes.items columns planes c.self.view_is h))
     ∙ over-range v walls c.args.facts.now c.args.first c.args.last c.numbers-numbers.result c.new-fragment.result c.new-fragment.ensures c.numbers-numbers.ensures
     c.self.inside.notes.items columns c.args.self.now planes s c.self.view_is
 
@@ -78,7 +78,7 @@ returns-clause-limit g c = λ walls s h few.
     let v = c.args.tools.now.view.now in
     let planes = c.args.tools.now.planes.now in
     let columns = c.self.inside.columns in
-    c.in_ok-places.ensures.limit s (built-now v walls s c.self.inside.notes.items columns planes (built-inside v walls s planes c.self.view_is h))
+    c.in_ok-places.ensures.limit s (built-now v walls s c.self.inside.notes.items columns planes (built-inside v walls s c.self.inside.notes.items columns planes c.self.view_is h))
     ∙ over-range v walls c.args.facts.now c.args.first c.args.last c.numbers-numbers.result c.new-fragment.result c.new-fragment.ensures c.numbers-numbers.ensures
     c.self.inside.notes.items columns c.args.self.now planes s c.self.view_is
 
@@ -93,7 +93,7 @@ returns-clause-built g c = λ walls s h few.
     let planes = c.args.tools.now.planes.now in
     let columns = c.self.inside.columns in
     let old : List FragmentNote = c.self.inside.notes.items in
-    let b : IsBuilt v walls s (walls_view old columns) planes.planes = built-inside v walls s planes c.self.view_is h in
+    let b : IsBuilt v walls s (walls_view old columns) planes.planes = built-inside v walls s old columns planes c.self.view_is h in
     let shape = ap (λ (s : ViewShape). s.width) c.shape-shape.ensures.value in
     let wide = c.shape-shape.ensures.frame.width in
     let frame : v.shape.width ≤ FRAME_WIDTH = omega arith in
