@@ -64,17 +64,18 @@ weapons_of_records-first (suc n) (head ∷ rows) l =
     under-first (is_header weapon_header head) (take n rows) rows weapon_rows (rows_after-first (λ _. weapon_row) MAX_WEAPONS n [] rows (λ _ row fields past. weapon_row-past row fields past) (omega arith) (omega arith))
 
 -- a table read from the first records of a file that is not too long
-pub path_in-first : {R : Type 0} (fields_of : R → List (List ℕ)) (bytes : List ℕ) (n : ℕ) (records given : List R) (r : Result (List PathRow) CsvRefusal) → table_records bytes ≡ Ok (csv_records bytes) → given ≡ records → map fields_of records ≡ take n (csv_records bytes) → MAX_VIEWS + 2 ≤ n → path_of_records (map fields_of given) ≡ r → path_in bytes ≡ r
-unfolding path_in
-path_in-first fields_of bytes n records given r whole same first l e = rw whole (sym (path_of_records-first n (csv_records bytes) l) ∙ ap path_of_records (sym (ap (map fields_of) same ∙ first)) ∙ e)
+module _ (bytes : List ℕ) (records : List (List (List ℕ))) (whole : table_records bytes ≡ Ok (csv_records bytes)) where
+  pub path_in-first : (r : Result (List PathRow) CsvRefusal) → records ≡ take (MAX_VIEWS + 2) (csv_records bytes) → path_of_records records ≡ r → path_in bytes ≡ r
+  unfolding path_in
+  path_in-first r first e = rw whole (sym (path_of_records-first (MAX_VIEWS + 2) (csv_records bytes) (omega arith)) ∙ ap path_of_records (sym first) ∙ e)
 
-pub things_in-first : {R : Type 0} (fields_of : R → List (List ℕ)) (bytes : List ℕ) (n : ℕ) (records given : List R) (r : Result (List ThingLine) CsvRefusal) → table_records bytes ≡ Ok (csv_records bytes) → given ≡ records → map fields_of records ≡ take n (csv_records bytes) → MAX_THINGS + 2 ≤ n → lines_of_records (map fields_of given) ≡ r → things_in_table bytes ≡ r
-unfolding things_in_table
-things_in-first fields_of bytes n records given r whole same first l e = rw whole (sym (lines_of_records-first n (csv_records bytes) l) ∙ ap lines_of_records (sym (ap (map fields_of) same ∙ first)) ∙ e)
+  pub things_in-first : (r : Result (List ThingLine) CsvRefusal) → records ≡ take (MAX_THINGS + 2) (csv_records bytes) → lines_of_records records ≡ r → things_in_table bytes ≡ r
+  unfolding things_in_table
+  things_in-first r first e = rw whole (sym (lines_of_records-first (MAX_THINGS + 2) (csv_records bytes) (omega arith)) ∙ ap lines_of_records (sym first) ∙ e)
 
-pub weapons_in-first : {R : Type 0} (fields_of : R → List (List ℕ)) (bytes : List ℕ) (n : ℕ) (records given : List R) (r : Result (List WeaponRow) CsvRefusal) → table_records bytes ≡ Ok (csv_records bytes) → given ≡ records → map fields_of records ≡ take n (csv_records bytes) → MAX_WEAPONS + 2 ≤ n → weapons_of_records (map fields_of given) ≡ r → weapons_in bytes ≡ r
-unfolding weapons_in
-weapons_in-first fields_of bytes n records given r whole same first l e = rw whole (sym (weapons_of_records-first n (csv_records bytes) l) ∙ ap weapons_of_records (sym (ap (map fields_of) same ∙ first)) ∙ e)
+  pub weapons_in-first : (r : Result (List WeaponRow) CsvRefusal) → records ≡ take (MAX_WEAPONS + 2) (csv_records bytes) → weapons_of_records records ≡ r → weapons_in bytes ≡ r
+  unfolding weapons_in
+  weapons_in-first r first e = rw whole (sym (weapons_of_records-first (MAX_WEAPONS + 2) (csv_records bytes) (omega arith)) ∙ ap weapons_of_records (sym first) ∙ e)
 
 -- an Ok value under a header is that of the rows
 under-ok : {A : Type 0} (header : Bool) (rows : List (List (List ℕ))) (read : List (List (List ℕ)) → Result A CsvRefusal) (a : A) → then_checked (cond header (Ok rows) (Err Header)) read ≡ Ok a → read rows ≡ Ok a

@@ -13,7 +13,7 @@ use lump_rules::Name8;
 pub use maps::{
     LEAF_BIT, MAX_RECORDS, MapLeaf, MapLine, MapLump, MapRefusal, MapSeg, MapVertex, NO_SIDE,
 };
-pub use walk::{Corners, MAX_DRAWSEGS};
+pub use walk::{Corners, MAX_DRAWSEGS, partition_of};
 
 /// A thing as its lump has it: point, angle, type and options.
 ///

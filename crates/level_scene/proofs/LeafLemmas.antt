@@ -1,13 +1,14 @@
 -- Laws of `leaf_from` and `is_within`, at a leaf and at a node.
 use Rattle.std.proofs.Common.{◌≡◌, ℕ, zero, suc, ◌-◌, ◌<◌, ◌≤◌, Bool, true, List, Some, ℤ, slice_get, refl, arith, inl, inr, ap, ◌∙◌}
 use Rattle.std.specs.Prelude.{◌&&◌}
-use Rattle.std.proofs.lemmas.Bool.{and_parts, cases_eq, ltb-true}
+use Rattle.std.proofs.lemmas.Bool.{ltb-true}
 use Rattle.level_rules.specs.declared.Node.{Node}
 use Rattle.level_rules.specs.declared.Child.{Child}
 use Rattle.level_rules.specs.declared.Child.TheVariants.{Node as NodeChild, Leaf as LeafChild}
 use Rattle.level_rules.specs.Levels.{child_on}
 use Rattle.level_rules.specs.maps.Ranges.{is_there}
 use Rattle.level_rules.specs.maps.Trees.{is_within}
+use Rattle.level_rules.proofs.maps.TreeLemmas.{child_passes}
 use Rattle.view_rules.specs.Sides.{side_of}
 use Rattle.level_rules.specs.walk.Boxes.{partition_of}
 use Rattle.scene_rules.specs.Places.{leaf_below, leaf_from}
@@ -32,15 +33,6 @@ pub within-node : (nodes : List Node) (levels n : ℕ) → is_within nodes level
 unfolding is_within
 within-node nodes zero n within = cc
 within-node nodes (suc levels) n within = omega arith
-
--- what both children pass, the child on a side passes
-child_passes : (passes : Child → Bool) (node : Node) (side : ℕ) → side ≤ 1 → (passes (child_on node 0) && passes (child_on node 1)) ≡ true → passes (child_on node side) ≡ true
-child_passes passes node side low both =
-    let each = and_parts (passes (child_on node 0)) (passes (child_on node 1)) both in
-    elim (cases_eq side 0) [
-      | inl front ↦ ap (λ (s : ℕ). passes (child_on node s)) front ∙ each.0
-      | inr behind ↦ (let back : side ≡ 1 = omega arith in ap (λ (s : ℕ). passes (child_on node s)) back ∙ each.1)
-    ]
 
 -- below a node one level less is needed
 pub within-child : (nodes : List Node) (levels n side : ℕ) (node : Node) → side ≤ 1 → slice_get nodes n ≡ Some node → is_within nodes levels (NodeChild n) ≡ true → is_within nodes (levels - 1) (child_on node side) ≡ true

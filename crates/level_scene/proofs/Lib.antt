@@ -1,4 +1,5 @@
 pub mod AddLemmas
+pub mod EachLemmas
 pub mod GroupLemmas
 pub mod LeafLemmas
 pub mod LevelLemmas

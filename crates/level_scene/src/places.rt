@@ -8,7 +8,6 @@ ghost use Rattle.level_rules.specs.declared.Child.TheVariants.{Node as NodeChild
 ghost use Rattle.level_rules.specs.Levels.{child_on};
 ghost use Rattle.level_rules.specs.maps.Sound.{IsChildIn, IsNodeIn};
 ghost use Rattle.level_rules.specs.maps.Trees.{is_within};
-ghost use Rattle.level_rules.specs.walk.Boxes.{partition_of};
 ghost use Rattle.scene_rules.specs.declared.Placed.{Placed};
 ghost use Rattle.scene_rules.specs.Places.{first_shadow, is_in_skill, is_shadow, leaf_from, need_of, placed_if, placed_in, placed_row, placed_thing, placed_things, sector_at, skill_option, thing_angle, thing_height, things_of};
 ghost use Rattle.level_scene.specs.Groups.{AreGroupsOf, IsIn};
@@ -16,14 +15,13 @@ ghost use Rattle.level_scene.specs.Groups.{AreGroupsOf, IsIn};
 use art_rules::Need;
 use csv_tables::{ThingRow, ThingTable};
 use fx_words::{minus, shl_word, times};
-use level_rules::{Child, MAX_DEPTH, Node, Partition4, PlacedThing, Sector, Thing};
+use level_rules::{Child, MAX_DEPTH, Node, PlacedThing, Sector, Thing, partition_of};
 use map_lumps::Level;
 use outside::OutOfMemory;
 use scene_rules::{EASY, EIGHTH_DEGREES, HARD, LAST_EASY, NORMAL, NORMAL_SKILL, NOT_ALONE, Placed};
 use std::alloc::Global;
 use std::marker::Model;
 use view_frame::side_of;
-use view_rules::Partition;
 use word_rules::{ANG45, FRACTION_BITS};
 
 /// The number of the sector at the point x, y (map units, 16.16 fixed point): that of the leaf
@@ -78,18 +76,6 @@ fn node_at(level: &Level, n: u16) -> &Node
     ensures children { IsNodeIn level.now result.now }
 {
     &level.nodes()[n as usize]
-}
-
-#[tactic(auto, unfolding(level_rules::specs::walk::Boxes::partition_of))]
-fn partition_of(line: &Partition4) -> Partition
-    ensures { result ≡ partition_of line.now }
-{
-    Partition {
-        x: line.x,
-        y: line.y,
-        dx: line.dx,
-        dy: line.dy,
-    }
 }
 
 // The child of a node on side 0 or 1 of its line.

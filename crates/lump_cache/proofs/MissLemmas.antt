@@ -1,8 +1,9 @@
 -- What a fetch does for an empty slot, by what its request for a block and its read did.
-use Rattle.std.proofs.Common.{◌≡◌, ℕ, ◌<◌, false, List, None, Ok, Err, refl, sym, ap, ◌∙◌, inl}
-use Rattle.std.specs.Prelude.{All, IfSome, IsNone, IsTrue}
+use Rattle.std.proofs.Common.{◌≡◌, ℕ, ◌<◌, false, List, None, Result, Ok, Err, refl, sym, ap, ◌∙◌, inl}
+use Rattle.std.specs.Prelude.{All, IfSome, IsNone, IsTrue, OnOk, OnErr, ⊤}
 use Rattle.std.proofs.lemmas.Bool.{false≢true}
 use Rattle.outside.specs.Causes.{FaultsRose}
+use Rattle.outside.specs.Faults.{ResultIs, HasCauses}
 use Rattle.outside.specs.Shelf.{ShelfView, IsLaterShelf, NameFiles, counted}
 use Rattle.outside.proofs.ShelfLemmas.{follows_none}
 use Rattle.lump_rules.specs.Lookups.{lump_at}
@@ -11,9 +12,10 @@ use Rattle.zone_rules.specs.declared.Tag.{Tag}
 use Rattle.zone_rules.specs.Zones.{Owner, Heap, IsLive, IsSound, owned_block, holding_of, bytes_of, block_size, same_owner}
 use Rattle.zone_rules.specs.Requests.{gaps, total, without_room, TakesBlock}
 use Rattle.wad_dir.specs.DirectoryView.{DirectoryView}
+use Rattle.lump_cache.specs.declared.fault.CacheFault.{CacheFault}
 use Rattle.lump_cache.specs.declared.fault.CacheFault.TheVariants.{ZoneFull, ReadFault}
-use Rattle.lump_cache.specs.Caches.{GivesBack, KeptOrPurged, NoRoom, lump_owner, with_tag_unless_static}
-use Rattle.lump_cache.specs.Fetches.{FetchesLump}
+use Rattle.lump_cache.specs.Caches.{GivesBack, KeptOrPurged, MatchAnswer, NoRoom, cache_fault, lump_owner, with_tag_unless_static}
+use Rattle.lump_cache.specs.Fetches.{FetchesLump, IsVacant}
 use Rattle.lump_cache.proofs.FaithLemmas.{none_bytes}
 use Rattle.lump_cache.proofs.FillLemmas.{unless_static_others}
 
@@ -48,56 +50,48 @@ module _ (dir : DirectoryView) (lump : ℕ) (tag : Tag) (view : ShelfView) (old 
     answers = λ contents stand within. record { ok = refl; err = tt };
   }
 
+  -- a fetch for an empty slot, by its parts
+  missed : (after : ShelfView) (new : Heap) (result : Result (Unit {0}) CacheFault) → IsNone (holding_of owner old.blocks) →
+      MatchAnswer result (TakesBlock old new owner size tag) (λ wanted widest'. NoRoom size old wanted widest' × (new ≡ without_room (block_size size) old)) (GivesBack old new owner size tag) →
+      (All (λ g. total g < block_size size) (gaps old.blocks) → MatchAnswer result ⊥ (λ wanted widest'. ⊤) ⊥) → OnErr result (owned_block owner new.blocks ≡ None) → Others new →
+      ((contents : List (List ℕ)) → NameFiles view dir.files contents → IfSome (bytes_of owner new.blocks) (λ xs. xs ≡ lump_bytes contents dir.lumps lump)) →
+      OnOk result (IsVacant lump old → 0 < size → after.taken ≡ counted view.taken size) → (size ≡ 0 → after ≡ view) → IsLaterShelf view after → HasCauses cache_fault view.faults after.faults result →
+      ((contents : List (List ℕ)) → NameFiles view dir.files contents → AllWithin contents dir.lumps → ResultIs cache_fault view.steady (λ done. done) (Ok tt) result) → FetchesLump dir lump tag view after old new result
+  missed after new result none miss full empty others bytes taken untouched follows causes answers = record {
+    sound = sound;
+    hit = λ live. absurd (false≢true (sym none ∙ live));
+    miss = λ n. miss;
+    full = λ n all. full all;
+    empty = empty;
+    others = others;
+    bytes = λ contents stand n. bytes contents stand;
+    taken = taken;
+    untouched = untouched;
+    follows = follows;
+    causes = causes;
+    answers = answers;
+  }
+
   module _ (new : Heap) (none : IsNone (holding_of owner old.blocks)) (others : Others new) where
+    no_bytes : owned_block owner new.blocks ≡ None → (contents : List (List ℕ)) → IfSome (bytes_of owner new.blocks) (λ xs. xs ≡ lump_bytes contents dir.lumps lump)
+    no_bytes empty contents = none_bytes owner new.blocks (λ xs. xs ≡ lump_bytes contents dir.lumps lump) empty
+
     -- no gap held the block
     pub miss_full : (wanted widest' : ℕ) → NoRoom size old wanted widest' → new ≡ without_room (block_size size) old → owned_block owner new.blocks ≡ None → FetchesLump dir lump tag view view old new (Err (ZoneFull wanted widest'))
-    miss_full wanted widest' room left empty = record {
-      sound = sound;
-      hit = λ live. absurd (false≢true (sym none ∙ live));
-      miss = λ n. (room, left);
-      full = λ n all. tt;
-      empty = empty;
-      others = others;
-      bytes = λ contents stand n. none_bytes owner new.blocks (λ xs. xs ≡ lump_bytes contents dir.lumps lump) empty;
-      taken = tt;
-      untouched = λ zero. refl;
-      follows = follows_none view;
-      causes = record { err = tt };
-      answers = λ contents stand within. record { ok = tt; err = tt };
-    }
+    miss_full wanted widest' room left empty =
+        missed view new _ none (room, left) (λ all. tt) empty others (λ contents stand. no_bytes empty contents) tt (λ zero. refl) (follows_none view)
+        (record { err = tt }) (λ contents stand within. record { ok = tt; err = tt })
 
     module _ (after : ShelfView) (room : HasRoom) (follows : IsLaterShelf view after) where
       -- the block was taken, and filled
       pub miss_ok : TakesBlock old new owner size tag → ((contents : List (List ℕ)) → NameFiles view dir.files contents → IfSome (bytes_of owner new.blocks) (λ xs. xs ≡ lump_bytes contents dir.lumps lump)) →
           (0 < size → after.taken ≡ counted view.taken size) → (size ≡ 0 → after ≡ view) → FetchesLump dir lump tag view after old new (Ok tt)
-      miss_ok takes bytes taken untouched = record {
-        sound = sound;
-        hit = λ live. absurd (false≢true (sym none ∙ live));
-        miss = λ n. takes;
-        full = λ n all. room all;
-        empty = tt;
-        others = others;
-        bytes = λ contents stand n. bytes contents stand;
-        taken = λ n. taken;
-        untouched = untouched;
-        follows = follows;
-        causes = record { err = tt };
-        answers = λ contents stand within. record { ok = refl; err = tt };
-      }
+      miss_ok takes bytes taken untouched =
+          missed after new _ none takes (λ all. room all) tt others bytes (λ n. taken) untouched follows
+          (record { err = tt }) (λ contents stand within. record { ok = refl; err = tt })
 
       -- the block was taken, and given back after a read that failed
       pub miss_read : GivesBack old new owner size tag → owned_block owner new.blocks ≡ None → (size ≡ 0 → ⊥) → FaultsRose view.faults after.faults → ((contents : List (List ℕ)) → NameFiles view dir.files contents → AllWithin contents dir.lumps → IsTrue view.steady → ⊥) → FetchesLump dir lump tag view after old new (Err ReadFault)
-      miss_read back empty some rose steady = record {
-        sound = sound;
-        hit = λ live. absurd (false≢true (sym none ∙ live));
-        miss = λ n. back;
-        full = λ n all. room all;
-        empty = empty;
-        others = others;
-        bytes = λ contents stand n. none_bytes owner new.blocks (λ xs. xs ≡ lump_bytes contents dir.lumps lump) empty;
-        taken = tt;
-        untouched = λ zero. absurd (some zero);
-        follows = follows;
-        causes = record { err = rose };
-        answers = λ contents stand within. record { ok = tt; err = steady contents stand within };
-      }
+      miss_read back empty some rose steady =
+          missed after new _ none back (λ all. room all) empty others (λ contents stand. no_bytes empty contents) tt (λ zero. absurd (some zero)) follows
+          (record { err = rose }) (λ contents stand within. record { ok = tt; err = steady contents stand within })

@@ -9,6 +9,7 @@ ghost use Rattle.lump_rules.specs.Lookups.{last_of};
 ghost use Rattle.zone_rules.specs.Zones.{IsLive, bytes_of, block_size, same_owner};
 ghost use Rattle.lump_cache.specs.Caches.{IsAtRest, cache_fault, lump_owner};
 ghost use Rattle.lump_cache.specs.Calls.{HoldContents, ReadsLumps};
+ghost use Rattle.lump_cache.specs.Lives.{GivesBytes};
 ghost use Rattle.lump_cache.specs.Named.{IsLast, live_bytes};
 
 use crate::{CacheFault, LumpCache};
@@ -36,11 +37,7 @@ pub fn fetch_live<S: Shelf, R>(
         cache.new
         (λ number. number ≡ lump.0) (λ done. done) (λ bytes. Ok tt) result }
     ensures live { OnOk result (IsLive cache.new (lump_owner lump.0)) }
-    ensures bytes { (contents : List (List ℕ)) →
-        HoldContents (S.view shelf.old) dir.now cache.old contents →
-        OnOk result
-        (bytes_of (lump_owner lump.0) cache.new.blocks
-        ≡ Some (lump_bytes contents dir.now.lumps lump.0)) }
+    ensures bytes { GivesBytes (S.view shelf.old) dir.now cache.old cache.new lump.0 result }
 {
     match make_live(cache, dir, shelf, lump) {
         Ok(()) => Ok(()),
@@ -61,11 +58,7 @@ fn make_live<S: Shelf>(
         cache.old cache.new
         (λ number. number ≡ lump.0) (λ done. done) (λ bytes. Ok tt) result }
     ensures live { OnOk result (IsLive cache.new (lump_owner lump.0)) }
-    ensures bytes { (contents : List (List ℕ)) →
-        HoldContents (S.view shelf.old) dir.now cache.old contents →
-        OnOk result
-        (bytes_of (lump_owner lump.0) cache.new.blocks
-        ≡ Some (lump_bytes contents dir.now.lumps lump.0)) }
+    ensures bytes { GivesBytes (S.view shelf.old) dir.now cache.old cache.new lump.0 result }
 {
     cache.fetch(shelf, dir, lump, Tag::Cache)
 }

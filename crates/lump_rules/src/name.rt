@@ -1,5 +1,5 @@
 // The name of a lump.
-ghost use Rattle.std.specs.Prelude.{◌≡◌, ◌≤◌, ◌==◌, length};
+ghost use Rattle.std.specs.Prelude.{◌≡◌, ◌≤◌, ◌+◌, ◌==◌, length, take, drop};
 ghost use Rattle.std.specs.List.{position_or_len};
 ghost use Rattle.lump_rules.specs.Names.{filled, name_of, name_of_text};
 
@@ -44,6 +44,16 @@ impl Name8 {
         Name8 {
             bytes: fill(&bytes[..end]),
         }
+    }
+
+    /// The name that the eight bytes at `place` spell.
+    pub fn read_at(bytes: &[u8], place: usize) -> Name8
+        requires { place + NAME_SIZE ≤ length bytes.now }
+        ensures { result ≡ name_of (take NAME_SIZE (drop place bytes.now)) }
+    {
+        let mut name = [0; NAME_SIZE];
+        name.copy_from_slice(&bytes[place..][..NAME_SIZE]);
+        Name8::from_bytes(name)
     }
 
     /// The name that a text spells, in capitals, or `None` where the text has no byte, more than

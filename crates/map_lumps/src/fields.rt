@@ -58,7 +58,5 @@ pub(crate) fn name_field(entry: &[u8], offset: usize) -> Name8
     requires { offset + NAME_SIZE ≤ length entry.now }
     ensures { result ≡ name_field entry.now offset }
 {
-    let mut bytes = [0; NAME_SIZE];
-    bytes.copy_from_slice(&entry[offset..][..NAME_SIZE]);
-    Name8::from_bytes(bytes)
+    Name8::read_at(entry, offset)
 }

@@ -16,6 +16,7 @@ use Rattle.level_rules.specs.maps.Trees.{is_within}
 use Rattle.level_rules.specs.walk.Boxes.{partition_of, eye_side, near_child, far_child, far_box, box_passes}
 use Rattle.level_rules.specs.walk.Events.{WalkState}
 use Rattle.level_rules.specs.walk.Walk.{at_far, at_node, walk_child}
+use Rattle.level_rules.proofs.maps.TreeLemmas.{child_passes}
 use Rattle.level_rules.proofs.walk.WalkLemmas.{walk-leaf, walk-node}
 
 below_by : (b : Bool) (x y : ℕ) → x ≤ 1 → y ≤ 1 → cond b x y ≤ 1
@@ -40,20 +41,6 @@ side_below line x y =
 eye_side_below : (v : ViewValue) (node : Node) → eye_side v node ≤ 1
 unfolding eye_side
 eye_side_below v node = side_below (partition_of node.line) v.eye.x v.eye.y
-
-both_pass : (a b : Bool) → (a && b) ≡ true → (a ≡ true) × (b ≡ true)
-both_pass true true e = (refl, refl)
-both_pass true false e = cc
-both_pass false b e = cc
-
--- what both children pass, the child on a side passes
-child_passes : (p : Child → Bool) (node : Node) (side : ℕ) → side ≤ 1 → (p (child_on node 0) && p (child_on node 1)) ≡ true → p (child_on node side) ≡ true
-child_passes p node side l e =
-    let h = both_pass (p (child_on node 0)) (p (child_on node 1)) e in
-    elim (cases_eq side 0) [
-      | inl z ↦ ap (λ (s : ℕ). p (child_on node s)) z ∙ h.0
-      | inr n ↦ (let o : side ≡ 1 = omega arith in ap (λ (s : ℕ). p (child_on node s)) o ∙ h.1)
-    ]
 
 passed_same : (b : Bool) (x y w : WalkState) → x ≡ y → cond b x w ≡ cond b y w
 passed_same b x y w e = ap (λ (z : WalkState). cond b z w) e

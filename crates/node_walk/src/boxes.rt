@@ -3,23 +3,11 @@
 ghost use Rattle.std.specs.Prelude.{◌≡◌, ℕ, ◌≤◌, length};
 ghost use Rattle.view_rules.specs.declared.ColumnRange.{ColumnRange};
 ghost use Rattle.level_rules.specs.Levels.{child_on};
-ghost use Rattle.level_rules.specs.walk.Boxes.{partition_of, eye_side, box_on, box_column, box_row, box_corners, corners_range, range_is_open, is_within_box, box_passes};
+ghost use Rattle.level_rules.specs.walk.Boxes.{eye_side, box_on, box_column, box_row, box_corners, corners_range, range_is_open, is_within_box, box_passes};
 
 use crate::cover::Cover;
-use level_rules::{Box4, Child, Corners, Node, Partition4};
-use view_frame::{ColumnRange, Partition, View, side_of};
-
-#[tactic(auto, unfolding(level_rules::specs::walk::Boxes::partition_of))]
-fn partition_of(line: &Partition4) -> Partition
-    ensures { result ≡ partition_of line.now }
-{
-    Partition {
-        x: line.x,
-        y: line.y,
-        dx: line.dx,
-        dy: line.dy,
-    }
-}
+use level_rules::{Box4, Child, Corners, Node, partition_of};
+use view_frame::{ColumnRange, View, side_of};
 
 /// The side of the node's line on which the viewpoint is: 0 in front, 1 behind.
 #[tactic(auto, unfolding(level_rules::specs::walk::Boxes::eye_side))]

@@ -1,5 +1,5 @@
 -- Calls that read sprite lumps: which they may ask for, and which patches were read so far.
-use Rattle.std.specs.Prelude.{◌≡◌, ℕ, List, length, Option, Some, None, IfSome, IfErr, MatchResult, Result, Ok, Contains, slice_index_or}
+use Rattle.std.specs.Prelude.{◌≡◌, ◌≤◌, ℕ, List, length, Option, Some, None, IfSome, IfErr, MatchResult, Result, Ok, Contains, slice_index_or}
 use Rattle.outside.specs.Shelf.{ShelfView}
 use Rattle.outside.specs.Faults.{ResultIs, HasCauses, itself}
 use Rattle.zone_rules.specs.Zones.{Heap}
@@ -16,6 +16,10 @@ use Rattle.lump_cache.specs.Calls.{PreservesCache, HoldContents, IsFullFor, IfFu
 use Rattle.outside.specs.declared.fault.Fault.{Fault}
 use Rattle.art_rules.specs.declared.shapes.Need.{Need}
 use Rattle.art_rules.specs.Books.{pictures_of}
+
+-- for each of so many lumps there is a slot of the cache, and a place for its patch
+abbrev pub HavePlaces : ℕ → ℕ → ℕ → Type 0
+HavePlaces lumps slots places = (lumps ≤ slots) × (lumps ≤ places)
 
 -- the lumps that a call may ask for: those of pictures, of a needed frame, of all of them
 abbrev pub IsLumpOf : List Mention → ℕ → Type 0

@@ -5,7 +5,7 @@ ghost use Rattle.art_rules.specs.declared.patch.Patch.{Patch};
 ghost use Rattle.art_rules.specs.Frames.{mentions};
 ghost use Rattle.lump_cache.specs.Calls.{ReadsLumps};
 ghost use Rattle.art_rules.specs.Books.{frame_of, outline, outline_of, each_of, first_needs};
-ghost use Rattle.sprite_book.specs.Calls.{Reads, IsWanted};
+ghost use Rattle.sprite_book.specs.Calls.{HavePlaces, Reads, IsWanted};
 ghost use Rattle.sprite_book.specs.Indexes.{IsIndexOf, IsPlaceOf};
 
 use crate::Need;
@@ -60,8 +60,7 @@ fn read_frames<S: Shelf>(
     cache: &mut LumpCache,
     shelf: &mut S,
 ) -> Result<(), SpriteFault>
-    requires slots { length dir.now.lumps ≤ cache.old.lumps }
-    requires rows { length dir.now.lumps ≤ length patches.old }
+    requires places { HavePlaces (length dir.now.lumps) cache.old.lumps (length patches.old) }
     requires indexed { IsIndexOf index.now (mentions dir.now.lumps) }
     requires empty { list.old.frames.items ≡ [] }
     requires placed { IsPlaceOf list.old.index list.old.frames.items }

@@ -9,7 +9,7 @@ ghost use Rattle.art_rules.specs.Frames.{mentions};
 ghost use Rattle.lump_cache.specs.Caches.{lump_owner};
 ghost use Rattle.lump_cache.specs.Calls.{ReadsLumps};
 ghost use Rattle.art_rules.specs.Books.{patch_or_bad, shape_in, shape_of, each_of, frame_of, shape_outline, mention_outline, outline, outline_of};
-ghost use Rattle.sprite_book.specs.Calls.{Reads, IsLumpOf, IsWantedBy};
+ghost use Rattle.sprite_book.specs.Calls.{HavePlaces, Reads, IsLumpOf, IsWantedBy};
 ghost use Rattle.sprite_book.specs.Indexes.{IsIndexOf};
 
 use crate::fault::SpriteFault;
@@ -39,8 +39,7 @@ pub fn read_frame<S: Shelf>(
     cache: &mut LumpCache,
     shelf: &mut S,
 ) -> Result<Frame, SpriteFault>
-    requires slots { length dir.now.lumps ≤ cache.old.lumps }
-    requires rows { length dir.now.lumps ≤ length patches.old }
+    requires places { HavePlaces (length dir.now.lumps) cache.old.lumps (length patches.old) }
     requires indexed { IsIndexOf index.now (mentions dir.now.lumps) }
     ensures tells { Reads (S.view shelf.old) (S.view shelf.new) dir.now cache.old cache.new
         patches.old patches.new (IsWantedBy dir.now.lumps need.now) (λ frame. frame)
@@ -67,8 +66,7 @@ fn fill_shapes<S: Shelf>(
     cache: &mut LumpCache,
     shelf: &mut S,
 ) -> Result<(), SpriteFault>
-    requires slots { length dir.now.lumps ≤ cache.old.lumps }
-    requires rows { length dir.now.lumps ≤ length patches.old }
+    requires places { HavePlaces (length dir.now.lumps) cache.old.lumps (length patches.old) }
     requires count { length shapes.old ≡ length pictures.now }
     requires there { All (λ mention. mention.lump < length dir.now.lumps) pictures.now }
     ensures tells { Reads (S.view shelf.old) (S.view shelf.new) dir.now cache.old cache.new
@@ -106,9 +104,8 @@ fn read_patch<S: Shelf>(
     shelf: &mut S,
     lump: u16,
 ) -> Result<Patch, SpriteFault>
+    requires places { HavePlaces (length dir.now.lumps) cache.old.lumps (length patches.old) }
     requires there { lump < length dir.now.lumps }
-    requires slots { length dir.now.lumps ≤ cache.old.lumps }
-    requires rows { length dir.now.lumps ≤ length patches.old }
     ensures { Reads (S.view shelf.old) (S.view shelf.new) dir.now cache.old cache.new patches.old
         patches.new (λ n. n ≡ lump) (λ patch. patch) (λ bytes. patch_or_bad bytes lump) result }
 {
@@ -127,8 +124,8 @@ fn fetch_patch<S: Shelf>(
     shelf: &mut S,
     lump: u16,
 ) -> Result<Patch, SpriteFault>
-    requires there { lump < length dir.now.lumps }
     requires slots { length dir.now.lumps ≤ cache.old.lumps }
+    requires there { lump < length dir.now.lumps }
     ensures { ReadsLumps itself (S.view shelf.old) (S.view shelf.new) dir.now cache.old cache.new
         (λ n. n ≡ lump) (λ patch. patch) (λ bytes. patch_or_bad bytes lump) result }
 {

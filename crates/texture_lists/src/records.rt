@@ -78,9 +78,7 @@ pub(crate) fn name_at(bytes: &[u8], place: usize) -> Name8
     requires { place + NAME_SIZE ≤ length bytes.now }
     ensures { result ≡ name_at bytes.now place }
 {
-    let mut name = [0; NAME_SIZE];
-    name.copy_from_slice(&bytes[place..][..NAME_SIZE]);
-    Name8::from_bytes(name)
+    Name8::read_at(bytes, place)
 }
 
 // The texture whose record begins at `place`.

@@ -61,6 +61,16 @@ module _ (region : List ℕ) (o : Owner) (place : ℕ) (f : IsFound region o pla
       blocks_with after place f.split.front (part ∷ f.others) f.split.front_whole part_whole is f.split.at_is
       ∙ ap₂ ◌++◌ f.front_is (ap (λ bs. block_in place part ∷ bs) (ap (λ n. blocks_from (place + n) f.others) same ∙ f.others_is))
 
+  -- that part as a block with another holding
+  pub changed_block : (h : Holding) → word_at part 8 ≡ word_at f.part 8 → live_in part ≡ h → block_in place part ≡ record { place = f.block.place; size = f.block.size; holding = Some h }
+  changed_block h owner said =
+      let live : (word_at f.part 8 == 4294967295) ≡ false = live_word (word_at f.part 8 == 4294967295) (sym (ap (λ (b : Block). b.holding) f.block_is) ∙ f.holds) in
+      let some : holding_in part ≡ Some (live_in part) = cond-false (word_at part 8 == 4294967295) None (Some (live_in part)) (ap (λ n. n == 4294967295) owner ∙ live) in
+      λ i. record { place = sym (ap (λ (b : Block). b.place) f.block_is) i; size = (same ∙ sym (ap (λ (b : Block). b.size) f.block_is)) i; holding = (some ∙ ap Some said) i } where
+        live_word : (t : Bool) → cond t None (Some (live_in f.part)) ≡ Some (live_in f.part) → t ≡ false
+        live_word true e = cc
+        live_word false e = refl
+
 map_none : (o : Owner) (g : Block → Block) (fixes : (b : Block) → is_held_by o b ≡ false → g b ≡ b) (bs : List Block) → Lacks o bs → map g bs ≡ bs
 map_none o g fixes [] l = refl
 map_none o g fixes (b ∷ bs) l = ap₂ ◌∷◌ (fixes b l.0) (map_none o g fixes bs l.1)
@@ -115,15 +125,9 @@ module _ (region : List ℕ) (o : Owner) (place : ℕ) (f : IsFound region o pla
       let a = word 4 (omega arith) in
       let w = word 8 (omega arith) in
       let d : drop 24 part ≡ drop 24 f.part = drop-with_word f.part 12 (tag_code tag) 24 (omega arith) (omega arith) in
-      let live : (word_at f.part 8 == 4294967295) ≡ false = live_word (word_at f.part 8 == 4294967295) (sym (ap (λ (b : Block). b.holding) f.block_is) ∙ f.holds) in
-      let some : holding_in part ≡ Some (live_in part) = cond-false (word_at part 8 == 4294967295) None (Some (live_in part)) (ap (λ n. n == 4294967295) w ∙ live) in
       let same : live_in part ≡ record { owner = owner_in (word_at f.part 8); tag = tag; asked = word_at f.part 4; bytes = take (word_at f.part 4) (drop 24 f.part) } = λ i. record { owner = owner_in (w i); tag = t i; asked = a i; bytes = take (a i) (d i) } in
-      let n = len in
-      let here : retag_block o tag f.block ≡ record { place = f.block.place; size = f.block.size; holding = set_tag tag f.block.holding } = cond-true (is_held_by o f.block) _ _ f.held in
-      (λ i. record { place = place; size = n i; holding = (some ∙ ap Some same) i }) ∙ sym (here ∙ (λ i. record { place = (f.block_is i).place; size = (f.block_is i).size; holding = set_tag tag (f.holds i) })) where
-        live_word : (t : Bool) → cond t None (Some (live_in f.part)) ≡ Some (live_in f.part) → t ≡ false
-        live_word true e = cc
-        live_word false e = refl
+      changed_block region o place f ring part (with_word region (place + 12) (tag_code tag)) len (word 0 (omega arith)) (behind 16 (omega arith)) (behind 20 (omega arith)) is _ w same
+      ∙ sym (cond-true (is_held_by o f.block) _ _ f.held ∙ ap (λ x. record { place = f.block.place; size = f.block.size; holding = set_tag tag x }) f.holds)
 
   pub tagged_blocks : blocks_in (with_word region (place + 12) (tag_code tag)) ≡ map (retag_block o tag) (blocks_in region)
   tagged_blocks =

@@ -1,12 +1,12 @@
 -- A slot's block, found at the slot's home.
 use Rattle.std.proofs.Common.{◌≡◌, ℕ, ◌+◌, ◌/◌, ◌%◌, ◌<◌, ◌≤◌, Bool, true, false, cond, List, [], ◌∷◌, ◌++◌, length, set, Option, Some, None, refl, sym, subst, ap, ap₂, ◌∙◌, arith}
-use Rattle.std.specs.Prelude.{◌==◌, IsSome, option_and_then}
+use Rattle.std.specs.Prelude.{◌==◌, IsSome, option_and_then, slice_index}
 use Rattle.std.proofs.lemmas.Bool.{cond-false, false≢true}
 use Rattle.std.proofs.lemmas.List.{length-append}
 use Rattle.zone_rules.specs.Zones.{Unique, free_block, Block, Owner, owned_block, holding_of, is_held_by, holds_for}
 use Rattle.zone_heap.specs.Headers.{word_at, with_use, freed, block_in, live_in}
 use Rattle.zone_heap.specs.Regions.{joined, blocks_in, blocks_from, AllWhole, IsLaid, IsSplit}
-use Rattle.zone_heap.specs.Homes.{home_index, home_of, AreHome}
+use Rattle.zone_heap.specs.Homes.{home_index, home_of, AreHome, IsHomed}
 use Rattle.zone_heap.proofs.WordLemmas.{word_within, used_within, length-with_use}
 use Rattle.zone_rules.specs.Frees.{free_owner}
 use Rattle.zone_heap.proofs.PurgeLemmas.{length-freed, told-freed, block-freed}
@@ -157,3 +157,17 @@ module _ (region : List ℕ) (laid : IsLaid region) (o : Owner) (home : ℕ) (is
     go : (x : Option Block) → owned_block o (blocks_in region) ≡ x → owned_block o (blocks_in region) ≡ None
     go None k = k
     go (Some b) k = absurd (let f = look region laid o home (subst IsSome (sym k) refl) is in let a = f.fits in let l = f.large in omega arith)
+
+-- a slot's home as the list of homes has it
+module _ (region : List ℕ) (laid : IsLaid region) (l : ℕ) (homes : List ℕ) (o : Owner) (homed : IsHomed l homes o (blocks_in region)) (home : ℕ) (is : home ≡ slice_index homes (home_index l o.kind o.number)) where
+  home_exact : home ≡ home_of (owned_block o (blocks_in region))
+  home_exact = is ∙ homed.2 o homed.1
+
+  pub homed_live : IsSome (owned_block o (blocks_in region)) → IsFound region o home
+  homed_live live = look region laid o home live home_exact
+
+  pub homed_found : (home ≡ 4294967295 → ⊥) → IsFound region o home
+  homed_found other = homed_live (live_home region laid o home home_exact other)
+
+  pub homed_none : length region < 4294967295 → home ≡ 4294967295 → owned_block o (blocks_in region) ≡ None
+  homed_none = no_home region laid o home home_exact

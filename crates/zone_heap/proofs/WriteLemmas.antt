@@ -1,15 +1,14 @@
 -- A live slot's block with other bytes.
-use Rattle.std.proofs.Common.{◌≡◌, ℕ, zero, suc, ◌+◌, ◌≤◌, Bool, true, false, cond, List, [], ◌∷◌, ◌++◌, length, take, drop, map, Some, None, refl, sym, subst, ap, ap₂, ◌∙◌, arith}
-use Rattle.std.specs.Prelude.{◌==◌}
+use Rattle.std.proofs.Common.{◌≡◌, ℕ, zero, suc, ◌+◌, ◌≤◌, List, [], ◌∷◌, ◌++◌, length, take, drop, map, refl, sym, subst, ap, ap₂, ◌∙◌, arith}
 use Rattle.std.proofs.lemmas.Bool.{cond-true, cond-false}
 use Rattle.std.proofs.lemmas.List.{length-append, length-take, length-drop, append_assoc, take_at, drop_at, get_or_append_left, get_or-take}
-use Rattle.zone_rules.specs.Zones.{Block, Owner, Unique, is_held_by}
+use Rattle.zone_rules.specs.Zones.{Owner, Unique, is_held_by}
 use Rattle.zone_rules.specs.Frees.{write_block, write_holding}
-use Rattle.zone_heap.specs.Headers.{word_at, block_in, holding_in, live_in, owner_in, code_tag}
+use Rattle.zone_heap.specs.Headers.{word_at, block_in, live_in, owner_in, code_tag}
 use Rattle.zone_heap.specs.Regions.{joined, blocks_in, IsRing}
 use Rattle.zone_heap.proofs.WordLemmas.{same_word}
 use Rattle.zone_heap.proofs.LookLemmas.{IsFound}
-use Rattle.zone_heap.proofs.ChangeLemmas.{changed_ring, changed_len, changed_blocks, map_one}
+use Rattle.zone_heap.proofs.ChangeLemmas.{changed_ring, changed_len, changed_blocks, changed_block, map_one}
 
 take_in : (a c b : List ℕ) (k : ℕ) → k ≤ length c → take (length a + k) (a ++ (c ++ b)) ≡ a ++ take k c
 take_in [] c b k h = ap (λ n. take n (c ++ b)) (let e : 0 + k ≡ k = omega arith in e) ∙ front c k h where
@@ -74,15 +73,9 @@ module _ (region : List ℕ) (o : Owner) (place : ℕ) (f : IsFound region o pla
       let t = word 12 (omega arith) in
       let back : drop 24 part ≡ w ++ drop (24 + asked) f.part = drop_at (take 24 f.part) (w ++ drop (24 + asked) f.part) 24 front_len in
       let bytes : take (word_at part 4) (drop 24 part) ≡ w = ap₂ take a back ∙ take_at w (drop (24 + asked) f.part) asked len in
-      let live : (word_at f.part 8 == 4294967295) ≡ false = live_word (word_at f.part 8 == 4294967295) (sym (ap (λ (x : Block). x.holding) f.block_is) ∙ f.holds) in
-      let some : holding_in part ≡ Some (live_in part) = cond-false (word_at part 8 == 4294967295) None (Some (live_in part)) (ap (λ n. n == 4294967295) b ∙ live) in
       let said : live_in part ≡ record { owner = owner_in (word_at f.part 8); tag = code_tag (word_at f.part 12); asked = word_at f.part 4; bytes = w } = λ i. record { owner = owner_in (b i); tag = code_tag (t i); asked = a i; bytes = bytes i } in
-      let n = same in
-      let here : write_block o w f.block ≡ record { place = f.block.place; size = f.block.size; holding = write_holding w f.block.holding } = cond-true (is_held_by o f.block) _ _ f.held in
-      (λ i. record { place = place; size = n i; holding = (some ∙ ap Some said) i }) ∙ sym (here ∙ (λ i. record { place = (f.block_is i).place; size = (f.block_is i).size; holding = write_holding w (f.holds i) })) where
-        live_word : (t : Bool) → cond t None (Some (live_in f.part)) ≡ Some (live_in f.part) → t ≡ false
-        live_word true e = cc
-        live_word false e = refl
+      changed_block region o place f ring part after same (word 0 (omega arith)) (word 16 (omega arith)) (word 20 (omega arith)) parts _ b said
+      ∙ sym (cond-true (is_held_by o f.block) _ _ f.held ∙ ap (λ x. record { place = f.block.place; size = f.block.size; holding = write_holding w x }) f.holds)
 
   pub written_blocks : blocks_in after ≡ map (write_block o w) (blocks_in region)
   written_blocks =

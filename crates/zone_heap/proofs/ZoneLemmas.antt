@@ -73,6 +73,10 @@ pub record IsRewritten (owner : Owner) (old new : Heap) (x w : List ℕ) : Type 
   pub len : length w ≡ length x
   pub zone : new ≡ with_bytes owner w old
 
+-- the list with other items between two places, of which P is so
+abbrev pub IsPart : (List ℕ → Type 0) → ℕ → ℕ → List ℕ → List ℕ → Type 0
+IsPart P from to old new = (w : List ℕ) × (length w ≡ to - from) × P w × (new ≡ take from old ++ (w ++ drop to old))
+
 module _ (i : Inside) (zone : IsZone i) where
   pub homes_len : length i.homes.items ≡ i.lumps + i.composites
   homes_len = let a = zone.homes in let b = i.homes.ok.0 in omega arith
@@ -201,6 +205,14 @@ module _ (i : Inside) (zone : IsZone i) where
           zone_with v i.homes i.rover i.purges same refl (subst IsSound (sym written_heap) (with_bytes_sound (owner_at kind number) w (heap_of i) zone.sound right))
           (written_ring i.region.items (owner_at kind number) home there zone.ring zone.sound.unique w v.items w_len fits items)
           (subst (AreExact i.lumps i.homes.items) (sym blocks) (exact_written i.lumps i.homes.items (blocks_in i.region.items) (owner_at kind number) w zone.exact))
+
+    -- the same of what a call with the span's bytes gives back
+    module _ (P : List ℕ → Type 0) (v : Vec ℕ Global) (part : IsPart P s.from s.to i.region.items v.items) (same : vec_len v ≡ vec_len i.region) where
+      pub part_zone : IsZone (record i { region = v })
+      part_zone = written_zone part.0 part.1 v part.3 same
+
+      pub part_rewritten : IsRewritten (owner_at kind number) z (heap_of (record i { region = v })) (slice_range i.region.items s.from s.to) part.0
+      part_rewritten = rewritten part.0 part.1 v part.3 same
 
   -- the parts of two live slots lie apart
   pub spans_apart : (z : Heap) (kind number other n : ℕ) (s t : Span) (p : IsSpan i z kind number s) (q : IsSpan i z other n t) → same_owner (owner_at kind number) (owner_at other n) ≡ false → (s.to ≤ t.from) ⊎ (t.to ≤ s.from)

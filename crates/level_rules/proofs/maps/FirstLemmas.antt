@@ -26,6 +26,15 @@ pub or_else-none : {X : Type 0} (a b : Option X) → or_else a b ≡ None → (a
 or_else-none None b e = (refl, e)
 or_else-none (Some v) b e = cc
 
+-- where none of five refuses, each of them refuses nothing
+pub or_else-five : {X : Type 0} (a b c d e : Option X) → or_else a (or_else b (or_else c (or_else d e))) ≡ None → (a ≡ None) × (b ≡ None) × (c ≡ None) × (d ≡ None) × (e ≡ None)
+or_else-five a b c d e none =
+    let first = or_else-none _ _ none in
+    let second = or_else-none _ _ first.1 in
+    let third = or_else-none _ _ second.1 in
+    let fourth = or_else-none _ _ third.1 in
+    (first.0, second.0, third.0, fourth.0, fourth.1)
+
 -- where nothing is refused, no record is
 pub first_refusal-none : {R : Type 0} (refusal : ℕ → R → Option MapRefusal) (n : ℕ) (rs : List R) → first_refusal refusal n rs ≡ None → (k : ℕ) (d : R) → k < length rs → refusal (n + k) (get_or rs k d) ≡ None
 unfolding first_refusal

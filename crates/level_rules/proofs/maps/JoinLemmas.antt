@@ -12,7 +12,7 @@ use Rattle.level_rules.specs.maps.Firsts.{first_refusal}
 use Rattle.level_rules.specs.maps.Levels.{MapRecords, joined_leaves, joined_level, joined_segs, no_leaf_refusal, range_refusal, records_refusal, seg_of}
 use Rattle.level_rules.specs.maps.Ranges.{leaf_refusal, line_by, line_field, line_refusal, no_line, node_refusal, seg_field, seg_refusal, side_refusal}
 use Rattle.level_rules.specs.maps.Trees.{root_of, tree_refusal}
-use Rattle.level_rules.proofs.maps.FirstLemmas.{first_refusal-none, or_else-none}
+use Rattle.level_rules.proofs.maps.FirstLemmas.{first_refusal-none, or_else-none, or_else-five}
 use Rattle.level_rules.proofs.maps.RangeLemmas.{leaf_refusal-none, line_refusal-none, seg_field-none, seg_refusal-none}
 
 -- a line of a map is not refused
@@ -50,11 +50,8 @@ unfolding records_refusal range_refusal
 records_refusal-none m e =
     let rest = or_else-none _ _ e in
     let parts = or_else-none _ _ rest.1 in
-    let lines = or_else-none _ _ parts.0 in
-    let sides = or_else-none _ _ lines.1 in
-    let segs = or_else-none _ _ sides.1 in
-    let leaves = or_else-none _ _ segs.1 in
-    record { leaf = rest.0; lines = lines.0; sides = sides.0; segs = segs.0; leaves = leaves.0; nodes = leaves.1; tree = parts.1 }
+    let lists = or_else-five _ _ _ _ _ parts.0 in
+    record { leaf = rest.0; lines = lists.0; sides = lists.1; segs = lists.2; leaves = lists.3; nodes = lists.4; tree = parts.1 }
 
 -- a level of these lists
 pub joined_level-lists : (m : MapRecords) (segs : List Seg) (leaves : List Leaf) (root : Child) → segs ≡ joined_segs m → leaves ≡ joined_leaves m → root ≡ root_of m.nodes → record { things = m.things; sides = m.sides; segs = segs; leaves = leaves; nodes = m.nodes; sectors = m.sectors; root = root } ≡ joined_level m

@@ -11,7 +11,7 @@ use Rattle.level_rules.specs.maps.Lumps.{record_size, size_refusal}
 use Rattle.level_rules.specs.maps.Records.{leaves_in, lines_in, nodes_in, sectors_in, segs_in, sides_in, things_in, vertexes_in}
 use Rattle.level_rules.specs.maps.Levels.{LevelValue, MapBytes, joined_level, level_from, level_of, map_refusal, records_of, sizes_refusal, unless}
 use Rattle.level_rules.specs.maps.Sound.{HasFewRecords, IsSound}
-use Rattle.level_rules.proofs.maps.FirstLemmas.{or_else-none}
+use Rattle.level_rules.proofs.maps.FirstLemmas.{or_else-none, or_else-five}
 use Rattle.level_rules.proofs.maps.RangeLemmas.{cond-none_else}
 use Rattle.level_rules.proofs.maps.SoundLemmas.{joined_level-sound}
 
@@ -46,19 +46,16 @@ sizes_refusal-none b e =
     let things = or_else-none _ _ e in
     let lines = or_else-none _ _ things.1 in
     let sides = or_else-none _ _ lines.1 in
-    let vertexes = or_else-none _ _ sides.1 in
-    let segs = or_else-none _ _ vertexes.1 in
-    let leaves = or_else-none _ _ segs.1 in
-    let nodes = or_else-none _ _ leaves.1 in
+    let behind = or_else-five _ _ _ _ _ sides.1 in
     record {
       things = few _ _ b.things (size_refusal-none lump.Things b.things things.0);
       lines = few _ _ b.lines (size_refusal-none lump.Linedefs b.lines lines.0);
       sides = few _ _ b.sides (size_refusal-none lump.Sidedefs b.sides sides.0);
-      vertexes = few _ _ b.vertexes (size_refusal-none lump.Vertexes b.vertexes vertexes.0);
-      segs = few _ _ b.segs (size_refusal-none lump.Segs b.segs segs.0);
-      leaves = few _ _ b.leaves (size_refusal-none lump.Ssectors b.leaves leaves.0);
-      nodes = few _ _ b.nodes (size_refusal-none lump.Nodes b.nodes nodes.0);
-      sectors = few _ _ b.sectors (size_refusal-none lump.Sectors b.sectors nodes.1);
+      vertexes = few _ _ b.vertexes (size_refusal-none lump.Vertexes b.vertexes behind.0);
+      segs = few _ _ b.segs (size_refusal-none lump.Segs b.segs behind.1);
+      leaves = few _ _ b.leaves (size_refusal-none lump.Ssectors b.leaves behind.2);
+      nodes = few _ _ b.nodes (size_refusal-none lump.Nodes b.nodes behind.3);
+      sectors = few _ _ b.sectors (size_refusal-none lump.Sectors b.sectors behind.4);
     }
 
 unless-ok : {V : Type 0} (refusal : Option MapRefusal) (value v : V) → unless refusal value ≡ Ok v → (refusal ≡ None) × (value ≡ v)

@@ -1,5 +1,5 @@
 -- Where no visit is refused, the nodes are a tree: no way is longer than the limit, and no node is visited twice.
-use Rattle.std.proofs.Common.{◌≡◌, ℕ, zero, suc, subst, ◌+◌, ◌<◌, Bool, true, false, List, [], ◌∷◌, ◌++◌, Option, Some, None, cond, ◌&&◌, length, inl, inr, refl, ap, ap₂, sym, ◌∙◌, arith}
+use Rattle.std.proofs.Common.{◌≡◌, ℕ, zero, suc, subst, ◌+◌, ◌<◌, ◌≤◌, Bool, true, false, List, [], ◌∷◌, ◌++◌, Option, Some, None, cond, ◌&&◌, length, inl, inr, refl, ap, ap₂, sym, ◌∙◌, arith}
 use Rattle.std.specs.Prelude.{slice_get, slice_set, slice_index_or, nat_lt, replicate}
 use Rattle.std.specs.Option.{option_map_or}
 use Rattle.std.specs.List.{list_all}
@@ -23,6 +23,15 @@ use Rattle.level_rules.proofs.maps.VisitLemmas.{visits_refusal-append, visits_re
 pub and-parts : (a b : Bool) → (a && b) ≡ true → (a ≡ true) × (b ≡ true)
 and-parts true b e = (refl, e)
 and-parts false b e = cc
+
+-- what both children pass, the child on a side passes
+pub child_passes : (passes : Child → Bool) (node : Node) (side : ℕ) → side ≤ 1 → (passes (child_on node 0) && passes (child_on node 1)) ≡ true → passes (child_on node side) ≡ true
+child_passes passes node side low both =
+    let each = and-parts (passes (child_on node 0)) (passes (child_on node 1)) both in
+    elim (cases_eq side 0) [
+      | inl front ↦ ap (λ (s : ℕ). passes (child_on node s)) front ∙ each.0
+      | inr behind ↦ (let back : side ≡ 1 = omega arith in ap (λ (s : ℕ). passes (child_on node s)) back ∙ each.1)
+    ]
 
 -- a visit past the limit is refused
 too-deep : (b : Bool) (n : ℕ) → cond b (Some (NodeTwice n)) (Some (TooDeep n)) ≡ None → ⊥

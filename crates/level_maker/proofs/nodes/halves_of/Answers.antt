@@ -1,37 +1,16 @@
--- Both parts are parts and smaller, since the whole is not one cell.
 use Rattle.std.proofs.Common.{arith}
 use Rattle.made_rules.specs.Nodes.{front_part, back_part}
-use Rattle.made_rules.proofs.NodeLemmas.{front-is_part, front-smaller, back-is_part, back-smaller}
+use Rattle.level_maker.proofs.HalfLemmas.{halves_are}
 use Rattle.level_maker.proofs.nodes.halves_of.Goals as goal
 
-pub returns-then-divides_columns-clause-front_within : goal.returns-then-divides_columns-clause-front_within
+pub returns-then-divides_columns : goal.returns-then-divides_columns
 unfolding front_part back_part
-returns-then-divides_columns-clause-front_within c = front-is_part c.args.part _ c.requires.part c.requires.divisible (grind arith)
+returns-then-divides_columns c =
+    let h = halves_are c.args.part _ _ c.requires.part c.requires.divisible (grind arith) (grind arith) in
+    record { front = h.front_is; back = h.back_is; front_within = h.front_within; back_within = h.back_within; front_smaller = h.front_smaller; back_smaller = h.back_smaller }
 
-pub returns-then-divides_columns-clause-front_smaller : goal.returns-then-divides_columns-clause-front_smaller
+pub returns-else-divides_columns : goal.returns-else-divides_columns
 unfolding front_part back_part
-returns-then-divides_columns-clause-front_smaller c = front-smaller c.args.part _ c.requires.part c.requires.divisible (grind arith)
-
-pub returns-then-divides_columns-clause-back_within : goal.returns-then-divides_columns-clause-back_within
-unfolding front_part back_part
-returns-then-divides_columns-clause-back_within c = back-is_part c.args.part _ c.requires.part c.requires.divisible (grind arith)
-
-pub returns-then-divides_columns-clause-back_smaller : goal.returns-then-divides_columns-clause-back_smaller
-unfolding front_part back_part
-returns-then-divides_columns-clause-back_smaller c = back-smaller c.args.part _ c.requires.part c.requires.divisible (grind arith)
-
-pub returns-else-divides_columns-clause-front_within : goal.returns-else-divides_columns-clause-front_within
-unfolding front_part back_part
-returns-else-divides_columns-clause-front_within c = front-is_part c.args.part _ c.requires.part c.requires.divisible (grind arith)
-
-pub returns-else-divides_columns-clause-front_smaller : goal.returns-else-divides_columns-clause-front_smaller
-unfolding front_part back_part
-returns-else-divides_columns-clause-front_smaller c = front-smaller c.args.part _ c.requires.part c.requires.divisible (grind arith)
-
-pub returns-else-divides_columns-clause-back_within : goal.returns-else-divides_columns-clause-back_within
-unfolding front_part back_part
-returns-else-divides_columns-clause-back_within c = back-is_part c.args.part _ c.requires.part c.requires.divisible (grind arith)
-
-pub returns-else-divides_columns-clause-back_smaller : goal.returns-else-divides_columns-clause-back_smaller
-unfolding front_part back_part
-returns-else-divides_columns-clause-back_smaller c = back-smaller c.args.part _ c.requires.part c.requires.divisible (grind arith)
+returns-else-divides_columns c =
+    let h = halves_are c.args.part _ _ c.requires.part c.requires.divisible (grind arith) (grind arith) in
+    record { front = h.front_is; back = h.back_is; front_within = h.front_within; back_within = h.back_within; front_smaller = h.front_smaller; back_smaller = h.back_smaller }

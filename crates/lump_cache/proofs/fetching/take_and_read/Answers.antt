@@ -132,13 +132,11 @@ returns-in-Err-clause-fetches g c =
     let d = (goal.at.returns-in-Err-clause-fetches g c).After-read_into in
     let old = c.args.zone.now in
     let between = c.read_into.new.zone in
-    let new = c.free.new.self in
-    let o = lump_owner c.args.lump.0 in
     let slot = c.lump_slot-in-Err.ensures in
-    miss_read c.args.dir.now c.args.lump.0 c.args.tag (g.S.Shelf.view c.args.shelf.now) old c.requires.sound new c.requires.empty
+    miss_read c.args.dir.now c.args.lump.0 c.args.tag (g.S.Shelf.view c.args.shelf.now) old c.requires.sound c.free.new.self c.requires.empty
     (λ p apart. subst (KeptOrPurged (owned_block p old.blocks)) (sym (c.free.ensures.others p (ap (λ n. same_owner (owner_at 0 n) p) slot ∙ apart))) (others g d p apart))
     (g.S.Shelf.view c.read_into.new.shelf) (room old _ _ c.size-size.ensures c.in_ok-malloc.ensures.full.1) c.read_into.ensures.follows
     (record { between = between; takes = filled g d; freed = c.free.ensures.freed ∙ ap (λ n. without_block (owner_at 0 n) between) slot })
-    (ap (λ n. owned_block (owner_at 0 n) new.blocks) (sym slot) ∙ c.free.ensures.empty)
+    (ap (λ n. owned_block (owner_at 0 n) c.free.new.self.blocks) (sym slot) ∙ c.free.ensures.empty)
     (λ zero. c.if-size-eq0.false (c.size-size.ensures ∙ zero)) c.in-Err.ensures.failed
     (λ contents stand within steady. steady_read g d contents stand within (c.in-Err.ensures.steady steady))

@@ -175,16 +175,13 @@ loop-next-preserved-then-are_free c =
 pub loop-next-preserved : goal.loop-next-preserved
 loop-next-preserved c =
     let i = c.loop-next.invariant in
-    let region = c.loop-next.region in
-    let at = c.loop-next.at in
-    let next = c.loop-next.next in
     let t = c.loop-next-test.true in
     record {
-      split = behind region at next i.split i.inside i.size;
+      split = behind _ _ _ i.split i.inside i.size;
       inside = t;
-      size = ap (λ k. next + k) c.word_at.ensures;
+      size = ap (λ k. c.loop-next.next + k) c.word_at.ensures;
       len = i.len;
-      value = i.value ∙ passed_value region at next i.split i.inside i.size t (sym (tests region at next i.split i.inside i.size t) ∙ sym c.are_free.ensures ∙ c.if-are_free.false);
+      value = i.value ∙ passed_value _ _ _ i.split i.inside i.size t (sym (tests _ _ _ i.split i.inside i.size t) ∙ sym c.are_free.ensures ∙ c.if-are_free.false);
     }
 
 pub returns : goal.returns

@@ -2,13 +2,13 @@ use Rattle.std.proofs.Common.{arith, ◌+◌, ◌∙◌, ap, sym, subst}
 use Rattle.zone_rules.specs.Zones.{owner_at}
 use Rattle.zone_heap.specs.Headers.{with_word}
 use Rattle.zone_heap.specs.Regions.{blocks_in, IsRing}
-use Rattle.zone_heap.proofs.LookLemmas.{IsFound, look}
+use Rattle.zone_heap.proofs.LookLemmas.{IsFound, homed_live}
 use Rattle.zone_heap.proofs.ChangeLemmas.{tagged_ring, tagged_blocks}
 use Rattle.zone_heap.proofs.look.retag.Goals.{After-home_at-home}
 use Rattle.zone_heap.proofs.look.retag.Goals as goal
 
 it : (c : After-home_at-home) → IsFound c.args.region.now (owner_at c.args.kind c.args.number) c.home_at-home.result
-it c = look c.args.region.now c.requires.ring.laid (owner_at c.args.kind c.args.number) c.home_at-home.result c.requires.live (c.home_at-home.ensures ∙ c.requires.homed.2 (owner_at c.args.kind c.args.number) c.requires.homed.1)
+it c = homed_live _ c.requires.ring.laid _ _ _ c.requires.homed _ c.home_at-home.ensures c.requires.live
 
 pub set_word-requires : goal.set_word-requires
 set_word-requires c = let f = it (goal.at.set_word-requires c).After-home_at-home in let a = f.fits in let l = f.large in omega arith

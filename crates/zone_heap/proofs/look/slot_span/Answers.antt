@@ -2,23 +2,20 @@ use Rattle.std.proofs.Common.{arith, ◌≡◌, ◌-◌, ◌∙◌, ap, ap₂, s
 use Rattle.std.specs.Prelude.{option_and_then}
 use Rattle.zone_rules.specs.Zones.{Block, Holding, owner_at}
 use Rattle.zone_heap.specs.Headers.{word_at}
-use Rattle.zone_heap.proofs.LookLemmas.{IsFound, look, live_home, no_home}
+use Rattle.zone_heap.proofs.LookLemmas.{IsFound, homed_found, homed_none}
 use Rattle.zone_heap.proofs.ChangeLemmas.{asked_fits, bytes_found}
 use Rattle.zone_heap.proofs.look.slot_span.Goals.{Else-home}
 use Rattle.zone_heap.proofs.look.slot_span.Goals as goal
 
 it : (c : Else-home) → IsFound c.args.region.now (owner_at c.args.kind c.args.number) c.home_at-home.result
-it c =
-    let e = c.home_at-home.ensures ∙ c.requires.homed.2 (owner_at c.args.kind c.args.number) c.requires.homed.1 in
-    look c.args.region.now c.requires.laid (owner_at c.args.kind c.args.number) c.home_at-home.result (live_home c.args.region.now c.requires.laid (owner_at c.args.kind c.args.number) c.home_at-home.result e c.if-home.false) e
+it c = homed_found _ c.requires.laid _ _ _ c.requires.homed _ c.home_at-home.ensures c.if-home.false
 
 pub span_at-requires : goal.span_at-requires
 span_at-requires c = let f = it (goal.at.span_at-requires c).Else-home in let a = f.fits in let l = f.large in omega arith
 
 pub returns-then-home-clause-value : goal.returns-then-home-clause-value
 returns-then-home-clause-value c =
-    let e = c.home_at-home.ensures ∙ c.requires.homed.2 (owner_at c.args.kind c.args.number) c.requires.homed.1 in
-    ap (λ x. option_map (λ (h : Holding). h.bytes) (option_and_then (λ (b : Block). b.holding) x)) (no_home c.args.region.now c.requires.laid (owner_at c.args.kind c.args.number) c.home_at-home.result e c.requires.small c.if-home.true)
+    ap (λ x. option_map (λ (h : Holding). h.bytes) (option_and_then (λ (b : Block). b.holding) x)) (homed_none _ c.requires.laid _ _ _ c.requires.homed _ c.home_at-home.ensures c.requires.small c.if-home.true)
 
 pub returns-else-home-clause-value : goal.returns-else-home-clause-value
 returns-else-home-clause-value c =

@@ -2,22 +2,19 @@ use Rattle.std.proofs.Common.{arith, ◌∙◌, ap, sym, option_map, Some}
 use Rattle.std.specs.Prelude.{option_and_then}
 use Rattle.zone_rules.specs.Zones.{Block, Holding, owner_at}
 use Rattle.zone_heap.specs.Headers.{code_tag}
-use Rattle.zone_heap.proofs.LookLemmas.{IsFound, look, live_home, no_home, holding_found}
+use Rattle.zone_heap.proofs.LookLemmas.{IsFound, homed_found, homed_none, holding_found}
 use Rattle.zone_heap.proofs.look.slot_tag.Goals.{Else-home}
 use Rattle.zone_heap.proofs.look.slot_tag.Goals as goal
 
 it : (c : Else-home) → IsFound c.args.region.now (owner_at c.args.kind c.args.number) c.home_at-home.result
-it c =
-    let e = c.home_at-home.ensures ∙ c.requires.homed.2 (owner_at c.args.kind c.args.number) c.requires.homed.1 in
-    look c.args.region.now c.requires.laid (owner_at c.args.kind c.args.number) c.home_at-home.result (live_home c.args.region.now c.requires.laid (owner_at c.args.kind c.args.number) c.home_at-home.result e c.if-home.false) e
+it c = homed_found _ c.requires.laid _ _ _ c.requires.homed _ c.home_at-home.ensures c.if-home.false
 
 pub word_at-requires : goal.word_at-requires
 word_at-requires c = let f = it (goal.at.word_at-requires c).Else-home in let a = f.fits in let l = f.large in omega arith
 
 pub returns-then-home : goal.returns-then-home
 returns-then-home c =
-    let e = c.home_at-home.ensures ∙ c.requires.homed.2 (owner_at c.args.kind c.args.number) c.requires.homed.1 in
-    sym (ap (λ x. option_map (λ (h : Holding). h.tag) (option_and_then (λ (b : Block). b.holding) x)) (no_home c.args.region.now c.requires.laid (owner_at c.args.kind c.args.number) c.home_at-home.result e c.requires.small c.if-home.true))
+    sym (ap (λ x. option_map (λ (h : Holding). h.tag) (option_and_then (λ (b : Block). b.holding) x)) (homed_none _ c.requires.laid _ _ _ c.requires.homed _ c.home_at-home.ensures c.requires.small c.if-home.true))
 
 pub returns-else-home : goal.returns-else-home
 returns-else-home c =

@@ -1,3 +1,4 @@
+use Rattle.std.proofs.Common.{arith}
 use Rattle.view_rules.specs.Sound.{IsShape}
 use Rattle.view_rules.proofs.ShapeLemmas.{within_frame}
 use Rattle.view_rules.proofs.SoundLemmas.{sound_by_refusal}
@@ -18,16 +19,10 @@ invariant_of-result c =
       greatest = c.requires.greatest;
       shaped = c.requires.shaped;
       sound = sound_by_refusal c.args.lists c.args.shape shaped c.requires.accepted;
-      columns_len = c.in_ok-columns.ensures.len;
-      columns = c.in_ok-columns.ensures.items;
-      angles_len = c.in_ok-angles_from_right.ensures.len;
-      angles = c.in_ok-angles_from_right.ensures.items;
-      rows_len = c.in_ok-rows.ensures.len;
-      rows = c.in_ok-rows.ensures.items;
-      scales_len = c.in_ok-scales.ensures.len;
-      scales = c.in_ok-scales.ensures.items;
-      scale_lights_len = c.in_ok-scale_lights.ensures.len;
-      scale_lights = c.in_ok-scale_lights.ensures.items;
-      distance_lights_len = c.in_ok-distance_lights.ensures.len;
-      distance_lights = c.in_ok-distance_lights.ensures.items;
+      columns = record { len = c.in_ok-columns.ensures.len; items = c.in_ok-columns.ensures.items };
+      angles = record { len = c.in_ok-angles_from_right.ensures.len; items = λ k inside. c.in_ok-angles_from_right.ensures.items k (omega arith) };
+      rows = record { len = c.in_ok-rows.ensures.len; items = c.in_ok-rows.ensures.items };
+      scales = record { len = c.in_ok-scales.ensures.len; items = c.in_ok-scales.ensures.items };
+      scale_lights = record { len = c.in_ok-scale_lights.ensures.len; items = c.in_ok-scale_lights.ensures.items };
+      distance_lights = record { len = c.in_ok-distance_lights.ensures.len; items = c.in_ok-distance_lights.ensures.items };
     }

@@ -1,5 +1,5 @@
 use Rattle.std.proofs.Common.{refl}
-use Rattle.zone_heap.proofs.ZoneLemmas.{IsSpan, span_is, span_bound, rewritten, written_zone}
+use Rattle.zone_heap.proofs.ZoneLemmas.{IsSpan, span_is, span_bound, part_zone, part_rewritten}
 use Rattle.zone_heap.proofs.zone.Zone.bytes_mut.Given.{Over}
 use Rattle.zone_heap.proofs.zone.Zone.bytes_mut.Goals.{After-live_span-span}
 use Rattle.zone_heap.proofs.zone.Zone.bytes_mut.Goals as goal
@@ -11,12 +11,10 @@ pub with_part-requires-clause-bound : goal.with_part-requires-clause-bound
 with_part-requires-clause-bound g c = span_bound c.self.inside c.self.invariant _ _ _ _ (span g (goal.at.with_part-requires-clause-bound g c).After-live_span-span)
 
 pub invariant_of-self : goal.invariant_of-self
-invariant_of-self g c =
-    let p = c.with_part.ensures.part in
-    written_zone c.self.inside c.self.invariant _ _ _ _ (span g (goal.at.invariant_of-self g c).After-live_span-span) p.0 p.1 c.with_part.new.region p.3 c.with_part.ensures.len
+invariant_of-self g c = part_zone c.self.inside c.self.invariant _ _ _ _ (span g (goal.at.invariant_of-self g c).After-live_span-span) _ c.with_part.new.region c.with_part.ensures.part c.with_part.ensures.len
 
 pub returns : goal.returns
 returns g c =
     let p = c.with_part.ensures.part in
-    let r = rewritten c.self.inside c.self.invariant _ _ _ _ (span g (goal.at.returns g c).After-live_span-span) p.0 p.1 c.with_part.new.region p.3 c.with_part.ensures.len in
+    let r = part_rewritten c.self.inside c.self.invariant _ _ _ _ (span g (goal.at.returns g c).After-live_span-span) _ c.with_part.new.region p c.with_part.ensures.len in
     record { called = record { x = _; w = p.0; x_is = r.x_is; len = r.len; called = p.2; zone = r.zone } }

@@ -1,5 +1,5 @@
 use Rattle.std.proofs.Common.{refl, lit≤}
-use Rattle.zone_heap.proofs.ZoneLemmas.{IsSpan, span_is, span_bound, span_bytes, spans_apart, rewritten, written_zone}
+use Rattle.zone_heap.proofs.ZoneLemmas.{IsSpan, span_is, span_bound, span_bytes, spans_apart, part_zone, part_rewritten}
 use Rattle.zone_heap.proofs.zone.Zone.pair.Given.{Over}
 use Rattle.zone_heap.proofs.zone.Zone.pair.Goals.{After-live_span-to}
 use Rattle.zone_heap.proofs.zone.Zone.pair.Goals as goal
@@ -22,13 +22,11 @@ with_parts-requires-clause-apart g c =
     spans_apart c.self.inside c.self.invariant _ _ _ _ _ _ _ (read g d) (write g d) refl
 
 pub invariant_of-self : goal.invariant_of-self
-invariant_of-self g c =
-    let p = c.with_parts.ensures.parts in
-    written_zone c.self.inside c.self.invariant _ _ _ _ (write g (goal.at.invariant_of-self g c).After-live_span-to) p.0 p.1 c.with_parts.new.region p.3 c.with_parts.ensures.len
+invariant_of-self g c = part_zone c.self.inside c.self.invariant _ _ _ _ (write g (goal.at.invariant_of-self g c).After-live_span-to) _ c.with_parts.new.region c.with_parts.ensures.parts c.with_parts.ensures.len
 
 pub returns : goal.returns
 returns g c =
     let d = (goal.at.returns g c).After-live_span-to in
     let p = c.with_parts.ensures.parts in
-    let r = rewritten c.self.inside c.self.invariant _ _ _ _ (write g d) p.0 p.1 c.with_parts.new.region p.3 c.with_parts.ensures.len in
+    let r = part_rewritten c.self.inside c.self.invariant _ _ _ _ (write g d) _ c.with_parts.new.region p c.with_parts.ensures.len in
     record { called = record { x = _; y = _; w = p.0; x_is = span_bytes c.self.inside c.self.invariant _ _ _ _ (read g d); y_is = r.x_is; len = r.len; called = p.2; zone = r.zone } }
