@@ -3,8 +3,9 @@ ghost use Rattle.std.specs.Prelude.{◌≡◌, ◌<◌, ◌≤◌, ◌^◌, All,
 ghost use Rattle.art_rules.specs.Textures.{texture_at};
 ghost use Rattle.texture_build.specs.Views.{ArePatchesThere, IsPrepared, prepared_texture};
 
+use crate::tests::files::{NO_CALL, changed, load_directory, shelf_of};
 use lump_cache::LumpCache;
-use outside::{MemoryFile, MemoryShelf, Shelf};
+use outside::MemoryShelf;
 use std::alloc::{AllocError, Global};
 use std::process::Abort;
 use std::test::Fail;
@@ -47,29 +48,10 @@ struct Loaded {
     textures: Box<Textures>,
 }
 
-// The file with two bytes changed.
-fn changed_wad(alloc: Global, changes: [(usize, u8); 2]) -> Result<Vec<u8>, AllocError> {
-    let mut bytes = wad().to_vec(alloc)?;
-    for (at, byte) in changes {
-        if let Some(place) = bytes.get_mut(at) {
-            *place = byte;
-        }
-    }
-    Ok(bytes)
-}
-
-fn changed_file(alloc: Global, changes: [(usize, u8); 2]) -> Result<MemoryFile, AllocError> {
-    let bytes = changed_wad(alloc, changes)?;
-    let name = "textures.wad".to_string(alloc)?;
-    Ok(MemoryFile { name, bytes })
-}
-
-// A shelf of that file.
+// A shelf of the file with two bytes changed.
 fn changed_shelf(alloc: Global, changes: [(usize, u8); 2]) -> Result<Box<MemoryShelf>, AllocError> {
-    let mut files = Vec::with_capacity(alloc, 1)?;
-    files.push(changed_file(alloc, changes)?)?;
-    let failing = vec![in alloc; 99; 1]?;
-    Ok(Box::new(alloc, MemoryShelf::new(files, failing))?)
+    let bytes = changed(alloc, wad(), &changes)?;
+    Ok(Box::new(alloc, shelf_of(alloc, bytes, NO_CALL)?)?)
 }
 
 // Its directory, and its textures read through a zone of 4096 bytes.
@@ -78,7 +60,7 @@ fn load(alloc: Global, shelf: &mut MemoryShelf) -> Result<Loaded, Fail>
     ensures composites { IfOk result (λ l. l.cache.value.composites ≡ 3) }
     ensures count { IfOk result (λ l. length l.textures.value.lists.textures ≡ 3) }
 {
-    let dir = load_directory(alloc, shelf)?;
+    let dir = Box::new(alloc, load_directory(alloc, shelf)?)?;
     let mut cache = make_cache(alloc, &dir)?;
     let textures = load_textures(alloc, &dir, &mut cache, shelf)?;
     Ok(Loaded {
@@ -86,13 +68,6 @@ fn load(alloc: Global, shelf: &mut MemoryShelf) -> Result<Loaded, Fail>
         cache,
         textures,
     })
-}
-
-fn load_directory(alloc: Global, shelf: &mut MemoryShelf) -> Result<Box<Directory>, Fail>
-    ensures { IfOk result (λ dir. length dir.value.lumps < 2 ^ 16) }
-{
-    let number = shelf.find("textures.wad")?;
-    Ok(Box::new(alloc, Directory::load(alloc, shelf, &[number])?)?)
 }
 
 fn make_cache(alloc: Global, dir: &Directory) -> Result<Box<LumpCache>, Fail>

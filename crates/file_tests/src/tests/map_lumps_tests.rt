@@ -1,5 +1,6 @@
 // Levels from bytes, with values from outside the definitions: the made level of four cells, and
 // what its worked damages give.
+use crate::tests::files::bytes_of;
 use lump_rules::Name8;
 use map_lumps::*;
 use std::alloc::{AllocError, Global};
@@ -46,15 +47,6 @@ fn words(lump: usize) -> &'static [i16] {
     }
 }
 
-// The bytes of a lump.
-fn bytes_of(alloc: Global, lump: usize) -> Result<Vec<u8>, AllocError> {
-    let mut bytes = Vec::new(alloc);
-    for word in words(lump) {
-        bytes.extend_from_slice(&word.to_le_bytes())?;
-    }
-    Ok(bytes)
-}
-
 // The offsets and names of each side.
 fn side_front() -> &'static [u8] {
     b"\x01\x00\xff\xffWALL1\x00\x00\x00wall2\x00\x00\x00-\x00\x00\x00\x00\x00\x00\x00"
@@ -87,13 +79,13 @@ fn sector_bytes(alloc: Global) -> Result<Vec<u8>, AllocError> {
 // The bytes of the eight lumps.
 fn lumps(alloc: Global) -> Result<[Vec<u8>; 8], AllocError> {
     Ok([
-        bytes_of(alloc, 0)?,
-        bytes_of(alloc, 1)?,
+        bytes_of(alloc, words(0))?,
+        bytes_of(alloc, words(1))?,
         side_bytes(alloc)?,
-        bytes_of(alloc, 3)?,
-        bytes_of(alloc, 4)?,
-        bytes_of(alloc, 5)?,
-        bytes_of(alloc, 6)?,
+        bytes_of(alloc, words(3))?,
+        bytes_of(alloc, words(4))?,
+        bytes_of(alloc, words(5))?,
+        bytes_of(alloc, words(6))?,
         sector_bytes(alloc)?,
     ])
 }
@@ -115,27 +107,32 @@ fn level(alloc: Global, lumps: &[Vec<u8>; 8]) -> Result<Level, MapFault> {
 
 const UNIT: i32 = 65536;
 
-#[test]
-fn things_sides_and_sectors_are_those_of_their_lumps(rt: HostRuntime) {
-    let lumps = lumps(rt.alloc()).expect(&rt, "memory");
-    let level = level(rt.alloc(), &lumps).expect(&rt, "level");
-    let thing = Thing {
-        x: 192 * UNIT,
-        y: 64 * UNIT,
-        angle: 45,
-        kind: 2035,
-        options: 7,
-    };
-    assert_eq!(rt; level.things().last().copied(), Some(thing));
-    let side = Side {
+// The last thing of the level, and the last side.
+const LAST_THING: Thing = Thing {
+    x: 192 * UNIT,
+    y: 64 * UNIT,
+    angle: 45,
+    kind: 2035,
+    options: 7,
+};
+
+fn last_side() -> Side {
+    Side {
         x_offset: UNIT,
         y_offset: -UNIT,
         top: Name8::from_bytes(*b"WALL1\0\0\0"),
         bottom: Name8::from_bytes(*b"WALL2\0\0\0"),
         middle: Name8::from_bytes(*b"-\0\0\0\0\0\0\0"),
         sector: 3,
-    };
-    assert_eq!(rt; level.sides().last().copied(), Some(side));
+    }
+}
+
+#[test]
+fn things_sides_and_sectors_are_those_of_their_lumps(rt: HostRuntime) {
+    let lumps = lumps(rt.alloc()).expect(&rt, "memory");
+    let level = level(rt.alloc(), &lumps).expect(&rt, "level");
+    assert_eq!(rt; level.things().last().copied(), Some(LAST_THING));
+    assert_eq!(rt; level.sides().last().copied(), Some(last_side()));
     let sector = Sector {
         floor: 8 * UNIT,
         ceiling: 160 * UNIT,
@@ -163,6 +160,32 @@ fn south_seg(place: [i32; 3], flags: u16, side: u16, front: u16, back: Option<u1
     }
 }
 
+// The last node of the level: it parts the west from the east.
+const TOP_NODE: Node = Node {
+    line: Partition4 {
+        x: 128 * UNIT,
+        y: 0,
+        dx: 0,
+        dy: 256 * UNIT,
+    },
+    boxes: [
+        Box4 {
+            left: 128 * UNIT,
+            right: 256 * UNIT,
+            ..WEST
+        },
+        WEST,
+    ],
+    children: [Child::Node(0), Child::Node(1)],
+};
+
+const WEST: Box4 = Box4 {
+    top: 256 * UNIT,
+    bottom: 0,
+    left: 0,
+    right: 128 * UNIT,
+};
+
 #[test]
 fn segs_leaves_and_nodes_have_what_they_name(rt: HostRuntime) {
     let lumps = lumps(rt.alloc()).expect(&rt, "memory");
@@ -177,87 +200,21 @@ fn segs_leaves_and_nodes_have_what_they_name(rt: HostRuntime) {
         sector: 3,
     };
     assert_eq!(rt; level.leaves().last().copied(), Some(leaf));
-    let top = Node {
-        line: Partition4 {
-            x: 128 * UNIT,
-            y: 0,
-            dx: 0,
-            dy: 256 * UNIT,
-        },
-        boxes: [
-            Box4 {
-                top: 256 * UNIT,
-                bottom: 0,
-                left: 128 * UNIT,
-                right: 256 * UNIT,
-            },
-            Box4 {
-                top: 256 * UNIT,
-                bottom: 0,
-                left: 0,
-                right: 128 * UNIT,
-            },
-        ],
-        children: [Child::Node(0), Child::Node(1)],
-    };
-    assert_eq!(rt; level.nodes().last().copied(), Some(top));
+    assert_eq!(rt; level.nodes().last().copied(), Some(TOP_NODE));
     assert_eq!(rt; level.root(), Child::Node(2));
 }
 
-// Two bytes of a lump, and what is refused where they have this value.
-#[derive(Clone, Copy)]
-struct Damage {
-    lump: usize,
-    place: usize,
-    word: u16,
-    refusal: MapRefusal,
-}
-
-// The damages of the made level, with what is refused first.
-fn damages() -> [Damage; 7] {
+// The damages of the made level: the lump, the place and the value of two bytes, with what is
+// refused first.
+fn damages() -> [(usize, usize, u16, MapRefusal); 7] {
     [
-        Damage {
-            lump: 5,
-            place: 0,
-            word: 0,
-            refusal: MapRefusal::EmptyLeaf { leaf: 0 },
-        },
-        Damage {
-            lump: 1,
-            place: 10,
-            word: 9999,
-            refusal: index(1, 0, 5),
-        },
-        Damage {
-            lump: 6,
-            place: 80,
-            word: 2,
-            refusal: MapRefusal::NodeTwice { node: 2 },
-        },
-        Damage {
-            lump: 6,
-            place: 82,
-            word: 32772,
-            refusal: index(6, 2, 13),
-        },
-        Damage {
-            lump: 5,
-            place: 14,
-            word: 13,
-            refusal: index(5, 3, 1),
-        },
-        Damage {
-            lump: 4,
-            place: 8,
-            word: 1,
-            refusal: index(4, 0, 4),
-        },
-        Damage {
-            lump: 2,
-            place: 478,
-            word: 4,
-            refusal: index(2, 15, 5),
-        },
+        (5, 0, 0, MapRefusal::EmptyLeaf { leaf: 0 }),
+        (1, 10, 9999, index(1, 0, 5)),
+        (6, 80, 2, MapRefusal::NodeTwice { node: 2 }),
+        (6, 82, 32772, index(6, 2, 13)),
+        (5, 14, 13, index(5, 3, 1)),
+        (4, 8, 1, index(4, 0, 4)),
+        (2, 478, 4, index(2, 15, 5)),
     ]
 }
 
@@ -280,13 +237,13 @@ fn put(bytes: &mut [u8], place: usize, word: u16) {
 
 #[test]
 fn each_damage_is_refused_by_its_first_fault(rt: HostRuntime) {
-    for damage in damages() {
+    for (lump, place, word, refusal) in damages() {
         let mut lumps = lumps(rt.alloc()).expect(&rt, "memory");
-        if let Some(bytes) = lumps.get_mut(damage.lump) {
-            put(bytes, damage.place, damage.word);
+        if let Some(bytes) = lumps.get_mut(lump) {
+            put(bytes, place, word);
         }
         let fault = level(rt.alloc(), &lumps).err();
-        assert_eq!(rt; fault, Some(MapFault::Refused(damage.refusal)));
+        assert_eq!(rt; fault, Some(MapFault::Refused(refusal)));
     }
 }
 

@@ -104,14 +104,14 @@ fn look_into_both(rt: &impl Abort, alloc: Global, shelf: &mut MemoryShelf) -> Re
     let tiny = shelf.find("tiny.wad")?;
     let level = shelf.find("level.wad")?;
     let dir = Directory::load(alloc, shelf, &[tiny, level, tiny])?;
+    look_for_names(rt, &dir)?;
     look_into(rt, &dir, level)
 }
 
-// Looks for lumps by name and by number.
-fn look_into(rt: &impl Abort, dir: &Directory, level: FileNo) -> Result<(), Fail> {
+// Looks for lumps by name.
+fn look_for_names(rt: &impl Abort, dir: &Directory) -> Result<(), Fail> {
     let tile = Name8::from_text("tile").ok_or("a name")?;
     let map = Name8::from_text("MAP01").ok_or("a name")?;
-    assert_eq!(rt; dir.count(), 20);
     let lumps = [
         dir.last(&tile),
         dir.flat(&tile),
@@ -127,6 +127,13 @@ fn look_into(rt: &impl Abort, dir: &Directory, level: FileNo) -> Result<(), Fail
         None,
     ];
     assert_eq!(rt; lumps, expected);
+    Ok(())
+}
+
+// Looks at lumps by number.
+fn look_into(rt: &impl Abort, dir: &Directory, level: FileNo) -> Result<(), Fail> {
+    let tile = Name8::from_text("tile").ok_or("a name")?;
+    assert_eq!(rt; dir.count(), 20);
     assert_eq!(rt; dir.sprite_lumps(), [LumpNo(14)].as_slice());
     let entry = (
         dir.name(LumpNo(2)),

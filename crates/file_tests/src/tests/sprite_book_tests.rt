@@ -1,15 +1,24 @@
 // Books of one sprite, by the names of its lumps.
+use crate::tests::files::{NO_CALL, load_directory, shelf_of};
 use lump_cache::LumpCache;
-use outside::{MemoryFile, MemoryShelf, Shelf};
 use sprite_book::{Need, Shape, SpriteBook, SpriteFault, SpriteRefusal};
 use std::alloc::{AllocError, Global};
 use std::test::Fail;
-use wad_dir::{Directory, LumpNo};
+use wad_dir::LumpNo;
 
 // A patch of one column without a post, 5 texels left of its point and 9 above.
 const PATCH: [u8; 13] = *b"\x01\0\x01\0\x05\0\x09\0\x0c\0\0\0\xff";
 
 const LETTER_A: u8 = 65;
+
+// Five lumps for the eight rotations.
+const FIVE: [[u8; 8]; 5] = [
+    *b"TREEA3A7",
+    *b"TREEA2A8",
+    *b"TREEA1\0\0",
+    *b"TREEA4A6",
+    *b"TREEA5\0\0",
+];
 
 // The entry of a lump.
 fn put_entry(wad: &mut Vec<u8>, place: u32, size: u32, name: &[u8]) -> Result<(), AllocError> {
@@ -34,13 +43,8 @@ fn sprite_wad(alloc: Global, names: &[[u8; 8]]) -> Result<Vec<u8>, AllocError> {
 
 // The book of frame A of the tree that thing 7 needs.
 fn load_tree(alloc: Global, names: &[[u8; 8]]) -> Result<Result<SpriteBook, SpriteFault>, Fail> {
-    let name = "tree.wad".to_string(alloc)?;
-    let bytes = sprite_wad(alloc, names)?;
-    let mut files = Vec::with_capacity(alloc, 1)?;
-    files.push(MemoryFile { name, bytes })?;
-    let mut shelf = MemoryShelf::new(files, Vec::new(alloc));
-    let number = shelf.find("tree.wad")?;
-    let dir = Directory::load(alloc, &mut shelf, &[number])?;
+    let mut shelf = shelf_of(alloc, sprite_wad(alloc, names)?, NO_CALL)?;
+    let dir = load_directory(alloc, &mut shelf)?;
     let mut cache = LumpCache::new(alloc, &dir, 4096, 1)?;
     let needed = [Need {
         thing: 7,
@@ -74,14 +78,7 @@ fn the_last_mention_decides(rt: HostRuntime) -> Result<(), Fail> {
 
 #[test]
 fn a_frame_is_seen_from_all_sides(rt: HostRuntime) -> Result<(), Fail> {
-    let names = [
-        *b"TREEA3A7",
-        *b"TREEA2A8",
-        *b"TREEA1\0\0",
-        *b"TREEA4A6",
-        *b"TREEA5\0\0",
-    ];
-    let book = load_tree(rt.alloc(), &names)??;
+    let book = load_tree(rt.alloc(), &FIVE)??;
     let lumps = [
         (3, false),
         (2, false),

@@ -1,39 +1,26 @@
 // The flats and surfaces of sectors, over a file with one flat.
 ghost use Rattle.std.specs.Prelude.{◌≡◌, IfOk, length};
 
+use crate::tests::files::{NO_CALL, load_directory, shelf_of};
 use level_rules::{SKY_FLAT, Sector, Surface};
 use level_scene::{find_flats, make_surfaces};
 use lump_rules::Name8;
-use outside::{MemoryFile, MemoryShelf, Shelf};
-use std::alloc::{AllocError, Global};
+use std::alloc::Global;
 use std::process::Abort;
 use std::test::Fail;
 use wad_dir::Directory;
 
 // A file whose lump 1 is the flat SLIME.
-fn small_file(alloc: Global) -> Result<MemoryFile, AllocError> {
-    let mut bytes = b"PWAD\x03\0\0\0\x0c\0\0\0".to_vec(alloc)?;
-    bytes.extend_from_slice(b"\x0c\0\0\0\0\0\0\0F_START\0")?;
-    bytes.extend_from_slice(b"\x0c\0\0\0\0\0\0\0SLIME\0\0\0")?;
-    bytes.extend_from_slice(b"\x0c\0\0\0\0\0\0\0F_END\0\0\0")?;
-    let name = "small.wad".to_string(alloc)?;
-    Ok(MemoryFile { name, bytes })
-}
-
-fn small_shelf(alloc: Global) -> Result<MemoryShelf, AllocError> {
-    let mut files = Vec::with_capacity(alloc, 1)?;
-    files.push(small_file(alloc)?)?;
-    Ok(MemoryShelf::new(files, Vec::new(alloc)))
-}
-
-fn load_small(alloc: Global, shelf: &mut MemoryShelf) -> Result<Directory, Fail> {
-    let number = shelf.find("small.wad")?;
-    Ok(Directory::load(alloc, shelf, &[number])?)
+fn wad() -> &'static [u8; 60] {
+    b"PWAD\x03\0\0\0\x0c\0\0\0\
+\x0c\0\0\0\0\0\0\0F_START\0\
+\x0c\0\0\0\0\0\0\0SLIME\0\0\0\
+\x0c\0\0\0\0\0\0\0F_END\0\0\0"
 }
 
 fn small_directory(alloc: Global) -> Result<Directory, Fail> {
-    let mut shelf = small_shelf(alloc)?;
-    load_small(alloc, &mut shelf)
+    let mut shelf = shelf_of(alloc, wad().to_vec(alloc)?, NO_CALL)?;
+    load_directory(alloc, &mut shelf)
 }
 
 // The surfaces of these sectors over the lumps of this directory.

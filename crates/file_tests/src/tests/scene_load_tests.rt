@@ -1,13 +1,14 @@
 // What no clause says: values from outside over the made files of 10, and that memory is found.
-ghost use Rattle.std.specs.Prelude.{◌≡◌, ◌+◌, OnOk, length};
+ghost use Rattle.std.specs.Prelude.{◌≡◌};
 ghost use Rattle.zone_rules.specs.Zones.{IsZoneSize};
 
+use crate::tests::files::file_of;
 use command_line::{Files, LevelJob, Settings};
 use job_files::LoadFault;
 use level_audit::{ZoneSizes, load_scene};
 use level_maker::{make_path, make_tables, make_things, make_wad};
 use lump_rules::Name8;
-use outside::{Fault, MemoryFile, MemoryShelf};
+use outside::{Fault, MemoryShelf};
 use std::alloc::{AllocError, Global};
 use std::test::Fail;
 
@@ -21,34 +22,14 @@ const FILES: Files<'static> = Files {
     weapon: None,
 };
 
-// Puts a file beside the others.
-fn put(
-    alloc: Global,
-    files: &mut Vec<MemoryFile>,
-    name: &str,
-    bytes: Vec<u8>,
-) -> Result<(), AllocError>
-    ensures { OnOk result (length files.new.items ≡ length files.old.items + 1) }
-{
-    let name = name.to_string(alloc)?;
-    files.push(MemoryFile { name, bytes })?;
-    Ok(())
-}
-
-// Puts the made files.
-fn put_made(alloc: Global, files: &mut Vec<MemoryFile>) -> Result<(), AllocError>
-    ensures { OnOk result (length files.new.items ≡ length files.old.items + 5) }
-{
-    put(alloc, files, "made.wad", make_wad(alloc, 10)?)?;
-    put(alloc, files, "tables", make_tables(alloc)?)?;
-    put(alloc, files, "things", make_things(alloc)?)?;
-    put(alloc, files, "path", make_path(alloc, 10)?)?;
-    put(alloc, files, "weapons", WEAPONS.as_bytes().to_vec(alloc)?)
-}
-
+// A shelf of the made files.
 fn made_shelf(alloc: Global) -> Result<MemoryShelf, AllocError> {
     let mut files = Vec::new(alloc);
-    put_made(alloc, &mut files)?;
+    files.push(file_of(alloc, "made.wad", make_wad(alloc, 10)?)?)?;
+    files.push(file_of(alloc, "tables", make_tables(alloc)?)?)?;
+    files.push(file_of(alloc, "things", make_things(alloc)?)?)?;
+    files.push(file_of(alloc, "path", make_path(alloc, 10)?)?)?;
+    files.push(file_of(alloc, "weapons", WEAPONS.as_bytes().to_vec(alloc)?)?)?;
     Ok(MemoryShelf::new(files, Vec::new(alloc)))
 }
 

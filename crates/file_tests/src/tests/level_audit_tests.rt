@@ -2,8 +2,9 @@
 //
 // Each function makes a value or two and lends them to the next, and the one that audits owns none:
 // a function that owns many where it may return takes minutes to prove.
-ghost use Rattle.std.specs.Prelude.{◌<◌, ◌≤◌, ◌^◌, IfOk, length};
+ghost use Rattle.std.specs.Prelude.{◌<◌, ◌≤◌, ◌^◌, length};
 
+use crate::tests::files::{NO_CALL, load_directory, shelf_of};
 use art_rules::{SpriteRefusal, TexRefusal};
 use csv_tables::ThingTable;
 use level_audit::{ArtRefusal, AuditFault, AuditRefusal, SceneRefusal, ZoneSizes, audit};
@@ -11,7 +12,7 @@ use level_maker::make_wad;
 use level_rules::MapRefusal;
 use lump_cache::LumpCache;
 use lump_rules::Name8;
-use outside::{MemoryFile, MemoryShelf, Shelf};
+use outside::MemoryShelf;
 use std::alloc::{AllocError, Global};
 use std::process::Abort;
 use std::test::Fail;
@@ -51,29 +52,13 @@ const MAP01: Request<'static> = Request {
     zone: ZONE,
 };
 
-// A shelf of this WAD.
-pub(crate) fn shelf_of(alloc: Global, wad: Vec<u8>) -> Result<MemoryShelf, AllocError> {
-    let name = "made.wad".to_string(alloc)?;
-    let mut files = Vec::with_capacity(alloc, 1)?;
-    files.push(MemoryFile { name, bytes: wad })?;
-    Ok(MemoryShelf::new(files, Vec::new(alloc)))
-}
-
-// Its directory.
-pub(crate) fn load_directory(alloc: Global, shelf: &mut MemoryShelf) -> Result<Directory, Fail>
-    ensures { IfOk result (λ dir. length dir.lumps < 2 ^ 16) }
-{
-    let number = shelf.find("made.wad")?;
-    Ok(Directory::load(alloc, shelf, &[number])?)
-}
-
 // The sizes of the scene of a map of this WAD, or what stops its audit.
 fn audited(
     alloc: Global,
     wad: Vec<u8>,
     request: &Request<'_>,
 ) -> Result<Result<ZoneSizes, AuditFault>, Fail> {
-    let mut shelf = shelf_of(alloc, wad)?;
+    let mut shelf = shelf_of(alloc, wad, NO_CALL)?;
     audited_on(alloc, &mut shelf, request)
 }
 
@@ -161,74 +146,60 @@ fn a_patch_that_is_the_colormap_is_pinned(rt: HostRuntime) -> Result<(), Fail> {
     Ok(())
 }
 
-// Compares what stops the audit of MAP01 in the made WAD with these changes.
-fn compare_fault(
-    rt: &impl Abort,
-    alloc: Global,
-    changes: &[(usize, &[u8])],
-    refusal: AuditRefusal,
-) -> Result<(), Fail> {
-    let wad = changed(make_wad(alloc, 1)?, changes);
-    let fault = audited(alloc, wad, &MAP01)?.err();
-    assert_eq!(rt; fault, Some(AuditFault::Refused(refusal)));
+// Other bytes of the made WAD from an offset on, and what is refused of MAP01 then.
+type Damage = (usize, &'static [u8], AuditRefusal);
+
+fn damages_of_map() -> [Damage; 3] {
+    let line = MapRefusal::Index {
+        lump: 1,
+        record_no: 0,
+        field: 5,
+    };
+    let leaf = MapRefusal::EmptyLeaf { leaf: 0 };
+    let node = MapRefusal::NodeTwice { node: 2 };
+    // the first side of the first line, the count of the first leaf, a child of the last node
+    [
+        (81_164, b"\x0f\x27", AuditRefusal::Map(line)),
+        (82_086, b"\0\0", AuditRefusal::Map(leaf)),
+        (82_182, b"\x02\0", AuditRefusal::Map(node)),
+    ]
+}
+
+fn damages_of_art() -> [Damage; 7] {
+    let entry = TexRefusal::Entry { number: 0 };
+    let patch = TexRefusal::MissingPatch { texture: 2 };
+    let side = SceneRefusal::SideTexture { side: 0 };
+    let flat = SceneRefusal::SectorFlat { sector: 0 };
+    [
+        // COLORMAP's name, PLAYPAL's size
+        (82_314, b"X", AuditRefusal::Art(ArtRefusal::Colormap)),
+        (82_294, b"\xbc\x02", AuditRefusal::Art(ArtRefusal::Playpal)),
+        // the count of PNAMES, the first place in TEXTURE1, the name of its second texture
+        (8972, b"\x05", AuditRefusal::Texture(TexRefusal::Pnames)),
+        (9012, b"\xf0\xff\xff\xff", AuditRefusal::Texture(entry)),
+        (9064, b"X", AuditRefusal::Scene(side)),
+        // the name of the flat FLAT0
+        (82_442, b"X", AuditRefusal::Scene(flat)),
+        // a patch of WALL2 is the empty mark behind the sprites
+        (8984, b"S_END\0\0\0", AuditRefusal::Texture(patch)),
+    ]
+}
+
+// Compares what stops the audits of WADs with one of these damages.
+fn compare_faults(rt: &impl Abort, alloc: Global, damages: &[Damage]) -> Result<(), Fail> {
+    for (offset, bytes, refusal) in damages {
+        let wad = changed(make_wad(alloc, 1)?, &[(*offset, *bytes)]);
+        let fault = audited(alloc, wad, &MAP01)?.err();
+        assert_eq!(rt; fault, Some(AuditFault::Refused(*refusal)), "{offset}");
+    }
     Ok(())
 }
 
 #[test]
 fn damaged_levels_are_refused(rt: HostRuntime) -> Result<(), Fail> {
     let alloc = rt.alloc();
-    let index = MapRefusal::Index {
-        lump: 1,
-        record_no: 0,
-        field: 5,
-    };
-    for (changes, refusal) in [
-        // COLORMAP's name, PLAYPAL's size
-        (
-            [(82_314, b"X".as_slice())],
-            AuditRefusal::Art(ArtRefusal::Colormap),
-        ),
-        (
-            [(82_294, b"\xbc\x02".as_slice())],
-            AuditRefusal::Art(ArtRefusal::Playpal),
-        ),
-        // the first side of the first line, the count of the first leaf, a child of the last node
-        ([(81_164, b"\x0f\x27".as_slice())], AuditRefusal::Map(index)),
-        (
-            [(82_086, b"\0\0".as_slice())],
-            AuditRefusal::Map(MapRefusal::EmptyLeaf { leaf: 0 }),
-        ),
-        (
-            [(82_182, b"\x02\0".as_slice())],
-            AuditRefusal::Map(MapRefusal::NodeTwice { node: 2 }),
-        ),
-        // the count of PNAMES, the first place in TEXTURE1, the name of its second texture
-        (
-            [(8972, b"\x05".as_slice())],
-            AuditRefusal::Texture(TexRefusal::Pnames),
-        ),
-        (
-            [(9012, b"\xf0\xff\xff\xff".as_slice())],
-            AuditRefusal::Texture(TexRefusal::Entry { number: 0 }),
-        ),
-        (
-            [(9064, b"X".as_slice())],
-            AuditRefusal::Scene(SceneRefusal::SideTexture { side: 0 }),
-        ),
-        // the name of the flat FLAT0
-        (
-            [(82_442, b"X".as_slice())],
-            AuditRefusal::Scene(SceneRefusal::SectorFlat { sector: 0 }),
-        ),
-        // a patch of WALL2 is the empty mark behind the sprites
-        (
-            [(8984, b"S_END\0\0\0".as_slice())],
-            AuditRefusal::Texture(TexRefusal::MissingPatch { texture: 2 }),
-        ),
-    ] {
-        compare_fault(&rt, alloc, &changes, refusal)?;
-    }
-    Ok(())
+    compare_faults(&rt, alloc, &damages_of_art())?;
+    compare_faults(&rt, alloc, &damages_of_map())
 }
 
 // What stops the audit of a map of the made WAD.
@@ -241,6 +212,7 @@ fn fault_of(alloc: Global, request: &Request<'_>) -> Result<Option<AuditFault>, 
 fn other_words_are_refused(rt: HostRuntime) -> Result<(), Fail> {
     let alloc = rt.alloc();
     let shadow = AuditRefusal::Scene(SceneRefusal::Shadow { thing: 0 });
+    let absent = AuditRefusal::Map(MapRefusal::NoMap);
     let frame = AuditRefusal::Sprite(SpriteRefusal::NoFrame { thing: 0 });
     let colormap = AuditFault::ZoneFull {
         wanted: 8216,
@@ -253,12 +225,7 @@ fn other_words_are_refused(rt: HostRuntime) -> Result<(), Fail> {
     for (things, map, zone, fault) in [
         (SHADOW, "MAP01", ZONE, AuditFault::Refused(shadow)),
         (FRAME_B, "MAP01", ZONE, AuditFault::Refused(frame)),
-        (
-            THINGS,
-            "MAP02",
-            ZONE,
-            AuditFault::Refused(AuditRefusal::Map(MapRefusal::NoMap)),
-        ),
+        (THINGS, "MAP02", ZONE, AuditFault::Refused(absent)),
         (THINGS, "MAP01", 64, colormap),
         (THINGS, "MAP01", 8216, playpal),
     ] {

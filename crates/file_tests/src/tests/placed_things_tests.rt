@@ -3,6 +3,7 @@ ghost use Rattle.std.specs.Prelude.{◌≡◌, ◌≤◌, true, false, OnOk, rep
 ghost use Rattle.level_rules.specs.maps.Lumps.{lump_no};
 ghost use Rattle.map_lumps.specs.Builders.{all_added, is_added};
 
+use crate::tests::files::bytes_of;
 use art_rules::Need;
 use csv_tables::ThingTable;
 use level_rules::PlacedThing;
@@ -60,22 +61,13 @@ fn table() -> &'static [u8] {
     b"type,sprite,frame,bright,hang,shadow\n2035,BAR1,A,0,0,0\n63,GOR1,C,1,68,1\n"
 }
 
-// The bytes of a lump of numbers.
-fn bytes_of(alloc: Global, lump: MapLump) -> Result<Vec<u8>, AllocError> {
-    let mut bytes = Vec::new(alloc);
-    for word in words(lump) {
-        bytes.extend_from_slice(&word.to_le_bytes())?;
-    }
-    Ok(bytes)
-}
-
 // Adds a lump of numbers.
 #[tactic(auto, unfolding(map_lumps::specs::Builders::with_lump))]
 fn add_words(alloc: Global, builder: &mut LevelBuilder, lump: MapLump) -> Result<(), MapFault>
     requires { is_added builder.old lump ≡ false }
     ensures { OnOk result (builder.new.added ≡ slice_set builder.old.added (lump_no lump) true) }
 {
-    let bytes = bytes_of(alloc, lump)?;
+    let bytes = bytes_of(alloc, words(lump))?;
     builder.add(alloc, lump, &bytes)
 }
 
@@ -183,30 +175,33 @@ fn things_are_placed_by_skill_and_drawn_last_first(rt: HostRuntime) {
     }
 }
 
+// The first thing of sector 0, and the first of sector 1.
+const HANGING: PlacedThing = PlacedThing {
+    thing: 2,
+    x: 120 * UNIT,
+    y: 20 * UNIT,
+    z: 92 * UNIT,
+    angle: 0,
+    sprite: *b"GOR1",
+    frame: b'C',
+    bright: true,
+};
+
+const STANDING: PlacedThing = PlacedThing {
+    thing: 1,
+    x: 10 * UNIT,
+    y: 10 * UNIT,
+    z: 24 * UNIT,
+    angle: 0xe000_0000,
+    sprite: *b"BAR1",
+    frame: b'A',
+    bright: false,
+};
+
 // Looks at the first thing of each sector, and at the angle of the first of all.
 fn look_at_things(rt: &impl Abort, placed: &PlacedThings) {
-    let hanging = PlacedThing {
-        thing: 2,
-        x: 120 * UNIT,
-        y: 20 * UNIT,
-        z: 92 * UNIT,
-        angle: 0,
-        sprite: *b"GOR1",
-        frame: b'C',
-        bright: true,
-    };
-    assert_eq!(rt; placed.of(0).first().copied(), Some(hanging));
-    let standing = PlacedThing {
-        thing: 1,
-        x: 10 * UNIT,
-        y: 10 * UNIT,
-        z: 24 * UNIT,
-        angle: 0xe000_0000,
-        sprite: *b"BAR1",
-        frame: b'A',
-        bright: false,
-    };
-    assert_eq!(rt; placed.of(1).first().copied(), Some(standing));
+    assert_eq!(rt; placed.of(0).first().copied(), Some(HANGING));
+    assert_eq!(rt; placed.of(1).first().copied(), Some(STANDING));
     assert_eq!(rt;
         placed.all().first().map(|placed| placed.thing.angle),
         Some(0x2000_0000)

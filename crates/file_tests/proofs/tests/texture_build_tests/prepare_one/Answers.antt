@@ -5,7 +5,7 @@ use Rattle.art_rules.specs.Textures.{Texture, texture_at}
 use Rattle.art_rules.specs.Wanted.{PreparedTexture}
 use Rattle.texture_lists.specs.declared.number.TexNo.{TexNo}
 use Rattle.texture_build.specs.Views.{IsListedAs, prepared_at, unprepared}
-use Rattle.file_tests.proofs.texture_build_tests.prepare_one.Goals as goal
+use Rattle.file_tests.proofs.tests.texture_build_tests.prepare_one.Goals as goal
 
 -- a prepared texture has the columns of its record
 listed_columns : (o : Option PreparedTexture) (texture : Texture) → IsSome o → IfSome o (IsListedAs texture) → length (unwrap_or o unprepared).columns ≡ texture.width

@@ -46,65 +46,35 @@ fn asked(alloc: Global, first: Tag, second: Tag, size: u32) -> Option<Answer> {
     })
 }
 
-fn figures(used: u32, purgeable: u32, free: u32, purges: u64) -> ZoneFigures {
+// Used, purgeable and free bytes, and purges.
+fn figures(counts: [u32; 4]) -> ZoneFigures {
+    let [used, purgeable, free, purges] = counts;
     ZoneFigures {
         used,
         purgeable,
         free,
-        purges,
+        purges: purges as u64,
     }
 }
 
 #[test]
 fn a_request_purges_what_it_passes_and_no_more(rt: HostRuntime) {
-    for (first, second, size, full, stand, after) in [
-        (
-            Tag::Cache,
-            Tag::Static,
-            8,
-            None,
-            (false, true),
-            figures(4004, 0, 92, 1),
-        ),
-        (
-            Tag::Static,
-            Tag::Level,
-            8,
-            Some((32, 0)),
-            (true, true),
-            figures(4096, 0, 0, 0),
-        ),
-        (
-            Tag::Cache,
-            Tag::Cache,
-            8,
-            None,
-            (false, true),
-            figures(32, 3972, 92, 1),
-        ),
-        (
-            Tag::Cache,
-            Tag::Cache,
-            200,
-            None,
-            (false, false),
-            figures(224, 0, 3872, 2),
-        ),
-        (
-            Tag::Cache,
-            Tag::Cache,
-            5000,
-            Some((5024, 4096)),
-            (false, false),
-            figures(0, 0, 4096, 2),
-        ),
+    let (cache, level, fixed) = (Tag::Cache, Tag::Level, Tag::Static);
+    let no_gap = Some((32, 0));
+    let one_gap = Some((5024, 4096));
+    for (first, second, size, full, stand, counts) in [
+        (cache, fixed, 8, None, (false, true), [4004, 0, 92, 1]),
+        (fixed, level, 8, no_gap, (true, true), [4096, 0, 0, 0]),
+        (cache, cache, 8, None, (false, true), [32, 3972, 92, 1]),
+        (cache, cache, 200, None, (false, false), [224, 0, 3872, 2]),
+        (cache, cache, 5000, one_gap, (false, false), [0, 0, 4096, 2]),
     ] {
         let Some(answer) = asked(rt.alloc(), first, second, size) else {
             panic!(rt; "no memory");
         };
         assert_eq!(rt; answer.full, full);
         assert_eq!(rt; answer.stand, stand);
-        assert_eq!(rt; answer.figures, after);
+        assert_eq!(rt; answer.figures, figures(counts));
     }
 }
 

@@ -1,12 +1,11 @@
 // Values from outside: a file of small lists, written by hand in their format.
+use crate::tests::files::{NO_CALL, changed, load_directory, shelf_of};
 use art_rules::TextureEntry;
 use lump_cache::LumpCache;
 use lump_rules::Name8;
-use outside::{MemoryFile, MemoryShelf, Shelf};
 use std::alloc::Global;
 use std::test::Fail;
 use texture_lists::{ListedTextures, TexFault, TexNo, TexRefusal};
-use wad_dir::Directory;
 
 // PNAMES at 12, TEXTURE1 at 32 with textures of 64 by 128 and of 100 by 72, TEXTURE2 at 108 with
 // one of 8 by 4 that has the second one's name, and the directory at 148.
@@ -31,25 +30,16 @@ fn load(
     failing: u64,
     size: u32,
 ) -> Result<Result<ListedTextures, TexFault>, Fail> {
-    let mut bytes = wad().to_vec(alloc)?;
-    for (at, byte) in changes {
-        if let Some(place) = bytes.get_mut(at) {
-            *place = byte;
-        }
-    }
-    let name = "lists.wad".to_string(alloc)?;
-    let mut files = Vec::with_capacity(alloc, 1)?;
-    files.push(MemoryFile { name, bytes })?;
-    let mut shelf = MemoryShelf::new(files, vec![in alloc; failing; 1]?);
-    let number = shelf.find("lists.wad")?;
-    let dir = Directory::load(alloc, &mut shelf, &[number])?;
+    let bytes = changed(alloc, wad(), &changes)?;
+    let mut shelf = shelf_of(alloc, bytes, failing)?;
+    let dir = load_directory(alloc, &mut shelf)?;
     let mut cache = LumpCache::new(alloc, &dir, size, 0)?;
     Ok(ListedTextures::load(alloc, &dir, &mut cache, &mut shelf))
 }
 
 #[test]
 fn both_lists_are_read(rt: HostRuntime) -> Result<(), Fail> {
-    let textures = load(rt.alloc(), [(0, b'P'); 2], 99, 1024)??;
+    let textures = load(rt.alloc(), [(0, b'P'); 2], NO_CALL, 1024)??;
     let later = TextureEntry {
         x: 0,
         y: 0,
@@ -84,7 +74,7 @@ fn lists_are_refused(rt: HostRuntime) -> Result<(), Fail> {
         ([(56, 0), (130, 0)], TexRefusal::Entry { number: 0 }),
         ([(130, 0), (0, b'P')], TexRefusal::Entry { number: 2 }),
     ] {
-        let fault = load(rt.alloc(), changes, 99, 1024)?.err();
+        let fault = load(rt.alloc(), changes, NO_CALL, 1024)?.err();
         assert_eq!(rt; fault, Some(TexFault::Refused(refusal)));
     }
     Ok(())
@@ -101,6 +91,6 @@ fn a_list_is_not_read(rt: HostRuntime) -> Result<(), Fail> {
         load(rt.alloc(), same, 7, 1024)?.err(),
         Some(TexFault::ReadFault)
     );
-    assert_eq!(rt; load(rt.alloc(), same, 99, 96)?.err(), Some(full));
+    assert_eq!(rt; load(rt.alloc(), same, NO_CALL, 96)?.err(), Some(full));
     Ok(())
 }

@@ -1,34 +1,28 @@
 // A cache over a shelf in memory, from its making to its bytes.
 ghost use Rattle.std.specs.Prelude.{◌<◌, IfSome, length};
 
+use crate::tests::files::{NO_CALL, load_directory, shelf_of};
 use lump_cache::{CacheFault, LumpCache};
-use outside::{MemoryFile, MemoryShelf, Shelf};
-use std::alloc::{AllocError, Global};
+use std::alloc::Global;
 use std::test::Fail;
 use wad_dir::{Directory, LumpNo, Name8};
 use zone_heap::{CompositeKind, LumpKind, Slot, Tag, ZoneFigures};
 
-// The lump FIVE with the bytes 1 to 5, the empty lump NONE, and LONG of 45 bytes.
-fn small_wad(alloc: Global) -> Result<Vec<u8>, AllocError> {
-    let mut wad = b"PWAD\x03\0\0\0\x3e\0\0\0\x01\x02\x03\x04\x05".to_vec(alloc)?;
-    for _ in 0..45 {
-        wad.push(0)?;
-    }
-    wad.extend_from_slice(b"\x0c\0\0\0\x05\0\0\0FIVE\0\0\0\0")?;
-    wad.extend_from_slice(b"\x11\0\0\0\0\0\0\0NONE\0\0\0\0")?;
-    wad.extend_from_slice(b"\x11\0\0\0\x2d\0\0\0LONG\0\0\0\0")?;
-    Ok(wad)
+// The lump FIVE with the bytes 1 to 5 at 12, the empty lump NONE, LONG of 45 bytes at 17, and the
+// directory at 62.
+fn wad() -> &'static [u8; 110] {
+    b"PWAD\x03\0\0\0\x3e\0\0\0\x01\x02\x03\x04\x05\
+\0\0\0\0\0\0\0\0\0\0\0\0\0\0\0\0\0\0\0\0\0\0\0\0\0\0\0\0\0\0\0\0\0\0\0\0\0\0\0\0\0\0\0\0\0\
+\x0c\0\0\0\x05\0\0\0FIVE\0\0\0\0\
+\x11\0\0\0\0\0\0\0NONE\0\0\0\0\
+\x11\0\0\0\x2d\0\0\0LONG\0\0\0\0"
 }
 
-// A shelf with that file, of whose calls one fails. The directory takes the first four.
-fn small_shelf(alloc: Global, failing: u64) -> Result<MemoryShelf, AllocError> {
-    let mut files = Vec::with_capacity(alloc, 1)?;
-    files.push(MemoryFile {
-        name: "small.wad".to_string(alloc)?,
-        bytes: small_wad(alloc)?,
-    })?;
-    Ok(MemoryShelf::new(files, vec![in alloc; failing; 1]?))
-}
+// What a zone of 64 bytes says of LONG.
+const FULL: CacheFault = CacheFault::ZoneFull {
+    wanted: 72,
+    widest: 64,
+};
 
 fn lump(dir: &Directory, name: &str) -> Option<LumpNo>
     ensures { IfSome result (λ lump. lump.0 < length dir.now.lumps) }
@@ -52,9 +46,8 @@ fn fetched(
     name: &str,
     wanted: Option<&[u8]>,
 ) -> Result<Answer, Fail> {
-    let mut shelf = small_shelf(alloc, failing)?;
-    let number = shelf.find("small.wad")?;
-    let dir = Directory::load(alloc, &mut shelf, &[number])?;
+    let mut shelf = shelf_of(alloc, wad().to_vec(alloc)?, failing)?;
+    let dir = load_directory(alloc, &mut shelf)?;
     let lump = lump(&dir, name).ok_or("a lump")?;
     let mut cache = LumpCache::new(alloc, &dir, size, 1)?;
     let fault = cache.fetch(&mut shelf, &dir, lump, Tag::Static).err();
@@ -76,36 +69,14 @@ fn figures(used: u32, free: u32) -> ZoneFigures {
 
 #[test]
 fn a_lump_is_read_where_it_has_bytes_and_room(rt: HostRuntime) -> Result<(), Fail> {
-    let full = CacheFault::ZoneFull {
-        wanted: 72,
-        widest: 64,
-    };
+    let unread = Some(CacheFault::ReadFault);
+    let five: &[u8] = &[1, 2, 3, 4, 5];
+    let none: &[u8] = &[];
     for (failing, size, name, fault, wanted, after) in [
-        (
-            9,
-            4096,
-            "five",
-            None,
-            Some([1, 2, 3, 4, 5].as_slice()),
-            figures(32, 4064),
-        ),
-        (
-            5,
-            4096,
-            "five",
-            Some(CacheFault::ReadFault),
-            None,
-            figures(0, 4096),
-        ),
-        (
-            5,
-            4096,
-            "none",
-            None,
-            Some([].as_slice()),
-            figures(24, 4072),
-        ),
-        (9, 64, "long", Some(full), None, figures(0, 64)),
+        (NO_CALL, 4096, "five", None, Some(five), figures(32, 4064)),
+        (5, 4096, "five", unread, None, figures(0, 4096)),
+        (5, 4096, "none", None, Some(none), figures(24, 4072)),
+        (NO_CALL, 64, "long", Some(FULL), None, figures(0, 64)),
     ] {
         let answer = fetched(rt.alloc(), failing, size, name, wanted)?;
         assert_eq!(rt; answer.fault, fault);
@@ -117,11 +88,7 @@ fn a_lump_is_read_where_it_has_bytes_and_room(rt: HostRuntime) -> Result<(), Fai
 
 #[test]
 fn a_full_zone_says_what_was_wanted(rt: HostRuntime) -> Result<(), Fail> {
-    let fault = CacheFault::ZoneFull {
-        wanted: 72,
-        widest: 64,
-    };
-    let message = format!(in rt.alloc(); "{fault}")?;
+    let message = format!(in rt.alloc(); "{FULL}")?;
     let wanted = "the zone is full: a block of 72 bytes was wanted, the widest gap has 64";
     assert!(rt; message.as_str() == wanted);
     Ok(())
@@ -136,9 +103,8 @@ fn copy(from: &[u8], to: &mut [u8]) {
 #[test]
 fn a_composite_is_built_and_dropped(rt: HostRuntime) -> Result<(), Fail> {
     let alloc = rt.alloc();
-    let mut shelf = small_shelf(alloc, 9)?;
-    let number = shelf.find("small.wad")?;
-    let dir = Directory::load(alloc, &mut shelf, &[number])?;
+    let mut shelf = shelf_of(alloc, wad().to_vec(alloc)?, NO_CALL)?;
+    let dir = load_directory(alloc, &mut shelf)?;
     let five = lump(&dir, "five").ok_or("a lump")?;
     let source: Slot<LumpKind> = Slot::new(u32::from(five.0));
     let target: Slot<CompositeKind> = Slot::new(0);

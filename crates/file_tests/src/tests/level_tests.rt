@@ -2,14 +2,15 @@
 //
 // Each function makes a value or two and lends them to the next, and what is read is in a box, which
 // a function drops by one call: one that owns many values where it may return takes minutes to prove.
-ghost use Rattle.std.specs.Prelude.{◌<◌, ◌≤◌, ◌^◌, IfOk, length};
+ghost use Rattle.std.specs.Prelude.{◌<◌, ◌≤◌, ◌^◌, length};
 
+use crate::tests::files::{NO_CALL, changed, load_directory, shelf_of};
 use level_scene::{Level, LevelFault, MapRefusal, read_level};
 use lump_cache::LumpCache;
 use lump_rules::Name8;
 use map_lumps::{Child, Leaf, Thing};
-use outside::{MemoryFile, MemoryShelf, Shelf};
-use std::alloc::{AllocError, Global};
+use outside::MemoryShelf;
+use std::alloc::Global;
 use std::process::Abort;
 use std::test::Fail;
 use wad_dir::{Directory, LumpNo};
@@ -36,24 +37,6 @@ Z\0\0\0\0\0\0\0NODES\0\0\0\
 Z\0\0\0\x1a\0\0\0SECTORS\0"
 }
 
-// The file with one byte changed.
-fn changed_file(alloc: Global, change: (usize, u8)) -> Result<MemoryFile, AllocError> {
-    let mut bytes = wad().to_vec(alloc)?;
-    if let Some(place) = bytes.get_mut(change.0) {
-        *place = change.1;
-    }
-    let name = "room.wad".to_string(alloc)?;
-    Ok(MemoryFile { name, bytes })
-}
-
-// A shelf of that file, whose call of that number fails.
-fn shelf_of(alloc: Global, change: (usize, u8), failing: u64) -> Result<MemoryShelf, AllocError> {
-    let failing = vec![in alloc; failing; 1]?;
-    let mut files = Vec::with_capacity(alloc, 1)?;
-    files.push(changed_file(alloc, change)?)?;
-    Ok(MemoryShelf::new(files, failing))
-}
-
 // What is read of the map of that name through a zone of that size.
 type Read = Result<(LumpNo, Box<Level>), LevelFault>;
 
@@ -66,15 +49,9 @@ fn read(
     failing: u64,
     size: u32,
 ) -> Result<Read, Fail> {
-    let mut shelf = shelf_of(alloc, change, failing)?;
+    let bytes = changed(alloc, wad(), &[change])?;
+    let mut shelf = shelf_of(alloc, bytes, failing)?;
     read_on(alloc, name, &mut shelf, size)
-}
-
-fn load_directory(alloc: Global, shelf: &mut MemoryShelf) -> Result<Directory, Fail>
-    ensures { IfOk result (λ dir. length dir.lumps < 2 ^ 16) }
-{
-    let number = shelf.find("room.wad")?;
-    Ok(Directory::load(alloc, shelf, &[number])?)
 }
 
 // What is read of the file on this shelf.
@@ -141,7 +118,7 @@ fn look_at(rt: &impl Abort, level: &Level) {
 
 #[test]
 fn a_room_is_read(rt: HostRuntime) -> Result<(), Fail> {
-    let (label, level) = read(rt.alloc(), "map01", (0, b'P'), 99, 64)??;
+    let (label, level) = read(rt.alloc(), "map01", (0, b'P'), NO_CALL, 64)??;
     assert_eq!(rt; label, LumpNo(0));
     look_at(&rt, &level);
     Ok(())
@@ -172,7 +149,7 @@ fn a_map_is_refused(rt: HostRuntime) -> Result<(), Fail> {
         ("MAP01", (216, 3), MapRefusal::NoLeaf),
         ("MAP01", (32, 1), line),
     ] {
-        let fault = fault_of(rt.alloc(), name, change, 99, 64)?;
+        let fault = fault_of(rt.alloc(), name, change, NO_CALL, 64)?;
         assert_eq!(rt; fault, Some(LevelFault::Refused(refusal)));
     }
     Ok(())
@@ -184,12 +161,13 @@ fn a_map_is_not_read(rt: HostRuntime) -> Result<(), Fail> {
         wanted: 76,
         widest: 64,
     };
-    let alloc = rt.alloc();
-    assert_eq!(rt;
-        fault_of(alloc, "MAP01", (0, b'P'), 8, 64)?,
-        Some(LevelFault::ReadFault)
-    );
-    assert_eq!(rt; fault_of(alloc, "MAP01", (136, 50), 99, 64)?, Some(full));
-    assert!(rt; read(alloc, "MAP01", (136, 50), 99, 128)?.is_ok());
+    for (change, call, size, fault) in [
+        ((0, b'P'), 8, 64, Some(LevelFault::ReadFault)),
+        ((136, 50), NO_CALL, 64, Some(full)),
+        ((136, 50), NO_CALL, 128, None),
+    ] {
+        let result = fault_of(rt.alloc(), "MAP01", change, call, size)?;
+        assert_eq!(rt; result, fault);
+    }
     Ok(())
 }

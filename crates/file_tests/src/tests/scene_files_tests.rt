@@ -66,6 +66,16 @@ const GOOD: Set<'static> = Set {
     absent: "none",
 };
 
+// Each of its files is refused.
+const BAD: Set<'static> = Set {
+    length: 65539,
+    things: REPEATED,
+    path: NARROW,
+    weapons: UNNAMED,
+    wad: SHORT,
+    absent: "none",
+};
+
 // Puts a file beside the others, unless it is the one that is left out.
 fn put(
     alloc: Global,
@@ -178,18 +188,11 @@ fn refused(refusal: Refusal) -> Option<LoadFault> {
     Some(Fault::Refused(refusal))
 }
 
-// Each file is refused, and what comes after it would stop the reading too.
+// Each file is mended once it was refused, and what comes after it would stop the reading too.
 #[test]
 fn the_first_refusal_is_told(rt: HostRuntime) {
     let alloc = rt.alloc();
-    let mut set = Set {
-        length: 65539,
-        things: REPEATED,
-        path: NARROW,
-        weapons: UNNAMED,
-        wad: SHORT,
-        absent: "none",
-    };
+    let mut set = BAD;
     let tables = fault_of(alloc, &set);
     set.length = TABLES_BYTES;
     let things = fault_of(alloc, &set);
