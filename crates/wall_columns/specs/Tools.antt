@@ -1,18 +1,21 @@
 -- What walls are drawn with, by the values of their tools.
-use Rattle.std.specs.Prelude.{◌≡◌, ◌<◌, ◌≤◌, ◌+◌, ℕ, List, length}
+use Rattle.std.specs.Prelude.{◌≡◌, ◌<◌, ◌≤◌, ◌+◌, ℕ, List, length, All}
 use Rattle.outside.specs.Shelf.{ShelfView}
 use Rattle.lump_rules.specs.Contents.{lump_bytes}
 use Rattle.view_rules.specs.declared.TheConstants.{FRAME_WIDTH, FRAME_HEIGHT}
 use Rattle.view_rules.specs.View.{ViewValue}
 use Rattle.pixel_rules.specs.Dots.{Dot}
 use Rattle.pixel_strips.specs.Canvases.{CanvasView}
+use Rattle.picture_rules.specs.declared.wall.FragmentNumbers.{FragmentNumbers}
 use Rattle.picture_rules.specs.declared.wall.WallFacts.{WallFacts}
 use Rattle.picture_rules.specs.wall.Walls.{Wall, wall_of}
 use Rattle.picture_rules.specs.wall.Strips.{wall_dots}
 use Rattle.texture_build.specs.Arts.{view_art}
-use Rattle.texture_build.specs.Draws.{HoldsArt}
+use Rattle.texture_build.specs.Draws.{CanDraw, HoldsArt}
 use Rattle.wall_columns.specs.declared.tools.WallTools.{WallTools}
+use Rattle.wall_columns.specs.declared.clips.ColumnPlan.{ColumnPlan}
 use Rattle.wall_columns.specs.Built.{with_wall}
+use Rattle.wall_columns.specs.Plans.{HasRows, IsInRows, strips_by}
 
 -- the cache holds what the files of these contents give, and a colormap of `count` bytes
 abbrev pub HoldsWallTools : {S C : Type 0} → (S → ShelfView) → WallTools S C → List (List ℕ) → ℕ → Type 0
@@ -39,3 +42,9 @@ AreSameWallTools old new = (new.view ≡ old.view) × ((new.textures ≡ old.tex
 abbrev pub IsColumnOn : CanvasView → ViewValue → ℕ → Type 0
 IsColumnOn canvas v x = (x < v.shape.width) × ((canvas.left + v.shape.width ≤ FRAME_WIDTH)
     × (canvas.top + v.shape.height ≤ FRAME_HEIGHT))
+
+-- the strips of a plan that have rows are in the view, and their textures may be drawn
+abbrev pub CanPaintPlan : {S C : Type 0} → WallTools S C → FragmentNumbers → ColumnPlan → Type 0
+CanPaintPlan t n plan = All (IsInRows t.view.now.shape.height) (strips_by n plan)
+    × All (λ s. HasRows s → CanDraw t.dir.now.lumps t.textures.now t.cache.now s.part.number)
+    (strips_by n plan)

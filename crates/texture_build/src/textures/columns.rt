@@ -5,10 +5,10 @@
 ghost use Rattle.std.specs.Prelude.{◌≡◌, ◌<◌, ◌≤◌, ◌+◌, ℕ, ℤ, List, length, IfSome, Ok, None, ◌^◌};
 ghost use Rattle.lump_rules.specs.Contents.{lump_bytes};
 ghost use Rattle.lump_rules.specs.declared.wad.Lump.{Lump};
-ghost use Rattle.lump_cache.specs.Caches.{IsAtRest, IsFaithful};
 ghost use Rattle.art_rules.specs.Bytes.{byte_at};
 ghost use Rattle.art_rules.specs.Columns.{texel};
 ghost use Rattle.art_rules.specs.Lookups.{single_place};
+ghost use Rattle.lump_cache.specs.Caches.{IsAtRest, IsFaithful};
 ghost use Rattle.texture_build.specs.Composites.{AreComposites};
 ghost use Rattle.texture_build.specs.Draws.{KeepsArt};
 ghost use Rattle.texture_build.specs.Ready.{MakesColumnLive};

@@ -8,8 +8,7 @@ use Rattle.texture_build.proofs.build.end_composite.Goals as goal
 -- what was built is released
 pub returns-in-Ok : goal.returns-in-Ok
 returns-in-Ok c =
-    let o = composite_owner c.args.number in
-    let old = c.args.cache.now in
+    let o = composite_owner c.args.number in let old = c.args.cache.now in
     let r = c.release_composite.ensures in
     subst (EndsComposite c.args.number old c.release_composite.new.self) (sym c.in-Ok.is) (record {
       released = r.cache;
@@ -24,8 +23,7 @@ returns-in-Ok c =
 -- and after a fault its block is freed
 pub returns-in-Err : goal.returns-in-Err
 returns-in-Err c =
-    let o = composite_owner c.args.number in
-    let old = c.args.cache.now in
+    let o = composite_owner c.args.number in let old = c.args.cache.now in
     let d = c.drop_composite.ensures in
     subst (EndsComposite c.args.number old c.drop_composite.new.self) (sym c.in-Err.is) (record {
       released = tt;

@@ -9,12 +9,12 @@ use Rattle.wall_columns.proofs.paint.paint_strips.Goals as goal
 pub paint_part-requires-clause-rows : goal.paint_part-requires-clause-rows
 paint_part-requires-clause-rows g c =
     (plan-rows c.args.tools.now.view.now.shape.height c.args.numbers.now c.args.plan.now
-    c.requires.strips).0
+    c.requires.strips.0).0
 
 pub paint_part-requires-clause-texture : goal.paint_part-requires-clause-texture
 paint_part-requires-clause-texture g c =
     (plan-textures c.args.tools.now.dir.now.lumps c.args.tools.now.textures.now
-    c.args.tools.now.cache.now c.args.numbers.now c.args.plan.now c.requires.textures).0
+    c.args.tools.now.cache.now c.args.numbers.now c.args.plan.now c.requires.strips.1).0
 
 pub paint_part-requires-2-clause-rows : goal.paint_part-requires-2-clause-rows
 paint_part-requires-2-clause-rows g c =
@@ -22,7 +22,7 @@ paint_part-requires-2-clause-rows g c =
     (strip_with c.args.numbers.now.top_part c.args.plan.now.top))
     (sym (ap (λ r. r.now) c.in_ok-paint_part.ensures.same.0))
     (plan-rows c.args.tools.now.view.now.shape.height c.args.numbers.now c.args.plan.now
-    c.requires.strips).1.0
+    c.requires.strips.0).1.0
 
 pub paint_part-requires-2-clause-texture : goal.paint_part-requires-2-clause-texture
 paint_part-requires-2-clause-texture g c = λ some.
@@ -30,7 +30,7 @@ paint_part-requires-2-clause-texture g c = λ some.
     (ap (λ t. t.now) c.in_ok-paint_part.ensures.same.1.0)
     c.in_ok-paint_part.ensures.paints.draws.keeps.counts
     ((plan-textures c.args.tools.now.dir.now.lumps c.args.tools.now.textures.now
-    c.args.tools.now.cache.now c.args.numbers.now c.args.plan.now c.requires.textures).1.0 some)
+    c.args.tools.now.cache.now c.args.numbers.now c.args.plan.now c.requires.strips.1).1.0 some)
 
 pub paint_part-requires-3-clause-rows : goal.paint_part-requires-3-clause-rows
 paint_part-requires-3-clause-rows g c =
@@ -39,7 +39,7 @@ paint_part-requires-3-clause-rows g c =
     (sym (ap (λ r. r.now) c.in_ok-paint_part-2.ensures.same.0
     ∙ ap (λ r. r.now) c.in_ok-paint_part.ensures.same.0))
     (plan-rows c.args.tools.now.view.now.shape.height c.args.numbers.now c.args.plan.now
-    c.requires.strips).1.1.0
+    c.requires.strips.0).1.1.0
 
 pub paint_part-requires-3-clause-texture : goal.paint_part-requires-3-clause-texture
 paint_part-requires-3-clause-texture g c = λ some.
@@ -51,7 +51,7 @@ paint_part-requires-3-clause-texture g c = λ some.
     (ap (λ t. t.now) c.in_ok-paint_part.ensures.same.1.0)
     c.in_ok-paint_part.ensures.paints.draws.keeps.counts
     ((plan-textures c.args.tools.now.dir.now.lumps c.args.tools.now.textures.now
-    c.args.tools.now.cache.now c.args.numbers.now c.args.plan.now c.requires.textures).1.1.0 some))
+    c.args.tools.now.cache.now c.args.numbers.now c.args.plan.now c.requires.strips.1).1.1.0 some))
 
 pub returns-in_err-paint_part-clause-paints : goal.returns-in_err-paint_part-clause-paints
 returns-in_err-paint_part-clause-paints g c =
