@@ -1,5 +1,5 @@
 -- Each texture of accepted lists has a row, and so has what is prepared of it.
-use Rattle.std.proofs.Common.{◌≡◌, ℕ, zero, suc, ◌+◌, ◌<◌, Bool, true, false, List, Option, Some, None, sym, arith}
+use Rattle.std.proofs.Common.{◌≡◌, ℕ, zero, suc, ◌+◌, ◌<◌, Bool, true, false, List, Some, None, sym, arith}
 use Rattle.std.specs.Prelude.{◌||◌, pos, int_lt}
 use Rattle.std.specs.Int.{w16, cast_signed}
 use Rattle.std.proofs.lemmas.Bool.{false≢true}

@@ -1,6 +1,6 @@
 -- Laws of `AreTexturesOf`: what is prepared of such textures has a column, and its columns are
 -- those of its patches.
-use Rattle.std.proofs.Common.{◌≡◌, ℕ, ◌<◌, List, length, Option, Some, None, sym, ap, arith}
+use Rattle.std.proofs.Common.{◌≡◌, ℕ, ◌<◌, List, length, Some, None, sym, ap, arith}
 use Rattle.lump_rules.specs.declared.wad.Lump.{Lump}
 use Rattle.lump_rules.specs.Contents.{lump_bytes}
 use Rattle.art_rules.specs.declared.PlacedPatch.{PlacedPatch}

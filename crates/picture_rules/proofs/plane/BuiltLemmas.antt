@@ -1,7 +1,7 @@
 -- Laws of the planes that events build: one event more, one column more, and that equal rows mark equally.
 use Rattle.std.proofs.Common.{◌≡◌, ◌<◌, ℕ, zero, suc, ◌+◌, ◌-◌, ◌≤◌, Bool, true, false, List, [], ◌∷◌, ◌++◌, Option, Some, None, length, refl, ap, ◌∙◌, arith}
 use Rattle.picture_rules.specs.declared.plane.PlaneKey.{PlaneKey}
-use Rattle.picture_rules.specs.plane.Planes.{Plane, PlaneChoice, find, check, AreWide}
+use Rattle.picture_rules.specs.plane.Planes.{Plane, PlaneChoice, find, AreWide}
 use Rattle.picture_rules.specs.plane.Built.{PlaneWall, PlaneEvent, PlanesNow, floor_found, ceiling_found, checked_plane, with_ceiling, with_floor, ceiling_checked, floor_checked, set_run, column_marked, columns_marked, wall_marked, after_event, after_events, MarkAlike, IsAmongPlanes, IsSoundNow}
 use Rattle.picture_rules.specs.plane.Built.PlaneEvent.{Finds, Draws}
 use Rattle.picture_rules.proofs.plane.PlaneLemmas.{wide-find, wide-check, wide-mark, find-within, check-within, length-find, length-check, length-mark}

@@ -4,7 +4,6 @@ use Rattle.std.specs.Prelude.{map, ◌||◌}
 use Rattle.std.specs.List.{range_with_len}
 use Rattle.std.specs.Int.{from_bool}
 use Rattle.std.proofs.lemmas.List.{append_assoc, append-nil, length-append, get_or-append_right, get_or_append_left}
-use Rattle.word_rules.specs.Words.{minus_one}
 use Rattle.word_rules.specs.Listed.{listed_from}
 use Rattle.word_rules.proofs.ListedLemmas.{length-listed_from, get_or-listed_from}
 use Rattle.view_rules.specs.View.{ViewValue}

@@ -1,5 +1,5 @@
-use Rattle.std.proofs.Common.{ap, sym, ◌∙◌, subst}
-use Rattle.view_rules.specs.View.{ViewValue, view_of}
+use Rattle.std.proofs.Common.{ap, ◌∙◌, subst}
+use Rattle.view_rules.specs.View.{ViewValue}
 use Rattle.picture_rules.specs.Paints.{view_paints}
 use Rattle.frame_core.specs.Scenes.{scene_of}
 use Rattle.frame_core.specs.Views.{PaintsView, placed_for, view_scene, view_state}
