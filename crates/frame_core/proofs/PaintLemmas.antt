@@ -12,17 +12,11 @@ use Rattle.texture_build.specs.Draws.{FitBeside}
 use Rattle.texture_build.proofs.DrawLemmas.{holds_art-later, draws-none, draws-then, draws-stop, draws-value}
 use Rattle.texture_build.proofs.BesideLemmas.{fit_beside-append}
 use Rattle.lump_cache.specs.Caches.{KeepsCounts}
+use Rattle.lump_cache.proofs.FillLemmas.{on_ok}
+use Rattle.masked_draw.proofs.StepLemmas.{on_ok_err}
 use Rattle.sound_scene.specs.Sound.{textures_view}
 use Rattle.frame_core.specs.declared.fault.ViewFault.{ViewFault}
 use Rattle.frame_core.specs.Views.{CanDrawView, PaintsView, ViewScene, ViewState, held_scene}
-
-pub on_ok_then : {A E : Type 0} (P Q : Type 0) (result : Result A E) → (P → Q) → OnOk result P → OnOk result Q
-on_ok_then P Q (Ok x) f h = f h
-on_ok_then P Q (Err e) f h = tt
-
-pub on_ok_err : {A E : Type 0} (P : Type 0) (fault : E) (whole : Result A E) → IsErrAnd whole (λ e. e ≡ fault) → OnOk whole P
-on_ok_err P fault (Ok x) is = absurd is
-on_ok_err P fault (Err e) is = tt
 
 module _ {mark : Painter → ℕ → ℕ} {s : ViewScene} where
   -- a call that touched nothing
@@ -41,16 +35,12 @@ module _ {mark : Painter → ℕ → ℕ} {s : ViewScene} where
       PaintsView mark s (λ scene. f scene ++ g scene) a c result
   paints-then {f = f} {g} {a} {b} {c} {first} {result} one two = record {
     painted = λ contents count hold.
-        let later = holds_art-later one.draws.keeps hold in
-        on_ok_then (HasDots mark (g (held_scene contents s)) b.canvas c.canvas) (HasDots mark (f (held_scene contents s) ++ g (held_scene contents s)) a.canvas c.canvas) result
-        (λ h. has_dots-append (one.painted contents count hold) h) (two.painted contents count later);
+        on_ok result (has_dots-append (one.painted contents count hold)) (two.painted contents count (holds_art-later one.draws.keeps hold));
     fits = λ contents count hold.
-        let later = holds_art-later one.draws.keeps hold in
-        on_ok_then (FitBeside s.dir.lumps (textures_view s.scene) s.scene.base.colormap count b.cache.size (g (held_scene contents s)))
-        (FitBeside s.dir.lumps (textures_view s.scene) s.scene.base.colormap count a.cache.size (f (held_scene contents s) ++ g (held_scene contents s))) result
+        on_ok result
         (λ h. fit_beside-append s.dir.lumps (textures_view s.scene) s.scene.base.colormap count a.cache.size (f (held_scene contents s)) (g (held_scene contents s)) (one.fits contents count hold)
         (subst (λ (n : ℕ). FitBeside s.dir.lumps (textures_view s.scene) s.scene.base.colormap count n (g (held_scene contents s))) one.draws.keeps.counts.0 h))
-        (two.fits contents count later);
+        (two.fits contents count (holds_art-later one.draws.keeps hold));
     draws = draws-then one.draws two.draws;
     place = placed-then one.place two.place;
   }

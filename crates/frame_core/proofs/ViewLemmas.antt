@@ -1,5 +1,5 @@
 -- Laws of a whole view: its three parts in order, where its dots lie, what ends it, and the frame that it leaves.
-use Rattle.std.proofs.Common.{◌≡◌, ℕ, zero, suc, ◌+◌, ◌≤◌, List, [], ◌++◌, Option, Some, None, Result, Ok, Err, IsErrAnd, OnOk, length, get_or, replicate, refl, ap, sym, ◌∙◌, subst, arith}
+use Rattle.std.proofs.Common.{◌≡◌, ℕ, Bor, zero, suc, ◌+◌, ◌≤◌, List, [], ◌++◌, Option, Some, None, Result, Ok, Err, IsErrAnd, OnOk, length, get_or, replicate, refl, ap, sym, ◌∙◌, subst, arith}
 use Rattle.std.specs.Prelude.{All, IfErr, IfSome}
 use Rattle.std.specs.List.{AllPass}
 use Rattle.std.proofs.lemmas.List.{length-replicate}
@@ -24,6 +24,7 @@ use Rattle.picture_rules.specs.sprite.Order.{draw_order}
 use Rattle.vissprites.specs.Bounds.{lies_within}
 use Rattle.vissprites.proofs.BoundLemmas.{draw_order-all}
 use Rattle.scene_rules.specs.Scenes.{SceneValue}
+use Rattle.sound_scene.specs.Sound.{SoundValue}
 use Rattle.picture_rules.specs.declared.Limits.{Limits}
 use Rattle.picture_rules.specs.declared.OverLimit.{OverLimit}
 use Rattle.picture_rules.specs.Counts.{view_over, view_steps}
@@ -37,6 +38,7 @@ use Rattle.picture_rules.specs.Walls.{walls_dots, walls_of}
 use Rattle.picture_rules.proofs.FrameLemmas.{frame_of-put_dots, in_view-append}
 use Rattle.frame_core.specs.declared.bench.Bench.{Bench}
 use Rattle.frame_core.specs.declared.fault.ViewFault.{ViewFault}
+use Rattle.frame_core.specs.declared.tools.ViewTools.{ViewTools}
 use Rattle.frame_core.specs.Faults.{limit_of_view}
 use Rattle.frame_core.specs.Scenes.{lists_of, scene_of}
 use Rattle.frame_core.specs.Views.{CanDrawView, PaintsView, ViewScene, ViewState, view_scene, view_state}
@@ -45,6 +47,17 @@ use Rattle.frame_core.specs.Painters.{HasWalkedView, IsPlacedIn, drawn_walls, li
 use Rattle.frame_core.proofs.PaintLemmas.{paints-same, paints-then}
 use Rattle.frame_core.proofs.PartDotLemmas.{LiesInView, planes-in_view, walls-in_view}
 use Rattle.frame_core.proofs.ViewDotLemmas.{drawsegs-in_view, masked-in_view}
+
+-- tools read the view, the scene and the directory that others read
+abbrev pub ReadsAlike : {S C : Type 0} → ViewTools S C → ViewTools S C → Type 0
+ReadsAlike old new = (new.view.now ≡ old.view.now) × ((new.scene.now.scene ≡ old.scene.now.scene) × (new.dir.now ≡ old.dir.now))
+
+pub reads-alike : {scene scene' : Bor SoundValue} {view view' : Bor ViewValue} {dir dir' : Bor DirectoryView} → (scene' ≡ scene) × ((view' ≡ view) × (dir' ≡ dir)) →
+    (view'.now ≡ view.now) × ((scene'.now.scene ≡ scene.now.scene) × (dir'.now ≡ dir.now))
+reads-alike same = (ap (λ (r : Bor ViewValue). r.now) same.1.0, (ap (λ (r : Bor SoundValue). r.now.scene) same.0, ap (λ (r : Bor DirectoryView). r.now) same.1.1))
+
+pub reads-then : {S C : Type 0} (a b c : ViewTools S C) → ReadsAlike a b → ReadsAlike b c → ReadsAlike a c
+reads-then a b c one two = (two.0 ∙ one.0, (two.1.0 ∙ one.1.0, two.1.1 ∙ one.1.1))
 
 -- a bench that was started is one that no event has come to, within its own limits
 pub started : (v : ViewValue) (s : SceneValue) (old now : Bench) → limits_in now ≡ limits_in old → ((bytes : ℕ → List ℕ) → HasWalked v bytes s (limits_in old) [] now) →
@@ -158,6 +171,12 @@ if_err-stop P part fault (Err e) was is h = subst P (sym is) (subst (λ r. IfErr
 pub if_err-no_limit : {A : Type 0} (P : OverLimit → Type 0) (result : Result A ViewFault) → IfErr result (λ fault. limit_of_view fault ≡ None) → IfErr result (λ fault. IfSome (limit_of_view fault) P)
 if_err-no_limit P (Ok x) h = tt
 if_err-no_limit P (Err e) h = subst (λ (o : Option OverLimit). IfSome o P) (sym h) tt
+
+-- no limit is passed, of the same view and the same limits by other words
+pub within-at : {A E : Type 0} (result : Result A E) (v w : ViewValue) (scene : Scene) (l m : Limits) → v ≡ w → l ≡ m →
+    OnOk result (view_over v scene l ≡ None) → OnOk result (view_over w scene m ≡ None)
+within-at result v w scene l m p q within =
+    subst (λ (x : ViewValue). OnOk result (view_over x scene m ≡ None)) p (subst (λ (n : Limits). OnOk result (view_over v scene n ≡ None)) q within)
 
 -- a limit that is told, of the same view and the same limits by other words
 pub over-at : {A : Type 0} (result : Result A ViewFault) (v w : ViewValue) (scene : Scene) (l m : Limits) → v ≡ w → l ≡ m →

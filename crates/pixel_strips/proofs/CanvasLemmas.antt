@@ -16,6 +16,15 @@ use Rattle.pixel_strips.specs.Canvases.{CanvasView, with_dot, with_dots}
 pub dots_none : (mark : Painter → ℕ → ℕ) (canvas : CanvasView) → canvas ≡ with_dots mark [] canvas
 dots_none mark canvas = ap (λ (cells : List ℕ). record canvas { cells = cells }) (sym (put_dots-none mark canvas.left canvas.top canvas.cells))
 
+-- the dots of a strip, where its colours have another name
+pub recoloured : (mark : Painter → ℕ → ℕ) (canvas view : CanvasView) (dots : (ℕ → ℕ) → List Dot) (f g : ℕ → ℕ) →
+    view ≡ with_dots mark (dots f) canvas → f ≡ g → view ≡ with_dots mark (dots g) canvas
+recoloured mark canvas view dots f g painted same = painted ∙ ap (λ (colour : ℕ → ℕ). with_dots mark (dots colour) canvas) same
+
+-- a frame's view, told by its parts
+abbrev pub view_with : Painter → ℕ → ℕ → List ℕ → CanvasView
+view_with painter left top cells = record { cells = cells; painter = painter; left = left; top = top }
+
 -- one dot more, by the painter that paints
 pub dots_more : (mark : Painter → ℕ → ℕ) (ds : List Dot) (d : Dot) (canvas before after : CanvasView) → before ≡ with_dots mark ds canvas →
     d.painter ≡ canvas.painter → after ≡ with_dot mark d.x d.y d.colour before → after ≡ with_dots mark (ds ++ d ∷ []) canvas

@@ -1,5 +1,5 @@
 -- Laws of `fill_cells`: one cell more, and that the cells of a strip of a frame are those of its dots.
-use Rattle.std.proofs.Common.{◌≡◌, ℕ, zero, suc, ◌+◌, ◌*◌, List, [], ◌∷◌, ◌++◌, set, refl, ap, sym, ◌∙◌, arith}
+use Rattle.std.proofs.Common.{◌≡◌, ℕ, zero, suc, ◌+◌, ◌*◌, ℤ, List, [], ◌∷◌, ◌++◌, set, refl, ap, sym, ◌∙◌, arith}
 use Rattle.view_rules.specs.declared.TheConstants.{FRAME_WIDTH}
 use Rattle.pixel_rules.specs.declared.Painter.{Painter}
 use Rattle.pixel_rules.specs.Dots.{Dot, cell_of, put_dots}
@@ -7,11 +7,19 @@ use Rattle.pixel_rules.specs.Strips.{column_dots, span_dots}
 use Rattle.pixel_rules.proofs.DotLemmas.{put_dots-more, put_dots-none}
 use Rattle.word_rules.specs.Listed.{listed_from}
 use Rattle.pixel_strips.specs.Canvases.{marked_by_colour, fill_cells}
+use Rattle.pixel_strips.specs.Fills.{ColumnFilled, SpanFilled}
 use Rattle.pixel_strips.proofs.CanvasLemmas.{rows_dots, rows_none, rows_more, rows_all, span_dot, columns_dots, columns_none, columns_more, columns_all}
 
 pub fill_cells-none : (place value : ℕ → ℕ) (cells : List ℕ) → cells ≡ fill_cells place value 0 cells
 unfolding fill_cells
 fill_cells-none place value cells = refl
+
+-- no cell of a strip is set yet
+pub column_filled-none : {texels shades : List ℕ} {fraction step : ℤ} {start : ℕ} {cells : List ℕ} → ColumnFilled texels shades fraction step start 0 cells cells
+column_filled-none {cells = cells} = record { filled = fill_cells-none _ _ cells }
+
+pub span_filled-none : {texels shades : List ℕ} {x y x_step y_step : ℤ} {start : ℕ} {cells : List ℕ} → SpanFilled texels shades x y x_step y_step start 0 cells cells
+span_filled-none {cells = cells} = record { filled = fill_cells-none _ _ cells }
 
 pub fill_cells-more : (place value : ℕ → ℕ) (k n : ℕ) (cells : List ℕ) → k + 1 ≡ n →
     set (fill_cells place value k cells) (place k) (value k) ≡ fill_cells place value n cells

@@ -1,12 +1,12 @@
 -- Laws of places: the first one, one step more, and the texel that a place stands for.
-use Rattle.std.proofs.Common.{◌≡◌, ℕ, ◌+◌, ◌*◌, ◌/◌, ◌%◌, ◌^◌, ◌<◌, ◌≤◌, ℤ, pos, negsuc, FitsSigned, refl, subst, sym, ap, ap₂, ◌∙◌, arith, add-mul, mod-lt, pow_pos}
+use Rattle.std.proofs.Common.{◌≡◌, ℕ, ◌+◌, ◌*◌, ◌/◌, ◌%◌, ◌^◌, ◌<◌, ◌≤◌, ℤ, pos, negsuc, FitsSigned, refl, subst, subst₂, to_z, of_z, sym, ap, ap₂, ◌∙◌, arith, add-mul, mod-lt, pow_pos}
 use native.Mathlib.Nat.{add-mod}
 use Rattle.std.specs.Int.{w32, cast_unsigned, int_wrap}
-use Rattle.std.proofs.lemmas.Int.{of_z-to_z, int_wrap-add_left, int_wrap-add_right, wrapping_add_is, SFits-int_wrap}
+use Rattle.std.proofs.lemmas.Int.{of_z-to_z, to_z-of_z, int_wrap-add_left, int_wrap-add_right, wrapping_add_is, SFits-int_wrap}
 use Rattle.std.proofs.lemmas.Nat.{mul-mod_first}
 use lib.IntN.{◌+ℤ◌, +ℤ_assoc}
 use Rattle.word_rules.specs.Steps.{step_at}
-use Rattle.word_rules.proofs.StepLemmas.{step_at-more}
+use Rattle.word_rules.proofs.StepLemmas.{step_at-zero, step_at-more}
 use Rattle.word_rules.specs.Words.{bits_of, plus, shr_word}
 use Rattle.word_rules.specs.declared.TheConstants.{FRACTION_BITS}
 use Rattle.pixel_rules.specs.declared.TheConstants.{FLAT_SIDE}
@@ -14,7 +14,8 @@ use Rattle.pixel_rules.specs.Strips.{texel_row, flat_place}
 use Rattle.pixel_strips.specs.declared.places.TheConstants.{ROW_LIFT, ROW_SHIFT, FLAT_LIFT, CARRIES}
 use Rattle.pixel_strips.specs.Places.{lifted, IsTexelPlace, IsFlatPlace}
 
-plus_fits : (a b : ℤ) → FitsSigned w32 (plus a b)
+-- a sum is a word
+pub plus_fits : (a b : ℤ) → FitsSigned w32 (plus a b)
 unfolding plus
 plus_fits a b = SFits-int_wrap w32 (a +ℤ b)
 
@@ -173,3 +174,14 @@ flat_place-on x y a b most few place d e h p = record {
   few = let held = p.few in omega (arith, held, h);
   is = p.is ∙ ap₂ (λ (u v : ℤ). 2 ^ 32 * (lifted FLAT_LIFT v + p.carries) + lifted FLAT_LIFT u) d e;
 }
+
+-- the first fraction, as the code has its word, is that of step 0
+first_step : (first step : ℤ) → FitsSigned w32 first → to_z w32 (of_z w32 first) ≡ step_at first step 0
+first_step first step f = to_z-of_z w32 first f ∙ step_at-zero first step f
+
+pub texel_place_begun : (first step : ℤ) (place : ℕ) → FitsSigned w32 first → IsTexelPlace (to_z w32 (of_z w32 first)) place → IsTexelPlace (step_at first step 0) place
+texel_place_begun first step place f p = subst (λ (z : ℤ). IsTexelPlace z place) (first_step first step f) p
+
+pub flat_place_begun : (x y x_step y_step : ℤ) (place : ℕ) → FitsSigned w32 x → FitsSigned w32 y →
+    IsFlatPlace (to_z w32 (of_z w32 x)) (to_z w32 (of_z w32 y)) 0 place → IsFlatPlace (step_at x x_step 0) (step_at y y_step 0) 0 place
+flat_place_begun x y x_step y_step place f g p = subst₂ (λ (a b : ℤ). IsFlatPlace a b 0 place) (first_step x x_step f) (first_step y y_step g) p

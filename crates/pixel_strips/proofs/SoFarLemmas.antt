@@ -1,5 +1,5 @@
 -- A strip that is painted dot by dot: what stands so far, at its begin, one dot more, and at its end.
-use Rattle.std.proofs.Common.{◌≡◌, ℕ, ◌+◌, ◌-◌, ◌≤◌, ℤ, FitsSigned, List, [], ap, ap₂, sym, ◌∙◌, refl, arith, to_z, of_z}
+use Rattle.std.proofs.Common.{◌≡◌, ℕ, ◌+◌, ◌-◌, ◌≤◌, ℤ, FitsSigned, List, [], subst, ap, ap₂, sym, ◌∙◌, refl, arith, to_z, of_z}
 use Rattle.std.specs.Int.{w32}
 use Rattle.std.proofs.lemmas.Int.{to_z-of_z}
 use Rattle.word_rules.specs.Words.{plus}
@@ -10,16 +10,18 @@ use Rattle.pixel_rules.specs.Dots.{Dot}
 use Rattle.pixel_rules.specs.Strips.{span_dots}
 use Rattle.pixel_strips.specs.Canvases.{CanvasView, with_dot, with_dots}
 use Rattle.pixel_strips.specs.Strips.{column_strip_dots}
+use Rattle.pixel_strips.proofs.PlaceLemmas.{plus_fits}
 use Rattle.pixel_strips.proofs.CanvasLemmas.{dots_none, dots_more, rows_dots, rows_none, rows_more, rows_all, span_dot, columns_dots, columns_none, columns_more, columns_all}
 
 -- what stands at row y of a column, or at column x of a span: the fraction, as the code has its word
 first_fraction : (first step : ℤ) (k : ℕ) → FitsSigned w32 first → 0 ≡ k → to_z w32 (of_z w32 first) ≡ step_at first step k
 first_fraction first step k f e = to_z-of_z w32 first f ∙ step_at-zero first step f ∙ ap (step_at first step) e
 
-next_fraction : (first step now sum : ℤ) (k n : ℕ) → k + 1 ≡ n → FitsSigned w32 step → FitsSigned w32 sum → now ≡ step_at first step k →
+next_fraction : (first step now sum : ℤ) (k n : ℕ) → k + 1 ≡ n → FitsSigned w32 step → now ≡ step_at first step k →
     sum ≡ plus now (to_z w32 (of_z w32 step)) → to_z w32 (of_z w32 sum) ≡ step_at first step n
-next_fraction first step now sum k n e f g at more =
-    to_z-of_z w32 sum g ∙ more ∙ ap (plus now) (to_z-of_z w32 step f) ∙ ap (λ (z : ℤ). plus z step) at ∙ step_at-more first step k n e
+next_fraction first step now sum k n e f at more =
+    to_z-of_z w32 sum (subst (FitsSigned w32) (sym more) (plus_fits now (to_z w32 (of_z w32 step))))
+    ∙ more ∙ ap (plus now) (to_z-of_z w32 step f) ∙ ap (λ (z : ℤ). plus z step) at ∙ step_at-more first step k n e
 
 -- the dots, where the list of them has another name
 dots_renamed : (mark : Painter → ℕ → ℕ) (canvas view : CanvasView) (ds es : List Dot) → view ≡ with_dots mark ds canvas → ds ≡ es → view ≡ with_dots mark es canvas
@@ -28,82 +30,89 @@ dots_renamed mark canvas view ds es painted e = painted ∙ ap (λ (dots : List 
 -- the rows of a column above y are painted, and the fraction is that of row y
 pub record ColumnSoFar (mark : Painter → ℕ → ℕ) (x : ℕ) (colour : ℤ → ℕ) (fraction step : ℤ) (first y : ℕ) (now : ℤ) (canvas view : CanvasView) : Type 0 where
   pub from : first ≤ y
+  pub step_fits : FitsSigned w32 step
   pub at : now ≡ step_at fraction step (y - first)
   pub painted : view ≡ with_dots mark (rows_dots canvas.painter x (λ k. colour (step_at fraction step (k - first))) first (y - first)) canvas
 
-pub column_begun : (mark : Painter → ℕ → ℕ) (x : ℕ) (colour : ℤ → ℕ) (fraction step : ℤ) (first : ℕ) (canvas : CanvasView) → FitsSigned w32 fraction →
+pub column_begun : (mark : Painter → ℕ → ℕ) (x : ℕ) (colour : ℤ → ℕ) (fraction step : ℤ) (first : ℕ) (canvas : CanvasView) → FitsSigned w32 fraction → FitsSigned w32 step →
     ColumnSoFar mark x colour fraction step first first (to_z w32 (of_z w32 fraction)) canvas canvas
-column_begun mark x colour fraction step first canvas f = let none : 0 ≡ first - first = omega arith in record {
+column_begun mark x colour fraction step first canvas f g = let none : 0 ≡ first - first = omega arith in record {
   from = omega arith;
+  step_fits = g;
   at = first_fraction fraction step (first - first) f none;
   painted = dots_renamed mark canvas canvas [] _ (dots_none mark canvas) (sym (rows_none _ _ _ _ _ (sym none)));
 }
 
-pub column_dotted : (mark : Painter → ℕ → ℕ) (x : ℕ) (colour : ℤ → ℕ) (fraction step : ℤ) (first y v : ℕ) (now sum : ℤ) (canvas view after : CanvasView) →
-    ColumnSoFar mark x colour fraction step first y now canvas view → FitsSigned w32 step → FitsSigned w32 sum →
-    v ≡ colour now → sum ≡ plus now (to_z w32 (of_z w32 step)) → after ≡ with_dot mark x y v view →
+pub column_dotted : {mark : Painter → ℕ → ℕ} {x : ℕ} {colour : ℤ → ℕ} {fraction step : ℤ} {first y v : ℕ} {now sum : ℤ} {canvas view after : CanvasView} →
+    ColumnSoFar mark x colour fraction step first y now canvas view → v ≡ colour now → sum ≡ plus now (to_z w32 (of_z w32 step)) → after ≡ with_dot mark x y v view →
     ColumnSoFar mark x colour fraction step first (y + 1) (to_z w32 (of_z w32 sum)) canvas after
-column_dotted mark x colour fraction step first y v now sum canvas view after old f g is more dot =
+column_dotted {mark} {x} {colour} {fraction} {step} {first} {y} {v} {now} {sum} {canvas} {view} {after} old is more dot =
     let from = old.from in
     let e : y - first + 1 ≡ y + 1 - first = omega arith in
     let of_row : ℕ → ℕ = λ k. colour (step_at fraction step (k - first)) in
     record {
       from = omega arith;
-      at = next_fraction fraction step now sum (y - first) (y + 1 - first) e f g old.at more;
+      step_fits = old.step_fits;
+      at = next_fraction fraction step now sum (y - first) (y + 1 - first) e old.step_fits old.at more;
       painted = dots_renamed mark canvas after _ _
           (dots_more mark (rows_dots canvas.painter x of_row first (y - first)) (record { x = x; y = y; colour = of_row y; painter = canvas.painter })
           canvas view after old.painted refl (dot ∙ ap (λ (c : ℕ). with_dot mark x y c view) (is ∙ ap colour old.at)))
           (rows_more canvas.painter x of_row first (y - first) (y + 1 - first) y e (omega arith));
     }
 
-pub column_ended : (mark : Painter → ℕ → ℕ) (x : ℕ) (colour : ℤ → ℕ) (fraction step : ℤ) (first last y : ℕ) (now : ℤ) (canvas view : CanvasView) →
+pub column_ended : {mark : Painter → ℕ → ℕ} {x : ℕ} {colour : ℤ → ℕ} {fraction step : ℤ} {first y : ℕ} {now : ℤ} {canvas view : CanvasView} (last : ℕ) →
     ColumnSoFar mark x colour fraction step first y now canvas view → first + (y - first) ≡ last + 1 →
     view ≡ with_dots mark (column_strip_dots canvas.painter x (λ k. colour (step_at fraction step (k - first))) first last) canvas
-column_ended mark x colour fraction step first last y now canvas view old e =
+column_ended {mark} {x} {colour} {fraction} {step} {first} {y} {now} {canvas} {view} last old e =
     dots_renamed mark canvas view _ _ old.painted (rows_all canvas.painter x (λ k. colour (step_at fraction step (k - first))) first last (y - first) e)
 
 -- the columns of a span left of x are painted, and the fractions are those of column x
 pub record SpanSoFar (mark : Painter → ℕ → ℕ) (y : ℕ) (colour : ℤ → ℤ → ℕ) (x_fraction y_fraction x_step y_step : ℤ) (first x : ℕ) (x_now y_now : ℤ)
     (canvas view : CanvasView) : Type 0 where
   pub from : first ≤ x
+  pub x_step_fits : FitsSigned w32 x_step
+  pub y_step_fits : FitsSigned w32 y_step
   pub x_at : x_now ≡ step_at x_fraction x_step (x - first)
   pub y_at : y_now ≡ step_at y_fraction y_step (x - first)
   pub painted : view ≡ with_dots mark
       (columns_dots canvas.painter y (λ k. colour (step_at x_fraction x_step (k - first)) (step_at y_fraction y_step (k - first))) first (x - first)) canvas
 
 pub span_begun : (mark : Painter → ℕ → ℕ) (y : ℕ) (colour : ℤ → ℤ → ℕ) (x_fraction y_fraction x_step y_step : ℤ) (first : ℕ) (canvas : CanvasView) →
-    FitsSigned w32 x_fraction → FitsSigned w32 y_fraction →
+    FitsSigned w32 x_fraction → FitsSigned w32 y_fraction → FitsSigned w32 x_step → FitsSigned w32 y_step →
     SpanSoFar mark y colour x_fraction y_fraction x_step y_step first first (to_z w32 (of_z w32 x_fraction)) (to_z w32 (of_z w32 y_fraction)) canvas canvas
-span_begun mark y colour x_fraction y_fraction x_step y_step first canvas f g = let none : 0 ≡ first - first = omega arith in record {
+span_begun mark y colour x_fraction y_fraction x_step y_step first canvas f g h k = let none : 0 ≡ first - first = omega arith in record {
   from = omega arith;
+  x_step_fits = h;
+  y_step_fits = k;
   x_at = first_fraction x_fraction x_step (first - first) f none;
   y_at = first_fraction y_fraction y_step (first - first) g none;
   painted = dots_renamed mark canvas canvas [] _ (dots_none mark canvas) (sym (columns_none canvas.painter y
       (λ k. colour (step_at x_fraction x_step (k - first)) (step_at y_fraction y_step (k - first))) first (first - first) (sym none)));
 }
 
-pub span_dotted : (mark : Painter → ℕ → ℕ) (y : ℕ) (colour : ℤ → ℤ → ℕ) (x_fraction y_fraction x_step y_step : ℤ) (first x v : ℕ) (x_now y_now x_sum y_sum : ℤ)
-    (canvas view after : CanvasView) → SpanSoFar mark y colour x_fraction y_fraction x_step y_step first x x_now y_now canvas view →
-    FitsSigned w32 x_step × FitsSigned w32 x_sum → FitsSigned w32 y_step × FitsSigned w32 y_sum →
+pub span_dotted : {mark : Painter → ℕ → ℕ} {y : ℕ} {colour : ℤ → ℤ → ℕ} {x_fraction y_fraction x_step y_step : ℤ} {first x v : ℕ} {x_now y_now x_sum y_sum : ℤ}
+    {canvas view after : CanvasView} → SpanSoFar mark y colour x_fraction y_fraction x_step y_step first x x_now y_now canvas view →
     v ≡ colour x_now y_now → x_sum ≡ plus x_now (to_z w32 (of_z w32 x_step)) → y_sum ≡ plus y_now (to_z w32 (of_z w32 y_step)) → after ≡ with_dot mark x y v view →
     SpanSoFar mark y colour x_fraction y_fraction x_step y_step first (x + 1) (to_z w32 (of_z w32 x_sum)) (to_z w32 (of_z w32 y_sum)) canvas after
-span_dotted mark y colour x_fraction y_fraction x_step y_step first x v x_now y_now x_sum y_sum canvas view after old f g is x_more y_more dot =
+span_dotted {mark} {y} {colour} {x_fraction} {y_fraction} {x_step} {y_step} {first} {x} {v} {x_now} {y_now} {x_sum} {y_sum} {canvas} {view} {after} old is x_more y_more dot =
     let from = old.from in
     let e : x - first + 1 ≡ x + 1 - first = omega arith in
     let of_column : ℕ → ℕ = λ k. colour (step_at x_fraction x_step (k - first)) (step_at y_fraction y_step (k - first)) in
     record {
       from = omega arith;
-      x_at = next_fraction x_fraction x_step x_now x_sum (x - first) (x + 1 - first) e f.0 f.1 old.x_at x_more;
-      y_at = next_fraction y_fraction y_step y_now y_sum (x - first) (x + 1 - first) e g.0 g.1 old.y_at y_more;
+      x_step_fits = old.x_step_fits;
+      y_step_fits = old.y_step_fits;
+      x_at = next_fraction x_fraction x_step x_now x_sum (x - first) (x + 1 - first) e old.x_step_fits old.x_at x_more;
+      y_at = next_fraction y_fraction y_step y_now y_sum (x - first) (x + 1 - first) e old.y_step_fits old.y_at y_more;
       painted = dots_renamed mark canvas after _ _
           (dots_more mark (columns_dots canvas.painter y of_column first (x - first)) (span_dot canvas.painter y of_column x)
           canvas view after old.painted refl (dot ∙ ap (λ (c : ℕ). with_dot mark x y c view) (is ∙ ap₂ colour old.x_at old.y_at)))
           (columns_more canvas.painter y of_column first (x - first) (x + 1 - first) x e (omega arith));
     }
 
-pub span_ended : (mark : Painter → ℕ → ℕ) (y : ℕ) (colour : ℤ → ℤ → ℕ) (x_fraction y_fraction x_step y_step : ℤ) (first last x : ℕ) (x_now y_now : ℤ)
-    (canvas view : CanvasView) → SpanSoFar mark y colour x_fraction y_fraction x_step y_step first x x_now y_now canvas view → first + (x - first) ≡ last + 1 →
+pub span_ended : {mark : Painter → ℕ → ℕ} {y : ℕ} {colour : ℤ → ℤ → ℕ} {x_fraction y_fraction x_step y_step : ℤ} {first x : ℕ} {x_now y_now : ℤ}
+    {canvas view : CanvasView} (last : ℕ) → SpanSoFar mark y colour x_fraction y_fraction x_step y_step first x x_now y_now canvas view → first + (x - first) ≡ last + 1 →
     view ≡ with_dots mark (span_dots canvas.painter y (λ k. colour (step_at x_fraction x_step (k - first)) (step_at y_fraction y_step (k - first))) first last) canvas
-span_ended mark y colour x_fraction y_fraction x_step y_step first last x x_now y_now canvas view old e =
+span_ended {mark} {y} {colour} {x_fraction} {y_fraction} {x_step} {y_step} {first} {x} {x_now} {y_now} {canvas} {view} last old e =
     dots_renamed mark canvas view _ _ old.painted
     (columns_all canvas.painter y (λ k. colour (step_at x_fraction x_step (k - first)) (step_at y_fraction y_step (k - first))) first last (x - first) e)

@@ -5,6 +5,7 @@ pub mod BuildLemmas
 pub mod ColumnLemmas
 pub mod EndLemmas
 pub mod ReadyLemmas
+pub mod AcceptedLemmas
 pub mod ViewLemmas
 pub mod TexelLemmas
 pub mod PrepareLemmas

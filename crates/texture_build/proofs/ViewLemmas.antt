@@ -1,147 +1,36 @@
 -- Laws of `AreTexturesOf`: what is prepared of such textures has a column, and its columns are
 -- those of its patches.
-use Rattle.std.proofs.Common.{◌≡◌, ℕ, zero, suc, ◌+◌, ◌<◌, Bool, true, false, cond, List, [], ◌∷◌, ◌++◌, length, Option, Some, None, Result, Ok, Err, refl, sym, subst, ap, ◌∙◌, arith, option_map}
-use Rattle.std.specs.Prelude.{All, Contains, nat_lt}
-use Rattle.std.proofs.lemmas.List.Elements.{All-append, All-contains, All-from_get_or, All-nil}
-use Rattle.outside.specs.Faults.{and_then}
-use Rattle.word_rules.specs.Least.{or_else}
-use Rattle.word_rules.proofs.ListedLemmas.{get_or-listed, length-listed}
+use Rattle.std.proofs.Common.{◌≡◌, ℕ, ◌<◌, List, length, Some, None, sym, ap, arith}
 use Rattle.lump_rules.specs.declared.wad.Lump.{Lump}
-use Rattle.lump_rules.specs.Lookups.{last_of}
 use Rattle.lump_rules.specs.Contents.{lump_bytes}
 use Rattle.art_rules.specs.declared.PlacedPatch.{PlacedPatch}
-use Rattle.art_rules.specs.declared.TheConstants.{MAX_COMPOSITE}
-use Rattle.art_rules.specs.declared.refusal.TexRefusal.{TexRefusal}
-use Rattle.art_rules.specs.declared.refusal.TexRefusal.TheVariants.{TooBig}
-use Rattle.art_rules.specs.Textures.{Texture, TextureLists, texture_lists, patch_names, both_lists, first_list, second_list, joined_textures, unless_wrong, first_wrong, later_wrong, later_textures, wrong_record, textures_in, texture_in, texture_place, list_count, unlisted}
-use Rattle.art_rules.specs.Columns.{composite_size}
+use Rattle.art_rules.specs.Textures.{Texture, wrong_record, texture_in, texture_place, list_count}
 use Rattle.art_rules.specs.Lookups.{column_lookups}
-use Rattle.art_rules.specs.Wanted.{PreparedTexture, placed_patches, texture_of, unless_too_big, unless_missing, prepared, prepared_if, prepared_from, prepared_textures}
+use Rattle.art_rules.specs.Wanted.{PreparedTexture, texture_of}
 use Rattle.art_rules.proofs.LookupLemmas.{length-column_lookups}
 use Rattle.texture_lists.proofs.PartLemmas.{width_within}
 use Rattle.texture_build.specs.Views.{AreTexturesOf, TexturesView, prepared_at}
-
-and_then_ok : {A B R : Type 0} (r : Result A R) (next : A → Result B R) (y : B) → and_then r next ≡ Ok y → (x : A) × (r ≡ Ok x) × (next x ≡ Ok y)
-and_then_ok (Ok x) next y e = (x, refl, e)
-and_then_ok (Err reason) next y e = cc
+use Rattle.texture_build.proofs.AcceptedLemmas.{each_prepared}
 
 -- each texture of accepted lists has a column
 abbrev is_wide : Texture → Type 0
 is_wide t = 0 < t.width
 
-wide_list : (bytes : List ℕ) → wrong_record bytes ≡ None → All is_wide (textures_in bytes)
-unfolding textures_in texture_in
-wide_list bytes none = All-from_get_or is_wide (textures_in bytes) unlisted (λ i lt.
-    let each = λ (k : ℕ). texture_in bytes (texture_place bytes k) in
-    let l = length-listed each (list_count bytes) in
-    let within : i < list_count bytes = omega arith in
-    subst is_wide (sym (get_or-listed each (list_count bytes) i unlisted within)) (width_within bytes i none within))
-
-map_none : (f : ℕ → ℕ) (x : Option ℕ) → option_map f x ≡ None → x ≡ None
-map_none f None e = refl
-map_none f (Some n) e = cc
-
-wide_later : (before : ℕ) (second : Option (List ℕ)) → later_wrong before second ≡ None → All is_wide (later_textures second)
-unfolding later_wrong later_textures
-wide_later before None none = All-nil is_wide
-wide_later before (Some bytes) none = wide_list bytes (map_none (λ i. before + i) (wrong_record bytes) none)
-
-both_none : (x y : Option ℕ) → or_else x y ≡ None → (x ≡ None) × (y ≡ None)
-both_none None y e = (refl, e)
-both_none (Some n) y e = cc
-
-wide_unless : (wrong : Option ℕ) (ts us : List Texture) → (wrong ≡ None → All is_wide ts) → unless_wrong wrong ts ≡ Ok us → All is_wide us
-unfolding unless_wrong
-wide_unless None ts us wide e = let k : ts ≡ us = cc in subst (All is_wide) k (wide refl)
-wide_unless (Some n) ts us wide e = cc
-
-wide_joined : (first : List ℕ) (second : Option (List ℕ)) (us : List Texture) → joined_textures first second ≡ Ok us → All is_wide us
-unfolding joined_textures first_wrong
-wide_joined first second us e = wide_unless (first_wrong first second) (textures_in first ++ later_textures second) us (λ none.
-    let n = both_none (wrong_record first) (later_wrong (list_count first) second) none in
-    All-append is_wide (textures_in first) (later_textures second) (wide_list first n.0) (wide_later (list_count first) second n.1)) e
-
-wide_both : (t1 t2 : Option (List ℕ)) (us : List Texture) → both_lists t1 t2 ≡ Ok us → All is_wide us
-unfolding both_lists
-wide_both t1 t2 us e =
-    let a = and_then_ok (first_list t1) _ us e in
-    let b = and_then_ok (second_list (list_count a.0) t2) _ us a.2 in
-    wide_joined a.0 b.0 us b.2
-
-wide_lists : (p t1 t2 : Option (List ℕ)) (lists : TextureLists) → texture_lists p t1 t2 ≡ Ok lists → All is_wide lists.textures
-unfolding texture_lists
-wide_lists p t1 t2 lists e =
-    let a = and_then_ok (patch_names p) _ lists e in
-    let b = and_then_ok (both_lists t1 t2) _ lists a.2 in
-    let k : b.0 ≡ lists.textures = ap (λ (r : Result TextureLists TexRefusal). textures_of r) b.2 in
-    subst (All is_wide) k (wide_both t1 t2 b.0 b.1)
-  where
-    textures_of : Result TextureLists TexRefusal → List Texture
-    textures_of (Ok l) = l.textures
-    textures_of (Err reason) = []
-
--- what is prepared is one of the listed textures, prepared
-record IsPreparedOf (prepare : ℕ → Texture → Result PreparedTexture TexRefusal) (ts : List Texture) (t : PreparedTexture) : Type 0 where
-  number : ℕ
-  texture : Texture
-  among : Contains ts texture
-  is : prepare number texture ≡ Ok t
-
-module _ (prepare : ℕ → Texture → Result PreparedTexture TexRefusal) (wanted : ℕ → Bool) where
-  prepared_one : (b : Bool) (r : Result PreparedTexture TexRefusal) (t : PreparedTexture) → prepared_if b r ≡ Ok (Some t) → r ≡ Ok t
-  unfolding prepared_if
-  prepared_one false r t e = cc
-  prepared_one true (Ok u) t e = let k : u ≡ t = cc in ap Ok k
-  prepared_one true (Err reason) t e = cc
-
-  behind : (x : Texture) (ts : List Texture) (t : PreparedTexture) → IsPreparedOf prepare ts t → IsPreparedOf prepare (x ∷ ts) t
-  behind x ts t p = record { number = p.number; texture = p.texture; among = (suc p.among.0, omega (arith, p.among.1), p.among.2); is = p.is }
-
-  prepared_in : (n k : ℕ) (ts : List Texture) (out : List (Option PreparedTexture)) (t : PreparedTexture) → prepared_from prepare wanted n ts ≡ Ok out → prepared_at out k ≡ Some t → IsPreparedOf prepare ts t
-  unfolding prepared_from
-  prepared_in n k [] out t e is = let o : [] ≡ out = cc in absurd (nothing k (ap (λ (xs : List (Option PreparedTexture)). prepared_at xs k) o ∙ is)) where
-    nothing : (k : ℕ) → ◌≡◌ {A = Option PreparedTexture} None (Some t) → ⊥
-    nothing k e = cc
-  prepared_in n k (x ∷ ts) out t e is =
-      let a = and_then_ok (prepared_if (wanted n) (prepare n x)) _ out e in
-      let b = and_then_ok (prepared_from prepare wanted (suc n) ts) _ out a.2 in
-      let o : a.0 ∷ b.0 ≡ out = cc in
-      go k a.0 b.0 (λ m rest later. prepared_in (suc n) m ts b.0 t rest later) a.1 b.1 (ap (λ (xs : List (Option PreparedTexture)). prepared_at xs k) o ∙ is) where
-        go : (k : ℕ) (first : Option PreparedTexture) (others : List (Option PreparedTexture)) → ((m : ℕ) → prepared_from prepare wanted (suc n) ts ≡ Ok others → prepared_at others m ≡ Some t → IsPreparedOf prepare ts t) → prepared_if (wanted n) (prepare n x) ≡ Ok first → prepared_from prepare wanted (suc n) ts ≡ Ok others → prepared_at (first ∷ others) k ≡ Some t → IsPreparedOf prepare (x ∷ ts) t
-        go zero first others below one rest here = record { number = n; texture = x; among = (0, omega arith, refl); is = prepared_one (wanted n) (prepare n x) t (one ∙ ap Ok here) }
-        go (suc k) first others below one rest later = behind x ts t (below k rest later)
+wide_at : (bytes : List ℕ) (i : ℕ) → wrong_record bytes ≡ None → i < list_count bytes → is_wide (texture_in bytes (texture_place bytes i))
+unfolding texture_in
+wide_at bytes i none within = width_within bytes i none within
 
 -- its columns are those of its patches
 pub record HasColumns (bytes : ℕ → List ℕ) (t : PreparedTexture) : Type 0 where
   pub are : t.columns ≡ column_lookups bytes t.patches (length t.columns) t.height
   pub some : 0 < length t.columns
 
-module _ (bytes : ℕ → List ℕ) (texture : Texture) (wide : is_wide texture) where
-  made_columns : (patches : List PlacedPatch) → HasColumns bytes (texture_of bytes texture patches)
-  unfolding texture_of
-  made_columns patches =
-      let l = length-column_lookups bytes patches texture.width texture.height in
-      record { are = ap (λ n. column_lookups bytes patches n texture.height) (sym l); some = omega arith }
-
-  not_too_big : (number : ℕ) (patches : List PlacedPatch) (t : PreparedTexture) → unless_too_big bytes number texture patches ≡ Ok t → HasColumns bytes t
-  unfolding unless_too_big
-  not_too_big number patches t e = go (nat_lt MAX_COMPOSITE (composite_size patches texture.width texture.height)) e where
-    go : (b : Bool) → cond b (Err (TooBig number)) (Ok (texture_of bytes texture patches)) ≡ Ok t → HasColumns bytes t
-    go true e = cc
-    go false e = let k : texture_of bytes texture patches ≡ t = cc in subst (HasColumns bytes) k (made_columns patches)
-
-  not_missing : (number : ℕ) (patches : Option (List PlacedPatch)) (t : PreparedTexture) → unless_missing bytes number texture patches ≡ Ok t → HasColumns bytes t
-  unfolding unless_missing
-  not_missing number None t e = cc
-  not_missing number (Some patches) t e = not_too_big number patches t e
-
-prepared_columns : (last : List ℕ → Option ℕ) (bytes : ℕ → List ℕ) (names : List (List ℕ)) (number : ℕ) (texture : Texture) (t : PreparedTexture) → is_wide texture → prepared last bytes names number texture ≡ Ok t → HasColumns bytes t
-unfolding prepared
-prepared_columns last bytes names number texture t wide e = not_missing bytes texture wide number (placed_patches last bytes names texture.patches) t e
+made_columns : (bytes : ℕ → List ℕ) (texture : Texture) → is_wide texture → (patches : List PlacedPatch) → HasColumns bytes (texture_of bytes texture patches)
+unfolding texture_of
+made_columns bytes texture wide patches =
+    let l = length-column_lookups bytes patches texture.width texture.height in
+    record { are = ap (λ n. column_lookups bytes patches n texture.height) (sym l); some = omega arith }
 
 pub textures_columns : (contents : List (List ℕ)) (lumps : List Lump) (textures : TexturesView) (number : ℕ) (t : PreparedTexture) → AreTexturesOf contents lumps textures → prepared_at textures.prepared number ≡ Some t → HasColumns (lump_bytes contents lumps) t
-unfolding prepared_textures
-textures_columns contents lumps textures number t are is =
-    let bytes = lump_bytes contents lumps in
-    let p = prepared_in (prepared (last_of lumps) bytes textures.lists.names) are.wanted 0 number textures.lists.textures textures.prepared t are.prepared is in
-    prepared_columns (last_of lumps) bytes textures.lists.names p.number p.texture t (All-contains is_wide textures.lists.textures p.texture (wide_lists _ _ _ textures.lists are.lists) p.among) p.is
+textures_columns contents lumps textures number t =
+    each_prepared is_wide (HasColumns (lump_bytes contents lumps)) contents lumps textures number t wide_at (made_columns (lump_bytes contents lumps))

@@ -1,5 +1,5 @@
 -- Laws of a list of planes of which the first ones count: what is changed, added and found there.
-use Rattle.std.proofs.Common.{◌≡◌, ℕ, zero, suc, ◌<◌, ◌≤◌, true, false, List, [], ◌∷◌, ◌++◌, Option, Some, None, length, get_or, set, take, refl, ap, sym, ◌∙◌, arith}
+use Rattle.std.proofs.Common.{◌≡◌, ℕ, zero, suc, ◌<◌, ◌≤◌, Bool, true, false, List, [], ◌∷◌, ◌++◌, Option, Some, None, length, get_or, set, take, refl, ap, sym, ◌∙◌, arith}
 use Rattle.std.specs.Prelude.{slice_get}
 use Rattle.std.proofs.lemmas.List.{get_or-take, length-set, length-take, length-replicate}
 use Rattle.std.proofs.lemmas.List.Elements.{All-set, All-push}
@@ -60,6 +60,19 @@ pub read_plane : (s : PlanesView) (items : List Plane) (count n : ℕ) (p : Plan
     slice_get s.planes n ≡ Some p
 read_plane s items count n p e l m r =
     ap (λ (t : PlanesView). slice_get t.planes n) (sym e) ∙ get-taken items count n p (omega (arith, ap (λ (t : PlanesView). length t.planes) e, length-take count items)) m r
+
+-- the plane that is read is kept where its columns are free, and else there is a new one of its key
+pub check-read : (s : PlanesView) (items : List Plane) (count n first last : ℕ) (p : Plane) (free : Bool) → record { planes = take count items; room = length items } ≡ s →
+    n < length s.planes → count ≤ length items → p ≡ get_or items n p → free ≡ is_free p.runs first last → free ≡ true →
+    check s.planes n first last ≡ record { number = n; planes = s.planes }
+check-read s items count n first last p free e l m r is it =
+    check-free s.planes n first last p (read_plane s items count n p e l m r) (sym is ∙ it)
+
+pub check-added : (s : PlanesView) (items : List Plane) (count n first last : ℕ) (p : Plane) (free : Bool) (key : PlaneKey) → record { planes = take count items; room = length items } ≡ s →
+    n < length s.planes → count ≤ length items → p ≡ get_or items n p → free ≡ is_free p.runs first last → free ≡ false → key ≡ p.key →
+    check s.planes n first last ≡ add s.planes key
+check-added s items count n first last p free key e l m r is no_more same =
+    check-taken s.planes n first last p (read_plane s items count n p e l m r) (sym is ∙ no_more) ∙ ap (add s.planes) (sym same)
 
 pub within_room : (s : PlanesView) (items : List Plane) (count : ℕ) → record { planes = take count items; room = length items } ≡ s → count ≤ length items → length s.planes ≤ s.room
 within_room s items count e m = omega (arith, ap (λ (t : PlanesView). length t.planes) e, ap (λ (t : PlanesView). t.room) e, length-take count items)

@@ -5,7 +5,7 @@ ghost use Rattle.picture_rules.specs.declared.plane.TheConstants.{MOST_VISPLANES
 ghost use Rattle.picture_rules.specs.plane.Keys.{same_key};
 ghost use Rattle.picture_rules.specs.plane.Planes.{find, check, mark, add, column, number_of, AreWide};
 ghost use Rattle.picture_rules.specs.plane.Spans.{holds, row_runs};
-ghost use Rattle.visplanes.specs.Full.{StaysFull};
+ghost use Rattle.visplanes.specs.Full.{ChoosesPlane};
 ghost use Rattle.visplanes.specs.Planes.{PlanesView, with_planes, plane_at, IsFirst};
 
 use crate::columns::Visplane;
@@ -260,12 +260,7 @@ impl Planes {
 
     // The first plane of equal key, or else a new one, whatever `find` gave last.
     fn search_or_add(&mut self, key: PlaneKey) -> Result<PlaneNo, PlanesFull>
-        ensures ok { OnOk result
-            (self.new ≡ with_planes (find self.old.planes key).planes self.old) }
-        ensures number { IfOk result (λ plane. plane.0 ≡ (find self.old.planes key).number) }
-        ensures within { IfOk result (λ plane. plane.0 < length self.new.planes) }
-        ensures full { IsErr result ↔ (self.old.room < length (find self.old.planes key).planes) }
-        ensures refused { StaysFull self.old self.new result }
+        ensures { ChoosesPlane (find self.old.planes key) self.old self.new result }
     {
         match self.number_of(key) {
             Some(number) => Ok(PlaneNo(number as u16)),
@@ -288,12 +283,7 @@ impl Planes {
     // A new plane behind the others.
     #[tactic(auto, unfolding(picture_rules::specs::plane::Planes::add))]
     fn add(&mut self, key: PlaneKey) -> Result<PlaneNo, PlanesFull>
-        ensures ok { OnOk result
-            (self.new ≡ with_planes (add self.old.planes key).planes self.old) }
-        ensures number { IfOk result (λ plane. plane.0 ≡ (add self.old.planes key).number) }
-        ensures within { IfOk result (λ plane. plane.0 < length self.new.planes) }
-        ensures full { IsErr result ↔ (self.old.room < length (add self.old.planes key).planes) }
-        ensures refused { StaysFull self.old self.new result }
+        ensures { ChoosesPlane (add self.old.planes key) self.old self.new result }
     {
         if self.count == self.planes.len() {
             let count = self.planes.len() as u32 + 1;

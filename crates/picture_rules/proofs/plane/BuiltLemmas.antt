@@ -1,7 +1,7 @@
 -- Laws of the planes that events build: one event more, one column more, and that equal rows mark equally.
-use Rattle.std.proofs.Common.{◌≡◌, ℕ, zero, suc, ◌+◌, ◌-◌, ◌≤◌, Bool, true, false, List, [], ◌∷◌, ◌++◌, Option, Some, None, length, refl, ap, ◌∙◌, arith}
+use Rattle.std.proofs.Common.{◌≡◌, ◌<◌, ℕ, zero, suc, ◌+◌, ◌-◌, ◌≤◌, Bool, true, false, List, [], ◌∷◌, ◌++◌, Option, Some, None, length, refl, ap, ◌∙◌, arith}
 use Rattle.picture_rules.specs.declared.plane.PlaneKey.{PlaneKey}
-use Rattle.picture_rules.specs.plane.Planes.{Plane, find, check, AreWide}
+use Rattle.picture_rules.specs.plane.Planes.{Plane, PlaneChoice, find, AreWide}
 use Rattle.picture_rules.specs.plane.Built.{PlaneWall, PlaneEvent, PlanesNow, floor_found, ceiling_found, checked_plane, with_ceiling, with_floor, ceiling_checked, floor_checked, set_run, column_marked, columns_marked, wall_marked, after_event, after_events, MarkAlike, IsAmongPlanes, IsSoundNow}
 use Rattle.picture_rules.specs.plane.Built.PlaneEvent.{Finds, Draws}
 use Rattle.picture_rules.proofs.plane.PlaneLemmas.{wide-find, wide-check, wide-mark, find-within, check-within, length-find, length-check, length-mark}
@@ -92,25 +92,26 @@ sound-ceiling_found (Some key) s h = record {
   ceiling = find-within s.planes key;
 }
 
-sound_ceiling : (m : Bool) (o : Option ℕ) (first last : ℕ) (s : PlanesNow) → IsAmongPlanes s.planes o → IsSoundNow s → IsSoundNow (with_ceiling (checked_plane m s.planes o first last) s)
-unfolding with_ceiling checked_plane
-sound_ceiling false o first last s a h = h
-sound_ceiling true None first last s a h = h
-sound_ceiling true (Some i) first last s a h = record {
-  wide = wide-check s.planes i first last h.wide;
-  floor = more_planes s.planes (check s.planes i first last).planes s.floor (length-check s.planes i first last) h.floor;
-  ceiling = check-within s.planes i first last a;
-}
+-- what the choice of a plane keeps: the planes are as wide, none is lost, and the chosen one is among them
+abbrev IsSoundChoice : List Plane → Option PlaneChoice → Type 0
+IsSoundChoice planes None = Unit {0}
+IsSoundChoice planes (Some c) = AreWide c.planes × (length planes ≤ length c.planes) × (c.number < length c.planes)
 
-sound_floor : (m : Bool) (o : Option ℕ) (first last : ℕ) (s : PlanesNow) → IsAmongPlanes s.planes o → IsSoundNow s → IsSoundNow (with_floor (checked_plane m s.planes o first last) s)
-unfolding with_floor checked_plane
-sound_floor false o first last s a h = h
-sound_floor true None first last s a h = h
-sound_floor true (Some i) first last s a h = record {
-  wide = wide-check s.planes i first last h.wide;
-  floor = check-within s.planes i first last a;
-  ceiling = more_planes s.planes (check s.planes i first last).planes s.ceiling (length-check s.planes i first last) h.ceiling;
-}
+sound_checked : (m : Bool) (planes : List Plane) (o : Option ℕ) (first last : ℕ) → IsAmongPlanes planes o → AreWide planes → IsSoundChoice planes (checked_plane m planes o first last)
+unfolding checked_plane
+sound_checked false planes o first last a w = tt
+sound_checked true planes None first last a w = tt
+sound_checked true planes (Some i) first last a w = (wide-check planes i first last w, length-check planes i first last, check-within planes i first last a)
+
+sound-with_ceiling : (c : Option PlaneChoice) (s : PlanesNow) → IsSoundChoice s.planes c → IsSoundNow s → IsSoundNow (with_ceiling c s)
+unfolding with_ceiling
+sound-with_ceiling None s k h = h
+sound-with_ceiling (Some c) s k h = record { wide = k.0; floor = more_planes s.planes c.planes s.floor k.1 h.floor; ceiling = k.2 }
+
+sound-with_floor : (c : Option PlaneChoice) (s : PlanesNow) → IsSoundChoice s.planes c → IsSoundNow s → IsSoundNow (with_floor c s)
+unfolding with_floor
+sound-with_floor None s k h = h
+sound-with_floor (Some c) s k h = record { wide = k.0; floor = k.2; ceiling = more_planes s.planes c.planes s.ceiling k.1 h.ceiling }
 
 wide_set : (planes : List Plane) (o : Option ℕ) (x : ℕ) (rows : Option (ℕ × ℕ)) → AreWide planes → AreWide (set_run planes o x rows)
 unfolding set_run
@@ -150,9 +151,10 @@ pub sound-after_event : (s : PlanesNow) (e : PlaneEvent) → IsSoundNow s → Is
 unfolding after_event ceiling_checked floor_checked
 sound-after_event s (Finds floor ceiling) h = sound-ceiling_found ceiling (floor_found floor s) (sound-floor_found floor s h)
 sound-after_event s (Draws w) h =
-    let c : IsSoundNow (ceiling_checked w s) = sound_ceiling w.ceiling_mark s.ceiling w.first w.last s h.ceiling h in
-    sound-wall_marked w (floor_checked w (ceiling_checked w s))
-    (sound_floor w.floor_mark (ceiling_checked w s).floor w.first w.last (ceiling_checked w s) c.floor c)
+    let c : IsSoundNow (ceiling_checked w s) = sound-with_ceiling _ s (sound_checked w.ceiling_mark s.planes s.ceiling w.first w.last h.ceiling h.wide) h in
+    let now : PlanesNow = ceiling_checked w s in
+    sound-wall_marked w (floor_checked w now)
+    (sound-with_floor _ now (sound_checked w.floor_mark now.planes now.floor w.first w.last c.floor c.wide) c)
 
 pub sound-after_events : (s : PlanesNow) (es : List PlaneEvent) → IsSoundNow s → IsSoundNow (after_events s es)
 unfolding after_events

@@ -4,7 +4,6 @@ use Rattle.std.specs.Prelude.{map, ◌||◌}
 use Rattle.std.specs.List.{range_with_len}
 use Rattle.std.specs.Int.{from_bool}
 use Rattle.std.proofs.lemmas.List.{append_assoc, append-nil, length-append, get_or-append_right, get_or_append_left}
-use Rattle.word_rules.specs.Words.{minus_one}
 use Rattle.word_rules.specs.Listed.{listed_from}
 use Rattle.word_rules.proofs.ListedLemmas.{length-listed_from, get_or-listed_from}
 use Rattle.view_rules.specs.View.{ViewValue}
@@ -129,13 +128,19 @@ length_tops : (v : ViewValue) (walls : List Wall) (k : ℕ) (w : Wall) → lengt
 unfolding top_clips
 length_tops v walls k w = length_if (saves_top w.numbers) (λ x. (clip_past v.shape walls k x).ceiling_clip) w
 
-top_read : (v : ViewValue) (walls : List Wall) (k : ℕ) (w : Wall) (before after : List ℤ) (place x : ℕ) (constant saves : Bool) → length before ≡ place → w.first ≤ x → x ≤ w.last →
-    w.numbers.top_is_constant ≡ constant → saves_top w.numbers ≡ saves → (saves || constant) ≡ true →
-    clip_row_at (before ++ (saved_by v walls k w ++ after)) w.first (clip_note constant (pos v.shape.height) saves (place + room_if w.numbers.masked w)) x ≡ cond constant (pos v.shape.height) (clip_past v.shape walls k x).ceiling_clip
-unfolding clip_row_at clip_note saved_by top_clips saved_if
-top_read v walls k w before after place x true saves e l m c s h = refl
-top_read v walls k w before after place x false false e l m c s h = cc
-top_read v walls k w before after place x false true e l m c s h =
+-- a clip that is constant or saved reads as the constant, or as what was saved
+clip_read : (openings : List ℤ) (first x place : ℕ) (constant saves : Bool) (row saved : ℤ) → (saves || constant) ≡ true →
+    (saves ≡ true → get_or openings (place + (x - first)) (pos 0) ≡ saved) → clip_row_at openings first (clip_note constant row saves place) x ≡ cond constant row saved
+unfolding clip_row_at clip_note
+clip_read openings first x place true saves row saved h read = refl
+clip_read openings first x place false false row saved h read = cc
+clip_read openings first x place false true row saved h read = read refl
+
+-- what is saved of a fragment's upper clip
+top_read : (v : ViewValue) (walls : List Wall) (k : ℕ) (w : Wall) (before after : List ℤ) (place x : ℕ) → length before ≡ place → w.first ≤ x → x ≤ w.last → saves_top w.numbers ≡ true →
+    get_or (before ++ (saved_by v walls k w ++ after)) (place + room_if w.numbers.masked w + (x - w.first)) (pos 0) ≡ (clip_past v.shape walls k x).ceiling_clip
+unfolding saved_by top_clips saved_if
+top_read v walls k w before after place x e l m s =
     let f : ℕ → ℤ = λ x. (clip_past v.shape walls k x).ceiling_clip in
     rw s
     (read_second before (saved_if w.numbers.masked (middle_columns v w)) (listed_from f w.first w.last) (saved_if (saves_bottom w.numbers) (bottom_clips v walls k w)) after place (room_if w.numbers.masked w) (x - w.first) e
@@ -148,15 +153,13 @@ pub note-top_clip : (v : ViewValue) (walls : List Wall) (k : ℕ) (w : Wall) (be
     (saves_top w.numbers || w.numbers.top_is_constant) ≡ true →
     clip_row_at (before ++ (saved_by v walls k w ++ after)) w.first (note_at v w place).top_clip x ≡ top_clip v.shape walls k w x
 unfolding note_at top_clip
-note-top_clip v walls k w before after place x e l m h = top_read v walls k w before after place x w.numbers.top_is_constant (saves_top w.numbers) e l m refl refl h
+note-top_clip v walls k w before after place x e l m h = clip_read _ w.first x _ _ _ _ _ h (top_read v walls k w before after place x e l m)
 
-bottom_read : (v : ViewValue) (walls : List Wall) (k : ℕ) (w : Wall) (before after : List ℤ) (place x : ℕ) (constant saves : Bool) → length before ≡ place → w.first ≤ x → x ≤ w.last →
-    w.numbers.bottom_is_constant ≡ constant → saves_bottom w.numbers ≡ saves → (saves || constant) ≡ true →
-    clip_row_at (before ++ (saved_by v walls k w ++ after)) w.first (clip_note constant minus_one saves (place + room_if w.numbers.masked w + room_if (saves_top w.numbers) w)) x ≡ cond constant minus_one (clip_past v.shape walls k x).floor_clip
-unfolding clip_row_at clip_note saved_by bottom_clips saved_if
-bottom_read v walls k w before after place x true saves e l m c s h = refl
-bottom_read v walls k w before after place x false false e l m c s h = cc
-bottom_read v walls k w before after place x false true e l m c s h =
+-- and of its lower clip
+bottom_read : (v : ViewValue) (walls : List Wall) (k : ℕ) (w : Wall) (before after : List ℤ) (place x : ℕ) → length before ≡ place → w.first ≤ x → x ≤ w.last → saves_bottom w.numbers ≡ true →
+    get_or (before ++ (saved_by v walls k w ++ after)) (place + room_if w.numbers.masked w + room_if (saves_top w.numbers) w + (x - w.first)) (pos 0) ≡ (clip_past v.shape walls k x).floor_clip
+unfolding saved_by bottom_clips saved_if
+bottom_read v walls k w before after place x e l m s =
     let f : ℕ → ℤ = λ x. (clip_past v.shape walls k x).floor_clip in
     rw s
     (read_third before (saved_if w.numbers.masked (middle_columns v w)) (saved_if (saves_top w.numbers) (top_clips v walls k w)) (listed_from f w.first w.last) after place (room_if w.numbers.masked w) (room_if (saves_top w.numbers) w) (x - w.first) e
@@ -169,7 +172,7 @@ pub note-bottom_clip : (v : ViewValue) (walls : List Wall) (k : ℕ) (w : Wall) 
     (saves_bottom w.numbers || w.numbers.bottom_is_constant) ≡ true →
     clip_row_at (before ++ (saved_by v walls k w ++ after)) w.first (note_at v w place).bottom_clip x ≡ bottom_clip v.shape walls k w x
 unfolding note_at bottom_clip
-note-bottom_clip v walls k w before after place x e l m h = bottom_read v walls k w before after place x w.numbers.bottom_is_constant (saves_bottom w.numbers) e l m refl refl h
+note-bottom_clip v walls k w before after place x e l m h = clip_read _ w.first x _ _ _ _ _ h (bottom_read v walls k w before after place x e l m)
 
 -- and, where it is masked, its texture columns
 pub note-middle_column : (v : ViewValue) (walls : List Wall) (k : ℕ) (w : Wall) (before after : List ℤ) (place x : ℕ) → length before ≡ place → w.first ≤ x → x ≤ w.last →

@@ -4,9 +4,13 @@ use Rattle.std.specs.Prelude.{IfSome}
 use Rattle.texture_lists.specs.declared.number.TexNo.{TexNo}
 use Rattle.texture_build.specs.Draws.{CanDraw}
 use Rattle.texture_build.specs.Views.{TexturesView}
-use Rattle.frame_core.specs.Views.{ViewState, view_state}
-use Rattle.frame_core.proofs.FloorLemmas.{HasDrawnPlanes, floors-drawn, floors-ok, floors-stop, planes_can, sky_can}
+use Rattle.lump_cache.proofs.CallLemmas.{result_above}
+use Rattle.frame_core.specs.Faults.{from_cache}
+use Rattle.frame_core.specs.Views.{PaintsView, tools_scene, tools_state, view_state}
+use Rattle.frame_core.proofs.FloorLemmas.{floors-drawn, floors-ok, floors-stop, floors_of, planes_can, sky_can}
+use Rattle.frame_core.proofs.floors.draw_floors.Given.{Over}
 use Rattle.frame_core.proofs.floors.draw_floors.Goals as goal
+use Rattle.frame_core.proofs.floors.draw_floors.Goals.{After-draw_planes}
 
 pub draw_planes-requires-clause-planes : goal.draw_planes-requires-clause-planes
 draw_planes-requires-clause-planes g c =
@@ -19,26 +23,21 @@ draw_planes-requires-clause-sky g c =
     subst (λ (textures : TexturesView). IfSome c.sky.result (λ (tex : TexNo). CanDraw t.dir.now.lumps textures t.cache.now tex.0)) (sym c.textures.ensures)
     (sky_can t.dir.now.lumps t.scene.now.scene t.cache.now c.sky.result c.requires.drawable c.sky.ensures)
 
+-- what the call that draws planes paints, by its own answer
+drawn : (g : Over) (c : After-draw_planes g) → PaintsView g.C.Canvas.mark (tools_scene c.args.tools.now) (floors_of c.args.tools.now.view.now c.args.tools.now.scene.now.scene)
+    (tools_state g.S.Shelf.view g.C.Canvas.view c.args.tools.now)
+    (view_state (g.S.Shelf.view c.draw_planes.new.tools.shelf.now) c.draw_planes.new.tools.cache.now (g.C.Canvas.view c.draw_planes.new.tools.canvas.now))
+    (result_above from_cache c.draw_planes.result)
+drawn g c =
+    let e = c.draw_planes.ensures in
+    floors-drawn c.args.bench.now c.sky.result _ _ c.textures.result.now c.colormap.result.0 c.draw_planes.result c.requires.drawable c.requires.walked c.sky.ensures c.textures.ensures c.colormap.ensures
+    (record { painted = e.painted; fits = e.fits; draws = e.draws; place = e.place })
+
 pub returns-in_err-draw_planes-clause-paints : goal.returns-in_err-draw_planes-clause-paints
 returns-in_err-draw_planes-clause-paints g c =
-    let t = c.args.tools.now in
-    let u = c.draw_planes.new.tools in
-    let e = c.draw_planes.ensures in
-    let old : ViewState = view_state (g.S.Shelf.view t.shelf.now) t.cache.now (g.C.Canvas.view t.canvas.now) in
-    let new : ViewState = view_state (g.S.Shelf.view u.shelf.now) u.cache.now (g.C.Canvas.view u.canvas.now) in
-    let drawn : HasDrawnPlanes g.C.Canvas.mark t.view.now t.dir.now c.textures.result.now c.colormap.result.0 c.args.bench.now.planes.planes c.sky.result old new c.draw_planes.result =
-    record { painted = e.painted; fits = e.fits; draws = e.draws; place = e.place } in
     floors-stop c.draw_planes.result c.in_err-draw_planes.field-0.0 c.from_residual.result c.in_err-draw_planes.was c.from_residual.ensures.1
-    (floors-drawn c.args.bench.now c.sky.result old new c.textures.result.now c.colormap.result.0 c.draw_planes.result c.requires.drawable c.requires.walked c.sky.ensures c.textures.ensures c.colormap.ensures drawn)
+    (drawn g (goal.at.returns-in_err-draw_planes-clause-paints g c).After-draw_planes)
 
 pub returns-clause-paints : goal.returns-clause-paints
 returns-clause-paints g c =
-    let t = c.args.tools.now in
-    let u = c.draw_planes.new.tools in
-    let e = c.draw_planes.ensures in
-    let old : ViewState = view_state (g.S.Shelf.view t.shelf.now) t.cache.now (g.C.Canvas.view t.canvas.now) in
-    let new : ViewState = view_state (g.S.Shelf.view u.shelf.now) u.cache.now (g.C.Canvas.view u.canvas.now) in
-    let drawn : HasDrawnPlanes g.C.Canvas.mark t.view.now t.dir.now c.textures.result.now c.colormap.result.0 c.args.bench.now.planes.planes c.sky.result old new c.draw_planes.result =
-    record { painted = e.painted; fits = e.fits; draws = e.draws; place = e.place } in
-    floors-ok c.draw_planes.result c.in_ok-draw_planes.field-0 tt c.in_ok-draw_planes.was
-    (floors-drawn c.args.bench.now c.sky.result old new c.textures.result.now c.colormap.result.0 c.draw_planes.result c.requires.drawable c.requires.walked c.sky.ensures c.textures.ensures c.colormap.ensures drawn)
+    floors-ok c.draw_planes.result c.in_ok-draw_planes.field-0 tt c.in_ok-draw_planes.was (drawn g (goal.at.returns-clause-paints g c).After-draw_planes)

@@ -1,10 +1,8 @@
 -- The view is placed and the bench started; then come walls, planes and the masked pass.
-use Rattle.std.proofs.Common.{◌≡◌, ◌≤◌, ℕ, Bor, length, sym, ap, ◌∙◌, subst}
+use Rattle.std.proofs.Common.{◌≡◌, ◌≤◌, ℕ, length, sym, ap, ◌∙◌, subst}
 use Rattle.std.specs.Prelude.{None, Some, IfErr, IfSome}
 use Rattle.view_rules.specs.View.{ViewValue}
 use Rattle.view_rules.specs.Sound.{IsWithinFrame}
-use Rattle.wad_dir.specs.DirectoryView.{DirectoryView}
-use Rattle.sound_scene.specs.Sound.{SoundValue}
 use Rattle.picture_rules.specs.declared.Limits.{Limits}
 use Rattle.picture_rules.specs.declared.OverLimit.{OverLimit}
 use Rattle.picture_rules.specs.Counts.{view_over}
@@ -12,110 +10,77 @@ use Rattle.picture_rules.specs.Paints.{view_paints}
 use Rattle.frame_core.specs.declared.fault.ViewFault.{ViewFault}
 use Rattle.frame_core.specs.Faults.{limit_of_view}
 use Rattle.frame_core.specs.Scenes.{scene_of}
+use Rattle.frame_core.specs.Views.{CanDrawView}
 use Rattle.frame_core.specs.Painters.{IsPlacedIn, limits_in}
 use Rattle.frame_core.proofs.CanLemmas.{can_count-drawable}
 use Rattle.frame_core.proofs.PaintLemmas.{can_draw_view-later, paints-stop, paints-then_stop}
 use Rattle.frame_core.proofs.CountLemmas.{within-walked}
-use Rattle.frame_core.proofs.ViewLemmas.{drawable-at, floors-at, if_err-no_limit, if_err-stop, in_view-walked, masks-at, on_ok-always, paints-placed, parts-paint, placed-frame, placed-later, started, walked-at}
+use Rattle.frame_core.proofs.ViewLemmas.{ReadsAlike, drawable-at, floors-at, if_err-no_limit, if_err-stop, in_view-walked, masks-at, on_ok-always, paints-placed, parts-paint, placed-frame, placed-later, reads-alike, reads-then, started, walked-at}
+use Rattle.frame_core.proofs.view.draw_parts.Given.{Over}
 use Rattle.frame_core.proofs.view.draw_parts.Goals as goal
+use Rattle.frame_core.proofs.view.draw_parts.Goals.{After-place, In_ok-draw_floors, In_ok-draw_walls}
+
+-- the view lies within the frame, where the canvas has it
+framed : (g : Over) (c : After-place g) → IsWithinFrame c.args.tools.now.view.now.shape
+framed g c = subst IsWithinFrame c.shape-shape.ensures.value c.shape-shape.ensures.frame
+
+placed : (g : Over) (c : After-place g) → IsPlacedIn c.args.tools.now.view.now (g.C.Canvas.view c.place.new.self)
+placed g c = placed-frame c.args.tools.now.view.now c.shape-shape.result (g.C.Canvas.view c.args.tools.now.canvas.now) (g.C.Canvas.view c.place.new.self) c.shape-shape.ensures.value c.shape-shape.ensures.frame c.place.ensures
+
+-- behind the walls the tools read the same, and the view may be drawn and has its place
+walls_alike : (g : Over) (c : In_ok-draw_walls g) → ReadsAlike c.args.tools.now c.draw_walls.new.tools
+walls_alike g c = reads-alike c.in_ok-draw_walls.ensures.same.0
+
+walls_drawable : (g : Over) (c : In_ok-draw_walls g) → CanDrawView c.args.tools.now.dir.now.lumps c.args.tools.now.scene.now.scene c.draw_walls.new.tools.cache.now
+walls_drawable g c = can_draw_view-later c.args.tools.now.dir.now.lumps c.args.tools.now.scene.now.scene c.args.tools.now.cache.now c.draw_walls.new.tools.cache.now c.in_ok-draw_walls.ensures.paints.draws.keeps.counts c.requires.drawable
+
+walls_placed : (g : Over) (c : In_ok-draw_walls g) → IsPlacedIn c.args.tools.now.view.now (g.C.Canvas.view c.draw_walls.new.tools.canvas.now)
+walls_placed g c =
+    let v = c.args.tools.now.view.now in
+    let here = g.C.Canvas.view c.place.new.self in
+    placed-later v here (g.C.Canvas.view c.draw_walls.new.tools.canvas.now) c.in_ok-draw_walls.ensures.paints.place
+    (placed-frame v c.shape-shape.result (g.C.Canvas.view c.args.tools.now.canvas.now) here c.shape-shape.ensures.value c.shape-shape.ensures.frame c.place.ensures)
+
+-- and so behind the planes
+floors_alike : (g : Over) (c : In_ok-draw_floors g) → ReadsAlike c.args.tools.now c.draw_floors.new.tools
+floors_alike g c = reads-then c.args.tools.now c.draw_walls.new.tools c.draw_floors.new.tools (reads-alike c.in_ok-draw_walls.ensures.same.0) (reads-alike c.in_ok-draw_floors.ensures.same.0)
 
 pub start-requires : goal.start-requires
 start-requires g c =
     can_count-drawable c.args.tools.now.dir.now.lumps c.args.tools.now.scene.now.scene c.args.tools.now.cache.now c.requires.drawable
 
 pub draw_walls-requires-clause-placed : goal.draw_walls-requires-clause-placed
-draw_walls-requires-clause-placed g c =
-    let v = c.args.tools.now.view.now in
-    let canvas = g.C.Canvas.view c.args.tools.now.canvas.now in
-    let placed = g.C.Canvas.view c.place.new.self in
-    placed-frame v c.shape-shape.result canvas placed c.shape-shape.ensures.value c.shape-shape.ensures.frame c.place.ensures
+draw_walls-requires-clause-placed g c = placed g (goal.at.draw_walls-requires-clause-placed g c).After-place
 
 pub draw_walls-requires-clause-walked : goal.draw_walls-requires-clause-walked
 draw_walls-requires-clause-walked g c =
     started c.args.tools.now.view.now c.args.tools.now.scene.now.scene c.args.bench.now c.start.new.self c.start.ensures.limits c.start.ensures.walked
 
-pub draw_floors-requires-clause-drawable : goal.draw_floors-requires-clause-drawable
-draw_floors-requires-clause-drawable g c =
-    let v = c.args.tools.now.view.now in
-    let s = c.args.tools.now.scene.now.scene in
-    let dir = c.args.tools.now.dir.now in
-    let view1 = ap (λ (r : Bor ViewValue). r.now) c.in_ok-draw_walls.ensures.same.0.1.0 in
-    let scene1 = ap (λ (r : Bor SoundValue). r.now.scene) c.in_ok-draw_walls.ensures.same.0.0 in
-    let dir1 = ap (λ (r : Bor DirectoryView). r.now) c.in_ok-draw_walls.ensures.same.0.1.1 in
-    drawable-at dir c.draw_walls.new.tools.dir.now s c.draw_walls.new.tools.scene.now.scene c.draw_walls.new.tools.cache.now dir1 scene1
-    (can_draw_view-later dir.lumps s c.args.tools.now.cache.now c.draw_walls.new.tools.cache.now c.in_ok-draw_walls.ensures.paints.draws.keeps.counts c.requires.drawable)
+pub draw_floors-requires : goal.draw_floors-requires
+draw_floors-requires g c =
+    let d = (goal.at.draw_floors-requires g c).In_ok-draw_walls in
+    let t = c.args.tools.now in
+    let u = c.draw_walls.new.tools in
+    let same = walls_alike g d in
+    record {
+      drawable = drawable-at t.dir.now u.dir.now t.scene.now.scene u.scene.now.scene u.cache.now same.1.1 same.1.0 (walls_drawable g d);
+      placed = subst (λ (w : ViewValue). IsPlacedIn w (g.C.Canvas.view c.draw_walls.new.tools.canvas.now)) (sym same.0) (walls_placed g d);
+      walked = walked-at t.view.now u.view.now t.scene.now.scene u.scene.now.scene c.draw_walls.new.bench same.0 same.1.0 c.in_ok-draw_walls.ensures.walked;
+    }
 
-pub draw_floors-requires-clause-placed : goal.draw_floors-requires-clause-placed
-draw_floors-requires-clause-placed g c =
-    let v = c.args.tools.now.view.now in
-    let s = c.args.tools.now.scene.now.scene in
-    let dir = c.args.tools.now.dir.now in
-    let canvas = g.C.Canvas.view c.args.tools.now.canvas.now in
-    let placed = g.C.Canvas.view c.place.new.self in
-    let view1 = ap (λ (r : Bor ViewValue). r.now) c.in_ok-draw_walls.ensures.same.0.1.0 in
-    let scene1 = ap (λ (r : Bor SoundValue). r.now.scene) c.in_ok-draw_walls.ensures.same.0.0 in
-    let dir1 = ap (λ (r : Bor DirectoryView). r.now) c.in_ok-draw_walls.ensures.same.0.1.1 in
-    subst (λ (w : ViewValue). IsPlacedIn w (g.C.Canvas.view c.draw_walls.new.tools.canvas.now)) (sym view1)
-    (placed-later v placed (g.C.Canvas.view c.draw_walls.new.tools.canvas.now) c.in_ok-draw_walls.ensures.paints.place (placed-frame v c.shape-shape.result canvas placed c.shape-shape.ensures.value c.shape-shape.ensures.frame c.place.ensures))
-
-pub draw_floors-requires-clause-walked : goal.draw_floors-requires-clause-walked
-draw_floors-requires-clause-walked g c =
-    let v = c.args.tools.now.view.now in
-    let s = c.args.tools.now.scene.now.scene in
-    let dir = c.args.tools.now.dir.now in
-    let view1 = ap (λ (r : Bor ViewValue). r.now) c.in_ok-draw_walls.ensures.same.0.1.0 in
-    let scene1 = ap (λ (r : Bor SoundValue). r.now.scene) c.in_ok-draw_walls.ensures.same.0.0 in
-    let dir1 = ap (λ (r : Bor DirectoryView). r.now) c.in_ok-draw_walls.ensures.same.0.1.1 in
-    walked-at v c.draw_walls.new.tools.view.now s c.draw_walls.new.tools.scene.now.scene c.draw_walls.new.bench view1 scene1 c.in_ok-draw_walls.ensures.walked
-
-pub draw_masks-requires-clause-drawable : goal.draw_masks-requires-clause-drawable
-draw_masks-requires-clause-drawable g c =
-    let v = c.args.tools.now.view.now in
-    let s = c.args.tools.now.scene.now.scene in
-    let dir = c.args.tools.now.dir.now in
-    let view1 = ap (λ (r : Bor ViewValue). r.now) c.in_ok-draw_walls.ensures.same.0.1.0 in
-    let scene1 = ap (λ (r : Bor SoundValue). r.now.scene) c.in_ok-draw_walls.ensures.same.0.0 in
-    let dir1 = ap (λ (r : Bor DirectoryView). r.now) c.in_ok-draw_walls.ensures.same.0.1.1 in
-    let view2 = ap (λ (r : Bor ViewValue). r.now) c.in_ok-draw_floors.ensures.same.0.1.0 ∙ view1 in
-    let scene2 = ap (λ (r : Bor SoundValue). r.now.scene) c.in_ok-draw_floors.ensures.same.0.0 ∙ scene1 in
-    let dir2 = ap (λ (r : Bor DirectoryView). r.now) c.in_ok-draw_floors.ensures.same.0.1.1 ∙ dir1 in
-    drawable-at dir c.draw_floors.new.tools.dir.now s c.draw_floors.new.tools.scene.now.scene c.draw_floors.new.tools.cache.now dir2 scene2
-    (can_draw_view-later dir.lumps s c.draw_walls.new.tools.cache.now c.draw_floors.new.tools.cache.now c.in_ok-draw_floors.ensures.paints.draws.keeps.counts
-    (can_draw_view-later dir.lumps s c.args.tools.now.cache.now c.draw_walls.new.tools.cache.now c.in_ok-draw_walls.ensures.paints.draws.keeps.counts c.requires.drawable))
-
-pub draw_masks-requires-clause-placed : goal.draw_masks-requires-clause-placed
-draw_masks-requires-clause-placed g c =
-    let v = c.args.tools.now.view.now in
-    let s = c.args.tools.now.scene.now.scene in
-    let dir = c.args.tools.now.dir.now in
-    let canvas = g.C.Canvas.view c.args.tools.now.canvas.now in
-    let placed = g.C.Canvas.view c.place.new.self in
-    let view1 = ap (λ (r : Bor ViewValue). r.now) c.in_ok-draw_walls.ensures.same.0.1.0 in
-    let scene1 = ap (λ (r : Bor SoundValue). r.now.scene) c.in_ok-draw_walls.ensures.same.0.0 in
-    let dir1 = ap (λ (r : Bor DirectoryView). r.now) c.in_ok-draw_walls.ensures.same.0.1.1 in
-    let view2 = ap (λ (r : Bor ViewValue). r.now) c.in_ok-draw_floors.ensures.same.0.1.0 ∙ view1 in
-    let scene2 = ap (λ (r : Bor SoundValue). r.now.scene) c.in_ok-draw_floors.ensures.same.0.0 ∙ scene1 in
-    let dir2 = ap (λ (r : Bor DirectoryView). r.now) c.in_ok-draw_floors.ensures.same.0.1.1 ∙ dir1 in
-    subst (λ (w : ViewValue). IsPlacedIn w (g.C.Canvas.view c.draw_floors.new.tools.canvas.now)) (sym view2)
-    (placed-later v (g.C.Canvas.view c.draw_walls.new.tools.canvas.now) (g.C.Canvas.view c.draw_floors.new.tools.canvas.now) c.in_ok-draw_floors.ensures.paints.place
-    (placed-later v placed (g.C.Canvas.view c.draw_walls.new.tools.canvas.now) c.in_ok-draw_walls.ensures.paints.place (placed-frame v c.shape-shape.result canvas placed c.shape-shape.ensures.value c.shape-shape.ensures.frame c.place.ensures)))
-
-pub draw_masks-requires-clause-walked : goal.draw_masks-requires-clause-walked
-draw_masks-requires-clause-walked g c =
-    let v = c.args.tools.now.view.now in
-    let s = c.args.tools.now.scene.now.scene in
-    let dir = c.args.tools.now.dir.now in
-    let view1 = ap (λ (r : Bor ViewValue). r.now) c.in_ok-draw_walls.ensures.same.0.1.0 in
-    let scene1 = ap (λ (r : Bor SoundValue). r.now.scene) c.in_ok-draw_walls.ensures.same.0.0 in
-    let dir1 = ap (λ (r : Bor DirectoryView). r.now) c.in_ok-draw_walls.ensures.same.0.1.1 in
-    let view2 = ap (λ (r : Bor ViewValue). r.now) c.in_ok-draw_floors.ensures.same.0.1.0 ∙ view1 in
-    let scene2 = ap (λ (r : Bor SoundValue). r.now.scene) c.in_ok-draw_floors.ensures.same.0.0 ∙ scene1 in
-    let dir2 = ap (λ (r : Bor DirectoryView). r.now) c.in_ok-draw_floors.ensures.same.0.1.1 ∙ dir1 in
-    walked-at v c.draw_floors.new.tools.view.now s c.draw_floors.new.tools.scene.now.scene c.draw_walls.new.bench view2 scene2 c.in_ok-draw_walls.ensures.walked
-
-pub draw_masks-requires-clause-marks : goal.draw_masks-requires-clause-marks
-draw_masks-requires-clause-marks g c =
-    subst (λ (n : ℕ). n ≤ length c.args.marks.now) (sym (ap (λ (l : Limits). l.openings) (c.in_ok-draw_walls.ensures.limits ∙ c.start.ensures.limits))) c.requires.marks
+pub draw_masks-requires : goal.draw_masks-requires
+draw_masks-requires g c =
+    let at = goal.at.draw_masks-requires g c in
+    let t = c.args.tools.now in
+    let u = c.draw_floors.new.tools in
+    let same = floors_alike g at.In_ok-draw_floors in
+    let part = c.in_ok-draw_floors.ensures.paints in
+    record {
+      drawable = drawable-at t.dir.now u.dir.now t.scene.now.scene u.scene.now.scene u.cache.now same.1.1 same.1.0 (can_draw_view-later t.dir.now.lumps t.scene.now.scene c.draw_walls.new.tools.cache.now c.draw_floors.new.tools.cache.now part.draws.keeps.counts (walls_drawable g at.In_ok-draw_walls));
+      placed = subst (λ (w : ViewValue). IsPlacedIn w (g.C.Canvas.view c.draw_floors.new.tools.canvas.now)) (sym same.0) (placed-later c.args.tools.now.view.now (g.C.Canvas.view c.draw_walls.new.tools.canvas.now) (g.C.Canvas.view c.draw_floors.new.tools.canvas.now) part.place (walls_placed g at.In_ok-draw_walls));
+      walked = walked-at t.view.now u.view.now t.scene.now.scene u.scene.now.scene c.draw_walls.new.bench same.0 same.1.0 c.in_ok-draw_walls.ensures.walked;
+      marks = subst (λ (n : ℕ). n ≤ length c.args.marks.now) (sym (ap (λ (l : Limits). l.openings) (c.in_ok-draw_walls.ensures.limits ∙ c.start.ensures.limits))) c.requires.marks;
+    }
 
 pub returns-in_err-draw_walls-clause-over : goal.returns-in_err-draw_walls-clause-over
 returns-in_err-draw_walls-clause-over g c =
@@ -128,13 +93,8 @@ returns-in_err-draw_walls-clause-over g c =
 
 pub returns-in_err-draw_walls-clause-paints : goal.returns-in_err-draw_walls-clause-paints
 returns-in_err-draw_walls-clause-paints g c =
-    let v = c.args.tools.now.view.now in
-    let s = c.args.tools.now.scene.now.scene in
-    let dir = c.args.tools.now.dir.now in
-    let canvas = g.C.Canvas.view c.args.tools.now.canvas.now in
-    let placed = g.C.Canvas.view c.place.new.self in
-    paints-placed v c.shape-shape.result canvas placed c.shape-shape.ensures.value c.place.ensures
-    (paints-stop {g = view_paints v} c.in_err-draw_walls.was c.from_residual.ensures.1 c.draw_walls.ensures.paints)
+    paints-placed c.args.tools.now.view.now c.shape-shape.result (g.C.Canvas.view c.args.tools.now.canvas.now) (g.C.Canvas.view c.place.new.self) c.shape-shape.ensures.value c.place.ensures
+    (paints-stop {g = view_paints c.args.tools.now.view.now} c.in_err-draw_walls.was c.from_residual.ensures.1 c.draw_walls.ensures.paints)
 
 pub returns-in_err-draw_floors-clause-over : goal.returns-in_err-draw_floors-clause-over
 returns-in_err-draw_floors-clause-over g c =
@@ -144,17 +104,11 @@ returns-in_err-draw_floors-clause-over g c =
 
 pub returns-in_err-draw_floors-clause-paints : goal.returns-in_err-draw_floors-clause-paints
 returns-in_err-draw_floors-clause-paints g c =
-    let v = c.args.tools.now.view.now in
-    let s = c.args.tools.now.scene.now.scene in
-    let dir = c.args.tools.now.dir.now in
-    let canvas = g.C.Canvas.view c.args.tools.now.canvas.now in
-    let placed = g.C.Canvas.view c.place.new.self in
-    let view1 = ap (λ (r : Bor ViewValue). r.now) c.in_ok-draw_walls.ensures.same.0.1.0 in
-    let scene1 = ap (λ (r : Bor SoundValue). r.now.scene) c.in_ok-draw_walls.ensures.same.0.0 in
-    let dir1 = ap (λ (r : Bor DirectoryView). r.now) c.in_ok-draw_walls.ensures.same.0.1.1 in
-    paints-placed v c.shape-shape.result canvas placed c.shape-shape.ensures.value c.place.ensures
-    (paints-then_stop {h = view_paints v} c.in_err-draw_floors.was c.from_residual-in_err-draw_floors.ensures.1 c.in_ok-draw_walls.ensures.paints
-    (floors-at v c.draw_walls.new.tools.view.now s c.draw_walls.new.tools.scene.now.scene dir c.draw_walls.new.tools.dir.now view1 scene1 dir1 c.draw_floors.ensures.paints))
+    let t = c.args.tools.now in
+    let same = walls_alike g (goal.at.returns-in_err-draw_floors-clause-paints g c).In_ok-draw_walls in
+    paints-placed t.view.now c.shape-shape.result (g.C.Canvas.view t.canvas.now) (g.C.Canvas.view c.place.new.self) c.shape-shape.ensures.value c.place.ensures
+    (paints-then_stop {h = view_paints t.view.now} c.in_err-draw_floors.was c.from_residual-in_err-draw_floors.ensures.1 c.in_ok-draw_walls.ensures.paints
+    (floors-at t.view.now c.draw_walls.new.tools.view.now t.scene.now.scene c.draw_walls.new.tools.scene.now.scene t.dir.now c.draw_walls.new.tools.dir.now same.0 same.1.0 same.1.1 c.draw_floors.ensures.paints))
 
 pub returns-clause-within : goal.returns-clause-within
 returns-clause-within g c =
@@ -172,37 +126,26 @@ returns-clause-over g c =
 
 pub returns-clause-paints : goal.returns-clause-paints
 returns-clause-paints g c =
-    let v = c.args.tools.now.view.now in
-    let s = c.args.tools.now.scene.now.scene in
-    let dir = c.args.tools.now.dir.now in
-    let canvas = g.C.Canvas.view c.args.tools.now.canvas.now in
-    let placed = g.C.Canvas.view c.place.new.self in
-    let view1 = ap (λ (r : Bor ViewValue). r.now) c.in_ok-draw_walls.ensures.same.0.1.0 in
-    let scene1 = ap (λ (r : Bor SoundValue). r.now.scene) c.in_ok-draw_walls.ensures.same.0.0 in
-    let dir1 = ap (λ (r : Bor DirectoryView). r.now) c.in_ok-draw_walls.ensures.same.0.1.1 in
-    let view2 = ap (λ (r : Bor ViewValue). r.now) c.in_ok-draw_floors.ensures.same.0.1.0 ∙ view1 in
-    let scene2 = ap (λ (r : Bor SoundValue). r.now.scene) c.in_ok-draw_floors.ensures.same.0.0 ∙ scene1 in
-    let dir2 = ap (λ (r : Bor DirectoryView). r.now) c.in_ok-draw_floors.ensures.same.0.1.1 ∙ dir1 in
-    paints-placed v c.shape-shape.result canvas placed c.shape-shape.ensures.value c.place.ensures
+    let t = c.args.tools.now in
+    let at = goal.at.returns-clause-paints g c in
+    let one = walls_alike g at.In_ok-draw_walls in
+    let two = floors_alike g at.In_ok-draw_floors in
+    paints-placed t.view.now c.shape-shape.result (g.C.Canvas.view t.canvas.now) (g.C.Canvas.view c.place.new.self) c.shape-shape.ensures.value c.place.ensures
     (parts-paint c.in_ok-draw_walls.ensures.paints
-    (floors-at v c.draw_walls.new.tools.view.now s c.draw_walls.new.tools.scene.now.scene dir c.draw_walls.new.tools.dir.now view1 scene1 dir1 c.in_ok-draw_floors.ensures.paints)
-    (masks-at v c.draw_floors.new.tools.view.now s c.draw_floors.new.tools.scene.now.scene dir c.draw_floors.new.tools.dir.now view2 scene2 dir2 c.draw_masks.ensures.paints))
+    (floors-at t.view.now c.draw_walls.new.tools.view.now t.scene.now.scene c.draw_walls.new.tools.scene.now.scene t.dir.now c.draw_walls.new.tools.dir.now one.0 one.1.0 one.1.1 c.in_ok-draw_floors.ensures.paints)
+    (masks-at t.view.now c.draw_floors.new.tools.view.now t.scene.now.scene c.draw_floors.new.tools.scene.now.scene t.dir.now c.draw_floors.new.tools.dir.now two.0 two.1.0 two.1.1 c.draw_masks.ensures.paints))
 
 pub returns-clause-in_view : goal.returns-clause-in_view
 returns-clause-in_view g c =
     λ bytes.
-    let v = c.args.tools.now.view.now in
-    let frame = subst IsWithinFrame c.shape-shape.ensures.value c.shape-shape.ensures.frame in
-    on_ok-always _ c.draw_masks.result (in_view-walked v bytes c.args.tools.now.scene.now.scene c.draw_walls.new.bench frame c.in_ok-draw_walls.ensures.walked)
+    let frame = framed g (goal.at.returns-clause-in_view g c).After-place in
+    on_ok-always _ c.draw_masks.result (in_view-walked c.args.tools.now.view.now bytes c.args.tools.now.scene.now.scene c.draw_walls.new.bench frame c.in_ok-draw_walls.ensures.walked)
 
 pub returns-in_err-draw_walls-clause-frame : goal.returns-in_err-draw_walls-clause-frame
-returns-in_err-draw_walls-clause-frame g c =
-    subst IsWithinFrame c.shape-shape.ensures.value c.shape-shape.ensures.frame
+returns-in_err-draw_walls-clause-frame g c = framed g (goal.at.returns-in_err-draw_walls-clause-frame g c).After-place
 
 pub returns-in_err-draw_floors-clause-frame : goal.returns-in_err-draw_floors-clause-frame
-returns-in_err-draw_floors-clause-frame g c =
-    subst IsWithinFrame c.shape-shape.ensures.value c.shape-shape.ensures.frame
+returns-in_err-draw_floors-clause-frame g c = framed g (goal.at.returns-in_err-draw_floors-clause-frame g c).After-place
 
 pub returns-clause-frame : goal.returns-clause-frame
-returns-clause-frame g c =
-    subst IsWithinFrame c.shape-shape.ensures.value c.shape-shape.ensures.frame
+returns-clause-frame g c = framed g (goal.at.returns-clause-frame g c).After-place

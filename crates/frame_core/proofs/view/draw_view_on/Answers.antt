@@ -1,24 +1,28 @@
-use Rattle.std.proofs.Common.{ap}
-use Rattle.view_rules.specs.View.{view_of}
+use Rattle.std.proofs.Common.{ap, ◌∙◌, subst}
+use Rattle.view_rules.specs.View.{ViewValue}
+use Rattle.picture_rules.specs.Paints.{view_paints}
 use Rattle.frame_core.specs.Scenes.{scene_of}
+use Rattle.frame_core.specs.Views.{PaintsView, placed_for, view_scene, view_state}
 use Rattle.frame_core.specs.Workshops.{WorkshopView}
 use Rattle.texture_build.proofs.DrawLemmas.{holds_art-later}
 use Rattle.frame_core.proofs.EnoughLemmas.{complete-view, enough-view}
-use Rattle.frame_core.proofs.ViewLemmas.{over-at}
+use Rattle.frame_core.proofs.ViewLemmas.{over-at, within-at}
 use Rattle.frame_core.proofs.view.draw_view_on.Goals as goal
 
-pub returns-clause-over : goal.returns-clause-over
-returns-clause-over g c = λ bytes.
-    over-at c.draw_with.result c.new-view.result (view_of c.args.tables.now c.args.eye) (scene_of bytes c.args.scene.now.scene) _ _ c.new-view.ensures (ap (λ (w : WorkshopView). w.limits) c.shop.view_is)
-    (c.draw_with.ensures.over bytes)
-
-pub returns-clause-enough : goal.returns-clause-enough
-returns-clause-enough g c = λ contents count hold same room.
-    enough-view c.requires contents count hold same room c.draw_with.result c.draw_with.ensures.paints.draws
-
-pub returns-clause-complete : goal.returns-clause-complete
-returns-clause-complete g c = λ contents count hold same room none.
-    complete-view c.requires contents count hold same room c.draw_with.result c.draw_with.ensures.paints.draws none
-
-pub returns-clause-again : goal.returns-clause-again
-returns-clause-again g c = λ contents count hold. holds_art-later c.draw_with.ensures.paints.draws.keeps hold
+pub returns : goal.returns
+returns g c =
+    let drawn = c.draw_with.ensures in
+    let scene = c.args.scene.now.scene in
+    let limits = ap (λ (w : WorkshopView). w.limits) c.shop.view_is in
+    record {
+      within = λ bytes. within-at c.draw_with.result _ _ (scene_of bytes scene) _ _ c.new-view.ensures limits (drawn.within bytes);
+      over = λ bytes. over-at c.draw_with.result _ _ (scene_of bytes scene) _ _ c.new-view.ensures limits (drawn.over bytes);
+      paints =
+          subst (λ (v : ViewValue). PaintsView g.C.Canvas.mark (view_scene v scene c.args.dir.now) (view_paints v) (view_state (g.S.Shelf.view c.args.shelf.now) c.args.cache.now (placed_for v (g.C.Canvas.view c.args.canvas.now)))
+          (view_state (g.S.Shelf.view c.draw_with.new.shelf) c.draw_with.new.cache (g.C.Canvas.view c.draw_with.new.canvas)) c.draw_with.result) c.new-view.ensures drawn.paints;
+      enough = λ contents count hold same room. enough-view c.requires contents count hold same room c.draw_with.result drawn.paints.draws;
+      complete = λ contents count hold same room none. complete-view c.requires contents count hold same room c.draw_with.result drawn.paints.draws none;
+      again = λ contents count hold. holds_art-later drawn.paints.draws.keeps hold;
+      limits = drawn.limits ∙ limits;
+      frame = ap (λ (w : WorkshopView). w.frame) c.shop.view_is;
+    }

@@ -1,25 +1,18 @@
-use Rattle.std.proofs.Common.{◌≡◌, ℕ, ◌+◌, ◌*◌, subst, subst₂, ◌∙◌, refl, rules, arith}
+use Rattle.std.proofs.Common.{◌≡◌, ℕ, ◌+◌, ◌*◌, subst, subst₂, refl, rules, arith}
 use Rattle.std.specs.Prelude.{ℤ}
 use Rattle.std.specs.Int.{w32}
 use Rattle.std.proofs.lemmas.Int.{to_z-of_z}
 use Rattle.word_rules.specs.Steps.{step_at}
 use Rattle.word_rules.specs.Words.{plus}
-use Rattle.word_rules.proofs.StepLemmas.{step_at-zero, step_at-more}
+use Rattle.word_rules.proofs.StepLemmas.{step_at-more}
 use Rattle.pixel_strips.specs.Fills.{SpanFilled}
 use Rattle.pixel_strips.specs.Places.{IsFlatPlace}
-use Rattle.pixel_strips.proofs.FillLemmas.{fill_cells-none}
-use Rattle.pixel_strips.proofs.PlaceLemmas.{step_at-two, step_at-three, step_at-four, flat_place-on}
+use Rattle.pixel_strips.proofs.FillLemmas.{span_filled-none}
+use Rattle.pixel_strips.proofs.PlaceLemmas.{flat_place_begun, step_at-two, step_at-three, step_at-four, flat_place-on}
 use Rattle.pixel_strips.proofs.frame.fill_across.Goals as goal
 
 pub loop-k-init : goal.loop-k-init
-loop-k-init c =
-    let cut = c.args.cut.now in
-    record {
-      place = subst₂ (λ (x y : ℤ). IsFlatPlace x y 0 c.packed_place-place.result)
-          (to_z-of_z w32 cut.x_fraction (search rules) ∙ step_at-zero cut.x_fraction cut.x_step (search rules))
-          (to_z-of_z w32 cut.y_fraction (search rules) ∙ step_at-zero cut.y_fraction cut.y_step (search rules)) c.packed_place-place.ensures;
-      cells = record { filled = fill_cells-none _ _ c.args.cells.now };
-    }
+loop-k-init c = record { place = flat_place_begun _ _ c.args.cut.now.x_step c.args.cut.now.y_step _ (search rules) (search rules) c.packed_place-place.ensures; cells = span_filled-none }
 
 pub loop-k-preserved : goal.loop-k-preserved
 loop-k-preserved c =

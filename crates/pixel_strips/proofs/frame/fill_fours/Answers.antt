@@ -1,24 +1,18 @@
-use Rattle.std.proofs.Common.{◌≡◌, ℕ, ◌+◌, ◌*◌, subst, ◌∙◌, refl, rules, arith}
+use Rattle.std.proofs.Common.{◌≡◌, ℕ, ◌+◌, ◌*◌, subst, refl, rules, arith}
 use Rattle.std.specs.Prelude.{ℤ}
 use Rattle.std.specs.Int.{w32}
 use Rattle.std.proofs.lemmas.Int.{to_z-of_z}
 use Rattle.word_rules.specs.Steps.{step_at}
 use Rattle.word_rules.specs.Words.{plus}
-use Rattle.word_rules.proofs.StepLemmas.{step_at-zero, step_at-more}
+use Rattle.word_rules.proofs.StepLemmas.{step_at-more}
 use Rattle.pixel_strips.specs.Fills.{ColumnFilled}
 use Rattle.pixel_strips.specs.Places.{IsTexelPlace}
-use Rattle.pixel_strips.proofs.FillLemmas.{fill_cells-none}
-use Rattle.pixel_strips.proofs.PlaceLemmas.{step_at-two, step_at-three, step_at-four}
+use Rattle.pixel_strips.proofs.FillLemmas.{column_filled-none}
+use Rattle.pixel_strips.proofs.PlaceLemmas.{texel_place_begun, step_at-two, step_at-three, step_at-four}
 use Rattle.pixel_strips.proofs.frame.fill_fours.Goals as goal
 
 pub loop-k-init : goal.loop-k-init
-loop-k-init c =
-    let cut = c.args.cut.now in
-    record {
-      place = subst (λ (z : ℤ). IsTexelPlace z c.texel_place-place.result)
-          (to_z-of_z w32 cut.fraction (search rules) ∙ step_at-zero cut.fraction cut.step (search rules)) c.texel_place-place.ensures;
-      cells = record { filled = fill_cells-none _ _ c.args.cells.now };
-    }
+loop-k-init c = record { place = texel_place_begun _ c.args.cut.now.step _ (search rules) c.texel_place-place.ensures; cells = column_filled-none }
 
 pub loop-k-preserved : goal.loop-k-preserved
 loop-k-preserved c =

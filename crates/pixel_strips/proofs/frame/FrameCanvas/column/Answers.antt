@@ -3,6 +3,7 @@ use Rattle.std.proofs.lemmas.List.{with_items_is}
 use Rattle.pixel_rules.specs.Dots.{put_dots}
 use Rattle.pixel_strips.specs.Canvases.{CanvasView, with_dots, marked_by_colour}
 use Rattle.pixel_strips.specs.Strips.{column_strip_dots, cut_strip_colour}
+use Rattle.pixel_strips.proofs.CanvasLemmas.{view_with}
 use Rattle.pixel_strips.proofs.CutLemmas.{cut_strip_from}
 use Rattle.pixel_strips.proofs.FillLemmas.{fill_cells-column}
 use Rattle.pixel_strips.proofs.frame.FrameCanvas.column.Goals as goal
@@ -12,10 +13,9 @@ returns c =
     let cut = c.args.cut.now in
     let inside = c.self.inside in
     let first = c.args.first in
-    let with_cells : List ℕ → CanvasView = λ cells. record { cells = cells; painter = inside.painter; left = inside.left; top = inside.top } in
     let colour_of : ℕ → ℕ = cut_strip_colour cut.texels.now cut.shades.now cut.fraction cut.step first in
     let put : List ℕ → List ℕ = put_dots marked_by_colour inside.left inside.top (column_strip_dots inside.painter c.args.x colour_of first c.args.last) in
-    ap with_cells (with_items_is inside.cells c.fill_column.new.cells (omega arith) ∙ c.fill_column.ensures
+    ap (view_with inside.painter inside.left inside.top) (with_items_is inside.cells c.fill_column.new.cells (omega arith) ∙ c.fill_column.ensures
     ∙ fill_cells-column inside.painter inside.left inside.top c.args.x colour_of first c.args.last _ _ _ _ (omega arith) (omega arith)
     (cut_strip_from cut.texels.now cut.shades.now cut.fraction cut.step first)
     ∙ ap put c.deref_mut.ensures.value)

@@ -4,6 +4,7 @@ use Rattle.pixel_rules.specs.Dots.{put_dots}
 use Rattle.pixel_rules.specs.Strips.{span_dots}
 use Rattle.pixel_strips.specs.Canvases.{CanvasView, with_dots, marked_by_colour}
 use Rattle.pixel_strips.specs.Strips.{cut_row_colour}
+use Rattle.pixel_strips.proofs.CanvasLemmas.{view_with}
 use Rattle.pixel_strips.proofs.CutLemmas.{cut_row_from}
 use Rattle.pixel_strips.proofs.FillLemmas.{fill_cells-span}
 use Rattle.pixel_strips.proofs.frame.FrameCanvas.span.Goals as goal
@@ -13,10 +14,9 @@ returns c =
     let cut = c.args.cut.now in
     let inside = c.self.inside in
     let first = c.args.first in
-    let with_cells : List ℕ → CanvasView = λ cells. record { cells = cells; painter = inside.painter; left = inside.left; top = inside.top } in
     let colour_of : ℕ → ℕ = cut_row_colour cut.texels.now cut.shades.now cut.x_fraction cut.y_fraction cut.x_step cut.y_step first in
     let put : List ℕ → List ℕ = put_dots marked_by_colour inside.left inside.top (span_dots inside.painter c.args.y colour_of first c.args.last) in
-    ap with_cells (with_items_is inside.cells c.fill_span.new.cells (omega arith) ∙ c.fill_span.ensures
+    ap (view_with inside.painter inside.left inside.top) (with_items_is inside.cells c.fill_span.new.cells (omega arith) ∙ c.fill_span.ensures
     ∙ fill_cells-span inside.painter inside.left inside.top c.args.y colour_of first c.args.last _ _ _ _ (omega arith) (omega arith)
     (cut_row_from cut.texels.now cut.shades.now cut.x_fraction cut.y_fraction cut.x_step cut.y_step first)
     ∙ ap put c.deref_mut.ensures.value)
