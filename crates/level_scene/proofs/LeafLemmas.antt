@@ -1,9 +1,7 @@
 -- Laws of `leaf_from` and `is_within`, at a leaf and at a node.
-use Rattle.std.proofs.Common.{◌≡◌, ℕ, zero, suc, ◌-◌, ◌<◌, ◌≤◌, Bool, true, List, Some, ℤ, slice_get, refl, arith, inl, inr, ap, ◌∙◌}
-use Rattle.std.specs.Prelude.{◌&&◌}
+use Rattle.std.proofs.Common.{◌≡◌, ℕ, zero, suc, ◌-◌, ◌<◌, ◌≤◌, true, List, Some, ℤ, slice_get, refl, arith}
 use Rattle.std.proofs.lemmas.Bool.{ltb-true}
 use Rattle.level_rules.specs.declared.Node.{Node}
-use Rattle.level_rules.specs.declared.Child.{Child}
 use Rattle.level_rules.specs.declared.Child.TheVariants.{Node as NodeChild, Leaf as LeafChild}
 use Rattle.level_rules.specs.Levels.{child_on}
 use Rattle.level_rules.specs.maps.Ranges.{is_there}

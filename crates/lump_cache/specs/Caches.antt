@@ -1,6 +1,7 @@
 -- What a cache holds, and what a call keeps of it.
 use Rattle.std.specs.Prelude.{◌≡◌, ℕ, ◌<◌, Bool, true, false, List, length, Option, Some, None, IfSome, ⊤, ◌⊎◌, if◌then◌else◌, Result, Ok, Err, All}
 use Rattle.std.specs.List.{list_any}
+use Rattle.std.specs.Option.{option_map_or}
 use Rattle.lump_rules.specs.declared.wad.Lump.{Lump}
 use Rattle.lump_rules.specs.Contents.{lump_bytes}
 use Rattle.zone_rules.specs.declared.Tag.{Tag}
@@ -82,8 +83,7 @@ is_static_tag Level = false
 is_static_tag Cache = false
 
 abbrev pub holds_static : Option Holding → Bool
-holds_static None = false
-holds_static (Some h) = is_static_tag h.tag
+holds_static holding = option_map_or (λ (h : Holding). is_static_tag h.tag) holding false
 
 -- at rest, but that the blocks of some owners may be pinned too, though not for the whole run
 pub record IsAtRestExcept (colormap size : ℕ) (pinned : List Owner) (z : Heap) : Type 0 where

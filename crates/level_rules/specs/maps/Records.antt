@@ -124,10 +124,6 @@ unfoldable pub sectors_in : List ℕ → List Sector
 sectors_in = records_in sector_in at.SECTOR_SIZE
 
 -- the number of leaf 1, and the number of node 1
-pub child_of_leaf_row : child_of 32769 ≡ LeafChild 1
+pub child_of_row : (child_of 32769 ≡ LeafChild 1) × (child_of 1 ≡ NodeChild 1)
 unfolding child_of
-child_of_leaf_row = refl
-
-pub child_of_node_row : child_of 1 ≡ NodeChild 1
-unfolding child_of
-child_of_node_row = refl
+child_of_row = (refl, refl)
