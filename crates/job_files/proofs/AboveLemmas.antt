@@ -4,16 +4,10 @@ use Rattle.std.specs.Prelude.{IfErr}
 use Rattle.std.proofs.lemmas.Result.{err_from_is_err_and}
 use Rattle.outside.specs.declared.fault.Fault.{Fault}
 use Rattle.outside.specs.declared.fault.Fault.TheVariants.{Refused, ReadFault, ZoneFull, OutOfMemory}
-use Rattle.outside.specs.Faults.{fault_above, from_below, FaultFits, HasCauseAt, HasCauses, ResultIs, itself}
+use Rattle.outside.specs.Faults.{fault_above, from_below, HasCauseAt, HasCauses, ResultIs, itself}
+use Rattle.outside.proofs.StepLemmas.{last_stop}
 use Rattle.outside.proofs.ThroughLemmas.{IsThrough}
 use Rattle.lump_cache.specs.Calls.{IfFull, InOrderAt}
-
-fits_above : {A R Q : Type 0} (lift : R → Q) (steady : Bool) (expected : Result A R) (fault : Fault R) →
-    FaultFits steady expected fault → FaultFits steady (from_below lift expected) (fault_above lift fault)
-fits_above lift steady expected (Refused reason) h = rw h refl
-fits_above lift steady expected ReadFault h = h
-fits_above lift steady expected (ZoneFull wanted widest) h = tt
-fits_above lift steady expected OutOfMemory h = tt
 
 cause_above : {R Q : Type 0} (lift : R → Q) (before now : ℕ) (fault : Fault R) → HasCauseAt before now fault → HasCauseAt before now (fault_above lift fault)
 cause_above lift before now (Refused reason) h = tt
@@ -42,10 +36,8 @@ module _ {B R Q E : Type 0} (fault_of : E → Fault R) (lift : R → Q) where
   pub answers_above : {A : Type 0} {steady : Bool} {value : B → A} (expected : Result A R) (one : Result B E) (result : Result B (Fault Q)) →
       IsNamedAbove one result → ResultIs fault_of steady value expected one → ResultIs itself steady value (from_below lift expected) result
   answers_above expected (Ok x) result is answers = rw is (record { ok = rw answers.ok refl; err = tt })
-  answers_above {A} {steady} {value} expected (Err fault) result is answers =
-      let s = err_from_is_err_and result is in
-      let k : FaultFits steady (from_below lift expected) (itself s.0) = rw s.2 (fits_above lift steady expected (fault_of fault) answers.err) in
-      rw s.1 (record { ok = tt; err = k })
+  answers_above expected (Err fault) result is answers =
+      last_stop lift (λ below. fault_above lift (fault_of below)) (λ below. refl) fault result answers refl is
 
   -- a read that failed has its cause
   pub causes_above : {before now : ℕ} (one : Result B E) (result : Result B (Fault Q)) → IsNamedAbove one result → HasCauses fault_of before now one → HasCauses itself before now result

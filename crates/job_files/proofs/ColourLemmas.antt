@@ -7,13 +7,9 @@ use Rattle.scene_rules.specs.declared.TheConstants.{COLORMAP, PLAYPAL}
 use Rattle.scene_rules.specs.declared.refusal.ArtRefusal.{ArtRefusal}
 
 -- the names are in capitals
-pub colormap_name : name_of COLORMAP ≡ COLORMAP
+pub colour_names : (name_of COLORMAP ≡ COLORMAP) × (name_of PLAYPAL ≡ PLAYPAL)
 unfolding filled
-colormap_name = refl
-
-pub playpal_name : name_of PLAYPAL ≡ PLAYPAL
-unfolding filled
-playpal_name = refl
+colour_names = (refl, refl)
 
 -- what is told of a lump that was looked for
 pub long_told : (refusal : ArtRefusal) (found : Option LumpNo) (number : Option ℕ) (r : Result LumpNo ArtRefusal) → option_map (λ (lump : LumpNo). lump.0) found ≡ number → r ≡ ok_or found refusal →

@@ -1,5 +1,5 @@
 -- What drawing asks of a scene, a step of its reading at a time.
-use Rattle.std.proofs.Common.{◌≡◌, ◌⊎◌, ◌<◌, ◌≤◌, ℕ, List, length, Result, Ok, Err, sym, ap, subst, ◌∙◌}
+use Rattle.std.proofs.Common.{◌≡◌, ◌⊎◌, ◌<◌, ◌≤◌, ℕ, List, length, Result, Ok, Err, sym, ap, subst, ◌∙◌, rules}
 use Rattle.std.specs.Prelude.{All, IfOk, IfSome, OnOk, option_map}
 use Rattle.outside.specs.declared.fault.Fault.{Fault}
 use Rattle.lump_rules.specs.declared.wad.Lump.{Lump}
@@ -97,15 +97,7 @@ module _ (lumps : List Lump) (lines : List ThingLine) (name : List ℕ) (skill :
   scene_of_art scene are e f art =
       let all : AreFacesOf lumps name (base_of scene.base) (faces_of scene.faces) =
       subst (λ (b : LevelBase). AreFacesOf lumps name b (faces_of scene.faces)) (sym e) (subst (λ (f : ReadFaces). AreFacesOf lumps name (base_of base) (faces_of f)) (sym f) are) in
-      record {
-        faces = all.faces;
-        sides = all.sides;
-        flats = all.flats;
-        flats_there = all.flats_there;
-        below = all.below;
-        few = all.few;
-        art = art;
-      }
+      search rules
 
   pub scene_after : (result : Result ReadScene (Fault AuditRefusal)) → AreFacesOf lumps name (base_of base) (faces_of faces) →
       IfOk result (λ (scene : ReadScene). base_of scene.base ≡ base_of base) → IfOk result (λ (scene : ReadScene). scene.faces ≡ faces) →

@@ -29,8 +29,7 @@ step_stopped : {A B C D R E : Type 0} {told : E → Fault R} {steady later : Boo
     ResultIs told later v first r → r ≡ Err fault → later ≡ steady → IsErrAnd result (λ e. e ≡ fault) → ResultIs told steady value (and_then first next) result
 step_stopped {A} {B} {C} {D} {R} {E} {told} {steady} {later} {v} {value} {first} {r} next fault result answers was same is =
     let p : (y : E) × (result ≡ Err y) × (y ≡ fault) = err_from_is_err_and result is in
-    let h : FaultFits later first (told fault) = rw was at answers.err in
-    let k : FaultFits steady (and_then first next) (told p.0) = rw (p.2, ← same) (stops later first next (told fault) h) in
+    let k : FaultFits steady (and_then first next) (told p.0) = rw (p.2, ← same) (stops later first next (told fault) (rw was at answers.err)) in
     rw p.1 (record { ok = tt; err = k })
 
 module _ (bytes : ℕ → List ℕ) (level : LevelJobValue) (found : FilesValue) where

@@ -55,13 +55,15 @@ module _ (contents : List (List ℕ)) (level : LevelJobValue) (files : SceneFile
   audit_full (Err (ZoneFull wanted widest')) told empty size full found room enough =
       let colormap = ok_value (colormap_of files.dir.lumps) found in
       record {
-        lump = full.lump;
-        asked = inl (full.asked contents told);
-        wanted_is = full.wanted_is;
-        narrow = full.narrow;
-        colormap = colormap.0;
-        colormap_is = colormap.1;
-        small = subst (λ n. n < block_size (lump_at files.dir.lumps colormap.0).size + wanted + MIN_FRAGMENT) size (room colormap.0 colormap.1 empty);
+        block = record {
+          lump = full.lump;
+          asked = inl (full.asked contents told);
+          wanted_is = full.wanted_is;
+          narrow = full.narrow;
+          colormap = colormap.0;
+          colormap_is = colormap.1;
+          small = subst (λ n. n < block_size (lump_at files.dir.lumps colormap.0).size + wanted + MIN_FRAGMENT) size (room colormap.0 colormap.1 empty);
+        };
         enough = λ loaded e. audited_by (λ l. level.settings.zone < (loaded_sizes l).enough) (lump_bytes contents files.dir.lumps) level (value_of files) loaded e
             (λ scene weapons accepted layers. omega (arith, size, enough contents scene told accepted empty, enough_loaded (record { files = value_of files; scene = scene; weapons = weapons })));
       }
@@ -78,13 +80,15 @@ module _ (contents : List (List ℕ)) (level : LevelJobValue) (files : SceneFile
       let small : level.settings.zone < block_size (lump_at files.dir.lumps scene.base.colormap).size + wanted + MIN_FRAGMENT =
       subst (λ n. n < block_size (lump_at files.dir.lumps scene.base.colormap).size + wanted + MIN_FRAGMENT) size (full.room scene.base.colormap (lump_at files.dir.lumps scene.base.colormap).size rest) in
       record {
-        lump = full.lump;
-        asked = inr full.asked;
-        wanted_is = full.wanted_is;
-        narrow = full.narrow;
-        colormap = scene.base.colormap;
-        colormap_is = is;
-        small = small;
+        block = record {
+          lump = full.lump;
+          asked = inr full.asked;
+          wanted_is = full.wanted_is;
+          narrow = full.narrow;
+          colormap = scene.base.colormap;
+          colormap_is = is;
+          small = small;
+        };
         enough = λ loaded e. audited_by (λ l. level.settings.zone < (loaded_sizes l).enough) (lump_bytes contents files.dir.lumps) level (value_of files) loaded e
             (λ other weapons known layers.
             subst (λ (s : SceneValue). level.settings.zone < (loaded_sizes (record { files = value_of files; scene = s; weapons = weapons })).enough) (same_value scene other accepted known)
@@ -110,13 +114,7 @@ load_full {B} {D} level wads held found r fault result are full was is =
       go (ZoneFull wanted widest') k = record {
         values = found;
         are = are;
-        lump = k.lump;
-        asked = k.asked;
-        wanted_is = k.wanted_is;
-        narrow = k.narrow;
-        colormap = k.colormap;
-        colormap_is = k.colormap_is;
-        small = k.small;
+        block = k.block;
         enough = λ loaded e. k.enough loaded (audited_of level wads held found loaded are e);
       }
 

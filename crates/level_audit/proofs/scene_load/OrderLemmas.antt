@@ -167,25 +167,25 @@ unfolding composite_items
 composites_distinct [] number = tt
 composites_distinct (t ∷ ts) number = one_distinct number t (composite_items (number + 1) ts) (composites_past ts (number + 1) number (omega arith)) (composites_distinct ts (number + 1))
 
+-- a sum over their items is one over the textures
+composites_sum : (f : Item → ℕ) (g : Option PreparedTexture → ℕ) → ((number : ℕ) (t : Option PreparedTexture) → sum_by f (composite_item number t) ≡ g t) → (ts : List (Option PreparedTexture)) (number : ℕ) → sum_by f (composite_items number ts) ≡ sum_by g ts
+unfolding composite_items
+composites_sum f g each [] number = refl
+composites_sum f g each (t ∷ ts) number =
+    let rest = composites_sum f g each ts (number + 1) in
+    let both = sum_by-append f (composite_item number t) (composite_items (number + 1) ts) in
+    omega (arith, rest, both, each number t, sum_by-cons g t ts)
+
 -- their blocks; none of their bytes is read
 composite_blocks : (ts : List (Option PreparedTexture)) (number : ℕ) → items_size (composite_items number ts) ≡ sum_by composite_block ts
-unfolding composite_items
-composite_blocks [] number = refl
-composite_blocks (t ∷ ts) number =
-    let rest = composite_blocks ts (number + 1) in
-    let both = sum_by-append item_block (composite_item number t) (composite_items (number + 1) ts) in
-    let one = one_block number t in
-    let blocks = sum_by-cons composite_block t ts in
-    omega (arith, rest, both, one, blocks)
+composite_blocks ts number = composites_sum item_block composite_block one_block ts number
+
+none_summed : {X : Type 0} (xs : List X) → sum_by (λ x. 0) xs ≡ 0
+none_summed [] = refl
+none_summed (x ∷ xs) = omega (arith, sum_by-cons (λ x. 0) x xs, none_summed xs)
 
 composites_unread : (ts : List (Option PreparedTexture)) (number : ℕ) → sum_by lump_size (composite_items number ts) ≡ 0
-unfolding composite_items
-composites_unread [] number = refl
-composites_unread (t ∷ ts) number =
-    let rest = composites_unread ts (number + 1) in
-    let both = sum_by-append lump_size (composite_item number t) (composite_items (number + 1) ts) in
-    let one = one_unread number t in
-    omega (arith, rest, both, one)
+composites_unread ts number = composites_sum lump_size (λ t. 0) one_unread ts number ∙ none_summed ts
 
 -- the composite of a prepared texture is among them
 composite_among : (ts : List (Option PreparedTexture)) (first k number : ℕ) (t : PreparedTexture) → first + k ≡ number → prepared_at ts k ≡ Some t → 0 < size_of t → has_item (composite_items first ts) (composite_owner number) (size_of t) ≡ true

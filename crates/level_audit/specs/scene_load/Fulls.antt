@@ -31,9 +31,9 @@ abbrev pub IsReadFor : (ℕ → List ℕ) → LevelJobValue → FilesValue → �
 IsReadFor bytes level values lump =
     IsReadBy bytes values.lumps values.things level.map_name level.settings.skill lump ⊎ IsOfLayers values.lumps values.weapons lump
 
--- No gap held the block of a lump that is read, whose bytes are these. The zone does not hold it beside
--- COLORMAP; and where nothing refuses, the zone is smaller than enough.
-pub record IsFullOver (bytes : ℕ → List ℕ) (level : LevelJobValue) (values : FilesValue) (wanted widest' : ℕ) : Type 0 where
+-- No gap held the block of a lump that is read, whose bytes are these, and the zone does not hold it
+-- beside COLORMAP.
+pub record IsBlockOver (bytes : ℕ → List ℕ) (level : LevelJobValue) (values : FilesValue) (wanted widest' : ℕ) : Type 0 where
   pub lump : ℕ
   pub asked : IsReadFor bytes level values lump
   pub wanted_is : wanted ≡ block_size (lump_at values.lumps lump).size
@@ -41,18 +41,16 @@ pub record IsFullOver (bytes : ℕ → List ℕ) (level : LevelJobValue) (values
   pub colormap : ℕ
   pub colormap_is : colormap_of values.lumps ≡ Ok colormap
   pub small : level.settings.zone < block_size (lump_at values.lumps colormap).size + wanted + MIN_FRAGMENT
+
+-- There is such a block; and where nothing refuses, the zone is smaller than enough.
+pub record IsFullOver (bytes : ℕ → List ℕ) (level : LevelJobValue) (values : FilesValue) (wanted widest' : ℕ) : Type 0 where
+  pub block : IsBlockOver bytes level values wanted widest'
   pub enough : (loaded : LoadedValue) → audited_in bytes level values ≡ Ok loaded → level.settings.zone < (loaded_sizes loaded).enough
 
--- The files are in order, and no gap held the block of a lump that is read. The zone does not hold it
--- beside COLORMAP; and where nothing refuses, the zone is smaller than enough.
+-- The files are in order, and there is such a block; and where nothing refuses, the zone is smaller than
+-- enough.
 pub record IsFullLoad (level : LevelJobValue) (wads : List (List ℕ)) (files : List File) (wanted widest' : ℕ) : Type 0 where
   pub values : FilesValue
   pub are : files_in level.files wads level.settings.size files ≡ Ok values
-  pub lump : ℕ
-  pub asked : IsReadFor (wad_bytes wads files values.lumps) level values lump
-  pub wanted_is : wanted ≡ block_size (lump_at values.lumps lump).size
-  pub narrow : widest' < wanted
-  pub colormap : ℕ
-  pub colormap_is : colormap_of values.lumps ≡ Ok colormap
-  pub small : level.settings.zone < block_size (lump_at values.lumps colormap).size + wanted + MIN_FRAGMENT
+  pub block : IsBlockOver (wad_bytes wads files values.lumps) level values wanted widest'
   pub enough : (loaded : LoadedValue) → load_in level wads files ≡ Ok loaded → level.settings.zone < (loaded_sizes loaded).enough
