@@ -1,5 +1,5 @@
 // The bytes of a named file, which is read whole where its length is not refused.
-ghost use Rattle.std.specs.Prelude.{◌≡◌, ◌≤◌, ◌+◌, ℕ, List, length, Ok, IfOk};
+ghost use Rattle.std.specs.Prelude.{◌≡◌, ◌≤◌, ◌+◌, ℕ, List, length, IfOk};
 ghost use Rattle.outside.specs.Shelf.{File, IsLaterShelf, Holds, Stands};
 ghost use Rattle.outside.specs.Faults.{ResultIs, HasCauses, itself};
 ghost use Rattle.job_files.specs.Files.{IsNeverFull, in_file, unless_refused};
@@ -64,29 +64,11 @@ fn read_file<S: Shelf>(
         (S.view shelf.new).taken ≤ (S.view shelf.old).taken + length bytes }
 {
     let size = shelf.size_of(file)?;
-    match check_length(kind, size) {
-        Ok(count) => read_whole(alloc, shelf, file, count),
-        Err(refusal) => Err(Fault::Refused(refusal)),
-    }
-}
-
-// All bytes of a file that has so many.
-fn read_whole<S: Shelf>(
-    alloc: Global,
-    shelf: &mut S,
-    file: FileNo,
-    size: usize,
-) -> Result<Vec<u8>, LoadFault>
-    ensures answers { (bytes : List ℕ) →
-        Stands (S.view shelf.old) file.0 bytes → length bytes ≡ size →
-        ResultIs itself (S.view shelf.old).steady (λ found. found.items) (Ok bytes) result }
-    ensures full { IsNeverFull result }
-    ensures follows { IsLaterShelf (S.view shelf.old) (S.view shelf.new) }
-    ensures causes { HasCauses itself
-        (S.view shelf.old).faults (S.view shelf.new).faults result }
-    ensures taken { (S.view shelf.new).taken ≤ (S.view shelf.old).taken + size }
-{
-    let mut bytes = vec![in alloc; 0; size]?;
+    let count = match check_length(kind, size) {
+        Ok(count) => count,
+        Err(refusal) => return Err(Fault::Refused(refusal)),
+    };
+    let mut bytes = vec![in alloc; 0; count]?;
     shelf.read_at(file, 0, &mut bytes)?;
     Ok(bytes)
 }

@@ -1,59 +1,66 @@
-use Rattle.std.proofs.Common.{◌∙◌, refl, arith}
+use Rattle.std.proofs.Common.{◌∙◌, refl, arith, rules}
+use Rattle.outside.proofs.ShelfLemmas.{follows_then}
 use Rattle.job_files.specs.Files.{texts_in}
 use Rattle.job_files.specs.Sizes.{texts_size}
 use Rattle.outside.proofs.StopLemmas.{step_passed, step_stops, all_passed}
 use Rattle.job_files.proofs.texts.load_texts.Goals as goal
 
-pub returns-in_err-things-clause-answers : goal.returns-in_err-things-clause-answers
-unfolding texts_in
-returns-in_err-things-clause-answers g c files holds =
-    step_stops _ _ c.from_residual.result (c.load_things.ensures.answers files holds) c.in_err-things.was refl c.from_residual.ensures.1
+pub returns-in_err-things : goal.returns-in_err-things
+unfolding texts_in texts_size
+returns-in_err-things g c =
+    record {
+      answers = λ files holds. step_stops _ _ c.from_residual.result (c.load_things.ensures.answers files holds) c.in_err-things.was refl c.from_residual.ensures.1;
+      full = search rules;
+      follows = c.load_things.ensures.follows;
+      causes = search rules;
+      taken = search rules;
+      taken_of = λ files holds. omega (arith, c.load_things.ensures.taken_of files holds);
+    }
 
-pub returns-in_err-path-clause-answers : goal.returns-in_err-path-clause-answers
-unfolding texts_in
-returns-in_err-path-clause-answers g c files holds =
-    let held = c.load_things.ensures.follows.held ∙ holds in
-    step_passed _ _ c.in_ok-things.things (c.in_ok-things.ensures.answers files holds).ok c.load_things.ensures.follows.steady
-    (step_stops _ _ c.from_residual-in_err-path.result (c.load_path.ensures.answers files held) c.in_err-path.was refl c.from_residual-in_err-path.ensures.1)
+pub returns-in_err-path : goal.returns-in_err-path
+unfolding texts_in texts_size
+returns-in_err-path g c =
+    let first = c.load_things.ensures in
+    record {
+      answers = λ files holds. step_passed _ _ c.in_ok-things.things (c.in_ok-things.ensures.answers files holds).ok first.follows.steady
+          (step_stops _ _ c.from_residual-in_err-path.result (c.load_path.ensures.answers files (first.follows.held ∙ holds)) c.in_err-path.was refl c.from_residual-in_err-path.ensures.1);
+      full = search rules;
+      follows = follows_then first.follows c.load_path.ensures.follows;
+      causes = search rules;
+      taken = search rules;
+      taken_of = λ files holds. omega (arith, first.taken_of files holds, c.load_path.ensures.taken_of files (first.follows.held ∙ holds));
+    }
 
-pub returns-in_err-weapons-clause-answers : goal.returns-in_err-weapons-clause-answers
-unfolding texts_in
-returns-in_err-weapons-clause-answers g c files holds =
-    let held = c.load_things.ensures.follows.held ∙ holds in
-    let still = c.load_path.ensures.follows.held ∙ held in
-    step_passed _ _ c.in_ok-things.things (c.in_ok-things.ensures.answers files holds).ok c.load_things.ensures.follows.steady
-    (step_passed _ _ c.in_ok-path.path (c.in_ok-path.ensures.answers files held).ok c.load_path.ensures.follows.steady
-    (step_stops _ _ c.from_residual-in_err-weapons.result (c.load_weapons.ensures.answers files still) c.in_err-weapons.was refl c.from_residual-in_err-weapons.ensures.1))
+pub returns-in_err-weapons : goal.returns-in_err-weapons
+unfolding texts_in texts_size
+returns-in_err-weapons g c =
+    let first = c.load_things.ensures in
+    let second = c.load_path.ensures in
+    let both = follows_then first.follows second.follows in
+    record {
+      answers = λ files holds. step_passed _ _ c.in_ok-things.things (c.in_ok-things.ensures.answers files holds).ok first.follows.steady
+          (step_passed _ _ c.in_ok-path.path (c.in_ok-path.ensures.answers files (first.follows.held ∙ holds)).ok second.follows.steady
+          (step_stops _ _ c.from_residual-in_err-weapons.result (c.load_weapons.ensures.answers files (both.held ∙ holds)) c.in_err-weapons.was refl c.from_residual-in_err-weapons.ensures.1));
+      full = search rules;
+      follows = follows_then both c.load_weapons.ensures.follows;
+      causes = search rules;
+      taken = search rules;
+      taken_of = λ files holds. omega (arith, first.taken_of files holds, second.taken_of files (first.follows.held ∙ holds), c.load_weapons.ensures.taken_of files (both.held ∙ holds));
+    }
 
-pub returns-clause-answers : goal.returns-clause-answers
-unfolding texts_in
-returns-clause-answers g c files holds =
-    let held = c.load_things.ensures.follows.held ∙ holds in
-    let still = c.load_path.ensures.follows.held ∙ held in
-    step_passed _ _ c.in_ok-things.things (c.in_ok-things.ensures.answers files holds).ok c.load_things.ensures.follows.steady
-    (step_passed _ _ c.in_ok-path.path (c.in_ok-path.ensures.answers files held).ok c.load_path.ensures.follows.steady
-    (step_passed _ _ c.in_ok-weapons.weapons (c.in_ok-weapons.ensures.answers files still).ok c.load_weapons.ensures.follows.steady (all_passed _ _ refl)))
-
-pub returns-in_err-things-clause-taken_of : goal.returns-in_err-things-clause-taken_of
-unfolding texts_size
-returns-in_err-things-clause-taken_of g c files holds = omega (arith, c.load_things.ensures.taken_of files holds)
-
-pub returns-in_err-path-clause-taken_of : goal.returns-in_err-path-clause-taken_of
-unfolding texts_size
-returns-in_err-path-clause-taken_of g c files holds =
-    let held = c.load_things.ensures.follows.held ∙ holds in
-    omega (arith, c.load_things.ensures.taken_of files holds, c.load_path.ensures.taken_of files held)
-
-pub returns-in_err-weapons-clause-taken_of : goal.returns-in_err-weapons-clause-taken_of
-unfolding texts_size
-returns-in_err-weapons-clause-taken_of g c files holds =
-    let held = c.load_things.ensures.follows.held ∙ holds in
-    let still = c.load_path.ensures.follows.held ∙ held in
-    omega (arith, c.load_things.ensures.taken_of files holds, c.load_path.ensures.taken_of files held, c.load_weapons.ensures.taken_of files still)
-
-pub returns-clause-taken_of : goal.returns-clause-taken_of
-unfolding texts_size
-returns-clause-taken_of g c files holds =
-    let held = c.load_things.ensures.follows.held ∙ holds in
-    let still = c.load_path.ensures.follows.held ∙ held in
-    omega (arith, c.load_things.ensures.taken_of files holds, c.load_path.ensures.taken_of files held, c.load_weapons.ensures.taken_of files still)
+pub returns : goal.returns
+unfolding texts_in texts_size
+returns g c =
+    let first = c.in_ok-things.ensures in
+    let second = c.in_ok-path.ensures in
+    let both = follows_then first.follows second.follows in
+    record {
+      answers = λ files holds. step_passed _ _ c.in_ok-things.things (c.in_ok-things.ensures.answers files holds).ok first.follows.steady
+          (step_passed _ _ c.in_ok-path.path (c.in_ok-path.ensures.answers files (first.follows.held ∙ holds)).ok second.follows.steady
+          (step_passed _ _ c.in_ok-weapons.weapons (c.in_ok-weapons.ensures.answers files (both.held ∙ holds)).ok c.load_weapons.ensures.follows.steady (all_passed _ _ refl)));
+      full = search rules;
+      follows = follows_then both c.load_weapons.ensures.follows;
+      causes = search rules;
+      taken = search rules;
+      taken_of = λ files holds. omega (arith, first.taken_of files holds, second.taken_of files (first.follows.held ∙ holds), c.load_weapons.ensures.taken_of files (both.held ∙ holds));
+    }
