@@ -1,51 +1,26 @@
 -- A zone that is full while a scene is drawn: for which block, and how small it is.
-use Rattle.std.proofs.Common.{◌≡◌, ◌+◌, ◌<◌, ℕ, List, Some, Ok, ap, subst, ◌∙◌, inl, inr}
-use Rattle.std.specs.Prelude.{◌⊎◌, take}
+use Rattle.std.proofs.Common.{◌≡◌, ◌+◌, ◌<◌, ℕ, List, Some, Ok, subst, inl, inr}
+use Rattle.std.specs.Prelude.{◌⊎◌}
 use Rattle.outside.specs.Shelf.{File}
-use Rattle.outside.specs.Faults.{from_below}
-use Rattle.lump_rules.specs.declared.wad.Lump.{Lump}
-use Rattle.lump_rules.specs.Contents.{lump_bytes}
 use Rattle.zone_rules.specs.declared.TheConstants.{MIN_FRAGMENT}
 use Rattle.texture_build.specs.Views.{AreTexturesOf}
 use Rattle.command_line.specs.LevelJobs.{LevelJobValue}
-use Rattle.scene_rules.specs.declared.TheConstants.{PALETTE_SIZE}
-use Rattle.scene_rules.specs.declared.refusal.AuditRefusal.TheVariants.{Art, Map, Texture}
-use Rattle.scene_rules.specs.Scenes.{LevelBase, SceneValue, base_in, base_over, colormap_of, level_in, lists_in, playpal_of, scene_in}
-use Rattle.scene_rules.specs.Sides.{is_wanted_texture}
 use Rattle.scene_rules.specs.Sizes.{SceneArt, lump_block, zone_sizes}
 use Rattle.sound_scene.specs.Sound.{art_with, textures_view}
-use Rattle.sound_scene.proofs.SceneLemmas.{and_then-ok, from_below-ok, scene_parts}
-use Rattle.level_rules.specs.declared.ThingLine.{ThingLine}
+use Rattle.sound_scene.proofs.SceneLemmas.{and_then-ok}
 use Rattle.frame_core.proofs.EnoughLemmas.{IsArtFull, full-small, view_full}
 use Rattle.job_files.specs.Files.{files_in}
 use Rattle.level_audit.specs.scene_load.Fulls.{IsFullLoad}
 use Rattle.job_files.specs.Sizes.{wad_contents}
 use Rattle.level_audit.specs.scene_load.Loads.{LoadedValue, load_in, loaded_pictures, loaded_sizes, loaded_value, wad_bytes, weapon_lumps}
+use Rattle.level_audit.proofs.scene_load.ArtLemmas.{scene_textures}
 use Rattle.level_audit.proofs.scene_load.AuditedLemmas.{audited_by}
 use Rattle.level_audit.proofs.scene_load.LoadLemmas.{audited_of}
 use Rattle.doom_run.specs.declared.render.ReadyViews.{ReadyViews}
 use Rattle.doom_run.specs.Fulls.{IsDrawnBlock, IsFullDraw, IsPatchBeside}
 use Rattle.doom_run.specs.Renders.{IsFullReady, IsFullView, IsReady}
 
--- the lists of a base are those of the directory
-base_lists : (bytes : ℕ → List ℕ) (lumps : List Lump) (name : List ℕ) (base : LevelBase) → base_in bytes lumps name ≡ Ok base → lists_in bytes lumps ≡ Ok base.lists
-unfolding base_in base_over
-base_lists bytes lumps name base e =
-    let a = and_then-ok (from_below Art (colormap_of lumps)) _ base e in
-    let b = and_then-ok (from_below Art (playpal_of lumps)) _ base a.2 in
-    let c = and_then-ok (from_below Map (level_in bytes lumps name)) _ base b.2 in
-    let d = and_then-ok (from_below Texture (lists_in bytes lumps)) _ base c.2 in
-    let made : ◌≡◌ {A = LevelBase} (record { colormap = a.0; playpal = b.0; palette = take PALETTE_SIZE (bytes b.0); label = c.0.0; level = c.0.1; lists = d.0 }) base = cc in
-    from_below-ok Texture (lists_in bytes lumps) d.0 d.1 ∙ ap (λ (b : LevelBase). Ok b.lists) made
-
--- the textures of an accepted scene are those of the directory
-scene_textures : (contents : List (List ℕ)) (lumps : List Lump) (lines : List ThingLine) (name : List ℕ) (skill : ℕ) (scene : SceneValue) → scene_in (lump_bytes contents lumps) lumps lines name skill ≡ Ok scene → AreTexturesOf contents lumps (textures_view scene)
-unfolding lists_in
-scene_textures contents lumps lines name skill scene e =
-    let parts = scene_parts (lump_bytes contents lumps) lumps lines name skill scene e in
-    record { wanted = is_wanted_texture scene.faces.sides scene.faces.sky; lists = base_lists (lump_bytes contents lumps) lumps name scene.base parts.base; prepared = parts.prepared }
-
--- so are those of a scene that is loaded
+-- the textures of a scene that is loaded are those of the directory
 pub loaded_textures : (level : LevelJobValue) (wads : List (List ℕ)) (files : List File) (loaded : LoadedValue) → load_in level wads files ≡ Ok loaded → AreTexturesOf (wad_contents wads files) loaded.files.lumps (textures_view loaded.scene)
 unfolding load_in
 loaded_textures level wads files loaded e =

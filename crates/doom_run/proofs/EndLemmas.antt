@@ -13,6 +13,7 @@ use Rattle.lump_rules.specs.Contents.{lump_bytes}
 use Rattle.command_line.specs.declared.command.Format.{Format}
 use Rattle.command_line.specs.declared.command.LevelTask.TheVariants.{Limits, Render}
 use Rattle.command_line.specs.LevelJobs.{LevelJobValue}
+use Rattle.picture_rules.specs.declared.LimitKind.{LimitKind}
 use Rattle.refusals.specs.declared.refusal.Refusal.{Refusal}
 use Rattle.sound_scene.proofs.SceneLemmas.{and_then-ok}
 use Rattle.job_files.specs.Files.{files_in, files_named}
@@ -148,26 +149,24 @@ frames_end steady later format level wads held ready old new status stands is sa
     renders_end steady later _ (rendered format (ready_views (lump_bytes named.contents ready.loaded.files.dir.lumps) ready)) old new status same
     (ready_accepted level wads held ready named.contents (rendered format) stands is named.are) (renders named.contents named.named)
 
+-- a delivery is done, failed to write, or met a limit: what holds of none of these holds of no delivery
+delivers_none : (P : Status → Type 0) → (P Done → ⊥) → (P WriteFault → ⊥) → ((view : ℕ) (kind : LimitKind) (count : ℕ) → P (Limit view kind count) → ⊥) →
+    (accepted : Accepted) (old new : List ℕ → Type 0) (status : Status) → DeliversAt accepted old new status → P status → ⊥
+delivers_none P done failed over accepted old new Done d is = done is
+delivers_none P done failed over accepted old new Usage d is = d
+delivers_none P done failed over accepted old new (Refused refusal) d is = d
+delivers_none P done failed over accepted old new ReadFault d is = d
+delivers_none P done failed over accepted old new WriteFault d is = failed is
+delivers_none P done failed over accepted old new (Limit view kind count) d is = over view kind count is
+delivers_none P done failed over accepted old new (ZoneFull wanted widest) d is = d
+delivers_none P done failed over accepted old new OutOfMemory d is = d
+
 -- a delivery tells no stop before it, no read fault and no full zone
 pub delivers_more : (accepted : Accepted) (old new : List ℕ → Type 0) (status : Status) → DeliversAt accepted old new status → IsUnwritten status → ⊥
-delivers_more accepted old new Done d is = is
-delivers_more accepted old new Usage d is = d
-delivers_more accepted old new (Refused refusal) d is = d
-delivers_more accepted old new ReadFault d is = d
-delivers_more accepted old new WriteFault d is = is
-delivers_more accepted old new (Limit view kind count) d is = is
-delivers_more accepted old new (ZoneFull wanted widest) d is = d
-delivers_more accepted old new OutOfMemory d is = d
+delivers_more accepted old new status = delivers_none IsUnwritten (λ is. is) (λ is. is) (λ view kind count is. is) accepted old new status
 
 pub delivers_all : (accepted : Accepted) (old new : List ℕ → Type 0) (status : Status) → DeliversAt accepted old new status → IsReadOrFull status → ⊥
-delivers_all accepted old new Done d is = is
-delivers_all accepted old new Usage d is = is
-delivers_all accepted old new (Refused refusal) d is = is
-delivers_all accepted old new ReadFault d is = d
-delivers_all accepted old new WriteFault d is = is
-delivers_all accepted old new (Limit view kind count) d is = is
-delivers_all accepted old new (ZoneFull wanted widest) d is = d
-delivers_all accepted old new OutOfMemory d is = is
+delivers_all accepted old new status = delivers_none IsReadOrFull (λ is. is) (λ is. is) (λ view kind count is. is) accepted old new status
 
 -- nor do frames that are delivered tell such a stop
 pub frames_more : (status : Status) → IsDelivered status → IsUnwritten status → ⊥
@@ -201,6 +200,9 @@ same_weapon f (Some x) = refl
 pub unarmed_asks : {X : Type 0} (weapon : Option X) → is_some weapon ≡ false → IsTrue (is_none weapon)
 unarmed_asks None e = refl
 unarmed_asks (Some x) e = absurd (cc)
+
+pub asks_bare : {X Y : Type 0} (f : X → Y) (weapon : Option X) → is_some weapon ≡ false → IsTrue (is_none (option_map f weapon))
+asks_bare f weapon bare = unarmed_asks (option_map f weapon) (same_weapon f weapon ∙ bare)
 
 -- frames without a weapon over them
 pub unarmed_end : (steady : Bool) (format : Format) (level : LevelJobValue) (wads : List (List ℕ)) (held : List File) (old new : List ℕ → Type 0) (status : Status) → is_some level.files.weapon ≡ false →

@@ -8,6 +8,7 @@ use Rattle.std.proofs.lemmas.Bool.Decides.{nat_tests}
 use Rattle.outside.specs.Shelf.{File}
 use Rattle.outside.specs.Stops.{Stop}
 use Rattle.lump_rules.specs.declared.wad.Lump.{Lump}
+use Rattle.lump_rules.specs.Contents.{lump_bytes}
 use Rattle.lump_rules.specs.Lookups.{last_of, lump_at}
 use Rattle.lump_cache.specs.Named.{IsLast}
 use Rattle.zone_rules.specs.Zones.{block_size}
@@ -31,7 +32,7 @@ use Rattle.scene_rules.specs.Sizes.{greatest_by, is_last, is_list, is_map_lump, 
 use Rattle.level_audit.specs.Asked.{IsOfBase}
 use Rattle.sound_scene.specs.Sound.{textures_view}
 use Rattle.sound_scene.proofs.SceneLemmas.{IsBaseOf, and_then-ok, base_parts, scene_parts}
-use Rattle.job_files.specs.Files.{files_in}
+use Rattle.job_files.specs.Files.{files_in, files_named}
 use Rattle.level_audit.specs.scene_load.Fulls.{IsBaseWithin}
 use Rattle.level_audit.specs.scene_load.Loads.{LoadedValue, load_in, loaded_value, wad_bytes}
 use Rattle.level_audit.proofs.scene_load.AuditedLemmas.{audited_by}
@@ -40,7 +41,7 @@ use Rattle.doom_run.specs.declared.render.ReadyViews.{ReadyViews}
 use Rattle.doom_run.specs.Leasts.{base_block, block_beside, is_base_lump, least_loading, least_over, least_views, level_least, painted_block, source_block}
 use Rattle.doom_run.specs.Renders.{FitDue, IsReady, ready_views}
 use Rattle.doom_run.specs.Views.{ViewsValue, due_views, first_over, views_of}
-use Rattle.doom_run.proofs.EndLemmas.{ready_as}
+use Rattle.doom_run.proofs.EndLemmas.{loaded_named, ready_as}
 
 -- what stands beside `m` for each stands there for the greatest
 module _ {X : Type 0} (f : X → ℕ) (m zone : ℕ) (least : m ≤ zone) where
@@ -210,3 +211,14 @@ least_render level wads files format ready is stands within fit =
     views_beside level ready stands room r (Some v) fits =
         view_beside ready.loaded.files.dir.lumps (textures_view ready.loaded.scene.scene) ready.loaded.scene.scene.base.colormap level.settings.zone room r.scene v
         (subst (λ (n : ℕ). FitBeside ready.loaded.files.dir.lumps (textures_view ready.loaded.scene.scene) ready.loaded.scene.scene.base.colormap (lump_at ready.loaded.files.dir.lumps ready.loaded.scene.scene.base.colormap).size n (view_paints v r.scene)) stands.zone fits)
+
+-- the same, told of the contents of the WADs that are named
+pub least_rendered : (level : LevelJobValue) (wads : List (List ℕ)) (files : List File) (format : Format) (ready : ReadyViews) → load_in level wads files ≡ Ok (loaded_value ready.loaded) → IsReady level ready →
+    IsBaseWithin ready.loaded.files.dir.lumps level ready.loaded.scene.scene.base.colormap →
+    ((contents : List (List ℕ)) → files_named wads files ≡ Some contents → FitDue (lump_bytes contents ready.loaded.files.dir.lumps) (lump_at ready.loaded.files.dir.lumps ready.loaded.scene.scene.base.colormap).size ready) →
+    level_least (Render format) level wads files ≤ level.settings.zone
+least_rendered level wads files format ready is stands within fits =
+    let named = loaded_named level wads files (loaded_value ready.loaded) is in
+    let count = (lump_at ready.loaded.files.dir.lumps ready.loaded.scene.scene.base.colormap).size in
+    least_render level wads files format ready is stands within
+    (subst (λ (contents : List (List ℕ)). FitDue (lump_bytes contents ready.loaded.files.dir.lumps) count ready) (sym named.are) (fits named.contents named.named))

@@ -23,6 +23,7 @@ use Rattle.level_audit.specs.scene_load.Loads.{loaded_sizes}
 use Rattle.command_line.specs.declared.command.Format.{Format}
 use Rattle.frame_core.specs.Scenes.{scene_of}
 use Rattle.frame_core.specs.Views.{CanDrawView, IsViewLump, IsViewTexture}
+use Rattle.frame_core.proofs.PaintLemmas.{can_draw_view-later}
 use Rattle.job_files.specs.declared.status.Status.{Status}
 use Rattle.doom_run.specs.declared.render.ReadyViews.{ReadyViews}
 use Rattle.doom_run.specs.Frames.{KeepsReady, ViewEnds}
@@ -53,16 +54,7 @@ keeps_ready-then {x = x} {y} one two = record {
 }
 
 can_for : (files files' : SceneFiles) (scene scene' : SoundValue) (y z : Heap) → files' ≡ files → scene' ≡ scene → KeepsCounts y z → CanDrawView files.dir.lumps scene.scene y → CanDrawView files'.dir.lumps scene'.scene z
-can_for files files' scene scene' y z f s counts can = rw (f, s) (record {
-  lines = can.lines;
-  name = can.name;
-  skill = can.skill;
-  whole = can.whole;
-  few = can.few;
-  colormap = can.colormap;
-  slots = rw (counts.1) can.slots;
-  composites = rw (counts.2) can.composites;
-})
+can_for files files' scene scene' y z f s counts can = rw (f, s) (can_draw_view-later files.dir.lumps scene.scene y z counts can)
 
 -- it may be drawn again
 pub drawable-later : {a b : ShelfView} {x y : ReadyViews} → KeepsReady a b x y → CanDrawView x.loaded.files.dir.lumps x.loaded.scene.scene x.loaded.cache → CanDrawView y.loaded.files.dir.lumps y.loaded.scene.scene y.loaded.cache

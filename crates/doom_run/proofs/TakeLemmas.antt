@@ -1,5 +1,5 @@
 -- How many bytes are read while a zone stays in order.
-use Rattle.std.proofs.Common.{◌≡◌, ◌≤◌, ◌+◌, ℕ, List, Result, Ok, Err, refl, arith, MatchResult}
+use Rattle.std.proofs.Common.{◌≡◌, ◌≤◌, ◌+◌, ℕ, List, Some, Result, Ok, Err, refl, arith, MatchResult}
 use Rattle.outside.specs.Causes.{FaultsRose}
 use Rattle.outside.specs.Shelf.{File, ShelfView}
 use Rattle.outside.specs.Faults.{HasCauses, itself}
@@ -13,7 +13,8 @@ use Rattle.sound_scene.specs.Sound.{SoundValue, textures_view}
 use Rattle.command_line.specs.LevelJobs.{LevelJobValue}
 use Rattle.refusals.specs.declared.refusal.Refusal.{Refusal}
 use Rattle.job_files.specs.declared.read.SceneFiles.{SceneFiles}
-use Rattle.level_audit.specs.scene_load.Loads.{LoadedValue}
+use Rattle.level_audit.specs.scene_load.Loads.{LoadedValue, load_in, loaded_sizes}
+use Rattle.job_files.specs.Files.{files_named}
 use Rattle.job_files.specs.Sizes.{files_size}
 use Rattle.level_audit.specs.scene_load.Orders.{IsLoadedInOrder, loaded_items, lumps_size}
 use Rattle.level_audit.proofs.scene_load.OrderLemmas.{items_read}
@@ -26,7 +27,8 @@ use Rattle.job_files.specs.declared.status.Status.TheVariants.{Done, Usage, Refu
 use Rattle.doom_run.specs.declared.render.ReadyViews.{ReadyViews}
 use Rattle.doom_run.specs.Frames.{KeepsReady, status_of_view}
 use Rattle.doom_run.specs.Renders.{HasReadyAsked}
-use Rattle.doom_run.specs.Takes.{InOrderAfter, LoadsOnce}
+use Rattle.doom_run.specs.Takes.{InOrderAfter, LoadsOnce, TakesOnce}
+use Rattle.doom_run.proofs.EndLemmas.{loaded_named}
 
 -- what is said after a status, of more
 pub after_all : {P Q : Type 0} (status : Status) → (P → Q) → InOrderAfter status P → InOrderAfter status Q
@@ -71,10 +73,18 @@ loaded_fault before after level wads files expected (fault.ZoneFull wanted wides
 loaded_fault before after level wads files expected fault.OutOfMemory none causes read = read
 
 -- what loading read
-pub loads_taken : {A : Type 0} {i j : ℕ} (before after : ℕ) (cache : A → Heap) (level : LevelJobValue) (wads : List (List ℕ)) (files : List File) (expected : LoadedValue) (result : Result A (Fault Refusal)) →
+loads_taken : {A : Type 0} {i j : ℕ} (before after : ℕ) (cache : A → Heap) (level : LevelJobValue) (wads : List (List ℕ)) (files : List File) (expected : LoadedValue) (result : Result A (Fault Refusal)) →
     LoadsOnce cache level wads files expected before after result → HasCauses itself i j result → (FaultsRose i j → ⊥) → after ≤ before + (files_size level.files wads files + lumps_size expected)
 loads_taken before after cache level wads files expected (Ok loaded) once causes none = omega (arith, once.taken, items_read expected (cache loaded).blocks)
 loads_taken before after cache level wads files expected (Err f) once causes none = loaded_fault before after level wads files expected f none (record { err = causes.err }) once
+
+-- and at most that, whatever was loaded
+pub order_taken : {A : Type 0} {i j : ℕ} (before after : ℕ) (cache : A → Heap) (level : LevelJobValue) (wads : List (List ℕ)) (files : List File) (result : Result A (Fault Refusal)) →
+    ((contents : List (List ℕ)) (expected : LoadedValue) → files_named wads files ≡ Some contents → load_in level wads files ≡ Ok expected → (loaded_sizes expected).roomy ≤ level.settings.zone → LoadsOnce cache level wads files expected before after result) →
+    HasCauses itself i j result → (FaultsRose i j → ⊥) → TakesOnce level wads files before after
+order_taken before after cache level wads files result once causes none expected is room =
+    let named = loaded_named level wads files expected is in
+    loads_taken before after cache level wads files expected result (once named.contents expected named.named is room) causes none
 
 -- what loading and then drawing read
 drawn_taken : {before loaded after : ℕ} (level : LevelJobValue) (wads : List (List ℕ)) (files : List File) (expected : LoadedValue) (y z : Heap) → IsLoadedInOrder level wads files expected before loaded y → KeepsOrder (loaded_items expected) y z loaded after →

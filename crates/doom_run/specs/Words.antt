@@ -19,13 +19,17 @@ level_asks Limits level = true
 level_asks Trim level = false
 level_asks Trace level = false
 
+-- a test of a command, by what it is for a flat and for an exercise; it is false for a made file
+abbrev pub by_command : Bool → Bool → CommandValue → Bool
+by_command of_flat of_exercise (flat name file) = of_flat
+by_command of_flat of_exercise (level_job job level wads) = level_asks job level
+by_command of_flat of_exercise (make job) = false
+by_command of_flat of_exercise (exercise count zone format) = of_exercise
+
 -- The job asks the shelf for files. A made file is told by its words alone, and a job that is not
 -- built asks for nothing.
 abbrev pub asks_for_files : CommandValue → Bool
-asks_for_files (flat name file) = true
-asks_for_files (level_job job level wads) = level_asks job level
-asks_for_files (make job) = false
-asks_for_files (exercise count zone format) = false
+asks_for_files command = by_command true false command
 
 -- the words are a command that asks for files
 abbrev pub ask_for_files : List (List ℕ) → Bool
@@ -33,10 +37,7 @@ ask_for_files words = option_map_or asks_for_files (command_of words) false
 
 -- a job over a level has a zone, if it is built, and so has an exercise
 abbrev pub has_zone : CommandValue → Bool
-has_zone (flat name file) = false
-has_zone (level_job job level wads) = level_asks job level
-has_zone (make job) = false
-has_zone (exercise count zone format) = true
+has_zone command = by_command false true command
 
 -- the words are a command that has a zone
 abbrev pub have_zone : List (List ℕ) → Bool

@@ -4,13 +4,13 @@ use Rattle.level_audit.specs.scene_load.Fulls.{IsFullLoad}
 use Rattle.level_audit.specs.scene_load.Loads.{loaded_value}
 use Rattle.job_files.specs.declared.status.Status.{Status}
 use Rattle.job_files.proofs.StepLemmas.{status_full}
-use Rattle.doom_run.proofs.TakeLemmas.{loads_taken}
+use Rattle.doom_run.proofs.TakeLemmas.{order_taken}
 use Rattle.doom_run.proofs.LeastLemmas.{least_limits}
 use Rattle.doom_run.specs.Ends.{DeliversAt}
 use Rattle.doom_run.specs.Renders.{ready_views}
 use Rattle.doom_run.specs.Verdict.{counted}
 use Rattle.doom_run.proofs.CountLemmas.{can_count}
-use Rattle.doom_run.proofs.EndLemmas.{counted_end, delivers_all, delivers_more, fault_no_end, loaded_named}
+use Rattle.doom_run.proofs.EndLemmas.{counted_end, delivers_all, delivers_more, fault_no_end}
 use Rattle.doom_run.proofs.view_jobs.perform_limits.Goals as goal
 
 pub deliver_limits-requires : goal.deliver_limits-requires
@@ -49,18 +49,14 @@ returns-in-Ok-clause-least g c files end held =
     least_limits (level_job_value c.args.level.now) (map (λ wad. wad.now) c.args.wads.now) files (loaded_value c.in-Ok.ready.loaded) (c.in-Ok.ensures.answers files held).ok c.in-Ok.ensures.fits
 
 pub returns-in-Ok-clause-taken : goal.returns-in-Ok-clause-taken
-returns-in-Ok-clause-taken g c files held calm expected is room =
-    let level = level_job_value c.args.level.now in
-    let wads = map (λ wad. wad.now) c.args.wads.now in
-    let named = loaded_named level wads files expected is in
-    loads_taken _ _ (λ ready. ready.loaded.cache) level wads files expected c.prepare_views.result (c.prepare_views.ensures.order files named.contents expected held named.named is room) c.prepare_views.ensures.causes calm
+returns-in-Ok-clause-taken g c files held calm =
+    order_taken _ _ (λ ready. ready.loaded.cache) (level_job_value c.args.level.now) (map (λ wad. wad.now) c.args.wads.now) files c.prepare_views.result
+    (λ contents expected. c.prepare_views.ensures.order files contents expected held) c.prepare_views.ensures.causes calm
 
 pub returns-in-Err-clause-least : goal.returns-in-Err-clause-least
 returns-in-Err-clause-least g c files end held = absurd (fault_no_end c.in-Err.fault (rw c.of.ensures at end))
 
 pub returns-in-Err-clause-taken : goal.returns-in-Err-clause-taken
-returns-in-Err-clause-taken g c files held calm expected is room =
-    let level = level_job_value c.args.level.now in
-    let wads = map (λ wad. wad.now) c.args.wads.now in
-    let named = loaded_named level wads files expected is in
-    loads_taken _ _ (λ ready. ready.loaded.cache) level wads files expected c.prepare_views.result (c.prepare_views.ensures.order files named.contents expected held named.named is room) c.prepare_views.ensures.causes calm
+returns-in-Err-clause-taken g c files held calm =
+    order_taken _ _ (λ ready. ready.loaded.cache) (level_job_value c.args.level.now) (map (λ wad. wad.now) c.args.wads.now) files c.prepare_views.result
+    (λ contents expected. c.prepare_views.ensures.order files contents expected held) c.prepare_views.ensures.causes calm

@@ -2,18 +2,16 @@ use Rattle.std.proofs.Common.{◌≡◌, Bor, false, List, ℕ, map, ◌∙◌, 
 use Rattle.std.specs.Prelude.{is_some}
 use Rattle.command_line.specs.LevelJobs.{level_job_value}
 use Rattle.level_audit.specs.scene_load.Fulls.{IsFullLoad}
-use Rattle.lump_rules.specs.Contents.{lump_bytes}
-use Rattle.lump_rules.specs.Lookups.{lump_at}
 use Rattle.level_audit.specs.scene_load.Loads.{loaded_value}
 use Rattle.level_audit.specs.scene_load.Orders.{loaded_items}
 use Rattle.sound_scene.proofs.SceneLemmas.{same_value}
 use Rattle.job_files.proofs.StepLemmas.{status_full}
 use Rattle.doom_run.proofs.AskedLemmas.{ready_asked}
-use Rattle.doom_run.proofs.TakeLemmas.{loads_taken, renders_taken}
-use Rattle.doom_run.proofs.LeastLemmas.{least_render}
-use Rattle.doom_run.specs.Renders.{FitDue, HasReadyAsked}
+use Rattle.doom_run.proofs.TakeLemmas.{order_taken, renders_taken}
+use Rattle.doom_run.proofs.LeastLemmas.{least_rendered}
+use Rattle.doom_run.specs.Renders.{HasReadyAsked}
 use Rattle.doom_run.proofs.DrawnLemmas.{view_draw}
-use Rattle.doom_run.proofs.EndLemmas.{frames_end, frames_more, same_weapon, unarmed_asks, unarmed_end, fault_no_end, loaded_named}
+use Rattle.doom_run.proofs.EndLemmas.{asks_bare, frames_end, frames_more, same_weapon, unarmed_asks, unarmed_end, fault_no_end, loaded_named}
 use Rattle.doom_run.proofs.view_jobs.perform_render.Goals as goal
 
 pub returns-in-Ok-clause-ends : goal.returns-in-Ok-clause-ends
@@ -32,41 +30,25 @@ returns-in-Ok-clause-unwritten g c is = absurd (frames_more c.deliver_render.res
 
 pub returns-in-Ok-clause-zone_full : goal.returns-in-Ok-clause-zone_full
 returns-in-Ok-clause-zone_full g c files wanted widest is held =
-    let level = level_job_value c.args.level.now in
-    let bare : is_some c.args.level.now.files.weapon ≡ false = cc (c.is_some.ensures, c.if-is_some.false) in
-    let none : is_some level.files.weapon ≡ false = same_weapon (λ (w : Bor (List ℕ)). w.now) c.args.level.now.files.weapon ∙ bare in
-    let there = held (unarmed_asks level.files.weapon none) in
-    inr (view_draw level (map (λ wad. wad.now) c.args.wads.now) files c.in-Ok.ready c.in-Ok.ensures.ready (c.in-Ok.ensures.answers files there).ok wanted widest (c.deliver_render.ensures.zone_full wanted widest is))
+    let there = held (asks_bare (λ (w : Bor (List ℕ)). w.now) c.args.level.now.files.weapon (cc (c.is_some.ensures, c.if-is_some.false))) in
+    inr (view_draw (level_job_value c.args.level.now) (map (λ wad. wad.now) c.args.wads.now) files c.in-Ok.ready c.in-Ok.ensures.ready (c.in-Ok.ensures.answers files there).ok wanted widest (c.deliver_render.ensures.zone_full wanted widest is))
 
 pub returns-in-Err-clause-zone_full : goal.returns-in-Err-clause-zone_full
 returns-in-Err-clause-zone_full g c files wanted widest is held =
-    let level = level_job_value c.args.level.now in
-    let bare : is_some c.args.level.now.files.weapon ≡ false = cc (c.is_some.ensures, c.if-is_some.false) in
-    let none : is_some level.files.weapon ≡ false = same_weapon (λ (w : Bor (List ℕ)). w.now) c.args.level.now.files.weapon ∙ bare in
-    let there = held (unarmed_asks level.files.weapon none) in
-    inl (status_full (IsFullLoad level (map (λ wad. wad.now) c.args.wads.now) files) c.in-Err.fault wanted widest (sym c.of.ensures ∙ is) (c.in-Err.ensures.full files there))
+    let there = held (asks_bare (λ (w : Bor (List ℕ)). w.now) c.args.level.now.files.weapon (cc (c.is_some.ensures, c.if-is_some.false))) in
+    inl (status_full (IsFullLoad (level_job_value c.args.level.now) (map (λ wad. wad.now) c.args.wads.now) files) c.in-Err.fault wanted widest (sym c.of.ensures ∙ is) (c.in-Err.ensures.full files there))
 
 pub returns-in-Ok-clause-least : goal.returns-in-Ok-clause-least
 returns-in-Ok-clause-least g c files end held =
-    let level = level_job_value c.args.level.now in
-    let wads = map (λ wad. wad.now) c.args.wads.now in
-    let bare : is_some c.args.level.now.files.weapon ≡ false = cc (c.is_some.ensures, c.if-is_some.false) in
-    let none : is_some level.files.weapon ≡ false = same_weapon (λ (w : Bor (List ℕ)). w.now) c.args.level.now.files.weapon ∙ bare in
-    let there = held (unarmed_asks level.files.weapon none) in
-    let loaded = (c.in-Ok.ensures.answers files there).ok in
-    let named = loaded_named level wads files (loaded_value c.in-Ok.ready.loaded) loaded in
-    let count = (lump_at c.in-Ok.ready.loaded.files.dir.lumps c.in-Ok.ready.loaded.scene.scene.base.colormap).size in
-    least_render level wads files c.args.format c.in-Ok.ready loaded c.in-Ok.ensures.ready c.in-Ok.ensures.fits
-    (subst (λ (contents : List (List ℕ)). FitDue (lump_bytes contents c.in-Ok.ready.loaded.files.dir.lumps) count c.in-Ok.ready) (sym named.are)
-    (c.deliver_render.ensures.fits named.contents count (c.in-Ok.ensures.art files named.contents there named.named) end))
+    let there = held (asks_bare (λ (w : Bor (List ℕ)). w.now) c.args.level.now.files.weapon (cc (c.is_some.ensures, c.if-is_some.false))) in
+    least_rendered (level_job_value c.args.level.now) (map (λ wad. wad.now) c.args.wads.now) files c.args.format c.in-Ok.ready (c.in-Ok.ensures.answers files there).ok c.in-Ok.ensures.ready c.in-Ok.ensures.fits
+    (λ contents named. c.deliver_render.ensures.fits contents _ (c.in-Ok.ensures.art files contents there named) end)
 
 pub returns-in-Ok-clause-taken : goal.returns-in-Ok-clause-taken
 returns-in-Ok-clause-taken g c files held calm expected is room =
     let level = level_job_value c.args.level.now in
     let wads = map (λ wad. wad.now) c.args.wads.now in
-    let bare : is_some c.args.level.now.files.weapon ≡ false = cc (c.is_some.ensures, c.if-is_some.false) in
-    let none : is_some level.files.weapon ≡ false = same_weapon (λ (w : Bor (List ℕ)). w.now) c.args.level.now.files.weapon ∙ bare in
-    let there = held (unarmed_asks level.files.weapon none) in
+    let there = held (asks_bare (λ (w : Bor (List ℕ)). w.now) c.args.level.now.files.weapon (cc (c.is_some.ensures, c.if-is_some.false))) in
     let loaded = (c.in-Ok.ensures.answers files there).ok in
     let named = loaded_named level wads files expected is in
     let once = c.in-Ok.ensures.order files named.contents expected there named.named is room in
@@ -80,11 +62,7 @@ pub returns-in-Err-clause-least : goal.returns-in-Err-clause-least
 returns-in-Err-clause-least g c files end held = absurd (fault_no_end c.in-Err.fault (rw c.of.ensures at end))
 
 pub returns-in-Err-clause-taken : goal.returns-in-Err-clause-taken
-returns-in-Err-clause-taken g c files held calm expected is room =
-    let level = level_job_value c.args.level.now in
-    let wads = map (λ wad. wad.now) c.args.wads.now in
-    let bare : is_some c.args.level.now.files.weapon ≡ false = cc (c.is_some.ensures, c.if-is_some.false) in
-    let none : is_some level.files.weapon ≡ false = same_weapon (λ (w : Bor (List ℕ)). w.now) c.args.level.now.files.weapon ∙ bare in
-    let there = held (unarmed_asks level.files.weapon none) in
-    let named = loaded_named level wads files expected is in
-    loads_taken _ _ (λ ready. ready.loaded.cache) level wads files expected c.prepare_views.result (c.prepare_views.ensures.order files named.contents expected there named.named is room) c.prepare_views.ensures.causes calm
+returns-in-Err-clause-taken g c files held calm =
+    let there = held (asks_bare (λ (w : Bor (List ℕ)). w.now) c.args.level.now.files.weapon (cc (c.is_some.ensures, c.if-is_some.false))) in
+    order_taken _ _ (λ ready. ready.loaded.cache) (level_job_value c.args.level.now) (map (λ wad. wad.now) c.args.wads.now) files c.prepare_views.result
+    (λ contents expected. c.prepare_views.ensures.order files contents expected there) c.prepare_views.ensures.causes calm
