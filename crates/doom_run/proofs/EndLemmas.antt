@@ -149,24 +149,24 @@ frames_end steady later format level wads held ready old new status stands is sa
     renders_end steady later _ (rendered format (ready_views (lump_bytes named.contents ready.loaded.files.dir.lumps) ready)) old new status same
     (ready_accepted level wads held ready named.contents (rendered format) stands is named.are) (renders named.contents named.named)
 
--- what no delivery that came to its end or failed to write is, no delivery is
-delivers_none : {accepted : Accepted} {old new : List ℕ → Type 0} (P : Status → Type 0) → (P Done → ⊥) → (P WriteFault → ⊥) → ((view : ℕ) (kind : LimitKind) (count : ℕ) → P (Limit view kind count) → ⊥) →
-    (status : Status) → DeliversAt accepted old new status → P status → ⊥
-delivers_none P done failed over Done d is = done is
-delivers_none P done failed over Usage d is = d
-delivers_none P done failed over (Refused refusal) d is = d
-delivers_none P done failed over ReadFault d is = d
-delivers_none P done failed over WriteFault d is = failed is
-delivers_none P done failed over (Limit view kind count) d is = over view kind count is
-delivers_none P done failed over (ZoneFull wanted widest) d is = d
-delivers_none P done failed over OutOfMemory d is = d
+-- a delivery is done, failed to write, or met a limit: what holds of none of these holds of no delivery
+delivers_none : (P : Status → Type 0) → (P Done → ⊥) → (P WriteFault → ⊥) → ((view : ℕ) (kind : LimitKind) (count : ℕ) → P (Limit view kind count) → ⊥) →
+    (accepted : Accepted) (old new : List ℕ → Type 0) (status : Status) → DeliversAt accepted old new status → P status → ⊥
+delivers_none P done failed over accepted old new Done d is = done is
+delivers_none P done failed over accepted old new Usage d is = d
+delivers_none P done failed over accepted old new (Refused refusal) d is = d
+delivers_none P done failed over accepted old new ReadFault d is = d
+delivers_none P done failed over accepted old new WriteFault d is = failed is
+delivers_none P done failed over accepted old new (Limit view kind count) d is = over view kind count is
+delivers_none P done failed over accepted old new (ZoneFull wanted widest) d is = d
+delivers_none P done failed over accepted old new OutOfMemory d is = d
 
 -- a delivery tells no stop before it, no read fault and no full zone
 pub delivers_more : (accepted : Accepted) (old new : List ℕ → Type 0) (status : Status) → DeliversAt accepted old new status → IsUnwritten status → ⊥
-delivers_more accepted old new status = delivers_none IsUnwritten (λ is. is) (λ is. is) (λ view kind count is. is) status
+delivers_more accepted old new status = delivers_none IsUnwritten (λ is. is) (λ is. is) (λ view kind count is. is) accepted old new status
 
 pub delivers_all : (accepted : Accepted) (old new : List ℕ → Type 0) (status : Status) → DeliversAt accepted old new status → IsReadOrFull status → ⊥
-delivers_all accepted old new status = delivers_none IsReadOrFull (λ is. is) (λ is. is) (λ view kind count is. is) status
+delivers_all accepted old new status = delivers_none IsReadOrFull (λ is. is) (λ is. is) (λ view kind count is. is) accepted old new status
 
 -- nor do frames that are delivered tell such a stop
 pub frames_more : (status : Status) → IsDelivered status → IsUnwritten status → ⊥
