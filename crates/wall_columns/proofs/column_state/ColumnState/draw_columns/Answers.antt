@@ -56,12 +56,13 @@ paint_plan-requires-clause-strips g c =
     let start = c.args.tools.now in
     let now = c.loop-edges.tools in
     let later = can_paint-later start.view.now start.dir.now start.textures.now start.colormap.0 start.cache.now now.cache.now (g.C.Canvas.view start.canvas.now) (g.C.Canvas.view now.canvas.now) f
-    i.paints.draws.keeps.counts i.paints.place c.requires.paints in
-    (strips-in now.view.now c.loop-edges.self.windows.height c.args.numbers.now (window_at c.loop-edges.self.windows c.loop-edges.stepper.x) c.in-Some.edges c.pass_column-plan.result
-    p.plan height p.most p.rows (subst P (sym step.0) (edges_at-words f.shape f.numbers c.loop-edges.k)),
-    strips-drawn now.view.now now.dir.now now.textures.now now.colormap.0 now.cache.now (g.C.Canvas.view now.canvas.now) f c.loop-edges.self.windows.height c.args.numbers.now
-    (window_at c.loop-edges.self.windows c.loop-edges.stepper.x) c.in-Some.edges c.pass_column-plan.result p.plan c.requires.numbers
-    (can_paint-over now.cache.now (g.C.Canvas.view now.canvas.now) f (sym (ap (λ r. r.now) i.view)) (sym (ap (λ r. r.now) i.dir)) (sym (ap (λ r. r.now) i.textures)) (sym (ap (λ r. r.0) i.colormap)) later))
+    i.paints.draws.keeps.counts i.paints.place c.requires.paints in (
+      strips-in now.view.now c.loop-edges.self.windows.height c.args.numbers.now (window_at c.loop-edges.self.windows c.loop-edges.stepper.x) c.in-Some.edges c.pass_column-plan.result
+          p.plan height p.most p.rows (subst P (sym step.0) (edges_at-words f.shape f.numbers c.loop-edges.k)),
+      strips-drawn now.view.now now.dir.now now.textures.now now.colormap.0 now.cache.now (g.C.Canvas.view now.canvas.now) f c.loop-edges.self.windows.height c.args.numbers.now
+          (window_at c.loop-edges.self.windows c.loop-edges.stepper.x) c.in-Some.edges c.pass_column-plan.result p.plan c.requires.numbers
+          (can_paint-over now.cache.now (g.C.Canvas.view now.canvas.now) f (sym (ap (λ r. r.now) i.view)) (sym (ap (λ r. r.now) i.dir)) (sym (ap (λ r. r.now) i.textures)) (sym (ap (λ r. r.0) i.colormap)) later),
+    )
 
 pub returns-in_err-paint_plan-clause-paints : goal.returns-in_err-paint_plan-clause-paints
 returns-in_err-paint_plan-clause-paints g c =
