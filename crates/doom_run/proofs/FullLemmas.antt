@@ -112,14 +112,14 @@ same_load level made wads others held given a b c =
     ap (λ (l : LevelJobValue). load_in l wads held) a ∙ ap (λ (w : List (List ℕ)). load_in made w held) b ∙ ap (λ (h : List File). load_in made others h) c
 
 -- where a zone is full, no file is absent
-over_held : {wanted widest' : ℕ} (command : CommandValue) (held : List File) (full : IsFullRun command held wanted widest') → IsOver command held full.level full.wads full.held → job_verdict command held ≡ Err absent → ⊥
+over_held : {wanted widest' : ℕ} (command : CommandValue) (held : List File) (full : IsFullRun command held wanted widest') → IsOver command held full.level full.wads full.own_files → job_verdict command held ≡ Err absent → ⊥
 over_held command held full (inl over) e =
     let h : level_verdict over.0.0 full.level full.wads held ≡ Err absent = subst (λ (c : CommandValue). job_verdict c held ≡ Err absent) over.0.1 e in
-    full_held full.level full.wads full.held full.full (ap (λ (h : List File). load_in full.level full.wads h) over.1 ∙ level_absent full.level full.wads held over.0.0 h)
+    full_held full.level full.wads full.own_files full.full (ap (λ (h : List File). load_in full.level full.wads h) over.1 ∙ level_absent full.level full.wads held over.0.0 h)
 over_held command held full (inr over) e =
     let h : job_verdict (exercise over.0 full.level.settings.zone over.1) held ≡ Err absent = subst (λ (c : CommandValue). job_verdict c held ≡ Err absent) over.2 e in
-    full_held full.level full.wads full.held full.full
-    (same_load full.level (made_level full.level.settings.zone) full.wads made_wads full.held (made_files over.0) over.3 over.4 over.5
+    full_held full.level full.wads full.own_files full.full
+    (same_load full.level (made_level full.level.settings.zone) full.wads made_wads full.own_files (made_files over.0) over.3 over.4 over.5
     ∙ absent_load (views_in (made_level full.level.settings.zone) made_wads (made_files over.0)) (exercised over.0 over.1) _ h)
 
 pub run_held : (command : Option CommandValue) (held : List File) (wanted widest' : ℕ) → IfSome command (λ command. IsFullRun command held wanted widest') →
@@ -133,19 +133,19 @@ no_smaller zone enough due small same room = omega (arith, small, same, room)
 
 -- a zone that is large enough for what is accepted is not full
 over_room : {wanted widest' : ℕ} (words : List (List ℕ)) (command : CommandValue) (held : List File) (accepted : Accepted) →
-    command_of words ≡ Some command → (full : IsFullRun command held wanted widest') → IsOver command held full.level full.wads full.held → HasRoom words accepted → job_verdict command held ≡ Ok accepted → ⊥
+    command_of words ≡ Some command → (full : IsFullRun command held wanted widest') → IsOver command held full.level full.wads full.own_files → HasRoom words accepted → job_verdict command held ≡ Ok accepted → ⊥
 over_room words command held accepted are full (inl over) room e =
     let h : level_verdict over.0.0 full.level full.wads held ≡ Ok accepted = subst (λ (c : CommandValue). job_verdict c held ≡ Ok accepted) over.0.1 e in
     let p : (loaded : LoadedValue) × (load_in full.level full.wads held ≡ Ok loaded) × (enough_for accepted ≡ (loaded_sizes loaded).enough) = level_loaded full.level full.wads held over.0.0 accepted h in
     no_smaller full.level.settings.zone (loaded_sizes p.0).enough (enough_for accepted)
-    (full_small full.level full.wads full.held p.0 full.full (ap (λ (h : List File). load_in full.level full.wads h) over.1 ∙ p.1)) p.2
+    (full_small full.level full.wads full.own_files p.0 full.full (ap (λ (h : List File). load_in full.level full.wads h) over.1 ∙ p.1)) p.2
     (room.enough over.0.0 full.level full.wads (are ∙ ap (λ (t : CommandValue). Some t) over.0.1))
 over_room words command held accepted are full (inr over) room e =
     let h : job_verdict (exercise over.0 full.level.settings.zone over.1) held ≡ Ok accepted = subst (λ (c : CommandValue). job_verdict c held ≡ Ok accepted) over.2 e in
     let p : (loaded : LoadedValue) × (load_in (made_level full.level.settings.zone) made_wads (made_files over.0) ≡ Ok loaded) × (enough_for accepted ≡ (loaded_sizes loaded).enough) =
     views_enough (made_level full.level.settings.zone) made_wads (made_files over.0) (exercised over.0 over.1) accepted (λ views. refl) h in
     no_smaller full.level.settings.zone (loaded_sizes p.0).enough (enough_for accepted)
-    (full_small full.level full.wads full.held p.0 full.full (same_load full.level (made_level full.level.settings.zone) full.wads made_wads full.held (made_files over.0) over.3 over.4 over.5 ∙ p.1)) p.2
+    (full_small full.level full.wads full.own_files p.0 full.full (same_load full.level (made_level full.level.settings.zone) full.wads made_wads full.own_files (made_files over.0) over.3 over.4 over.5 ∙ p.1)) p.2
     (room.made over.0 full.level.settings.zone over.1 (are ∙ ap (λ (t : CommandValue). Some t) over.2))
 
 pub run_room : (words : List (List ℕ)) (command : Option CommandValue) (held : List File) (accepted : Accepted) (wanted widest' : ℕ) → command_of words ≡ command →
@@ -155,16 +155,16 @@ run_room words (Some command) held accepted wanted widest' are full room e = ove
 
 -- a zone that was full for a job over a level
 pub level_full : {wanted widest' : ℕ} (task : LevelTask) (level : LevelJobValue) (wads : List (List ℕ)) (held : List File) → IsFullLoad level wads held wanted widest' → IsFullRun (level_job task level wads) held wanted widest'
-level_full task level wads held load = record { level = level; wads = wads; held = held; is = inl ((task, refl), refl); full = inl load }
+level_full task level wads held load = record { level = level; wads = wads; own_files = held; is = inl ((task, refl), refl); full = inl load }
 
 -- for one that draws
 pub render_full : {wanted widest' : ℕ} (format : Format) (level : LevelJobValue) (wads : List (List ℕ)) (held : List File) → IsFullLoad level wads held wanted widest' ⊎ IsFullDraw level wads held wanted widest' →
     IsFullRun (level_job (Render format) level wads) held wanted widest'
 render_full format level wads held (inl load) = level_full (Render format) level wads held load
-render_full format level wads held (inr draw) = record { level = level; wads = wads; held = held; is = inl ((Render format, refl), refl); full = inr (inl (format, level, wads, refl), draw) }
+render_full format level wads held (inr draw) = record { level = level; wads = wads; own_files = held; is = inl ((Render format, refl), refl); full = inr (inl (format, level, wads, refl), draw) }
 
 -- and for an exercise
 pub exercise_full : {wanted widest' : ℕ} (n zone : ℕ) (format : Format) (held : List File) → IsFullLoad (made_level zone) made_wads (made_files n) wanted widest' ⊎ IsFullDraw (made_level zone) made_wads (made_files n) wanted widest' →
     IsFullRun (exercise n zone format) held wanted widest'
-exercise_full n zone format held (inl load) = record { level = made_level zone; wads = made_wads; held = made_files n; is = inr (n, format, refl, refl, refl, refl); full = inl load }
-exercise_full n zone format held (inr draw) = record { level = made_level zone; wads = made_wads; held = made_files n; is = inr (n, format, refl, refl, refl, refl); full = inr (inr (n, zone, format, refl), draw) }
+exercise_full n zone format held (inl load) = record { level = made_level zone; wads = made_wads; own_files = made_files n; is = inr (n, format, refl, refl, refl, refl); full = inl load }
+exercise_full n zone format held (inr draw) = record { level = made_level zone; wads = made_wads; own_files = made_files n; is = inr (n, format, refl, refl, refl, refl); full = inr (inr (n, zone, format, refl), draw) }

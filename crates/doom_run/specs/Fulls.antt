@@ -33,7 +33,7 @@ pub record IsPatchBeside (loaded : LoadedValue) (zone wanted : ℕ) : Type 0 whe
   pub small : zone < lump_block loaded.files.lumps loaded.scene.base.colormap
       + composite_block (Some texture) + 2 * wanted + 2 * MIN_FRAGMENT
 
--- No gap held a block that drawing asks for. The zone does not hold it beside COLORMAP, or it is a patch of
+-- No gap own_files a block that drawing asks for. The zone does not hold it beside COLORMAP, or it is a patch of
 -- a composite that is built; and the zone is smaller than enough.
 pub record IsFullDraw (level : LevelJobValue) (wads : List (List ℕ)) (files : List File) (wanted widest' : ℕ) : Type 0 where
   pub loaded : LoadedValue
@@ -46,9 +46,9 @@ pub record IsFullDraw (level : LevelJobValue) (wads : List (List ℕ)) (files : 
 
 -- a command that has a zone, with the level, the WADs and the files that it reads
 abbrev pub IsOver : CommandValue → List File → LevelJobValue → List (List ℕ) → List File → Type 0
-IsOver command files level wads held =
-    (((task : LevelTask) × (command ≡ level_job task level wads)) × (held ≡ files))
-    ⊎ ((n : ℕ) × (format : Format) × (command ≡ exercise n level.settings.zone format) × (level ≡ made_level level.settings.zone) × (wads ≡ made_wads) × (held ≡ made_files n))
+IsOver command files level wads own_files =
+    (((task : LevelTask) × (command ≡ level_job task level wads)) × (own_files ≡ files))
+    ⊎ ((n : ℕ) × (format : Format) × (command ≡ exercise n level.settings.zone format) × (level ≡ made_level level.settings.zone) × (wads ≡ made_wads) × (own_files ≡ made_files n))
 
 -- a job that draws
 abbrev pub Draws : CommandValue → Type 0
@@ -60,9 +60,9 @@ Draws command =
 pub record IsFullRun (command : CommandValue) (files : List File) (wanted widest' : ℕ) : Type 0 where
   pub level : LevelJobValue
   pub wads : List (List ℕ)
-  pub held : List File
-  pub is : IsOver command files level wads held
-  pub full : IsFullLoad level wads held wanted widest' ⊎ (Draws command × IsFullDraw level wads held wanted widest')
+  pub own_files : List File
+  pub is : IsOver command files level wads own_files
+  pub full : IsFullLoad level wads own_files wanted widest' ⊎ (Draws command × IsFullDraw level wads own_files wanted widest')
 
 -- the zone of a command is large enough for what it accepts
 pub record HasRoom (words : List (List ℕ)) (accepted : Accepted) : Type 0 where

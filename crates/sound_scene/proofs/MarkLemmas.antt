@@ -16,7 +16,7 @@ use Rattle.art_rules.specs.Wanted.{PreparedTexture, is_patch_of_any, patch_lumps
 use Rattle.texture_build.specs.Views.{is_marked}
 use Rattle.texture_build.proofs.MarkLemmas.{filter_same}
 use Rattle.scene_rules.specs.Sizes.{SceneArt, is_map_lump, is_needed, needed_lumps}
-use Rattle.sound_scene.specs.Views.{AddsMarks, numbers_of}
+use Rattle.sound_scene.specs.Views.{AddsMarks, lump_numbers}
 
 -- marks set by two calls
 pub adds_then : (a b c : List Bool) (p q : ℕ → Bool) → length b ≡ length a → AddsMarks a b p → AddsMarks b c q → AddsMarks a c (λ n. p n || q n)
@@ -26,14 +26,14 @@ adds_then a b c p q e one two = λ n l. two n (omega (arith, e, l)) ∙ ap (λ v
 pub adds_same : (a b : List Bool) (p q : ℕ → Bool) → ((n : ℕ) → n < length a → p n ≡ q n) → AddsMarks a b p → AddsMarks a b q
 adds_same a b p q same one = λ n l. one n l ∙ ap (λ v. is_marked a n || v) (same n l)
 
-any_number : (lumps : List LumpNo) (number : ℕ) → list_any (λ (lump : LumpNo). lump.0 == number) lumps ≡ list_any (λ n. n == number) (numbers_of lumps)
+any_number : (lumps : List LumpNo) (number : ℕ) → list_any (λ (lump : LumpNo). lump.0 == number) lumps ≡ list_any (λ n. n == number) (lump_numbers lumps)
 any_number [] number = refl
 any_number (lump ∷ lumps) number = ap (λ b. (lump.0 == number) || b) (any_number lumps number)
 
 -- the lumps of a list, all of which a loop has met
-pub lumps_added : (a b : List Bool) (lumps : List LumpNo) (i : ℕ) → length lumps ≤ i → AddsMarks a b (λ number. list_any (λ (lump : LumpNo). lump.0 == number) (take i lumps)) → AddsMarks a b (λ number. list_any (λ n. n == number) (numbers_of lumps))
+pub lumps_added : (a b : List Bool) (lumps : List LumpNo) (i : ℕ) → length lumps ≤ i → AddsMarks a b (λ number. list_any (λ (lump : LumpNo). lump.0 == number) (take i lumps)) → AddsMarks a b (λ number. list_any (λ n. n == number) (lump_numbers lumps))
 lumps_added a b lumps i l one =
-    adds_same a b (λ number. list_any (λ (lump : LumpNo). lump.0 == number) (take i lumps)) (λ number. list_any (λ n. n == number) (numbers_of lumps))
+    adds_same a b (λ number. list_any (λ (lump : LumpNo). lump.0 == number) (take i lumps)) (λ number. list_any (λ n. n == number) (lump_numbers lumps))
     (λ number m. ap (list_any (λ (lump : LumpNo). lump.0 == number)) (take_all i lumps l) ∙ any_number lumps number) one
 
 -- as many lumps behind a label as a map has

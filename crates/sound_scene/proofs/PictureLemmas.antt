@@ -15,7 +15,7 @@ use Rattle.art_rules.specs.Books.{book_lumps}
 use Rattle.scene_rules.specs.declared.ZoneSizes.{ZoneSizes}
 use Rattle.scene_rules.specs.Scenes.{SceneValue, art_of, sizes_of}
 use Rattle.scene_rules.specs.Sizes.{enough, has_flat, is_list, is_map_lump, is_needed, needed_lumps, roomy, zone_sizes}
-use Rattle.sound_scene.specs.Views.{numbers_of}
+use Rattle.sound_scene.specs.Views.{lump_numbers}
 use Rattle.sound_scene.specs.Sound.{SoundValue, art_with, with_book}
 
 -- the test of two numbers
@@ -93,10 +93,10 @@ both_same xs ys cs ds one two n = (
 )
 
 -- the pictures of two books, one list after the other
-pub books_same : (xs ys both : List LumpNo) (one two : List Frame) → both ≡ xs ++ ys → HaveSame (numbers_of xs) (book_lumps one) → HaveSame (numbers_of ys) (book_lumps two) → HaveSame (numbers_of both) (book_lumps one ++ book_lumps two)
+pub books_same : (xs ys both : List LumpNo) (one two : List Frame) → both ≡ xs ++ ys → HaveSame (lump_numbers xs) (book_lumps one) → HaveSame (lump_numbers ys) (book_lumps two) → HaveSame (lump_numbers both) (book_lumps one ++ book_lumps two)
 books_same xs ys both one two joined first second =
-    let numbers = ap numbers_of joined ∙ map-append (λ (lump : LumpNo). lump.0) xs ys in
-    subst (λ (ns : List ℕ). HaveSame ns (book_lumps one ++ book_lumps two)) (sym numbers) (both_same (numbers_of xs) (numbers_of ys) (book_lumps one) (book_lumps two) first second)
+    let numbers = ap lump_numbers joined ∙ map-append (λ (lump : LumpNo). lump.0) xs ys in
+    subst (λ (ns : List ℕ). HaveSame ns (book_lumps one ++ book_lumps two)) (sym numbers) (both_same (lump_numbers xs) (lump_numbers ys) (book_lumps one) (book_lumps two) first second)
 
 -- what a scene needs with a further book
 pub with_book_is : (lumps : List Lump) (book : List Frame) (sound : SoundValue) (pictures named : List ℕ) (sizes : ZoneSizes) → HaveSame pictures (book_lumps sound.scene.book ++ book_lumps book) →

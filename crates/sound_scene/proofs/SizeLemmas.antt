@@ -16,7 +16,7 @@ use Rattle.art_rules.specs.Wanted.{PreparedTexture}
 use Rattle.texture_build.specs.Asked.{size_of}
 use Rattle.texture_build.specs.Views.{unprepared}
 use Rattle.scene_rules.specs.Sizes.{SceneArt, block_or_none, composite_block, enough, greatest_by, is_needed, lump_block, needed_lumps, roomy, zone_sizes}
-use Rattle.sound_scene.specs.Views.{numbers_of}
+use Rattle.sound_scene.specs.Views.{lump_numbers}
 
 max_none : (a : ℕ) → max a 0 ≡ max 0 a
 max_none a = omega arith
@@ -96,19 +96,19 @@ range_below n = λ k d l.
     let m : k < n = omega (arith, l, length-range_with_len 0 n) in
     omega (arith, get_or-range_with_len 0 n k d m)
 
-numbers_all : (n : ℕ) (lumps : List LumpNo) → All (λ (m : ℕ). m < n) (numbers_of lumps) → All (λ (lump : LumpNo). lump.0 < n) lumps
+numbers_all : (n : ℕ) (lumps : List LumpNo) → All (λ (m : ℕ). m < n) (lump_numbers lumps) → All (λ (lump : LumpNo). lump.0 < n) lumps
 numbers_all n [] all = All-nil (λ (lump : LumpNo). lump.0 < n)
 numbers_all n (lump ∷ lumps) all =
-    All-cons (λ (one : LumpNo). one.0 < n) lump lumps (All-head (λ (m : ℕ). m < n) lump.0 (numbers_of lumps) all) (numbers_all n lumps (All-tail (λ (m : ℕ). m < n) lump.0 (numbers_of lumps) all))
+    All-cons (λ (one : LumpNo). one.0 < n) lump lumps (All-head (λ (m : ℕ). m < n) lump.0 (lump_numbers lumps) all) (numbers_all n lumps (All-tail (λ (m : ℕ). m < n) lump.0 (lump_numbers lumps) all))
 
 -- and are of the directory
-pub needed_there : (lumps : List Lump) (art : SceneArt) (needed : List LumpNo) → numbers_of needed ≡ needed_lumps lumps art → All (λ (lump : LumpNo). lump.0 < length lumps) needed
+pub needed_there : (lumps : List Lump) (art : SceneArt) (needed : List LumpNo) → lump_numbers needed ≡ needed_lumps lumps art → All (λ (lump : LumpNo). lump.0 < length lumps) needed
 unfolding needed_lumps
 needed_there lumps art needed e =
     numbers_all (length lumps) needed (subst (All (λ (m : ℕ). m < length lumps)) (sym e)
     (All-filter (is_needed lumps art) (λ (m : ℕ). m < length lumps) (range_with_len 0 (length lumps)) (range_below (length lumps))))
 
-number_read : (lumps : List LumpNo) (i : ℕ) (d : LumpNo) → i < length lumps → slice_index (numbers_of lumps) i ≡ (get_or lumps i d).0
+number_read : (lumps : List LumpNo) (i : ℕ) (d : LumpNo) → i < length lumps → slice_index (lump_numbers lumps) i ≡ (get_or lumps i d).0
 number_read [] i d l = absurd (omega arith)
 number_read (lump ∷ lumps) zero d l = refl
 number_read (lump ∷ lumps) (suc i) d l = number_read lumps i d (omega arith)
@@ -123,10 +123,10 @@ increase_index xs up (suc i) l =
     omega arith
 
 -- of lumps that ascend the number is at least the index, so a bound of numbers is one of indexes
-pub index_below : (lumps : List LumpNo) (i : ℕ) (d : LumpNo) (n : ℕ) → IsStrictlyIncreasing (numbers_of lumps) → i < length lumps → (get_or lumps i d).0 < n → i < n
+pub index_below : (lumps : List LumpNo) (i : ℕ) (d : LumpNo) (n : ℕ) → IsStrictlyIncreasing (lump_numbers lumps) → i < length lumps → (get_or lumps i d).0 < n → i < n
 index_below lumps i d n up l below =
-    let long : i < length (numbers_of lumps) = rw (length-map lumps (λ (lump : LumpNo). lump.0)) l in
-    let least = increase_index (numbers_of lumps) up i long in
+    let long : i < length (lump_numbers lumps) = rw (length-map lumps (λ (lump : LumpNo). lump.0)) l in
+    let least = increase_index (lump_numbers lumps) up i long in
     omega (arith, number_read lumps i d l)
 
 -- both sizes, by what they are made of

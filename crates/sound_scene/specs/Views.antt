@@ -4,8 +4,8 @@ use Rattle.lump_rules.specs.declared.wad.LumpNo.{LumpNo}
 use Rattle.texture_build.specs.Views.{is_marked}
 
 -- the numbers of lumps
-abbrev pub numbers_of : List LumpNo → List ℕ
-numbers_of lumps = map (λ (lump : LumpNo). lump.0) lumps
+abbrev pub lump_numbers : List LumpNo → List ℕ
+lump_numbers lumps = map (λ (lump : LumpNo). lump.0) lumps
 
 -- the marks that were set, and those of the numbers that pass
 abbrev pub AddsMarks : List Bool → List Bool → (ℕ → Bool) → Type 0

@@ -4,7 +4,7 @@
 ghost use Rattle.std.specs.Prelude.{◌≡◌, ◌<◌, ◌==◌, ◌^◌, false, ℕ, length, filter, IfOk};
 ghost use Rattle.std.specs.List.{range_with_len};
 ghost use Rattle.texture_build.specs.Views.{is_marked};
-ghost use Rattle.sound_scene.specs.Views.{AddsMarks, numbers_of};
+ghost use Rattle.sound_scene.specs.Views.{AddsMarks, lump_numbers};
 
 use outside::OutOfMemory;
 use std::alloc::Global;
@@ -67,7 +67,7 @@ impl Marks {
     pub fn lumps(&self, alloc: Global) -> Result<Vec<LumpNo>, OutOfMemory>
         requires { length self.now < 2 ^ 16 }
         ensures { IfOk result (λ lumps.
-            numbers_of lumps.items ≡ filter (is_marked self.now)
+            lump_numbers lumps.items ≡ filter (is_marked self.now)
             (range_with_len 0 (length self.now))) }
     {
         let mut lumps = Vec::new(alloc);

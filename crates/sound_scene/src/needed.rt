@@ -8,7 +8,7 @@ ghost use Rattle.level_rules.specs.declared.TheConstants.{SKY_FLAT};
 ghost use Rattle.art_rules.specs.Wanted.{is_patch_of_any};
 ghost use Rattle.scene_rules.specs.SectorFlats.{flat_number};
 ghost use Rattle.scene_rules.specs.Sizes.{has_flat, is_last, is_list, is_map_lump, is_needed, needed_lumps};
-ghost use Rattle.sound_scene.specs.Views.{AddsMarks, numbers_of};
+ghost use Rattle.sound_scene.specs.Views.{AddsMarks, lump_numbers};
 
 use crate::marks::Marks;
 use art_rules::{PNAMES, TEXTURE1, TEXTURE2};
@@ -37,7 +37,7 @@ pub struct NeededArt<'a> {
 
 impl<'a> Model for NeededArt<'a> {
     ghost use Rattle.scene_rules.specs.Sizes.{SceneArt};
-    ghost use Rattle.sound_scene.specs.Views.{numbers_of};
+    ghost use Rattle.sound_scene.specs.Views.{lump_numbers};
 
     ghost Value = { SceneArt };
 
@@ -47,7 +47,7 @@ impl<'a> Model for NeededArt<'a> {
       label = art.label.0;
       prepared = art.textures.now.prepared;
       flats = art.flats.now;
-      pictures = numbers_of art.pictures.now;
+      pictures = lump_numbers art.pictures.now;
     } };
 }
 
@@ -68,7 +68,7 @@ pub fn needed_lumps(
     dir: &Directory,
     art: &NeededArt<'_>,
 ) -> Result<Vec<LumpNo>, OutOfMemory>
-    ensures { IfOk result (λ lumps. numbers_of lumps.items ≡ needed_lumps dir.now.lumps art.now) }
+    ensures { IfOk result (λ lumps. lump_numbers lumps.items ≡ needed_lumps dir.now.lumps art.now) }
 {
     let mut marks = Marks::none(alloc, dir.count() as usize)?;
     mark_needed(&mut marks, dir, art);
@@ -134,7 +134,7 @@ fn mark_patches(marks: &mut Marks, textures: &Textures)
 fn mark_lumps(marks: &mut Marks, lumps: &[LumpNo])
     ensures count { length marks.new ≡ length marks.old }
     ensures marked { AddsMarks marks.old marks.new (λ number.
-        list_any (λ n. n == number) (numbers_of lumps.now)) }
+        list_any (λ n. n == number) (lump_numbers lumps.now)) }
 {
     for lump in lumps {
         marks.set(lump.0 as usize);

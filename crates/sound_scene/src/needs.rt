@@ -3,7 +3,7 @@
 // Rules: `scene_rules`, Sizes. The original: `R_PrecacheLevel`, r_data.c, which reads them.
 ghost use Rattle.std.specs.Prelude.{◌≡◌, ◌<◌, length, IfOk};
 ghost use Rattle.scene_rules.specs.Sizes.{needed_lumps, zone_sizes};
-ghost use Rattle.sound_scene.specs.Views.{numbers_of};
+ghost use Rattle.sound_scene.specs.Views.{lump_numbers};
 ghost use Rattle.sound_scene.specs.Scenes.{scene_value};
 ghost use Rattle.sound_scene.specs.Sound.{art_with};
 
@@ -38,11 +38,11 @@ pub fn find_needed(
 ) -> Result<Needed, OutOfMemory>
     requires { scene.now.base.colormap.0 < length dir.now.lumps }
     ensures lumps { IfOk result (λ needed.
-        numbers_of needed.lumps.items ≡ needed_lumps dir.now.lumps
-        (art_with (scene_value scene.now) (numbers_of pictures.now))) }
+        lump_numbers needed.lumps.items ≡ needed_lumps dir.now.lumps
+        (art_with (scene_value scene.now) (lump_numbers pictures.now))) }
     ensures sizes { IfOk result (λ needed.
         needed.sizes ≡ zone_sizes dir.now.lumps
-        (art_with (scene_value scene.now) (numbers_of pictures.now))) }
+        (art_with (scene_value scene.now) (lump_numbers pictures.now))) }
 {
     let art = NeededArt {
         colormap: scene.base.colormap,

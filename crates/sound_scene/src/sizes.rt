@@ -7,7 +7,7 @@ ghost use Rattle.zone_rules.specs.declared.TheConstants.{HEADER_SIZE, WORD_SIZE}
 ghost use Rattle.zone_rules.specs.Zones.{block_size};
 ghost use Rattle.texture_build.specs.Views.{prepared_at};
 ghost use Rattle.scene_rules.specs.Sizes.{block_or_none, composite_block, greatest_by, lump_block, needed_lumps, zone_sizes};
-ghost use Rattle.sound_scene.specs.Views.{numbers_of};
+ghost use Rattle.sound_scene.specs.Views.{lump_numbers};
 
 use crate::needed::NeededArt;
 use scene_rules::ZoneSizes;
@@ -23,7 +23,7 @@ use zone_rules::{HEADER_SIZE, MIN_FRAGMENT, WORD_SIZE};
 ///
 /// The original: `Z_Init`, z_zone.c, which takes what it gets. This project's own.
 pub fn zone_sizes(dir: &Directory, art: &NeededArt<'_>, needed: &[LumpNo]) -> ZoneSizes
-    requires needed { numbers_of needed.now ≡ needed_lumps dir.now.lumps art.now }
+    requires needed { lump_numbers needed.now ≡ needed_lumps dir.now.lumps art.now }
     requires colormap { art.now.colormap < length dir.now.lumps }
     ensures { result ≡ zone_sizes dir.now.lumps art.now }
 {
@@ -58,11 +58,11 @@ fn with_block(blocks: Blocks, size: u64) -> Blocks
 
 // The blocks of these lumps, which ascend.
 fn lump_blocks(dir: &Directory, lumps: &[LumpNo]) -> Blocks
-    requires ascending { IsStrictlyIncreasing (numbers_of lumps.now) }
+    requires ascending { IsStrictlyIncreasing (lump_numbers lumps.now) }
     requires there { All (λ lump. lump.0 < length dir.now.lumps) lumps.now }
     ensures greatest { result.greatest ≡ greatest_by (lump_block dir.now.lumps)
-        (numbers_of lumps.now) }
-    ensures sum { result.sum ≡ sum_by (lump_block dir.now.lumps) (numbers_of lumps.now) }
+        (lump_numbers lumps.now) }
+    ensures sum { result.sum ≡ sum_by (lump_block dir.now.lumps) (lump_numbers lumps.now) }
     ensures fits { (result.greatest ≤ 2 ^ 33) × (result.sum ≤ 2 ^ 49) }
 {
     let mut blocks = Blocks {

@@ -8,7 +8,7 @@ ghost use Rattle.scene_rules.specs.Places.{sector_at, things_of};
 ghost use Rattle.scene_rules.specs.Scenes.{art_of, sizes_of};
 ghost use Rattle.scene_rules.specs.SectorFlats.{surfaces_of};
 ghost use Rattle.scene_rules.specs.Sizes.{needed_lumps};
-ghost use Rattle.sound_scene.specs.Views.{numbers_of};
+ghost use Rattle.sound_scene.specs.Views.{lump_numbers};
 ghost use Rattle.sound_scene.specs.Scenes.{scene_value};
 ghost use Rattle.sound_scene.specs.Sound.{middles_of, textures_view};
 
@@ -41,12 +41,12 @@ impl Model for SoundScene {
     ghost use Rattle.scene_rules.specs.declared.TheConstants.{PALETTE_SIZE};
     ghost use Rattle.scene_rules.specs.SectorFlats.{surfaces_of};
     ghost use Rattle.sound_scene.specs.Scenes.{scene_value};
-    ghost use Rattle.sound_scene.specs.Views.{numbers_of};
+    ghost use Rattle.sound_scene.specs.Views.{lump_numbers};
     ghost use Rattle.sound_scene.specs.Sound.{SoundValue, middles_of};
 
     ghost Value = { SoundValue };
 
-    ghost view = { λ s. record { scene = scene_value s.scene; named = numbers_of s.needed.lumps.items; sizes = s.needed.sizes } };
+    ghost view = { λ s. record { scene = scene_value s.scene; named = lump_numbers s.needed.lumps.items; sizes = s.needed.sizes } };
 
     ghost invariant = { λ s.
         (s.middles.items ≡ middles_of s.scene.faces.sides.items)
@@ -92,7 +92,7 @@ impl SoundScene {
     /// This project's own: weapon layers need the pictures of their frames too.
     pub fn set_needed(&mut self, needed: Needed)
         ensures { self.new ≡ record self.old
-            { named = numbers_of needed.lumps.items; sizes = needed.sizes } }
+            { named = lump_numbers needed.lumps.items; sizes = needed.sizes } }
     {
         self.needed = needed;
     }
@@ -201,7 +201,7 @@ impl SoundScene {
 
     /// The lumps that the scene needs, ascending and each once.
     pub fn named(&self) -> &[LumpNo]
-        ensures { numbers_of result.now ≡ self.now.named }
+        ensures { lump_numbers result.now ≡ self.now.named }
     {
         &self.needed.lumps
     }
@@ -233,7 +233,7 @@ fn make_parts(alloc: Global, dir: &Directory, scene: &ReadScene) -> Result<Scene
         parts.middles.items ≡ middles_of scene.now.faces.sides.items) }
     ensures surfaces { IfOk result (λ parts. parts.surfaces.items
         ≡ surfaces_of scene.now.base.level.sectors scene.now.faces.flats.items) }
-    ensures named { IfOk result (λ parts. numbers_of parts.needed.lumps.items
+    ensures named { IfOk result (λ parts. lump_numbers parts.needed.lumps.items
         ≡ needed_lumps dir.now.lumps (art_of (scene_value scene.now))) }
     ensures sizes { IfOk result (λ parts.
         parts.needed.sizes ≡ sizes_of dir.now.lumps (scene_value scene.now)) }

@@ -3,7 +3,7 @@ use Rattle.art_rules.specs.declared.shapes.Frame.{Frame}
 use Rattle.art_rules.specs.Books.{book_lumps}
 use Rattle.scene_rules.specs.Scenes.{SceneValue}
 use Rattle.scene_rules.specs.Sizes.{needed_lumps, zone_sizes}
-use Rattle.sound_scene.specs.Views.{numbers_of}
+use Rattle.sound_scene.specs.Views.{lump_numbers}
 use Rattle.sound_scene.specs.Sound.{art_with}
 use Rattle.sound_scene.proofs.PictureLemmas.{HaveSame, books_same, with_book_is}
 use Rattle.level_audit.proofs.weapons.audit_weapons.Goals as goal
@@ -11,8 +11,8 @@ use Rattle.level_audit.proofs.weapons.audit_weapons.Goals as goal
 pub returns-clause-scene : goal.returns-clause-scene
 returns-clause-scene g c =
     let lumps = c.args.dir.now.lumps in
-    let pictures = numbers_of c.deref.result.now in
-    let first = subst (λ (book : List Frame). HaveSame (numbers_of c.pictures.result.now) (book_lumps book)) c.sprites.ensures c.pictures.ensures.lumps in
+    let pictures = lump_numbers c.deref.result.now in
+    let first = subst (λ (book : List Frame). HaveSame (lump_numbers c.pictures.result.now) (book_lumps book)) c.sprites.ensures c.pictures.ensures.lumps in
     let same = books_same c.pictures.result.now c.pictures-2.result.now c.deref.result.now c.args.scene.now.scene.book c.in_ok-book.book (c.deref.ensures.value ∙ c.in_ok-pictures.ensures) first c.pictures-2.ensures.lumps in
     c.set_needed.ensures
     ∙ with_book_is lumps c.in_ok-book.book c.args.scene.now pictures _ _ same

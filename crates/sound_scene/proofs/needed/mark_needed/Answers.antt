@@ -3,7 +3,7 @@ use Rattle.std.specs.Prelude.{◌==◌, ◌||◌}
 use Rattle.std.specs.List.{list_any}
 use Rattle.art_rules.specs.Wanted.{is_patch_of_any}
 use Rattle.scene_rules.specs.Sizes.{SceneArt, has_flat, is_list, is_map_lump, is_needed}
-use Rattle.sound_scene.specs.Views.{AddsMarks, numbers_of}
+use Rattle.sound_scene.specs.Views.{AddsMarks, lump_numbers}
 use Rattle.sound_scene.proofs.MarkLemmas.{adds_then}
 use Rattle.sound_scene.proofs.needed.mark_needed.Goals as goal
 
@@ -19,7 +19,7 @@ returns-clause-marked c =
     let four = is_list lumps in
     let five = is_patch_of_any art.textures.now.prepared in
     let six : ℕ → Bool = λ n. list_any (has_flat n) art.flats.now in
-    let seven : ℕ → Bool = λ n. list_any (λ m. m == n) (numbers_of art.pictures.now) in
+    let seven : ℕ → Bool = λ n. list_any (λ m. m == n) (lump_numbers art.pictures.now) in
     let count-2 = c.set-2.ensures.count ∙ c.set.ensures.count in
     let count-3 = c.mark_map.ensures.count ∙ count-2 in
     let count-4 = c.mark_lists.ensures.count ∙ count-3 in

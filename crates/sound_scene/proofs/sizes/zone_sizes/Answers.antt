@@ -2,7 +2,7 @@ use Rattle.std.proofs.Common.{ℕ, List, subst, sym, ap, ◌∙◌}
 use Rattle.std.specs.List.{sum_by}
 use Rattle.std.specs.List.Sorted.{IsStrictlyIncreasing}
 use Rattle.scene_rules.specs.Sizes.{SceneArt, composite_block, greatest_by, lump_block}
-use Rattle.sound_scene.specs.Views.{numbers_of}
+use Rattle.sound_scene.specs.Views.{lump_numbers}
 use Rattle.sound_scene.proofs.SizeLemmas.{enough_is, needed_increase, needed_there, roomy_is, sizes_are}
 use Rattle.sound_scene.proofs.sizes.zone_sizes.Goals as goal
 
@@ -16,7 +16,7 @@ pub returns : goal.returns
 returns c =
     let lumps = c.args.dir.now.lumps in
     let art = c.args.art.now in
-    let needed = numbers_of c.args.needed.now in
+    let needed = lump_numbers c.args.needed.now in
     let colormap = c.lump_block-colormap.ensures.value ∙ ap (λ (a : SceneArt). lump_block lumps a.colormap) c.art.view_is in
     let greatest = c.composite_blocks-composites.ensures.greatest ∙ ap (λ (a : SceneArt). greatest_by composite_block a.prepared) c.art.view_is in
     let sum = c.composite_blocks-composites.ensures.sum ∙ ap (λ (a : SceneArt). sum_by composite_block a.prepared) c.art.view_is in

@@ -3,7 +3,7 @@ use Rattle.std.proofs.lemmas.List.{map-append}
 use Rattle.lump_rules.specs.declared.wad.LumpNo.{LumpNo}
 use Rattle.texture_build.specs.Views.{is_marked}
 use Rattle.texture_build.proofs.MarkLemmas.{passed_on, passed_off}
-use Rattle.sound_scene.specs.Views.{numbers_of}
+use Rattle.sound_scene.specs.Views.{lump_numbers}
 use Rattle.sound_scene.proofs.marks.Marks.lumps.Goals as goal
 use Rattle.sound_scene.proofs.marks.Marks.lumps.Goals.{then-marked+in_ok-push, else-marked}
 
@@ -14,13 +14,13 @@ loop-number-preserved c =
     let same = c.deref-marked-items.ensures.value ∙ c.self.view_is in
     elim c.if-marked.branch [
       | then-marked+in_ok-push w ↦
-          ap (λ (v : Vec LumpNo Global). numbers_of v.items) w.lumps-is
-          ∙ ap numbers_of w.in_ok-push.ensures.items
+          ap (λ (v : Vec LumpNo Global). lump_numbers v.items) w.lumps-is
+          ∙ ap lump_numbers w.in_ok-push.ensures.items
           ∙ map-append (λ (lump : LumpNo). lump.0) c.loop-number.lumps.items (record { 0 = k } ∷ [])
           ∙ ap (λ xs. xs ++ k ∷ []) c.loop-number.invariant
           ∙ sym (passed_on passes k (ap (λ (m : List Bool). is_marked m k) (sym same) ∙ w.if-marked.true))
       | else-marked w ↦
-          ap (λ (v : Vec LumpNo Global). numbers_of v.items) w.lumps-is
+          ap (λ (v : Vec LumpNo Global). lump_numbers v.items) w.lumps-is
           ∙ c.loop-number.invariant
           ∙ sym (passed_off passes k (ap (λ (m : List Bool). is_marked m k) (sym same) ∙ w.if-marked.false))
     ]
