@@ -17,6 +17,8 @@ mod messages;
 #[cfg(test)]
 mod pixel_strips_tests;
 #[cfg(test)]
+mod room;
+#[cfg(test)]
 mod shelf_tests;
 #[cfg(test)]
 mod test_levels;

@@ -186,13 +186,35 @@ pub(crate) fn draw(assets: &mut Assets, tools: &mut Tools, eye: Eye) -> Result<u
     ensures dir { assets.new.dir.value ≡ assets.old.dir.value }
     ensures scene { assets.new.scene.value ≡ assets.old.scene.value }
 {
-    draw_view(
+    draw_from(
         &assets.scene,
+        &assets.dir,
+        &mut assets.cache,
+        &mut assets.shelf,
+        tools,
+        eye,
+    )
+}
+
+/// The same, of this scene, with a cache and a shelf for its art.
+pub(crate) fn draw_from(
+    scene: &SoundScene,
+    dir: &Directory,
+    cache: &mut LumpCache,
+    shelf: &mut MemoryShelf,
+    tools: &mut Tools,
+    eye: Eye,
+) -> Result<u64, ViewFault>
+    requires { CanDrawView dir.now.lumps scene.now.scene cache.old }
+    ensures { CanDrawView dir.now.lumps scene.now.scene cache.new }
+{
+    draw_view(
+        scene,
         &tools.tables,
         &mut tools.shop,
-        &mut assets.cache,
-        &assets.dir,
-        &mut *assets.shelf,
+        cache,
+        dir,
+        shelf,
         eye,
     )?;
     Ok(sum_of(tools.shop.frame()))

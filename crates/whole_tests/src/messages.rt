@@ -19,7 +19,7 @@ use view_rules::TablesRefusal;
 use wad_dir::DirFault;
 use zone_heap::{ZoneFull, ZoneMake};
 
-// Compares what a refusal or a fault reads as with a sentence.
+// Compares what a refusal or a fault, or several, read as with their sentences.
 fn reads<R: Abort + AllocGlobal, M: Display>(
     rt: &R,
     message: &M,
@@ -33,56 +33,44 @@ fn reads<R: Abort + AllocGlobal, M: Display>(
 #[test]
 fn a_refusal_of_tables_says_which_entry_is_wrong(rt: HostRuntime) -> Result<(), Fail> {
     let length = TablesRefusal::Length { found: 65539 };
-    reads(
-        &rt,
-        &length,
-        "the file of angle tables has 65539 bytes, but the tables take 65540",
-    )?;
     let angle = TablesRefusal::Angle { index: 2048 };
-    let sentence =
-        "angle 2048 of the angle tables is past an eighth of a turn, or below the one before it";
-    reads(&rt, &angle, sentence)?;
     let tangent = TablesFault::Refused(TablesRefusal::Tangent { index: 3072 });
+    let sentences = "the file of angle tables has 65539 bytes, but the tables take 65540\n\
+        angle 2048 of the angle tables is past an eighth of a turn, or below the one before it\n\
+        tangent 3072 of the angle tables is below the one before it";
     reads(
         &rt,
-        &tangent,
-        "tangent 3072 of the angle tables is below the one before it",
+        &format_args!("{length}\n{angle}\n{tangent}"),
+        sentences,
     )
 }
 
 #[test]
 fn a_refusal_of_a_text_table_says_which_field_is_wrong(rt: HostRuntime) -> Result<(), Fail> {
     let long = CsvRefusal::TooLong { bytes: 1048577 };
-    reads(
-        &rt,
-        &long,
-        "the table has 1048577 bytes, but may have at most 1048576",
-    )?;
     let number = CsvRefusal::Number { row: 12, column: 5 };
-    reads(
-        &rt,
-        &number,
-        "row 12 of the table, column 5: the field is not a number",
-    )?;
     let twice = CsvFault::Refused(CsvRefusal::Repeat { row: 31 });
-    reads(
-        &rt,
-        &twice,
-        "row 31 of the table has the thing type of an earlier row",
-    )
+    let sentences = "the table has 1048577 bytes, but may have at most 1048576\n\
+        row 12 of the table, column 5: the field is not a number\n\
+        row 31 of the table has the thing type of an earlier row";
+    reads(&rt, &format_args!("{long}\n{number}\n{twice}"), sentences)
 }
 
 #[test]
 fn a_refusal_of_wads_says_which_entry_is_wrong(rt: HostRuntime) -> Result<(), Fail> {
     let entry = DirRefusal::Entry { file: 2, index: 17 };
-    let sentence = "WAD 2 ends before the lump of directory entry 17 does";
-    reads(&rt, &entry, sentence)?;
     let refused = DirFault::Refused(entry);
-    reads(&rt, &refused, sentence)?;
     let many = DirRefusal::TooMany;
-    reads(&rt, &many, "the WADs list more than 65535 lumps")?;
     let absent = DirFault::ReadFault;
-    reads(&rt, &absent, "a WAD is absent or could not be read")
+    let sentences = "WAD 2 ends before the lump of directory entry 17 does\n\
+        WAD 2 ends before the lump of directory entry 17 does\n\
+        the WADs list more than 65535 lumps\n\
+        a WAD is absent or could not be read";
+    reads(
+        &rt,
+        &format_args!("{entry}\n{refused}\n{many}\n{absent}"),
+        sentences,
+    )
 }
 
 #[test]
@@ -109,13 +97,10 @@ fn a_refusal_of_a_map_says_which_record_is_wrong(rt: HostRuntime) -> Result<(), 
         record_no: 731,
         field: 3,
     };
-    reads(
-        &rt,
-        &index,
-        "SEGS record 731: field 3 names nothing that is there",
-    )?;
     let deep = MapFault::Refused(MapRefusal::TooDeep { node: 1025 });
-    reads(&rt, &deep, "NODES record 1025 is more than 1024 deep")
+    let sentences = "SEGS record 731: field 3 names nothing that is there\n\
+        NODES record 1025 is more than 1024 deep";
+    reads(&rt, &format_args!("{index}\n{deep}"), sentences)
 }
 
 #[test]
@@ -131,20 +116,13 @@ fn a_refusal_of_a_scene_says_what_is_missing(rt: HostRuntime) -> Result<(), Fail
 #[test]
 fn a_refusal_of_art_says_which_lump_is_wrong(rt: HostRuntime) -> Result<(), Fail> {
     let colormap = ArtRefusal::Colormap;
-    reads(
-        &rt,
-        &colormap,
-        "COLORMAP is absent, or has fewer than 8192 bytes",
-    )?;
-    let rotation = WeaponRefusal::MissingRotation {
+    let weapon = WeaponRefusal::MissingRotation {
         row: 9,
         rotation: 1,
     };
-    reads(
-        &rt,
-        &rotation,
-        "weapon layer 9: no sprite lump has rotation 1 of its frame",
-    )
+    let sentences = "COLORMAP is absent, or has fewer than 8192 bytes\n\
+        weapon layer 9: no sprite lump has rotation 1 of its frame";
+    reads(&rt, &format_args!("{colormap}\n{weapon}"), sentences)
 }
 
 #[test]
@@ -152,52 +130,35 @@ fn a_refusal_of_the_files_of_a_level_reads_as_that_of_its_group(
     rt: HostRuntime,
 ) -> Result<(), Fail> {
     let art = AuditRefusal::Art(ArtRefusal::Playpal);
-    reads(&rt, &art, "PLAYPAL is absent, or has fewer than 768 bytes")?;
     let map = AuditRefusal::Map(MapRefusal::EmptyLeaf { leaf: 45 });
-    reads(&rt, &map, "SSECTORS record 45 has no seg")?;
     let texture = AuditRefusal::Texture(TexRefusal::TooBig { texture: 83 });
-    reads(
-        &rt,
-        &texture,
-        "texture 83: its composed columns pass 65536 bytes",
-    )
+    let sentences = "PLAYPAL is absent, or has fewer than 768 bytes\n\
+        SSECTORS record 45 has no seg\n\
+        texture 83: its composed columns pass 65536 bytes";
+    reads(&rt, &format_args!("{art}\n{map}\n{texture}"), sentences)
 }
 
 #[test]
 fn a_refusal_of_a_picture_reads_as_that_of_its_group(rt: HostRuntime) -> Result<(), Fail> {
     let sprite = AuditRefusal::Sprite(SpriteRefusal::NoFrame { thing: 52 });
-    reads(
-        &rt,
-        &sprite,
-        "thing 52: no lump shows the sprite frame that it needs",
-    )?;
     let flat = AuditRefusal::Scene(SceneRefusal::SectorFlat { sector: 87 });
-    reads(&rt, &flat, "SECTORS record 87 names a flat that no WAD has")?;
     let weapon = AuditRefusal::WeaponArt(WeaponRefusal::BadPatch { lump: 1204 });
-    reads(
-        &rt,
-        &weapon,
-        "lump 1204 is a weapon's picture, but no patch",
-    )
+    let sentences = "thing 52: no lump shows the sprite frame that it needs\n\
+        SECTORS record 87 names a flat that no WAD has\n\
+        lump 1204 is a weapon's picture, but no patch";
+    reads(&rt, &format_args!("{sprite}\n{flat}\n{weapon}"), sentences)
 }
 
 #[test]
 fn a_refusal_of_lists_or_sprites_names_the_lump_or_the_thing(rt: HostRuntime) -> Result<(), Fail> {
     let list = TexRefusal::Lump { which: 2 };
-    reads(
-        &rt,
-        &list,
-        "TEXTURE2 is absent or short, or textures pass 32767",
-    )?;
-    let rotation = SpriteRefusal::MissingRotation {
+    let sprite = SpriteRefusal::MissingRotation {
         thing: 7,
         rotation: 3,
     };
-    reads(
-        &rt,
-        &rotation,
-        "thing 7: no lump shows its sprite frame from rotation 3",
-    )
+    let sentences = "TEXTURE2 is absent or short, or textures pass 32767\n\
+        thing 7: no lump shows its sprite frame from rotation 3";
+    reads(&rt, &format_args!("{list}\n{sprite}"), sentences)
 }
 
 #[test]
@@ -207,69 +168,56 @@ fn a_refusal_of_a_job_names_the_file_and_the_place(rt: HostRuntime) -> Result<()
         record_no: 17,
         field: 5,
     });
-    reads(
-        &rt,
-        &record,
-        "SIDEDEFS record 17: field 5 names nothing that is there",
-    )?;
     let field = Refusal::Path(CsvRefusal::Range { row: 4, column: 2 });
-    reads(
-        &rt,
-        &field,
-        "path: row 4 of the table, column 2: the field is out of its range",
-    )
+    let sentences = "SIDEDEFS record 17: field 5 names nothing that is there\n\
+        path: row 4 of the table, column 2: the field is out of its range";
+    reads(&rt, &format_args!("{record}\n{field}"), sentences)
 }
 
 #[test]
 fn a_fault_reads_as_its_cause(rt: HostRuntime) -> Result<(), Fail> {
     let node = Fault::Refused(MapRefusal::NodeTwice { node: 235 });
-    reads(
-        &rt,
-        &node,
-        "NODES record 235 is reached a second time from the root",
-    )?;
     let read: Fault<MapRefusal> = Fault::ReadFault;
-    reads(&rt, &read, "a file is absent or could not be read")?;
     let full: Fault<MapRefusal> = Fault::ZoneFull {
         wanted: 4120,
         widest: 4096,
     };
-    let sentence = "the zone is full: a block of 4120 bytes was wanted, the widest gap has 4096";
-    reads(&rt, &full, sentence)?;
     let memory: Fault<MapRefusal> = Fault::OutOfMemory;
-    reads(&rt, &memory, "out of memory")
+    let sentences = "NODES record 235 is reached a second time from the root\n\
+        a file is absent or could not be read\n\
+        the zone is full: a block of 4120 bytes was wanted, the widest gap has 4096\n\
+        out of memory";
+    reads(
+        &rt,
+        &format_args!("{node}\n{read}\n{full}\n{memory}"),
+        sentences,
+    )
 }
 
 #[test]
 fn a_fault_of_the_outside_says_what_failed(rt: HostRuntime) -> Result<(), Fail> {
     let failed = Failed;
-    reads(&rt, &failed, "a file or an output could not be used")?;
     let put = PutFault {
         call: 3,
         passed: 17,
     };
-    reads(&rt, &put, "put 3 fails after 17 bytes")?;
     let words = CommandFault::Usage;
-    reads(&rt, &words, "the words are no command")
+    let sentences = "a file or an output could not be used\n\
+        put 3 fails after 17 bytes\n\
+        the words are no command";
+    reads(&rt, &format_args!("{failed}\n{put}\n{words}"), sentences)
 }
 
 #[test]
 fn a_fault_of_a_zone_has_its_sizes(rt: HostRuntime) -> Result<(), Fail> {
     let size = ZoneMake::BadSize;
-    reads(
-        &rt,
-        &size,
-        "a zone has 64 to 536870912 bytes, a multiple of 4",
-    )?;
     let full = ZoneFull {
         wanted: 8216,
         widest: 0,
     };
-    reads(
-        &rt,
-        &full,
-        "the zone is full: a block of 8216 bytes was wanted, the widest gap has 0",
-    )
+    let sentences = "a zone has 64 to 536870912 bytes, a multiple of 4\n\
+        the zone is full: a block of 8216 bytes was wanted, the widest gap has 0";
+    reads(&rt, &format_args!("{size}\n{full}"), sentences)
 }
 
 #[test]
@@ -278,13 +226,13 @@ fn a_fault_of_a_view_says_what_ended_it(rt: HostRuntime) -> Result<(), Fail> {
         kind: LimitKind::Openings,
         count: 20800,
     };
-    reads(&rt, &limit, "a limit of the view is passed: Openings 20800")?;
     let full = ViewFault::ZoneFull {
         wanted: 4120,
         widest: 4096,
     };
-    let sentence = "the zone is full: a block of 4120 bytes was wanted, the widest gap has 4096";
-    reads(&rt, &full, sentence)?;
     let read = ViewFault::ReadFault;
-    reads(&rt, &read, "a lump could not be read")
+    let sentences = "a limit of the view is passed: Openings 20800\n\
+        the zone is full: a block of 4120 bytes was wanted, the widest gap has 4096\n\
+        a lump could not be read";
+    reads(&rt, &format_args!("{limit}\n{full}\n{read}"), sentences)
 }

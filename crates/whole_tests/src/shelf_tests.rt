@@ -4,16 +4,17 @@ ghost use Rattle.std.specs.Prelude.{◌≡◌, IfOk};
 ghost use Rattle.frame_core.specs.Views.{CanDrawView};
 
 use crate::made::{
-    Assets, FIRST, LIMITS, Tools, draw, made_assets, made_cache, made_tools, shelf_of, sum_of,
+    Assets, FIRST, LIMITS, Tools, draw, draw_from, made_assets, made_cache, made_tools, shelf_of,
+    sum_of,
 };
 use crate::test_levels::room_wad;
 use art_rules::{byte_at, half_at, word_at};
-use frame_core::{ViewFault, draw_view, draw_view_on};
+use frame_core::{ViewFault, draw_view_on};
 use level_maker::make_wad;
 use lump_cache::LumpCache;
 use lump_rules::Name8;
 use outside::{MemoryShelf, Shelf};
-use pixel_strips::Frame;
+use pixel_strips::{FLAT_BYTES, Frame};
 use std::alloc::{AllocError, Global};
 use std::test::Fail;
 use view_rules::{Eye, MAX_SIZE};
@@ -35,21 +36,11 @@ const SECOND_SUM: u64 = 0xb472_43c4_2b19_58db;
 // The sum of the first view over the other art.
 const OTHER_SUM: u64 = 0x212f_4047_28bc_b877;
 
-// The bytes of a flat.
-const FLAT_SIZE: u64 = 4096;
-
 // The most posts of a column in the made WAD.
 const MOST_POSTS: u32 = 2;
 
 // What ends a column.
 const COLUMN_END: u8 = 255;
-
-// A shelf, and a cache of what was read from it.
-#[derive(Drop)]
-struct Source {
-    cache: Box<LumpCache>,
-    shelf: Box<MemoryShelf>,
-}
 
 // Where a lump of that name begins in its file.
 fn place_of(dir: &Directory, name: &str) -> Option<u32> {
@@ -68,7 +59,7 @@ fn turn(bytes: &mut [u8], start: u64, count: u64) {
 
 fn turn_flats(dir: &Directory, bytes: &mut [u8]) -> Option<()> {
     for name in ["FLAT0", "FLAT1", "FLAT2", "FLAT3"] {
-        turn(bytes, place_of(dir, name)? as u64, FLAT_SIZE);
+        turn(bytes, place_of(dir, name)? as u64, FLAT_BYTES as u64);
     }
     Some(())
 }
@@ -128,35 +119,20 @@ fn turned_shelf(alloc: Global, dir: &Directory) -> Result<Box<MemoryShelf>, Fail
     Ok(shelf)
 }
 
-// The other art for a scene of the made WAD, with the colormap in its cache.
-fn turned_source(alloc: Global, assets: &Assets) -> Result<Source, Fail>
+// A cache for the other art of a scene of the made WAD, with the colormap of that shelf.
+fn turned_cache(
+    alloc: Global,
+    assets: &Assets,
+    shelf: &mut MemoryShelf,
+) -> Result<Box<LumpCache>, Fail>
     requires { CanDrawView assets.now.dir.value.lumps assets.now.scene.value.scene
         assets.now.cache.value }
-    ensures { IfOk result (λ source. CanDrawView assets.now.dir.value.lumps
-        assets.now.scene.value.scene source.cache.value) }
+    ensures { IfOk result (λ cache. CanDrawView assets.now.dir.value.lumps
+        assets.now.scene.value.scene cache.value) }
 {
     let mut cache = made_cache(alloc, &assets.dir)?;
-    let mut shelf = turned_shelf(alloc, &assets.dir)?;
-    let colormap = assets.scene.colormap();
-    cache.fetch(&mut *shelf, &assets.dir, colormap, Tag::Static)?;
-    Ok(Source { cache, shelf })
-}
-
-// The sum of the workshop's frame after the first view, drawn with the art of that shelf.
-fn sum_over(assets: &Assets, source: &mut Source, tools: &mut Tools) -> Result<u64, ViewFault>
-    requires { CanDrawView assets.now.dir.value.lumps assets.now.scene.value.scene
-        source.old.cache.value }
-{
-    draw_view(
-        &assets.scene,
-        &tools.tables,
-        &mut tools.shop,
-        &mut source.cache,
-        &assets.dir,
-        &mut *source.shelf,
-        FIRST,
-    )?;
-    Ok(sum_of(tools.shop.frame()))
+    cache.fetch(shelf, &assets.dir, assets.scene.colormap(), Tag::Static)?;
+    Ok(cache)
 }
 
 // The sum of a frame after the first view, drawn on that frame.
@@ -191,24 +167,27 @@ fn sums_over_both_in(
     requires { CanDrawView assets.old.dir.value.lumps assets.old.scene.value.scene
         assets.old.cache.value }
 {
-    let mut turned = turned_source(alloc, assets)?;
-    sums_by_turns(alloc, assets, &mut turned)
+    let mut shelf = turned_shelf(alloc, &assets.dir)?;
+    let mut cache = turned_cache(alloc, assets, &mut shelf)?;
+    sums_by_turns(alloc, assets, &mut cache, &mut shelf)
 }
 
-// The sums of the first view in a scene, over other art, and over its own again, in one workshop.
+// The sums of the first view in a scene, over other art with this cache and this shelf, and over its
+// own again, in one workshop.
 fn sums_by_turns(
     alloc: Global,
     assets: &mut Assets,
-    turned: &mut Source,
+    cache: &mut LumpCache,
+    shelf: &mut MemoryShelf,
 ) -> Result<[Result<u64, ViewFault>; 3], Fail>
     requires made { CanDrawView assets.old.dir.value.lumps assets.old.scene.value.scene
         assets.old.cache.value }
     requires turned { CanDrawView assets.old.dir.value.lumps assets.old.scene.value.scene
-        turned.old.cache.value }
+        cache.old }
 {
     let mut tools = made_tools(alloc, LIMITS, MAX_SIZE)?;
     let first = draw(assets, &mut tools, FIRST);
-    let other = sum_over(assets, turned, &mut tools);
+    let other = draw_from(&assets.scene, &assets.dir, cache, shelf, &mut tools, FIRST);
     let again = draw(assets, &mut tools, FIRST);
     Ok([first, other, again])
 }

@@ -9,6 +9,14 @@ use std::test::Fail;
 use view_frame::{View, side_of};
 use view_rules::{Eye, Partition};
 
+// A line from the origin to the north.
+const NORTH: Partition = Partition {
+    x: 0,
+    y: 0,
+    dx: 0,
+    dy: 8388608,
+};
+
 // How many bytes the made tables have, and the first of them.
 fn made_bytes(alloc: Global) -> Result<(usize, Option<u8>), AllocError> {
     let bytes = make_tables(alloc)?;
@@ -93,13 +101,7 @@ fn look_from_origin(rt: &impl Abort, view: &View<'_>) {
 
 #[test]
 fn points_are_seen_from_the_origin(rt: HostRuntime) -> Result<(), Fail> {
-    let line = Partition {
-        x: 0,
-        y: 0,
-        dx: 0,
-        dy: 8388608,
-    };
-    assert_eq!(rt; (side_of(line, 0, 5), side_of(line, 1, 5)), (1, 0));
+    assert_eq!(rt; (side_of(NORTH, 0, 5), side_of(NORTH, 1, 5)), (1, 0));
     let tables = made_angles(rt.alloc(), 11)?;
     look_from_origin(&rt, &View::new(&tables, Eye { z: 0, ..EYE }));
     Ok(())

@@ -5,15 +5,13 @@ ghost use Rattle.level_rules.specs.maps.Lumps.{lump_no};
 ghost use Rattle.map_lumps.specs.Builders.{all_added, empty_builder, is_added};
 
 use crate::made::{EYE, made_angles};
-use level_rules::Surface;
+use crate::room;
 use map_lumps::{Level, LevelBuilder, MapLump};
 use node_walk::{Cover, Visitor, WalkScene, walk};
 use std::alloc::{AllocError, Global};
 use std::process::Abort;
 use std::test::Fail;
 use view_frame::View;
-
-const UNIT: i32 = 65536;
 
 const ROOM: usize = 8;
 
@@ -159,15 +157,6 @@ fn level(alloc: Global) -> Result<Box<Level>, Fail> {
     Ok(Box::new(alloc, builder.finish(alloc)?)?)
 }
 
-// Floor 0, ceiling 128, light 160.
-const SURFACE: Surface = Surface {
-    floor: 0,
-    ceiling: 128 * UNIT,
-    floor_flat: 1,
-    ceiling_flat: 2,
-    light: 160,
-};
-
 // Walks a scene seen by a view, up to `limit` events.
 fn walked(scene: &WalkScene<'_>, view: &View<'_>, limit: usize) -> ([Seen; ROOM], Result<(), Full>)
     requires surfaces { length scene.now.surfaces.now ≡ length scene.now.level.now.sectors }
@@ -187,7 +176,7 @@ fn look_at_walks(rt: &impl Abort, level: &Level, view: &View<'_>) {
     assert!(rt; level.sides().len() == 4);
     let scene = WalkScene {
         level: &*level,
-        surfaces: &[SURFACE],
+        surfaces: &[room::ROOM],
         middles: &[1; 4],
     };
     let east = Seen::Fragment {

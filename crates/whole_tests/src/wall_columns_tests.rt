@@ -11,7 +11,8 @@ ghost use Rattle.wall_columns.specs.Draws.{IsWallTexture};
 mod made;
 
 use crate::made_lumps::{eye_at, full_angles, lump_of, made_cache, made_directory, made_shelf};
-use level_rules::{SKY_FLAT, Seg, Surface};
+use crate::room::{BARE, EAST, ROOM};
+use level_rules::{SKY_FLAT, Surface};
 use lump_cache::LumpCache;
 use made::{WALL1, prepare_wall};
 use outside::MemoryShelf;
@@ -25,27 +26,6 @@ use view_rules::FRAME_WIDTH;
 use visplanes::{PlaneNo, Planes};
 use wad_dir::{Directory, LumpNo};
 use wall_columns::{DrawFault, LeafPlanes, WallFacts, WallState, WallTools};
-
-const EAST: Seg = Seg {
-    x1: 256 << 16,
-    y1: 256 << 16,
-    x2: 256 << 16,
-    y2: -(256 << 16),
-    angle: 49152 << 16,
-    offset: 0,
-    flags: 1,
-    side: 0,
-    front: 0,
-    back: None,
-};
-
-const ROOM: Surface = Surface {
-    floor: 0,
-    ceiling: 128 << 16,
-    floor_flat: 1,
-    ceiling_flat: 2,
-    light: 160,
-};
 
 const FLOOR: PlaneKey = PlaneKey {
     height: 0,
@@ -68,11 +48,6 @@ const SKY: PlaneKey = PlaneKey {
 const BRICK: WallTexture = WallTexture {
     number: WALL1,
     height: 128,
-};
-
-const BARE: WallTexture = WallTexture {
-    number: 0,
-    height: 0,
 };
 
 // An eye in a leaf, so many map units (16.16) up, which sees the east wall of a sector, with the

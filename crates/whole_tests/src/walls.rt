@@ -1,43 +1,18 @@
 // The walls of a room from -256 to 256 map units both ways, seen through the made tables.
 
 use crate::made::{EYE, made_angles};
-use level_rules::{Seg, Surface};
+use crate::room::{BARE, EAST, ROOM};
+use level_rules::Surface;
 use std::process::Abort;
 use std::test::Fail;
 use view_frame::{ColumnRange, View};
 use view_rules::Eye;
 use wall_edges::{Edges, Fragment, Stepper, WallFacts, WallTexture};
 
-const EAST: Seg = Seg {
-    x1: 256 << 16,
-    y1: 256 << 16,
-    x2: 256 << 16,
-    y2: -(256 << 16),
-    angle: 49152 << 16,
-    offset: 0,
-    flags: 1,
-    side: 0,
-    front: 0,
-    back: None,
-};
-
-const ROOM: Surface = Surface {
-    floor: 0,
-    ceiling: 128 << 16,
-    floor_flat: 1,
-    ceiling_flat: 2,
-    light: 160,
-};
-
 const NICHE: Surface = Surface {
     floor: 32 << 16,
     ceiling: 96 << 16,
     ..ROOM
-};
-
-const BARE: WallTexture = WallTexture {
-    number: 0,
-    height: 0,
 };
 
 const BRICK: WallTexture = WallTexture {
