@@ -4,6 +4,7 @@ use job_files::put_note;
 use level_maker::{make_path, make_tables, make_things, make_wad};
 use outside::{MemoryFile, MemoryShelf, MemorySink, PutFault, Shelf};
 use std::alloc::{AllocError, Global};
+use std::process::Abort;
 use std::test::Fail;
 
 const PPM_BYTES: usize = 192015;
@@ -83,6 +84,12 @@ pub(crate) fn run_shelf<S: Shelf>(
     let words = words_of(alloc, words)?;
     let status = run(alloc, &words, shelf, &mut out, &mut notes);
     Ok(Ended { status, out, notes })
+}
+
+// Compares the one line that a run wrote.
+pub(crate) fn compare_line(rt: &impl Abort, ended: &Ended, line: &str) {
+    assert_eq!(rt; ended.notes.bytes(), line.as_bytes(), "{line}");
+    assert_eq!(rt; ended.out.bytes(), [].as_slice(), "{line}");
 }
 
 fn file_of(alloc: Global, name: &str, bytes: &[u8]) -> Result<MemoryFile, AllocError> {
@@ -184,8 +191,7 @@ fn each_refusal_has_its_line(rt: HostRuntime) -> Result<(), Fail> {
         assert!(rt; !wad.is_empty());
         wad[0] = first;
         let ended = run_over(alloc, words, wad, Vec::new(alloc), Vec::new(alloc))?;
-        assert_eq!(rt; ended.notes.bytes(), line.as_bytes(), "{line}");
-        assert_eq!(rt; ended.out.bytes(), [].as_slice(), "{line}");
+        compare_line(&rt, &ended, line);
     }
     Ok(())
 }
@@ -306,8 +312,7 @@ fn each_refusal_of_an_audit_has_its_line(rt: HostRuntime) -> Result<(), Fail> {
         tables.truncate(size);
         let mut shelf = audit_shelf(alloc, &wad, &tables, things.as_bytes(), path.as_bytes())?;
         let ended = run_shelf(alloc, words, &mut shelf, Vec::new(alloc))?;
-        assert_eq!(rt; ended.notes.bytes(), line.as_bytes(), "{line}");
-        assert_eq!(rt; ended.out.bytes(), [].as_slice(), "{line}");
+        compare_line(&rt, &ended, line);
     }
     Ok(())
 }
@@ -325,8 +330,7 @@ fn a_zone_too_small_for_an_audit_has_its_line(rt: HostRuntime) -> Result<(), Fai
     ] {
         let mut shelf = audit_shelf(alloc, &wad, &tables, &things, &path)?;
         let ended = run_shelf(alloc, words, &mut shelf, Vec::new(alloc))?;
-        assert_eq!(rt; ended.notes.bytes(), line.as_bytes(), "{line}");
-        assert_eq!(rt; ended.out.bytes(), [].as_slice(), "{line}");
+        compare_line(&rt, &ended, line);
     }
     Ok(())
 }

@@ -1,6 +1,6 @@
 // Values from outside: made levels whose WAD is changed, and a second WAD beside one. A sum is the
 // FNV-1a of all that was written.
-use crate::tests::{AUDIT, Ended, run_shelf};
+use crate::tests::{AUDIT, Ended, compare_line, run_shelf};
 use crate::view_tests::{RENDER, file_of, path_of, shelf_of, sum_of, wad_of};
 use outside::MemoryFile;
 use std::alloc::{AllocError, Global};
@@ -67,8 +67,7 @@ fn a_damaged_wad_is_refused(rt: HostRuntime) -> Result<(), Fail> {
         (9012, b"\xf0\xff\xff\xff", "doomview: refused 703 0\n"),
     ] {
         let ended = run_wad(alloc, RENDER, changed_wad(alloc, offset, bytes)?)?;
-        assert_eq!(rt; ended.notes.bytes(), line.as_bytes(), "{line}");
-        assert_eq!(rt; ended.out.bytes(), [].as_slice(), "{line}");
+        compare_line(&rt, &ended, line);
     }
     Ok(())
 }
@@ -174,11 +173,7 @@ fn grated_wad(alloc: Global) -> Result<MemoryFile, Fail> {
 fn a_masked_texture_of_two_patches_has_its_line(rt: HostRuntime) -> Result<(), Fail> {
     let alloc = rt.alloc();
     let ended = run_wad(alloc, AUDIT, grated_wad(alloc)?)?;
-    assert_eq!(rt;
-        ended.notes.bytes(),
-        b"doomview: refused 905 11\n".as_slice()
-    );
-    assert_eq!(rt; ended.out.bytes(), [].as_slice());
+    compare_line(&rt, &ended, "doomview: refused 905 11\n");
     Ok(())
 }
 

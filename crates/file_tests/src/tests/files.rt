@@ -1,6 +1,8 @@
-// What several tests read: a shelf of one file and its directory, and bytes that are put together.
+// What several tests read: a shelf of one file and its directory, and bytes that are put together;
+// and a refusal that several compare.
 ghost use Rattle.std.specs.Prelude.{◌<◌, ◌^◌, IfOk, length};
 
+use level_rules::MapRefusal;
 use outside::{MemoryFile, MemoryShelf, Shelf};
 use std::alloc::{AllocError, Global};
 use std::test::Fail;
@@ -10,7 +12,7 @@ use wad_dir::Directory;
 pub(crate) const NO_CALL: u64 = 0;
 
 // A file with some bytes changed, each by its offset.
-pub(crate) fn changed(
+pub(crate) fn changed_bytes(
     alloc: Global,
     file: &[u8],
     changes: &[(usize, u8)],
@@ -56,4 +58,13 @@ pub(crate) fn load_directory(alloc: Global, shelf: &mut MemoryShelf) -> Result<D
 {
     let number = shelf.find("file.wad")?;
     Ok(Directory::load(alloc, shelf, &[number])?)
+}
+
+// A field of a record names nothing that is there.
+pub(crate) fn index(lump: u64, record_no: u64, field: u64) -> MapRefusal {
+    MapRefusal::Index {
+        lump,
+        record_no,
+        field,
+    }
 }

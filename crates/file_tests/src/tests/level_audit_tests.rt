@@ -4,7 +4,7 @@
 // a function that owns many where it may return takes minutes to prove.
 ghost use Rattle.std.specs.Prelude.{◌<◌, ◌≤◌, ◌^◌, length};
 
-use crate::tests::files::{NO_CALL, load_directory, shelf_of};
+use crate::tests::files::{NO_CALL, index, load_directory, shelf_of};
 use art_rules::{SpriteRefusal, TexRefusal};
 use csv_tables::ThingTable;
 use level_audit::{ArtRefusal, AuditFault, AuditRefusal, SceneRefusal, ZoneSizes, audit};
@@ -150,16 +150,11 @@ fn a_patch_that_is_the_colormap_is_pinned(rt: HostRuntime) -> Result<(), Fail> {
 type Damage = (usize, &'static [u8], AuditRefusal);
 
 fn damages_of_map() -> [Damage; 3] {
-    let line = MapRefusal::Index {
-        lump: 1,
-        record_no: 0,
-        field: 5,
-    };
     let leaf = MapRefusal::EmptyLeaf { leaf: 0 };
     let node = MapRefusal::NodeTwice { node: 2 };
     // the first side of the first line, the count of the first leaf, a child of the last node
     [
-        (81_164, b"\x0f\x27", AuditRefusal::Map(line)),
+        (81_164, b"\x0f\x27", AuditRefusal::Map(index(1, 0, 5))),
         (82_086, b"\0\0", AuditRefusal::Map(leaf)),
         (82_182, b"\x02\0", AuditRefusal::Map(node)),
     ]

@@ -4,7 +4,7 @@
 // a function drops by one call: one that owns many values where it may return takes minutes to prove.
 ghost use Rattle.std.specs.Prelude.{◌<◌, ◌≤◌, ◌^◌, length};
 
-use crate::tests::files::{NO_CALL, changed, load_directory, shelf_of};
+use crate::tests::files::{NO_CALL, changed_bytes, index, load_directory, shelf_of};
 use level_scene::{Level, LevelFault, MapRefusal, read_level};
 use lump_cache::LumpCache;
 use lump_rules::Name8;
@@ -49,7 +49,7 @@ fn read(
     failing: u64,
     size: u32,
 ) -> Result<Read, Fail> {
-    let bytes = changed(alloc, wad(), &[change])?;
+    let bytes = changed_bytes(alloc, wad(), &[change])?;
     let mut shelf = shelf_of(alloc, bytes, failing)?;
     read_on(alloc, name, &mut shelf, size)
 }
@@ -137,17 +137,12 @@ fn fault_of(
 
 #[test]
 fn a_map_is_refused(rt: HostRuntime) -> Result<(), Fail> {
-    let line = MapRefusal::Index {
-        lump: 1,
-        record_no: 0,
-        field: 5,
-    };
     for (name, change, refusal) in [
         ("MAP02", (0, b'P'), MapRefusal::NoMap),
         ("MAP01", (236, b'M'), MapRefusal::NoMap),
         ("MAP01", (86, 0), MapRefusal::EmptyLeaf { leaf: 0 }),
         ("MAP01", (216, 3), MapRefusal::NoLeaf),
-        ("MAP01", (32, 1), line),
+        ("MAP01", (32, 1), index(1, 0, 5)),
     ] {
         let fault = fault_of(rt.alloc(), name, change, NO_CALL, 64)?;
         assert_eq!(rt; fault, Some(LevelFault::Refused(refusal)));
@@ -155,15 +150,17 @@ fn a_map_is_refused(rt: HostRuntime) -> Result<(), Fail> {
     Ok(())
 }
 
+// What a zone of 64 bytes says of things of 50 bytes.
+const FULL: LevelFault = LevelFault::ZoneFull {
+    wanted: 76,
+    widest: 64,
+};
+
 #[test]
 fn a_map_is_not_read(rt: HostRuntime) -> Result<(), Fail> {
-    let full = LevelFault::ZoneFull {
-        wanted: 76,
-        widest: 64,
-    };
     for (change, call, size, fault) in [
         ((0, b'P'), 8, 64, Some(LevelFault::ReadFault)),
-        ((136, 50), NO_CALL, 64, Some(full)),
+        ((136, 50), NO_CALL, 64, Some(FULL)),
         ((136, 50), NO_CALL, 128, None),
     ] {
         let result = fault_of(rt.alloc(), "MAP01", change, call, size)?;

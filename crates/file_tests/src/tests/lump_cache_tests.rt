@@ -69,12 +69,12 @@ fn figures(used: u32, free: u32) -> ZoneFigures {
 
 #[test]
 fn a_lump_is_read_where_it_has_bytes_and_room(rt: HostRuntime) -> Result<(), Fail> {
-    let unread = Some(CacheFault::ReadFault);
+    let read_fault = Some(CacheFault::ReadFault);
     let five: &[u8] = &[1, 2, 3, 4, 5];
     let none: &[u8] = &[];
     for (failing, size, name, fault, wanted, after) in [
         (NO_CALL, 4096, "five", None, Some(five), figures(32, 4064)),
-        (5, 4096, "five", unread, None, figures(0, 4096)),
+        (5, 4096, "five", read_fault, None, figures(0, 4096)),
         (5, 4096, "none", None, Some(none), figures(24, 4072)),
         (NO_CALL, 64, "long", Some(FULL), None, figures(0, 64)),
     ] {

@@ -2,6 +2,7 @@
 use crate::tests::files::{NO_CALL, load_directory, shelf_of};
 use lump_cache::{CacheFault, LumpCache, fetch_named, live_bytes};
 use lump_rules::Name8;
+use outside::MemoryShelf;
 use std::alloc::Global;
 use std::test::Fail;
 use wad_dir::LumpNo;
@@ -23,19 +24,17 @@ struct Answer {
     is_wanted: bool,
 }
 
-// Over a shelf whose call of that number fails.
 fn asked(
     alloc: Global,
-    failing: u64,
+    shelf: &mut MemoryShelf,
     size: u32,
     name: &str,
     wanted: Option<&[u8]>,
 ) -> Result<Answer, Fail> {
-    let mut shelf = shelf_of(alloc, wad().to_vec(alloc)?, failing)?;
-    let dir = load_directory(alloc, &mut shelf)?;
+    let dir = load_directory(alloc, shelf)?;
     let mut cache = LumpCache::new(alloc, &dir, size, 0)?;
     let name = Name8::from_text(name).ok_or("a name")?;
-    let lump = fetch_named(&mut cache, &dir, &mut shelf, &name);
+    let lump = fetch_named(&mut cache, &dir, shelf, &name);
     let is_wanted = match lump {
         Ok(lump) => live_bytes(&cache, lump) == wanted,
         Err(_) => wanted.is_none(),
@@ -45,6 +44,7 @@ fn asked(
 
 #[test]
 fn the_last_lump_of_a_name_is_live(rt: HostRuntime) -> Result<(), Fail> {
+    let alloc = rt.alloc();
     let full = CacheFault::ZoneFull {
         wanted: 72,
         widest: 64,
@@ -56,7 +56,8 @@ fn the_last_lump_of_a_name_is_live(rt: HostRuntime) -> Result<(), Fail> {
         (5, 4096, "five", Err(CacheFault::ReadFault), None),
         (NO_CALL, 64, "long", Err(full), None),
     ] {
-        let answer = asked(rt.alloc(), failing, size, name, bytes)?;
+        let mut shelf = shelf_of(alloc, wad().to_vec(alloc)?, failing)?;
+        let answer = asked(alloc, &mut shelf, size, name, bytes)?;
         assert_eq!(rt; answer.lump, lump);
         assert!(rt; answer.is_wanted, "at {name}");
     }

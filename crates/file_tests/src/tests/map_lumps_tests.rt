@@ -1,6 +1,6 @@
 // Levels from bytes, with values from outside the definitions: the made level of four cells, and
 // what its worked damages give.
-use crate::tests::files::bytes_of;
+use crate::tests::files::{bytes_of, index};
 use lump_rules::Name8;
 use map_lumps::*;
 use std::alloc::{AllocError, Global};
@@ -216,14 +216,6 @@ fn damages() -> [(usize, usize, u16, MapRefusal); 7] {
         (4, 8, 1, index(4, 0, 4)),
         (2, 478, 4, index(2, 15, 5)),
     ]
-}
-
-fn index(lump: u64, record_no: u64, field: u64) -> MapRefusal {
-    MapRefusal::Index {
-        lump,
-        record_no,
-        field,
-    }
 }
 
 // Puts two bytes in the place of those there.

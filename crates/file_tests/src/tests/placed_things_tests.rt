@@ -176,7 +176,7 @@ fn things_are_placed_by_skill_and_drawn_last_first(rt: HostRuntime) {
 }
 
 // The first thing of sector 0, and the first of sector 1.
-const HANGING: PlacedThing = PlacedThing {
+const HANGING_THING: PlacedThing = PlacedThing {
     thing: 2,
     x: 120 * UNIT,
     y: 20 * UNIT,
@@ -187,7 +187,7 @@ const HANGING: PlacedThing = PlacedThing {
     bright: true,
 };
 
-const STANDING: PlacedThing = PlacedThing {
+const STANDING_THING: PlacedThing = PlacedThing {
     thing: 1,
     x: 10 * UNIT,
     y: 10 * UNIT,
@@ -200,8 +200,8 @@ const STANDING: PlacedThing = PlacedThing {
 
 // Looks at the first thing of each sector, and at the angle of the first of all.
 fn look_at_things(rt: &impl Abort, placed: &PlacedThings) {
-    assert_eq!(rt; placed.of(0).first().copied(), Some(HANGING));
-    assert_eq!(rt; placed.of(1).first().copied(), Some(STANDING));
+    assert_eq!(rt; placed.of(0).first().copied(), Some(HANGING_THING));
+    assert_eq!(rt; placed.of(1).first().copied(), Some(STANDING_THING));
     assert_eq!(rt;
         placed.all().first().map(|placed| placed.thing.angle),
         Some(0x2000_0000)

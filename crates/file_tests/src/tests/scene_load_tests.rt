@@ -22,6 +22,15 @@ const FILES: Files<'static> = Files {
     weapon: None,
 };
 
+// A zone that is enough for the made level, and what is drawn of it.
+const SETTINGS: Settings = Settings {
+    zone: 108_512,
+    skill: 3,
+    size: 11,
+    planes: 128,
+    openings: 20480,
+};
+
 // A shelf of the made files.
 fn made_shelf(alloc: Global) -> Result<MemoryShelf, AllocError> {
     let mut files = Vec::new(alloc);
@@ -47,13 +56,7 @@ fn loaded(alloc: Global, zone: u32, weapon: Option<&str>) -> Result<Result<Seen,
     let level = LevelJob {
         map: Name8::from_text("map01").ok_or("a name")?,
         files: Files { weapon, ..FILES },
-        settings: Settings {
-            zone,
-            skill: 3,
-            size: 11,
-            planes: 128,
-            openings: 20480,
-        },
+        settings: Settings { zone, ..SETTINGS },
     };
     let mut shelf = made_shelf(alloc)?;
     Ok(loaded_on(alloc, &level, &mut shelf))

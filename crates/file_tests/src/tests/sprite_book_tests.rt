@@ -99,13 +99,14 @@ fn a_frame_is_seen_from_all_sides(rt: HostRuntime) -> Result<(), Fail> {
     Ok(())
 }
 
+// What is told of a rotation that no lump shows.
+fn no_rotation(rotation: u64) -> Option<SpriteFault> {
+    Some(SpriteFault::Refused(SpriteRefusal::MissingRotation { thing: 7, rotation }))
+}
+
 #[test]
 fn the_least_rotation_without_a_picture_is_told(rt: HostRuntime) -> Result<(), Fail> {
-    let refusal = SpriteRefusal::MissingRotation {
-        thing: 7,
-        rotation: 3,
-    };
     let result = load_tree(rt.alloc(), &[*b"TREEA1\0\0", *b"TREEA2A8"])?;
-    assert_eq!(rt; result.err(), Some(SpriteFault::Refused(refusal)));
+    assert_eq!(rt; result.err(), no_rotation(3));
     Ok(())
 }

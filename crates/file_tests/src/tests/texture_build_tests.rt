@@ -3,7 +3,7 @@ ghost use Rattle.std.specs.Prelude.{◌≡◌, ◌<◌, ◌≤◌, ◌^◌, All,
 ghost use Rattle.art_rules.specs.Textures.{texture_at};
 ghost use Rattle.texture_build.specs.Views.{ArePatchesThere, IsPrepared, prepared_texture};
 
-use crate::tests::files::{NO_CALL, changed, load_directory, shelf_of};
+use crate::tests::files::{NO_CALL, changed_bytes, load_directory, shelf_of};
 use lump_cache::LumpCache;
 use outside::MemoryShelf;
 use std::alloc::{AllocError, Global};
@@ -50,7 +50,7 @@ struct Loaded {
 
 // A shelf of the file with two bytes changed.
 fn changed_shelf(alloc: Global, changes: [(usize, u8); 2]) -> Result<Box<MemoryShelf>, AllocError> {
-    let bytes = changed(alloc, wad(), &changes)?;
+    let bytes = changed_bytes(alloc, wad(), &changes)?;
     Ok(Box::new(alloc, shelf_of(alloc, bytes, NO_CALL)?)?)
 }
 

@@ -1,5 +1,5 @@
 // Values from outside: a file of small lists, written by hand in their format.
-use crate::tests::files::{NO_CALL, changed, load_directory, shelf_of};
+use crate::tests::files::{NO_CALL, changed_bytes, load_directory, shelf_of};
 use art_rules::TextureEntry;
 use lump_cache::LumpCache;
 use lump_rules::Name8;
@@ -30,7 +30,7 @@ fn load(
     failing: u64,
     size: u32,
 ) -> Result<Result<ListedTextures, TexFault>, Fail> {
-    let bytes = changed(alloc, wad(), &changes)?;
+    let bytes = changed_bytes(alloc, wad(), &changes)?;
     let mut shelf = shelf_of(alloc, bytes, failing)?;
     let dir = load_directory(alloc, &mut shelf)?;
     let mut cache = LumpCache::new(alloc, &dir, size, 0)?;
