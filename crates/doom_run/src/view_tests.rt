@@ -47,7 +47,8 @@ const FULL: Told = Told {
 
 const NO_COMMAND: Told = Told {
     status: Status::Usage,
-    ..FULL
+    length: 0,
+    sum: NOTHING,
 };
 
 fn tell(ended: &Ended) -> Told {
