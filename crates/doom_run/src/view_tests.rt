@@ -19,22 +19,29 @@ struct Told {
     sum: u64,
 }
 
-// A run that is done.
-const fn done(length: usize, sum: u64) -> Told {
-    Told {
-        status: Status::Done,
-        length,
-        sum,
-    }
-}
+const FRAMES_OF_10: Told = Told {
+    status: Status::Done,
+    length: 1_920_000,
+    sum: 0x8255_4244_4dc5_4d3b,
+};
 
-const FRAMES_OF_10: Told = done(1_920_000, 0x8255_4244_4dc5_4d3b);
+const PPMS_OF_10: Told = Told {
+    status: Status::Done,
+    length: 5_760_450,
+    sum: 0xa9ee_ff00_f210_bf55,
+};
 
-const PPMS_OF_10: Told = done(5_760_450, 0xa9ee_ff00_f210_bf55);
+const COUNTS_OF_10: Told = Told {
+    status: Status::Done,
+    length: 1525,
+    sum: 0x6610_24dd_a2c2_711c,
+};
 
-const COUNTS_OF_10: Told = done(1525, 0x6610_24dd_a2c2_711c);
-
-const SMALL_FRAMES: Told = done(192_000, 0xbadb_a51e_14df_16ed);
+const SMALL_FRAMES: Told = Told {
+    status: Status::Done,
+    length: 192_000,
+    sum: 0xbadb_a51e_14df_16ed,
+};
 
 const FULL: Told = Told {
     status: Status::ZoneFull {
@@ -179,7 +186,12 @@ fn a_path_of_no_view_and_one_on_a_vertex(rt: HostRuntime) -> Result<(), Fail> {
     ] {
         let path = path.as_bytes().to_vec(alloc)?;
         let seen = run_made(alloc, 1, path, RENDER, Vec::new(alloc), Vec::new(alloc))?;
-        assert_eq!(rt; seen, done(length, sum));
+        let expected = Told {
+            status: Status::Done,
+            length,
+            sum,
+        };
+        assert_eq!(rt; seen, expected);
     }
     Ok(())
 }
@@ -225,7 +237,12 @@ fn an_exercise_tells_what_it_rendered(rt: HostRuntime) -> Result<(), Fail> {
     ] {
         let shelf = MemoryShelf::new(Vec::new(alloc), Vec::new(alloc));
         let seen = run_over(alloc, words, shelf, Vec::new(alloc))?;
-        assert_eq!(rt; seen, done(line.len(), sum_of(line.as_bytes())));
+        let expected = Told {
+            status: Status::Done,
+            length: line.len(),
+            sum: sum_of(line.as_bytes()),
+        };
+        assert_eq!(rt; seen, expected);
     }
     Ok(())
 }
