@@ -33,7 +33,7 @@ pub record IsPatchBeside (loaded : LoadedValue) (zone wanted : ℕ) : Type 0 whe
   pub small : zone < lump_block loaded.files.lumps loaded.scene.base.colormap
       + composite_block (Some texture) + 2 * wanted + 2 * MIN_FRAGMENT
 
--- No gap own_files a block that drawing asks for. The zone does not hold it beside COLORMAP, or it is a patch of
+-- No gap held a block that drawing asks for. The zone does not hold it beside COLORMAP, or it is a patch of
 -- a composite that is built; and the zone is smaller than enough.
 pub record IsFullDraw (level : LevelJobValue) (wads : List (List ℕ)) (files : List File) (wanted widest' : ℕ) : Type 0 where
   pub loaded : LoadedValue
