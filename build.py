@@ -96,13 +96,14 @@ def lines_above(crates):
     return above
 
 
-def shares_work():
-    """Whether rt can note beside itself what it builds, so that another checkout takes it."""
-    kit = os.path.dirname(os.path.dirname(os.path.realpath(shutil.which('rt'))))
-    store = os.path.join(os.path.dirname(kit), 'rattle-kept')
-    if os.path.exists(store):
-        return os.path.isdir(store) and os.stat(store).st_uid == os.geteuid()
-    return os.access(os.path.dirname(kit), os.W_OK)
+def share(crate, made, others):
+    """Gives the library of a crate to other checkouts of the same text, by links: rt takes it as its own."""
+    library = os.path.join('crates', crate, 'out', 'rlib')
+    for top in others:
+        there = os.path.join(top, library)
+        if top != made and not os.path.exists(there):
+            shutil.copytree(os.path.join(made, library), there + '.part', copy_function=os.link)
+            os.replace(there + '.part', there)
 
 
 def copy_sources(top):
@@ -122,6 +123,7 @@ class Build:
         self.crates, self.jobs = crates, count_jobs()
         self.begun, self.done, self.failure = set(), [], None
         self.workers, self.runs = [], []
+        self.copies = [os.path.join(COPIES, str(number)) for number in range(self.jobs)]
         self.turn, self.ended = threading.Lock(), threading.Event()
 
     def rt(self, top, crate, *words):
@@ -155,8 +157,11 @@ class Build:
         """Builds a crate by rt, and says so."""
         run = self.rt(top, crate, *words)
         said = run.communicate()[0].splitlines(True) if run else []
+        is_made = bool(run) and not run.returncode
+        if is_made and crate != PROGRAM:
+            share(crate, top, [TOP, *self.copies])
         with self.turn:
-            if run and not run.returncode:
+            if is_made:
                 self.finish(crate)
             else:
                 self.fail(f'the build of {crate} failed', said)
@@ -187,31 +192,15 @@ class Build:
     def side_by_side(self, last):
         above = lines_above(self.crates)
         order = sorted((it for it in self.crates if it not in last), key=lambda it: -above[it])
-        for number in range(self.jobs):
-            top = os.path.join(COPIES, str(number))
+        for top in self.copies:
             self.workers.append(threading.Thread(target=self.work, args=(top, order)))
             self.workers[-1].start()
         for it in self.workers:
             it.join()
 
-    def by_rt(self):
-        """All crates by `rt all`, which counts a crate that waits for those below it as one that runs."""
-        run = self.rt(TOP, PROGRAM, 'all', 'check', '--jobs', str(3 * self.jobs))
-        said = []
-        for line in run.stdout:
-            said.append(line)
-            crate = line.split()[1] if line.startswith('== ') else PROGRAM
-            if crate in self.crates and crate not in (PROGRAM, *self.done):
-                self.finish(crate)
-        if run.wait():
-            self.fail('the build failed', said)
-
     def all_crates(self):
         jobs = ('--jobs', str(self.jobs))
-        if shares_work():
-            self.side_by_side(last_crates(self.crates))
-        else:
-            self.by_rt()
+        self.side_by_side(last_crates(self.crates))
         for crate in self.crates:
             if crate == PROGRAM:
                 self.make(TOP, crate, 'run', *jobs, '--', 'make', 'things')

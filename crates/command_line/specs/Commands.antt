@@ -1,5 +1,5 @@
 -- Which words are a command, and which command they are.
-use Rattle.std.specs.Prelude.{◌≡◌, ℕ, ◌≤◌, Bool, cond, not, ◌==◌, ◌||◌, List, [], ◌∷◌, length, map, Option, Some, None, option_and_then, option_map, codes, bytes_eq, Result, Err, IfOk, IfErr}
+use Rattle.std.specs.Prelude.{◌≡◌, ℕ, ◌≤◌, Bool, cond, not, ◌==◌, List, [], ◌∷◌, length, map, Option, Some, None, option_and_then, option_map, codes, bytes_eq, Result, Err, IfOk, IfErr}
 use Rattle.clap.specs.Words.{Row, Text, all_of, fault_of, first_of, matches_of}
 use Rattle.lump_rules.specs.Names.{name_of_text}
 use Rattle.command_line.specs.declared.command.Command.{Command}
@@ -63,9 +63,9 @@ pub record IsDecidedBy (rule : Option CommandValue) (result : Result Command Com
   pub counted : IfOk result (λ command. IsCounted (command_value command))
   pub usage : IfErr result (λ _. rule ≡ None)
 
--- trim and trace are not built
+-- trim is not built
 unfoldable pub is_built : Text → Bool
-is_built job = not (bytes_eq job (codes "trim") || bytes_eq job (codes "trace"))
+is_built job = not (bytes_eq job (codes "trim"))
 
 -- flat NAME FILE, and no option
 unfoldable pub flat_of : List Row → List Text → Option CommandValue

@@ -18,8 +18,8 @@ pub const MIN_COUNT: u32 = 1;
 pub const MAX_COUNT: u32 = 32;
 
 /// The command of the words after the program's name. The number of made files, the size of their
-/// zone in an exercise, and the numbers of a job over a level are in their ranges. The jobs `trim`
-/// and `trace` are no command yet.
+/// zone in an exercise, and the numbers of a job over a level are in their ranges. The job `trim` is
+/// no command yet.
 ///
 /// Takes memory for what `clap` finds and for the list of WADs.
 ///
@@ -64,12 +64,12 @@ fn command_in<'a>(alloc: Global, found: &ArgMatches<'a>) -> Taken<'a>
     }
 }
 
-// Whether the job of that name is built: `trim` and `trace` are not.
+// Whether the job of that name is built: `trim` is not.
 #[tactic(auto, unfolding(crate::specs::Commands::is_built))]
 fn is_built(job: &str) -> bool
     ensures { result ≡ is_built job.now }
 {
-    !(job == "trim" || job == "trace")
+    job != "trim"
 }
 
 // The command of the job of that name.

@@ -20,14 +20,21 @@ use Rattle.level_audit.proofs.scene_load.OrderLemmas.{items_composite, items_lum
 use Rattle.frame_core.specs.Views.{IsViewLump}
 use Rattle.frame_core.proofs.EnoughLemmas.{IsOfTexture, among_prepared, column_asked, needed_drawn, needed_patch, patch_there}
 use Rattle.doom_run.specs.declared.render.ReadyViews.{ReadyViews}
-use Rattle.doom_run.specs.Renders.{HasReadyAsked, IsReady}
+use Rattle.doom_run.specs.Renders.{HasReadyAsked, IsLayerLump, IsReady}
 use Rattle.doom_run.proofs.DrawnLemmas.{loaded_textures}
+use Rattle.doom_run.proofs.PictureLemmas.{layer_needed, layer_there}
 use Rattle.frame_core.proofs.RowLemmas.{textures_rows}
 
 module _ (level : LevelJobValue) (wads : List (List ℕ)) (files : List File) (ready : ReadyViews) (is : load_in level wads files ≡ Ok (loaded_value ready.loaded)) (stands : IsReady level ready) where
   -- a flat or a picture
   lumps_asked : HasAll (loaded_items (loaded_value ready.loaded)) ready.loaded.files.dir (IsViewLump ready.loaded.files.dir.lumps ready.loaded.scene.scene)
   lumps_asked lump asked = items_lump (loaded_value ready.loaded) lump (needed_drawn ready.loaded.files.dir.lumps ready.loaded.scene.scene (weapon_lumps ready.loaded.weapons) lump asked) asked.there
+
+  -- a picture of a layer
+  layers_asked : HasAll (loaded_items (loaded_value ready.loaded)) ready.loaded.files.dir (IsLayerLump ready.loaded)
+  layers_asked lump asked =
+      items_lump (loaded_value ready.loaded) lump (layer_needed ready.loaded.files.dir.lumps ready.loaded.scene.scene (weapon_lumps ready.loaded.weapons) lump asked)
+      (layer_there ready.loaded.files.dir.lumps ready.loaded.weapons lump stands.layers asked)
 
   module _ (number : ℕ) (some : IsPrepared (textures_view ready.loaded.scene.scene) number) where
     abbrev t : PreparedTexture
@@ -61,4 +68,5 @@ module _ (level : LevelJobValue) (wads : List (List ℕ)) (files : List File) (r
   ready_asked = record {
     textures = λ number column some owner size asked. column_item number some column owner size asked;
     lumps = λ lump asked. lumps_asked lump asked;
+    layers = λ lump asked. layers_asked lump asked;
   }

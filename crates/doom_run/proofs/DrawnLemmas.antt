@@ -2,6 +2,7 @@
 use Rattle.std.proofs.Common.{◌≡◌, ◌+◌, ◌<◌, ℕ, List, Some, Ok, subst, inl, inr}
 use Rattle.std.specs.Prelude.{◌⊎◌}
 use Rattle.outside.specs.Shelf.{File}
+use Rattle.lump_rules.specs.Lookups.{lump_at}
 use Rattle.zone_rules.specs.declared.TheConstants.{MIN_FRAGMENT}
 use Rattle.texture_build.specs.Views.{AreTexturesOf}
 use Rattle.command_line.specs.LevelJobs.{LevelJobValue}
@@ -19,6 +20,7 @@ use Rattle.level_audit.proofs.scene_load.LoadLemmas.{audited_of}
 use Rattle.doom_run.specs.declared.render.ReadyViews.{ReadyViews}
 use Rattle.doom_run.specs.Fulls.{IsDrawnBlock, IsFullDraw, IsPatchBeside}
 use Rattle.doom_run.specs.Renders.{IsFullReady, IsFullView, IsReady}
+use Rattle.doom_run.proofs.PictureLemmas.{layer_needed, layer_there}
 
 -- the textures of a scene that is loaded are those of the directory
 pub loaded_textures : (level : LevelJobValue) (wads : List (List ℕ)) (files : List File) (loaded : LoadedValue) → load_in level wads files ≡ Ok loaded → AreTexturesOf (wad_contents wads files) loaded.files.lumps (textures_view loaded.scene)
@@ -46,7 +48,27 @@ module _ (loaded : LoadedValue) (zone wanted : ℕ) where
 -- no gap is as wide as what was wanted
 narrow_of : (ready : ReadyViews) (wanted widest' : ℕ) → IsFullView ready wanted widest' → widest' < wanted
 narrow_of ready wanted widest' (inl texture) = texture.full.narrow
-narrow_of ready wanted widest' (inr lump) = lump.narrow
+narrow_of ready wanted widest' (inr (inl lump)) = lump.narrow
+narrow_of ready wanted widest' (inr (inr layer)) = layer.narrow
+
+-- what was full for a texture, a lump of a view or a layer was full for what is needed
+drawn_full : (level : LevelJobValue) (wads : List (List ℕ)) (files : List File) (ready : ReadyViews) → IsReady level ready → load_in level wads files ≡ Ok (loaded_value ready.loaded) → (wanted widest' : ℕ) →
+    IsFullView ready wanted widest' → IsArtFull ready.loaded.files.dir.lumps (art_with ready.loaded.scene.scene (loaded_pictures (loaded_value ready.loaded))) ready.loaded.cache.size wanted
+unfolding lump_block
+drawn_full level wads files ready stands is wanted widest' (inl texture) =
+    view_full (wad_contents wads files) ready.loaded.files.dir ready.loaded.scene.scene (weapon_lumps ready.loaded.weapons) ready.loaded.cache stands.drawable (loaded_textures level wads files (loaded_value ready.loaded) is) stands.rest wanted widest' (inl texture)
+drawn_full level wads files ready stands is wanted widest' (inr (inl lump)) =
+    view_full (wad_contents wads files) ready.loaded.files.dir ready.loaded.scene.scene (weapon_lumps ready.loaded.weapons) ready.loaded.cache stands.drawable (loaded_textures level wads files (loaded_value ready.loaded) is) stands.rest wanted widest' (inr lump)
+drawn_full level wads files ready stands is wanted widest' (inr (inr layer)) =
+    let lumps = ready.loaded.files.dir.lumps in
+    let scene = ready.loaded.scene.scene in
+    inl (record {
+      lump = layer.lump;
+      there = layer_there lumps ready.loaded.weapons layer.lump stands.layers layer.asked;
+      needed = layer_needed lumps scene (weapon_lumps ready.loaded.weapons) layer.lump layer.asked;
+      is = layer.wanted_is;
+      small = layer.room scene.base.colormap (lump_at lumps scene.base.colormap).size stands.rest;
+    })
 
 -- no room for a texture or a lump of a view
 pub view_draw : (level : LevelJobValue) (wads : List (List ℕ)) (files : List File) (ready : ReadyViews) → IsReady level ready → load_in level wads files ≡ Ok (loaded_value ready.loaded) → (wanted widest' : ℕ) →
@@ -57,7 +79,7 @@ view_draw level wads files ready stands is wanted widest' full =
     let art : SceneArt = art_with loaded.scene (loaded_pictures loaded) in
     let drawn : IsArtFull loaded.files.lumps art level.settings.zone wanted =
     subst (λ n. IsArtFull loaded.files.lumps art n wanted) stands.zone
-    (view_full (wad_contents wads files) ready.loaded.files.dir ready.loaded.scene.scene (weapon_lumps ready.loaded.weapons) ready.loaded.cache stands.drawable (loaded_textures level wads files loaded is) stands.rest wanted widest' full) in
+    (drawn_full level wads files ready stands is wanted widest' full) in
     record {
       loaded = loaded;
       is = is;

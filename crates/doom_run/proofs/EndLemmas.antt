@@ -23,6 +23,7 @@ use Rattle.job_files.proofs.AcceptedLemmas.{wads_accepted}
 use Rattle.job_files.specs.declared.status.Status.{Status}
 use Rattle.job_files.specs.declared.status.Status.TheVariants.{Done, Usage, Refused, ReadFault, WriteFault, Limit, ZoneFull, OutOfMemory}
 use Rattle.job_files.specs.Statuses.{DeliversBytes, status_of}
+use Rattle.doom_run.specs.declared.canvas.ViewForm.{ViewForm}
 use Rattle.doom_run.specs.declared.render.ReadyViews.{ReadyViews}
 use Rattle.doom_run.specs.Ends.{DeliversAt, EndsAt, IfEnded, IsEnd, IsReadOrFull, IsUnwritten, RendersAt, StopsWith}
 use Rattle.doom_run.specs.Exercises.{IsExercised, StopsAt}
@@ -140,14 +141,14 @@ counted_end steady level wads held ready old new status stands is delivers =
 abbrev pub views_to : (ViewsValue → Accepted) → LevelJobValue → List (List ℕ) → List File → Result Accepted RunStop
 views_to accept level wads held = and_then (from_below at_step (views_verdict level wads held)) (λ views. Ok (accept views))
 
-pub frames_end : (steady later : Bool) (format : Format) (level : LevelJobValue) (wads : List (List ℕ)) (held : List File) (ready : ReadyViews) (old new : List ℕ → Type 0) (status : Status) →
+pub frames_end : (steady later : Bool) (form : ViewForm) (level : LevelJobValue) (wads : List (List ℕ)) (held : List File) (ready : ReadyViews) (old new : List ℕ → Type 0) (status : Status) →
     IsReady level ready → load_in level wads held ≡ Ok (loaded_value ready.loaded) → later ≡ steady →
-    ((contents : List (List ℕ)) → files_named wads held ≡ Some contents → RendersAt later (rendered format (ready_views (lump_bytes contents ready.loaded.files.dir.lumps) ready)) old new status) →
-    EndsAt steady (views_to (rendered format) level wads held) old new status
-frames_end steady later format level wads held ready old new status stands is same renders =
+    ((contents : List (List ℕ)) → files_named wads held ≡ Some contents → RendersAt later (rendered form (ready_views (lump_bytes contents ready.loaded.files.dir.lumps) ready)) old new status) →
+    EndsAt steady (views_to (rendered form) level wads held) old new status
+frames_end steady later form level wads held ready old new status stands is same renders =
     let named = loaded_named level wads held (loaded_value ready.loaded) is in
-    renders_end steady later _ (rendered format (ready_views (lump_bytes named.contents ready.loaded.files.dir.lumps) ready)) old new status same
-    (ready_accepted level wads held ready named.contents (rendered format) stands is named.are) (renders named.contents named.named)
+    renders_end steady later _ (rendered form (ready_views (lump_bytes named.contents ready.loaded.files.dir.lumps) ready)) old new status same
+    (ready_accepted level wads held ready named.contents (rendered form) stands is named.are) (renders named.contents named.named)
 
 -- a delivery is done, failed to write, or met a limit: what holds of none of these holds of no delivery
 delivers_none : (P : Status → Type 0) → (P Done → ⊥) → (P WriteFault → ⊥) → ((view : ℕ) (kind : LimitKind) (count : ℕ) → P (Limit view kind count) → ⊥) →
@@ -190,25 +191,6 @@ fault_no_end fault.OutOfMemory end = end
 pub ended_more : {A : Type 0} {P Q : Type 0} (result : Result A Status) → (P → Q) → IfEnded result P → IfEnded result Q
 ended_more (Ok summary) f p = f p
 ended_more (Err status) f p = λ end. f (p end)
-
--- a weapon is named where one is given
-pub same_weapon : {X Y : Type 0} (f : X → Y) (weapon : Option X) → is_some (option_map f weapon) ≡ is_some weapon
-same_weapon f None = refl
-same_weapon f (Some x) = refl
-
--- without one, files are asked for
-pub unarmed_asks : {X : Type 0} (weapon : Option X) → is_some weapon ≡ false → IsTrue (is_none weapon)
-unarmed_asks None e = refl
-unarmed_asks (Some x) e = absurd (cc)
-
-pub asks_bare : {X Y : Type 0} (f : X → Y) (weapon : Option X) → is_some weapon ≡ false → IsTrue (is_none (option_map f weapon))
-asks_bare f weapon bare = unarmed_asks (option_map f weapon) (same_weapon f weapon ∙ bare)
-
--- frames without a weapon over them
-pub unarmed_end : (steady : Bool) (format : Format) (level : LevelJobValue) (wads : List (List ℕ)) (held : List File) (old new : List ℕ → Type 0) (status : Status) → is_some level.files.weapon ≡ false →
-    EndsAt steady (views_to (rendered format) level wads held) old new status → EndsAt steady (level_verdict (Render format) level wads held) old new status
-unarmed_end steady format level wads held old new status none ends =
-    subst (λ b. EndsAt steady (cond b (Err usage) (views_to (rendered format) level wads held)) old new status) (sym none) ends
 
 -- what an exercise comes to, by its delivery
 module _ (steady : Bool) (n : ℕ) (format : Format) (verdict : Result ViewsValue (Stop Refusal)) (old new : List ℕ → Type 0) where

@@ -6,10 +6,10 @@ use Rattle.lump_rules.specs.Contents.{lump_bytes}
 use Rattle.view_rules.specs.declared.Eye.{Eye}
 use Rattle.view_rules.specs.View.{ViewValue, view_of}
 use Rattle.picture_rules.specs.declared.OverLimit.{OverLimit}
-use Rattle.picture_rules.specs.Paints.{view_paints}
+use Rattle.picture_rules.specs.Paints.{overlaid_paints}
 use Rattle.texture_build.specs.Draws.{FitBeside}
 use Rattle.sound_scene.specs.Sound.{SoundValue, textures_view}
-use Rattle.command_line.specs.declared.command.Format.{Format}
+use Rattle.doom_run.specs.declared.canvas.ViewForm.{ViewForm}
 use Rattle.job_files.specs.declared.read.SceneFiles.{SceneFiles}
 use Rattle.frame_core.specs.Scenes.{scene_of}
 use Rattle.job_files.specs.declared.status.Status.{Status}
@@ -18,22 +18,25 @@ use Rattle.doom_run.specs.declared.render.ReadyViews.{ReadyViews}
 use Rattle.doom_run.specs.Ends.{IsEnd}
 use Rattle.doom_run.specs.Frames.{KeepsReady, ViewEnds}
 use Rattle.doom_run.specs.Renders.{FitsAt, ready_views}
-use Rattle.doom_run.specs.Views.{ViewsValue, eye_of, first_over, over_at}
+use Rattle.doom_run.specs.Views.{ViewsValue, first_over, over_at}
+use Rattle.doom_run.specs.Layers.{SeenView, eye_of}
 use Rattle.doom_run.proofs.FrameLemmas.{Rendered, none_over, some_over, view_get}
+use Rattle.level_audit.specs.scene_load.Loads.{loaded_value}
+use Rattle.doom_run.proofs.LimitLemmas.{seen_by}
 use Rattle.doom_run.proofs.ReadyLemmas.{views-later}
 
 -- what a viewpoint is painted from is that of the number's view
 pub fits_at : (bytes : ℕ → List ℕ) (count : ℕ) (ready : ReadyViews) (k : ℕ) (eye : Eye) → option_map eye_of (slice_get ready.loaded.files.path k) ≡ Some eye →
-    FitBeside ready.loaded.files.dir.lumps (textures_view ready.loaded.scene.scene) ready.loaded.scene.scene.base.colormap count ready.loaded.cache.size (view_paints (view_of ready.loaded.files.tables eye) (scene_of bytes ready.loaded.scene.scene)) →
+    FitBeside ready.loaded.files.dir.lumps (textures_view ready.loaded.scene.scene) ready.loaded.scene.scene.base.colormap count ready.loaded.cache.size (overlaid_paints (view_of ready.loaded.files.tables eye) (scene_of bytes ready.loaded.scene.scene) (seen_by (loaded_value ready.loaded) k eye).layers) →
     FitsAt bytes count ready k
 unfolding ready_views
 fits_at bytes count ready k eye at fits =
-    subst (λ (o : Option ViewValue). IfSome o (λ v. FitBeside ready.loaded.files.dir.lumps (textures_view ready.loaded.scene.scene) ready.loaded.scene.scene.base.colormap count ready.loaded.cache.size (view_paints v (scene_of bytes ready.loaded.scene.scene))))
+    subst (λ (o : Option SeenView). IfSome o (λ v. FitBeside ready.loaded.files.dir.lumps (textures_view ready.loaded.scene.scene) ready.loaded.scene.scene.base.colormap count ready.loaded.cache.size (overlaid_paints v.view (scene_of bytes ready.loaded.scene.scene) v.layers)))
     (sym (view_get bytes ready k eye at)) fits
 
 fits_for : (contents : List (List ℕ)) (count k : ℕ) (files files' : SceneFiles) (scene scene' : SoundValue) (size size' : ℕ) (r r' : (ℕ → List ℕ) → ViewsValue) → files' ≡ files → scene' ≡ scene → size' ≡ size → ((bytes : ℕ → List ℕ) → r' bytes ≡ r bytes) →
-    IfSome (slice_get (r' (lump_bytes contents files'.dir.lumps)).views k) (λ v. FitBeside files'.dir.lumps (textures_view scene'.scene) scene'.scene.base.colormap count size' (view_paints v (r' (lump_bytes contents files'.dir.lumps)).scene)) →
-    IfSome (slice_get (r (lump_bytes contents files.dir.lumps)).views k) (λ v. FitBeside files.dir.lumps (textures_view scene.scene) scene.scene.base.colormap count size (view_paints v (r (lump_bytes contents files.dir.lumps)).scene))
+    IfSome (slice_get (r' (lump_bytes contents files'.dir.lumps)).views k) (λ v. FitBeside files'.dir.lumps (textures_view scene'.scene) scene'.scene.base.colormap count size' (overlaid_paints v.view (r' (lump_bytes contents files'.dir.lumps)).scene v.layers)) →
+    IfSome (slice_get (r (lump_bytes contents files.dir.lumps)).views k) (λ v. FitBeside files.dir.lumps (textures_view scene.scene) scene.scene.base.colormap count size (overlaid_paints v.view (r (lump_bytes contents files.dir.lumps)).scene v.layers))
 fits_for contents count k files files' scene scene' size size' r r' f s z e fits =
     rw (← e (lump_bytes contents files.dir.lumps), ← f, ← s, ← z) fits
 
@@ -54,7 +57,7 @@ module _ (r : ViewsValue) (Fits : ℕ → Type 0) where
   due_over n over below within is fits =
       subst (λ (o : Option ℕ). (k : ℕ) → k < unwrap_or o (length r.views) → Fits k) (sym (some_over r n over below within is)) fits
 
-  due_by_status : {format : Format} {n : ℕ} {old : List ℕ → Type 0} (mid new : List ℕ → Type 0) (steady : Bool) (status : Status) → Rendered format r n old mid → n < length r.views → ViewEnds steady format r n mid new (Err status) → IsEnd status →
+  due_by_status : {form : ViewForm} {n : ℕ} {old : List ℕ → Type 0} (mid new : List ℕ → Type 0) (steady : Bool) (status : Status) → Rendered form r n old mid → n < length r.views → ViewEnds steady form r n mid new (Err status) → IsEnd status →
       ((k : ℕ) → k < n → Fits k) → (k : ℕ) → k < unwrap_or (first_over r) (length r.views) → Fits k
   due_by_status mid new steady Done so_far below ends is fits = absurd ends
   due_by_status mid new steady Usage so_far below ends is fits = absurd is
@@ -66,8 +69,8 @@ module _ (r : ViewsValue) (Fits : ℕ → Type 0) where
   due_by_status mid new steady OutOfMemory so_far below ends is fits = absurd is
 
   -- the view of that number is the first that is over
-  pub due_stops : {format : Format} {n : ℕ} {old : List ℕ → Type 0} (mid new : List ℕ → Type 0) (steady : Bool) (result : Result (Unit {0}) Status) (status : Status) → Rendered format r n old mid → n < length r.views → ViewEnds steady format r n mid new result → result ≡ Err status → IsEnd status →
+  pub due_stops : {form : ViewForm} {n : ℕ} {old : List ℕ → Type 0} (mid new : List ℕ → Type 0) (steady : Bool) (result : Result (Unit {0}) Status) (status : Status) → Rendered form r n old mid → n < length r.views → ViewEnds steady form r n mid new result → result ≡ Err status → IsEnd status →
       ((k : ℕ) → k < n → Fits k) → (k : ℕ) → k < unwrap_or (first_over r) (length r.views) → Fits k
-  due_stops {format} {n} mid new steady result status so_far below ends was is fits =
-      let now : ViewEnds steady format r n mid new (Err status) = rw was at ends in
+  due_stops {form} {n} mid new steady result status so_far below ends was is fits =
+      let now : ViewEnds steady form r n mid new (Err status) = rw was at ends in
       due_by_status mid new steady status so_far below now is fits

@@ -2,7 +2,7 @@
 use Rattle.std.proofs.Common.{◌≡◌, ◌<◌, ◌≤◌, ◌+◌, ◌-◌, ℕ, zero, suc, Bool, true, IsTrue, List, [], ◌∷◌, ◌++◌, length, take, drop, get_or, Option, Some, None, is_some, option_map, option_and_then, slice_get, unwrap_or, Result, Ok, Err, IfErr, IfSome, OnOk, refl, ap, sym, ◌∙◌, subst, arith, add-one, append-nil, inl, inr}
 use Rattle.std.specs.Option.{option_map_or}
 use Rattle.std.proofs.lemmas.Bool.{cases_lt}
-use Rattle.std.proofs.lemmas.Option.{slice_get-map, slice_get_within, get_or_from_slice_get}
+use Rattle.std.proofs.lemmas.Option.{slice_get_within, get_or_from_slice_get}
 use Rattle.std.proofs.Math.Seq.{take-suc}
 use Rattle.word_rules.specs.Least.{least}
 use Rattle.word_rules.specs.Listed.{joined_lists}
@@ -11,12 +11,11 @@ use Rattle.word_rules.proofs.ListedLemmas.{joined_lists-append}
 use Rattle.outside.specs.Sink.{Grew, GrewByPrefix, Writes}
 use Rattle.outside.proofs.WriteLemmas.{grew_none, grew_more, grew_partly, grew_whole, prefix_of_more}
 use Rattle.view_rules.specs.declared.Eye.{Eye}
-use Rattle.view_rules.specs.View.{ViewValue, view_of}
+use Rattle.view_rules.specs.View.{view_of}
 use Rattle.picture_rules.specs.declared.OverLimit.{OverLimit}
-use Rattle.picture_rules.specs.Picture.{picture}
 use Rattle.picture_rules.specs.Counts.{view_over}
 use Rattle.texture_build.specs.Draws.{IsNoReadFault}
-use Rattle.command_line.specs.declared.command.Format.{Format}
+use Rattle.level_audit.specs.scene_load.Loads.{loaded_value}
 use Rattle.frame_core.specs.declared.fault.ViewFault.{ViewFault}
 use Rattle.frame_core.specs.declared.fault.ViewFault.TheVariants as fault
 use Rattle.frame_core.specs.Faults.{limit_of_view, view_fault}
@@ -25,10 +24,15 @@ use Rattle.job_files.specs.declared.status.Status.{Status}
 use Rattle.job_files.specs.declared.status.Status.TheVariants.{Done, Usage, Refused, ReadFault, WriteFault, Limit, ZoneFull, OutOfMemory}
 use Rattle.doom_run.specs.declared.render.ReadyViews.{ReadyViews}
 use Rattle.doom_run.specs.Ends.{RendersAt}
-use Rattle.doom_run.specs.Frames.{IsPictureAt, ViewEnds, frame_at, status_of_view}
+use Rattle.doom_run.specs.declared.canvas.ViewCanvas.{ViewCanvas}
+use Rattle.doom_run.specs.declared.canvas.ViewForm.{ViewForm}
+use Rattle.doom_run.specs.Frames.{IsDrawnAt, ViewEnds, canvas_bytes, form_of, frame_at, status_of_view}
+use Rattle.doom_run.specs.Layers.{SeenView, eye_of, seen_view}
 use Rattle.doom_run.specs.Renders.{ready_views}
 use Rattle.doom_run.specs.Verdict.{rendered}
-use Rattle.doom_run.specs.Views.{ViewsValue, due_views, end_at, eye_of, first_over, frame_bytes, limit_at, frames_of, over_at, rendered_bytes}
+use Rattle.doom_run.specs.Views.{ViewsValue, due_views, end_at, first_over, limit_at, frames_of, over_at, rendered_bytes, view_bytes}
+use Rattle.doom_run.proofs.LimitLemmas.{seen_by}
+use Rattle.doom_run.proofs.SeenLemmas.{seen_at}
 
 none_within : {X : Type 0} (xs : List X) (n : ℕ) → n < length xs → slice_get xs n ≡ None → ⊥
 none_within [] n below e = absurd (omega (arith, below))
@@ -41,112 +45,113 @@ mapped_twice f g (Some x) y e = ap (option_map g) e
 
 -- the view of a number is that of its viewpoint
 pub view_get : (bytes : ℕ → List ℕ) (ready : ReadyViews) (k : ℕ) (eye : Eye) → option_map eye_of (slice_get ready.loaded.files.path k) ≡ Some eye →
-    slice_get (ready_views bytes ready).views k ≡ Some (view_of ready.loaded.files.tables eye)
-unfolding ready_views
+    slice_get (ready_views bytes ready).views k ≡ Some (seen_by (loaded_value ready.loaded) k eye)
+unfolding ready_views seen_view
 view_get bytes ready k eye e =
-    slice_get-map (λ row. view_of ready.loaded.files.tables (eye_of row)) ready.loaded.files.path k
-    ∙ mapped_twice eye_of (view_of ready.loaded.files.tables) (slice_get ready.loaded.files.path k) eye e
+    seen_at (seen_view (loaded_value ready.loaded)) k ready.loaded.files.path
+    ∙ mapped_twice eye_of (λ (e : Eye). seen_by (loaded_value ready.loaded) k e) (slice_get ready.loaded.files.path k) eye e
 
--- the picture of a viewpoint is that of the number
-pub picture_at : (bytes : ℕ → List ℕ) (ready : ReadyViews) (k : ℕ) (eye : Eye) (cells : List ℕ) → option_map eye_of (slice_get ready.loaded.files.path k) ≡ Some eye →
-    cells ≡ picture (view_of ready.loaded.files.tables eye) (scene_of bytes ready.loaded.scene.scene) → IsPictureAt (ready_views bytes ready) k cells
+-- what was drawn of a viewpoint is that of the number
+pub drawn_at : (bytes : ℕ → List ℕ) (ready : ReadyViews) (k : ℕ) (eye : Eye) (c : ViewCanvas) → option_map eye_of (slice_get ready.loaded.files.path k) ≡ Some eye →
+    view_bytes (form_of c) ready.loaded.scene.scene.base.palette (scene_of bytes ready.loaded.scene.scene) (seen_by (loaded_value ready.loaded) k eye) ≡ canvas_bytes ready.loaded.scene.scene.base.palette c →
+    IsDrawnAt (ready_views bytes ready) k c
 unfolding ready_views
-picture_at bytes ready k eye cells at is =
-    ap (option_map (λ v. picture v (scene_of bytes ready.loaded.scene.scene))) (view_get bytes ready k eye at) ∙ ap (λ (xs : List ℕ). Some xs) (sym is)
+drawn_at bytes ready k eye c at is =
+    ap (option_map (view_bytes (form_of c) ready.loaded.scene.scene.base.palette (scene_of bytes ready.loaded.scene.scene))) (view_get bytes ready k eye at) ∙ ap (λ (xs : List ℕ). Some xs) is
 
 -- whether a viewpoint is over a limit is told of the number
 pub over_at-eye : (bytes : ℕ → List ℕ) (ready : ReadyViews) (k : ℕ) (eye : Eye) → option_map eye_of (slice_get ready.loaded.files.path k) ≡ Some eye →
     over_at (ready_views bytes ready) k ≡ view_over (view_of ready.loaded.files.tables eye) (scene_of bytes ready.loaded.scene.scene) ready.shop.limits
 unfolding ready_views over_at
 over_at-eye bytes ready k eye at =
-    ap (λ (o : Option ViewValue). option_and_then (λ v. view_over v (scene_of bytes ready.loaded.scene.scene) ready.shop.limits) o) (view_get bytes ready k eye at)
+    ap (λ (o : Option SeenView). option_and_then (λ s. view_over s.view (scene_of bytes ready.loaded.scene.scene) ready.shop.limits) o) (view_get bytes ready k eye at)
 
-frame_from : (f : ViewValue → List ℕ) (g : List ℕ → List ℕ) (o : Option ViewValue) (cells : List ℕ) → option_map f o ≡ Some cells → option_map_or (λ v. g (f v)) o [] ≡ g cells
-frame_from f g None cells e = absurd (cc)
-frame_from f g (Some v) cells e = let same : f v ≡ cells = cc in ap g same
+frame_from : (f : SeenView → List ℕ) (o : Option SeenView) (bytes : List ℕ) → option_map f o ≡ Some bytes → bytes ≡ option_map_or f o []
+frame_from f None bytes e = absurd (cc)
+frame_from f (Some v) bytes e = let same : f v ≡ bytes = cc in sym same
 
--- the frame that is written is that of the number
-pub frame_is : (format : Format) (r : ViewsValue) (k : ℕ) (cells : List ℕ) → IsPictureAt r k cells → frame_bytes format r.palette cells ≡ frame_at format r k
+-- what is written is that of the number
+pub frame_is : (r : ViewsValue) (k : ℕ) (c : ViewCanvas) → IsDrawnAt r k c → canvas_bytes r.palette c ≡ frame_at (form_of c) r k
 unfolding frame_at
-frame_is format r k cells at = sym (frame_from (λ v. picture v r.scene) (frame_bytes format r.palette) (slice_get r.views k) cells at)
+frame_is r k c at = frame_from (view_bytes (form_of c) r.palette r.scene) (slice_get r.views k) (canvas_bytes r.palette c) at
 
--- the frame that is written is that of the number, with the palette of the scene
-frame_of : (bytes : ℕ → List ℕ) (format : Format) (ready : ReadyViews) (k : ℕ) (palette cells : List ℕ) → palette ≡ ready.loaded.scene.scene.base.palette → IsPictureAt (ready_views bytes ready) k cells →
-    frame_bytes format palette cells ≡ frame_at format (ready_views bytes ready) k
+-- the same with the palette of the scene, and the form that the canvas had before
+frame_of : (bytes : ℕ → List ℕ) (form : ViewForm) (ready : ReadyViews) (k : ℕ) (palette : List ℕ) (c : ViewCanvas) → form_of c ≡ form → palette ≡ ready.loaded.scene.scene.base.palette → IsDrawnAt (ready_views bytes ready) k c →
+    canvas_bytes palette c ≡ frame_at form (ready_views bytes ready) k
 unfolding ready_views
-frame_of bytes format ready k palette cells same at =
-    ap (λ (p : List ℕ). frame_bytes format p cells) same ∙ frame_is format (ready_views bytes ready) k cells at
+frame_of bytes form ready k palette c kept same at =
+    ap (λ (p : List ℕ). canvas_bytes p c) same ∙ frame_is (ready_views bytes ready) k c at ∙ ap (λ (f : ViewForm). frame_at f (ready_views bytes ready) k) kept
 
 -- the view was drawn, and its frame written
-pub view_put : {E F : Type 0} {old new : List ℕ → Type 0} {i j : ℕ} (bytes : ℕ → List ℕ) (format : Format) (ready : ReadyViews) (k : ℕ) (palette cells : List ℕ) (drawn : Result (Unit {0}) E) (put : Result (Unit {0}) F) (unit unit' : Unit {0}) →
-    drawn ≡ Ok unit → put ≡ Ok unit' → palette ≡ ready.loaded.scene.scene.base.palette → OnOk drawn (IsPictureAt (ready_views bytes ready) k cells) → OnOk drawn (over_at (ready_views bytes ready) k ≡ None) →
-    Writes old new i j (frame_bytes format palette cells) put → (over_at (ready_views bytes ready) k ≡ None) × Grew old new (frame_at format (ready_views bytes ready) k)
-view_put {old = old} {new} bytes format ready k palette cells drawn put unit unit' was done same at within writes =
-    let here : IsPictureAt (ready_views bytes ready) k cells = rw was at at in
+pub view_put : {E F : Type 0} {old new : List ℕ → Type 0} {i j : ℕ} (bytes : ℕ → List ℕ) (form : ViewForm) (ready : ReadyViews) (k : ℕ) (palette : List ℕ) (c : ViewCanvas) (drawn : Result (Unit {0}) E) (put : Result (Unit {0}) F) (unit unit' : Unit {0}) →
+    drawn ≡ Ok unit → put ≡ Ok unit' → form_of c ≡ form → palette ≡ ready.loaded.scene.scene.base.palette → OnOk drawn (IsDrawnAt (ready_views bytes ready) k c) → OnOk drawn (over_at (ready_views bytes ready) k ≡ None) →
+    Writes old new i j (canvas_bytes palette c) put → (over_at (ready_views bytes ready) k ≡ None) × Grew old new (frame_at form (ready_views bytes ready) k)
+view_put {old = old} {new} bytes form ready k palette c drawn put unit unit' was done kept same at within writes =
+    let here : IsDrawnAt (ready_views bytes ready) k c = rw was at at in
     let none : over_at (ready_views bytes ready) k ≡ None = rw was at within in
-    let grew : Grew old new (frame_bytes format palette cells) = rw done at writes.ok in
-    (none, subst (Grew old new) (frame_of bytes format ready k palette cells same here) grew)
+    let grew : Grew old new (canvas_bytes palette c) = rw done at writes.ok in
+    (none, subst (Grew old new) (frame_of bytes form ready k palette c kept same here) grew)
 
 -- the view was drawn, and of its frame a prefix was written
-pub view_put_failed : {E F : Type 0} {old new : List ℕ → Type 0} {i j : ℕ} (bytes : ℕ → List ℕ) (format : Format) (ready : ReadyViews) (k : ℕ) (palette cells : List ℕ) (drawn : Result (Unit {0}) E) (put : Result (Unit {0}) F) (unit : Unit {0}) (error : F) →
-    drawn ≡ Ok unit → put ≡ Err error → palette ≡ ready.loaded.scene.scene.base.palette → OnOk drawn (IsPictureAt (ready_views bytes ready) k cells) → OnOk drawn (over_at (ready_views bytes ready) k ≡ None) →
-    Writes old new i j (frame_bytes format palette cells) put → (over_at (ready_views bytes ready) k ≡ None) × GrewByPrefix old new (frame_at format (ready_views bytes ready) k)
-view_put_failed {old = old} {new} bytes format ready k palette cells drawn put unit error was done same at within writes =
-    let here : IsPictureAt (ready_views bytes ready) k cells = rw was at at in
+pub view_put_failed : {E F : Type 0} {old new : List ℕ → Type 0} {i j : ℕ} (bytes : ℕ → List ℕ) (form : ViewForm) (ready : ReadyViews) (k : ℕ) (palette : List ℕ) (c : ViewCanvas) (drawn : Result (Unit {0}) E) (put : Result (Unit {0}) F) (unit : Unit {0}) (error : F) →
+    drawn ≡ Ok unit → put ≡ Err error → form_of c ≡ form → palette ≡ ready.loaded.scene.scene.base.palette → OnOk drawn (IsDrawnAt (ready_views bytes ready) k c) → OnOk drawn (over_at (ready_views bytes ready) k ≡ None) →
+    Writes old new i j (canvas_bytes palette c) put → (over_at (ready_views bytes ready) k ≡ None) × GrewByPrefix old new (frame_at form (ready_views bytes ready) k)
+view_put_failed {old = old} {new} bytes form ready k palette c drawn put unit error was done kept same at within writes =
+    let here : IsDrawnAt (ready_views bytes ready) k c = rw was at at in
     let none : over_at (ready_views bytes ready) k ≡ None = rw was at within in
-    let grew : GrewByPrefix old new (frame_bytes format palette cells) = rw done at writes.err in
-    (none, subst (GrewByPrefix old new) (frame_of bytes format ready k palette cells same here) grew)
+    let grew : GrewByPrefix old new (canvas_bytes palette c) = rw done at writes.err in
+    (none, subst (GrewByPrefix old new) (frame_of bytes form ready k palette c kept same here) grew)
 
 -- a fault of drawing ends the view, and nothing was written
-fails_by : (steady : Bool) (format : Format) (r : ViewsValue) (k : ℕ) (old : List ℕ → Type 0) (f : ViewFault) →
-    IfSome (limit_of_view f) (λ over. over_at r k ≡ Some over) → (IsTrue steady → IsNoReadFault (view_fault f)) → ViewEnds steady format r k old old (Err (status_of_view k f))
-fails_by steady format r k old (fault.Limit kind count) over read = (refl, over, grew_none old)
-fails_by steady format r k old (fault.ZoneFull wanted widest) over read = grew_none old
-fails_by steady format r k old fault.ReadFault over read = (read, grew_none old)
+fails_by : (steady : Bool) (form : ViewForm) (r : ViewsValue) (k : ℕ) (old : List ℕ → Type 0) (f : ViewFault) →
+    IfSome (limit_of_view f) (λ over. over_at r k ≡ Some over) → (IsTrue steady → IsNoReadFault (view_fault f)) → ViewEnds steady form r k old old (Err (status_of_view k f))
+fails_by steady form r k old (fault.Limit kind count) over read = (refl, over, grew_none old)
+fails_by steady form r k old (fault.ZoneFull wanted widest) over read = grew_none old
+fails_by steady form r k old fault.ReadFault over read = (read, grew_none old)
 
-pub view_fails : (steady : Bool) (format : Format) (r : ViewsValue) (k : ℕ) (old : List ℕ → Type 0) (drawn : Result (Unit {0}) ViewFault) (f : ViewFault) (status : Status) → drawn ≡ Err f → status ≡ status_of_view k f →
-    IfErr drawn (λ f. IfSome (limit_of_view f) (λ over. over_at r k ≡ Some over)) → (IsTrue steady → IfErr drawn (λ f. IsNoReadFault (view_fault f))) → ViewEnds steady format r k old old (Err status)
-view_fails steady format r k old drawn f status was is over read =
+pub view_fails : (steady : Bool) (form : ViewForm) (r : ViewsValue) (k : ℕ) (old : List ℕ → Type 0) (drawn : Result (Unit {0}) ViewFault) (f : ViewFault) (status : Status) → drawn ≡ Err f → status ≡ status_of_view k f →
+    IfErr drawn (λ f. IfSome (limit_of_view f) (λ over. over_at r k ≡ Some over)) → (IsTrue steady → IfErr drawn (λ f. IsNoReadFault (view_fault f))) → ViewEnds steady form r k old old (Err status)
+view_fails steady form r k old drawn f status was is over read =
     let told : IfSome (limit_of_view f) (λ over. over_at r k ≡ Some over) = rw was at over in
-    rw is (fails_by steady format r k old f told (λ t. rw was at (read t)))
+    rw is (fails_by steady form r k old f told (λ t. rw was at (read t)))
 
 -- the first n views were written, and none of them is over a limit
-pub record Rendered (format : Format) (r : ViewsValue) (n : ℕ) (old new : List ℕ → Type 0) : Type 0 where
+pub record Rendered (form : ViewForm) (r : ViewsValue) (n : ℕ) (old new : List ℕ → Type 0) : Type 0 where
   pub within : (k : ℕ) → k < n → over_at r k ≡ None
-  pub written : Grew old new (frames_of format r (take n r.views))
+  pub written : Grew old new (frames_of form r (take n r.views))
 
 -- none yet
-pub rendered-none : (format : Format) (r : ViewsValue) (old : List ℕ → Type 0) → Rendered format r 0 old old
+pub rendered-none : (form : ViewForm) (r : ViewsValue) (old : List ℕ → Type 0) → Rendered form r 0 old old
 unfolding frames_of joined_lists
-rendered-none format r old = record { within = λ k below. absurd (omega (arith, below)); written = grew_none old }
+rendered-none form r old = record { within = λ k below. absurd (omega (arith, below)); written = grew_none old }
 
-joined_more : (f : ViewValue → List ℕ) (views : List ViewValue) (n : ℕ) (v : ViewValue) → slice_get views n ≡ Some v → joined_lists f (take n views) ++ f v ≡ joined_lists f (take (n + 1) views)
+joined_more : (f : SeenView → List ℕ) (views : List SeenView) (n : ℕ) (v : SeenView) → slice_get views n ≡ Some v → joined_lists f (take n views) ++ f v ≡ joined_lists f (take (n + 1) views)
 unfolding joined_lists
 joined_more f views n v at =
     let here : get_or views n v ≡ v = get_or_from_slice_get views n v v at in
     let more : take (n + 1) views ≡ take n views ++ (v ∷ []) = rw add-one (take-suc views n v (slice_get_within views n v at) ∙ ap (λ x. take n views ++ (x ∷ [])) here) in
     sym (ap (joined_lists f) more ∙ joined_lists-append f (take n views) (v ∷ []) ∙ ap (λ xs. joined_lists f (take n views) ++ xs) (append-nil (f v)))
 
-joined_at : (f : ViewValue → List ℕ) (views : List ViewValue) (n : ℕ) (o : Option ViewValue) → n < length views → slice_get views n ≡ o → joined_lists f (take n views) ++ option_map_or f o [] ≡ joined_lists f (take (n + 1) views)
+joined_at : (f : SeenView → List ℕ) (views : List SeenView) (n : ℕ) (o : Option SeenView) → n < length views → slice_get views n ≡ o → joined_lists f (take n views) ++ option_map_or f o [] ≡ joined_lists f (take (n + 1) views)
 joined_at f views n None below at = absurd (none_within views n below at)
 joined_at f views n (Some v) below at = joined_more f views n v at
 
 -- one frame more
-frames_more : (format : Format) (r : ViewsValue) (n : ℕ) → n < length r.views → frames_of format r (take n r.views) ++ frame_at format r n ≡ frames_of format r (take (n + 1) r.views)
+frames_more : (form : ViewForm) (r : ViewsValue) (n : ℕ) → n < length r.views → frames_of form r (take n r.views) ++ frame_at form r n ≡ frames_of form r (take (n + 1) r.views)
 unfolding frames_of frame_at
-frames_more format r n below = joined_at (λ v. frame_bytes format r.palette (picture v r.scene)) r.views n (slice_get r.views n) below refl
+frames_more form r n below = joined_at (view_bytes form r.palette r.scene) r.views n (slice_get r.views n) below refl
 
 within_more : (r : ViewsValue) (n k : ℕ) → ((k : ℕ) → k < n → over_at r k ≡ None) → over_at r n ≡ None → k < n + 1 → over_at r k ≡ None
 within_more r n k within here below = elim (cases_lt k n) [ inl s ↦ within k s | inr s ↦ let same : k ≡ n = omega (arith, s, below) in ap (over_at r) same ∙ here ]
 
 -- one view more
-pub rendered-more : {format : Format} {r : ViewsValue} {n : ℕ} {old mid new : List ℕ → Type 0} (steady : Bool) (result : Result (Unit {0}) Status) (unit : Unit {0}) →
-    Rendered format r n old mid → n < length r.views → ViewEnds steady format r n mid new result → result ≡ Ok unit → Rendered format r (n + 1) old new
-rendered-more {format} {r} {n} {old} {mid} {new} steady result unit so_far below ends was =
-    let now : ViewEnds steady format r n mid new (Ok unit) = rw was at ends in
+pub rendered-more : {form : ViewForm} {r : ViewsValue} {n : ℕ} {old mid new : List ℕ → Type 0} (steady : Bool) (result : Result (Unit {0}) Status) (unit : Unit {0}) →
+    Rendered form r n old mid → n < length r.views → ViewEnds steady form r n mid new result → result ≡ Ok unit → Rendered form r (n + 1) old new
+rendered-more {form} {r} {n} {old} {mid} {new} steady result unit so_far below ends was =
+    let now : ViewEnds steady form r n mid new (Ok unit) = rw was at ends in
     record {
       within = λ k b. within_more r n k so_far.within now.0 b;
-      written = grew_more (frames_of format r (take (n + 1) r.views)) so_far.written now.1 (frames_more format r n below);
+      written = grew_more (frames_of form r (take (n + 1) r.views)) so_far.written now.1 (frames_more form r n below);
     }
 
 -- no view is over
@@ -161,9 +166,9 @@ some_over r n over below within is =
     least-some (λ k. is_some (over_at r k)) (length r.views) n below (ap (λ (o : Option OverLimit). is_some o) is) (λ k b. ap (λ (o : Option OverLimit). is_some o) (within k b))
 
 -- the frames that are due, by the first view that is over
-due_by : (format : Format) (r : ViewsValue) (o : Option ℕ) → first_over r ≡ o → frames_of format r (take (unwrap_or o (length r.views)) r.views) ≡ rendered_bytes format r
+due_by : (form : ViewForm) (r : ViewsValue) (o : Option ℕ) → first_over r ≡ o → frames_of form r (take (unwrap_or o (length r.views)) r.views) ≡ rendered_bytes form r
 unfolding due_views
-due_by format r o is = ap (λ (o : Option ℕ). frames_of format r (take (unwrap_or o (length r.views)) r.views)) (sym is)
+due_by form r o is = ap (λ (o : Option ℕ). frames_of form r (take (unwrap_or o (length r.views)) r.views)) (sym is)
 
 not_past : (r : ViewsValue) (n i : ℕ) → ((k : ℕ) → k < n → over_at r k ≡ None) → is_some (over_at r i) ≡ true → n ≤ i
 not_past r n i within passes = elim (cases_lt i n) [ inl s ↦ absurd (let none : over_at r i ≡ None = within i s in cc) | inr s ↦ omega (arith, s) ]
@@ -174,57 +179,57 @@ due_past r n (Some i) is few within =
     let found = least-is (λ k. is_some (over_at r k)) (length r.views) i is in
     not_past r n i within found.1
 
-take_more : (n d m : ℕ) (views : List ViewValue) → n + d ≡ m → take n views ++ take d (drop n views) ≡ take m views
+take_more : (n d m : ℕ) (views : List SeenView) → n + d ≡ m → take n views ++ take d (drop n views) ≡ take m views
 take_more zero d m views e = ap (λ (k : ℕ). take k views) (omega (arith, e))
 take_more (suc n) d zero views e = absurd (omega (arith, e))
 take_more (suc n) zero (suc m) [] e = refl
 take_more (suc n) (suc d) (suc m) [] e = refl
 take_more (suc n) d (suc m) (v ∷ views) e = ap (λ xs. v ∷ xs) (take_more n d m views (omega (arith, e)))
 
-frames_append : (format : Format) (r : ViewsValue) (xs ys : List ViewValue) → frames_of format r (xs ++ ys) ≡ frames_of format r xs ++ frames_of format r ys
+frames_append : (form : ViewForm) (r : ViewsValue) (xs ys : List SeenView) → frames_of form r (xs ++ ys) ≡ frames_of form r xs ++ frames_of form r ys
 unfolding frames_of
-frames_append format r xs ys = joined_lists-append (λ v. frame_bytes format r.palette (picture v r.scene)) xs ys
+frames_append form r xs ys = joined_lists-append (view_bytes form r.palette r.scene) xs ys
 
 -- the frames of views that are not over come first of those that are due
-due_front : (format : Format) (r : ViewsValue) (n : ℕ) → n ≤ length r.views → ((k : ℕ) → k < n → over_at r k ≡ None) →
-    (rest : List ℕ) × (frames_of format r (take n r.views) ++ rest ≡ rendered_bytes format r)
+due_front : (form : ViewForm) (r : ViewsValue) (n : ℕ) → n ≤ length r.views → ((k : ℕ) → k < n → over_at r k ≡ None) →
+    (rest : List ℕ) × (frames_of form r (take n r.views) ++ rest ≡ rendered_bytes form r)
 unfolding first_over due_views
-due_front format r n few within =
+due_front form r n few within =
     let m : ℕ = unwrap_or (least (λ k. is_some (over_at r k)) (length r.views)) (length r.views) in
     let le : n ≤ m = due_past r n _ refl few within in
-    (frames_of format r (take (m - n) (drop n r.views)), sym (frames_append format r (take n r.views) (take (m - n) (drop n r.views))) ∙ ap (frames_of format r) (take_more n (m - n) m r.views (omega (arith, le))))
+    (frames_of form r (take (m - n) (drop n r.views)), sym (frames_append form r (take n r.views) (take (m - n) (drop n r.views))) ∙ ap (frames_of form r) (take_more n (m - n) m r.views (omega (arith, le))))
 
 -- the last view was written
-pub render_done : {format : Format} {r : ViewsValue} {old new : List ℕ → Type 0} (steady : Bool) (n : ℕ) → n ≡ length r.views → Rendered format r n old new → RendersAt steady (rendered format r) old new Done
-render_done {format} {r} {old} {new} steady n all so_far =
+pub render_done : {form : ViewForm} {r : ViewsValue} {old new : List ℕ → Type 0} (steady : Bool) (n : ℕ) → n ≡ length r.views → Rendered form r n old new → RendersAt steady (rendered form r) old new Done
+render_done {form} {r} {old} {new} steady n all so_far =
     let within : (k : ℕ) → k < length r.views → over_at r k ≡ None = λ k below. so_far.within k (omega (arith, all, below)) in
     let none : first_over r ≡ None = none_over r within in
-    let due : frames_of format r (take n r.views) ≡ rendered_bytes format r = ap (λ (m : ℕ). frames_of format r (take m r.views)) all ∙ due_by format r None none in
+    let due : frames_of form r (take n r.views) ≡ rendered_bytes form r = ap (λ (m : ℕ). frames_of form r (take m r.views)) all ∙ due_by form r None none in
     (ap (end_at r) none, subst (Grew old new) due so_far.written)
 
 -- a prefix of what is due was written, where the n-th view wrote nothing
-stopped_before : {format : Format} {r : ViewsValue} {n : ℕ} {old mid new : List ℕ → Type 0} → Rendered format r n old mid → n < length r.views → Grew mid new [] → GrewByPrefix old new (rendered_bytes format r)
-stopped_before {format} {r} {n} so_far below none =
-    let front = due_front format r n (omega (arith, below)) so_far.within in
-    prefix_of_more front.0 (rendered_bytes format r) (grew_whole (grew_more (frames_of format r (take n r.views)) so_far.written none (append-nil _))) front.1
+stopped_before : {form : ViewForm} {r : ViewsValue} {n : ℕ} {old mid new : List ℕ → Type 0} → Rendered form r n old mid → n < length r.views → Grew mid new [] → GrewByPrefix old new (rendered_bytes form r)
+stopped_before {form} {r} {n} so_far below none =
+    let front = due_front form r n (omega (arith, below)) so_far.within in
+    prefix_of_more front.0 (rendered_bytes form r) (grew_whole (grew_more (frames_of form r (take n r.views)) so_far.written none (append-nil _))) front.1
 
 -- and where it wrote a prefix of its frame
-stopped_within : {format : Format} {r : ViewsValue} {n : ℕ} {old mid new : List ℕ → Type 0} → Rendered format r n old mid → n < length r.views → over_at r n ≡ None → GrewByPrefix mid new (frame_at format r n) → GrewByPrefix old new (rendered_bytes format r)
-stopped_within {format} {r} {n} so_far below here part =
-    let front = due_front format r (n + 1) (omega (arith, below)) (λ k b. within_more r n k so_far.within here b) in
-    prefix_of_more front.0 (rendered_bytes format r) (grew_partly (frames_of format r (take (n + 1) r.views)) so_far.written part (frames_more format r n below)) front.1
+stopped_within : {form : ViewForm} {r : ViewsValue} {n : ℕ} {old mid new : List ℕ → Type 0} → Rendered form r n old mid → n < length r.views → over_at r n ≡ None → GrewByPrefix mid new (frame_at form r n) → GrewByPrefix old new (rendered_bytes form r)
+stopped_within {form} {r} {n} so_far below here part =
+    let front = due_front form r (n + 1) (omega (arith, below)) (λ k b. within_more r n k so_far.within here b) in
+    prefix_of_more front.0 (rendered_bytes form r) (grew_partly (frames_of form r (take (n + 1) r.views)) so_far.written part (frames_more form r n below)) front.1
 
 -- the n-th view is the first that is over
-stopped_over : {format : Format} {r : ViewsValue} {n : ℕ} {old mid new : List ℕ → Type 0} (steady : Bool) (view : ℕ) (over : OverLimit) → Rendered format r n old mid → n < length r.views → view ≡ n → over_at r n ≡ Some over → Grew mid new [] →
-    RendersAt steady (rendered format r) old new (Limit view over.kind over.count)
-stopped_over {format} {r} {n} {old} {mid} {new} steady view over so_far below same is none =
+stopped_over : {form : ViewForm} {r : ViewsValue} {n : ℕ} {old mid new : List ℕ → Type 0} (steady : Bool) (view : ℕ) (over : OverLimit) → Rendered form r n old mid → n < length r.views → view ≡ n → over_at r n ≡ Some over → Grew mid new [] →
+    RendersAt steady (rendered form r) old new (Limit view over.kind over.count)
+stopped_over {form} {r} {n} {old} {mid} {new} steady view over so_far below same is none =
     let first : first_over r ≡ Some n = some_over r n over below so_far.within is in (
       ap (end_at r) first ∙ ap (limit_at n) is ∙ ap (λ (k : ℕ). Limit k over.kind over.count) (sym same),
-      grew_more (rendered_bytes format r) so_far.written none (append-nil _ ∙ due_by format r (Some n) first),
+      grew_more (rendered_bytes form r) so_far.written none (append-nil _ ∙ due_by form r (Some n) first),
     )
 
-ends_by : {format : Format} {r : ViewsValue} {n : ℕ} {old : List ℕ → Type 0} (mid new : List ℕ → Type 0) (steady : Bool) (status : Status) → Rendered format r n old mid → n < length r.views →
-    ViewEnds steady format r n mid new (Err status) → RendersAt steady (rendered format r) old new status
+ends_by : {form : ViewForm} {r : ViewsValue} {n : ℕ} {old : List ℕ → Type 0} (mid new : List ℕ → Type 0) (steady : Bool) (status : Status) → Rendered form r n old mid → n < length r.views →
+    ViewEnds steady form r n mid new (Err status) → RendersAt steady (rendered form r) old new status
 ends_by mid new steady Done so_far below ends = absurd ends
 ends_by mid new steady Usage so_far below ends = absurd ends
 ends_by mid new steady (Refused refusal) so_far below ends = absurd ends
@@ -235,8 +240,8 @@ ends_by mid new steady (ZoneFull wanted widest) so_far below ends = stopped_befo
 ends_by mid new steady OutOfMemory so_far below ends = absurd ends
 
 -- the n-th view ends the rendering
-pub render_stops : {format : Format} {r : ViewsValue} {n : ℕ} {old : List ℕ → Type 0} (mid new : List ℕ → Type 0) (steady : Bool) (result : Result (Unit {0}) Status) (status : Status) → Rendered format r n old mid → n < length r.views →
-    ViewEnds steady format r n mid new result → result ≡ Err status → RendersAt steady (rendered format r) old new status
-render_stops {format} {r} {n} {old} mid new steady result status so_far below ends was =
-    let now : ViewEnds steady format r n mid new (Err status) = rw was at ends in
+pub render_stops : {form : ViewForm} {r : ViewsValue} {n : ℕ} {old : List ℕ → Type 0} (mid new : List ℕ → Type 0) (steady : Bool) (result : Result (Unit {0}) Status) (status : Status) → Rendered form r n old mid → n < length r.views →
+    ViewEnds steady form r n mid new result → result ≡ Err status → RendersAt steady (rendered form r) old new status
+render_stops {form} {r} {n} {old} mid new steady result status so_far below ends was =
+    let now : ViewEnds steady form r n mid new (Err status) = rw was at ends in
     ends_by mid new steady status so_far below now

@@ -7,6 +7,7 @@ use Rattle.outside.specs.Stops.{no_file}
 use Rattle.command_line.specs.Commands.{CommandValue, command_of, exercise, level_job}
 use Rattle.command_line.specs.LevelJobs.{LevelJobValue}
 use Rattle.command_line.specs.declared.command.Format.{Format}
+use Rattle.doom_run.specs.declared.canvas.ViewForm.TheVariants as form
 use Rattle.command_line.specs.declared.command.LevelTask.{LevelTask}
 use Rattle.command_line.specs.declared.command.LevelTask.TheVariants.{Render, Audit, Limits, Trim, Trace}
 use Rattle.command_line.specs.declared.command.Settings.{Settings}
@@ -61,15 +62,6 @@ accepted_load next accept (Ok loaded) accepted e = (loaded, refl, cc)
 accepted_load next accept (Err files.absent) accepted e = absurd (cc)
 accepted_load next accept (Err (files.stopped refusal)) accepted e = absurd (cc)
 
--- a job without a weapon over its frames
-absent_built : (b : Bool) (r : Result Accepted RunStop) → cond b (Err usage) r ≡ Err absent → r ≡ Err absent
-absent_built true r e = absurd (cc)
-absent_built false r e = e
-
-accepted_built : (b : Bool) (r : Result Accepted RunStop) (accepted : Accepted) → cond b (Err usage) r ≡ Ok accepted → r ≡ Ok accepted
-accepted_built true r accepted e = absurd (cc)
-accepted_built false r accepted e = e
-
 -- the views tell how large a zone has to be for what was loaded
 views_sizes : (bytes : ℕ → List ℕ) (settings : Settings) (loaded : LoadedValue) → (views_of bytes settings loaded).sizes ≡ loaded_sizes loaded
 unfolding views_of
@@ -90,21 +82,21 @@ module _ (level : LevelJobValue) (wads : List (List ℕ)) (held : List File) whe
 
   -- where a job over a level meets an absent file, loading does
   level_absent : (job : LevelTask) → level_verdict job level wads held ≡ Err absent → load_in level wads held ≡ Err files.absent
-  level_absent (Render format) e = absent_load views_in (rendered format) (load_in level wads held) (absent_built _ _ e)
+  level_absent (Render format) e = absent_load views_in (rendered (form.Frame format)) (load_in level wads held) e
   level_absent Audit e = absent_load loaded_sizes audited (load_in level wads held) e
   level_absent Limits e = absent_load views_in counted (load_in level wads held) e
   level_absent Trim e = absurd (cc)
-  level_absent Trace e = absurd (cc)
+  level_absent Trace e = absent_load views_in (rendered form.Trace) (load_in level wads held) e
 
   -- one that accepts has loaded
   level_loaded : (job : LevelTask) (accepted : Accepted) → level_verdict job level wads held ≡ Ok accepted → HasLoaded accepted
-  level_loaded (Render format) accepted e = views_enough (rendered format) accepted (λ views. refl) (accepted_built _ _ accepted e)
+  level_loaded (Render format) accepted e = views_enough (rendered (form.Frame format)) accepted (λ views. refl) e
   level_loaded Audit accepted e =
       let p : (loaded : LoadedValue) × (load_in level wads held ≡ Ok loaded) × (audited (loaded_sizes loaded) ≡ accepted) = accepted_load loaded_sizes audited (load_in level wads held) accepted e in
       (p.0, p.1, sym (ap (λ (a : Accepted). enough_for a) p.2))
   level_loaded Limits accepted e = views_enough counted accepted (λ views. refl) e
   level_loaded Trim accepted e = absurd (cc)
-  level_loaded Trace accepted e = absurd (cc)
+  level_loaded Trace accepted e = views_enough (rendered form.Trace) accepted (λ views. refl) e
 
 -- the same level over the same files is loaded alike
 same_load : (level made : LevelJobValue) (wads others : List (List ℕ)) (held given : List File) → level ≡ made → wads ≡ others → held ≡ given → load_in level wads held ≡ load_in made others given
@@ -163,8 +155,13 @@ pub render_full : {wanted widest' : ℕ} (format : Format) (level : LevelJobValu
 render_full format level wads held (inl load) = level_full (Render format) level wads held load
 render_full format level wads held (inr draw) = record { level = level; wads = wads; own_files = held; is = inl ((Render format, refl), refl); full = inr (inl (format, level, wads, refl), draw) }
 
+pub trace_full : {wanted widest' : ℕ} (level : LevelJobValue) (wads : List (List ℕ)) (held : List File) → IsFullLoad level wads held wanted widest' ⊎ IsFullDraw level wads held wanted widest' →
+    IsFullRun (level_job Trace level wads) held wanted widest'
+trace_full level wads held (inl load) = level_full Trace level wads held load
+trace_full level wads held (inr draw) = record { level = level; wads = wads; own_files = held; is = inl ((Trace, refl), refl); full = inr (inr (inl (level, wads, refl)), draw) }
+
 -- and for an exercise
 pub exercise_full : {wanted widest' : ℕ} (n zone : ℕ) (format : Format) (held : List File) → IsFullLoad (made_level zone) made_wads (made_files n) wanted widest' ⊎ IsFullDraw (made_level zone) made_wads (made_files n) wanted widest' →
     IsFullRun (exercise n zone format) held wanted widest'
 exercise_full n zone format held (inl load) = record { level = made_level zone; wads = made_wads; own_files = made_files n; is = inr (n, format, refl, refl, refl, refl); full = inl load }
-exercise_full n zone format held (inr draw) = record { level = made_level zone; wads = made_wads; own_files = made_files n; is = inr (n, format, refl, refl, refl, refl); full = inr (inr (n, zone, format, refl), draw) }
+exercise_full n zone format held (inr draw) = record { level = made_level zone; wads = made_wads; own_files = made_files n; is = inr (n, format, refl, refl, refl, refl); full = inr (inr (inr (n, zone, format, refl)), draw) }

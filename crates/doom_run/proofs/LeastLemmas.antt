@@ -13,11 +13,10 @@ use Rattle.lump_rules.specs.Lookups.{last_of, lump_at}
 use Rattle.lump_cache.specs.Named.{IsLast}
 use Rattle.zone_rules.specs.Zones.{block_size}
 use Rattle.art_rules.specs.declared.TheConstants.{PNAMES, TEXTURE1, TEXTURE2}
-use Rattle.view_rules.specs.View.{ViewValue}
 use Rattle.pixel_rules.specs.declared.Painter.{Painter}
 use Rattle.pixel_rules.specs.declared.TheConstants.{COMPOSITE, LUMP}
 use Rattle.pixel_rules.specs.Dots.{Dot}
-use Rattle.picture_rules.specs.Paints.{view_paints}
+use Rattle.picture_rules.specs.Paints.{overlaid_paints}
 use Rattle.picture_rules.specs.Scene.{Scene}
 use Rattle.texture_lists.specs.Asked.{IsListLump}
 use Rattle.texture_build.specs.Draws.{FitBeside, FitsBeside}
@@ -38,6 +37,7 @@ use Rattle.level_audit.specs.scene_load.Loads.{LoadedValue, load_in, loaded_valu
 use Rattle.level_audit.proofs.scene_load.AuditedLemmas.{audited_by}
 use Rattle.level_audit.proofs.scene_load.LoadLemmas.{audited_of}
 use Rattle.doom_run.specs.declared.render.ReadyViews.{ReadyViews}
+use Rattle.doom_run.specs.Layers.{SeenView}
 use Rattle.doom_run.specs.Leasts.{base_block, block_beside, is_base_lump, least_loading, least_over, least_views, level_least, painted_block, source_block}
 use Rattle.doom_run.specs.Renders.{FitDue, IsReady, ready_views}
 use Rattle.doom_run.specs.Views.{ViewsValue, due_views, first_over, views_of}
@@ -89,10 +89,10 @@ module _ (lumps : List Lump) (textures : TexturesView) (colormap zone : ℕ) (le
   dots_beside [] fit = tt
   dots_beside (d ∷ dots) fit = (source_beside d.painter fit.0, dots_beside dots fit.1)
 
-  view_beside : (scene : Scene) (v : ViewValue) → FitBeside lumps textures colormap (lump_at lumps colormap).size zone (view_paints v scene) → lump_block lumps colormap + painted_block lumps textures colormap scene v ≤ zone
+  view_beside : (scene : Scene) (v : SeenView) → FitBeside lumps textures colormap (lump_at lumps colormap).size zone (overlaid_paints v.view scene v.layers) → lump_block lumps colormap + painted_block lumps textures colormap scene v ≤ zone
   unfolding painted_block
   view_beside scene v fit =
-      greatest_beside (λ (d : Dot). source_block lumps textures colormap d.painter) (lump_block lumps colormap) zone least (view_paints v scene) (dots_beside (view_paints v scene) fit)
+      greatest_beside (λ (d : Dot). source_block lumps textures colormap d.painter) (lump_block lumps colormap) zone least (overlaid_paints v.view scene v.layers) (dots_beside (overlaid_paints v.view scene v.layers) fit)
 
 -- a list of textures is one by its name
 last_named : (o : Option ℕ) (lump : ℕ) → option_map_or (λ n. n == lump) o false ≡ true → o ≡ Some lump
@@ -166,7 +166,7 @@ module _ (level : LevelJobValue) (wads : List (List ℕ)) (files : List File) (l
   loaded_room = colormap_room loaded.files.lumps level.map_name loaded.scene.base (loaded_base level wads files loaded is) level.settings.zone beside
 
   -- the greatest of the base, and of the views that are drawn
-  over_room : (scene : Scene) (views : List ViewValue) → lump_block loaded.files.lumps loaded.scene.base.colormap
+  over_room : (scene : Scene) (views : List SeenView) → lump_block loaded.files.lumps loaded.scene.base.colormap
       + greatest_by (painted_block loaded.files.lumps (textures_view loaded.scene) loaded.scene.base.colormap scene) views ≤ level.settings.zone → least_over loaded scene views ≤ level.settings.zone
   unfolding least_over
   over_room scene views drawn = omega (arith, drawn, base_room loaded.files.lumps level.map_name loaded.scene.base (loaded_base level wads files loaded is) level.settings.zone beside)
@@ -204,13 +204,13 @@ least_render level wads files format ready is stands within fit =
     subst (λ n. n ≤ level.settings.zone) (ap (λ (v : ViewsValue). least_views (Render format) loaded v) (sym (ready_as bytes level ready stands)) ∙ least_is level wads files loaded is within (Render format))
     (over_room level wads files loaded is within r.scene (due_views r) drawn)
   where
-    views_beside : (level : LevelJobValue) (ready : ReadyViews) → IsReady level ready → lump_block ready.loaded.files.dir.lumps ready.loaded.scene.scene.base.colormap ≤ level.settings.zone → (r : ViewsValue) (o : Option ViewValue) →
-        IfSome o (λ v. FitBeside ready.loaded.files.dir.lumps (textures_view ready.loaded.scene.scene) ready.loaded.scene.scene.base.colormap (lump_at ready.loaded.files.dir.lumps ready.loaded.scene.scene.base.colormap).size ready.loaded.cache.size (view_paints v r.scene)) →
+    views_beside : (level : LevelJobValue) (ready : ReadyViews) → IsReady level ready → lump_block ready.loaded.files.dir.lumps ready.loaded.scene.scene.base.colormap ≤ level.settings.zone → (r : ViewsValue) (o : Option SeenView) →
+        IfSome o (λ v. FitBeside ready.loaded.files.dir.lumps (textures_view ready.loaded.scene.scene) ready.loaded.scene.scene.base.colormap (lump_at ready.loaded.files.dir.lumps ready.loaded.scene.scene.base.colormap).size ready.loaded.cache.size (overlaid_paints v.view r.scene v.layers)) →
         IfSome o (λ v. lump_block ready.loaded.files.dir.lumps ready.loaded.scene.scene.base.colormap + painted_block ready.loaded.files.dir.lumps (textures_view ready.loaded.scene.scene) ready.loaded.scene.scene.base.colormap r.scene v ≤ level.settings.zone)
     views_beside level ready stands room r None fits = tt
     views_beside level ready stands room r (Some v) fits =
         view_beside ready.loaded.files.dir.lumps (textures_view ready.loaded.scene.scene) ready.loaded.scene.scene.base.colormap level.settings.zone room r.scene v
-        (subst (λ (n : ℕ). FitBeside ready.loaded.files.dir.lumps (textures_view ready.loaded.scene.scene) ready.loaded.scene.scene.base.colormap (lump_at ready.loaded.files.dir.lumps ready.loaded.scene.scene.base.colormap).size n (view_paints v r.scene)) stands.zone fits)
+        (subst (λ (n : ℕ). FitBeside ready.loaded.files.dir.lumps (textures_view ready.loaded.scene.scene) ready.loaded.scene.scene.base.colormap (lump_at ready.loaded.files.dir.lumps ready.loaded.scene.scene.base.colormap).size n (overlaid_paints v.view r.scene v.layers)) stands.zone fits)
 
 -- the same, told of the contents of the WADs that are named
 pub least_rendered : (level : LevelJobValue) (wads : List (List ℕ)) (files : List File) (format : Format) (ready : ReadyViews) → load_in level wads files ≡ Ok (loaded_value ready.loaded) → IsReady level ready →

@@ -5,10 +5,13 @@ pub mod EndLemmas
 pub mod FitLemmas
 pub mod FrameLemmas
 pub mod FullLemmas
+pub mod LayerLemmas
 pub mod LeastLemmas
 pub mod LimitLemmas
 pub mod MadeLemmas
+pub mod PictureLemmas
 pub mod ReadyLemmas
 pub mod RunLemmas
+pub mod SeenLemmas
 pub mod TakeLemmas
 pub mod TallyLemmas

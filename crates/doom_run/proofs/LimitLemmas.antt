@@ -1,24 +1,26 @@
 -- The lines of the views of a path, one after the other.
 use Rattle.std.proofs.Common.{◌≡◌, ◌≤◌, ◌<◌, ℕ, zero, suc, ◌+◌, ◌-◌, List, [], ◌∷◌, ◌++◌, length, Some, None, Result, Ok, get_or, refl, subst, ap, sym, ◌∙◌, arith, append_assoc, append-nil}
 use Rattle.std.specs.Prelude.{slice_get, option_map}
-use Rattle.std.proofs.lemmas.List.{length-map}
-use Rattle.std.proofs.lemmas.Option.{slice_get-map, slice_get-get_or}
+use Rattle.std.proofs.lemmas.Option.{slice_get-get_or}
 use Rattle.outside.specs.Sink.{Grew, GrewByPrefix, Writes}
 use Rattle.outside.proofs.WriteLemmas.{prefix_of_more, writes_none, writes_then}
 use Rattle.word_rules.specs.Listed.{listed, joined_lists}
 use Rattle.word_rules.proofs.ListedLemmas.{joined_lists-append, joined_lists-cons, listed-more}
 use Rattle.view_rules.specs.declared.Eye.{Eye}
-use Rattle.view_rules.specs.View.{ViewValue, view_of}
+use Rattle.view_rules.specs.View.{view_of}
 use Rattle.csv_tables.specs.declared.path.PathRow.{PathRow}
 use Rattle.picture_rules.specs.declared.Limits.{Limits}
 use Rattle.picture_rules.specs.declared.Counts.{Counts}
 use Rattle.picture_rules.specs.declared.OverLimit.{OverLimit}
 use Rattle.picture_rules.specs.Counts.{view_counts, view_over}
 use Rattle.level_audit.specs.declared.scene_load.load.LoadedScene.{LoadedScene}
+use Rattle.level_audit.specs.scene_load.Loads.{LoadedValue, loaded_value}
 use Rattle.frame_core.specs.Scenes.{scene_of}
 use Rattle.doom_run.specs.declared.render.ReadyViews.{ReadyViews}
 use Rattle.doom_run.specs.Renders.{ready_views}
-use Rattle.doom_run.specs.Views.{ViewsValue, counted_bytes, counts_line, eye_of, first_lines, view_line_at, over_line, view_line}
+use Rattle.doom_run.specs.Layers.{SeenView, eye_of, layers_of, seen_view}
+use Rattle.doom_run.specs.Views.{ViewsValue, counted_bytes, counts_line, first_lines, view_line_at, over_line, view_line}
+use Rattle.doom_run.proofs.SeenLemmas.{seen_at, seen_from-length}
 
 -- before the first view there is no line
 pub lines_none : (r : ViewsValue) → [] ≡ first_lines r 0
@@ -75,42 +77,49 @@ pub all_written : {E F : Type 0} {a b c : List ℕ → Type 0} {i j k : ℕ} {la
 all_written {E} {F} {a} {c} {i} {k} {last} r now n e first next unit was =
     subst (λ (v : Result (Unit {0}) F). Writes a c i k (first_lines r (n + 1)) v) was (more_written {E = E} {F = F} r now n e first next)
 
+-- a view of a number by its viewpoint
+abbrev pub seen_by : LoadedValue → ℕ → Eye → SeenView
+seen_by loaded k eye = record {
+  view = view_of loaded.files.tables eye;
+  layers = layers_of loaded k eye;
+}
+
 -- the view at a place of the path
 pub view_at : (bytes : ℕ → List ℕ) (ready : ReadyViews) (number : ℕ) (eye : Eye) (d : PathRow) (rows : List PathRow) →
     number < length ready.loaded.files.path → rows ≡ ready.loaded.files.path → eye ≡ eye_of (get_or rows number d) →
-    slice_get (ready_views bytes ready).views number ≡ Some (view_of ready.loaded.files.tables eye)
-unfolding ready_views
+    slice_get (ready_views bytes ready).views number ≡ Some (seen_by (loaded_value ready.loaded) number eye)
+unfolding ready_views seen_view
 view_at bytes ready number eye d rows l same is =
-    slice_get-map (λ (row : PathRow). view_of ready.loaded.files.tables (eye_of row)) ready.loaded.files.path number
-    ∙ ap (option_map (λ (row : PathRow). view_of ready.loaded.files.tables (eye_of row))) (slice_get-get_or ready.loaded.files.path number d l)
-    ∙ ap (λ (e : Eye). Some (view_of ready.loaded.files.tables e)) (ap (λ (rows : List PathRow). eye_of (get_or rows number d)) (sym same) ∙ sym is)
+    seen_at (seen_view (loaded_value ready.loaded)) number ready.loaded.files.path
+    ∙ ap (option_map (seen_view (loaded_value ready.loaded) number)) (slice_get-get_or ready.loaded.files.path number d l)
+    ∙ ap (λ (e : Eye). Some (seen_by (loaded_value ready.loaded) number e)) (ap (λ (rows : List PathRow). eye_of (get_or rows number d)) (sym same) ∙ sym is)
 
 -- there are as many views as rows of the path
 pub length_views : (bytes : ℕ → List ℕ) (ready : ReadyViews) → length (ready_views bytes ready).views ≡ length ready.loaded.files.path
 unfolding ready_views
-length_views bytes ready = length-map ready.loaded.files.path (λ (row : PathRow). view_of ready.loaded.files.tables (eye_of row))
+length_views bytes ready = seen_from-length (seen_view (loaded_value ready.loaded)) 0 ready.loaded.files.path
 
-line_counted : (r : ViewsValue) (number : ℕ) (v : ViewValue) (counts : Counts) →
-    counts ≡ view_counts v r.scene → view_over v r.scene r.limits ≡ None → counts_line number counts ≡ view_line r number v
+line_counted : (r : ViewsValue) (number : ℕ) (v : SeenView) (counts : Counts) →
+    counts ≡ view_counts v.view r.scene → view_over v.view r.scene r.limits ≡ None → counts_line number counts ≡ view_line r number v
 unfolding view_line
 line_counted r number v counts e w = rw (w, e) refl
 
-line_over : (r : ViewsValue) (number : ℕ) (v : ViewValue) (over : OverLimit) →
-    view_over v r.scene r.limits ≡ Some over → over_line number over ≡ view_line r number v
+line_over : (r : ViewsValue) (number : ℕ) (v : SeenView) (over : OverLimit) →
+    view_over v.view r.scene r.limits ≡ Some over → over_line number over ≡ view_line r number v
 unfolding view_line
 line_over r number v over w = rw w refl
 
 -- the line of a view that is within its limits
-pub line_of_counts : (bytes : ℕ → List ℕ) (ready : ReadyViews) (number : ℕ) (v : ViewValue) (counts : Counts) →
-    slice_get (ready_views bytes ready).views number ≡ Some v → counts ≡ view_counts v (scene_of bytes ready.loaded.scene.scene) →
-    view_over v (scene_of bytes ready.loaded.scene.scene) ready.shop.limits ≡ None →
+pub line_of_counts : (bytes : ℕ → List ℕ) (ready : ReadyViews) (number : ℕ) (v : SeenView) (counts : Counts) →
+    slice_get (ready_views bytes ready).views number ≡ Some v → counts ≡ view_counts v.view (scene_of bytes ready.loaded.scene.scene) →
+    view_over v.view (scene_of bytes ready.loaded.scene.scene) ready.shop.limits ≡ None →
     counts_line number counts ≡ view_line_at (ready_views bytes ready) number (slice_get (ready_views bytes ready).views number)
 unfolding ready_views
 line_of_counts bytes ready number v counts s e w = line_counted (ready_views bytes ready) number v counts e w ∙ ap (view_line_at (ready_views bytes ready) number) (sym s)
 
 -- the line of a view that is over one
-pub line_of_over : (bytes : ℕ → List ℕ) (ready : ReadyViews) (number : ℕ) (v : ViewValue) (over : OverLimit) →
-    slice_get (ready_views bytes ready).views number ≡ Some v → view_over v (scene_of bytes ready.loaded.scene.scene) ready.shop.limits ≡ Some over →
+pub line_of_over : (bytes : ℕ → List ℕ) (ready : ReadyViews) (number : ℕ) (v : SeenView) (over : OverLimit) →
+    slice_get (ready_views bytes ready).views number ≡ Some v → view_over v.view (scene_of bytes ready.loaded.scene.scene) ready.shop.limits ≡ Some over →
     over_line number over ≡ view_line_at (ready_views bytes ready) number (slice_get (ready_views bytes ready).views number)
 unfolding ready_views
 line_of_over bytes ready number v over s w = line_over (ready_views bytes ready) number v over w ∙ ap (view_line_at (ready_views bytes ready) number) (sym s)

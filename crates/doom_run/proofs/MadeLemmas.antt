@@ -10,7 +10,6 @@ use Rattle.outside.specs.declared.fault.Fault.TheVariants as fault
 use Rattle.outside.specs.Stops.{Stop, absent, stopped, else_absent, no_file, FaultFitsOrAbsent}
 use Rattle.lump_rules.specs.Contents.{lump_bytes}
 use Rattle.lump_rules.specs.Names.{filled, name_of}
-use Rattle.view_rules.specs.View.{view_of}
 use Rattle.csv_tables.specs.declared.fault.CsvRefusal.{CsvRefusal}
 use Rattle.csv_tables.specs.declared.fault.CsvRefusal.TheVariants.{TooMany}
 use Rattle.csv_tables.specs.declared.path.PathRow.{PathRow}
@@ -39,7 +38,8 @@ use Rattle.doom_run.specs.declared.exercise.Summary.{Summary}
 use Rattle.doom_run.specs.declared.render.ReadyViews.{ReadyViews}
 use Rattle.doom_run.specs.Exercises.{ExercisesAt, StopsAt, exercise_verdict, made_files, made_level, made_wads}
 use Rattle.doom_run.specs.Renders.{ready_views}
-use Rattle.doom_run.specs.Views.{ViewsValue, eye_of, limits_of_settings, views_of, views_verdict}
+use Rattle.doom_run.specs.Layers.{seen_views}
+use Rattle.doom_run.specs.Views.{ViewsValue, limits_of_settings, views_of, views_verdict}
 
 -- both steps of a table were passed
 then_ok : {A B : Type 0} (first : Result A CsvRefusal) (next : A → Result B CsvRefusal) (value : B) → then_checked first next ≡ Ok value → (found : A) × (first ≡ Ok found) × (next found ≡ Ok value)
@@ -197,7 +197,7 @@ unfolding views_of ready_views
 within_limits bytes settings ready l =
     let made : Limits → ViewsValue = λ limits. record {
       scene = scene_of bytes ready.loaded.scene.scene;
-      views = map (λ (row : PathRow). view_of ready.loaded.files.tables (eye_of row)) ready.loaded.files.path;
+      views = seen_views (loaded_value ready.loaded);
       limits = limits;
       palette = ready.loaded.scene.scene.base.palette;
       sizes = loaded_sizes (loaded_value ready.loaded);

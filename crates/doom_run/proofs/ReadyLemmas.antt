@@ -1,6 +1,6 @@
 -- What stays while views are drawn.
-use Rattle.std.proofs.Common.{◌≡◌, ◌⊎◌, ℕ, Bool, List, Option, Result, length, map, refl, ap, ◌∙◌, subst, inl, inr}
-use Rattle.std.proofs.lemmas.List.{length-map}
+use Rattle.std.proofs.Common.{◌≡◌, ◌⊎◌, ℕ, Bool, List, Option, Result, length, refl, ap, ◌∙◌, subst, inl, inr}
+use Rattle.std.specs.Prelude.{Contains}
 use Rattle.outside.specs.Shelf.{ShelfView}
 use Rattle.zone_rules.specs.Zones.{Heap}
 use Rattle.art_rules.specs.declared.shapes.Frame.{Frame}
@@ -8,7 +8,6 @@ use Rattle.picture_rules.specs.declared.Limits.{Limits}
 use Rattle.lump_rules.specs.declared.wad.Lump.{Lump}
 use Rattle.lump_rules.specs.Contents.{lump_bytes}
 use Rattle.wad_dir.specs.DirectoryView.{DirectoryView}
-use Rattle.view_rules.specs.View.{view_of}
 use Rattle.lump_cache.specs.Caches.{KeepsCounts}
 use Rattle.lump_cache.specs.Calls.{IsFullFor}
 use Rattle.texture_build.specs.Asked.{IsPatch, IsSmall, IsSmallBeside, size_of}
@@ -19,8 +18,7 @@ use Rattle.texture_build.proofs.DrawLemmas.{holds_art-later, keeps_art-none, kee
 use Rattle.sound_scene.specs.Sound.{SoundValue, textures_view}
 use Rattle.job_files.specs.declared.read.SceneFiles.{SceneFiles}
 use Rattle.job_files.specs.Files.{value_of}
-use Rattle.level_audit.specs.scene_load.Loads.{loaded_sizes}
-use Rattle.command_line.specs.declared.command.Format.{Format}
+use Rattle.level_audit.specs.scene_load.Loads.{loaded_sizes, loaded_value, weapon_lumps}
 use Rattle.frame_core.specs.Scenes.{scene_of}
 use Rattle.frame_core.specs.Views.{CanDrawView, IsViewLump, IsViewTexture}
 use Rattle.frame_core.proofs.PaintLemmas.{can_draw_view-later}
@@ -28,7 +26,10 @@ use Rattle.job_files.specs.declared.status.Status.{Status}
 use Rattle.doom_run.specs.declared.render.ReadyViews.{ReadyViews}
 use Rattle.doom_run.specs.Frames.{KeepsReady, ViewEnds}
 use Rattle.doom_run.specs.Renders.{IsFullView, ready_views}
-use Rattle.doom_run.specs.Views.{ViewsValue, eye_of}
+use Rattle.doom_run.specs.declared.canvas.ViewForm.{ViewForm}
+use Rattle.doom_run.specs.Layers.{seen_view, seen_views}
+use Rattle.doom_run.specs.Views.{ViewsValue}
+use Rattle.doom_run.proofs.SeenLemmas.{seen_from-length}
 
 -- nothing was drawn
 pub keeps_ready-none : (view : ShelfView) (ready : ReadyViews) → KeepsReady view view ready ready
@@ -63,7 +64,7 @@ drawable-later {x = x} {y} keeps can = can_for x.loaded.files y.loaded.files x.l
 abbrev views_with : (ℕ → List ℕ) → SceneFiles → SoundValue → Option (List Frame) → Limits → ViewsValue
 views_with bytes files scene weapons limits = record {
   scene = scene_of bytes scene.scene;
-  views = map (λ row. view_of files.tables (eye_of row)) files.path;
+  views = seen_views (record { files = value_of files; scene = scene.scene; weapons = weapons });
   limits = limits;
   palette = scene.scene.base.palette;
   sizes = loaded_sizes (record { files = value_of files; scene = scene.scene; weapons = weapons });
@@ -120,31 +121,32 @@ full_lump-first wanted widest keeps full = record {
   room = λ colormap count rest. subst (λ (n : ℕ). IsSmall n count wanted) keeps.counts.0 (full.room colormap count (keeps.rest colormap count rest));
 }
 
-full_view-first : {a b : ShelfView} {y z : Heap} (files files' : SceneFiles) (scene scene' : SoundValue) (wanted widest : ℕ) → files' ≡ files → scene' ≡ scene → KeepsArt a b files.dir (textures_view scene.scene) y z →
-    (IsFullForTexture (IsViewTexture scene'.scene) files'.dir.lumps (textures_view scene'.scene) z wanted widest ⊎ IsFullFor (IsViewLump files'.dir.lumps scene'.scene) files'.dir z wanted widest) →
-    (IsFullForTexture (IsViewTexture scene.scene) files.dir.lumps (textures_view scene.scene) y wanted widest ⊎ IsFullFor (IsViewLump files.dir.lumps scene.scene) files.dir y wanted widest)
-full_view-first files files' scene scene' wanted widest f s keeps (inl full) = inl (full_texture-first wanted widest keeps (rw (← f, ← s) full))
-full_view-first files files' scene scene' wanted widest f s keeps (inr full) = inr (full_lump-first wanted widest keeps (rw (← f, ← s) full))
+full_view-first : {a b : ShelfView} {y z : Heap} (files files' : SceneFiles) (scene scene' : SoundValue) (weapons weapons' : Option (List Frame)) (wanted widest : ℕ) → files' ≡ files → scene' ≡ scene → weapons' ≡ weapons → KeepsArt a b files.dir (textures_view scene.scene) y z →
+    (IsFullForTexture (IsViewTexture scene'.scene) files'.dir.lumps (textures_view scene'.scene) z wanted widest ⊎ IsFullFor (IsViewLump files'.dir.lumps scene'.scene) files'.dir z wanted widest ⊎ IsFullFor (λ lump. Contains (weapon_lumps weapons') lump) files'.dir z wanted widest) →
+    (IsFullForTexture (IsViewTexture scene.scene) files.dir.lumps (textures_view scene.scene) y wanted widest ⊎ IsFullFor (IsViewLump files.dir.lumps scene.scene) files.dir y wanted widest ⊎ IsFullFor (λ lump. Contains (weapon_lumps weapons) lump) files.dir y wanted widest)
+full_view-first files files' scene scene' weapons weapons' wanted widest f s w keeps (inl full) = inl (full_texture-first wanted widest keeps (rw (← f, ← s) full))
+full_view-first files files' scene scene' weapons weapons' wanted widest f s w keeps (inr (inl full)) = inr (inl (full_lump-first wanted widest keeps (rw (← f, ← s) full)))
+full_view-first files files' scene scene' weapons weapons' wanted widest f s w keeps (inr (inr full)) = inr (inr (full_lump-first wanted widest keeps (rw (← f, ← w) full)))
 
 -- a zone that was full later was so from the beginning
 pub full-first : {a b : ShelfView} {x y : ReadyViews} (wanted widest : ℕ) → KeepsReady a b x y → IsFullView y wanted widest → IsFullView x wanted widest
 full-first {x = x} {y} wanted widest keeps full =
-    full_view-first x.loaded.files y.loaded.files x.loaded.scene y.loaded.scene wanted widest keeps.files keeps.scene keeps.art full
+    full_view-first x.loaded.files y.loaded.files x.loaded.scene y.loaded.scene x.loaded.weapons y.loaded.weapons wanted widest keeps.files keeps.scene keeps.weapons keeps.art full
 
 -- there are as many views as rows of the path
 pub views_count : (bytes : ℕ → List ℕ) (ready : ReadyViews) → length (ready_views bytes ready).views ≡ length ready.loaded.files.path
 unfolding ready_views
-views_count bytes ready = length-map ready.loaded.files.path (λ row. view_of ready.loaded.files.tables (eye_of row))
+views_count bytes ready = seen_from-length (seen_view (loaded_value ready.loaded)) 0 ready.loaded.files.path
 
-ends_for : (format : Format) (n : ℕ) (old new : List ℕ → Type 0) (result : Result (Unit {0}) Status) (steady steady' : Bool) (lumps lumps' : List Lump) (contents : List (List ℕ)) (r r' : (ℕ → List ℕ) → ViewsValue) →
+ends_for : (form : ViewForm) (n : ℕ) (old new : List ℕ → Type 0) (result : Result (Unit {0}) Status) (steady steady' : Bool) (lumps lumps' : List Lump) (contents : List (List ℕ)) (r r' : (ℕ → List ℕ) → ViewsValue) →
     steady' ≡ steady → lumps' ≡ lumps → ((bytes : ℕ → List ℕ) → r' bytes ≡ r bytes) →
-    ViewEnds steady' format (r' (lump_bytes contents lumps')) n old new result → ViewEnds steady format (r (lump_bytes contents lumps)) n old new result
-ends_for format n old new result steady steady' lumps lumps' contents r r' s l e ends =
+    ViewEnds steady' form (r' (lump_bytes contents lumps')) n old new result → ViewEnds steady form (r (lump_bytes contents lumps)) n old new result
+ends_for form n old new result steady steady' lumps lumps' contents r r' s l e ends =
     rw (← s, ← e (lump_bytes contents lumps), ← l) ends
 
 -- how a view ends is told of the views as they were first
-pub view_ends-later : {a b : ShelfView} {x y : ReadyViews} (format : Format) (n : ℕ) (old new : List ℕ → Type 0) (result : Result (Unit {0}) Status) (contents : List (List ℕ)) → KeepsReady a b x y →
-    ViewEnds b.steady format (ready_views (lump_bytes contents y.loaded.files.dir.lumps) y) n old new result → ViewEnds a.steady format (ready_views (lump_bytes contents x.loaded.files.dir.lumps) x) n old new result
-view_ends-later {a} {b} {x} {y} format n old new result contents keeps ends =
-    ends_for format n old new result a.steady b.steady x.loaded.files.dir.lumps y.loaded.files.dir.lumps contents (λ bytes. ready_views bytes x) (λ bytes. ready_views bytes y) keeps.art.follows.steady
+pub view_ends-later : {a b : ShelfView} {x y : ReadyViews} (form : ViewForm) (n : ℕ) (old new : List ℕ → Type 0) (result : Result (Unit {0}) Status) (contents : List (List ℕ)) → KeepsReady a b x y →
+    ViewEnds b.steady form (ready_views (lump_bytes contents y.loaded.files.dir.lumps) y) n old new result → ViewEnds a.steady form (ready_views (lump_bytes contents x.loaded.files.dir.lumps) x) n old new result
+view_ends-later {a} {b} {x} {y} form n old new result contents keeps ends =
+    ends_for form n old new result a.steady b.steady x.loaded.files.dir.lumps y.loaded.files.dir.lumps contents (λ bytes. ready_views bytes x) (λ bytes. ready_views bytes y) keeps.art.follows.steady
     (ap (λ (files : SceneFiles). files.dir.lumps) keeps.files) (λ bytes. views-later bytes keeps) ends

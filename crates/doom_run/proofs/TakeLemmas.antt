@@ -1,5 +1,6 @@
 -- How many bytes are read while a zone stays in order.
-use Rattle.std.proofs.Common.{◌≡◌, ◌≤◌, ◌+◌, ℕ, List, Some, Result, Ok, Err, refl, arith, MatchResult}
+use Rattle.std.proofs.Common.{◌≡◌, ◌≤◌, ◌+◌, ℕ, List, Option, Some, Result, Ok, Err, refl, arith, MatchResult, ◌⊎◌, inl, inr}
+use Rattle.std.specs.Prelude.{Contains}
 use Rattle.outside.specs.Causes.{FaultsRose}
 use Rattle.outside.specs.Shelf.{File, ShelfView}
 use Rattle.outside.specs.Faults.{HasCauses, itself}
@@ -13,10 +14,11 @@ use Rattle.sound_scene.specs.Sound.{SoundValue, textures_view}
 use Rattle.command_line.specs.LevelJobs.{LevelJobValue}
 use Rattle.refusals.specs.declared.refusal.Refusal.{Refusal}
 use Rattle.job_files.specs.declared.read.SceneFiles.{SceneFiles}
-use Rattle.level_audit.specs.scene_load.Loads.{LoadedValue, load_in, loaded_sizes}
+use Rattle.level_audit.specs.scene_load.Loads.{LoadedValue, load_in, loaded_sizes, weapon_lumps}
 use Rattle.job_files.specs.Files.{files_named}
 use Rattle.job_files.specs.Sizes.{files_size}
 use Rattle.level_audit.specs.scene_load.Orders.{IsLoadedInOrder, loaded_items, lumps_size}
+use Rattle.art_rules.specs.declared.shapes.Frame.{Frame}
 use Rattle.level_audit.proofs.scene_load.OrderLemmas.{items_read}
 use Rattle.frame_core.specs.declared.fault.ViewFault.{ViewFault}
 use Rattle.frame_core.specs.declared.fault.ViewFault.TheVariants as view
@@ -26,7 +28,7 @@ use Rattle.job_files.specs.declared.status.Status.{Status}
 use Rattle.job_files.specs.declared.status.Status.TheVariants.{Done, Usage, Refused, ReadFault, WriteFault, Limit, ZoneFull, OutOfMemory}
 use Rattle.doom_run.specs.declared.render.ReadyViews.{ReadyViews}
 use Rattle.doom_run.specs.Frames.{KeepsReady, status_of_view}
-use Rattle.doom_run.specs.Renders.{HasReadyAsked}
+use Rattle.doom_run.specs.Renders.{HasReadyAsked, IsLayerLump}
 use Rattle.doom_run.specs.Takes.{InOrderAfter, LoadsOnce, TakesOnce}
 use Rattle.doom_run.proofs.EndLemmas.{loaded_named}
 
@@ -53,16 +55,25 @@ drawn_after P k drawn f status was is order =
     let now : InOrderAt (view_fault f) P = rw was at order in
     rw is (fault_after P k f now)
 
+layers_for : (items : List Item) (files files' : SceneFiles) (weapons weapons' : Option (List Frame)) → files' ≡ files → weapons' ≡ weapons →
+    HasAll items files.dir (λ lump. Contains (weapon_lumps weapons) lump) → HasAll items files'.dir (λ lump. Contains (weapon_lumps weapons') lump)
+layers_for items files files' weapons weapons' f w asked = rw (f, w) asked
+
 asked_for : (items : List Item) (files files' : SceneFiles) (scene scene' : SoundValue) → files' ≡ files → scene' ≡ scene →
     HasTexturesAsked items (IsViewTexture scene.scene) files.dir.lumps (textures_view scene.scene) × HasAll items files.dir (IsViewLump files.dir.lumps scene.scene) →
     HasTexturesAsked items (IsViewTexture scene'.scene) files'.dir.lumps (textures_view scene'.scene) × HasAll items files'.dir (IsViewLump files'.dir.lumps scene'.scene)
 asked_for items files files' scene scene' f s asked = rw (f, s) asked
 
+-- the list has what a view and its layers ask for
+pub both_asked : (ready : ReadyViews) (items : List Item) → HasReadyAsked items ready → HasAll items ready.loaded.files.dir (λ lump. IsViewLump ready.loaded.files.dir.lumps ready.loaded.scene.scene lump ⊎ IsLayerLump ready.loaded lump)
+both_asked ready items asked lump (inl seen) = asked.lumps lump seen
+both_asked ready items asked lump (inr layer) = asked.layers lump layer
+
 -- the list has what later views ask for
 pub asked-later : {a b : ShelfView} {x y : ReadyViews} (items : List Item) → KeepsReady a b x y → HasReadyAsked items x → HasReadyAsked items y
 asked-later {x = x} {y} items keeps asked =
     let both = asked_for items x.loaded.files y.loaded.files x.loaded.scene y.loaded.scene keeps.files keeps.scene (asked.textures, asked.lumps) in
-    record { textures = both.0; lumps = both.1 }
+    record { textures = both.0; lumps = both.1; layers = layers_for items x.loaded.files y.loaded.files x.loaded.weapons y.loaded.weapons keeps.files keeps.weapons asked.layers }
 
 -- no read failed
 loaded_fault : {i j : ℕ} (before after : ℕ) (level : LevelJobValue) (wads : List (List ℕ)) (files : List File) (expected : LoadedValue) (f : Fault Refusal) → (FaultsRose i j → ⊥) → HasCauses {B = Unit {0}} itself i j (Err f) →

@@ -10,12 +10,13 @@ use Rattle.outside.specs.TallySink.{IsTallyOf, Tally}
 use Rattle.word_rules.specs.Listed.{joined_lists}
 use Rattle.word_rules.proofs.LeastLemmas.{least-is}
 use Rattle.word_rules.proofs.ListedLemmas.{length-listed}
-use Rattle.view_rules.specs.View.{ViewValue}
+use Rattle.doom_run.specs.declared.canvas.ViewForm.TheVariants.{Frame}
+use Rattle.doom_run.specs.Layers.{SeenView}
 use Rattle.pixel_rules.specs.declared.TheConstants.{FRAME_CELLS}
 use Rattle.frame_writer.specs.Ppm.{colour, ppm, ppm_header}
 use Rattle.picture_rules.specs.declared.LimitKind.{LimitKind}
 use Rattle.picture_rules.specs.declared.OverLimit.{OverLimit}
-use Rattle.picture_rules.specs.Picture.{frame_dots, frame_of, picture}
+use Rattle.picture_rules.specs.Picture.{frame_dots, frame_of, overlaid_picture}
 use Rattle.picture_rules.specs.Scene.{Scene}
 use Rattle.command_line.specs.declared.command.Format.{Format}
 use Rattle.command_line.specs.declared.command.Format.TheVariants.{Index, Ppm}
@@ -29,8 +30,8 @@ use Rattle.doom_run.specs.Verdict.{rendered}
 use Rattle.doom_run.specs.Views.{ViewsValue, due_views, end_at, first_over, frame_bytes, frames_of, limit_at, over_at, rendered_bytes, rendered_end}
 
 -- a picture has a byte for each cell
-length_picture : (v : ViewValue) (scene : Scene) → length (picture v scene) ≡ FRAME_CELLS
-unfolding picture frame_of frame_dots
+length_picture : (v : SeenView) (scene : Scene) → length (overlaid_picture v.view scene v.layers) ≡ FRAME_CELLS
+unfolding overlaid_picture frame_of frame_dots
 length_picture v scene = length-map _ _ ∙ length-listed _ FRAME_CELLS
 
 -- three bytes for each index
@@ -52,23 +53,23 @@ length_ppm frame palette =
     let c = length_colours palette frame in omega (arith, a, b, c)
 
 -- the bytes of a frame as it is written
-length_frame : (format : Format) (palette : List ℕ) (v : ViewValue) (scene : Scene) → length (frame_bytes format palette (picture v scene)) ≡ frame_size format
+length_frame : (format : Format) (palette : List ℕ) (v : SeenView) (scene : Scene) → length (frame_bytes format palette (overlaid_picture v.view scene v.layers)) ≡ frame_size format
 length_frame Index palette v scene = length_picture v scene
 length_frame Ppm palette v scene =
-    let a = length_ppm (picture v scene) palette in let b = length_picture v scene in omega (arith, a, b)
+    let a = length_ppm (overlaid_picture v.view scene v.layers) palette in let b = length_picture v scene in omega (arith, a, b)
 
 -- the bytes of frames
-length_frames : (format : Format) (r : ViewsValue) (views : List ViewValue) → length (frames_of format r views) ≡ length views * frame_size format
+length_frames : (format : Format) (r : ViewsValue) (views : List SeenView) → length (frames_of (Frame format) r views) ≡ length views * frame_size format
 unfolding frames_of joined_lists
 length_frames format r [] = omega arith
 length_frames Index r (v ∷ views) =
     let e = length_frames Index r views in
     let f = length_frame Index r.palette v r.scene in
-    let n = length-append (frame_bytes Index r.palette (picture v r.scene)) (frames_of Index r views) in omega (arith, e, f, n)
+    let n = length-append (frame_bytes Index r.palette (overlaid_picture v.view r.scene v.layers)) (frames_of (Frame Index) r views) in omega (arith, e, f, n)
 length_frames Ppm r (v ∷ views) =
     let e = length_frames Ppm r views in
     let f = length_frame Ppm r.palette v r.scene in
-    let n = length-append (frame_bytes Ppm r.palette (picture v r.scene)) (frames_of Ppm r views) in omega (arith, e, f, n)
+    let n = length-append (frame_bytes Ppm r.palette (overlaid_picture v.view r.scene v.layers)) (frames_of (Frame Ppm) r views) in omega (arith, e, f, n)
 
 -- all views are due where none is over
 due_all : (r : ViewsValue) → first_over r ≡ None → due_views r ≡ r.views
@@ -98,8 +99,8 @@ tally_of {new} {bytes} e grew =
     first.each [] (record { count = refl; sum = refl })
 
 -- the line of frames that were all rendered
-line_of_frames : (n frames : ℕ) (format : Format) (r : ViewsValue) (tally : Tally) → frames ≡ length r.views → first_over r ≡ None → IsTallyOf tally (rendered_bytes format r) →
-    exercise_line n (length (due_views r)) (rendered_bytes format r)
+line_of_frames : (n frames : ℕ) (format : Format) (r : ViewsValue) (tally : Tally) → frames ≡ length r.views → first_over r ≡ None → IsTallyOf tally (rendered_bytes (Frame format) r) →
+    exercise_line n (length (due_views r)) (rendered_bytes (Frame format) r)
     ≡ summary_line (record { sectors = 4 * n * n; views = 3 * n; frames = frames; bytes = frames * frame_size format; sum = tally.sum })
 unfolding exercise_line
 line_of_frames n frames format r tally count none counted =
@@ -109,14 +110,14 @@ line_of_frames n frames format r tally count none counted =
     ++ (labelled (codes " frames ") f
     ++ (labelled (codes " bytes ") b
     ++ (labelled (codes " sum ") s ++ codes "\n")))) in
-    let due : length (due_views r) ≡ frames = ap (λ (vs : List ViewValue). length vs) (due_all r none) ∙ sym count in
-    let size : length (rendered_bytes format r) ≡ frames * frame_size format = length_frames format r (due_views r) ∙ ap (λ k. k * frame_size format) due in
-    ap (λ f. line f (length (rendered_bytes format r)) (sum (rendered_bytes format r) % 2 ^ 64)) due
-    ∙ ap (λ b. line frames b (sum (rendered_bytes format r) % 2 ^ 64)) size
+    let due : length (due_views r) ≡ frames = ap (λ (vs : List SeenView). length vs) (due_all r none) ∙ sym count in
+    let size : length (rendered_bytes (Frame format) r) ≡ frames * frame_size format = length_frames format r (due_views r) ∙ ap (λ k. k * frame_size format) due in
+    ap (λ f. line f (length (rendered_bytes (Frame format) r)) (sum (rendered_bytes (Frame format) r) % 2 ^ 64)) due
+    ∙ ap (λ b. line frames b (sum (rendered_bytes (Frame format) r) % 2 ^ 64)) size
     ∙ ap (λ s. line frames (frames * frame_size format) s) counted.sum
 
 -- all frames were rendered, and this is the summary
-done_exercise : (n frames : ℕ) (format : Format) (r : ViewsValue) (tally : Tally) → frames ≡ length r.views → rendered_end r ≡ Done → IsTallyOf tally (rendered_bytes format r) →
+done_exercise : (n frames : ℕ) (format : Format) (r : ViewsValue) (tally : Tally) → frames ≡ length r.views → rendered_end r ≡ Done → IsTallyOf tally (rendered_bytes (Frame format) r) →
     IsExercised n format (Ok r) (summary_line (record { sectors = 4 * n * n; views = 3 * n; frames = frames; bytes = frames * frame_size format; sum = tally.sum })) Done
 done_exercise n frames format r tally count done counted =
     let none : first_over r ≡ None = none_over r (first_over r) refl done in
@@ -125,7 +126,7 @@ done_exercise n frames format r tally count done counted =
 -- the same of a summary that is told field by field
 pub finished_exercise : (n frames : ℕ) (format : Format) (r : ViewsValue) (tally : Tally) (summary : Summary) →
     summary ≡ record { sectors = 4 * n * n; views = 3 * n; frames = frames; bytes = frames * frame_size format; sum = tally.sum } →
-    frames ≡ length r.views → rendered_end r ≡ Done → IsTallyOf tally (rendered_bytes format r) → IsExercised n format (Ok r) (summary_line summary) Done
+    frames ≡ length r.views → rendered_end r ≡ Done → IsTallyOf tally (rendered_bytes (Frame format) r) → IsExercised n format (Ok r) (summary_line summary) Done
 finished_exercise n frames format r tally summary e count done counted =
     subst (λ (s : Summary). IsExercised n format (Ok r) (summary_line s) Done) (sym e) (done_exercise n frames format r tally count done counted)
 
@@ -135,7 +136,7 @@ same_status a b e = cc
 
 -- a rendering into a tally over a steady shelf ends with the last view, at a limit, or with a full zone
 pub stopped_exercise : (n : ℕ) (format : Format) (r : ViewsValue) (steady : Bool) (old new : List ℕ → Type 0) (status : Status) → (status ≡ Done → ⊥) → IsTrue steady →
-    RendersAt steady (rendered format r) old new status → (status ≡ WriteFault → FaultsRose 0 0) → StopsAt n format (Ok r) status
+    RendersAt steady (rendered (Frame format) r) old new status → (status ≡ WriteFault → FaultsRose 0 0) → StopsAt n format (Ok r) status
 stopped_exercise n format r steady old new Done on s h w = on refl
 stopped_exercise n format r steady old new Usage on s h w = absurd h
 stopped_exercise n format r steady old new (Refused reason) on s h w = absurd h

@@ -11,6 +11,7 @@ use Rattle.refusals.specs.Lines.{labelled}
 use Rattle.job_files.specs.declared.status.Status.{Status}
 use Rattle.job_files.specs.declared.status.Status.TheVariants.{Done, Usage, Refused, ReadFault, WriteFault, Limit, ZoneFull, OutOfMemory}
 use Rattle.job_files.specs.Made.{made_file}
+use Rattle.doom_run.specs.declared.canvas.ViewForm.TheVariants.{Frame}
 use Rattle.doom_run.specs.declared.exercise.Summary.{Summary}
 use Rattle.doom_run.specs.Views.{ViewsValue, due_views, first_over, rendered_bytes, rendered_end, views_verdict}
 
@@ -56,7 +57,7 @@ summary_line s =
 
 -- nothing is written where a made view is over a limit
 abbrev pub line_unless : ℕ → Format → ViewsValue → Option ℕ → List ℕ
-line_unless n format r None = exercise_line n (length (due_views r)) (rendered_bytes format r)
+line_unless n format r None = exercise_line n (length (due_views r)) (rendered_bytes (Frame format) r)
 line_unless n format r (Some view) = []
 
 abbrev pub exercised_bytes : ℕ → Format → ViewsValue → List ℕ

@@ -5,22 +5,39 @@ use Rattle.outside.specs.Shelf.{ShelfView}
 use Rattle.outside.specs.Sink.{Grew, GrewByPrefix}
 use Rattle.texture_build.specs.Draws.{KeepsArt}
 use Rattle.sound_scene.specs.Sound.{textures_view}
-use Rattle.picture_rules.specs.Picture.{picture}
-use Rattle.command_line.specs.declared.command.Format.{Format}
+use Rattle.frame_writer.specs.Ppm.{ppm}
+use Rattle.pixel_trace.specs.Traces.{cells_bytes}
+use Rattle.command_line.specs.declared.command.Format.TheVariants.{Index, Ppm}
 use Rattle.frame_core.specs.declared.fault.ViewFault.{ViewFault}
 use Rattle.frame_core.specs.declared.fault.ViewFault.TheVariants as fault
 use Rattle.job_files.specs.declared.status.Status.{Status}
 use Rattle.job_files.specs.declared.status.Status.TheVariants.{Done, Usage, Refused, ReadFault, WriteFault, Limit, ZoneFull, OutOfMemory}
 use Rattle.doom_run.specs.declared.render.ReadyViews.{ReadyViews}
-use Rattle.doom_run.specs.Views.{ViewsValue, frame_bytes, over_at}
+use Rattle.doom_run.specs.declared.canvas.ViewCanvas.{ViewCanvas}
+use Rattle.doom_run.specs.declared.canvas.ViewCanvas.TheVariants as canvas
+use Rattle.doom_run.specs.declared.canvas.ViewForm.{ViewForm}
+use Rattle.doom_run.specs.declared.canvas.ViewForm.TheVariants as form
+use Rattle.doom_run.specs.Views.{ViewsValue, over_at, view_bytes}
 
--- these cells are the picture of view number k, which is there
-abbrev pub IsPictureAt : ViewsValue → ℕ → List ℕ → Type 0
-IsPictureAt r k cells = option_map (λ v. picture v r.scene) (slice_get r.views k) ≡ Some cells
+-- what is written of a canvas
+abbrev pub canvas_bytes : List ℕ → ViewCanvas → List ℕ
+canvas_bytes palette (canvas.Index frame) = frame.cells
+canvas_bytes palette (canvas.Ppm frame) = ppm frame.cells palette
+canvas_bytes palette (canvas.Trace frame) = cells_bytes frame.cells
 
--- the frame of view number k as it is written, nothing where there is no such view
-unfoldable pub frame_at : Format → ViewsValue → ℕ → List ℕ
-frame_at format r k = option_map_or (λ v. frame_bytes format r.palette (picture v r.scene)) (slice_get r.views k) []
+-- the form of the views that are drawn on it
+abbrev pub form_of : ViewCanvas → ViewForm
+form_of (canvas.Index frame) = form.Frame Index
+form_of (canvas.Ppm frame) = form.Frame Ppm
+form_of (canvas.Trace frame) = form.Trace
+
+-- it has what is to be written of view number k, which is there
+abbrev pub IsDrawnAt : ViewsValue → ℕ → ViewCanvas → Type 0
+IsDrawnAt r k c = option_map (view_bytes (form_of c) r.palette r.scene) (slice_get r.views k) ≡ Some (canvas_bytes r.palette c)
+
+-- what is written of view number k, nothing where there is no such view
+unfoldable pub frame_at : ViewForm → ViewsValue → ℕ → List ℕ
+frame_at f r k = option_map_or (view_bytes f r.palette r.scene) (slice_get r.views k) []
 
 -- the status of a fault of a view
 abbrev pub status_of_view : ℕ → ViewFault → Status
@@ -30,7 +47,7 @@ status_of_view view fault.ReadFault = ReadFault
 
 -- View number k of these, by what drawing and writing it answers: its frame was written, and it is not over a
 -- limit; or it is, or a fault came, and nothing was written, or of its frame only a prefix.
-abbrev pub ViewEnds : Bool → Format → ViewsValue → ℕ → (List ℕ → Type 0) → (List ℕ → Type 0) → Result (Unit {0}) Status → Type 0
+abbrev pub ViewEnds : Bool → ViewForm → ViewsValue → ℕ → (List ℕ → Type 0) → (List ℕ → Type 0) → Result (Unit {0}) Status → Type 0
 ViewEnds steady format r k old new (Ok unit) = (over_at r k ≡ None) × Grew old new (frame_at format r k)
 ViewEnds steady format r k old new (Err Done) = ⊥
 ViewEnds steady format r k old new (Err Usage) = ⊥

@@ -8,7 +8,7 @@ use Rattle.command_line.specs.Commands.{CommandValue, level_job, exercise, comma
 use Rattle.command_line.specs.LevelJobs.{LevelJobValue}
 use Rattle.command_line.specs.declared.command.Format.{Format}
 use Rattle.command_line.specs.declared.command.LevelTask.{LevelTask}
-use Rattle.command_line.specs.declared.command.LevelTask.TheVariants.{Render}
+use Rattle.command_line.specs.declared.command.LevelTask.TheVariants.{Render, Trace}
 use Rattle.scene_rules.specs.Sizes.{composite_block, is_needed, lump_block}
 use Rattle.sound_scene.specs.Sound.{art_with}
 use Rattle.level_audit.specs.scene_load.Fulls.{IsFullLoad}
@@ -54,6 +54,7 @@ IsOver command files level wads own_files =
 abbrev pub Draws : CommandValue → Type 0
 Draws command =
     ((format : Format) × (level : LevelJobValue) × (wads : List (List ℕ)) × (command ≡ level_job (Render format) level wads))
+    ⊎ ((level : LevelJobValue) × (wads : List (List ℕ)) × (command ≡ level_job Trace level wads))
     ⊎ ((n : ℕ) × (zone : ℕ) × (format : Format) × (command ≡ exercise n zone format))
 
 -- The words are a command with a zone, whose files are in order, and the zone is small: for what loading reads, or for what is drawn.

@@ -6,11 +6,10 @@ use Rattle.outside.specs.Shelf.{File}
 use Rattle.outside.specs.Stops.{Stop}
 use Rattle.lump_rules.specs.declared.wad.Lump.{Lump}
 use Rattle.zone_rules.specs.Zones.{block_size}
-use Rattle.view_rules.specs.View.{ViewValue}
 use Rattle.pixel_rules.specs.declared.Painter.{Painter}
 use Rattle.pixel_rules.specs.declared.TheConstants.{COMPOSITE, LUMP}
 use Rattle.pixel_rules.specs.Dots.{Dot}
-use Rattle.picture_rules.specs.Paints.{view_paints}
+use Rattle.picture_rules.specs.Paints.{overlaid_paints}
 use Rattle.picture_rules.specs.Scene.{Scene}
 use Rattle.texture_build.specs.Asked.{size_of}
 use Rattle.texture_build.specs.Views.{TexturesView, prepared_texture}
@@ -24,6 +23,7 @@ use Rattle.scene_rules.specs.Sizes.{greatest_by, is_list, is_map_lump, lump_bloc
 use Rattle.sound_scene.specs.Sound.{textures_view}
 use Rattle.level_audit.specs.scene_load.Loads.{LoadedValue, load_in, wad_bytes}
 use Rattle.doom_run.specs.Exercises.{made_files, made_level, made_wads}
+use Rattle.doom_run.specs.Layers.{SeenView}
 use Rattle.doom_run.specs.Views.{ViewsValue, due_views, views_of}
 
 -- PLAYPAL, a lump of the map, or a list of textures
@@ -45,25 +45,25 @@ source_block lumps textures colormap painter =
     cond (painter.source_kind == LUMP) (block_beside lumps colormap painter.source)
     (cond (painter.source_kind == COMPOSITE) (block_size (size_of (prepared_texture textures painter.source))) 0)
 
--- the greatest of those of a view's paints
-unfoldable pub painted_block : List Lump → TexturesView → ℕ → Scene → ViewValue → ℕ
-painted_block lumps textures colormap scene v =
-    greatest_by (λ (d : Dot). source_block lumps textures colormap d.painter) (view_paints v scene)
+-- the greatest of those of a view's paints, its layers' among them
+unfoldable pub painted_block : List Lump → TexturesView → ℕ → Scene → SeenView → ℕ
+painted_block lumps textures colormap scene s =
+    greatest_by (λ (d : Dot). source_block lumps textures colormap d.painter) (overlaid_paints s.view scene s.layers)
 
 -- COLORMAP, and beside it the greatest block of the base or of what these views are painted from
-unfoldable pub least_over : LoadedValue → Scene → List ViewValue → ℕ
+unfoldable pub least_over : LoadedValue → Scene → List SeenView → ℕ
 least_over loaded scene views =
     lump_block loaded.files.lumps loaded.scene.base.colormap
     + max (base_block loaded.files.lumps loaded.scene.base)
     (greatest_by (painted_block loaded.files.lumps (textures_view loaded.scene) loaded.scene.base.colormap scene) views)
 
--- the views whose frames a job draws
-abbrev pub drawn_views : LevelTask → ViewsValue → List ViewValue
+-- the views that a job draws
+abbrev pub drawn_views : LevelTask → ViewsValue → List SeenView
 drawn_views (Render format) r = due_views r
 drawn_views Audit r = []
 drawn_views Limits r = []
 drawn_views Trim r = []
-drawn_views Trace r = []
+drawn_views Trace r = due_views r
 
 -- the least of a job over what was loaded
 unfoldable pub least_views : LevelTask → LoadedValue → ViewsValue → ℕ

@@ -8,5 +8,7 @@ pub mod Renders
 pub mod Steps
 pub mod Takes
 pub mod Verdict
+pub mod Layers
 pub mod Views
 pub mod Words
+pub mod Drawn

@@ -1,5 +1,5 @@
 -- What a run comes to for its words and the files that are held.
-use Rattle.std.specs.Prelude.{ℕ, zero, cond, is_some, List, Result, Ok, Err, codes}
+use Rattle.std.specs.Prelude.{ℕ, zero, List, Result, Ok, Err, codes}
 use Rattle.outside.specs.Shelf.{File}
 use Rattle.outside.specs.Faults.{and_then, from_below}
 use Rattle.frame_writer.specs.Ppm.{ppm}
@@ -7,13 +7,16 @@ use Rattle.command_line.specs.Commands.{CommandValue, flat, level_job, make, exe
 use Rattle.command_line.specs.LevelJobs.{LevelJobValue}
 use Rattle.command_line.specs.declared.command.Format.{Format}
 use Rattle.command_line.specs.declared.command.LevelTask.{LevelTask}
-use Rattle.command_line.specs.declared.command.LevelTask.TheVariants.{Render, Audit, Limits, Trim, Trace}
+use Rattle.command_line.specs.declared.command.LevelTask.TheVariants.{Render, Audit, Limits, Trim}
+use Rattle.command_line.specs.declared.command.LevelTask.TheVariants as task
 use Rattle.scene_rules.specs.declared.ZoneSizes.{ZoneSizes}
 use Rattle.job_files.specs.declared.status.Status.{Status}
 use Rattle.job_files.specs.declared.status.Status.TheVariants.{Done}
 use Rattle.job_files.specs.Flats.{PictureValue, flat_verdict}
 use Rattle.job_files.specs.Lines.{pair_line}
 use Rattle.job_files.specs.Made.{made_file}
+use Rattle.doom_run.specs.declared.canvas.ViewForm.{ViewForm}
+use Rattle.doom_run.specs.declared.canvas.ViewForm.TheVariants.{Frame, Trace}
 use Rattle.doom_run.specs.Audits.{audit_verdict}
 use Rattle.doom_run.specs.Exercises.{exercise_verdict, exercised_bytes}
 use Rattle.doom_run.specs.Steps.{RunStop, usage, at_step, else_usage}
@@ -26,22 +29,20 @@ pub data Accepted : Type 0 where
   made_bytes : List ℕ → Accepted
   -- how large a zone has to be for a level
   audited : ZoneSizes → Accepted
-  -- the frames of the views of a path
-  rendered : Format → ViewsValue → Accepted
+  -- the frames or the traces of the views of a path
+  rendered : ViewForm → ViewsValue → Accepted
   -- the counts of these views
   counted : ViewsValue → Accepted
   -- the made files of a number, rendered and counted
   exercised : ℕ → Format → ViewsValue → Accepted
 
--- What a job over a level comes to. Frames with a weapon over them are not built: they are no command.
+-- What a job over a level comes to. `trim` is not built: it is no command.
 abbrev pub level_verdict : LevelTask → LevelJobValue → List (List ℕ) → List File → Result Accepted RunStop
-level_verdict (Render format) level wads files =
-    cond (is_some level.files.weapon) (Err usage)
-    (and_then (from_below at_step (views_verdict level wads files)) (λ views. Ok (rendered format views)))
+level_verdict (Render format) level wads files = and_then (from_below at_step (views_verdict level wads files)) (λ views. Ok (rendered (Frame format) views))
 level_verdict Audit level wads files = and_then (from_below at_step (audit_verdict level wads files)) (λ sizes. Ok (audited sizes))
 level_verdict Limits level wads files = and_then (from_below at_step (views_verdict level wads files)) (λ views. Ok (counted views))
 level_verdict Trim level wads files = Err usage
-level_verdict Trace level wads files = Err usage
+level_verdict task.Trace level wads files = and_then (from_below at_step (views_verdict level wads files)) (λ views. Ok (rendered Trace views))
 
 -- What a job comes to. A job that is not built is no command.
 abbrev pub job_verdict : CommandValue → List File → Result Accepted RunStop
@@ -60,7 +61,7 @@ abbrev pub end_of : Accepted → Status
 end_of (tiled_flat picture) = Done
 end_of (made_bytes bytes) = Done
 end_of (audited sizes) = Done
-end_of (rendered format views) = rendered_end views
+end_of (rendered form views) = rendered_end views
 end_of (counted views) = Done
 end_of (exercised count format views) = rendered_end views
 
@@ -69,7 +70,7 @@ abbrev pub output : Accepted → List ℕ
 output (tiled_flat picture) = ppm picture.frame picture.palette
 output (made_bytes bytes) = bytes
 output (audited sizes) = pair_line (codes "accepted enough ") sizes.enough (codes " roomy ") sizes.roomy
-output (rendered format views) = rendered_bytes format views
+output (rendered form views) = rendered_bytes form views
 output (counted views) = counted_bytes views
 output (exercised count format views) = exercised_bytes count format views
 
@@ -78,6 +79,6 @@ abbrev pub enough_for : Accepted → ℕ
 enough_for (tiled_flat picture) = zero
 enough_for (made_bytes bytes) = zero
 enough_for (audited sizes) = sizes.enough
-enough_for (rendered format views) = views.sizes.enough
+enough_for (rendered form views) = views.sizes.enough
 enough_for (counted views) = views.sizes.enough
 enough_for (exercised count format views) = views.sizes.enough

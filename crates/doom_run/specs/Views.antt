@@ -5,9 +5,6 @@ use Rattle.outside.specs.Faults.{and_then}
 use Rattle.outside.specs.Stops.{Stop}
 use Rattle.word_rules.specs.Least.{least}
 use Rattle.word_rules.specs.Listed.{listed, joined_lists}
-use Rattle.view_rules.specs.declared.Eye.{Eye}
-use Rattle.view_rules.specs.View.{ViewValue, view_of}
-use Rattle.csv_tables.specs.declared.path.PathRow.{PathRow}
 use Rattle.frame_writer.specs.Ppm.{ppm}
 use Rattle.command_line.specs.declared.command.Format.{Format}
 use Rattle.command_line.specs.declared.command.Format.TheVariants.{Index, Ppm}
@@ -19,34 +16,27 @@ use Rattle.picture_rules.specs.declared.Limits.{Limits}
 use Rattle.picture_rules.specs.declared.Counts.{Counts}
 use Rattle.picture_rules.specs.declared.OverLimit.{OverLimit}
 use Rattle.picture_rules.specs.Scene.{Scene}
-use Rattle.picture_rules.specs.Picture.{picture}
+use Rattle.picture_rules.specs.Picture.{overlaid_picture, overlaid_trace}
 use Rattle.picture_rules.specs.Counts.{view_counts, view_over}
 use Rattle.scene_rules.specs.declared.ZoneSizes.{ZoneSizes}
 use Rattle.level_audit.specs.scene_load.Loads.{LoadedValue, load_in, loaded_sizes, wad_bytes}
 use Rattle.frame_core.specs.Scenes.{scene_of}
+use Rattle.pixel_trace.specs.Traces.{trace_bytes}
+use Rattle.doom_run.specs.declared.canvas.ViewForm.{ViewForm}
+use Rattle.doom_run.specs.declared.canvas.ViewForm.TheVariants.{Frame, Trace}
+use Rattle.doom_run.specs.Layers.{SeenView, seen_views}
 use Rattle.job_files.specs.declared.status.Status.{Status}
 use Rattle.job_files.specs.declared.status.Status.TheVariants.{Done, Limit}
 use Rattle.job_files.specs.Lines.{limit_label}
 
--- what is seen: a scene, the views of a path, how much a view may have, the palette, and how large a
--- zone has to be
+-- what is seen: a scene, the views of a path with their layers, how much a view may have, the palette, and
+-- how large a zone has to be
 pub record ViewsValue : Type 0 where
   pub scene : Scene
-  pub views : List ViewValue
+  pub views : List SeenView
   pub limits : Limits
   pub palette : List ℕ
   pub sizes : ZoneSizes
-
--- the viewpoint of a row of the path
-abbrev pub eye_of : PathRow → Eye
-eye_of row = record {
-  x = row.x;
-  y = row.y;
-  z = row.z;
-  angle = row.angle;
-  extralight = row.extralight;
-  colormap = row.colormap;
-}
 
 abbrev pub limits_of_settings : Settings → Limits
 limits_of_settings settings = record { planes = settings.planes; openings = settings.openings }
@@ -55,7 +45,7 @@ limits_of_settings settings = record { planes = settings.planes; openings = sett
 unfoldable pub views_of : (ℕ → List ℕ) → Settings → LoadedValue → ViewsValue
 views_of bytes settings loaded = record {
   scene = scene_of bytes loaded.scene;
-  views = map (λ row. view_of loaded.files.tables (eye_of row)) loaded.files.path;
+  views = seen_views loaded;
   limits = limits_of_settings settings;
   palette = loaded.scene.base.palette;
   sizes = loaded_sizes loaded;
@@ -69,14 +59,14 @@ views_verdict level wads files =
 
 -- the first count of view number k that passes its limit, if any
 unfoldable pub over_at : ViewsValue → ℕ → Option OverLimit
-over_at r k = option_and_then (λ v. view_over v r.scene r.limits) (slice_get r.views k)
+over_at r k = option_and_then (λ s. view_over s.view r.scene r.limits) (slice_get r.views k)
 
 -- the least number of a view that is over
 unfoldable pub first_over : ViewsValue → Option ℕ
 first_over r = least (λ k. is_some (over_at r k)) (length r.views)
 
 -- the views whose frames are due: those before the first that is over
-unfoldable pub due_views : ViewsValue → List ViewValue
+unfoldable pub due_views : ViewsValue → List SeenView
 due_views r = take (unwrap_or (first_over r) (length r.views)) r.views
 
 -- a frame as it is written
@@ -84,12 +74,17 @@ abbrev pub frame_bytes : Format → List ℕ → List ℕ → List ℕ
 frame_bytes Index palette frame = frame
 frame_bytes Ppm palette frame = ppm frame palette
 
--- the frames of these views, one after the other
-unfoldable pub frames_of : Format → ViewsValue → List ViewValue → List ℕ
-frames_of format r views = joined_lists (λ v. frame_bytes format r.palette (picture v r.scene)) views
+-- what is written of a view: its frame, or its trace
+abbrev pub view_bytes : ViewForm → List ℕ → Scene → SeenView → List ℕ
+view_bytes (Frame format) palette scene s = frame_bytes format palette (overlaid_picture s.view scene s.layers)
+view_bytes Trace palette scene s = trace_bytes (overlaid_trace s.view scene s.layers)
 
-abbrev pub rendered_bytes : Format → ViewsValue → List ℕ
-rendered_bytes format r = frames_of format r (due_views r)
+-- the same of these views, one after the other
+unfoldable pub frames_of : ViewForm → ViewsValue → List SeenView → List ℕ
+frames_of form r views = joined_lists (view_bytes form r.palette r.scene) views
+
+abbrev pub rendered_bytes : ViewForm → ViewsValue → List ℕ
+rendered_bytes form r = frames_of form r (due_views r)
 
 -- how a rendering ends: at the first view that is over, with its number, or with the last view
 abbrev pub limit_at : ℕ → Option OverLimit → Status
@@ -120,13 +115,13 @@ abbrev pub view_line_by : ℕ → Counts → Option OverLimit → List ℕ
 view_line_by view counts None = counts_line view counts
 view_line_by view counts (Some over) = over_line view over
 
-unfoldable pub view_line : ViewsValue → ℕ → ViewValue → List ℕ
-view_line r view v = view_line_by view (view_counts v r.scene) (view_over v r.scene r.limits)
+unfoldable pub view_line : ViewsValue → ℕ → SeenView → List ℕ
+view_line r view s = view_line_by view (view_counts s.view r.scene) (view_over s.view r.scene r.limits)
 
 -- the line of view number k
-abbrev pub view_line_at : ViewsValue → ℕ → Option ViewValue → List ℕ
+abbrev pub view_line_at : ViewsValue → ℕ → Option SeenView → List ℕ
 view_line_at r view None = []
-view_line_at r view (Some v) = view_line r view v
+view_line_at r view (Some s) = view_line r view s
 
 -- the lines of the first n views
 unfoldable pub first_lines : ViewsValue → ℕ → List ℕ

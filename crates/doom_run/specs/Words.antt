@@ -1,9 +1,10 @@
 -- The words of a command line, after the program's name, and whether they ask for files.
-use Rattle.std.specs.Prelude.{ℕ, Bool, true, false, is_none, IsTrue, List, map, String, string_bytes}
+use Rattle.std.specs.Prelude.{ℕ, Bool, true, false, IsTrue, List, map, String, string_bytes}
 use Rattle.std.specs.Option.{option_map_or}
+use Rattle.doom_run.specs.declared.canvas.ViewForm.{ViewForm}
+use Rattle.doom_run.specs.declared.canvas.ViewForm.TheVariants as form
 use Rattle.std.specs.declared.alloc.Global.{Global}
 use Rattle.command_line.specs.Commands.{CommandValue, flat, level_job, make, exercise, command_of}
-use Rattle.command_line.specs.LevelJobs.{LevelJobValue}
 use Rattle.command_line.specs.declared.command.LevelTask.{LevelTask}
 use Rattle.command_line.specs.declared.command.LevelTask.TheVariants.{Render, Audit, Limits, Trim, Trace}
 
@@ -11,18 +12,23 @@ use Rattle.command_line.specs.declared.command.LevelTask.TheVariants.{Render, Au
 abbrev pub texts : List (String Global) → List (List ℕ)
 texts words = map (λ word. string_bytes word) words
 
--- a job over a level asks for files, if it is built: frames with a weapon over them are not
-abbrev pub level_asks : LevelTask → LevelJobValue → Bool
-level_asks (Render format) level = is_none level.files.weapon
-level_asks Audit level = true
-level_asks Limits level = true
-level_asks Trim level = false
-level_asks Trace level = false
+-- a job over a level asks for files, if it is built
+abbrev pub level_asks : LevelTask → Bool
+level_asks (Render format) = true
+level_asks Audit = true
+level_asks Limits = true
+level_asks Trim = false
+level_asks Trace = true
+
+-- the job that writes views in a form
+abbrev pub task_of : ViewForm → LevelTask
+task_of (form.Frame format) = Render format
+task_of form.Trace = Trace
 
 -- a test of a command, by what it is for a flat and for an exercise; it is false for a made file
 abbrev pub by_command : Bool → Bool → CommandValue → Bool
 by_command of_flat of_exercise (flat name file) = of_flat
-by_command of_flat of_exercise (level_job job level wads) = level_asks job level
+by_command of_flat of_exercise (level_job job level wads) = level_asks job
 by_command of_flat of_exercise (make job) = false
 by_command of_flat of_exercise (exercise count zone format) = of_exercise
 
@@ -47,14 +53,14 @@ have_zone words = option_map_or has_zone (command_of words) false
 abbrev pub WhereAsked : List (List ℕ) → Type 0 → Type 0
 WhereAsked words Premise = IsTrue (ask_for_files words) → Premise
 
--- the job writes frames as they are drawn
+-- the job writes frames or traces as they are drawn
 abbrev pub writes_frames : CommandValue → Bool
 writes_frames (flat name file) = false
 writes_frames (level_job (Render format) level wads) = true
 writes_frames (level_job Audit level wads) = false
 writes_frames (level_job Limits level wads) = false
 writes_frames (level_job Trim level wads) = false
-writes_frames (level_job Trace level wads) = false
+writes_frames (level_job Trace level wads) = true
 writes_frames (make job) = false
 writes_frames (exercise count zone format) = false
 

@@ -25,6 +25,7 @@ ghost use Rattle.doom_run.specs.Exercises.{ExercisesAt, exercise_verdict, frame_
 ghost use Rattle.doom_run.specs.Leasts.{level_least};
 ghost use Rattle.doom_run.specs.Renders.{FitDue, IsFullReady, IsFullView, IsReady, ready_views};
 
+use crate::canvas::{ViewCanvas, ViewForm};
 use crate::render::{ReadyViews, deliver_render, prepare_views};
 use command_line::{Files, Format, LevelJob, Settings};
 use frame_writer::FRAME_BYTES;
@@ -138,7 +139,10 @@ pub fn prepare_exercise(alloc: Global, n: u32, zone: u32, format: Format) -> Res
     };
     let mut shelf = MemoryShelf::new(files, Vec::new(alloc));
     match prepare_made(alloc, zone, &mut shelf) {
-        Ok(mut ready) => render_all(n, format, &mut ready, &mut shelf),
+        Ok(mut ready) => match ViewCanvas::new(alloc, ViewForm::Frame(format)) {
+            Ok(mut canvas) => render_all(n, format, &mut ready, &mut canvas, &mut shelf),
+            Err(_) => Err(Status::OutOfMemory),
+        },
         Err(fault) => Err(Status::of(fault)),
     }
 }
@@ -148,6 +152,7 @@ fn render_all(
     n: u32,
     format: Format,
     ready: &mut ReadyViews,
+    canvas: &mut ViewCanvas,
     shelf: &mut MemoryShelf,
 ) -> Result<Summary, Status>
     requires count { IsCount n }
@@ -171,7 +176,7 @@ fn render_all(
         (FitDue (lump_bytes contents ready.old.loaded.files.dir.lumps) count ready.old) }
 {
     let mut tally = TallySink::new();
-    match deliver_render(ready, format, shelf, &mut tally) {
+    match deliver_render(ready, canvas, shelf, &mut tally) {
         Status::Done => Ok(summary_of(n, format, ready, &tally)),
         status => Err(status),
     }

@@ -16,9 +16,11 @@
 #![tactic(auto)]
 
 mod audit;
+mod canvas;
 mod exercise;
 #[cfg(test)]
 mod hostile_tests;
+mod layers;
 mod limits;
 mod render;
 #[cfg(test)]

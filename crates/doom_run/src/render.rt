@@ -2,15 +2,16 @@
 ghost use Rattle.command_line.specs.Choices.{AreSettings};
 ghost use Rattle.command_line.specs.LevelJobs.{level_job_value};
 ghost use Rattle.doom_run.specs.Ends.{IsEnd, RendersAt};
-ghost use Rattle.doom_run.specs.Frames.{IsPictureAt, KeepsReady, ViewEnds, status_of_view};
-ghost use Rattle.doom_run.specs.Renders.{FitDue, FitsAt, HasReadyAsked, IsDelivered, IsFullView, IsReady, ready_views};
+ghost use Rattle.doom_run.specs.Frames.{IsDrawnAt, KeepsReady, ViewEnds, form_of, status_of_view};
+ghost use Rattle.doom_run.specs.Renders.{FitDue, FitsAt, HasReadyAsked, IsDelivered, IsFullView, IsLayerLump, IsReady, ready_views};
 ghost use Rattle.doom_run.specs.Takes.{InOrderAfter, LoadsOnce};
 ghost use Rattle.doom_run.specs.Verdict.{rendered};
-ghost use Rattle.doom_run.specs.Views.{eye_of, frame_bytes, over_at};
+ghost use Rattle.doom_run.specs.Layers.{eye_of};
+ghost use Rattle.doom_run.specs.Views.{over_at};
 ghost use Rattle.frame_core.specs.Faults.{limit_of_view, view_fault};
 ghost use Rattle.frame_core.specs.Views.{CanDrawView, IsViewLump, IsViewTexture};
-ghost use Rattle.frame_writer.specs.declared.TheConstants.{FRAME_BYTES, PALETTE_BYTES};
 ghost use Rattle.job_files.specs.Files.{files_named};
+ghost use Rattle.level_audit.specs.Weapons.{AreThere};
 ghost use Rattle.level_audit.specs.scene_load.Fulls.{IsBaseWithin, IsFullLoad};
 ghost use Rattle.level_audit.specs.scene_load.Loads.{LoadedValue, load_in, loaded_sizes, loaded_value};
 ghost use Rattle.lump_cache.specs.Calls.{IfFull};
@@ -22,17 +23,18 @@ ghost use Rattle.outside.specs.Shelf.{File, IsLaterShelf, Holds};
 ghost use Rattle.outside.specs.Sink.{Writes};
 ghost use Rattle.outside.specs.Stops.{ResultIsOrAbsent};
 ghost use Rattle.sound_scene.specs.Sound.{textures_view};
-ghost use Rattle.std.specs.Prelude.{◌≡◌, ◌<◌, ◌≤◌, ℕ, List, length, map, option_map, slice_get, None, Some, Ok, IfErr, IfOk, IfSome, MatchResult, OnOk};
+ghost use Rattle.std.specs.Prelude.{◌≡◌, ◌<◌, ◌≤◌, ◌⊎◌, ℕ, List, length, map, option_map, slice_get, None, Some, Ok, IfErr, IfOk, IfSome, MatchResult, OnOk};
 ghost use Rattle.texture_build.specs.Draws.{DrawsWith, HoldsArt};
 ghost use Rattle.zone_rules.specs.Orders.{Item, IsInOrder, KeepsOrder};
 
-use command_line::{Format, LevelJob};
+use crate::canvas::ViewCanvas;
+use crate::layers::draw_layered;
+use command_line::LevelJob;
 use csv_tables::{PathRow, PathTable};
-use frame_core::{Limits, ViewFault, Workshop, draw_view};
-use frame_writer::{put_index, put_ppm};
+use frame_core::{Limits, ViewFault, Workshop};
 use job_files::{LoadFault, Status};
 use level_audit::{LoadedScene, load_scene};
-use outside::{Failed, Fault, Shelf, Sink};
+use outside::{Fault, Shelf, Sink};
 use std::alloc::Global;
 use view_rules::Eye;
 
@@ -121,24 +123,6 @@ pub(crate) fn eye_at(path: &PathTable, number: u32) -> Eye
     eye_of(&path.views()[number as usize])
 }
 
-// Writes a frame in the format.
-fn put_frame<K: Sink>(
-    out: &mut K,
-    format: Format,
-    frame: &[u8],
-    palette: &[u8],
-) -> Result<(), Failed>
-    requires frame { length frame.now ≡ FRAME_BYTES }
-    requires palette { length palette.now ≡ PALETTE_BYTES }
-    ensures { Writes (K.written out.old) (K.written out.new)
-        (K.faults out.old) (K.faults out.new) (frame_bytes format palette.now frame.now) result }
-{
-    match format {
-        Format::Index => put_index(out, frame),
-        Format::Ppm => put_ppm(out, frame, palette),
-    }
-}
-
 // The status of a fault of a view.
 fn status_of_view(view: u32, fault: ViewFault) -> Status
     ensures { result ≡ status_of_view view fault }
@@ -150,18 +134,23 @@ fn status_of_view(view: u32, fault: ViewFault) -> Status
     }
 }
 
-// Draws view number `number` on the workshop's frame.
-fn draw_at<S: Shelf>(ready: &mut ReadyViews, number: u32, shelf: &mut S) -> Result<(), ViewFault>
+// Draws view number `number` on a canvas that is cleared.
+fn draw_at<S: Shelf>(
+    ready: &mut ReadyViews,
+    number: u32,
+    shelf: &mut S,
+    canvas: &mut ViewCanvas,
+) -> Result<(), ViewFault>
     requires drawable { CanDrawView ready.old.loaded.files.dir.lumps
         ready.old.loaded.scene.scene ready.old.loaded.cache }
+    requires layers { AreThere ready.old.loaded.files.dir.lumps ready.old.loaded.weapons }
     requires there { number < length ready.old.loaded.files.path }
-    ensures picture { (contents : List (List ℕ)) (count : ℕ) →
+    ensures drawn { (contents : List (List ℕ)) (count : ℕ) →
         HoldsArt (S.view shelf.old) ready.old.loaded.files.dir
         (textures_view ready.old.loaded.scene.scene) contents
         ready.old.loaded.scene.scene.base.colormap count ready.old.loaded.cache →
-        OnOk result (IsPictureAt (ready_views
-        (lump_bytes contents ready.old.loaded.files.dir.lumps) ready.old) number
-        ready.new.shop.frame.cells) }
+        OnOk result (IsDrawnAt (ready_views
+        (lump_bytes contents ready.old.loaded.files.dir.lumps) ready.old) number canvas.new) }
     ensures within { (bytes : ℕ → List ℕ) →
         OnOk result (over_at (ready_views bytes ready.old) number ≡ None) }
     ensures over { (bytes : ℕ → List ℕ) → IfErr result (λ fault.
@@ -174,55 +163,46 @@ fn draw_at<S: Shelf>(ready: &mut ReadyViews, number: u32, shelf: &mut S) -> Resu
         OnOk result (FitsAt (lump_bytes contents ready.old.loaded.files.dir.lumps) count
         ready.old number) }
     ensures draws { DrawsWith view_fault (IsViewTexture ready.old.loaded.scene.scene)
-        (IsViewLump ready.old.loaded.files.dir.lumps ready.old.loaded.scene.scene)
+        (λ lump. IsViewLump ready.old.loaded.files.dir.lumps ready.old.loaded.scene.scene lump
+        ⊎ IsLayerLump ready.old.loaded lump)
         (S.view shelf.old) (S.view shelf.new) ready.old.loaded.files.dir
         (textures_view ready.old.loaded.scene.scene) ready.old.loaded.cache
         ready.new.loaded.cache result }
     ensures keeps { KeepsReady (S.view shelf.old) (S.view shelf.new) ready.old ready.new }
+    ensures form { form_of canvas.new ≡ form_of canvas.old }
 {
     let loaded = &mut ready.loaded;
+    let shop = &mut ready.shop;
     let eye = eye_at(&loaded.files.path, number);
-    draw_view(
-        &loaded.scene,
-        &loaded.files.tables,
-        &mut ready.shop,
-        &mut loaded.cache,
-        &loaded.files.dir,
-        shelf,
-        eye,
-    )
+    match canvas {
+        ViewCanvas::Index(frame) | ViewCanvas::Ppm(frame) => {
+            frame.clear();
+            draw_layered(loaded, shop, number, eye, shelf, frame)
+        }
+        ViewCanvas::Trace(frame) => {
+            frame.clear();
+            draw_layered(loaded, shop, number, eye, shelf, frame)
+        }
+    }
 }
 
-// Writes the workshop's frame.
-fn write_frame<K: Sink>(ready: &ReadyViews, format: Format, out: &mut K) -> Result<(), Failed>
-    ensures { Writes (K.written out.old) (K.written out.new) (K.faults out.old)
-        (K.faults out.new) (frame_bytes format ready.now.loaded.scene.scene.base.palette
-        ready.now.shop.frame.cells) result }
-{
-    put_frame(
-        out,
-        format,
-        ready.shop.frame(),
-        ready.loaded.scene.palette(),
-    )
-}
-
-// Draws view number `number` and writes its frame.
+// Draws view number `number` and writes it.
 fn render_view<S: Shelf, K: Sink>(
     ready: &mut ReadyViews,
     number: u32,
-    format: Format,
+    canvas: &mut ViewCanvas,
     shelf: &mut S,
     out: &mut K,
 ) -> Result<(), Status>
     requires drawable { CanDrawView ready.old.loaded.files.dir.lumps
         ready.old.loaded.scene.scene ready.old.loaded.cache }
+    requires layers { AreThere ready.old.loaded.files.dir.lumps ready.old.loaded.weapons }
     requires there { number < length ready.old.loaded.files.path }
     ensures ends { (contents : List (List ℕ)) (count : ℕ) →
         HoldsArt (S.view shelf.old) ready.old.loaded.files.dir
         (textures_view ready.old.loaded.scene.scene) contents
         ready.old.loaded.scene.scene.base.colormap count ready.old.loaded.cache →
-        ViewEnds (S.view shelf.old).steady format
+        ViewEnds (S.view shelf.old).steady (form_of canvas.old)
         (ready_views (lump_bytes contents ready.old.loaded.files.dir.lumps) ready.old) number
         (K.written out.old) (K.written out.new) result }
     ensures fits { (contents : List (List ℕ)) (count : ℕ) →
@@ -246,12 +226,13 @@ fn render_view<S: Shelf, K: Sink>(
     ensures answers { IfErr result IsDelivered }
     ensures keeps { KeepsReady (S.view shelf.old) (S.view shelf.new) ready.old ready.new }
     ensures later { K.faults out.old ≤ K.faults out.new }
+    ensures form { form_of canvas.new ≡ form_of canvas.old }
 {
-    match draw_at(ready, number, shelf) {
+    match draw_at(ready, number, shelf, canvas) {
         Ok(()) => {}
         Err(fault) => return Err(status_of_view(number, fault)),
     }
-    match write_frame(ready, format, out) {
+    match canvas.put(out, ready.loaded.scene.palette()) {
         Ok(()) => Ok(()),
         Err(_) => Err(Status::WriteFault),
     }
@@ -261,17 +242,18 @@ fn render_view<S: Shelf, K: Sink>(
 // memory.
 pub fn deliver_render<S: Shelf, K: Sink>(
     ready: &mut ReadyViews,
-    format: Format,
+    canvas: &mut ViewCanvas,
     shelf: &mut S,
     out: &mut K,
 ) -> Status
-    requires { CanDrawView ready.old.loaded.files.dir.lumps ready.old.loaded.scene.scene
+    requires drawable { CanDrawView ready.old.loaded.files.dir.lumps ready.old.loaded.scene.scene
         ready.old.loaded.cache }
+    requires layers { AreThere ready.old.loaded.files.dir.lumps ready.old.loaded.weapons }
     ensures ends { (contents : List (List ℕ)) (count : ℕ) →
         HoldsArt (S.view shelf.old) ready.old.loaded.files.dir
         (textures_view ready.old.loaded.scene.scene) contents
         ready.old.loaded.scene.scene.base.colormap count ready.old.loaded.cache →
-        RendersAt (S.view shelf.old).steady (rendered format (ready_views
+        RendersAt (S.view shelf.old).steady (rendered (form_of canvas.old) (ready_views
         (lump_bytes contents ready.old.loaded.files.dir.lumps) ready.old))
         (K.written out.old) (K.written out.new) result }
     ensures fits { (contents : List (List ℕ)) (count : ℕ) →
@@ -295,8 +277,9 @@ pub fn deliver_render<S: Shelf, K: Sink>(
     ensures scene { ready.new.loaded.scene ≡ ready.old.loaded.scene }
     ensures follows { IsLaterShelf (S.view shelf.old) (S.view shelf.new) }
 {
-    for number in 0..view_count(&ready.loaded.files.path) {
-        match render_view(ready, number, format, shelf, out) {
+    let count = view_count(&ready.loaded.files.path);
+    for number in 0..count {
+        match render_view(ready, number, canvas, shelf, out) {
             Ok(()) => {}
             Err(status) => return status,
         }

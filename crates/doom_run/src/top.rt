@@ -18,7 +18,8 @@ ghost use Rattle.doom_run.specs.Words.{WhereAsked, ask_for_files, asks_for_files
 
 use crate::Refusal;
 use crate::audit::{deliver_audit, prepare_audit};
-use crate::view_jobs::{perform_exercise, perform_limits, perform_render};
+use crate::canvas::ViewForm;
+use crate::view_jobs::{perform_exercise, perform_limits, perform_views};
 use command_line::{Command, CommandFault, LevelJob, LevelTask, MakeJob, command_of};
 use job_files::{Status, deliver_flat, deliver_make, prepare_flat, prepare_make, put_note};
 use outside::{Shelf, Sink};
@@ -255,7 +256,7 @@ fn perform_level<S: Shelf, K: Sink>(
 ) -> Status
     requires { IsLevelJob (level_job_value level.now) (map (λ wad. wad.now) wads.now) }
     ensures ends { (files : List File) →
-        (IsTrue (level_asks job (level_job_value level.now)) → Holds (S.view shelf.old) files) →
+        (IsTrue (level_asks job) → Holds (S.view shelf.old) files) →
         EndsAt (S.view shelf.old).steady
         (level_verdict job (level_job_value level.now) (map (λ wad. wad.now) wads.now) files)
         (K.written out.old) (K.written out.new) result }
@@ -276,29 +277,32 @@ fn perform_level<S: Shelf, K: Sink>(
         FaultsRose (K.faults out.old) (K.faults out.new) }
     ensures zone_full { (files : List File) (wanted widest : ℕ) →
         result ≡ Status.ZoneFull wanted widest →
-        (IsTrue (level_asks job (level_job_value level.now)) → Holds (S.view shelf.old) files) →
+        (IsTrue (level_asks job) → Holds (S.view shelf.old) files) →
         IsFullRun (level_job job (level_job_value level.now) (map (λ wad. wad.now) wads.now)) files
         wanted widest }
     ensures zoned { (wanted widest : ℕ) → result ≡ Status.ZoneFull wanted widest →
-        IsTrue (level_asks job (level_job_value level.now)) }
+        IsTrue (level_asks job) }
     ensures least { (files : List File) → IsEnd result →
-        (IsTrue (level_asks job (level_job_value level.now)) → Holds (S.view shelf.old) files) →
+        (IsTrue (level_asks job) → Holds (S.view shelf.old) files) →
         level_least job (level_job_value level.now) (map (λ wad. wad.now) wads.now) files
         ≤ level.now.settings.zone }
     ensures taken { (files : List File) →
-        (IsTrue (level_asks job (level_job_value level.now)) → Holds (S.view shelf.old) files) →
+        (IsTrue (level_asks job) → Holds (S.view shelf.old) files) →
         (FaultsRose (S.view shelf.old).faults (S.view shelf.new).faults → ⊥) →
         TakesOnce (level_job_value level.now) (map (λ wad. wad.now) wads.now) files
         (S.view shelf.old).taken (S.view shelf.new).taken }
     ensures asked { result ≡ Status.ReadFault →
-        IsTrue (level_asks job (level_job_value level.now)) }
-    ensures untouched { level_asks job (level_job_value level.now) ≡ false → shelf.new ≡ shelf.old }
+        IsTrue (level_asks job) }
+    ensures untouched { level_asks job ≡ false → shelf.new ≡ shelf.old }
 {
     match job {
-        LevelTask::Render(format) => perform_render(alloc, format, level, wads, shelf, out),
+        LevelTask::Render(format) => {
+            perform_views(alloc, ViewForm::Frame(format), level, wads, shelf, out)
+        }
         LevelTask::Audit => perform_audit(alloc, level, wads, shelf, out),
         LevelTask::Limits => perform_limits(alloc, level, wads, shelf, out),
-        LevelTask::Trim | LevelTask::Trace => Status::Usage,
+        LevelTask::Trim => Status::Usage,
+        LevelTask::Trace => perform_views(alloc, ViewForm::Trace, level, wads, shelf, out),
     }
 }
 

@@ -1,4 +1,4 @@
-// The jobs that draw or count views: `render`, `limits` and `exercise`.
+// The jobs that draw or count views: `render`, `trace`, `limits` and `exercise`.
 ghost use Rattle.std.specs.Prelude.{◌≡◌, ◌≤◌, ◌⊎◌, ℕ, Bool, false, List, [], map, Err, IsTrue};
 ghost use Rattle.outside.specs.Causes.{FaultsRose};
 ghost use Rattle.outside.specs.Shelf.{File, Holds};
@@ -15,8 +15,9 @@ ghost use Rattle.doom_run.specs.Leasts.{level_least};
 ghost use Rattle.doom_run.specs.Steps.{usage};
 ghost use Rattle.doom_run.specs.Takes.{TakesOnce};
 ghost use Rattle.doom_run.specs.Verdict.{job_verdict, level_verdict};
-ghost use Rattle.doom_run.specs.Words.{level_asks};
+ghost use Rattle.doom_run.specs.Words.{task_of};
 
+use crate::canvas::{ViewCanvas, ViewForm};
 use crate::exercise::{deliver_exercise, prepare_exercise};
 use crate::limits::deliver_limits;
 use crate::render::{deliver_render, prepare_views};
@@ -25,10 +26,10 @@ use job_files::Status;
 use outside::{Shelf, Sink};
 use std::alloc::Global;
 
-// The job `render`: the frames of the views of a path.
-pub fn perform_render<S: Shelf, K: Sink>(
+// The jobs `render` and `trace`: the frames or the traces of the views of a path.
+pub fn perform_views<S: Shelf, K: Sink>(
     alloc: Global,
-    format: Format,
+    form: ViewForm,
     level: &LevelJob<'_>,
     wads: &[&str],
     shelf: &mut S,
@@ -36,51 +37,37 @@ pub fn perform_render<S: Shelf, K: Sink>(
 ) -> Status
     requires { IsLevelJob (level_job_value level.now) (map (λ wad. wad.now) wads.now) }
     ensures ends { (files : List File) →
-        (IsTrue (level_asks (Render format) (level_job_value level.now)) →
-        Holds (S.view shelf.old) files) →
-        EndsAt (S.view shelf.old).steady (level_verdict (Render format)
+        Holds (S.view shelf.old) files →
+        EndsAt (S.view shelf.old).steady (level_verdict (task_of form)
         (level_job_value level.now) (map (λ wad. wad.now) wads.now) files)
         (K.written out.old) (K.written out.new) result }
     ensures unwritten { IsUnwritten result → Grew (K.written out.old) (K.written out.new) [] }
-    ensures usage { (files : List File) → result ≡ Status.Usage →
-        level_verdict (Render format) (level_job_value level.now)
-        (map (λ wad. wad.now) wads.now) files ≡ Err usage }
-    ensures not_built { (files : List File) →
-        level_verdict (Render format) (level_job_value level.now)
-        (map (λ wad. wad.now) wads.now) files ≡ Err usage → result ≡ Status.Usage }
+    ensures not_usage { result ≡ Status.Usage → ⊥ }
     ensures read_fault { result ≡ Status.ReadFault →
         FaultsRose (S.view shelf.old).faults (S.view shelf.new).faults }
     ensures write_fault { result ≡ Status.WriteFault →
         FaultsRose (K.faults out.old) (K.faults out.new) }
     ensures zone_full { (files : List File) (wanted widest : ℕ) →
         result ≡ Status.ZoneFull wanted widest →
-        (IsTrue (level_asks (Render format) (level_job_value level.now)) →
-        Holds (S.view shelf.old) files) →
+        Holds (S.view shelf.old) files →
         IsFullLoad (level_job_value level.now) (map (λ wad. wad.now) wads.now) files wanted widest
         ⊎ IsFullDraw (level_job_value level.now) (map (λ wad. wad.now) wads.now) files wanted
         widest }
     ensures least { (files : List File) → IsEnd result →
-        (IsTrue (level_asks (Render format) (level_job_value level.now)) →
-        Holds (S.view shelf.old) files) →
-        level_least (Render format) (level_job_value level.now) (map (λ wad. wad.now) wads.now)
+        Holds (S.view shelf.old) files →
+        level_least (task_of form) (level_job_value level.now) (map (λ wad. wad.now) wads.now)
         files ≤ level.now.settings.zone }
     ensures taken { (files : List File) →
-        (IsTrue (level_asks (Render format) (level_job_value level.now)) →
-        Holds (S.view shelf.old) files) →
+        Holds (S.view shelf.old) files →
         (FaultsRose (S.view shelf.old).faults (S.view shelf.new).faults → ⊥) →
         TakesOnce (level_job_value level.now) (map (λ wad. wad.now) wads.now) files
         (S.view shelf.old).taken (S.view shelf.new).taken }
-    ensures asked { (result ≡ Status.ReadFault)
-        ⊎ ((wanted : ℕ) × (widest : ℕ) × (result ≡ Status.ZoneFull wanted widest)) →
-        IsTrue (level_asks (Render format) (level_job_value level.now)) }
-    ensures untouched { level_asks (Render format) (level_job_value level.now) ≡ false →
-        shelf.new ≡ shelf.old }
 {
-    if level.files.weapon.is_some() {
-        return Status::Usage;
-    }
     match prepare_views(alloc, level, wads, shelf) {
-        Ok(mut ready) => deliver_render(&mut ready, format, shelf, out),
+        Ok(mut ready) => match ViewCanvas::new(alloc, form) {
+            Ok(mut canvas) => deliver_render(&mut ready, &mut canvas, shelf, out),
+            Err(_) => Status::OutOfMemory,
+        },
         Err(fault) => Status::of(fault),
     }
 }

@@ -52,11 +52,26 @@ const FULL: Told = Told {
     sum: NOTHING,
 };
 
-const NO_COMMAND: Told = Told {
-    status: Status::Usage,
-    length: 0,
-    sum: NOTHING,
+const ARMED_FRAMES: Told = Told {
+    status: Status::Done,
+    length: 192_000,
+    sum: 0x8ffa_6c70_0c0e_4865,
 };
+
+const TRACES: Told = Told {
+    status: Status::Done,
+    length: 1_536_000,
+    sum: 0x853c_1fff_2e3c_f196,
+};
+
+const ARMED_TRACES: Told = Told {
+    status: Status::Done,
+    length: 1_536_000,
+    sum: 0xb117_5518_33cb_a8c0,
+};
+
+// A tree over the right half of view 0.
+const WEAPONS: &str = "view,sprite,frame,bright,sx,sy\n0,TREE,A,1,10485760,6553600\n";
 
 fn tell(ended: &Ended) -> Told {
     Told {
@@ -110,7 +125,8 @@ pub(crate) fn level_files(alloc: Global, n: u32, path: Vec<u8>) -> Result<Vec<Me
     Ok(vec![in alloc; wad, path]?)
 }
 
-// A shelf of these two with the tables and the things, whose calls of these numbers fail.
+// A shelf of these two with the tables, the things and the weapon layers, whose calls of these
+// numbers fail.
 pub(crate) fn shelf_of(
     alloc: Global,
     level: Vec<MemoryFile>,
@@ -119,8 +135,9 @@ pub(crate) fn shelf_of(
     let mut files = level;
     files.push(tables_of(alloc)?)?;
     files.push(things_of(alloc)?)?;
-    if files.len() > 5 {
-        return Err("five files".into());
+    files.push(file_of(alloc, "w", WEAPONS.as_bytes().to_vec(alloc)?)?)?;
+    if files.len() > 6 {
+        return Err("six files".into());
     }
     Ok(MemoryShelf::new(files, failing))
 }
@@ -161,7 +178,9 @@ fn frames_and_counts_of_made_levels(rt: HostRuntime) -> Result<(), Fail> {
         (10, "render", " --zone 56236", FULL),
         (10, "limits", "", COUNTS_OF_10),
         (1, "render", " --size 5", SMALL_FRAMES),
-        (1, "render", " --weapon h", NO_COMMAND),
+        (1, "render", " --weapon w", ARMED_FRAMES),
+        (1, "trace", "", TRACES),
+        (1, "trace", " --weapon w", ARMED_TRACES),
     ] {
         let path = path_of(alloc, n)?;
         let words = format!(in alloc;

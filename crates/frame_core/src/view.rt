@@ -100,7 +100,7 @@ pub fn draw_view<S: Shelf>(
 /// it was given the dots of the view in order (`painted`). Takes no memory.
 ///
 /// The conditions, the errors and what is told after them are those of `draw_view`; the workshop's
-/// frame stays as it is.
+/// frame stays as it is. The dots lie in the view, which lies in the frame.
 ///
 /// The original: `R_RenderPlayerView`, r_main.c, and `R_ExecuteSetViewSize` for the place.
 pub fn draw_view_on<S: Shelf, C: Canvas>(
@@ -121,6 +121,9 @@ pub fn draw_view_on<S: Shelf, C: Canvas>(
         (view_state (S.view shelf.old) cache.old
         (placed_for v (C.view canvas.old)))
         (view_state (S.view shelf.new) cache.new (C.view canvas.new)) result }
+    ensures in_view { (bytes : ℕ → List ℕ) → OnOk result (AreInView (view_of tables.now eye).shape
+        (view_paints (view_of tables.now eye) (scene_of bytes scene.now.scene))) }
+    ensures window { IsWithinFrame (view_of tables.now eye).shape }
     ensures enough { EndsNotFull dir.now scene.now.scene (S.view shelf.old) cache.old result }
     ensures complete { EndsComplete dir.now scene.now.scene (S.view shelf.old) (S.view shelf.new)
         cache.old result }

@@ -1,5 +1,5 @@
 -- What the rows of a weapon table need, and the book of it.
-use Rattle.std.specs.Prelude.{ℕ, suc, List, [], ◌∷◌, Result}
+use Rattle.std.specs.Prelude.{ℕ, ◌<◌, suc, List, [], ◌∷◌, length, All, Option, Some, None, Result, ⊤}
 use Rattle.outside.specs.declared.fault.Fault.{Fault}
 use Rattle.outside.specs.Faults.{fault_above, from_below}
 use Rattle.lump_rules.specs.declared.wad.Lump.{Lump}
@@ -38,6 +38,11 @@ weapon_art refusal = WeaponArt (weapon_refusal refusal)
 
 abbrev pub weapon_fault : Fault SpriteRefusal → Fault AuditRefusal
 weapon_fault = fault_above weapon_art
+
+-- the pictures of a book, if there is one, are lumps of the directory
+abbrev pub AreThere : List Lump → Option (List Frame) → Type 0
+AreThere lumps None = ⊤
+AreThere lumps (Some book) = All (λ frame. All (λ shape. shape.lump.0 < length lumps) frame.shapes) book
 
 -- the book of the rows' frames, refused for the first row that lacks something
 unfoldable pub weapon_book : (ℕ → List ℕ) → List Lump → List WeaponRow → Result (List Frame) WeaponRefusal

@@ -1,13 +1,13 @@
 // The pictures of weapon layers.
 //
 // Rules: `specs/Weapons`. The original: `R_InitSpriteDefs`, r_things.c.
-ghost use Rattle.std.specs.Prelude.{◌≡◌, ◌<◌, ◌≤◌, ◌+◌, ◌++◌, ◌^◌, length, IfOk, OnErr};
+ghost use Rattle.std.specs.Prelude.{◌≡◌, ◌<◌, ◌≤◌, ◌+◌, ◌++◌, ◌^◌, length, IfOk, OnErr, Some};
 ghost use Rattle.outside.specs.Faults.{from_below, itself};
 ghost use Rattle.lump_cache.specs.Calls.{ReadsLumps};
 ghost use Rattle.sprite_book.specs.Calls.{IsWanted};
 ghost use Rattle.scene_rules.specs.declared.refusal.AuditRefusal.TheVariants.{WeaponArt};
 ghost use Rattle.sound_scene.specs.Sound.{with_book};
-ghost use Rattle.level_audit.specs.Weapons.{need_of_row, weapon_book, weapon_fault, weapon_needs, weapon_refusal};
+ghost use Rattle.level_audit.specs.Weapons.{AreThere, need_of_row, weapon_book, weapon_fault, weapon_needs, weapon_refusal};
 
 use crate::{AuditFault, AuditRefusal, SoundScene, WeaponRefusal};
 use art_rules::SpriteRefusal;
@@ -45,6 +45,7 @@ pub fn audit_weapons<S: Shelf>(
         cache.new (IsWanted dir.now.lumps (weapon_needs weapons.now)) (λ book. book) (λ bytes.
         from_below WeaponArt (weapon_book bytes dir.now.lumps weapons.now)) result }
     ensures scene { IfOk result (λ book. scene.new ≡ with_book dir.now.lumps book scene.old) }
+    ensures there { IfOk result (λ book. AreThere dir.now.lumps (Some book)) }
     ensures unchanged { OnErr result (scene.new ≡ scene.old) }
 {
     let book = load_weapons(alloc, weapons, dir, cache, shelf)?;
@@ -66,6 +67,7 @@ fn load_weapons<S: Shelf>(
     ensures tells { ReadsLumps itself (S.view shelf.old) (S.view shelf.new) dir.now cache.old
         cache.new (IsWanted dir.now.lumps (weapon_needs weapons.now)) (λ book. book) (λ bytes.
         from_below WeaponArt (weapon_book bytes dir.now.lumps weapons.now)) result }
+    ensures there { IfOk result (λ book. AreThere dir.now.lumps (Some book)) }
 {
     let needs = weapon_needs(alloc, weapons.rows())?;
     match SpriteBook::load(alloc, &needs, dir, cache, shelf) {

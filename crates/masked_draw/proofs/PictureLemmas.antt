@@ -41,31 +41,39 @@ no_posts : (shape : ViewShape) (painter : Painter) (x : ℕ) (c : MaskedColumn) 
 unfolding posts_dots joined_lists
 no_posts shape painter x c byte shade_of = refl
 
-pub column-outside : (mark : Painter → ℕ → ℕ) (shape : ViewShape) (bytes colormap : List ℕ) (clips : SpriteClips) (e : SpriteEntry) (x : ℕ) (own : ℤ) (canvas : CanvasView) → own ≡ picture_column e.flip e.width e.a1 e.iscale x →
-    (int_le (pos 0) own && int_lt own (pos (half_at bytes 0))) ≡ false → canvas ≡ with_dots mark (read_column shape canvas.painter bytes colormap clips e x) canvas
-unfolding read_column
-column-outside mark shape bytes colormap clips e x own canvas is out =
-    let column = clipped_masked shape.height clips e x in
-    let none : own_posts bytes (picture_column e.flip e.width e.a1 e.iscale x) ≡ [] =
-    sym (ap (own_posts bytes) is) ∙ ap (λ (b : Bool). cond b (posts bytes (column_place bytes (natural own))) []) out in
+pub own-outside : (mark : Painter → ℕ → ℕ) (shape : ViewShape) (x : ℕ) (column : MaskedColumn) (bytes : List ℕ) (shade_of : ℕ → ℕ) (own : ℤ) (canvas : CanvasView) →
+    (int_le (pos 0) own && int_lt own (pos (half_at bytes 0))) ≡ false → canvas ≡ with_dots mark (posts_dots shape canvas.painter x column (byte_at bytes) shade_of (own_posts bytes own)) canvas
+own-outside mark shape x column bytes shade_of own canvas out =
+    let none : own_posts bytes own ≡ [] = ap (λ (b : Bool). cond b (posts bytes (column_place bytes (natural own))) []) out in
     dots_none mark canvas
-    ∙ ap (λ (dots : List Dot). with_dots mark dots canvas) (sym (ap (posts_dots shape canvas.painter x column (byte_at bytes) (shade colormap e.map)) none ∙ no_posts shape canvas.painter x column (byte_at bytes) (shade colormap e.map)))
+    ∙ ap (λ (dots : List Dot). with_dots mark dots canvas) (sym (ap (posts_dots shape canvas.painter x column (byte_at bytes) shade_of) none ∙ no_posts shape canvas.painter x column (byte_at bytes) shade_of))
 
 natural_of : (z : ℤ) (n : ℕ) → z ≡ pos n → natural z ≡ n
 unfolding natural
 natural_of z n e = ap natural e
 
 -- one that it has
-pub column-inside : (mark : Painter → ℕ → ℕ) (shape : ViewShape) (bytes colormap : List ℕ) (map place n : ℕ) (clips : SpriteClips) (e : SpriteEntry) (column : MaskedColumn) (x : ℕ) (own : ℤ) (old new : CanvasView) → own ≡ picture_column e.flip e.width e.a1 e.iscale x →
-    (int_le (pos 0) own && int_lt own (pos (half_at bytes 0))) ≡ true → own ≡ pos n → place ≡ column_place bytes n → column ≡ clipped_masked shape.height clips e x → map ≡ e.map →
-    new ≡ with_dots mark (posts_dots shape old.painter x column (byte_at bytes) (shade colormap map) (posts bytes place)) old → new ≡ with_dots mark (read_column shape old.painter bytes colormap clips e x) old
-unfolding read_column
-column-inside mark shape bytes colormap map place n clips e column x own old new is inside here at c m h =
-    let same : posts bytes place ≡ own_posts bytes (picture_column e.flip e.width e.a1 e.iscale x) =
+pub own-inside : (mark : Painter → ℕ → ℕ) (shape : ViewShape) (x : ℕ) (column : MaskedColumn) (bytes : List ℕ) (shade_of : ℕ → ℕ) (place n : ℕ) (own : ℤ) (old new : CanvasView) →
+    (int_le (pos 0) own && int_lt own (pos (half_at bytes 0))) ≡ true → own ≡ pos n → place ≡ column_place bytes n →
+    new ≡ with_dots mark (posts_dots shape old.painter x column (byte_at bytes) shade_of (posts bytes place)) old → new ≡ with_dots mark (posts_dots shape old.painter x column (byte_at bytes) shade_of (own_posts bytes own)) old
+own-inside mark shape x column bytes shade_of place n own old new inside here at h =
+    let same : posts bytes place ≡ own_posts bytes own =
     ap (posts bytes) (at ∙ ap (column_place bytes) (sym (natural_of own n here)))
-    ∙ sym (ap (λ (b : Bool). cond b (posts bytes (column_place bytes (natural own))) []) inside) ∙ ap (own_posts bytes) is in
+    ∙ sym (ap (λ (b : Bool). cond b (posts bytes (column_place bytes (natural own))) []) inside) in
+    h ∙ ap (λ (ps : List Post). with_dots mark (posts_dots shape old.painter x column (byte_at bytes) shade_of ps) old) same
+
+-- a function of two words, at others
+pub same_words : (f : ℤ → ℤ → ℤ) (a b c d : ℤ) → a ≡ b → c ≡ d → f a c ≡ f b d
+same_words f a b c d p q = ap (λ (z : ℤ). f z c) p ∙ ap (f b) q
+
+-- the column that is seen at a column of the view
+pub column-own : (mark : Painter → ℕ → ℕ) (shape : ViewShape) (bytes colormap : List ℕ) (map : ℕ) (clips : SpriteClips) (e : SpriteEntry) (column : MaskedColumn) (x : ℕ) (own : ℤ) (old new : CanvasView) →
+    own ≡ picture_column e.flip e.width e.a1 e.iscale x → column ≡ clipped_masked shape.height clips e x → map ≡ e.map →
+    new ≡ with_dots mark (posts_dots shape old.painter x column (byte_at bytes) (shade colormap map) (own_posts bytes own)) old → new ≡ with_dots mark (read_column shape old.painter bytes colormap clips e x) old
+unfolding read_column
+column-own mark shape bytes colormap map clips e column x own old new is c m h =
     h
-    ∙ ap (λ (ps : List Post). with_dots mark (posts_dots shape old.painter x column (byte_at bytes) (shade colormap map) ps) old) same
+    ∙ ap (λ (z : ℤ). with_dots mark (posts_dots shape old.painter x column (byte_at bytes) (shade colormap map) (own_posts bytes z)) old) is
     ∙ ap (λ (k : MaskedColumn). with_dots mark (posts_dots shape old.painter x k (byte_at bytes) (shade colormap map) (own_posts bytes (picture_column e.flip e.width e.a1 e.iscale x))) old) c
     ∙ ap (λ (k : ℕ). with_dots mark (posts_dots shape old.painter x (clipped_masked shape.height clips e x) (byte_at bytes) (shade colormap k) (own_posts bytes (picture_column e.flip e.width e.a1 e.iscale x))) old) m
 

@@ -23,8 +23,9 @@ ghost use Rattle.masked_draw.specs.Tools.{AreSameMaskTools, HoldsMaskTools, tool
 
 use crate::clips::{SpriteClips, is_behind};
 use crate::middles::paint_middle;
+use crate::pictures::column_of;
 use crate::scene::{MaskHands, MaskScene};
-use crate::sprites::{column_of, paint_sprite};
+use crate::sprites::paint_sprite;
 use crate::tools::MaskedTools;
 use lump_cache::CacheFault;
 use outside::Shelf;

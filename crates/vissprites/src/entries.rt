@@ -92,7 +92,7 @@ fn picture_height(thing: &Placed, shape: Shape5) -> i32
 
 /// Whether the picture lies right of the view, or left of it.
 #[tactic(auto, unfolding(picture_rules::specs::sprite::Entries::misses_view))]
-fn misses_view(view: &View<'_>, first: i32, last: i32) -> bool
+pub fn misses_view(view: &View<'_>, first: i32, last: i32) -> bool
     ensures { result ≡ misses_view view.now first last }
 {
     (view.shape().width as i32) < first || last < 0
@@ -117,10 +117,10 @@ fn picture_last(view: &View<'_>, seen: Seen, shape: Shape5) -> i32
     )
 }
 
-/// The column of an edge (map units 16.16, to the right) at a scale.
+/// The column of an edge (map units 16.16, to the right) at a scale; it may lie outside the view.
 #[inline(always)]
 #[tactic(auto, unfolding(picture_rules::specs::sprite::Entries::edge_column))]
-fn edge_column(view: &View<'_>, edge: i32, scale: i32) -> i32
+pub fn edge_column(view: &View<'_>, edge: i32, scale: i32) -> i32
     ensures { result ≡ edge_column view.now edge scale }
 {
     let column = plus(projection(view.shape()), mul(edge, scale));

@@ -113,8 +113,8 @@ fn jobs_that_are_built(rt: HostRuntime) -> Result<(), Fail> {
     assert!(rt; is_command(alloc, &["exercise", "1"]));
     assert!(rt; is_command(alloc, &level_words("limits")));
     assert!(rt; is_command(alloc, &level_words("render")));
+    assert!(rt; is_command(alloc, &level_words("trace")));
     assert!(rt; is_usage(alloc, &level_words("trim")));
-    assert!(rt; is_usage(alloc, &level_words("trace")));
     Ok(())
 }
 

@@ -20,6 +20,7 @@ ghost use Rattle.sound_scene.specs.Whole.{IsWholeScene};
 ghost use Rattle.texture_build.specs.Draws.{HoldsArt};
 ghost use Rattle.refusals.specs.Groups.{of_audit};
 ghost use Rattle.outside.specs.Stops.{ResultIsOrAbsent};
+ghost use Rattle.level_audit.specs.Weapons.{AreThere};
 ghost use Rattle.level_audit.specs.scene_load.Fulls.{IsBaseWithin, IsFullLoad, IsFullOver, IsOfLayers};
 ghost use Rattle.job_files.specs.Sizes.{files_size};
 ghost use Rattle.level_audit.specs.scene_load.Orders.{IsLoadedInOrder, loaded_items, lumps_size};
@@ -109,6 +110,7 @@ pub fn load_scene<S: Shelf>(
         loaded.files.things level.now.map level.now.settings.skill loaded.scene.scene) }
     ensures fits { IfOk result (λ loaded. IsBaseWithin loaded.files.dir.lumps
         (level_job_value level.now) loaded.scene.scene.base.colormap) }
+    ensures layers { IfOk result (λ loaded. AreThere loaded.files.dir.lumps loaded.weapons) }
     ensures few { IfOk result (λ loaded. length loaded.files.dir.lumps < 2 ^ 16) }
     ensures colormap { IfOk result (λ loaded.
         loaded.scene.scene.base.colormap < length loaded.files.dir.lumps) }
@@ -200,6 +202,7 @@ fn audit_level<S: Shelf>(
         (level_job_value level.now) audited.0.scene.base.colormap) }
     ensures colormap { IfOk result (λ audited.
         audited.0.scene.base.colormap < length files.now.dir.lumps) }
+    ensures layers { IfOk result (λ audited. AreThere files.now.dir.lumps audited.1) }
     ensures fresh { IfOk result (λ audited. (number : ℕ) →
         bytes_of (composite_owner number) cache.new.blocks ≡ None) }
     ensures counts { KeepsCounts cache.old cache.new }
@@ -255,6 +258,7 @@ fn audit_files<S: Shelf>(
         (level_job_value level.now) audited.0.scene.base.colormap) }
     ensures colormap { IfOk result (λ audited.
         audited.0.scene.base.colormap < length files.now.dir.lumps) }
+    ensures layers { IfOk result (λ audited. AreThere files.now.dir.lumps audited.1) }
     ensures fresh { IfOk result (λ audited. (number : ℕ) →
         bytes_of (composite_owner number) cache.new.blocks ≡ None) }
     ensures counts { KeepsCounts cache.old cache.new }
@@ -302,6 +306,7 @@ fn audit_layers<S: Shelf>(
         (λ bytes. weapons_of bytes dir.now.lumps weapons.now) result }
     ensures scene { IfOk result (λ book.
         scene.new ≡ with_layers dir.now.lumps book scene.old) }
+    ensures there { IfOk result (λ book. AreThere dir.now.lumps book) }
 {
     match weapons {
         Some(weapons) => Ok(Some(audit_weapons(alloc, scene, weapons, dir, cache, shelf)?)),

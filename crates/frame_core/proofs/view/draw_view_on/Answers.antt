@@ -1,5 +1,7 @@
-use Rattle.std.proofs.Common.{ap, ◌∙◌, subst}
+use Rattle.std.proofs.Common.{OnOk, ap, ◌∙◌, subst}
 use Rattle.view_rules.specs.View.{ViewValue}
+use Rattle.view_rules.specs.Sound.{IsWithinFrame}
+use Rattle.picture_rules.specs.Picture.{AreInView}
 use Rattle.picture_rules.specs.Paints.{view_paints}
 use Rattle.frame_core.specs.Scenes.{scene_of}
 use Rattle.frame_core.specs.Views.{PaintsView, placed_for, view_scene, view_state}
@@ -20,6 +22,8 @@ returns g c =
       paints =
           subst (λ (v : ViewValue). PaintsView g.C.Canvas.mark (view_scene v scene c.args.dir.now) (view_paints v) (view_state (g.S.Shelf.view c.args.shelf.now) c.args.cache.now (placed_for v (g.C.Canvas.view c.args.canvas.now)))
           (view_state (g.S.Shelf.view c.draw_with.new.shelf) c.draw_with.new.cache (g.C.Canvas.view c.draw_with.new.canvas)) c.draw_with.result) c.new-view.ensures drawn.paints;
+      in_view = λ bytes. subst (λ (v : ViewValue). OnOk c.draw_with.result (AreInView v.shape (view_paints v (scene_of bytes scene)))) c.new-view.ensures (drawn.in_view bytes);
+      window = subst (λ (v : ViewValue). IsWithinFrame v.shape) c.new-view.ensures drawn.frame;
       enough = λ contents count hold same room. enough-view c.requires contents count hold same room c.draw_with.result drawn.paints.draws;
       complete = λ contents count hold same room none. complete-view c.requires contents count hold same room c.draw_with.result drawn.paints.draws none;
       again = λ contents count hold. holds_art-later drawn.paints.draws.keeps hold;

@@ -1,0 +1,125 @@
+// A view with the weapon layers of its rows.
+//
+// Rules: `specs/Layers`; `picture_rules`, Paints (`overlaid_paints`). The original:
+// `R_DrawPlayerSprites`, r_things.c.
+ghost use Rattle.doom_run.specs.Drawn.{DrawsLayered, DrawsLayers};
+ghost use Rattle.doom_run.specs.Layers.{layer_of, light_at};
+ghost use Rattle.frame_core.specs.Ends.{EndsOver, EndsWithin};
+ghost use Rattle.frame_core.specs.Views.{CanDrawView};
+ghost use Rattle.level_audit.specs.Weapons.{AreThere};
+ghost use Rattle.pixel_strips.specs.Standing.{StandsInFrame};
+ghost use Rattle.std.specs.Prelude.{◌≡◌, length, option_map};
+ghost use Rattle.view_rules.specs.View.{view_of};
+ghost use Rattle.weapon_overlay.specs.Layers.{layer_value};
+
+use csv_tables::WeaponRow;
+use frame_core::{ViewFault, Workshop, draw_view_on};
+use level_audit::{LoadedScene, SoundScene};
+use lump_cache::CacheFault;
+use outside::Shelf;
+use pixel_strips::Canvas;
+use sprite_book::SpriteBook;
+use view_frame::View;
+use view_rules::Eye;
+use weapon_overlay::{Layer, overlay};
+
+// Draws the view of `eye`, which is view number `number` of the path, and its weapon layers.
+pub fn draw_layered<S: Shelf, C: Canvas>(
+    loaded: &mut LoadedScene,
+    shop: &mut Workshop,
+    number: u32,
+    eye: Eye,
+    shelf: &mut S,
+    canvas: &mut C,
+) -> Result<(), ViewFault>
+    requires drawable { CanDrawView loaded.old.files.dir.lumps loaded.old.scene.scene
+        loaded.old.cache }
+    requires layers { AreThere loaded.old.files.dir.lumps loaded.old.weapons }
+    ensures within { EndsWithin (view_of loaded.old.files.tables eye) loaded.old.scene.scene
+        shop.old.limits result }
+    ensures over { EndsOver (view_of loaded.old.files.tables eye) loaded.old.scene.scene
+        shop.old.limits result }
+    ensures paints { DrawsLayered C.mark number eye (S.view shelf.old) (S.view shelf.new)
+        loaded.old loaded.new (C.view canvas.old) (C.view canvas.new) result }
+    ensures limits { shop.new.limits ≡ shop.old.limits }
+{
+    draw_view_on(
+        &loaded.scene,
+        &loaded.files.tables,
+        shop,
+        &mut loaded.cache,
+        &loaded.files.dir,
+        shelf,
+        eye,
+        canvas,
+    )?;
+    draw_layers(loaded, number, eye, shelf, canvas)?;
+    Ok(())
+}
+
+// The light of the sector where the viewpoint stands.
+fn light_at(scene: &SoundScene, eye: Eye) -> i16
+    requires { length scene.now.scene.faces.flats ≡ length scene.now.scene.base.level.sectors }
+    ensures { result ≡ light_at scene.now.scene eye }
+{
+    let sector = scene.sector_at(eye.x, eye.y);
+    scene.surfaces()[sector as usize].light
+}
+
+// The layer of a row of that number, where its frame has a picture.
+fn layer_of(book: &SpriteBook, row: &WeaponRow, number: u16, light: i16) -> Option<Layer>
+    ensures { option_map layer_value result ≡ layer_of book.now light number row.now }
+{
+    let shape = book.pick(row.sprite, row.frame, 0)?;
+    Some(Layer {
+        row: number,
+        shape,
+        sx: row.sx,
+        sy: row.sy,
+        bright: row.bright,
+        light,
+    })
+}
+
+// Draws the layers of view number `number` in the order of their rows.
+fn draw_layers<S: Shelf, C: Canvas>(
+    loaded: &mut LoadedScene,
+    number: u32,
+    eye: Eye,
+    shelf: &mut S,
+    canvas: &mut C,
+) -> Result<(), CacheFault>
+    requires drawable { CanDrawView loaded.old.files.dir.lumps loaded.old.scene.scene
+        loaded.old.cache }
+    requires layers { AreThere loaded.old.files.dir.lumps loaded.old.weapons }
+    requires placed { StandsInFrame (view_of loaded.old.files.tables eye).shape
+        (C.view canvas.old) }
+    ensures paints { DrawsLayers C.mark number eye (S.view shelf.old) (S.view shelf.new)
+        loaded.old loaded.new (C.view canvas.old) (C.view canvas.new) result }
+{
+    let Some(table) = &loaded.files.weapons else {
+        return Ok(());
+    };
+    let Some(book) = &loaded.weapons else {
+        return Ok(());
+    };
+    let view = View::new(&loaded.files.tables, eye);
+    let light = light_at(&loaded.scene, eye);
+    let colormap = loaded.scene.colormap();
+    for (i, row) in table.rows().iter().enumerate() {
+        if row.view as u32 == number
+            && let Some(layer) = layer_of(book, row, i as u16 + 1, light)
+        {
+            overlay(
+                &view,
+                &layer,
+                colormap,
+                &mut loaded.cache,
+                &loaded.files.dir,
+                shelf,
+                canvas,
+            )?;
+        }
+    }
+    Ok(())
+}
