@@ -47,9 +47,10 @@ use wad_dir::Directory;
 /// `ReadFault` only if the shelf's count of faults rose. In such a zone, where it did not rise, the
 /// answer is Ok or a limit (`complete`). After an error the frame's bytes are not told; after any
 /// answer the next call finds what a first call finds: a cache that was at rest and held the bytes
-/// of its files is at rest and holds them (`again`).
+/// of its files is at rest and holds them (`again`). The frame is placed where the view lies in it
+/// (`left`, `top`), so that a weapon can be painted on it (`Workshop::canvas`).
 ///
-/// The original: `R_RenderPlayerView`, r_main.c.
+/// The original: `R_RenderPlayerView`, r_main.c, and `R_ExecuteSetViewSize` for the place.
 pub fn draw_view<S: Shelf>(
     scene: &SoundScene,
     tables: &Tables,
@@ -80,6 +81,8 @@ pub fn draw_view<S: Shelf>(
         cache.old result }
     ensures again { HoldsAgain dir.now scene.now.scene (S.view shelf.old) (S.view shelf.new)
         cache.old cache.new }
+    ensures left { shop.new.frame.left ≡ (view_of tables.now eye).shape.left }
+    ensures top { shop.new.frame.top ≡ (view_of tables.now eye).shape.top }
     ensures limits { shop.new.limits ≡ shop.old.limits }
 {
     shop.frame.clear();

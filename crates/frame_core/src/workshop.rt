@@ -1,9 +1,12 @@
 // All the memory of drawing.
+ghost use Rattle.std.specs.Borrow.{Lends, sem};
 ghost use Rattle.std.specs.Prelude.{◌≡◌, ◌≤◌, length, IfOk};
+ghost use Rattle.frame_core.specs.contracts.workshop.Workshop.{the_row};
 ghost use Rattle.picture_rules.specs.declared.plane.TheConstants.{MOST_VISPLANES};
 ghost use Rattle.picture_rules.specs.declared.wall.TheConstants.{MOST_OPENINGS};
 ghost use Rattle.pixel_rules.specs.declared.TheConstants.{FRAME_CELLS};
 ghost use Rattle.pixel_strips.specs.Canvases.{blank};
+ghost use Rattle.pixel_strips.specs.contracts.frame.Frame.{the_row as frame_row};
 
 use crate::bench::Bench;
 use picture_rules::Limits;
@@ -57,6 +60,18 @@ impl Workshop {
         ensures size { length result.now ≡ FRAME_CELLS }
     {
         self.frame.bytes()
+    }
+
+    /// Lends the frame as a canvas, so that more can be painted on what `draw_view` drew. The limits
+    /// stay.
+    ///
+    /// This project's own.
+    pub fn canvas(&mut self) -> &mut Frame
+        ensures now { result.now ≡ self.old.frame }
+        ensures* lends { sem 𝓛 (Lends the_row frame_row self.entry result
+            (λ frame. record self.old { frame = frame })) }
+    {
+        &mut self.frame
     }
 }
 

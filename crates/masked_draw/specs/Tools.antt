@@ -28,8 +28,10 @@ abbrev pub HoldsMaskTools : {S C : Type 0} → (S → ShelfView) → MaskedTools
 HoldsMaskTools shelf t contents count =
     HoldsArt (shelf t.shelf.now) t.dir.now t.textures.now contents t.colormap.0 count t.cache.now
 
--- tools hold the references that others held
+-- tools hold the references that others held, to the same view, textures, directory, colormap, openings and lists
 abbrev pub AreSameMaskTools : {S C : Type 0} → MaskedTools S C → MaskedTools S C → Type 0
-AreSameMaskTools old new = (new.cache.ghost_name ≡ old.cache.ghost_name)
-    × ((new.shelf.ghost_name ≡ old.shelf.ghost_name)
-    × ((new.canvas.ghost_name ≡ old.canvas.ghost_name) × (new.marks.ghost_name ≡ old.marks.ghost_name)))
+AreSameMaskTools old new = (new.view ≡ old.view) × ((new.textures ≡ old.textures) × ((new.dir ≡ old.dir)
+    × ((new.colormap ≡ old.colormap) × ((new.openings ≡ old.openings) × ((new.segs ≡ old.segs)
+    × ((new.sides ≡ old.sides) × ((new.sectors ≡ old.sectors) × ((new.middles ≡ old.middles)
+    × ((new.cache.ghost_name ≡ old.cache.ghost_name) × ((new.shelf.ghost_name ≡ old.shelf.ghost_name)
+    × ((new.canvas.ghost_name ≡ old.canvas.ghost_name) × (new.marks.ghost_name ≡ old.marks.ghost_name))))))))))))

@@ -20,7 +20,9 @@ HasToolsArt t contents scene =
 abbrev pub HasToolsSky : {S C : Type 0} → PlaneTools S C → Scene → Type 0
 HasToolsSky t scene = IfSome t.sky (λ tex. scene.sky ≡ tex.0)
 
--- tools hold the references that others held
+-- tools hold the references that others held, to the same view, textures, sky, directory and colormap
 abbrev pub AreSamePlaneTools : {S C : Type 0} → PlaneTools S C → PlaneTools S C → Type 0
-AreSamePlaneTools old new = (new.cache.ghost_name ≡ old.cache.ghost_name)
-    × ((new.shelf.ghost_name ≡ old.shelf.ghost_name) × (new.canvas.ghost_name ≡ old.canvas.ghost_name))
+AreSamePlaneTools old new = (new.view ≡ old.view) × ((new.textures ≡ old.textures) × ((new.sky ≡ old.sky)
+    × ((new.dir ≡ old.dir) × ((new.colormap ≡ old.colormap)
+    × ((new.cache.ghost_name ≡ old.cache.ghost_name) × ((new.shelf.ghost_name ≡ old.shelf.ghost_name)
+    × (new.canvas.ghost_name ≡ old.canvas.ghost_name)))))))

@@ -5,6 +5,7 @@ ghost use Rattle.wall_columns.specs.Faults.{limit_of_result};
 ghost use Rattle.wall_columns.specs.Windows.{window_at};
 ghost use Rattle.wall_columns.specs.Columns.{plane_number, columns_of, HasMarked, HasSaved, ArePlacesIn};
 ghost use Rattle.wall_columns.specs.Drawn.{CanPaint, PaintsColumns};
+ghost use Rattle.wall_columns.specs.Tools.{AreSameWallTools};
 
 use crate::clips::has_part;
 use crate::column_state::{ColumnState, save_column};
@@ -37,10 +38,7 @@ impl ColumnState {
         requires floor { IsAmongPlanes tools.old.planes.now.planes (plane_number self.old.floor) }
         requires ceiling { IsAmongPlanes tools.old.planes.now.planes
             (plane_number self.old.ceiling) }
-        ensures same_cache { tools.new.cache.ghost_name ≡ tools.old.cache.ghost_name }
-        ensures same_shelf { tools.new.shelf.ghost_name ≡ tools.old.shelf.ghost_name }
-        ensures same_planes { tools.new.planes.ghost_name ≡ tools.old.planes.ghost_name }
-        ensures same_canvas { tools.new.canvas.ghost_name ≡ tools.old.canvas.ghost_name }
+        ensures same { AreSameWallTools tools.old tools.new }
         ensures limit { limit_of_result result ≡ None }
         ensures marked { OnOk result (HasMarked fragment.now (columns_of fragment.now) self.old
             self.new tools.old.planes.now tools.new.planes.now) }

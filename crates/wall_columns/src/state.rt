@@ -16,7 +16,7 @@ ghost use Rattle.wall_columns.specs.Faults.{draw_fault, limit_of_result, IsPlane
 ghost use Rattle.pixel_strips.specs.Dotted.{HasDots, PlacedAlike};
 ghost use Rattle.wall_columns.specs.Draws.{IsWallTexture, IsNoPicture, IsUntouched};
 ghost use Rattle.wall_columns.specs.Noted.{HaveBacks};
-ghost use Rattle.wall_columns.specs.Tools.{HoldsWallTools, range_dots};
+ghost use Rattle.wall_columns.specs.Tools.{AreSameWallTools, HoldsWallTools, range_dots};
 
 use crate::column_state::ColumnState;
 use crate::fault::DrawFault;
@@ -189,10 +189,7 @@ impl WallState {
             CanDraw tools.old.dir.now.lumps tools.old.textures.now tools.old.cache.now number }
         requires floor { IsAmongPlanes tools.old.planes.now.planes self.old.floor }
         requires ceiling { IsAmongPlanes tools.old.planes.now.planes self.old.ceiling }
-        ensures same_cache { tools.new.cache.ghost_name ≡ tools.old.cache.ghost_name }
-        ensures same_shelf { tools.new.shelf.ghost_name ≡ tools.old.shelf.ghost_name }
-        ensures same_planes { tools.new.planes.ghost_name ≡ tools.old.planes.ghost_name }
-        ensures same_canvas { tools.new.canvas.ghost_name ≡ tools.old.canvas.ghost_name }
+        ensures same { AreSameWallTools tools.old tools.new }
         ensures built { (walls : List Wall) (s : PlanesNow) →
             IsBuilt tools.old.view.now walls s self.old tools.old.planes.now.planes →
             length walls < MAX_DRAWSEGS →

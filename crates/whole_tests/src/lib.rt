@@ -17,6 +17,8 @@ mod messages;
 #[cfg(test)]
 mod pixel_strips_tests;
 #[cfg(test)]
+mod pixel_trace_tests;
+#[cfg(test)]
 mod room;
 #[cfg(test)]
 mod shelf_tests;
@@ -36,3 +38,5 @@ mod walks;
 mod wall_columns_tests;
 #[cfg(test)]
 mod walls;
+#[cfg(test)]
+mod weapon_overlay_tests;

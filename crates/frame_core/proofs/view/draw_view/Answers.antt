@@ -1,5 +1,5 @@
 -- The cleared frame is the canvas.
-use Rattle.std.proofs.Common.{◌≡◌, OnOk, ap, subst}
+use Rattle.std.proofs.Common.{◌≡◌, OnOk, ap, subst, ◌∙◌}
 use Rattle.lump_rules.specs.Contents.{lump_bytes}
 use Rattle.pixel_strips.specs.Canvases.{CanvasView}
 use Rattle.view_rules.specs.View.{ViewValue, view_of}
@@ -34,3 +34,10 @@ returns-clause-complete g c = λ contents count hold same room none.
 
 pub returns-clause-again : goal.returns-clause-again
 returns-clause-again g c = λ contents count hold. holds_art-later c.draw_with.ensures.paints.draws.keeps hold
+
+-- the canvas stands where the view lies in the frame
+pub returns-clause-left : goal.returns-clause-left
+returns-clause-left g c = c.draw_with.ensures.paints.place.left ∙ ap (λ (v : ViewValue). v.shape.left) c.new-view.ensures
+
+pub returns-clause-top : goal.returns-clause-top
+returns-clause-top g c = c.draw_with.ensures.paints.place.top ∙ ap (λ (v : ViewValue). v.shape.top) c.new-view.ensures

@@ -35,14 +35,7 @@ loop-edges-init g c = record {
   saved = has_saved-none c.args.tools.now.view.now c.args.fragment.now c.args.places c.args.self.now;
   paints = paints_columns-none c.args.tools.now.view.now c.args.tools.now.dir.now c.args.tools.now.textures.now c.args.tools.now.colormap.0 g.C.Canvas.mark c.args.number c.args.fragment.now
       (window_at c.args.self.now.windows) (g.S.Shelf.view c.args.tools.now.shelf.now) c.args.tools.now.cache.now (g.C.Canvas.view c.args.tools.now.canvas.now);
-  view = refl;
-  textures = refl;
-  dir = refl;
-  colormap = refl;
-  same_cache = refl;
-  same_shelf = refl;
-  same_planes = refl;
-  same_canvas = refl;
+  same = (refl, (refl, (refl, (refl, (refl, (refl, (refl, refl)))))));
 }
 
 pub paint_plan-requires-clause-strips : goal.paint_plan-requires-clause-strips
@@ -51,7 +44,7 @@ paint_plan-requires-clause-strips g c =
     let f : FragmentValue = c.args.fragment.now in
     let p = c.pass_column-plan.ensures in
     let step = c.in-Some.ensures.column f c.loop-edges.k i.at in
-    let height = i.marked.height ∙ c.requires.height ∙ sym (ap (λ r. r.now.shape.height) i.view) in
+    let height = i.marked.height ∙ c.requires.height ∙ sym (ap (λ r. r.now.shape.height) i.same.0) in
     let P : Edges → Type 0 = AreEdgeWords in
     let start = c.args.tools.now in
     let now = c.loop-edges.tools in
@@ -61,7 +54,7 @@ paint_plan-requires-clause-strips g c =
           p.plan height p.most p.rows (subst P (sym step.0) (edges_at-words f.shape f.numbers c.loop-edges.k)),
       strips-drawn now.view.now now.dir.now now.textures.now now.colormap.0 now.cache.now (g.C.Canvas.view now.canvas.now) f c.loop-edges.self.windows.height c.args.numbers.now
           (window_at c.loop-edges.self.windows c.loop-edges.stepper.x) c.in-Some.edges c.pass_column-plan.result p.plan c.requires.numbers
-          (can_paint-over now.cache.now (g.C.Canvas.view now.canvas.now) f (sym (ap (λ r. r.now) i.view)) (sym (ap (λ r. r.now) i.dir)) (sym (ap (λ r. r.now) i.textures)) (sym (ap (λ r. r.0) i.colormap)) later),
+          (can_paint-over now.cache.now (g.C.Canvas.view now.canvas.now) f (sym (ap (λ r. r.now) i.same.0)) (sym (ap (λ r. r.now) i.same.1.1.0)) (sym (ap (λ r. r.now) i.same.1.0)) (sym (ap (λ r. r.0) i.same.1.1.1.0)) later),
     )
 
 pub returns-in_err-paint_plan-clause-paints : goal.returns-in_err-paint_plan-clause-paints
@@ -84,7 +77,7 @@ returns-in_err-paint_plan-clause-paints g c =
     q.painted q.fits q.draws q.place in
     paints_columns-stop start.view.now start.dir.now start.textures.now start.colormap.0 g.C.Canvas.mark c.args.number f (window_at c.args.self.now.windows) (k + 1) (columns_of f) c.from_residual.ensures.1
     (paints_columns-more start.view.now start.dir.now start.textures.now start.colormap.0 g.C.Canvas.mark c.args.number f (window_at c.args.self.now.windows) k x is i.paints
-    (paints_column-over g.C.Canvas.mark c.args.number f (window_at c.args.self.now.windows) x (ap (λ r. r.now) i.view) (ap (λ r. r.now) i.dir) (ap (λ r. r.now) i.textures) (ap (λ r. r.0) i.colormap) one))
+    (paints_column-over g.C.Canvas.mark c.args.number f (window_at c.args.self.now.windows) x (ap (λ r. r.now) i.same.0) (ap (λ r. r.now) i.same.1.1.0) (ap (λ r. r.now) i.same.1.0) (ap (λ r. r.0) i.same.1.1.1.0) one))
 
 pub returns-in_err-paint_plan-clause-height : goal.returns-in_err-paint_plan-clause-height
 returns-in_err-paint_plan-clause-height g c =
@@ -119,7 +112,7 @@ loop-edges-preserved g c =
     (window_at state.windows x) c.in-Some.edges c.pass_column-plan.result p.plan c.requires.numbers
     (window_is f k x c.args.self.now state before between i.marked is inside) (step.0 ∙ edges_are f k x is)
     q.painted q.fits q.draws q.place in
-    let view = q.same.0 ∙ i.view in
+    let view = q.same.0 ∙ i.same.0 in
     let M : PlanesView → Type 0 = λ planes. HasMarked f (k + 1) c.args.self.now next before planes in
     let S : ViewValue → Type 0 = λ v. (facts : WallFacts) (first last : ℕ) → f ≡ fragment_of v facts first last →
     c.save_column.new.openings.saved ≡ column_saved c.args.places k (texture_column v facts x) c.pass_column-plan.result.after passed.openings.saved in
@@ -134,15 +127,10 @@ loop-edges-preserved g c =
           (c.save_column.ensures.length ∙ ap (λ (o : OpeningsView). length o.saved) p.openings)
           (c.save_column.ensures.room ∙ ap (λ (o : OpeningsView). o.room) p.openings);
       paints = paints_columns-more start.view.now start.dir.now start.textures.now start.colormap.0 g.C.Canvas.mark c.args.number f (window_at c.args.self.now.windows) k x is i.paints
-          (paints_column-over g.C.Canvas.mark c.args.number f (window_at c.args.self.now.windows) x (ap (λ r. r.now) i.view) (ap (λ r. r.now) i.dir) (ap (λ r. r.now) i.textures) (ap (λ r. r.0) i.colormap) one);
-      view = view;
-      textures = q.same.1.0 ∙ i.textures;
-      dir = q.same.1.1.0 ∙ i.dir;
-      colormap = q.same.1.1.1.0 ∙ i.colormap;
-      same_cache = q.same.1.1.1.1.0 ∙ i.same_cache;
-      same_shelf = q.same.1.1.1.1.1.0 ∙ i.same_shelf;
-      same_planes = q.same.1.1.1.1.1.1.0 ∙ i.same_planes;
-      same_canvas = q.same.1.1.1.1.1.1.1 ∙ i.same_canvas;
+          (paints_column-over g.C.Canvas.mark c.args.number f (window_at c.args.self.now.windows) x (ap (λ r. r.now) i.same.0) (ap (λ r. r.now) i.same.1.1.0) (ap (λ r. r.now) i.same.1.0) (ap (λ r. r.0) i.same.1.1.1.0) one);
+      same = (view, (q.same.1.0 ∙ i.same.1.0, (q.same.1.1.0 ∙ i.same.1.1.0, (q.same.1.1.1.0 ∙ i.same.1.1.1.0,
+          (q.same.1.1.1.1.0 ∙ i.same.1.1.1.1.0, (q.same.1.1.1.1.1.0 ∙ i.same.1.1.1.1.1.0,
+          (q.same.1.1.1.1.1.1.0 ∙ i.same.1.1.1.1.1.1.0, q.same.1.1.1.1.1.1.1 ∙ i.same.1.1.1.1.1.1.1)))))));
     }
 
 pub returns-clause-paints : goal.returns-clause-paints

@@ -1,10 +1,10 @@
 -- The first k columns are marked, painted and saved.
-use Rattle.std.proofs.Common.{◌≡◌}
 use Rattle.std.specs.Prelude.{Ok}
 use Rattle.wall_edges.specs.Steppers.{IsAt}
 use Rattle.wall_columns.specs.Windows.{window_at}
 use Rattle.wall_columns.specs.Columns.{HasMarked, HasSaved}
 use Rattle.wall_columns.specs.Drawn.{PaintsColumns}
+use Rattle.wall_columns.specs.Tools.{AreSameWallTools}
 use Rattle.wall_columns.proofs.column_state.ColumnState.draw_columns.Given as goal
 
 abbrev pub invariant-loop-edges : goal.invariant-loop-edges
@@ -15,14 +15,7 @@ invariant-loop-edges g l = record {
   paints : PaintsColumns l.initial.tools.view.now l.initial.tools.dir.now l.initial.tools.textures.now l.initial.tools.colormap.0 g.C.Canvas.mark
       l.number l.fragment (window_at l.initial.self.windows) l.k (g.S.Shelf.view l.initial.tools.shelf.now) (g.S.Shelf.view l.tools.shelf.now)
       l.initial.tools.cache.now l.tools.cache.now (g.C.Canvas.view l.initial.tools.canvas.now) (g.C.Canvas.view l.tools.canvas.now) (Ok tt);
-  view : l.tools.view ≡ l.initial.tools.view;
-  textures : l.tools.textures ≡ l.initial.tools.textures;
-  dir : l.tools.dir ≡ l.initial.tools.dir;
-  colormap : l.tools.colormap ≡ l.initial.tools.colormap;
-  same_cache : l.tools.cache.ghost_name ≡ l.initial.tools.cache.ghost_name;
-  same_shelf : l.tools.shelf.ghost_name ≡ l.initial.tools.shelf.ghost_name;
-  same_planes : l.tools.planes.ghost_name ≡ l.initial.tools.planes.ghost_name;
-  same_canvas : l.tools.canvas.ghost_name ≡ l.initial.tools.canvas.ghost_name;
+  same : AreSameWallTools l.initial.tools l.tools;
 }
 
 abbrev pub decreases-loop-edges : goal.decreases-loop-edges
