@@ -1,6 +1,6 @@
 -- What a status says of a run, by what its steps gave.
-use Rattle.std.proofs.Common.{◌≡◌, ℕ, Bool, false, IsTrue, List, [], Option, Some, None, Result, Ok, Err, cond, refl, sym, ap, subst, ◌∙◌}
-use Rattle.std.specs.Prelude.{MatchResult, is_some, is_none, option_map, unwrap_or}
+use Rattle.std.proofs.Common.{◌≡◌, ℕ, Bool, IsTrue, List, [], Option, Some, Result, Ok, Err, refl, sym, ap, subst, ◌∙◌}
+use Rattle.std.specs.Prelude.{MatchResult, unwrap_or}
 use Rattle.outside.specs.Sink.{Grew, GrewByPrefix}
 use Rattle.outside.specs.Shelf.{File}
 use Rattle.outside.specs.Faults.{and_then, from_below}
@@ -11,7 +11,7 @@ use Rattle.outside.proofs.StopLemmas.{stops_all}
 use Rattle.outside.proofs.WriteLemmas.{prefix_of_none}
 use Rattle.lump_rules.specs.Contents.{lump_bytes}
 use Rattle.command_line.specs.declared.command.Format.{Format}
-use Rattle.command_line.specs.declared.command.LevelTask.TheVariants.{Limits, Render}
+use Rattle.command_line.specs.declared.command.LevelTask.TheVariants.{Limits}
 use Rattle.command_line.specs.LevelJobs.{LevelJobValue}
 use Rattle.picture_rules.specs.declared.LimitKind.{LimitKind}
 use Rattle.refusals.specs.declared.refusal.Refusal.{Refusal}
@@ -24,13 +24,15 @@ use Rattle.job_files.specs.declared.status.Status.{Status}
 use Rattle.job_files.specs.declared.status.Status.TheVariants.{Done, Usage, Refused, ReadFault, WriteFault, Limit, ZoneFull, OutOfMemory}
 use Rattle.job_files.specs.Statuses.{DeliversBytes, status_of}
 use Rattle.doom_run.specs.declared.canvas.ViewForm.{ViewForm}
+use Rattle.doom_run.specs.declared.canvas.ViewForm.TheVariants.{Frame, Trace}
 use Rattle.doom_run.specs.declared.render.ReadyViews.{ReadyViews}
 use Rattle.doom_run.specs.Ends.{DeliversAt, EndsAt, IfEnded, IsEnd, IsReadOrFull, IsUnwritten, RendersAt, StopsWith}
 use Rattle.doom_run.specs.Exercises.{IsExercised, StopsAt}
 use Rattle.doom_run.specs.Renders.{IsDelivered, IsReady, ready_views}
-use Rattle.doom_run.specs.Steps.{RunStop, at_step, usage}
+use Rattle.doom_run.specs.Steps.{RunStop, at_step}
 use Rattle.doom_run.specs.Verdict.{Accepted, counted, end_of, exercised, level_verdict, output, rendered}
 use Rattle.doom_run.specs.Views.{ViewsValue, views_of, views_verdict}
+use Rattle.doom_run.specs.Words.{task_of}
 
 -- where nothing was written a run may stop, whatever its verdict
 pub none_stops : (verdict : Result Accepted RunStop) (old new : List ℕ → Type 0) → Grew old new [] → StopsWith verdict old new
@@ -137,18 +139,21 @@ counted_end steady level wads held ready old new status stands is delivers =
     delivers_end steady _ (counted (ready_views (lump_bytes named.contents ready.loaded.files.dir.lumps) ready)) old new status
     (ready_accepted level wads held ready named.contents counted stands is named.are) (delivers (lump_bytes named.contents ready.loaded.files.dir.lumps))
 
--- what its frames come to
-abbrev pub views_to : (ViewsValue → Accepted) → LevelJobValue → List (List ℕ) → List File → Result Accepted RunStop
-views_to accept level wads held = and_then (from_below at_step (views_verdict level wads held)) (λ views. Ok (accept views))
+-- the verdict of a job that writes views in a form
+form_verdict : (form : ViewForm) (level : LevelJobValue) (wads : List (List ℕ)) (held : List File) →
+    and_then (from_below at_step (views_verdict level wads held)) (λ views. Ok (rendered form views)) ≡ level_verdict (task_of form) level wads held
+form_verdict (Frame format) level wads held = refl
+form_verdict Trace level wads held = refl
 
+-- what its views come to
 pub frames_end : (steady later : Bool) (form : ViewForm) (level : LevelJobValue) (wads : List (List ℕ)) (held : List File) (ready : ReadyViews) (old new : List ℕ → Type 0) (status : Status) →
     IsReady level ready → load_in level wads held ≡ Ok (loaded_value ready.loaded) → later ≡ steady →
     ((contents : List (List ℕ)) → files_named wads held ≡ Some contents → RendersAt later (rendered form (ready_views (lump_bytes contents ready.loaded.files.dir.lumps) ready)) old new status) →
-    EndsAt steady (views_to (rendered form) level wads held) old new status
+    EndsAt steady (level_verdict (task_of form) level wads held) old new status
 frames_end steady later form level wads held ready old new status stands is same renders =
     let named = loaded_named level wads held (loaded_value ready.loaded) is in
     renders_end steady later _ (rendered form (ready_views (lump_bytes named.contents ready.loaded.files.dir.lumps) ready)) old new status same
-    (ready_accepted level wads held ready named.contents (rendered form) stands is named.are) (renders named.contents named.named)
+    (sym (form_verdict form level wads held) ∙ ready_accepted level wads held ready named.contents (rendered form) stands is named.are) (renders named.contents named.named)
 
 -- a delivery is done, failed to write, or met a limit: what holds of none of these holds of no delivery
 delivers_none : (P : Status → Type 0) → (P Done → ⊥) → (P WriteFault → ⊥) → ((view : ℕ) (kind : LimitKind) (count : ℕ) → P (Limit view kind count) → ⊥) →

@@ -4,7 +4,7 @@ use Rattle.std.specs.Prelude.{option_map}
 use Rattle.outside.specs.Shelf.{ShelfView}
 use Rattle.lump_rules.specs.Contents.{lump_bytes}
 use Rattle.view_rules.specs.declared.Eye.{Eye}
-use Rattle.view_rules.specs.View.{ViewValue, view_of}
+use Rattle.view_rules.specs.View.{view_of}
 use Rattle.picture_rules.specs.declared.OverLimit.{OverLimit}
 use Rattle.picture_rules.specs.Paints.{overlaid_paints}
 use Rattle.texture_build.specs.Draws.{FitBeside}

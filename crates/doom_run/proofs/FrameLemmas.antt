@@ -51,14 +51,6 @@ view_get bytes ready k eye e =
     seen_at (seen_view (loaded_value ready.loaded)) k ready.loaded.files.path
     ∙ mapped_twice eye_of (λ (e : Eye). seen_by (loaded_value ready.loaded) k e) (slice_get ready.loaded.files.path k) eye e
 
--- what was drawn of a viewpoint is that of the number
-pub drawn_at : (bytes : ℕ → List ℕ) (ready : ReadyViews) (k : ℕ) (eye : Eye) (c : ViewCanvas) → option_map eye_of (slice_get ready.loaded.files.path k) ≡ Some eye →
-    view_bytes (form_of c) ready.loaded.scene.scene.base.palette (scene_of bytes ready.loaded.scene.scene) (seen_by (loaded_value ready.loaded) k eye) ≡ canvas_bytes ready.loaded.scene.scene.base.palette c →
-    IsDrawnAt (ready_views bytes ready) k c
-unfolding ready_views
-drawn_at bytes ready k eye c at is =
-    ap (option_map (view_bytes (form_of c) ready.loaded.scene.scene.base.palette (scene_of bytes ready.loaded.scene.scene))) (view_get bytes ready k eye at) ∙ ap (λ (xs : List ℕ). Some xs) is
-
 -- whether a viewpoint is over a limit is told of the number
 pub over_at-eye : (bytes : ℕ → List ℕ) (ready : ReadyViews) (k : ℕ) (eye : Eye) → option_map eye_of (slice_get ready.loaded.files.path k) ≡ Some eye →
     over_at (ready_views bytes ready) k ≡ view_over (view_of ready.loaded.files.tables eye) (scene_of bytes ready.loaded.scene.scene) ready.shop.limits

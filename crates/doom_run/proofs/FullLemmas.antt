@@ -1,5 +1,5 @@
 -- What a full zone leaves out.
-use Rattle.std.proofs.Common.{◌≡◌, ◌<◌, ◌≤◌, ◌⊎◌, inl, inr, ℕ, Bool, true, false, cond, List, Option, Some, None, Result, Ok, Err, IfSome, refl, arith, ap, sym, subst, ◌∙◌}
+use Rattle.std.proofs.Common.{◌≡◌, ◌<◌, ◌≤◌, ◌⊎◌, inl, inr, ℕ, List, Option, Some, None, Result, Ok, Err, IfSome, refl, arith, ap, sym, subst, ◌∙◌}
 use Rattle.outside.specs.Shelf.{File}
 use Rattle.outside.specs.Faults.{and_then, from_below}
 use Rattle.outside.specs.Stops as files
@@ -17,7 +17,7 @@ use Rattle.level_audit.specs.scene_load.Fulls.{IsFullLoad}
 use Rattle.level_audit.specs.scene_load.Loads.{LoadedValue, load_in, loaded_sizes, wad_bytes}
 use Rattle.doom_run.specs.Exercises.{made_files, made_level, made_wads}
 use Rattle.doom_run.specs.Fulls.{HasRoom, IsFullDraw, IsFullRun, IsOver}
-use Rattle.doom_run.specs.Steps.{RunStop, absent, at_step, else_usage, usage}
+use Rattle.doom_run.specs.Steps.{RunStop, absent, at_step, else_usage}
 use Rattle.doom_run.specs.Verdict.{Accepted, audited, counted, enough_for, exercised, job_verdict, level_verdict, rendered}
 use Rattle.doom_run.specs.Views.{ViewsValue, views_of}
 

@@ -22,9 +22,8 @@ use Rattle.texture_lists.specs.Asked.{IsListLump}
 use Rattle.texture_build.specs.Draws.{FitBeside, FitsBeside}
 use Rattle.texture_build.specs.Views.{TexturesView}
 use Rattle.command_line.specs.LevelJobs.{LevelJobValue}
-use Rattle.command_line.specs.declared.command.Format.{Format}
 use Rattle.command_line.specs.declared.command.LevelTask.{LevelTask}
-use Rattle.command_line.specs.declared.command.LevelTask.TheVariants.{Audit, Limits, Render}
+use Rattle.command_line.specs.declared.command.LevelTask.TheVariants.{Audit, Limits}
 use Rattle.refusals.specs.declared.refusal.Refusal.{Refusal}
 use Rattle.scene_rules.specs.Scenes.{LevelBase}
 use Rattle.scene_rules.specs.Sizes.{greatest_by, is_last, is_list, is_map_lump, lump_block}
@@ -36,11 +35,14 @@ use Rattle.level_audit.specs.scene_load.Fulls.{IsBaseWithin}
 use Rattle.level_audit.specs.scene_load.Loads.{LoadedValue, load_in, loaded_value, wad_bytes}
 use Rattle.level_audit.proofs.scene_load.AuditedLemmas.{audited_by}
 use Rattle.level_audit.proofs.scene_load.LoadLemmas.{audited_of}
+use Rattle.doom_run.specs.declared.canvas.ViewForm.{ViewForm}
+use Rattle.doom_run.specs.declared.canvas.ViewForm.TheVariants.{Frame, Trace}
 use Rattle.doom_run.specs.declared.render.ReadyViews.{ReadyViews}
 use Rattle.doom_run.specs.Layers.{SeenView}
 use Rattle.doom_run.specs.Leasts.{base_block, block_beside, is_base_lump, least_loading, least_over, least_views, level_least, painted_block, source_block}
 use Rattle.doom_run.specs.Renders.{FitDue, IsReady, ready_views}
 use Rattle.doom_run.specs.Views.{ViewsValue, due_views, first_over, views_of}
+use Rattle.doom_run.specs.Words.{task_of}
 use Rattle.doom_run.proofs.EndLemmas.{loaded_named, ready_as}
 
 -- what stands beside `m` for each stands there for the greatest
@@ -188,12 +190,17 @@ module _ (level : LevelJobValue) (wads : List (List ℕ)) (files : List File) (l
   unfolding least_views
   least_limits = subst (λ n. n ≤ level.settings.zone) (least_is Limits) (none_room _)
 
--- a job that draws the frames that are due
-pub least_render : (level : LevelJobValue) (wads : List (List ℕ)) (files : List File) (format : Format) (ready : ReadyViews) → load_in level wads files ≡ Ok (loaded_value ready.loaded) → IsReady level ready →
+-- a job that writes views draws those that are due
+least_due : (form : ViewForm) (loaded : LoadedValue) (r : ViewsValue) → least_over loaded r.scene (due_views r) ≡ least_views (task_of form) loaded r
+unfolding least_views
+least_due (Frame format) loaded r = refl
+least_due Trace loaded r = refl
+
+pub least_render : (level : LevelJobValue) (wads : List (List ℕ)) (files : List File) (form : ViewForm) (ready : ReadyViews) → load_in level wads files ≡ Ok (loaded_value ready.loaded) → IsReady level ready →
     IsBaseWithin ready.loaded.files.dir.lumps level ready.loaded.scene.scene.base.colormap → FitDue (wad_bytes wads files ready.loaded.files.dir.lumps) (lump_at ready.loaded.files.dir.lumps ready.loaded.scene.scene.base.colormap).size ready →
-    level_least (Render format) level wads files ≤ level.settings.zone
-unfolding least_views due_views
-least_render level wads files format ready is stands within fit =
+    level_least (task_of form) level wads files ≤ level.settings.zone
+unfolding due_views
+least_render level wads files form ready is stands within fit =
     let loaded = loaded_value ready.loaded in
     let bytes = wad_bytes wads files ready.loaded.files.dir.lumps in
     let r = ready_views bytes ready in
@@ -201,7 +208,7 @@ least_render level wads files format ready is stands within fit =
     let drawn = taken_beside (painted_block ready.loaded.files.dir.lumps (textures_view ready.loaded.scene.scene) ready.loaded.scene.scene.base.colormap r.scene) (lump_block ready.loaded.files.dir.lumps ready.loaded.scene.scene.base.colormap) level.settings.zone room
     (unwrap_or (first_over r) (length r.views)) r.views
     (λ k l. views_beside level ready stands room r (slice_get r.views k) (fit k l)) in
-    subst (λ n. n ≤ level.settings.zone) (ap (λ (v : ViewsValue). least_views (Render format) loaded v) (sym (ready_as bytes level ready stands)) ∙ least_is level wads files loaded is within (Render format))
+    subst (λ n. n ≤ level.settings.zone) (least_due form loaded r ∙ ap (λ (v : ViewsValue). least_views (task_of form) loaded v) (sym (ready_as bytes level ready stands)) ∙ least_is level wads files loaded is within (task_of form))
     (over_room level wads files loaded is within r.scene (due_views r) drawn)
   where
     views_beside : (level : LevelJobValue) (ready : ReadyViews) → IsReady level ready → lump_block ready.loaded.files.dir.lumps ready.loaded.scene.scene.base.colormap ≤ level.settings.zone → (r : ViewsValue) (o : Option SeenView) →
@@ -213,12 +220,12 @@ least_render level wads files format ready is stands within fit =
         (subst (λ (n : ℕ). FitBeside ready.loaded.files.dir.lumps (textures_view ready.loaded.scene.scene) ready.loaded.scene.scene.base.colormap (lump_at ready.loaded.files.dir.lumps ready.loaded.scene.scene.base.colormap).size n (overlaid_paints v.view r.scene v.layers)) stands.zone fits)
 
 -- the same, told of the contents of the WADs that are named
-pub least_rendered : (level : LevelJobValue) (wads : List (List ℕ)) (files : List File) (format : Format) (ready : ReadyViews) → load_in level wads files ≡ Ok (loaded_value ready.loaded) → IsReady level ready →
+pub least_rendered : (level : LevelJobValue) (wads : List (List ℕ)) (files : List File) (form : ViewForm) (ready : ReadyViews) → load_in level wads files ≡ Ok (loaded_value ready.loaded) → IsReady level ready →
     IsBaseWithin ready.loaded.files.dir.lumps level ready.loaded.scene.scene.base.colormap →
     ((contents : List (List ℕ)) → files_named wads files ≡ Some contents → FitDue (lump_bytes contents ready.loaded.files.dir.lumps) (lump_at ready.loaded.files.dir.lumps ready.loaded.scene.scene.base.colormap).size ready) →
-    level_least (Render format) level wads files ≤ level.settings.zone
-least_rendered level wads files format ready is stands within fits =
+    level_least (task_of form) level wads files ≤ level.settings.zone
+least_rendered level wads files form ready is stands within fits =
     let named = loaded_named level wads files (loaded_value ready.loaded) is in
     let count = (lump_at ready.loaded.files.dir.lumps ready.loaded.scene.scene.base.colormap).size in
-    least_render level wads files format ready is stands within
+    least_render level wads files form ready is stands within
     (subst (λ (contents : List (List ℕ)). FitDue (lump_bytes contents ready.loaded.files.dir.lumps) count ready) (sym named.are) (fits named.contents named.named))

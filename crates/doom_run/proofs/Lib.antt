@@ -1,4 +1,5 @@
 pub mod AskedLemmas
+pub mod CanvasLemmas
 pub mod CountLemmas
 pub mod DrawnLemmas
 pub mod EndLemmas
@@ -9,8 +10,10 @@ pub mod LayerLemmas
 pub mod LeastLemmas
 pub mod LimitLemmas
 pub mod MadeLemmas
+pub mod OverlayLemmas
 pub mod PictureLemmas
 pub mod ReadyLemmas
+pub mod RowLemmas
 pub mod RunLemmas
 pub mod SeenLemmas
 pub mod TakeLemmas

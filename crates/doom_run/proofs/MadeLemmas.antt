@@ -1,5 +1,5 @@
 -- What the made files give: they are held, their path is not long, and a ready scene of theirs has the views of the verdict.
-use Rattle.std.proofs.Common.{◌≡◌, ℕ, ◌<◌, ◌≤◌, Bool, true, IsTrue, List, [], ◌∷◌, length, map, Option, Some, None, Result, Ok, Err, refl, subst, ap, sym, ◌∙◌, arith}
+use Rattle.std.proofs.Common.{◌≡◌, ℕ, ◌<◌, ◌≤◌, Bool, true, IsTrue, List, [], ◌∷◌, length, Option, Some, None, Result, Ok, Err, refl, subst, ap, sym, ◌∙◌, arith}
 use Rattle.std.specs.Prelude.{nat_lt, codes, unwrap_or}
 use Rattle.std.proofs.lemmas.Bool.Decides.{nat_tests}
 use Rattle.outside.specs.MemoryShelf.{ShelfInMemory, memory_view}

@@ -3,11 +3,18 @@ use Rattle.std.specs.Prelude.{◌≡◌, ℕ, Bool, IsTrue, List, [], Some, None
 use Rattle.std.specs.Option.{option_map_or}
 use Rattle.outside.specs.Shelf.{ShelfView}
 use Rattle.outside.specs.Sink.{Grew, GrewByPrefix}
+use Rattle.view_rules.specs.Sound.{IsWithinFrame}
+use Rattle.pixel_rules.specs.declared.Painter.{Painter}
+use Rattle.pixel_strips.specs.Canvases.{CanvasView}
+use Rattle.pixel_strips.specs.Dotted.{HasDots}
+use Rattle.picture_rules.specs.Paints.{overlaid_paints}
+use Rattle.picture_rules.specs.Picture.{AreInView}
 use Rattle.texture_build.specs.Draws.{KeepsArt}
 use Rattle.sound_scene.specs.Sound.{textures_view}
 use Rattle.frame_writer.specs.Ppm.{ppm}
 use Rattle.pixel_trace.specs.Traces.{cells_bytes}
 use Rattle.command_line.specs.declared.command.Format.TheVariants.{Index, Ppm}
+use Rattle.frame_core.specs.Views.{placed_for}
 use Rattle.frame_core.specs.declared.fault.ViewFault.{ViewFault}
 use Rattle.frame_core.specs.declared.fault.ViewFault.TheVariants as fault
 use Rattle.job_files.specs.declared.status.Status.{Status}
@@ -17,6 +24,7 @@ use Rattle.doom_run.specs.declared.canvas.ViewCanvas.{ViewCanvas}
 use Rattle.doom_run.specs.declared.canvas.ViewCanvas.TheVariants as canvas
 use Rattle.doom_run.specs.declared.canvas.ViewForm.{ViewForm}
 use Rattle.doom_run.specs.declared.canvas.ViewForm.TheVariants as form
+use Rattle.doom_run.specs.Layers.{SeenView}
 use Rattle.doom_run.specs.Views.{ViewsValue, over_at, view_bytes}
 
 -- what is written of a canvas
@@ -34,6 +42,15 @@ form_of (canvas.Trace frame) = form.Trace
 -- it has what is to be written of view number k, which is there
 abbrev pub IsDrawnAt : ViewsValue → ℕ → ViewCanvas → Type 0
 IsDrawnAt r k c = option_map (view_bytes (form_of c) r.palette r.scene) (slice_get r.views k) ≡ Some (canvas_bytes r.palette c)
+
+-- View number k is there, it lies in the frame, and all that it shows in it; a canvas that is placed where it
+-- lies was given that, and then its layers.
+pub record HasView (mark : Painter → ℕ → ℕ) (r : ViewsValue) (k : ℕ) (before now : CanvasView) : Type 0 where
+  pub seen : SeenView
+  pub is : slice_get r.views k ≡ Some seen
+  pub window : IsWithinFrame seen.view.shape
+  pub in_view : AreInView seen.view.shape (overlaid_paints seen.view r.scene seen.layers)
+  pub painted : HasDots mark (overlaid_paints seen.view r.scene seen.layers) (placed_for seen.view before) now
 
 -- what is written of view number k, nothing where there is no such view
 unfoldable pub frame_at : ViewForm → ViewsValue → ℕ → List ℕ

@@ -15,6 +15,7 @@ ghost use Rattle.sound_scene.specs.Sound.{textures_view};
 ghost use Rattle.command_line.specs.Commands.{IsCount};
 ghost use Rattle.command_line.specs.declared.command.LevelTask.TheVariants.{Render};
 ghost use Rattle.job_files.specs.Files.{files_named};
+ghost use Rattle.level_audit.specs.Weapons.{AreThere};
 ghost use Rattle.level_audit.specs.scene_load.Fulls.{IsBaseWithin, IsFullLoad};
 ghost use Rattle.outside.specs.Sink.{Writes};
 ghost use Rattle.level_audit.specs.scene_load.Loads.{load_in, loaded_value};
@@ -22,6 +23,7 @@ ghost use Rattle.frame_core.specs.Views.{CanDrawView};
 ghost use Rattle.job_files.specs.Statuses.{DeliversBytes};
 ghost use Rattle.doom_run.specs.Ends.{IfEnded};
 ghost use Rattle.doom_run.specs.Exercises.{ExercisesAt, exercise_verdict, frame_size, made_files, made_level, made_wads, summary_line};
+ghost use Rattle.doom_run.specs.Frames.{form_of};
 ghost use Rattle.doom_run.specs.Leasts.{level_least};
 ghost use Rattle.doom_run.specs.Renders.{FitDue, IsFullReady, IsFullView, IsReady, ready_views};
 
@@ -159,6 +161,8 @@ fn render_all(
     requires few { length ready.old.loaded.files.path ≤ MAX_VIEWS }
     requires scene { CanDrawView ready.old.loaded.files.dir.lumps ready.old.loaded.scene.scene
         ready.old.loaded.cache }
+    requires layers { AreThere ready.old.loaded.files.dir.lumps ready.old.loaded.weapons }
+    requires form { form_of canvas.old ≡ ViewForm.Frame format }
     ensures ends { (contents : List (List ℕ)) (count : ℕ) →
         HoldsArt (memory_view shelf.old) ready.old.loaded.files.dir
         (textures_view ready.old.loaded.scene.scene) contents

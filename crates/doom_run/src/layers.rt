@@ -2,25 +2,30 @@
 //
 // Rules: `specs/Layers`; `picture_rules`, Paints (`overlaid_paints`). The original:
 // `R_DrawPlayerSprites`, r_things.c.
+ghost use Rattle.art_rules.specs.Books.{book_lumps};
+ghost use Rattle.csv_tables.specs.declared.weapons.TheConstants.{MAX_WEAPONS};
 ghost use Rattle.doom_run.specs.Drawn.{DrawsLayered, DrawsLayers};
-ghost use Rattle.doom_run.specs.Layers.{layer_of, light_at};
+ghost use Rattle.doom_run.specs.Layers.{layer_of, layers_from, light_at};
 ghost use Rattle.frame_core.specs.Ends.{EndsOver, EndsWithin};
 ghost use Rattle.frame_core.specs.Views.{CanDrawView};
 ghost use Rattle.level_audit.specs.Weapons.{AreThere};
+ghost use Rattle.picture_rules.specs.sprite.Weapons.{weapon_dots};
 ghost use Rattle.pixel_strips.specs.Standing.{StandsInFrame};
-ghost use Rattle.std.specs.Prelude.{◌≡◌, length, option_map};
+ghost use Rattle.std.specs.Prelude.{◌≡◌, ◌<◌, ◌≤◌, ◌∷◌, [], Contains, Some, length, option_map};
 ghost use Rattle.view_rules.specs.View.{view_of};
-ghost use Rattle.weapon_overlay.specs.Layers.{layer_value};
+ghost use Rattle.weapon_overlay.specs.Layers.{PaintsLayer, layer_state, layer_tools, layer_value};
+ghost use Rattle.word_rules.specs.Listed.{joined_lists};
 
 use csv_tables::WeaponRow;
 use frame_core::{ViewFault, Workshop, draw_view_on};
 use level_audit::{LoadedScene, SoundScene};
-use lump_cache::CacheFault;
+use lump_cache::{CacheFault, LumpCache};
 use outside::Shelf;
 use pixel_strips::Canvas;
 use sprite_book::SpriteBook;
 use view_frame::View;
 use view_rules::Eye;
+use wad_dir::{Directory, LumpNo};
 use weapon_overlay::{Layer, overlay};
 
 // Draws the view of `eye`, which is view number `number` of the path, and its weapon layers.
@@ -106,20 +111,85 @@ fn draw_layers<S: Shelf, C: Canvas>(
     let view = View::new(&loaded.files.tables, eye);
     let light = light_at(&loaded.scene, eye);
     let colormap = loaded.scene.colormap();
-    for (i, row) in table.rows().iter().enumerate() {
-        if row.view as u32 == number
-            && let Some(layer) = layer_of(book, row, i as u16 + 1, light)
-        {
-            overlay(
-                &view,
-                &layer,
-                colormap,
-                &mut loaded.cache,
-                &loaded.files.dir,
-                shelf,
-                canvas,
-            )?;
-        }
+    draw_rows(
+        &view,
+        table.rows(),
+        book,
+        light,
+        number,
+        colormap,
+        &mut loaded.cache,
+        &loaded.files.dir,
+        shelf,
+        canvas,
+    )
+}
+
+// Draws the layers of those rows that are of view number `number`.
+fn draw_rows<S: Shelf, C: Canvas>(
+    view: &View<'_>,
+    rows: &[WeaponRow],
+    book: &SpriteBook,
+    light: i16,
+    number: u32,
+    colormap: LumpNo,
+    cache: &mut LumpCache,
+    dir: &Directory,
+    shelf: &mut S,
+    canvas: &mut C,
+) -> Result<(), CacheFault>
+    requires count { length rows.now ≤ MAX_WEAPONS }
+    requires slots { length dir.now.lumps ≤ cache.old.lumps }
+    requires colormap { colormap.0 < length dir.now.lumps }
+    requires pictures { AreThere dir.now.lumps (Some book.now) }
+    requires placed { StandsInFrame view.now.shape (C.view canvas.old) }
+    ensures paints { PaintsLayer C.mark (layer_tools dir.now colormap.0)
+        (Contains (book_lumps book.now))
+        (λ art. joined_lists (weapon_dots view.now art)
+        (layers_from book.now light number 1 rows.now))
+        (layer_state (S.view shelf.old) cache.old (C.view canvas.old))
+        (layer_state (S.view shelf.new) cache.new (C.view canvas.new)) result }
+{
+    for (i, row) in rows.iter().enumerate() {
+        let place = i as u16 + 1;
+        draw_row(
+            view, row, place, book, light, number, colormap, cache, dir, shelf, canvas,
+        )?;
     }
     Ok(())
+}
+
+// Draws the layer of row number `place`, if the row is of view number `number` and its frame has
+// a picture.
+fn draw_row<S: Shelf, C: Canvas>(
+    view: &View<'_>,
+    row: &WeaponRow,
+    place: u16,
+    book: &SpriteBook,
+    light: i16,
+    number: u32,
+    colormap: LumpNo,
+    cache: &mut LumpCache,
+    dir: &Directory,
+    shelf: &mut S,
+    canvas: &mut C,
+) -> Result<(), CacheFault>
+    requires slots { length dir.now.lumps ≤ cache.old.lumps }
+    requires colormap { colormap.0 < length dir.now.lumps }
+    requires pictures { AreThere dir.now.lumps (Some book.now) }
+    requires placed { StandsInFrame view.now.shape (C.view canvas.old) }
+    ensures paints { PaintsLayer C.mark (layer_tools dir.now colormap.0)
+        (Contains (book_lumps book.now))
+        (λ art. joined_lists (weapon_dots view.now art)
+        (layers_from book.now light number place (row.now ∷ [])))
+        (layer_state (S.view shelf.old) cache.old (C.view canvas.old))
+        (layer_state (S.view shelf.new) cache.new (C.view canvas.new)) result }
+{
+    if row.view as u32 != number {
+        return Ok(());
+    }
+    let Some(layer) = layer_of(book, row, place, light) else {
+        return Ok(());
+    };
+    overlay(view, &layer, colormap, cache, dir, shelf, canvas)
 }

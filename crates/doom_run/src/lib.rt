@@ -2,9 +2,9 @@
 //!
 //! A run has a command, which its words give (`command_line`). Each job has two halves:
 //! `prepare_..` reads and checks all that it needs and takes all memory, `deliver_..` writes. So
-//! nothing is written before the last step that can refuse has passed. `render` alone reads on while
-//! it writes: each frame goes out as it is drawn. The jobs `flat` and `make`, the statuses and their
-//! lines are in `job_files`.
+//! nothing is written before the last step that can refuse has passed. `render` and `trace` alone
+//! read on while they write: each view goes out as it is drawn. The jobs `flat` and `make`, the
+//! statuses and their lines are in `job_files`.
 //!
 //! Rules: specs, Words (whether the words ask for files), Audits (how large a zone has to be for a
 //! level), Views (the frames and the counts of a path, and the first view over a limit), Exercises

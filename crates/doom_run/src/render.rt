@@ -2,7 +2,7 @@
 ghost use Rattle.command_line.specs.Choices.{AreSettings};
 ghost use Rattle.command_line.specs.LevelJobs.{level_job_value};
 ghost use Rattle.doom_run.specs.Ends.{IsEnd, RendersAt};
-ghost use Rattle.doom_run.specs.Frames.{IsDrawnAt, KeepsReady, ViewEnds, form_of, status_of_view};
+ghost use Rattle.doom_run.specs.Frames.{HasView, IsDrawnAt, KeepsReady, ViewEnds, form_of, status_of_view};
 ghost use Rattle.doom_run.specs.Renders.{FitDue, FitsAt, HasReadyAsked, IsDelivered, IsFullView, IsLayerLump, IsReady, ready_views};
 ghost use Rattle.doom_run.specs.Takes.{InOrderAfter, LoadsOnce};
 ghost use Rattle.doom_run.specs.Verdict.{rendered};
@@ -35,6 +35,7 @@ use frame_core::{Limits, ViewFault, Workshop};
 use job_files::{LoadFault, Status};
 use level_audit::{LoadedScene, load_scene};
 use outside::{Fault, Shelf, Sink};
+use pixel_strips::Canvas;
 use std::alloc::Global;
 use view_rules::Eye;
 
@@ -134,6 +135,48 @@ fn status_of_view(view: u32, fault: ViewFault) -> Status
     }
 }
 
+// Draws view number `number` and its layers on a canvas.
+fn draw_on<S: Shelf, C: Canvas>(
+    ready: &mut ReadyViews,
+    number: u32,
+    shelf: &mut S,
+    canvas: &mut C,
+) -> Result<(), ViewFault>
+    requires drawable { CanDrawView ready.old.loaded.files.dir.lumps
+        ready.old.loaded.scene.scene ready.old.loaded.cache }
+    requires layers { AreThere ready.old.loaded.files.dir.lumps ready.old.loaded.weapons }
+    requires there { number < length ready.old.loaded.files.path }
+    ensures seen { (contents : List (List ℕ)) (count : ℕ) →
+        HoldsArt (S.view shelf.old) ready.old.loaded.files.dir
+        (textures_view ready.old.loaded.scene.scene) contents
+        ready.old.loaded.scene.scene.base.colormap count ready.old.loaded.cache →
+        OnOk result (HasView C.mark (ready_views
+        (lump_bytes contents ready.old.loaded.files.dir.lumps) ready.old) number
+        (C.view canvas.old) (C.view canvas.new)) }
+    ensures within { (bytes : ℕ → List ℕ) →
+        OnOk result (over_at (ready_views bytes ready.old) number ≡ None) }
+    ensures over { (bytes : ℕ → List ℕ) → IfErr result (λ fault.
+        IfSome (limit_of_view fault) (λ over.
+        over_at (ready_views bytes ready.old) number ≡ Some over)) }
+    ensures fits { (contents : List (List ℕ)) (count : ℕ) →
+        HoldsArt (S.view shelf.old) ready.old.loaded.files.dir
+        (textures_view ready.old.loaded.scene.scene) contents
+        ready.old.loaded.scene.scene.base.colormap count ready.old.loaded.cache →
+        OnOk result (FitsAt (lump_bytes contents ready.old.loaded.files.dir.lumps) count
+        ready.old number) }
+    ensures draws { DrawsWith view_fault (IsViewTexture ready.old.loaded.scene.scene)
+        (λ lump. IsViewLump ready.old.loaded.files.dir.lumps ready.old.loaded.scene.scene lump
+        ⊎ IsLayerLump ready.old.loaded lump)
+        (S.view shelf.old) (S.view shelf.new) ready.old.loaded.files.dir
+        (textures_view ready.old.loaded.scene.scene) ready.old.loaded.cache
+        ready.new.loaded.cache result }
+    ensures keeps { KeepsReady (S.view shelf.old) (S.view shelf.new) ready.old ready.new }
+{
+    let loaded = &mut ready.loaded;
+    let eye = eye_at(&loaded.files.path, number);
+    draw_layered(loaded, &mut ready.shop, number, eye, shelf, canvas)
+}
+
 // Draws view number `number` on a canvas that is cleared.
 fn draw_at<S: Shelf>(
     ready: &mut ReadyViews,
@@ -171,17 +214,18 @@ fn draw_at<S: Shelf>(
     ensures keeps { KeepsReady (S.view shelf.old) (S.view shelf.new) ready.old ready.new }
     ensures form { form_of canvas.new ≡ form_of canvas.old }
 {
-    let loaded = &mut ready.loaded;
-    let shop = &mut ready.shop;
-    let eye = eye_at(&loaded.files.path, number);
     match canvas {
-        ViewCanvas::Index(frame) | ViewCanvas::Ppm(frame) => {
+        ViewCanvas::Index(frame) => {
             frame.clear();
-            draw_layered(loaded, shop, number, eye, shelf, frame)
+            draw_on(ready, number, shelf, frame)
+        }
+        ViewCanvas::Ppm(frame) => {
+            frame.clear();
+            draw_on(ready, number, shelf, frame)
         }
         ViewCanvas::Trace(frame) => {
             frame.clear();
-            draw_layered(loaded, shop, number, eye, shelf, frame)
+            draw_on(ready, number, shelf, frame)
         }
     }
 }

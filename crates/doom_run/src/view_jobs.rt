@@ -1,5 +1,5 @@
 // The jobs that draw or count views: `render`, `trace`, `limits` and `exercise`.
-ghost use Rattle.std.specs.Prelude.{◌≡◌, ◌≤◌, ◌⊎◌, ℕ, Bool, false, List, [], map, Err, IsTrue};
+ghost use Rattle.std.specs.Prelude.{◌≡◌, ◌≤◌, ◌⊎◌, ℕ, Bool, List, [], map};
 ghost use Rattle.outside.specs.Causes.{FaultsRose};
 ghost use Rattle.outside.specs.Shelf.{File, Holds};
 ghost use Rattle.outside.specs.Sink.{Grew};
@@ -12,7 +12,6 @@ ghost use Rattle.doom_run.specs.Ends.{EndsAt, IsEnd, IsReadOrFull, IsUnwritten};
 ghost use Rattle.doom_run.specs.Exercises.{made_files, made_level, made_wads};
 ghost use Rattle.doom_run.specs.Fulls.{IsFullDraw};
 ghost use Rattle.doom_run.specs.Leasts.{level_least};
-ghost use Rattle.doom_run.specs.Steps.{usage};
 ghost use Rattle.doom_run.specs.Takes.{TakesOnce};
 ghost use Rattle.doom_run.specs.Verdict.{job_verdict, level_verdict};
 ghost use Rattle.doom_run.specs.Words.{task_of};

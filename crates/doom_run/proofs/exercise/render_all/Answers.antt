@@ -17,13 +17,13 @@ returns-in-Done-clause-ends c contents count art steady =
     (ready_views (lump_bytes contents c.args.ready.now.loaded.files.dir.lumps) c.args.ready.now) c.deliver_render.new.out c.summary_of.result
     c.summary_of.ensures
     (ap (λ (files : SceneFiles). length files.path) c.deliver_render.ensures.loaded ∙ sym (length_views (lump_bytes contents c.args.ready.now.loaded.files.dir.lumps) c.args.ready.now))
-    (c.in-Done.ensures.ends contents count art).0 (tally_of c.new-tally.ensures (c.in-Done.ensures.ends contents count art).1)
+    (rw c.requires.form at (c.in-Done.ensures.ends contents count art)).0 (tally_of c.new-tally.ensures (rw c.requires.form at (c.in-Done.ensures.ends contents count art)).1)
 
 pub returns-in_default : goal.returns-in_default
 returns-in_default c = record {
   ends = λ contents count art steady.
       stopped_exercise c.args.n c.args.format (ready_views (lump_bytes contents c.args.ready.now.loaded.files.dir.lumps) c.args.ready.now) _
-      (IsTallyOf c.new-tally.result) (IsTallyOf c.deliver_render.new.out) c.deliver_render.result c.in_default.not-Done steady (c.deliver_render.ensures.ends contents count art) c.deliver_render.ensures.write_fault;
+      (IsTallyOf c.new-tally.result) (IsTallyOf c.deliver_render.new.out) c.deliver_render.result c.in_default.not-Done steady (rw c.requires.form at (c.deliver_render.ensures.ends contents count art)) c.deliver_render.ensures.write_fault;
   zone_full = λ wanted widest e. c.deliver_render.ensures.zone_full wanted widest (same_status _ _ e);
   fits = λ contents count art end. c.deliver_render.ensures.fits contents count art end;
 }

@@ -1,4 +1,4 @@
-use Rattle.std.proofs.Common.{◌≡◌, ◌<◌, ℤ, List, length, w16, w32, rules, sym, ap, subst, ◌∙◌}
+use Rattle.std.proofs.Common.{List, length, w16, w32, rules, ap, ◌∙◌}
 use Rattle.std.proofs.lemmas.Int.{to_z-of_z}
 use Rattle.level_rules.specs.declared.Surface.{Surface}
 use Rattle.doom_run.proofs.LayerLemmas.{length_surfaces, light_found}

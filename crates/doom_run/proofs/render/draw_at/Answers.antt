@@ -1,25 +1,18 @@
--- A viewpoint stands for the number of its view.
-use Rattle.std.proofs.Common.{◌∙◌}
+-- A canvas that is cleared and given a view has it.
+use Rattle.std.proofs.Common.{ap}
 use Rattle.std.proofs.lemmas.Result.{on_ok_weaker}
-use Rattle.lump_rules.specs.Contents.{lump_bytes}
-use Rattle.doom_run.proofs.FitLemmas.{fits_at}
-use Rattle.doom_run.proofs.FrameLemmas.{over_at-eye, picture_at}
+use Rattle.pixel_strips.specs.Canvases.{CanvasView}
+use Rattle.doom_run.proofs.CanvasLemmas.{index_drawn, ppm_drawn, trace_drawn}
 use Rattle.doom_run.proofs.render.draw_at.Goals as goal
 
-pub returns-clause-picture : goal.returns-clause-picture
-returns-clause-picture g c contents count holds =
-    let bytes = lump_bytes contents c.args.ready.now.loaded.files.dir.lumps in
-    on_ok_weaker c.draw_view.result (λ is. picture_at bytes c.args.ready.now c.args.number c.eye_at-eye.result _ c.eye_at-eye.ensures is) (c.draw_view.ensures.picture contents count holds)
+pub returns-in-Index-clause-drawn : goal.returns-in-Index-clause-drawn
+returns-in-Index-clause-drawn g c contents count holds =
+    on_ok_weaker c.draw_on.result (λ has. index_drawn (ap (λ (v : CanvasView). v.cells) c.clear.ensures) has) (c.draw_on.ensures.seen contents count holds)
 
-pub returns-clause-within : goal.returns-clause-within
-returns-clause-within g c bytes =
-    on_ok_weaker c.draw_view.result (λ none. over_at-eye bytes c.args.ready.now c.args.number c.eye_at-eye.result c.eye_at-eye.ensures ∙ none) (c.draw_view.ensures.within bytes)
+pub returns-in-Ppm-clause-drawn : goal.returns-in-Ppm-clause-drawn
+returns-in-Ppm-clause-drawn g c contents count holds =
+    on_ok_weaker c.draw_on-in-Ppm.result (λ has. ppm_drawn (ap (λ (v : CanvasView). v.cells) c.clear-in-Ppm.ensures) has) (c.draw_on-in-Ppm.ensures.seen contents count holds)
 
-pub returns-clause-over : goal.returns-clause-over
-returns-clause-over g c bytes =
-    rw (over_at-eye bytes c.args.ready.now c.args.number c.eye_at-eye.result c.eye_at-eye.ensures) (c.draw_view.ensures.over bytes)
-
-pub returns-clause-fits : goal.returns-clause-fits
-returns-clause-fits g c contents count holds =
-    let bytes = lump_bytes contents c.args.ready.now.loaded.files.dir.lumps in
-    on_ok_weaker c.draw_view.result (λ fits. fits_at bytes count c.args.ready.now c.args.number c.eye_at-eye.result c.eye_at-eye.ensures fits) (c.draw_view.ensures.fits contents count holds)
+pub returns-in-Trace-clause-drawn : goal.returns-in-Trace-clause-drawn
+returns-in-Trace-clause-drawn g c contents count holds =
+    on_ok_weaker c.draw_on-in-Trace.result (λ has. trace_drawn (ap (λ (v : CanvasView). v.cells) c.clear-in-Trace.ensures) has) (c.draw_on-in-Trace.ensures.seen contents count holds)

@@ -6,6 +6,7 @@ use Rattle.doom_run.specs.Frames.{form_of}
 use Rattle.doom_run.proofs.TakeLemmas.{both_asked, drawn_after}
 use Rattle.doom_run.specs.Renders.{ready_views}
 use Rattle.doom_run.proofs.FrameLemmas.{view_fails, view_put, view_put_failed}
+use Rattle.doom_run.proofs.ReadyLemmas.{view_full}
 use Rattle.doom_run.proofs.render.render_view.Goals as goal
 
 pub returns-in-Err-clause-ends : goal.returns-in-Err-clause-ends
@@ -29,6 +30,10 @@ returns-in-Err-put-clause-ends g c contents count holds =
 pub returns-in-Err-clause-order : goal.returns-in-Err-clause-order
 returns-in-Err-clause-order g c items asked order =
     drawn_after _ c.args.number c.draw_at.result c.in-Err.fault c.status_of_view.result c.in-Err.is c.status_of_view.ensures (c.draw_at.ensures.draws.order items asked.textures (λ lump. both_asked c.args.ready.now items asked lump) order)
+
+pub returns-in-Err-clause-zone_full : goal.returns-in-Err-clause-zone_full
+returns-in-Err-clause-zone_full g c wanted widest is =
+    view_full c.args.ready.now c.args.number c.draw_at.result c.in-Err.fault c.status_of_view.result wanted widest c.in-Err.is c.status_of_view.ensures is c.draw_at.ensures.draws.full
 
 pub returns-in-Ok-put-clause-fits : goal.returns-in-Ok-put-clause-fits
 returns-in-Ok-put-clause-fits g c contents count holds = rw c.in-Ok.is at (c.draw_at.ensures.fits contents count holds)

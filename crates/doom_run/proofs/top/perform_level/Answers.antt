@@ -1,15 +1,19 @@
 use Rattle.std.proofs.Common.{map, refl}
 use Rattle.command_line.specs.LevelJobs.{level_job_value}
-use Rattle.doom_run.proofs.FullLemmas.{level_full, render_full}
+use Rattle.doom_run.proofs.FullLemmas.{level_full, render_full, trace_full}
 use Rattle.doom_run.proofs.top.perform_level.Goals as goal
 
 pub returns-in-Render-clause-ends : goal.returns-in-Render-clause-ends
 returns-in-Render-clause-ends g c files held =
-    rw c.in-Render.is (c.perform_render.ensures.ends files (λ asked. held (rw c.in-Render.is asked)))
+    rw c.in-Render.is (c.perform_views.ensures.ends files (held (rw c.in-Render.is refl)))
 
 pub returns-in-Render-clause-zone_full : goal.returns-in-Render-clause-zone_full
 returns-in-Render-clause-zone_full g c files wanted widest is held =
-    rw c.in-Render.is (render_full c.in-Render.format (level_job_value c.args.level.now) (map (λ wad. wad.now) c.args.wads.now) files (c.perform_render.ensures.zone_full files wanted widest is (λ asked. held (rw c.in-Render.is asked))))
+    rw c.in-Render.is (render_full c.in-Render.format (level_job_value c.args.level.now) (map (λ wad. wad.now) c.args.wads.now) files (c.perform_views.ensures.zone_full files wanted widest is (held (rw c.in-Render.is refl))))
+
+pub returns-in-Trace-clause-zone_full : goal.returns-in-Trace-clause-zone_full
+returns-in-Trace-clause-zone_full g c files wanted widest is held =
+    rw c.in-Trace.is (trace_full (level_job_value c.args.level.now) (map (λ wad. wad.now) c.args.wads.now) files (c.perform_views-in-Trace.ensures.zone_full files wanted widest is (held (rw c.in-Trace.is refl))))
 
 pub returns-in-Audit-clause-zone_full : goal.returns-in-Audit-clause-zone_full
 returns-in-Audit-clause-zone_full g c files wanted widest is held =
@@ -21,10 +25,10 @@ returns-in-Limits-clause-zone_full g c files wanted widest is held =
 
 pub returns-in-Render-clause-least : goal.returns-in-Render-clause-least
 returns-in-Render-clause-least g c files end held =
-    rw c.in-Render.is (c.perform_render.ensures.least files end (λ asked. held (rw c.in-Render.is asked)))
+    rw c.in-Render.is (c.perform_views.ensures.least files end (held (rw c.in-Render.is refl)))
 
 pub returns-in-Render-clause-taken : goal.returns-in-Render-clause-taken
-returns-in-Render-clause-taken g c files held calm = c.perform_render.ensures.taken files (λ asked. held (rw c.in-Render.is asked)) calm
+returns-in-Render-clause-taken g c files held calm = c.perform_views.ensures.taken files (held (rw c.in-Render.is refl)) calm
 
 pub returns-in-Audit-clause-least : goal.returns-in-Audit-clause-least
 returns-in-Audit-clause-least g c files end held = rw c.in-Audit.is (c.perform_audit.ensures.least files end (held (rw c.in-Audit.is refl)))

@@ -1,0 +1,184 @@
+-- The layers of a view by the dots that a canvas was given, and the view with its layers.
+use Rattle.std.proofs.Common.{◌≡◌, ◌⊎◌, ℕ, ℤ, List, [], Option, Some, None, Result, Ok, Err, OnOk, IsErrAnd, refl, sym, ap, subst, ◌∙◌, arith, inl, inr}
+use Rattle.std.specs.Prelude.{Contains}
+use Rattle.outside.specs.Shelf.{ShelfView}
+use Rattle.outside.specs.Faults.{fault_above}
+use Rattle.word_rules.specs.Listed.{joined_lists}
+use Rattle.zone_rules.specs.Zones.{Heap}
+use Rattle.lump_cache.specs.declared.fault.CacheFault.{CacheFault}
+use Rattle.lump_cache.specs.declared.fault.CacheFault.TheVariants as cache
+use Rattle.lump_cache.specs.Caches.{cache_fault}
+use Rattle.lump_cache.proofs.CallLemmas.{result_above}
+use Rattle.view_rules.specs.View.{ViewValue, view_of}
+use Rattle.view_rules.specs.declared.Eye.{Eye}
+use Rattle.view_rules.specs.Sound.{IsWithinFrame}
+use Rattle.csv_tables.specs.declared.weapons.WeaponRow.{WeaponRow}
+use Rattle.art_rules.specs.declared.shapes.Frame.{Frame}
+use Rattle.art_rules.specs.Books.{book_lumps}
+use Rattle.pixel_rules.specs.Art.{Art}
+use Rattle.pixel_rules.specs.Dots.{Dot}
+use Rattle.pixel_rules.specs.declared.Painter.{Painter}
+use Rattle.pixel_strips.specs.Canvases.{CanvasView}
+use Rattle.pixel_strips.specs.Dotted.{HasDots}
+use Rattle.picture_rules.specs.sprite.Weapons.{weapon_dots}
+use Rattle.picture_rules.specs.Paints.{overlaid_paints, view_paints}
+use Rattle.picture_rules.specs.Picture.{AreInView}
+use Rattle.picture_rules.proofs.FrameLemmas.{in_view-append}
+use Rattle.pixel_trace.proofs.SeenLemmas.{overlaid-dots}
+use Rattle.texture_build.specs.Draws.{DrawsWith, FitBeside}
+use Rattle.texture_build.proofs.BesideLemmas.{fit_beside-append}
+use Rattle.texture_build.proofs.DrawLemmas.{draws-above, draws-stop, draws-then, draws-wider, holds_art-later}
+use Rattle.sound_scene.specs.Sound.{textures_view}
+use Rattle.level_audit.specs.scene_load.Loads.{LoadedValue, loaded_value, weapon_lumps}
+use Rattle.level_audit.specs.declared.scene_load.load.LoadedScene.{LoadedScene}
+use Rattle.frame_core.specs.declared.fault.ViewFault.{ViewFault}
+use Rattle.frame_core.specs.Faults.{from_cache, view_fault}
+use Rattle.frame_core.specs.Scenes.{scene_of}
+use Rattle.frame_core.specs.Views.{IsViewLump, IsViewTexture, PaintsView, placed_for, view_scene, view_state}
+use Rattle.weapon_overlay.specs.Layers.{PaintsLayer, layer_state, layer_tools}
+use Rattle.weapon_overlay.proofs.InViewLemmas.{layers_dots-in}
+use Rattle.weapon_overlay.proofs.LayerLemmas.{layer-none}
+use Rattle.weapon_overlay.proofs.StepLemmas.{layers-same, layers-wider}
+use Rattle.doom_run.specs.Drawn.{DrawsLayered, DrawsLayers, KeepsLoaded, layered_dots, layers_dots, loaded_scene}
+use Rattle.doom_run.specs.Layers.{layers_by, layers_of, light_at}
+use Rattle.doom_run.specs.Renders.{IsLayerLump}
+use Rattle.doom_run.proofs.RowLemmas.{rows_dots}
+
+-- the dots of the layers of a view, whatever the art
+abbrev view_layers : LoadedScene → ℕ → Eye → Art → List Dot
+view_layers loaded k eye art = joined_lists (weapon_dots (view_of loaded.files.tables eye) art) (layers_of (loaded_value loaded) k eye)
+
+module _ {mark : Painter → ℕ → ℕ} (k : ℕ) (eye : Eye) (old new : LoadedScene) {view after : ShelfView} {before now : CanvasView} {result : Result (Unit {0}) CacheFault} where
+  -- a call that painted the layers of a view drew them
+  layers_drawn : KeepsLoaded old new →
+      PaintsLayer mark (layer_tools old.files.dir old.scene.scene.base.colormap) (IsLayerLump old) (view_layers old k eye) (layer_state view old.cache before) (layer_state after new.cache now) result →
+      DrawsLayers mark k eye view after old new before now result
+  unfolding scene_of
+  layers_drawn keeps one = record {
+    painted = λ contents count hold. one.painted (textures_view old.scene.scene) contents count hold;
+    fits = λ contents count hold. one.fits (textures_view old.scene.scene) contents count hold;
+    draws = one.draws (textures_view old.scene.scene);
+    place = one.place;
+    keeps = keeps;
+  }
+
+-- they are those of the rows of its table
+rows_layers : (loaded : LoadedScene) (k : ℕ) (eye : Eye) (rows : List WeaponRow) (book : List Frame) (v : ViewValue) (light : ℤ) (art : Art) → loaded.files.weapons ≡ Some rows → loaded.weapons ≡ Some book →
+    v ≡ view_of loaded.files.tables eye → light ≡ light_at loaded.scene.scene eye → rows_dots v book light k 1 rows art ≡ view_layers loaded k eye art
+unfolding layers_of
+rows_layers loaded k eye rows book v light art some own same lit =
+    let w = view_of loaded.files.tables eye in
+    ap (λ (u : ViewValue). rows_dots u book light k 1 rows art) same
+    ∙ ap (λ (z : ℤ). rows_dots w book z k 1 rows art) lit
+    ∙ ap (λ (b : Option (List Frame)). joined_lists (weapon_dots w art) (layers_by (Some rows) b (light_at loaded.scene.scene eye) k)) (sym own)
+    ∙ ap (λ (t : Option (List WeaponRow)). joined_lists (weapon_dots w art) (layers_by t loaded.weapons (light_at loaded.scene.scene eye) k)) (sym some)
+
+book_lump : (loaded : LoadedScene) (book : List Frame) → loaded.weapons ≡ Some book → (lump : ℕ) → Contains (book_lumps book) lump → IsLayerLump loaded lump
+book_lump loaded book own lump has = subst (λ (b : Option (List Frame)). Contains (weapon_lumps b) lump) (sym own) has
+
+-- so a call that painted these drew the layers of the view
+pub rows-drawn : {mark : Painter → ℕ → ℕ} (k : ℕ) (eye : Eye) (old new : LoadedScene) {view after : ShelfView} {before now : CanvasView} {result : Result (Unit {0}) CacheFault}
+    (rows table : List WeaponRow) (book : List Frame) (v : ViewValue) (light lit : ℤ) (colormap : ℕ) → rows ≡ table → old.files.weapons ≡ Some table → old.weapons ≡ Some book →
+    v ≡ view_of old.files.tables eye → lit ≡ light → light ≡ light_at old.scene.scene eye → colormap ≡ old.scene.scene.base.colormap → KeepsLoaded old new →
+    PaintsLayer mark (layer_tools old.files.dir colormap) (Contains (book_lumps book)) (rows_dots v book lit k 1 rows) (layer_state view old.cache before) (layer_state after new.cache now) result →
+    DrawsLayers mark k eye view after old new before now result
+rows-drawn {mark} k eye old new {view} {after} {before} {now} {result} rows table book v light lit colormap all some own same at here map keeps one =
+    let with_map = subst (λ (m : ℕ). PaintsLayer mark (layer_tools old.files.dir m) (Contains (book_lumps book)) (rows_dots v book lit k 1 rows) (layer_state view old.cache before) (layer_state after new.cache now) result) map one in
+    layers_drawn k eye old new keeps
+    (layers-wider (book_lump old book own) (layers-same (view_layers old k eye) (λ art. rows_layers old k eye rows book v lit art (some ∙ ap Some (sym all)) own same (at ∙ here)) with_map))
+
+-- a view without a table of layers, or without their pictures, has none
+no_table : (loaded : LoadedValue) (k : ℕ) (eye : Eye) → loaded.files.weapons ≡ None → layers_of loaded k eye ≡ []
+unfolding layers_of
+no_table loaded k eye none = ap (λ (t : Option (List WeaponRow)). layers_by t loaded.weapons (light_at loaded.scene eye) k) none
+
+no_book : (table : Option (List WeaponRow)) (light : ℤ) (k : ℕ) → layers_by table None light k ≡ []
+no_book None light k = refl
+no_book (Some rows) light k = refl
+
+no_pictures : (loaded : LoadedValue) (k : ℕ) (eye : Eye) → loaded.weapons ≡ None → layers_of loaded k eye ≡ []
+unfolding layers_of
+no_pictures loaded k eye none =
+    ap (λ (b : Option (List Frame)). layers_by loaded.files.weapons b (light_at loaded.scene eye) k) none ∙ no_book loaded.files.weapons (light_at loaded.scene eye) k
+
+no_dots : (loaded : LoadedScene) (k : ℕ) (eye : Eye) (art : Art) → layers_of (loaded_value loaded) k eye ≡ [] → view_layers loaded k eye art ≡ []
+unfolding joined_lists
+no_dots loaded k eye art none = ap (joined_lists (weapon_dots (view_of loaded.files.tables eye) art)) none
+
+none_drawn : {mark : Painter → ℕ → ℕ} (k : ℕ) (eye : Eye) (loaded : LoadedScene) (view : ShelfView) (canvas : CanvasView) → layers_of (loaded_value loaded) k eye ≡ [] →
+    DrawsLayers {A = Unit {0}} mark k eye view view loaded loaded canvas canvas (Ok tt)
+none_drawn {mark} k eye loaded view canvas none =
+    layers_drawn k eye loaded loaded (record { files = refl; scene = refl; weapons = refl }) (layer-none view loaded.cache canvas tt (λ art. no_dots loaded k eye art none))
+
+pub no_table-drawn : {mark : Painter → ℕ → ℕ} (k : ℕ) (eye : Eye) (loaded : LoadedScene) (view : ShelfView) (canvas : CanvasView) → loaded.files.weapons ≡ None →
+    DrawsLayers {A = Unit {0}} mark k eye view view loaded loaded canvas canvas (Ok tt)
+no_table-drawn k eye loaded view canvas none = none_drawn k eye loaded view canvas (no_table (loaded_value loaded) k eye none)
+
+pub no_book-drawn : {mark : Painter → ℕ → ℕ} (k : ℕ) (eye : Eye) (loaded : LoadedScene) (view : ShelfView) (canvas : CanvasView) → loaded.weapons ≡ None →
+    DrawsLayers {A = Unit {0}} mark k eye view view loaded loaded canvas canvas (Ok tt)
+no_book-drawn k eye loaded view canvas none = none_drawn k eye loaded view canvas (no_pictures (loaded_value loaded) k eye none)
+
+-- the faults of the cache are those of a view
+same_fault : (e : CacheFault) → view_fault (from_cache e) ≡ fault_above (λ (none : ⊥). absurd none) (cache_fault e)
+same_fault (cache.ZoneFull wanted widest) = refl
+same_fault cache.ReadFault = refl
+
+on_ok_err : {A E : Type 0} (P : Type 0) (fault : E) (whole : Result A E) → IsErrAnd whole (λ e. e ≡ fault) → OnOk whole P
+on_ok_err P fault (Ok x) is = absurd is
+on_ok_err P fault (Err e) is = tt
+
+-- the lumps of a view and of its layers
+abbrev IsLayeredLump : LoadedScene → ℕ → Type 0
+IsLayeredLump loaded lump = IsViewLump loaded.files.dir.lumps loaded.scene.scene lump ⊎ IsLayerLump loaded lump
+
+-- a call that drew layers, its faults told as those of a view
+layers_above : (old : LoadedScene) {view after : ShelfView} {x y : Heap} (lower : Result (Unit {0}) CacheFault) →
+    DrawsWith cache_fault (λ (n : ℕ). ⊥) (IsLayerLump old) view after old.files.dir (textures_view old.scene.scene) x y lower →
+    DrawsWith view_fault (IsViewTexture old.scene.scene) (IsLayeredLump old) view after old.files.dir (textures_view old.scene.scene) x y (result_above from_cache lower)
+layers_above old lower one =
+    draws-above (λ (none : ⊥). absurd none) from_cache same_fault lower
+    (draws-wider {among = IsViewTexture old.scene.scene} {pictures = IsLayeredLump old} (λ number none. absurd none) (λ lump layer. inr layer) one)
+
+-- what is drawn first: the view, on a canvas that is placed where it lies in the frame
+abbrev pub DrawsFirst : (Painter → ℕ → ℕ) → Eye → LoadedScene → Heap → ShelfView → ShelfView → CanvasView → CanvasView → Type 0
+DrawsFirst mark eye old z view between before drawn =
+    PaintsView {A = Unit {0}} mark (view_scene (view_of old.files.tables eye) old.scene.scene old.files.dir) (view_paints (view_of old.files.tables eye))
+    (view_state view old.cache (placed_for (view_of old.files.tables eye) before)) (view_state between z drawn) (Ok tt)
+
+module _ {mark : Painter → ℕ → ℕ} (k : ℕ) (eye : Eye) (old new : LoadedScene) (z : Heap) {view between after : ShelfView} {before drawn now : CanvasView} where
+  -- after it the layers
+  pub layered-then : DrawsFirst mark eye old z view between before drawn → ((bytes : ℕ → List ℕ) → AreInView (view_of old.files.tables eye).shape (view_paints (view_of old.files.tables eye) (scene_of bytes old.scene.scene))) →
+      IsWithinFrame (view_of old.files.tables eye).shape → DrawsLayers {A = Unit {0}} mark k eye between after (record old { cache = z }) new drawn now (Ok tt) →
+      DrawsLayered {A = Unit {0}} mark k eye view after old new before now (Ok tt)
+  unfolding overlaid_paints
+  layered-then one inside window two =
+      let v = view_of old.files.tables eye in
+      let layers = layers_of (loaded_value old) k eye in
+      record {
+        painted = λ contents count hold. overlaid-dots v (loaded_scene contents old) layers (one.painted contents count hold) (two.painted contents count (holds_art-later one.draws.keeps hold));
+        in_view = λ bytes.
+            in_view-append v.shape (view_paints v (scene_of bytes old.scene.scene)) (joined_lists (weapon_dots v (scene_of bytes old.scene.scene).art) layers) (inside bytes)
+            (layers_dots-in v (scene_of bytes old.scene.scene).art layers (omega (arith, window.height)) (omega (arith, window.width)));
+        window = window;
+        fits = λ contents count hold.
+            fit_beside-append old.files.dir.lumps (textures_view old.scene.scene) old.scene.scene.base.colormap count old.cache.size (view_paints v (loaded_scene contents old)) (layers_dots k eye old (loaded_scene contents old))
+            (one.fits contents count hold)
+            (subst (λ (n : ℕ). FitBeside old.files.dir.lumps (textures_view old.scene.scene) old.scene.scene.base.colormap count n (layers_dots k eye old (loaded_scene contents old))) one.draws.keeps.counts.0
+            (two.fits contents count (holds_art-later one.draws.keeps hold)));
+        draws = draws-then (draws-wider {among = IsViewTexture old.scene.scene} {pictures = IsLayeredLump old} (λ number among. among) (λ lump seen. inl seen) one.draws) (layers_above old (Ok tt) two.draws);
+        keeps = record { files = two.keeps.files; scene = two.keeps.scene; weapons = two.keeps.weapons };
+      }
+
+  -- or a fault of theirs
+  pub layered-fail : {fault : CacheFault} {whole : Result (Unit {0}) ViewFault} → IsErrAnd whole (λ e. e ≡ from_cache fault) → DrawsFirst mark eye old z view between before drawn → IsWithinFrame (view_of old.files.tables eye).shape →
+      DrawsLayers {A = Unit {0}} mark k eye between after (record old { cache = z }) new drawn now (Err fault) → DrawsLayered mark k eye view after old new before now whole
+  layered-fail {fault} {whole} is one window two = record {
+    painted = λ contents count hold. on_ok_err (HasDots mark (layered_dots k eye old (loaded_scene contents old)) (placed_for (view_of old.files.tables eye) before) now) (from_cache fault) whole is;
+    in_view = λ bytes. on_ok_err (AreInView (view_of old.files.tables eye).shape (layered_dots k eye old (scene_of bytes old.scene.scene))) (from_cache fault) whole is;
+    window = window;
+    fits = λ contents count hold.
+        on_ok_err (FitBeside old.files.dir.lumps (textures_view old.scene.scene) old.scene.scene.base.colormap count old.cache.size (layered_dots k eye old (loaded_scene contents old))) (from_cache fault) whole is;
+    draws = draws-then (draws-wider {among = IsViewTexture old.scene.scene} {pictures = IsLayeredLump old} (λ number among. among) (λ lump seen. inl seen) one.draws)
+        (draws-stop refl is (layers_above old (Err fault) two.draws));
+    keeps = record { files = two.keeps.files; scene = two.keeps.scene; weapons = two.keeps.weapons };
+  }
