@@ -28,6 +28,16 @@ use view_rules::Eye;
 use wad_dir::{Directory, LumpNo};
 use weapon_overlay::{Layer, overlay};
 
+// What the layers of a view are drawn from, whose number is that of the view in its path.
+#[derive(Clone, Copy)]
+struct LayerScene<'a> {
+    view: &'a View<'a>,
+    book: &'a SpriteBook,
+    dir: &'a Directory,
+    colormap: LumpNo,
+    number: u32,
+}
+
 // Draws the view of `eye`, which is view number `number` of the path, and its weapon layers.
 pub fn draw_layered<S: Shelf, C: Canvas>(
     loaded: &mut LoadedScene,
@@ -110,16 +120,18 @@ fn draw_layers<S: Shelf, C: Canvas>(
     };
     let view = View::new(&loaded.files.tables, eye);
     let light = light_at(&loaded.scene, eye);
-    let colormap = loaded.scene.colormap();
-    draw_rows(
-        &view,
-        table.rows(),
+    let scene = LayerScene {
+        view: &view,
         book,
-        light,
+        dir: &loaded.files.dir,
+        colormap: loaded.scene.colormap(),
         number,
-        colormap,
+    };
+    draw_rows(
+        &scene,
+        table.rows(),
+        light,
         &mut loaded.cache,
-        &loaded.files.dir,
         shelf,
         canvas,
     )
@@ -127,34 +139,28 @@ fn draw_layers<S: Shelf, C: Canvas>(
 
 // Draws the layers of those rows that are of view number `number`.
 fn draw_rows<S: Shelf, C: Canvas>(
-    view: &View<'_>,
+    scene: &LayerScene<'_>,
     rows: &[WeaponRow],
-    book: &SpriteBook,
     light: i16,
-    number: u32,
-    colormap: LumpNo,
     cache: &mut LumpCache,
-    dir: &Directory,
     shelf: &mut S,
     canvas: &mut C,
 ) -> Result<(), CacheFault>
     requires count { length rows.now ≤ MAX_WEAPONS }
-    requires slots { length dir.now.lumps ≤ cache.old.lumps }
-    requires colormap { colormap.0 < length dir.now.lumps }
-    requires pictures { AreThere dir.now.lumps (Some book.now) }
-    requires placed { StandsInFrame view.now.shape (C.view canvas.old) }
-    ensures paints { PaintsLayer C.mark (layer_tools dir.now colormap.0)
-        (Contains (book_lumps book.now))
-        (λ art. joined_lists (weapon_dots view.now art)
-        (layers_from book.now light number 1 rows.now))
+    requires slots { length scene.now.dir.now.lumps ≤ cache.old.lumps }
+    requires colormap { scene.now.colormap.0 < length scene.now.dir.now.lumps }
+    requires pictures { AreThere scene.now.dir.now.lumps (Some scene.now.book.now) }
+    requires placed { StandsInFrame scene.now.view.now.shape (C.view canvas.old) }
+    ensures paints { PaintsLayer C.mark (layer_tools scene.now.dir.now scene.now.colormap.0)
+        (Contains (book_lumps scene.now.book.now))
+        (λ art. joined_lists (weapon_dots scene.now.view.now art)
+        (layers_from scene.now.book.now light scene.now.number 1 rows.now))
         (layer_state (S.view shelf.old) cache.old (C.view canvas.old))
         (layer_state (S.view shelf.new) cache.new (C.view canvas.new)) result }
 {
     for (i, row) in rows.iter().enumerate() {
         let place = i as u16 + 1;
-        draw_row(
-            view, row, place, book, light, number, colormap, cache, dir, shelf, canvas,
-        )?;
+        draw_row(scene, row, place, light, cache, shelf, canvas)?;
     }
     Ok(())
 }
@@ -162,34 +168,39 @@ fn draw_rows<S: Shelf, C: Canvas>(
 // Draws the layer of row number `place`, if the row is of view number `number` and its frame has
 // a picture.
 fn draw_row<S: Shelf, C: Canvas>(
-    view: &View<'_>,
+    scene: &LayerScene<'_>,
     row: &WeaponRow,
     place: u16,
-    book: &SpriteBook,
     light: i16,
-    number: u32,
-    colormap: LumpNo,
     cache: &mut LumpCache,
-    dir: &Directory,
     shelf: &mut S,
     canvas: &mut C,
 ) -> Result<(), CacheFault>
-    requires slots { length dir.now.lumps ≤ cache.old.lumps }
-    requires colormap { colormap.0 < length dir.now.lumps }
-    requires pictures { AreThere dir.now.lumps (Some book.now) }
-    requires placed { StandsInFrame view.now.shape (C.view canvas.old) }
-    ensures paints { PaintsLayer C.mark (layer_tools dir.now colormap.0)
-        (Contains (book_lumps book.now))
-        (λ art. joined_lists (weapon_dots view.now art)
-        (layers_from book.now light number place (row.now ∷ [])))
+    requires slots { length scene.now.dir.now.lumps ≤ cache.old.lumps }
+    requires colormap { scene.now.colormap.0 < length scene.now.dir.now.lumps }
+    requires pictures { AreThere scene.now.dir.now.lumps (Some scene.now.book.now) }
+    requires placed { StandsInFrame scene.now.view.now.shape (C.view canvas.old) }
+    ensures paints { PaintsLayer C.mark (layer_tools scene.now.dir.now scene.now.colormap.0)
+        (Contains (book_lumps scene.now.book.now))
+        (λ art. joined_lists (weapon_dots scene.now.view.now art)
+        (layers_from scene.now.book.now light scene.now.number place
+        (row.now ∷ [])))
         (layer_state (S.view shelf.old) cache.old (C.view canvas.old))
         (layer_state (S.view shelf.new) cache.new (C.view canvas.new)) result }
 {
-    if row.view as u32 != number {
+    if row.view as u32 != scene.number {
         return Ok(());
     }
-    let Some(layer) = layer_of(book, row, place, light) else {
+    let Some(layer) = layer_of(scene.book, row, place, light) else {
         return Ok(());
     };
-    overlay(view, &layer, colormap, cache, dir, shelf, canvas)
+    overlay(
+        scene.view,
+        &layer,
+        scene.colormap,
+        cache,
+        scene.dir,
+        shelf,
+        canvas,
+    )
 }

@@ -10,28 +10,28 @@ use Rattle.doom_run.proofs.PictureLemmas.{layer_there}
 use Rattle.doom_run.proofs.RowLemmas.{layer_among, row_dots-bare, row_dots-other, row_dots-own}
 use Rattle.doom_run.proofs.layers.draw_row.Goals as goal
 
-pub returns-then-row-number : goal.returns-then-row-number
-returns-then-row-number g c = record {
+pub returns-then-row-scene : goal.returns-then-row-scene
+returns-then-row-scene g c = record {
   paints = layer-none (g.S.Shelf.view c.args.shelf.now) c.args.cache.now (g.C.Canvas.view c.args.canvas.now) tt
-      (λ art. row_dots-other c.args.view.now c.args.book.now c.args.light c.args.number c.args.place c.args.row.now art c.if-row-number.true);
+      (λ art. row_dots-other c.args.scene.now.view.now c.args.scene.now.book.now c.args.light c.args.scene.now.number c.args.place c.args.row.now art c.if-row-scene.true);
 }
 
 pub returns-in_default : goal.returns-in_default
 returns-in_default g c = record {
   paints = layer-none (g.S.Shelf.view c.args.shelf.now) c.args.cache.now (g.C.Canvas.view c.args.canvas.now) tt
-      (λ art. row_dots-bare c.args.view.now c.args.book.now c.args.light _ c.args.number c.args.place c.args.row.now art (to_z-of_z w16 c.args.light (search rules)) c.in_default.ensures);
+      (λ art. row_dots-bare c.args.scene.now.view.now c.args.scene.now.book.now c.args.light _ c.args.scene.now.number c.args.place c.args.row.now art (to_z-of_z w16 c.args.light (search rules)) c.in_default.ensures);
 }
 
 pub overlay-requires-clause-picture : goal.overlay-requires-clause-picture
 overlay-requires-clause-picture g c =
-    layer_there c.args.dir.now.lumps (Some c.args.book.now) c.in-Some.layer.shape.lump.0 c.requires.pictures
-    (layer_among c.args.book.now _ c.args.place c.args.row.now (layer_value c.in-Some.layer) c.in-Some.ensures)
+    layer_there c.args.scene.now.dir.now.lumps (Some c.args.scene.now.book.now) c.in-Some.layer.shape.lump.0 c.requires.pictures
+    (layer_among c.args.scene.now.book.now _ c.args.place c.args.row.now (layer_value c.in-Some.layer) c.in-Some.ensures)
 
 pub returns : goal.returns
 returns g c =
-    let among = layer_among c.args.book.now _ c.args.place c.args.row.now (layer_value c.in-Some.layer) c.in-Some.ensures in
+    let among = layer_among c.args.scene.now.book.now _ c.args.place c.args.row.now (layer_value c.in-Some.layer) c.in-Some.ensures in
     let same = to_z-of_z w16 c.args.light (search rules) in
     record {
-      paints = layers-wider (λ lump is. subst (Contains (book_lumps c.args.book.now)) (sym is) among)
-          (layers-same _ (λ art. row_dots-own c.args.view.now c.args.book.now c.args.light _ c.args.number c.args.place c.args.row.now (layer_value c.in-Some.layer) art same c.if-row-number.false c.in-Some.ensures) c.overlay.ensures.paints);
+      paints = layers-wider (λ lump is. subst (Contains (book_lumps c.args.scene.now.book.now)) (sym is) among)
+          (layers-same _ (λ art. row_dots-own c.args.scene.now.view.now c.args.scene.now.book.now c.args.light _ c.args.scene.now.number c.args.place c.args.row.now (layer_value c.in-Some.layer) art same c.if-row-scene.false c.in-Some.ensures) c.overlay.ensures.paints);
     }

@@ -8,5 +8,5 @@ use Rattle.doom_run.proofs.layers.draw_rows.Given as goal
 
 abbrev pub invariant-loop-i : goal.invariant-loop-i
 invariant-loop-i g l =
-    PaintsLayer {A = Unit {0}} g.C.Canvas.mark (layer_tools l.dir l.colormap.0) (Contains (book_lumps l.book)) (rows_dots l.view l.book l.light l.number 1 (take l.i l.rows))
+    PaintsLayer {A = Unit {0}} g.C.Canvas.mark (layer_tools l.scene.dir.now l.scene.colormap.0) (Contains (book_lumps l.scene.book.now)) (rows_dots l.scene.view.now l.scene.book.now l.light l.scene.number 1 (take l.i l.rows))
     (layer_state (g.S.Shelf.view l.fn.shelf) l.fn.cache (g.C.Canvas.view l.fn.canvas)) (layer_state (g.S.Shelf.view l.shelf) l.cache (g.C.Canvas.view l.canvas)) (Ok tt)
