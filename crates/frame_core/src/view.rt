@@ -48,7 +48,7 @@ use wad_dir::Directory;
 /// answer is Ok or a limit (`complete`). After an error the frame's bytes are not told; after any
 /// answer the next call finds what a first call finds: a cache that was at rest and held the bytes
 /// of its files is at rest and holds them (`again`). The frame is placed where the view lies in it
-/// (`left`, `top`), so that a weapon can be painted on it (`Workshop::canvas`).
+/// (`left`, `top`, `window`), so that a weapon can be painted on it (`Workshop::canvas`).
 ///
 /// The original: `R_RenderPlayerView`, r_main.c, and `R_ExecuteSetViewSize` for the place.
 pub fn draw_view<S: Shelf>(
@@ -83,6 +83,7 @@ pub fn draw_view<S: Shelf>(
         cache.old cache.new }
     ensures left { shop.new.frame.left ≡ (view_of tables.now eye).shape.left }
     ensures top { shop.new.frame.top ≡ (view_of tables.now eye).shape.top }
+    ensures window { IsWithinFrame (view_of tables.now eye).shape }
     ensures limits { shop.new.limits ≡ shop.old.limits }
 {
     shop.frame.clear();

@@ -1,19 +1,24 @@
 // A weapon layer over the frame that was drawn: values from outside. A sum is the FNV-1a of the
 // frame's 64,000 bytes.
-ghost use Rattle.std.specs.Prelude.{◌≡◌, ◌<◌, length};
-ghost use Rattle.view_rules.specs.View.{view_of};
+ghost use Rattle.std.specs.Prelude.{◌<◌, length};
 ghost use Rattle.frame_core.specs.Views.{CanDrawView};
 
-use crate::made::{Assets, FIRST, LIMITS, Tools, draw, made_assets, made_tools, sum_of};
+use crate::made::{Assets, FIRST, LIMITS, made_assets, made_tools, sum_of};
 use crate::test_levels::room_wad;
-use lump_cache::CacheFault;
+use angle_tables::Tables;
+use frame_core::{ViewFault, Workshop, draw_view};
+use lump_cache::LumpCache;
+use outside::MemoryShelf;
+use sound_scene::SoundScene;
 use std::test::Fail;
 use view_frame::View;
-use view_rules::{Eye, MAX_SIZE};
+use view_rules::MAX_SIZE;
+use wad_dir::Directory;
 use weapon_overlay::{Layer, overlay};
 
 // The first frame of the made path, and the same with a tree from column 144 on.
 const BARE_SUM: u64 = 0x2b08_c9ba_b7db_3cb6;
+
 const ARMED_SUM: u64 = 0xee41_ca94_23c7_9d34;
 
 // The tree of the made WAD, 160 and 100 pixels from the left top, bright.
@@ -29,31 +34,25 @@ fn tree(assets: &Assets) -> Result<Layer, Fail> {
     })
 }
 
-// Paints a layer over the frame of the workshop, on which the view of an eye was drawn.
-fn paint(
-    assets: &mut Assets,
-    tools: &mut Tools,
+// Draws the first view of the made path, and paints a layer over its frame: the sums of both.
+fn draw_armed(
+    scene: &SoundScene,
+    tables: &Tables,
+    shop: &mut Workshop,
+    cache: &mut LumpCache,
+    dir: &Directory,
+    shelf: &mut MemoryShelf,
     layer: &Layer,
-    eye: Eye,
-) -> Result<(), CacheFault>
-    requires drawable { CanDrawView assets.old.dir.value.lumps assets.old.scene.value.scene
-        assets.old.cache.value }
-    requires picture { layer.now.shape.lump.0 < length assets.old.dir.value.lumps }
-    requires left { tools.old.shop.value.frame.left
-        ≡ (view_of tools.old.tables.value eye).shape.left }
-    requires top { tools.old.shop.value.frame.top
-        ≡ (view_of tools.old.tables.value eye).shape.top }
+) -> Result<(u64, u64), ViewFault>
+    requires drawable { CanDrawView dir.now.lumps scene.now.scene cache.old }
+    requires picture { layer.now.shape.lump.0 < length dir.now.lumps }
 {
-    let view = View::new(&tools.tables, eye);
-    overlay(
-        &view,
-        layer,
-        assets.scene.colormap(),
-        &mut assets.cache,
-        &assets.dir,
-        &mut *assets.shelf,
-        tools.shop.canvas(),
-    )
+    draw_view(scene, tables, shop, cache, dir, shelf, FIRST)?;
+    let bare = sum_of(shop.frame());
+    let view = View::new(tables, FIRST);
+    let colormap = scene.colormap();
+    overlay(&view, layer, colormap, cache, dir, shelf, shop.canvas())?;
+    Ok((bare, sum_of(shop.frame())))
 }
 
 #[test]
@@ -63,12 +62,18 @@ fn a_weapon_is_painted_over_the_frame(rt: HostRuntime) -> Result<(), Fail> {
     let mut assets = made_assets(alloc, level, "MAP01")?;
     let mut tools = made_tools(alloc, LIMITS, MAX_SIZE)?;
     let layer = tree(&assets)?;
-    let bare = draw(&mut assets, &mut tools, FIRST)?;
-    assert_eq!(rt; bare, BARE_SUM);
     if layer.shape.lump.0 as u32 >= assets.dir.count() {
         return Err("a lump of the directory".into());
     }
-    paint(&mut assets, &mut tools, &layer, FIRST)?;
-    assert_eq!(rt; sum_of(tools.shop.frame()), ARMED_SUM);
+    let sums = draw_armed(
+        &assets.scene,
+        &tools.tables,
+        &mut tools.shop,
+        &mut assets.cache,
+        &assets.dir,
+        &mut assets.shelf,
+        &layer,
+    );
+    assert_eq!(rt; sums, Ok((BARE_SUM, ARMED_SUM)));
     Ok(())
 }

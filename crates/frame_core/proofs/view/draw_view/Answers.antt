@@ -3,6 +3,7 @@ use Rattle.std.proofs.Common.{◌≡◌, OnOk, ap, subst, ◌∙◌}
 use Rattle.lump_rules.specs.Contents.{lump_bytes}
 use Rattle.pixel_strips.specs.Canvases.{CanvasView}
 use Rattle.view_rules.specs.View.{ViewValue, view_of}
+use Rattle.view_rules.specs.Sound.{IsWithinFrame}
 use Rattle.picture_rules.specs.Picture.{picture}
 use Rattle.frame_core.specs.Scenes.{scene_of}
 use Rattle.frame_core.specs.Workshops.{WorkshopView}
@@ -41,3 +42,6 @@ returns-clause-left g c = c.draw_with.ensures.paints.place.left ∙ ap (λ (v : 
 
 pub returns-clause-top : goal.returns-clause-top
 returns-clause-top g c = c.draw_with.ensures.paints.place.top ∙ ap (λ (v : ViewValue). v.shape.top) c.new-view.ensures
+
+pub returns-clause-window : goal.returns-clause-window
+returns-clause-window g c = subst (λ (v : ViewValue). IsWithinFrame v.shape) c.new-view.ensures c.draw_with.ensures.frame
