@@ -5,7 +5,7 @@ use Rattle.word_rules.specs.Listed.{joined_lists}
 use Rattle.lump_rules.specs.Contents.{lump_bytes}
 use Rattle.lump_cache.specs.declared.fault.CacheFault.{CacheFault}
 use Rattle.lump_cache.specs.Caches.{cache_fault}
-use Rattle.view_rules.specs.View.{ViewValue, view_of}
+use Rattle.view_rules.specs.View.{view_of}
 use Rattle.view_rules.specs.declared.Eye.{Eye}
 use Rattle.view_rules.specs.Sound.{IsWithinFrame}
 use Rattle.pixel_rules.specs.declared.Painter.{Painter}

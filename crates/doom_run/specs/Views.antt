@@ -1,5 +1,5 @@
 -- The views of a path over a level: their frames and counts, and the first that is over a limit.
-use Rattle.std.specs.Prelude.{ℕ, ◌++◌, List, [], map, length, take, codes, Option, Some, None, is_some, unwrap_or, slice_get, option_and_then, Result, Ok}
+use Rattle.std.specs.Prelude.{ℕ, ◌++◌, List, [], length, take, codes, Option, Some, None, is_some, unwrap_or, slice_get, option_and_then, Result, Ok}
 use Rattle.outside.specs.Shelf.{File}
 use Rattle.outside.specs.Faults.{and_then}
 use Rattle.outside.specs.Stops.{Stop}

@@ -128,9 +128,25 @@ loop-edges-preserved g c =
           (c.save_column.ensures.room ∙ ap (λ (o : OpeningsView). o.room) p.openings);
       paints = paints_columns-more start.view.now start.dir.now start.textures.now start.colormap.0 g.C.Canvas.mark c.args.number f (window_at c.args.self.now.windows) k x is i.paints
           (paints_column-over g.C.Canvas.mark c.args.number f (window_at c.args.self.now.windows) x (ap (λ r. r.now) i.same.0) (ap (λ r. r.now) i.same.1.1.0) (ap (λ r. r.now) i.same.1.0) (ap (λ r. r.0) i.same.1.1.1.0) one);
-      same = (view, (q.same.1.0 ∙ i.same.1.0, (q.same.1.1.0 ∙ i.same.1.1.0, (q.same.1.1.1.0 ∙ i.same.1.1.1.0,
-          (q.same.1.1.1.1.0 ∙ i.same.1.1.1.1.0, (q.same.1.1.1.1.1.0 ∙ i.same.1.1.1.1.1.0,
-          (q.same.1.1.1.1.1.1.0 ∙ i.same.1.1.1.1.1.1.0, q.same.1.1.1.1.1.1.1 ∙ i.same.1.1.1.1.1.1.1)))))));
+      same = (
+        view,
+        (
+          q.same.1.0 ∙ i.same.1.0,
+          (
+            q.same.1.1.0 ∙ i.same.1.1.0,
+            (
+              q.same.1.1.1.0 ∙ i.same.1.1.1.0,
+              (
+                q.same.1.1.1.1.0 ∙ i.same.1.1.1.1.0,
+                (
+                  q.same.1.1.1.1.1.0 ∙ i.same.1.1.1.1.1.0,
+                  (q.same.1.1.1.1.1.1.0 ∙ i.same.1.1.1.1.1.1.0, q.same.1.1.1.1.1.1.1 ∙ i.same.1.1.1.1.1.1.1),
+                ),
+              ),
+            ),
+          ),
+        ),
+      );
     }
 
 pub returns-clause-paints : goal.returns-clause-paints
