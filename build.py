@@ -23,7 +23,8 @@ import time
 TOP = os.path.dirname(os.path.abspath(__file__))
 PROGRAM = 'doomview'
 BUILT = os.path.join(TOP, 'out', PROGRAM)
-COPIES = os.path.join(TOP, 'out', 'copies')
+# Of the sources. Beside the repository's own files `rt ci` would refuse them after an interrupted build.
+COPIES = os.path.join(TOP, '.git' if os.path.isdir(os.path.join(TOP, '.git')) else 'out', 'doomview-copies')
 SOURCES = ('HANDLES', 'crates.txt')  # and crates/
 BUILD_FAILED = 70
 CRATE_MEMORY = 2 << 30  # bytes, about what the proof of a crate takes

@@ -140,7 +140,7 @@ class Doomview(unittest.TestCase):
         names = [name for _, _, name in told]
         self.assertEqual([names[0], {*names[1:3]}, *names[3:]], ['low', {'left', 'right'}, 'high', 'doomview'])
         calls = self.calls()
-        self.assertFalse(os.path.exists(self.at('out/copies')))
+        self.assertFalse(os.path.exists(self.at('out/doomview-copies')))
         self.assertEqual(self.runs('again'), (5, 'input again\n', ''))
         self.assertEqual(self.calls(), [])
         return calls
@@ -193,12 +193,12 @@ class Doomview(unittest.TestCase):
 
     def test_no_room(self):
         """Where the sources cannot be copied, the build says so."""
-        os.makedirs(self.at('out/copies'))
-        self.write('out/copies/0', '')
+        os.makedirs(self.at('out/doomview-copies'))
+        self.write('out/doomview-copies/0', '')
         status, output, error = self.runs('make')
         self.assertEqual((status, output), (70, ''))
-        self.assertRegex(error, 'doomview: the build failed: .*out/copies/0')
-        os.remove(self.at('out/copies/0'))
+        self.assertRegex(error, 'doomview: the build failed: .*out/doomview-copies/0')
+        os.remove(self.at('out/doomview-copies/0'))
         self.builds()
 
     def test_interrupt(self):
@@ -213,6 +213,17 @@ class Doomview(unittest.TestCase):
                 os.kill(process, 0)
             self.assertFalse(os.path.exists(self.at('out', 'doomview')))
         self.assertNotIn('build low', self.builds())
+
+    def test_copies_in_git(self):
+        """Where the repository has a folder .git the copies are there, out of the way of rt ci."""
+        os.mkdir(self.at('.git'))
+        run = self.start('make', WAITS='high')
+        self.waiting()
+        self.assertTrue(os.path.exists(self.at('.git/doomview-copies/0/crates.txt')))
+        run.send_signal(signal.SIGTERM)
+        run.communicate()
+        self.assertNotIn('build low', self.builds())
+        self.assertEqual(os.listdir(self.at('.git')), [])
 
     def test_killed(self):
         """Nothing half-built is run after a build that could not clear up."""
