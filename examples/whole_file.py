@@ -4,7 +4,7 @@ import tempfile
 
 
 def write_whole(path, data):
-    """Puts bytes into a file, which takes its place as the last step. What is there and no plain file stays: OSError."""
+    """Puts bytes into a file, which takes its place as the last step. What is there and no plain file stays."""
     path = os.path.realpath(path)
     if os.path.lexists(path) and not os.path.isfile(path):
         raise OSError(0, 'it is a folder or a device, and is left as it is', path)
