@@ -70,6 +70,11 @@ find_wads() {
     wad=$(readlink -f "$found")
 }
 
+# Whether doomview can run at once. A release has the program and no sources.
+is_built() {
+    [ -n "$DOOMVIEW" ] || [ ! -e "$here/../build.py" ] || "$doomview" --built
+}
+
 # The first call of doomview builds it. This short job lets the build show its messages.
 need_doomview() {
     [ -x "$doomview" ] || fail "there is no program $doomview; set DOOMVIEW to one, or leave it unset"

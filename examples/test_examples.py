@@ -161,6 +161,7 @@ class Examples(Scripts):
         os.makedirs(self.at('clone/crates/doomview'))
         os.mkdir(self.at('clone/docs'))
         shutil.copy(os.path.join(os.path.dirname(HERE), 'docs/FILES.md'), self.at('clone/docs'))
+        self.write('clone/build.py', b'')
         self.stand_in('clone/doomview', '#!/bin/sh\n[ "$1" != --built ] || exit 1\necho built "$@"; exit 70\n')
         picture = self.at('clone/examples/picture')
         self.refuses('the command rt is not installed', picture, 'first.png', DOOMVIEW='')
