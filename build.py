@@ -154,10 +154,27 @@ class Stopped(SystemExit):
     """A signal stops the build."""
 
 
-def stop_by(number, _):
-    for it in STOPS:
-        signal.signal(it, signal.SIG_IGN)
-    raise Stopped(128 + number)
+class Signals:
+    """The first signal that stops the build; a process that begins is noted before it stops."""
+    first, is_held = 0, False
+
+    @classmethod
+    def stop(cls, number, _):
+        if not cls.first:
+            cls.first = number
+            cls.check()
+
+    @classmethod
+    def check(cls):
+        if cls.first and not cls.is_held:
+            raise Stopped(128 + cls.first)
+
+    @classmethod
+    def hold(cls, is_held):
+        """For the main thread, which signals reach."""
+        if threading.current_thread() is threading.main_thread():
+            cls.is_held = is_held
+            cls.check()
 
 
 class Build:
@@ -176,9 +193,11 @@ class Build:
             if self.ended.is_set():
                 return None
             self.begun.add(crate)
+            Signals.hold(True)
             run = subprocess.Popen(['rt', *words], cwd=os.path.join(top, 'crates', crate), errors='replace',
                                    stdin=subprocess.DEVNULL, stdout=subprocess.PIPE, stderr=subprocess.STDOUT)
             self.runs.append(run)
+            Signals.hold(False)
             return run
 
     def say(self, text):
@@ -318,7 +337,7 @@ def build():
 
 def main():
     for number in STOPS:
-        signal.signal(number, stop_by)
+        signal.signal(number, Signals.stop)
     if not shutil.which('rt'):
         fail('the build needs the command rt, which is the Rattle kit\'s')
     os.makedirs(os.path.dirname(BUILT), exist_ok=True)
