@@ -31,12 +31,14 @@ class Explain(Scripts):
 
     def test_numbers(self):
         """The numbers of a refusal by the names of what they mean."""
-        for line, part in [('604 2 1 5', 'SIDEDEFS record 1, sector (side 1, of line 1 and line 3, in sector 1: upper -'),
+        side = 'sector (side 1, of line 1 and line 3, in sector 1: upper -'
+        for line, part in [('604 2 1 5', f'SIDEDEFS record 1, {side}'),
                            ('605 1', 'SSECTORS record 1'), ('606 0', 'NODES record 0'), ('602 7', 'SECTORS'),
                            ('801 1', 'thing 1: type 1 at 64, -32'), ('802 0 3', 'rotation 3'),
                            ('803 1', 'lump COLORMAP of made.wad'), ('901 0', 'middle WALL1'),
                            ('903 1', 'sector 1: floor FLAT1, ceiling FLAT1'), ('401 0', 'made.wad'),
-                           ('403 0 5', 'made.wad'), ('703 9', 'a texture'), ('902', "To mend it: put the game's IWAD first"),
+                           ('403 0 5', 'made.wad'), ('703 9', 'a texture'),
+                           ('902', "To mend it: put the game's IWAD first"),
                            ('604 9 9 9', '604: '), ('999 1', 'no such code')]:
             self.explains(f'doomview: refused {line}', part=part)
         self.assertIn('(map of made.wad)', self.explains('doomview: refused 901 0', part='901: ')[0])
@@ -69,18 +71,22 @@ class Explain(Scripts):
     def test_remarks(self):
         """What is not refused, and may still be a mistake."""
         self.write('patch.wad', b'PWAD' + made_wad()[4:])
-        self.explains('', 'audit', 'MAP01', 'patch.wad', *MAP[1:], status=0, part='made.wad is an IWAD and stands behind')
-        self.explains('', 'audit', 'MAP01', *MAP[1:2], 'patch.wad', *MAP[2:], status=0, part='MAP01 is that of patch.wad')
+        words = ['audit', 'MAP01', 'patch.wad', *MAP[1:]]
+        self.explains('', *words, status=0, part='made.wad is an IWAD and stands behind')
+        words[2:4] = words[3:1:-1]
+        self.explains('', *words, status=0, part='MAP01 is that of patch.wad')
         self.write('things.csv', THINGS.splitlines(True)[0])
         self.explains('', 'audit', *MAP, status=0, part='things of type 3001 (1)')
 
     def test_words(self):
-        for words, part in [(['paint'], 'the first word is a job'), (['audit', 'MAP01'], 'needs --tables and --things and'),
+        for words, part in [(['paint'], 'the first word is a job'),
+                            (['audit', 'MAP01'], 'needs --tables and --things and'),
                             (['audit', *MAP, '--skill', '6'], '--skill is a number from 1 to 5'),
                             (['audit', *MAP, '--zone=65'], '--zone is a multiple of 4'),
                             (['audit', *MAP, '--format', 'ppm'], 'audit takes no --format'),
                             (['render', *MAP, '--format', 'png'], '--format is index or ppm'),
-                            (['limits', *MAP, '--size'], '--size needs a value'), (['flat', 'A', 'b', '--zone', '64'], 'takes no'),
+                            (['limits', *MAP, '--size'], '--size needs a value'),
+                            (['flat', 'A', 'b', '--zone', '64'], 'takes no'),
                             (['audit', *MAP, '--path', 'x'], '--path may stand only once'),
                             (['audit', 'MAP01LONG', *MAP[1:]], 'has 1 to 8 letters'),
                             (['make', 'it'], '--help has the jobs')]:

@@ -124,7 +124,7 @@ class Original(Scripts):
                              [0o755, 0o644])
         self.assertIn('doomview-2.1/docs/doomview.1', names)
         self.assertIn('doomview-2.1/examples/original/build', names)
-        self.assertEqual([name for name in names if re.search('pycache|/still(-|$)|source', name)], [])
+        self.assertEqual([name for name in names if re.search('pycache|/still(-|$)|source|/test|unproved', name)], [])
         with open(path, 'rb') as file:
             before = hashlib.sha256(file.read()).digest()
         os.utime(self.at('README.md'), (1, 1))
