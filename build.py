@@ -246,7 +246,7 @@ class Build:
                 self.fail(f'the build of {crate} failed', said)
 
     def next_crate(self, order):
-        """The first crate that has not begun and of which all below it are done, with its share of processors, or None."""
+        """The first crate that has not begun, of which all below it are done, with its share of processors, or None."""
         with self.turn:
             ready = [crate for crate in order if crate not in self.begun
                      and all(it in self.done for it in self.crates[crate])]

@@ -45,7 +45,8 @@ find_wad() {
     IFS=:
     set -f
     for folder in $DOOMWADDIR $DOOMWADPATH ${XDG_DATA_HOME:-$HOME/.local/share}/games/doom \
-        /usr/local/share/games/doom /usr/share/games/doom /usr/local/share/doom /usr/share/doom /usr/share/games/freedoom; do
+        /usr/local/share/games/doom /usr/share/games/doom /usr/local/share/doom /usr/share/doom \
+        /usr/share/games/freedoom; do
         for found in "$folder/$1" "$folder/$1.wad" "$folder/$small" "$folder/$small.wad"; do
             if [ -f "$found" ] && [ -r "$found" ]; then
                 unset IFS
@@ -56,7 +57,7 @@ find_wad() {
     done
     unset IFS
     set +f
-    fail "there is no WAD $1 here, in DOOMWADDIR, in DOOMWADPATH or in /usr/share/games/doom; name its path (the free game: Debian's package freedoom)"
+    fail "there is no WAD $1 here, in DOOMWADDIR, in DOOMWADPATH or in /usr/share/games/doom; name its path"
 }
 
 # WAD: sets $wad, and $base to that of IWAD where it is set.

@@ -1,4 +1,4 @@
-"""Tests the scripts of the folder original, and release, with stand-ins for the programs, on files that it makes itself.
+"""Tests the scripts of the folder original, and release, with stand-ins for the programs, on files that it makes.
 
 usage: python3 examples/test_original.py"""
 import hashlib
@@ -83,7 +83,8 @@ class Original(Scripts):
 
     def test_wrong(self):
         measure = self.at('examples/original/measure')
-        for part, words in [('there is no program still', ['room.wad']), ('there is no set far', ['room.wad', '--sets', 'far']),
+        for part, words in [('there is no program still', ['room.wad']),
+                            ('there is no set far', ['room.wad', '--sets', 'far']),
                             ('usage', [])]:
             self.refuses(part, measure, *words, doomview=self.doomview)
         self.originals('none')
@@ -120,8 +121,8 @@ class Original(Scripts):
         self.assertEqual((status, os.path.realpath(output.decode().strip()), error), (0, path, ''))
         with tarfile.open(path) as tar:
             names = tar.getnames()
-            self.assertEqual([tar.getmember('doomview-2.1/doomview').mode, tar.getmember('doomview-2.1/README.md').mode],
-                             [0o755, 0o644])
+            modes = [tar.getmember(f'doomview-2.1/{it}').mode for it in ('doomview', 'README.md')]
+            self.assertEqual(modes, [0o755, 0o644])
         self.assertIn('doomview-2.1/docs/doomview.1', names)
         self.assertIn('doomview-2.1/examples/original/build', names)
         self.assertEqual([name for name in names if re.search('pycache|/still(-|$)|source|/test|unproved', name)], [])
