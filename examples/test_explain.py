@@ -2,6 +2,7 @@
 
 usage: python3 examples/test_explain.py"""
 import os
+import re
 import unittest
 
 from made_files import HERE, Scripts, made_wad, room, wad
@@ -118,8 +119,7 @@ class Explain(Scripts):
     def test_all_codes(self):
         """Each code of FILES has its sentence, with what mends it."""
         with open(os.path.join(HERE, '..', 'docs', 'FILES.md'), encoding='utf-8') as file:
-            codes = [line.split('|')[1].strip() for line in file if line.startswith('| ') and line[2].isdigit()]
-        codes = [code for code in codes if len(code) > 2]
+            codes = re.findall(r'^\| (\d{3,4}) \|', file.read(), re.M)
         self.assertGreater(len(codes), 50)
         for code in codes[::5]:
             error = self.run_script('explain', f'doomview: refused {code}')[2]
