@@ -121,9 +121,9 @@ class Doomview(unittest.TestCase):
             time.sleep(0.01)
         self.fail('no rt waits')
 
-    def start(self, *words, **more):
+    def start(self, *words, session=False, **more):
         env = {'PATH': self.at('bin'), 'CALLS': self.at('calls'), **more}
-        return subprocess.Popen([self.at('doomview'), *words], cwd='/', text=True, env=env,
+        return subprocess.Popen([self.at('doomview'), *words], cwd='/', text=True, env=env, start_new_session=session,
                                 stdin=subprocess.PIPE, stdout=subprocess.PIPE, stderr=subprocess.PIPE)
 
     def runs(self, *words, **more):
@@ -212,6 +212,17 @@ class Doomview(unittest.TestCase):
             with self.assertRaises(ProcessLookupError):
                 os.kill(process, 0)
             self.assertFalse(os.path.exists(self.at('out', 'doomview')))
+        self.assertNotIn('build low', self.builds())
+
+    def test_terminal(self):
+        """From a terminal the signal reaches each rt too."""
+        run = self.start('make', WAITS='right', session=True)
+        self.waiting()
+        os.killpg(run.pid, signal.SIGINT)
+        output, error = run.communicate()
+        self.assertEqual((run.returncode, output), (128 + signal.SIGINT, ''), error)
+        self.assertRegex(error, 'interrupted; .*\n$')
+        self.assertNotIn('failed', error)
         self.assertNotIn('build low', self.builds())
 
     def test_copies_in_git(self):
