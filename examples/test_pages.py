@@ -80,11 +80,14 @@ class Pages(unittest.TestCase):
         self.assertGreater(count, 60)
 
     def test_map(self):
-        """MAP names each edit."""
+        """MAP names each edit, and no other."""
         there = sorted(os.path.basename(path)[:-len('.edit')]
                        for path in glob.glob(os.path.join(TOP, 'crates', '*', 'must-fail', '*.edit')))
         named = re.findall(r'\b[a-z0-9]+(?:_[a-z0-9]+)+\b', read('docs/MAP.md'))
-        self.assertEqual([edit for edit in there if named.count(edit) == 0], [])
+        self.assertEqual([edit for edit in there if edit not in named], [], 'MAP does not name these')
+        told = {edit for *_, cell in rows('docs/MAP.md', '| Original | Rule | Call | Edits |')
+                for edit in cell.split(', ')}
+        self.assertEqual([edit for edit in told if re.fullmatch('[a-z0-9_]+', edit) and edit not in there], [])
 
     def test_rendering(self):
         for question, rule, code, _ in rows('docs/RENDERING.md', '| Question | Rules | Code |'):
