@@ -74,6 +74,21 @@ class Compare(Scripts):
                                                               '  nothing  -              1'])
         self.assertIn('  wall     texture 1      2  fragment 4\n', self.run_script(*words)[1].decode())
 
+    def test_trace_at(self):
+        """The painter of one pixel, by name."""
+        spots = [(1, 7, (1, 2, 4, 1, 6, 0)), (2, 319, (5, 1, 2, 1, 8, 0)), (199, 0, (6, 1, 1, 9, 3, 0))]
+        self.write('trace.bin', traced() + traced(*spots))
+        lists = ('TEXTURE1', texture_list(['NONE', 'STONE']))
+        self.write('names.wad', wad([('PLAYPAL', bytes(768)), ('TROOA1', b''), lists]))
+        for words, told in [('1 7 1', 'wall, fragment 4, texture STONE, colour 6'), ('1 319 2', 'sprite 2, lump TROOA1, colour 8'),
+                            ('1 0 199', 'weapon, row 1, lump 9, colour 3'), ('0 0 0', 'nothing, colour 0')]:
+            view, x, y = words.split()
+            done = self.run_script('trace_at', view, x, y, 'trace.bin', 'names.wad')
+            self.assertEqual(done, (0, f'view {view} column {x} row {y}: {told}\n'.encode(), ''))
+        for part, words in [('has 2 views', '2 0 0 trace.bin'), ('X is 0 to 319', '0 320 0 trace.bin'),
+                            ('cannot read absent', '0 0 0 absent'), ('is no WAD', '0 0 0 trace.bin trace.bin'), ('usage', '0 0')]:
+            self.refuses(part, 'trace_at', *words.split())
+
     def test_pictures(self):
         self.write('ours.bin', painted((0, 0, 255)))
         self.write('port.bin', painted())
