@@ -1,15 +1,15 @@
 """Builds doomview by the command rt, and then runs it with the words given: the script doomview calls it.
 
-Crates are proved side by side, one on a processor, each in one of some copies of the sources: rt lets one
-command at a time into a checkout, and takes what another checkout has built. Of the crates that can go on
-those with the most above them go first. The last crates, which stand on all others, are built in the
-repository itself, each with all processors. Where rt cannot share what it builds, since nothing can be
-written beside it, `rt all` does the same in the repository, and takes longer. The program gets its place,
-out/doomview, as the last step, so no half-built one is ever run; a build that is interrupted goes on where
-it was.
+Crates are proved side by side, each in one of some copies of the sources, since rt lets one command at a
+time into a checkout. The library of a crate that is proved is put into the folder out/ of that crate in the
+other copies and in the repository, where rt finds it built. Of the crates that can go on those with the most
+above them go first; where fewer can go on than there are processors, each gets several. The last crates,
+which stand on all others, are built in the repository itself. The program gets its place, out/doomview, as
+the last step, so no half-built one is ever run; a build that is interrupted goes on where it was.
 
-Ends with 70 if the build fails, with 128 and the signal's number if a signal stops it, else with the
-program's status."""
+Without words it only builds. Ends with 70 if the build fails, with 128 and the signal's number if a signal
+stops it, else with the program's status."""
+import errno
 import fcntl
 import os
 import re
@@ -23,11 +23,16 @@ import time
 TOP = os.path.dirname(os.path.abspath(__file__))
 PROGRAM = 'doomview'
 BUILT = os.path.join(TOP, 'out', PROGRAM)
-COPIES = os.path.join(TOP, 'out', 'copies')
+# Of the sources. Beside the repository's own files `rt ci` would refuse them after an interrupted build.
+COPIES = os.path.join(TOP, '.git' if os.path.isdir(os.path.join(TOP, '.git')) else 'out', 'doomview-copies')
 SOURCES = ('HANDLES', 'crates.txt')  # and crates/
 BUILD_FAILED = 70
 CRATE_MEMORY = 2 << 30  # bytes, about what the proof of a crate takes
-SHOWN_LINES = 60  # of what rt said of a crate that failed
+BUILD_DISK = 6 << 30  # bytes, about what a whole build takes
+FULL_DISK = 64 << 20  # free bytes, below which a failure is put down to the disk
+WORK_MINUTES, LEAST_MINUTES = 75, 14  # of a whole build: on one processor, and on as many as help
+SHOWN_LINES, SHOWN_COLUMNS = 60, 300  # of what rt said of a crate that failed
+TELL_SECONDS = 20  # after which the build says how far it is, if it has not
 DEAR = ('command_line', 'level_audit', 'doom_run')  # whose proof takes twice as long a line as others'
 STOPS = (signal.SIGINT, signal.SIGTERM, signal.SIGHUP)
 IGNORED = (signal.SIGPIPE, signal.SIGXFSZ)  # by Python, and not by the program
@@ -37,8 +42,18 @@ def say(text):
     print(f'doomview: {text}', file=sys.stderr, flush=True)
 
 
+def is_disk_full(text):
+    return os.strerror(errno.ENOSPC) in text or shutil.disk_usage(TOP).free < FULL_DISK
+
+
 def fail(text, said=()):
-    sys.stderr.writelines(said[-SHOWN_LINES:])
+    """Ends with the last of what rt said, and with a sentence."""
+    if is_disk_full(text + ''.join(said)):
+        text = (f'the build failed: the disk of {TOP} is full. A whole build takes about {BUILD_DISK / 1e9:.0f} GB; '
+                'once there is room the next call goes on from here')
+    else:
+        for line in said[-SHOWN_LINES:]:
+            print(line.rstrip('\n')[:SHOWN_COLUMNS], file=sys.stderr)
     say(text)
     sys.exit(BUILD_FAILED)
 
@@ -96,13 +111,30 @@ def lines_above(crates):
     return above
 
 
+def minutes_for(jobs):
+    """About how long a whole build takes on so many processors that do nothing else."""
+    return max(LEAST_MINUTES, round(WORK_MINUTES / jobs))
+
+
+def link(source, target):
+    """A file in a second place: the same one, or a copy where the disk has no links."""
+    try:
+        os.link(source, target)
+    except OSError as error:
+        if error.errno == errno.ENOSPC:
+            raise
+        shutil.copy2(source, target)
+
+
 def share(crate, made, others):
-    """Gives the library of a crate to other checkouts of the same text, by links: rt takes it as its own."""
+    """Puts the library that rt built of a crate into other checkouts of the same text."""
     library = os.path.join('crates', crate, 'out', 'rlib')
     for top in others:
         there = os.path.join(top, library)
-        if top != made and not os.path.exists(there):
-            shutil.copytree(os.path.join(made, library), there + '.part', copy_function=os.link)
+        if top != made and os.path.isdir(os.path.dirname(os.path.dirname(there))):
+            for old in (there, there + '.part'):
+                shutil.rmtree(old, ignore_errors=True)
+            shutil.copytree(os.path.join(made, library), there + '.part', copy_function=link)
             os.replace(there + '.part', there)
 
 
@@ -118,29 +150,76 @@ def copy_sources(top):
         shutil.copy(os.path.join(TOP, name), top)
 
 
+class Stopped(SystemExit):
+    """A signal stops the build."""
+
+
+class Signals:
+    """The first signal that stops the build; a process that begins is noted before it stops."""
+    first, is_held = 0, False
+
+    @classmethod
+    def stop(cls, number, _):
+        if not cls.first:
+            cls.first = number
+            cls.check()
+
+    @classmethod
+    def check(cls):
+        if cls.first and not cls.is_held:
+            raise Stopped(128 + cls.first)
+
+    @classmethod
+    def hold(cls, is_held):
+        """For the main thread, which signals reach."""
+        if threading.current_thread() is threading.main_thread():
+            cls.is_held = is_held
+            cls.check()
+
+
 class Build:
     def __init__(self, crates):
         self.crates, self.jobs = crates, count_jobs()
+        self.copies = [os.path.join(COPIES, str(number)) for number in range(self.jobs)]
+        self.lines = {crate: count_lines(crate) for crate in crates}
         self.begun, self.done, self.failure = set(), [], None
         self.workers, self.runs = [], []
-        self.copies = [os.path.join(COPIES, str(number)) for number in range(self.jobs)]
         self.turn, self.ended = threading.Lock(), threading.Event()
+        self.started = self.told = time.monotonic()
 
     def rt(self, top, crate, *words):
         """Starts rt in a crate's folder, unless the build has ended."""
         with self.turn:
             if self.ended.is_set():
                 return None
+            self.begun.add(crate)
+            Signals.hold(True)
             run = subprocess.Popen(['rt', *words], cwd=os.path.join(top, 'crates', crate), errors='replace',
                                    stdin=subprocess.DEVNULL, stdout=subprocess.PIPE, stderr=subprocess.STDOUT)
             self.runs.append(run)
+            Signals.hold(False)
             return run
+
+    def say(self, text):
+        self.told = time.monotonic()
+        say(text)
 
     def finish(self, crate):
         self.done.append(crate)
-        say(f'crate {len(self.done)} of {len(self.crates)}: {crate}')
+        self.say(f'crate {len(self.done)} of {len(self.crates)}: {crate}')
 
-    def fail(self, text, said):
+    def tell(self):
+        """Says now and then how far the build is, as long as it goes on."""
+        whole = max(1, sum(self.lines.values()))
+        while not self.ended.wait(1):
+            with self.turn:
+                if time.monotonic() - self.told > TELL_SECONDS:
+                    percent = 100 * sum(self.lines[it] for it in self.done) // whole
+                    now = ', '.join(it for it in self.crates if it in self.begun and it not in self.done)
+                    self.say(f'{len(self.done)} of {len(self.crates)} crates, {percent} % of the work, after '
+                             f'{(self.told - self.started) / 60:.1f} minutes; now {now}')
+
+    def fail(self, text, said=()):
         """Ends the build, unless it has ended."""
         if not self.ended.is_set():
             self.failure = (text, said)
@@ -154,7 +233,7 @@ class Build:
                 run.terminate()
 
     def make(self, top, crate, *words):
-        """Builds a crate by rt, and says so."""
+        """Builds a crate by rt, shares it, and says so."""
         run = self.rt(top, crate, *words)
         said = run.communicate()[0].splitlines(True) if run else []
         is_made = bool(run) and not run.returncode
@@ -167,31 +246,38 @@ class Build:
                 self.fail(f'the build of {crate} failed', said)
 
     def next_crate(self, order):
-        """The first crate that has not begun and of which all below it are done, or None."""
+        """The first crate that has not begun, of which all below it are done, with its share of processors, or None."""
         with self.turn:
-            for crate in order:
-                if crate not in self.begun and all(it in self.done for it in self.crates[crate]):
-                    self.begun.add(crate)
-                    return crate
-        return None
+            ready = [crate for crate in order if crate not in self.begun
+                     and all(it in self.done for it in self.crates[crate])]
+            if not ready:
+                return None
+            running = len(self.begun - {*self.done})
+            self.begun.add(ready[0])
+            return ready[0], max(1, self.jobs // (running + len(ready)))
 
     def work(self, top, order):
         """Builds crates in a copy as long as some have not begun."""
         try:
-            copy_sources(top)
             while len(self.begun) < len(order) and not self.ended.is_set():
-                crate = self.next_crate(order)
-                if crate:
-                    self.make(top, crate, 'lib', '--jobs', '1')
+                found = self.next_crate(order)
+                if found:
+                    crate, jobs = found
+                    self.make(top, crate, 'lib', '--jobs', str(jobs))
                 else:
                     self.ended.wait(0.1)
         except OSError as error:
             with self.turn:
-                self.fail(f'the build failed: {error}', [])
+                self.fail(f'the build failed: {error}')
 
     def side_by_side(self, last):
         above = lines_above(self.crates)
         order = sorted((it for it in self.crates if it not in last), key=lambda it: -above[it])
+        for top in self.copies:
+            copy_sources(top)
+        for crate in order:
+            if os.path.exists(os.path.join(TOP, 'crates', crate, 'out', 'rlib')):
+                share(crate, TOP, self.copies)  # of an earlier build: rt sees whether it is of this text
         for top in self.copies:
             self.workers.append(threading.Thread(target=self.work, args=(top, order)))
             self.workers[-1].start()
@@ -199,15 +285,13 @@ class Build:
             it.join()
 
     def all_crates(self):
-        jobs = ('--jobs', str(self.jobs))
+        threading.Thread(target=self.tell, daemon=True).start()
         self.side_by_side(last_crates(self.crates))
         for crate in self.crates:
             if crate == PROGRAM:
-                self.make(TOP, crate, 'run', *jobs, '--', 'make', 'things')
+                self.make(TOP, crate, 'run', '--jobs', str(self.jobs), '--', 'make', 'things')
             elif crate not in self.done:
-                self.make(TOP, crate, 'lib', *jobs)
-        if self.failure:
-            fail(*self.failure)
+                self.make(TOP, crate, 'lib', '--jobs', str(self.jobs))
 
     def stop(self):
         """Ends what still runs."""
@@ -230,22 +314,32 @@ def put_in_place(began):
 def build():
     began = time.time()
     crates = crates_below(PROGRAM)
-    say(f'building: {len(crates)} crates are proved, side by side. The first time '
-        'took 25 minutes on four processors that did nothing else')
     work = Build(crates)
+    say(f'building: {len(crates)} crates are proved, side by side. From nothing that takes about '
+        f'{minutes_for(work.jobs)} minutes on {work.jobs} processors that do nothing else')
+    free = shutil.disk_usage(TOP).free
+    if free < BUILD_DISK and not os.path.exists(COPIES):
+        say(f'the disk has {free / 1e9:.1f} GB free, and a whole build takes about {BUILD_DISK / 1e9:.0f} GB')
     try:
         work.all_crates()
+        if not work.failure:
+            put_in_place(began)
+    except Stopped:
+        work.stop()
+        say('the build is interrupted; what is proved is kept, and the next call goes on from there')
+        raise
     finally:
         work.stop()
-    put_in_place(began)
+    if work.failure:
+        fail(*work.failure)
     shutil.rmtree(COPIES, ignore_errors=True)
 
 
 def main():
     for number in STOPS:
-        signal.signal(number, lambda number, _: sys.exit(128 + number))
+        signal.signal(number, Signals.stop)
     if not shutil.which('rt'):
-        fail('the build needs the command rt')
+        fail('the build needs the command rt, which is the Rattle kit\'s')
     os.makedirs(os.path.dirname(BUILT), exist_ok=True)
     with open(BUILT + '.lock', 'w') as lock:
         try:
@@ -253,12 +347,16 @@ def main():
         except BlockingIOError:
             say('waiting for another build to end')
             fcntl.flock(lock, fcntl.LOCK_EX)
-            os.execv(os.path.join(TOP, PROGRAM), [PROGRAM, *sys.argv[1:]])
+            os.execv(os.path.join(TOP, PROGRAM), [PROGRAM, *(sys.argv[1:] or ['--build'])])
         build()
-        for number in (*STOPS, *IGNORED):
-            signal.signal(number, signal.SIG_DFL)
+    for number in (*STOPS, *IGNORED):
+        signal.signal(number, signal.SIG_DFL)
+    if sys.argv[1:]:
         os.execv(BUILT, [BUILT, *sys.argv[1:]])
 
 
 if __name__ == '__main__':
-    main()
+    try:
+        main()
+    except OSError as error:
+        fail(f'the build failed: {error}')

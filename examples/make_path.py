@@ -71,17 +71,29 @@ def turn_on_the_spot(level, views):
             for view in range(views)]
 
 
-def path(wad, name, views):
+def level_of(wad, name, use):
+    """What `use` makes of the eight lumps of a map, by name; a WadError where the map is not there or is damaged."""
     lumps = read_wad(wad)
-    label = map_labels(lumps).get(name.upper())
+    labels = map_labels(lumps)
+    label = labels.get(name.upper())
     if label is None:
-        raise WadError(f'{wad} has no map {name}')
+        raise WadError(f'{wad} has no map {name}; its maps: {" ".join(sorted(labels)) or "none"}')
     try:
-        return turn_on_the_spot(dict(lumps[label + 1:label + 9]), views)
+        return use(dict(lumps[label + 1:label + 9]))
     except WadError as error:
         raise WadError(f'{name} of {wad}: {error}')
-    except (IndexError, struct.error):
+    except (IndexError, ValueError, struct.error):
         raise WadError(f"{name} of {wad} is damaged; doomview's job audit says where")
+
+
+def write_path(script, rows):
+    """The rows as a file of standard output."""
+    text = '\n'.join(['x,y,z,angle'] + [','.join(map(str, row)) for row in rows]) + '\n'
+    try:
+        with open(1, 'wb', closefd=False) as out:
+            out.write(text.encode())
+    except OSError as error:
+        sys.exit(f'{script}: cannot write the path: {error.strerror}')
 
 
 def main():
@@ -92,11 +104,10 @@ def main():
     if not (re.fullmatch('[0-9]{1,5}', views) and 1 <= int(views) <= MOST_VIEWS):
         sys.exit(f'make_path: VIEWS is 1 to {MOST_VIEWS}')
     try:
-        rows = path(words[0], words[1], int(views))
+        rows = level_of(words[0], words[1], lambda level: turn_on_the_spot(level, int(views)))
     except WadError as error:
         sys.exit(f'make_path: {error}')
-    lines = ['x,y,z,angle'] + [','.join(map(str, row)) for row in rows]
-    sys.stdout.write('\n'.join(lines) + '\n')
+    write_path('make_path', rows)
 
 
 if __name__ == '__main__':

@@ -37,11 +37,15 @@ def main():
         with open(SUM_FILE) as file:
             expected = file.read().split()[0]
     except (OSError, IndexError):
-        sys.exit('make_tables: tables.sha256 is missing or empty')
+        sys.exit('make_tables: tables.sha256 is missing or empty; it stands beside this script in the repository')
     data = tables()
     if hashlib.sha256(data).hexdigest() != expected:
         sys.exit("make_tables: the tables differ from tables.sha256; this Python's sin, tan or atan rounds otherwise")
-    sys.stdout.buffer.write(data)
+    try:
+        with open(1, 'wb', closefd=False) as out:  # sys.stdout.buffer may be cut short where PYTHONUNBUFFERED is set
+            out.write(data)
+    except OSError as error:
+        sys.exit(f'make_tables: cannot write the tables: {error.strerror}')
 
 
 if __name__ == '__main__':

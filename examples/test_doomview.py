@@ -2,6 +2,7 @@
 
 usage: python3 examples/test_doomview.py"""
 import os
+import re
 import shutil
 import signal
 import subprocess
@@ -22,12 +23,11 @@ doomview: high low
 tests: doomview
 '''
 ORDER = ['low', 'left', 'right', 'high', 'doomview']
-# Does as rt does, without a proof: notes its calls in the file CALLS, takes what another checkout has
-# built (the folder beside the kit tells where), fails at the crate FAILS, and waits at the crate WAITS.
+# Does as rt does, without a proof, in a kit that shares nothing: builds a crate where its library is not there or
+# of another text, notes its calls in the file CALLS, fails at the crate FAILS saying SAYS, waits at the crate WAITS.
 RT = '''#!PYTHON
 import os, shutil, sys, time
 top = os.path.dirname(os.path.dirname(os.getcwd()))
-kept = os.path.join(os.path.dirname(os.path.dirname(os.path.dirname(os.path.realpath(__file__)))), 'rattle-kept')
 below = {}
 for line in open(f'{top}/crates.txt'):
     head, _, rest = line.partition('#')[0].partition(':')
@@ -42,35 +42,28 @@ def build(crate):
     if crate == os.environ.get('WAITS'):
         note(f'waiting {os.getpid()}')
         time.sleep(60)
-    return crate != os.environ.get('FAILS')
-def made(crate):
-    return f'{top}/crates/{crate}/out/made'
-def take(crate):
-    try:
-        shutil.copy(open(f'{kept}/{crate}').read(), made(crate))
-    except OSError:
-        pass
+    if crate == os.environ.get('FAILS'):
+        print(os.environ.get('SAYS', 'open goal'))
+        return False
+    return True
+def text_of(crate):
+    return repr([open(f'{top}/crates/{crate}/src/lib.rt').read(), *map(text_of, below[crate])])
 def lib(crate):
     if not all([lib(it) for it in below[crate]]):
         return False
-    os.makedirs(os.path.dirname(made(crate)), exist_ok=True)
-    if not os.path.exists(made(crate)):
-        take(crate)
-    if not os.path.exists(made(crate)) and build(crate):
-        open(made(crate), 'w').close()
-        if os.path.isdir(kept):
-            open(f'{kept}/{crate}', 'w').write(made(crate))
-    return os.path.exists(made(crate))
+    made = f'{top}/crates/{crate}/out/rlib'
+    if os.path.exists(f'{made}/stamp') and open(f'{made}/stamp').read() == text_of(crate):
+        return True
+    shutil.rmtree(made, ignore_errors=True)
+    os.makedirs(f'{made}/lang')
+    if not build(crate):
+        return False
+    open(f'{made}/lang/lib.rt', 'w').close()
+    with open(f'{made}/stamp', 'w') as file:
+        file.write(text_of(crate))
+    return True
 here = os.path.basename(os.getcwd())
 note(here + ': ' + ' '.join(sys.argv[1:]))
-if sys.argv[1] == 'all':
-    ended = {}
-    for crate in 'low left right high doomview'.split():
-        ended[crate] = lib(crate)
-        print('== ' + crate + '\\nend of ' + crate, flush=True)
-        if not ended[crate]:
-            break
-    sys.exit(not all(ended.values()))
 if not lib(here):
     sys.exit(1)
 if sys.argv[1] == 'run':
@@ -92,7 +85,7 @@ class Doomview(unittest.TestCase):
         self.write('crates.txt', CRATES)
         self.write('HANDLES', '')
         self.write('crates/doomview/args', '')
-        for folder in ('bin', 'opt/kit/bin', 'opt/rattle-kept'):
+        for folder in ('bin', 'opt/kit/bin'):
             os.makedirs(self.at(folder))
         for name in COMMANDS:
             os.symlink(shutil.which(name), self.at('bin', name))
@@ -128,9 +121,9 @@ class Doomview(unittest.TestCase):
             time.sleep(0.01)
         self.fail('no rt waits')
 
-    def start(self, *words, **more):
+    def start(self, *words, session=False, **more):
         env = {'PATH': self.at('bin'), 'CALLS': self.at('calls'), **more}
-        return subprocess.Popen([self.at('doomview'), *words], cwd='/', text=True, env=env,
+        return subprocess.Popen([self.at('doomview'), *words], cwd='/', text=True, env=env, start_new_session=session,
                                 stdin=subprocess.PIPE, stdout=subprocess.PIPE, stderr=subprocess.PIPE)
 
     def runs(self, *words, **more):
@@ -141,49 +134,39 @@ class Doomview(unittest.TestCase):
     def builds(self):
         """The program is built and run with its words and its input, and then needs no rt."""
         status, output, error = self.runs('make', 'two words')
-        self.assertEqual((status, output), (5, 'input make two words\n'))
+        self.assertEqual((status, output), (5, 'input make two words\n'), error)
         told = [line.rpartition(': ') for line in error.splitlines() if ' of 5: ' in line]
         self.assertEqual([first for first, _, _ in told], [f'doomview: crate {k + 1} of 5' for k in range(5)])
         names = [name for _, _, name in told]
         self.assertEqual([names[0], {*names[1:3]}, *names[3:]], ['low', {'left', 'right'}, 'high', 'doomview'])
         calls = self.calls()
-        self.assertFalse(os.path.exists(self.at('out/copies')))
+        self.assertFalse(os.path.exists(self.at('out/doomview-copies')))
         self.assertEqual(self.runs('again'), (5, 'input again\n', ''))
         self.assertEqual(self.calls(), [])
         return calls
 
     def test_first(self):
+        """Each crate is built once, whichever copy builds it; one that goes on alone has all processors."""
         calls = self.builds()
         builds = [line for line in calls if line.startswith('build ')]
         self.assertEqual(sorted(builds), sorted(f'build {it}' for it in [*ORDER, 'program']))
-        self.assertEqual([calls[0], calls[-2]], ['low: lib --jobs 1', 'build doomview'])
-        self.assertRegex(calls[-3], 'doomview: run --jobs [0-9]+ -- make things')
-        self.assertEqual({'left: lib --jobs 1', 'right: lib --jobs 1'} - {*calls}, set())
-
-    def test_unshared(self):
-        """Where rt cannot note what it builds, it builds all of it in the repository."""
-        shutil.rmtree(self.at('opt/rattle-kept'))
-        self.write('opt/rattle-kept', '')
-        calls = self.builds()
-        self.assertEqual([line for line in calls if line.startswith('build ')], [f'build {it}' for it in [*ORDER, 'program']])
-        self.assertRegex(calls[0], 'doomview: all check --jobs [0-9]+')
-        self.write('crates/left/src/lib.rt', 'changed')
-        shutil.rmtree(self.at('crates/left/out'))
-        self.assertEqual(self.runs('make', FAILS='left')[0], 70)
-        self.builds()
+        jobs = int(re.fullmatch('low: lib --jobs ([0-9]+)', calls[0])[1])
+        self.assertEqual(calls[-3:], [f'doomview: run --jobs {jobs} -- make things', 'build doomview', 'build program'])
+        halves = [f'{crate}: lib --jobs {max(1, jobs // 2)}' for crate in ('left', 'right')]
+        self.assertTrue(set(halves) & set(calls), calls)
 
     def test_newer_source(self):
         self.builds()
         self.write('crates/left/src/lib.rt', 'changed')
-        self.builds()
+        builds = [line for line in self.builds() if line.startswith('build ')]
+        self.assertEqual(sorted(builds), ['build doomview', 'build high', 'build left', 'build program'])
         os.remove(self.at('out', 'doomview'))
         self.builds()
 
     def test_failure(self):
         self.builds()
-        for folder in ('opt/rattle-kept', *(f'crates/{crate}/out' for crate in ORDER)):
-            shutil.rmtree(self.at(folder))
-        os.makedirs(self.at('opt/rattle-kept'))
+        for crate in ORDER:
+            shutil.rmtree(self.at('crates', crate, 'out'))
         self.write('crates.txt', CRATES + '# changed\n')
         for crate in ['left', 'high', 'doomview', 'program']:
             status, output, error = self.runs('make', FAILS=crate)
@@ -192,14 +175,30 @@ class Doomview(unittest.TestCase):
             self.assertIn(f'proving {crate}', error)
         self.builds()
 
+    def test_long_lines(self):
+        """Of what rt said before it failed the last lines are shown, cut."""
+        said = '\n'.join(str(number) * 400 for number in range(100))
+        error = self.runs('make', FAILS='left', SAYS=said)[2]
+        self.assertLess(len(error), 20000)
+        self.assertNotIn('99' * 200, error)
+        self.assertIn(('99' * 400)[:300] + '\n', error)
+
+    def test_full_disk(self):
+        """A full disk is told in one sentence, whatever rt said of it."""
+        error = self.runs('make', FAILS='high', SAYS='No space left on device' * 1000)[2]
+        told = [line for line in error.splitlines() if not re.match('doomview: (crate|building|the disk)', line)]
+        self.assertEqual(len(told), 1, error)
+        self.assertRegex(told[0], 'doomview: the build failed: the disk of .* is full')
+        self.builds()
+
     def test_no_room(self):
         """Where the sources cannot be copied, the build says so."""
-        os.makedirs(self.at('out/copies'))
-        self.write('out/copies/0', '')
+        os.makedirs(self.at('out/doomview-copies'))
+        self.write('out/doomview-copies/0', '')
         status, output, error = self.runs('make')
         self.assertEqual((status, output), (70, ''))
-        self.assertRegex(error, 'doomview: the build failed: .*out/copies/0')
-        os.remove(self.at('out/copies/0'))
+        self.assertRegex(error, 'doomview: the build failed: .*out/doomview-copies/0')
+        os.remove(self.at('out/doomview-copies/0'))
         self.builds()
 
     def test_interrupt(self):
@@ -209,10 +208,33 @@ class Doomview(unittest.TestCase):
             run.send_signal(stop)
             output, error = run.communicate()
             self.assertEqual((run.returncode, output), (128 + stop, ''), error)
+            self.assertRegex(error, 'interrupted; what is proved is kept, and the next call goes on from there\n$')
             with self.assertRaises(ProcessLookupError):
                 os.kill(process, 0)
             self.assertFalse(os.path.exists(self.at('out', 'doomview')))
         self.assertNotIn('build low', self.builds())
+
+    def test_terminal(self):
+        """From a terminal the signal reaches each rt too."""
+        run = self.start('make', WAITS='right', session=True)
+        self.waiting()
+        os.killpg(run.pid, signal.SIGINT)
+        output, error = run.communicate()
+        self.assertEqual((run.returncode, output), (128 + signal.SIGINT, ''), error)
+        self.assertRegex(error, 'interrupted; .*\n$')
+        self.assertNotIn('failed', error)
+        self.assertNotIn('build low', self.builds())
+
+    def test_copies_in_git(self):
+        """Where the repository has a folder .git the copies are there, out of the way of rt ci."""
+        os.mkdir(self.at('.git'))
+        run = self.start('make', WAITS='high')
+        self.waiting()
+        self.assertTrue(os.path.exists(self.at('.git/doomview-copies/0/crates.txt')))
+        run.send_signal(signal.SIGTERM)
+        run.communicate()
+        self.assertNotIn('build low', self.builds())
+        self.assertEqual(os.listdir(self.at('.git')), [])
 
     def test_killed(self):
         """Nothing half-built is run after a build that could not clear up."""
@@ -240,9 +262,46 @@ class Doomview(unittest.TestCase):
             self.assertEqual(run.communicate('')[0], word + '\n')
         self.assertEqual(sum(line == 'build high' for line in self.calls()), 1)
 
+    def test_progress(self):
+        """A build that waits says how far it is, and at first how long it takes."""
+        with open(self.at('build.py')) as file:
+            text = file.read()
+        self.write('build.py', text.replace('TELL_SECONDS = 20', 'TELL_SECONDS = 0'))
+        run = self.start('make', WAITS='high')
+        self.waiting()
+        told = [run.stderr.readline()]
+        while ' now ' not in told[-1] or 'high' not in told[-1]:
+            told.append(run.stderr.readline())
+        run.send_signal(signal.SIGTERM)
+        run.communicate()
+        self.assertRegex(told[0], 'building: 5 crates .* about [0-9]+ minutes on [0-9]+ processors')
+        self.assertRegex(told[-1], 'doomview: 3 of 5 crates, [0-9]+ % of the work, after 0.[0-9] minutes; now high')
+
+    def test_minutes(self):
+        words = 'import build; print([build.minutes_for(jobs) for jobs in (1, 2, 4, 64)])'
+        run = subprocess.run([sys.executable, '-c', words], cwd=self.folder, capture_output=True, text=True, check=True)
+        one, two, four, many = map(int, run.stdout.strip('[]\n').split(','))
+        self.assertTrue(one > two > four >= many > 0)
+
+    def test_own_words(self):
+        """Words of the script alone: the table of jobs without a build, a build without a job."""
+        status, output, error = self.runs('--help')
+        self.assertEqual((status, error), (0, ''))
+        for job in ('render MAP', 'limits MAP', 'audit MAP', 'flat NAME', 'make WHAT', 'exercise N'):
+            self.assertIn('\n  ' + job, output)
+        self.assertEqual(self.runs(), (1, '', 'doomview: usage\n' + output))
+        self.assertEqual(self.runs('--built')[:2], (1, ''))
+        self.assertEqual(self.calls(), [])
+        self.assertEqual(self.runs('--build', FAILS='left')[0], 70)
+        self.assertEqual(self.runs('--build')[:2], (0, ''))
+        self.assertEqual([self.runs('--build'), self.runs('--built')], [(0, '', '')] * 2)
+        self.assertEqual(self.runs('--help', 'me')[:2], (5, 'input --help me\n'))
+
     def test_missing(self):
         os.remove(self.at('bin', 'rt'))
-        self.assertEqual(self.runs('make'), (70, '', 'doomview: the build needs the command rt\n'))
+        status, output, error = self.runs('make')
+        self.assertEqual((status, output), (70, ''))
+        self.assertRegex(error, '^doomview: the build needs the command rt, .*\n$')
         os.remove(self.at('bin', 'python3'))
         self.assertEqual(self.runs('make'), (70, '', 'doomview: the build needs python3\n'))
 

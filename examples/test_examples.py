@@ -5,126 +5,15 @@ usage: python3 examples/test_examples.py"""
 import csv
 import hashlib
 import os
-import re
 import shutil
 import struct
-import subprocess
-import sys
-import tempfile
 import unittest
 
-HERE = os.path.dirname(os.path.abspath(__file__))
-sys.dont_write_bytecode = True
-sys.path.insert(0, HERE)
-import make_path  # noqa: E402
-
-# All that the scripts may call besides Python, doomview and the tools that draw.
-COMMANDS = ['sh', 'basename', 'cat', 'dirname', 'env', 'grep', 'mkdir', 'mktemp', 'readlink', 'rm']
-ROOM = [(-256, 256), (256, 256), (256, -256), (-256, -256)]
-FRAME = b'P6\n320 200\n255\n' + bytes(192000)
-
-# Reads the files of an audit, and refuses MAP02; takes no words of another job.
-DOOMVIEW = '''#!/bin/sh
-[ "$1" != audit ] || cat "$3" "$5" "$7" "$9" >/dev/null || exit 3
-case "$1 $2" in
-    'make things') echo type ;;
-    'audit MAP02') echo 'doomview: refused 901 3' >&2; exit 2 ;;
-    audit*) echo 'accepted enough 1 roomy 2' ;;
-    *) echo 'doomview: usage' >&2; exit 1 ;;
-esac
-'''
-# Draws the frame beside it, and writes its words down.
-DRAWING = '''#!/bin/sh
-[ "$1" = render ] || exit 0
-echo "$@" >"$(dirname "$0")/words"
-cat "$(dirname "$0")/frame"
-'''
+from made_files import DOOMVIEW, DRAWING, FRAME, HERE, Scripts, made_wad, pixels_of, room, wad
+import make_path
 
 
-def name(text):
-    return text.encode().ljust(8, b'\0')
-
-
-def room(floors, starts, nodes):
-    """The lumps of a square room of four lines, with one or two sectors, each with its floor and one leaf.
-    A leaf has one seg, the second on the back of its line."""
-    count = len(floors)
-    things = b''.join(struct.pack('<hhhHH', x, y, angle, kind, 7) for x, y, angle, kind in starts)
-    lines = b''.join(struct.pack('<7H', i, (i + 1) % 4, 4, 0, 0, 0, i % count) for i in range(4))
-    sides = b''.join(struct.pack('<hh8s8s8sH', 0, 0, name('-'), name('-'), name('WALL1'), i)
-                     for i in range(count))
-    return [('THINGS', things), ('LINEDEFS', lines), ('SIDEDEFS', sides),
-            ('VERTEXES', b''.join(struct.pack('<hh', *corner) for corner in ROOM)),
-            ('SEGS', b''.join(struct.pack('<6H', i, (i + 1) % 4, 0, i, i, 0) for i in range(count))),
-            ('SSECTORS', b''.join(struct.pack('<HH', 1, i) for i in range(count))),
-            ('NODES', b''.join(struct.pack('<12h2H', *node) for node in nodes)),
-            ('SECTORS', b''.join(struct.pack('<hh8s8shhh', floor, 128, name('FLAT1'), name('FLAT1'), 160, 0, 0)
-                                 for floor in floors))]
-
-
-def wad(lumps):
-    offset, bodies, entries = 12, b'', b''
-    for label, data in lumps:
-        entries += struct.pack('<II8s', offset + len(bodies), len(data), name(label))
-        bodies += data
-    return b'IWAD' + struct.pack('<II', len(lumps), offset + len(bodies)) + bodies + entries
-
-
-def made_wad():
-    """MAP01 and MAP02 have two sectors, the east one in front of their node. MAP03 has no player, the node
-    of MAP04 names itself, MAP05 is of another format, MAP06 a bare label, and MAP07 has no node. The last
-    has a name that no file can have."""
-    box = [256, -256, -256, 256]
-    split = [0, 0, 0, 256, *box, *box, 0x8000, 0x8001]
-    return wad([('PLAYPAL', bytes(768)), ('COLORMAP', bytes(8192)),
-                ('MAP01', b''), *room([24, -8], [(-64, 0, 0, 1), (64, -32, 100, 1), (0, 0, 0, 3001)], [split]),
-                ('map02', b''), *room([24, -16], [(-10, 20, -100, 1)], [split]),
-                ('MAP03', b''), *room([0], [(0, 0, 0, 3001)], []),
-                ('MAP04', b''), *room([0], [(0, 0, 0, 1)], [[0, 0, 0, 256, *box, *box, 0, 0]]),
-                ('MAP05', b''), *room([0], [], []), ('REJECT', b''), ('BLOCKMAP', b''), ('BEHAVIOR', b''),
-                ('MAP06', b''), ('MAP07', b''), *room([5], [(1, 2, 45, 1)], []),
-                ('A/B', b''), *room([0], [], [])])
-
-
-class Examples(unittest.TestCase):
-    def setUp(self):
-        self.folder = tempfile.mkdtemp(prefix='two words ')
-        self.addCleanup(shutil.rmtree, self.folder)
-        self.bin = self.at('bin')
-        os.mkdir(self.bin)
-        for command in COMMANDS:
-            os.symlink(shutil.which(command), os.path.join(self.bin, command))
-        self.stand_in('bin/python3', f'#!/bin/sh\nexec "{sys.executable}" -B "$@"\n')
-        self.wad = self.write('made.wad', made_wad())
-
-    def at(self, *parts):
-        return os.path.join(self.folder, *parts)
-
-    def write(self, place, data):
-        with open(self.at(place), 'wb') as file:
-            file.write(data)
-        return self.at(place)
-
-    def stand_in(self, place, text):
-        os.chmod(self.write(place, text.encode()), 0o755)
-        return self.at(place)
-
-    def run_script(self, script, *words, doomview=None, **more):
-        """Status, standard output and standard error, with nothing on the PATH but COMMANDS and stand-ins."""
-        command = [sys.executable, '-B'] if script.endswith('.py') else []
-        script = script if os.path.isabs(script) else os.path.join(HERE, script)
-        done = subprocess.run([*command, script, *words], capture_output=True, cwd=self.folder,
-                              env={'PATH': self.bin, 'DOOMVIEW': doomview or self.at('absent'), **more})
-        return done.returncode, done.stdout, done.stderr.decode()
-
-    def refuses(self, part, script, *words, **more):
-        """The script ends with a status other than 0, writes nothing, and says what is wrong."""
-        status, output, error = self.run_script(script, *words, **more)
-        self.assertNotEqual(status, 0)
-        self.assertEqual(output, b'')
-        self.assertIn(part, error)
-        self.assertNotIn('Traceback', error)
-
+class Examples(Scripts):
     def test_tables(self):
         status, tables, _ = self.run_script('make_tables.py')
         self.assertEqual((status, len(tables)), (0, 65540))
@@ -191,76 +80,193 @@ class Examples(unittest.TestCase):
             self.refuses(part, 'make_path.py', self.wad, *words)
         damaged = wad([('MAP01', b''), *room([0], [(0, 0, 0, 1)], [])[:5], ('SSECTORS', b''), ('NODES', b''),
                        ('SECTORS', b'')])
-        self.refuses('is damaged', 'make_path.py', self.write('wrong.wad', damaged), 'MAP01')
+        for script in ('make_path.py', 'places'):
+            self.refuses('is damaged', script, self.write('wrong.wad', damaged), 'MAP01')
 
     def test_missing(self):
         doomview = self.stand_in('doomview', DOOMVIEW)
         for script, words in [('picture', ['MAP01', 'out.png']), ('video', ['MAP01', 'path.csv', 'out.mp4']),
                               ('all_maps', ['out']), ('audit_all', [])]:
             self.refuses('usage: ' + script, script)
-            self.refuses('cannot read absent.wad', script, 'absent.wad', *words, doomview=doomview)
+            self.refuses('there is no WAD absent.wad here', script, 'absent.wad', *words, doomview=doomview)
+            self.refuses('cannot read ./absent.wad', script, './absent.wad', *words, doomview=doomview)
+            self.refuses('there is no WAD absent', script, self.wad, *words, doomview=doomview, IWAD='absent')
         self.refuses('no program', 'audit_all', self.wad)
         broken = self.stand_in('broken', '#!/bin/sh\nexit 70\n')
         self.assertEqual(self.run_script('audit_all', self.wad, doomview=broken)[0], 70)
         self.refuses('cannot read path.csv', 'video', self.wad, 'MAP01', 'path.csv', 'out.mp4', doomview=doomview)
         self.write('path.csv', b'x,y,z,angle\n')
         self.refuses('ffmpeg is not', 'video', self.wad, 'MAP01', 'path.csv', 'out.mp4', doomview=doomview)
-        self.refuses('neither pnmtopng', 'picture', self.wad, 'MAP01', 'out.png', doomview=doomview)
+        self.refuses('has to end in .mp4', 'video', self.wad, 'MAP01', 'path.csv', 'out', doomview=doomview)
         self.refuses('parallel is not installed', 'all_maps', self.wad, 'out', doomview=doomview)
         self.stand_in('bin/parallel', '#!/bin/sh\necho parallel of moreutils\n')
         self.refuses('not GNU parallel', 'all_maps', self.wad, 'out', doomview=doomview)
         os.remove(self.at('bin/python3'))
         self.refuses('python3 is not', 'audit_all', self.wad, doomview=doomview)
 
+    def test_targets(self):
+        """What is no file stays as it is, and an older file stays where nothing is drawn."""
+        doomview = self.stand_in('drawing', DRAWING)
+        os.mkdir(self.at('folder.png'))
+        os.mkfifo(self.at('pipe.png'))
+        self.write('frame', FRAME[:-1])
+        self.write('old.png', b'old')
+        for part, png in [('is a folder', 'folder.png'), ('is no plain file', 'pipe.png'), ('is no frame', 'old.png'),
+                          ('there is no folder absent', 'absent/out.png'), ('ends in .png', 'out')]:
+            self.refuses(part, 'picture', self.wad, 'MAP01', png, doomview=doomview)
+        with open(self.at('old.png')) as file:
+            self.assertEqual(file.read(), 'old')
+        self.write('frame', FRAME)
+        self.assertEqual(self.run_script('picture', self.wad, 'MAP01', 'old.png', doomview=doomview)[0], 0)
+        self.assertEqual(self.run_script('write_png.py', '/dev/null', input=FRAME)[0], 1)
+        self.assertFalse(os.path.isfile('/dev/null'))
+
     def test_wrong_options(self):
         doomview = self.stand_in('doomview', DOOMVIEW)
-        self.stand_in('bin/pnmtopng', '#!/bin/sh\n')
         self.stand_in('bin/ffmpeg', '#!/bin/sh\n')
         self.write('path.csv', b'x,y,z,angle\n')
-        self.refuses('does not take', 'picture', self.wad, 'MAP01', 'out.png', doomview=doomview)
-        self.refuses('does not take', 'video', self.wad, 'MAP01', 'path.csv', 'out.mp4', doomview=doomview)
+        self.refuses('--skill is a number from 1 to 5', 'picture', self.wad, 'MAP01', 'out.png', '--skill', '9',
+                     doomview=doomview)
+        self.refuses('doomview: usage', 'video', self.wad, 'MAP01', 'path.csv', 'out.mp4', doomview=doomview)
         self.assertFalse(os.path.exists(self.at('out.png')) or os.path.exists(self.at('out.mp4')))
 
     def test_picture(self):
         doomview = self.stand_in('drawing', DRAWING)
-        self.write('frame', FRAME)
-        for tool, text in [('convert', '#!/bin/sh\ncat "$1" >"$2"\n'), ('pnmtopng', '#!/bin/sh\ncat "$2"\n')]:
-            self.stand_in('bin/' + tool, text)
-            done = self.run_script('picture', self.wad, 'MAP01', f'{tool}.png', '--skill', '4',
-                                   doomview=doomview, IWAD='base.wad')
-            self.assertEqual(done, (0, b'', ''))
-            with open(self.at(f'{tool}.png'), 'rb') as file:
-                self.assertEqual(file.read(), FRAME)
-        with open(self.at('words')) as file:
-            words = file.read().strip()
-        self.assertTrue(words.startswith(f'render MAP01 base.wad {self.wad} --tables '))
+        self.write('frame', FRAME[:15] + bytes(range(240)) * 800)
+        base = self.write('base.wad', made_wad())
+        words = [self.wad, 'MAP01', 'out.png', '--skill', '4']
+        self.assertEqual(self.run_script('picture', *words, doomview=doomview, IWAD='base.wad'), (0, b'', ''))
+        self.assertEqual(pixels_of(self.at('out.png')), bytes(range(240)) * 800)
+        words = self.read('words').strip()
+        wads = f'{os.path.realpath(base)} {os.path.realpath(self.wad)}'
+        self.assertTrue(words.startswith(f'render MAP01 {wads} --tables '))
         self.assertTrue(words.endswith('--format ppm --skill 4'))
         self.stand_in('drawing', '#!/bin/sh\n[ "$1" = make ] || exit 6\n')
         self.assertEqual(self.run_script('picture', self.wad, 'MAP01', 'out.png', doomview=doomview)[0], 6)
 
-    def test_video(self):
+    def test_first_picture(self):
+        """Without a WAD that of the made room; without a map the first of the WAD."""
         doomview = self.stand_in('drawing', DRAWING)
-        self.stand_in('bin/ffmpeg', '#!/bin/sh\nfor last; do :; done\necho "$@" >"$last"\n')
+        self.write('frame', FRAME)
+        self.assertEqual(self.run_script('picture', 'first.png', doomview=doomview, IWAD='absent.wad'), (0, b'', ''))
+        self.assertRegex(self.read('words'), '^render MAP01 [^ ]*/room.wad --tables ')
+        self.assertEqual(len(pixels_of(self.at('first.png'))), 192000)
+        done = self.run_script('picture', self.wad, 'map.png', '--size', '9', doomview=doomview)
+        self.assertEqual(done, (0, b'', ''))
+        self.assertRegex(self.read('words'), '^render MAP01 .*made.wad --tables .* --size 9')
+
+    def test_unproved(self):
+        """Where the program is not built the picture comes from a run without proofs, which says so in a line."""
+        shutil.copytree(HERE, self.at('clone/examples'))
+        os.makedirs(self.at('clone/crates/doomview'))
+        os.mkdir(self.at('clone/docs'))
+        shutil.copy(os.path.join(os.path.dirname(HERE), 'docs/FILES.md'), self.at('clone/docs'))
+        self.write('clone/build.py', b'')
+        self.stand_in('clone/doomview', '#!/bin/sh\n[ "$1" != --built ] || exit 1\necho built "$@"; exit 70\n')
+        picture = self.at('clone/examples/picture')
+        self.refuses('the command rt is not installed', picture, 'first.png', DOOMVIEW='')
+        self.stand_in('bin/rt', """#!/bin/sh
+[ "$(basename "$PWD") $1" = 'doomview try' ] || exit 2
+while [ "$1" != -- ]; do
+    [ "$1" != --data ] || { cat "${2#*=}" >/dev/null && eval "${2%%=*}=there"; }
+    shift
+done
+[ "$2$file0$file1$file2$file3" = 'renderthheretheretherethere' ] || [ "$file3" = there ] || exit 2
+echo 'run=ended proved=no' >&2
+cat "$FRAME_FILE"
+""")
+        frame = self.write('frame', FRAME)
+        done = self.run_script(picture, 'first.png', DOOMVIEW='', FRAME_FILE=frame)
+        self.assertEqual(done[:2], (0, b''), done)
+        self.assertRegex(done[2], '^picture: the proved program is not built yet.*without proofs.*--build builds it\n$')
+        self.assertEqual(len(pixels_of(self.at('first.png'))), 192000)
+        os.remove(self.at('first.png'))
+        status = self.run_script(picture, '--proved', 'first.png', DOOMVIEW='', FRAME_FILE=frame)[0]
+        self.assertEqual((status, os.path.exists(self.at('first.png'))), (70, False))
+        self.stand_in('bin/rt', '#!/bin/sh\necho refused >&2\nexit 1\n')
+        self.refuses('rt try did not run the sources', picture, 'first.png', DOOMVIEW='')
+        self.stand_in('bin/rt', '#!/bin/sh\necho doomview: refused 601 >&2\nexit 2\n')
+        status, _, error = self.run_script(picture, self.wad, 'MAP01', 'first.png', DOOMVIEW='')
+        self.assertEqual(status, 2)
+        self.assertIn('explain: 601: no WAD has', error)
+        self.assertFalse(os.path.exists(self.at('first.png')))
+
+    def test_wads(self):
+        """A WAD is found as ports find it."""
+        doomview = self.stand_in('drawing', DRAWING)
+        self.write('frame', FRAME)
+        for folder in ('one', 'two/games/doom'):
+            os.makedirs(self.at(folder))
+        shutil.copy(self.wad, self.at('one/doom2.wad'))
+        shutil.copy(self.wad, self.at('two/games/doom/other.wad'))
+        for name, env, found in [('doom2.wad', {'DOOMWADDIR': self.at('one')}, 'one/doom2.wad'),
+                                 ('DOOM2', {'DOOMWADPATH': f'{self.at("no")}:{self.at("one")}'}, 'one/doom2.wad'),
+                                 ('other', {'XDG_DATA_HOME': self.at('two')}, 'two/games/doom/other.wad')]:
+            done = self.run_script('picture', name, 'MAP01', 'out.png', doomview=doomview, **env)
+            self.assertEqual(done, (0, b'', ''))
+            self.assertIn(f' {os.path.realpath(self.at(found))} ', self.read('words'))
+
+    def test_room(self):
+        """The made room is a WAD with a map, a player start, and places all over it."""
+        done = self.run_script('make_room.py')
+        self.assertEqual((done[0], done[2]), (0, ''))
+        room_wad = self.write('room.wad', done[1])
+        self.assertEqual(self.run_script('wad_maps.py', room_wad), (0, b'MAP01\n', ''))
+        start = self.run_script('make_path.py', room_wad, 'MAP01', '1')[1].splitlines()[1]
+        rows = self.run_script('places', room_wad, 'MAP01', '50')[1].splitlines()
+        self.assertEqual((len(rows), rows[1]), (52, start))
+        self.assertEqual(self.run_script('places', room_wad, 'MAP01', '50')[1].splitlines(), rows)
+        self.assertNotEqual(self.run_script('places', room_wad, 'MAP01', '50', '--seed', '2')[1].splitlines(), rows)
+        wild = self.run_script('places', room_wad, 'map01', '50', '--wild')[1].decode().splitlines()
+        self.assertGreater(len({row.split(',')[2] for row in wild}), 20)
+        self.refuses('COUNT is 0 to 9999', 'places', room_wad, 'MAP01', '10000')
+        self.refuses('has no map MAP09; its maps: MAP01', 'places', room_wad, 'MAP09')
+        self.refuses('No such file', 'places', 'absent.wad', 'MAP01')
+        self.refuses('usage', 'make_room.py', 'x')
+
+    def test_full_outputs(self):
+        """What goes to standard output is whole, or the script fails with a sentence."""
+        for words in [['make_tables.py'], ['make_room.py'], ['places', self.wad, 'MAP01'],
+                      ['make_path.py', self.wad, 'MAP01']]:
+            with open('/dev/full', 'wb') as full:
+                status, _, error = self.run_script(*words, stdout=full, PYTHONUNBUFFERED='1')
+            self.assertEqual(status, 1)
+            self.assertIn('No space left', error)
+
+    def test_video(self):
+        doomview = self.stand_in('drawing', '#!/bin/sh\n[ "$1" != limits ] || echo view 0\n' + DRAWING)
+        self.stand_in('bin/ffmpeg', '#!/bin/sh\nfor last; do :; done\ncat >"$last"\necho "$@" >>"$last"\n')
         self.write('path.csv', b'x,y,z,angle\n0,0,0,0\n')
         self.write('frame', FRAME)
         words = [self.wad, 'MAP01', 'path.csv', 'out.mp4']
         self.assertEqual(self.run_script('video', *words, doomview=doomview), (0, b'', ''))
-        with open(self.at('out.mp4')) as file:
-            self.assertIn('-f image2pipe', file.read())
-        self.write('frame', b'')
+        made = self.read('out.mp4')
+        self.assertTrue(made.startswith(FRAME.decode()))
+        self.assertIn('-f image2pipe', made)
+        self.stand_in('bin/ffmpeg', '#!/bin/sh\necho no such codec >&2\nexit 1\n')
+        self.refuses('no such codec\nvideo: ffmpeg could not make out.mp4', 'video', *words, doomview=doomview)
+        self.assertEqual(self.read('out.mp4'), made)
+        self.stand_in('bin/ffmpeg', '#!/bin/sh\nfor last; do :; done\ncat >"$last"\n')
+        self.stand_in('drawing', '#!/bin/sh\n[ "$1" = render ] || { echo view; exit; }\n'
+                                 'echo doomview: limit view 7 planes 129 >&2\nexit 5\n')
+        self.refuses('view 7, row 8 under the header', 'video', *words, doomview=doomview)
+        self.assertEqual(self.read('out.mp4'), made)
+        self.stand_in('drawing', '#!/bin/sh\n')
         self.refuses('nothing to show', 'video', *words, doomview=doomview)
+        self.assertEqual([name for name in os.listdir(self.folder) if name.endswith('.mp4')], ['out.mp4'])
 
     def test_all_maps(self):
         self.stand_in('bin/parallel', '#!/bin/sh\n[ "$1" != --version ] || { echo GNU parallel; exit; }\n'
                                       'echo "$@"\ncat\nexit 3\n')
-        status, output, _ = self.run_script('all_maps', 'made.wad', 'out', '--jobs', '2',
-                                            doomview=self.stand_in('doomview', DOOMVIEW))
+        doomview = self.stand_in('doomview', DOOMVIEW)
+        status, output, _ = self.run_script('all_maps', 'made.wad', 'out', '--jobs', '2', doomview=doomview)
         call, *maps = output.decode().splitlines()
         self.assertEqual((status, maps), (3, ['MAP01', 'MAP02', 'MAP03', 'MAP04', 'MAP07']))
         folder = os.path.realpath(self.folder)
         self.assertTrue(call.startswith('--quote --jobs 2 env '))
         self.assertTrue(call.endswith(f'picture {folder}/made.wad {{}} {folder}/out/{{}}.png'))
         self.assertTrue(os.path.isdir(self.at('out')))
+        self.refuses('doomview is no folder', 'all_maps', 'made.wad', 'doomview', doomview=doomview)
 
     def test_audit_all(self):
         done = self.run_script('audit_all', self.wad, doomview=self.stand_in('doomview', DOOMVIEW))
@@ -269,16 +275,6 @@ class Examples(unittest.TestCase):
         self.assertEqual(done, (1, lines.encode(), ''))
         self.stand_in('drawing', DRAWING)
         self.assertEqual(self.run_script('audit_all', self.wad, doomview='drawing')[0], 0)
-
-    def test_folder(self):
-        """README names each file, and no script names a path of a machine."""
-        with open(os.path.join(HERE, 'README.md')) as file:
-            readme = file.read()
-        for entry in set(os.listdir(HERE)) - {'README.md', '.gitignore', 'common.sh', '__pycache__'}:
-            self.assertIn(f'| `{entry}', readme)
-            with open(os.path.join(HERE, entry)) as file:
-                paths = re.findall(r'(?<![\w.)}])/[a-z][\w/]*', file.read())
-            self.assertLessEqual(set(paths), {'/bin/sh', '/dev/null', '/usr/bin/env'}, entry)
 
     def test_nothing_stays(self):
         """A script leaves no folder of its own behind."""
