@@ -1,0 +1,101 @@
+-- What is found by its name in the trimmed file has the bytes that it has in the given files.
+use Rattle.std.proofs.Common.{◌≡◌, ℕ, ◌+◌, ◌<◌, Bool, true, false, cond, List, [], ◌∷◌, ◌++◌, map, ◌⊎◌, inl, inr, Option, Some, None, refl, ap, sym, ◌∙◌}
+use Rattle.std.specs.Prelude.{◌==◌, ◌||◌, filter, not}
+use Rattle.std.specs.List.{AllByRecursion, list_any}
+use Rattle.std.specs.Str.{bytes_eq}
+use Rattle.std.proofs.lemmas.Bool.Decides.{Decides-eqb}
+use Rattle.std.proofs.lemmas.List.{map-append}
+use Rattle.std.proofs.lemmas.Slice.Eq.{bytes_eq-Decides}
+use Rattle.word_rules.specs.Least.{or_else}
+use Rattle.lump_rules.specs.declared.wad.Lump.{Lump}
+use Rattle.lump_rules.specs.Lookups.{has_name, last_of, lump_at, map_of}
+use Rattle.lump_rules.specs.declared.names.TheConstants.{F_START, F_END, S_START, S_END}
+use Rattle.made_rules.specs.Wads as made
+use Rattle.scene_rules.specs.Sizes.{SceneArt}
+use Rattle.trim_rules.specs.declared.part.TrimPart.{TrimPart}
+use Rattle.trim_rules.specs.Parts.{called_lumps, copy_part, flat_lumps, group_parts, map_parts, part_name, picture_lumps, trim_parts}
+use Rattle.trim_rules.specs.Files.{part_bytes, part_lump}
+use Rattle.trim_rules.proofs.NameLemmas.{last_bytes, last_bytes-append}
+
+-- a lump is the last of its name
+abbrev pub IsLastOfName : List Lump → ℕ → Type 0
+IsLastOfName lumps n = last_of lumps (lump_at lumps n).name ≡ Some n
+
+-- these lumps, copied
+unfoldable pub copies : (ℕ → List ℕ) → List Lump → List ℕ → List made.Lump
+copies bytes lumps ns = map (part_lump bytes lumps) (map copy_part ns)
+
+one_of : {X : Type 0} (m n : X) → Some m ≡ Some n → m ≡ n
+one_of m n e = cc
+
+module _ (bytes : ℕ → List ℕ) (lumps : List Lump) where
+  -- of lumps that are the last of their names, one alone has a name, if any
+  only_step : (name : List ℕ) (n m : ℕ) → last_of lumps name ≡ Some n → IsLastOfName lumps m
+      → (o : Option (List ℕ)) → (o ≡ None) ⊎ (o ≡ Some (bytes n))
+      → (b : Bool) → bytes_eq (lump_at lumps m).name name ≡ b
+      → (or_else o (cond b (Some (bytes m)) None) ≡ None) ⊎ (or_else o (cond b (Some (bytes m)) None) ≡ Some (bytes n))
+  only_step name n m is last (Some v) (inl e) b d = absurd (cc)
+  only_step name n m is last (Some v) (inr e) b d = inr e
+  only_step name n m is last None h false d = inl refl
+  only_step name n m is last None h true d =
+      let same : (lump_at lumps m).name ≡ name = (bytes_eq-Decides (lump_at lumps m).name name).0 d in
+      let this : m ≡ n = one_of m n (sym last ∙ ap (last_of lumps) same ∙ is) in
+      inr (ap (λ k. Some (bytes k)) this)
+
+  pub last_bytes-only : (name : List ℕ) (n : ℕ) → last_of lumps name ≡ Some n → (ns : List ℕ) → AllByRecursion (IsLastOfName lumps) ns
+      → (last_bytes (copies bytes lumps ns) name ≡ None) ⊎ (last_bytes (copies bytes lumps ns) name ≡ Some (bytes n))
+  unfolding last_bytes copies part_lump part_name part_bytes
+  last_bytes-only name n is [] all = inl refl
+  last_bytes-only name n is (m ∷ rest) all =
+      only_step name n m is all.0 (last_bytes (copies bytes lumps rest) name) (last_bytes-only name n is rest all.1)
+      (bytes_eq (lump_at lumps m).name name) refl
+
+  found_step : (n m : ℕ) (o : Option (List ℕ)) → (o ≡ None) ⊎ (o ≡ Some (bytes n))
+      → (b : Bool) → (m == n) ≡ b → (c : Bool) → (c ≡ true → o ≡ Some (bytes n)) → (b || c) ≡ true
+      → (d : Bool) → (m ≡ n → d ≡ true) → or_else o (cond d (Some (bytes m)) None) ≡ Some (bytes n)
+  found_step n m (Some v) (inl e) b is c later any d same = absurd (cc)
+  found_step n m (Some v) (inr e) b is c later any d same = e
+  found_step n m None h true is c later any d same =
+      let this : m ≡ n = (Decides-eqb m n).0 is in
+      rw (same this) (ap (λ k. Some (bytes k)) this)
+  found_step n m None h false is true later any d same = let e : None ≡ Some (bytes n) = later refl in absurd (cc)
+  found_step n m None h false is false later any d same = absurd (cc)
+
+  -- a lump among these that are the last of their names is found by its name
+  pub last_bytes-found : (n : ℕ) (ns : List ℕ) → IsLastOfName lumps n → AllByRecursion (IsLastOfName lumps) ns → list_any (λ m. m == n) ns ≡ true
+      → last_bytes (copies bytes lumps ns) (lump_at lumps n).name ≡ Some (bytes n)
+  unfolding last_bytes copies part_lump part_name part_bytes
+  last_bytes-found n [] last all any = absurd (cc)
+  last_bytes-found n (m ∷ rest) last all any =
+      found_step n m (last_bytes (copies bytes lumps rest) (lump_at lumps n).name)
+      (last_bytes-only (lump_at lumps n).name n last rest all.1)
+      (m == n) refl (list_any (λ k. k == n) rest) (last_bytes-found n rest last all.1) any
+      (bytes_eq (lump_at lumps m).name (lump_at lumps n).name)
+      (λ e. (bytes_eq-Decides (lump_at lumps m).name (lump_at lumps n).name).1 (ap (λ k. (lump_at lumps k).name) e))
+
+  -- the last part of the file counts before the parts in front of it
+  pub trimmed_last : (art : SceneArt) (name : List ℕ) (n : ℕ)
+      → AllByRecursion (IsLastOfName lumps) (filter (λ m. not (has_name lumps name m)) (called_lumps lumps art.prepared))
+      → IsLastOfName lumps n
+      → list_any (λ m. m == n) (filter (λ m. not (has_name lumps name m)) (called_lumps lumps art.prepared)) ≡ true
+      → last_bytes (map (part_lump bytes lumps) (trim_parts lumps art name)) (lump_at lumps n).name ≡ Some (bytes n)
+  unfolding trim_parts copies
+  trimmed_last art name n all last any =
+      let flats = group_parts F_START (flat_lumps lumps art.flats) F_END in
+      let pictures = group_parts S_START (picture_lumps lumps art.pictures) S_END in
+      let level = map_parts (list_any (has_name lumps name) (called_lumps lumps art.prepared)) (map_of lumps name) in
+      let called = filter (λ m. not (has_name lumps name m)) (called_lumps lumps art.prepared) in
+      let wanted = (lump_at lumps n).name in
+      let lump = part_lump bytes lumps in
+      let here : last_bytes (map lump (map copy_part called)) wanted ≡ Some (bytes n) = last_bytes-found n called last all any in
+      ap (λ ls. last_bytes ls wanted)
+      (map-append lump flats (pictures ++ (level ++ map copy_part called))
+      ∙ ap (λ ls. map lump flats ++ ls)
+      (map-append lump pictures (level ++ map copy_part called)
+      ∙ ap (λ ls. map lump pictures ++ ls) (map-append lump level (map copy_part called))))
+      ∙ last_bytes-append (map lump flats) (map lump pictures ++ (map lump level ++ map lump (map copy_part called))) wanted
+      ∙ ap (λ o. or_else o (last_bytes (map lump flats) wanted))
+      (last_bytes-append (map lump pictures) (map lump level ++ map lump (map copy_part called)) wanted
+      ∙ ap (λ o. or_else o (last_bytes (map lump pictures) wanted))
+      (last_bytes-append (map lump level) (map lump (map copy_part called)) wanted
+      ∙ ap (λ o. or_else o (last_bytes (map lump level) wanted)) here))

@@ -1,0 +1,28 @@
+-- The lumps of a new file have the bytes that were put.
+use Rattle.std.proofs.Common.{◌≡◌, ℕ, zero, suc, ◌+◌, ◌<◌, List, [], ◌∷◌, ◌++◌, length, take, drop, refl, ap, sym, ◌∙◌, arith, append_assoc}
+use Rattle.std.specs.Prelude.{slice_index_or}
+use Rattle.std.proofs.lemmas.List.{length-append}
+use Rattle.std.proofs.Math.Seq.{take-append_seam, drop-append_seam}
+use Rattle.lump_rules.specs.declared.wad.Lump.{Lump}
+use Rattle.lump_rules.specs.Contents.{bytes_of, lump_bytes}
+use Rattle.lump_rules.specs.Lookups.{lump_at}
+use Rattle.made_rules.specs.Wads as made
+use Rattle.made_rules.specs.Wads.{contents}
+use Rattle.trim_rules.specs.Files.{stored_from}
+
+-- a lump of a file that begins with `front` and then has the bytes of these lumps
+pub stored_bytes : (front behind : List ℕ) (lumps : List made.Lump) (d : made.Lump) (k place : ℕ) → place ≡ length front → k < length lumps
+    → bytes_of ((front ++ (contents lumps ++ behind)) ∷ []) (lump_at (stored_from place lumps) k) ≡ (slice_index_or lumps k d).bytes
+unfolding contents stored_from
+stored_bytes front behind [] d k place is lt = absurd (omega arith)
+stored_bytes front behind (lump ∷ rest) d zero place is lt =
+    let file = front ++ ((lump.bytes ++ contents rest) ++ behind) in
+    ap (λ n. take (length lump.bytes) (drop n file)) is
+    ∙ ap (take (length lump.bytes)) (drop-append_seam front ((lump.bytes ++ contents rest) ++ behind) ∙ append_assoc lump.bytes (contents rest) behind)
+    ∙ take-append_seam lump.bytes (contents rest ++ behind)
+stored_bytes front behind (lump ∷ rest) d (suc k) place is lt =
+    let next : place + length lump.bytes ≡ length (front ++ lump.bytes) = rw (length-append, is) refl in
+    let further = stored_bytes (front ++ lump.bytes) behind rest d k (place + length lump.bytes) next (omega arith) in
+    ap (λ file. bytes_of (file ∷ []) (lump_at (stored_from (place + length lump.bytes) rest) k))
+    (ap (λ xs. front ++ xs) (append_assoc lump.bytes (contents rest) behind) ∙ sym (append_assoc front lump.bytes (contents rest ++ behind)))
+    ∙ further

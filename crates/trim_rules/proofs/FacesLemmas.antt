@@ -1,0 +1,61 @@
+-- What the names of a level mean by the trimmed file: the same sides and sky, and the flats under
+-- other numbers.
+use Rattle.std.proofs.Common.{◌≡◌, ℕ, ◌≤◌, List, map, length, Option, Result, Ok, Err, refl, ap, sym, ◌∙◌}
+use Rattle.std.specs.List.{AllByRecursion}
+use Rattle.outside.specs.Faults.{and_then}
+use Rattle.lump_rules.specs.declared.wad.Lump.{Lump}
+use Rattle.level_rules.specs.declared.Sector.{Sector}
+use Rattle.level_rules.specs.declared.SideTextures.{SideTextures}
+use Rattle.level_rules.specs.declared.TheConstants.{SKY_FLAT}
+use Rattle.level_rules.specs.maps.Levels.{LevelValue}
+use Rattle.art_rules.specs.Textures.{TextureLists}
+use Rattle.scene_rules.specs.declared.SectorFlats.{SectorFlats}
+use Rattle.scene_rules.specs.Scenes.{Faces, faces_in}
+use Rattle.scene_rules.specs.SectorFlats.{sector_flats}
+use Rattle.scene_rules.specs.Sides.{side_textures, sky_texture}
+use Rattle.scene_rules.specs.Sizes.{SceneArt}
+use Rattle.trim_rules.specs.Parts.{trim_parts}
+use Rattle.trim_rules.specs.Files.{trimmed_lumps}
+use Rattle.trim_rules.proofs.HeldFlatLemmas.{flat_part, flats-held}
+use Rattle.trim_rules.proofs.MovedFlatLemmas.{move_both, sectors-moved}
+use Rattle.trim_rules.proofs.PlaceLemmas.{part_source, source_of}
+use Rattle.trim_rules.proofs.TrimmedLemmas.{IsUnmarked}
+
+passed : {A B R : Type 0} (r : Result A R) (next : A → Result B R) (y : B) → and_then r next ≡ Ok y → (x : A) × (r ≡ Ok x) × (next x ≡ Ok y)
+passed (Ok x) next y e = (x, refl, e)
+passed (Err reason) next y e = cc
+
+-- the flats of the sectors
+pub trimmed-sectors : (bytes : ℕ → List ℕ) (lumps : List Lump) (art : SceneArt) (name : List ℕ) (sectors : List Sector)
+    → length lumps ≤ SKY_FLAT → sector_flats lumps sectors ≡ Ok art.flats → AllByRecursion (IsUnmarked lumps) (trim_parts lumps art name)
+    → (moved : List SectorFlats) × (sector_flats (trimmed_lumps bytes lumps (trim_parts lumps art name)) sectors ≡ Ok moved)
+    × (map (move_both (source_of (trim_parts lumps art name))) moved ≡ art.flats)
+trimmed-sectors bytes lumps art name sectors few e unmarked =
+    sectors-moved (trimmed_lumps bytes lumps (trim_parts lumps art name)) lumps (source_of (trim_parts lumps art name)) sectors art.flats
+    (flats-held bytes lumps art name sectors few e unmarked) (λ k lt. ap part_source (flat_part lumps art name k lt)) e
+
+faces-made : (lumps : List Lump) (name : List ℕ) (level : LevelValue) (lists : TextureLists) (sides : List SideTextures) (sky : Option ℕ) (flats : List SectorFlats)
+    → side_textures lists.textures level.sides ≡ Ok sides → sky_texture lists.textures name level.sectors ≡ Ok sky → sector_flats lumps level.sectors ≡ Ok flats
+    → faces_in lumps name level lists ≡ Ok (record { sides = sides; sky = sky; flats = flats })
+unfolding faces_in
+faces-made lumps name level lists sides sky flats a b c = rw (a, b, c) refl
+
+-- All that the names mean.
+pub trimmed-faces : (bytes : ℕ → List ℕ) (lumps : List Lump) (art : SceneArt) (name : List ℕ) (level : LevelValue) (lists : TextureLists) (faces : Faces)
+    → length lumps ≤ SKY_FLAT → faces_in lumps name level lists ≡ Ok faces → faces.flats ≡ art.flats → AllByRecursion (IsUnmarked lumps) (trim_parts lumps art name)
+    → (moved : List SectorFlats)
+    × (faces_in (trimmed_lumps bytes lumps (trim_parts lumps art name)) name level lists ≡ Ok (record { sides = faces.sides; sky = faces.sky; flats = moved }))
+    × (map (move_both (source_of (trim_parts lumps art name))) moved ≡ faces.flats)
+unfolding faces_in
+trimmed-faces bytes lumps art name level lists faces few e same unmarked =
+    let a = passed (side_textures lists.textures level.sides) _ faces e in
+    let b = passed (sky_texture lists.textures name level.sectors) _ faces a.2 in
+    let c = passed (sector_flats lumps level.sectors) _ faces b.2 in
+    let made : ◌≡◌ {A = Faces} (record { sides = a.0; sky = b.0; flats = c.0 }) faces = cc in
+    let flats : sector_flats lumps level.sectors ≡ Ok art.flats = c.1 ∙ ap (λ (f : Faces). Ok f.flats) made ∙ ap Ok same in
+    let moved = trimmed-sectors bytes lumps art name level.sectors few flats unmarked in (
+      moved.0,
+      faces-made (trimmed_lumps bytes lumps (trim_parts lumps art name)) name level lists a.0 b.0 moved.0 a.1 b.1 moved.1
+          ∙ ap (λ (f : Faces). Ok (record { sides = f.sides; sky = f.sky; flats = moved.0 })) made,
+      moved.2 ∙ sym same,
+    )

@@ -1,0 +1,81 @@
+-- The flats of a directory whose first lumps are flats between marks, each the last flat of its
+-- name in the given files.
+use Rattle.std.proofs.Common.{◌≡◌, ℕ, zero, suc, ◌+◌, ◌<◌, ◌≤◌, Bool, true, false, cond, List, length, get_or, Option, Some, None, refl, ap, sym, ◌∙◌, arith, inl, inr}
+use Rattle.std.specs.Prelude.{◌&&◌}
+use Rattle.std.specs.Str.{bytes_eq}
+use Rattle.std.proofs.lemmas.Bool.{cases_lt}
+use Rattle.std.proofs.lemmas.Slice.Eq.{bytes_eq-Decides}
+use Rattle.word_rules.specs.Least.{greatest}
+use Rattle.word_rules.proofs.LeastLemmas.{greatest-some}
+use Rattle.lump_rules.specs.declared.wad.Lump.{Lump}
+use Rattle.lump_rules.specs.declared.names.Group.TheVariants.{Flats}
+use Rattle.lump_rules.specs.Lookups.{flat_of, has_name, is_member, lump_at}
+use Rattle.trim_rules.proofs.MemberLemmas.{HasGroup, between-member, behind-member, is_lump-at}
+
+-- The flats of a trimmed directory are these, by name and in order.
+pub record HasFlats (trimmed lumps : List Lump) (flats : List ℕ) : Type 0 where
+  pub group : HasGroup Flats trimmed 0 (length flats)
+  pub names : (k : ℕ) → k < length flats → (lump_at trimmed (suc k)).name ≡ (lump_at lumps (get_or flats k 0)).name
+  pub last : (k : ℕ) → k < length flats → flat_of lumps (lump_at lumps (get_or flats k 0)).name ≡ Some (get_or flats k 0)
+  pub ascending : (j k : ℕ) → j < k → k < length flats → get_or flats j 0 < get_or flats k 0
+
+one_of : (m n : ℕ) → Some m ≡ Some n → m ≡ n
+one_of m n e = cc
+
+by_value : (b : Bool) (P : Type 0) → (b ≡ true → P) → (b ≡ false → P) → P
+by_value true P whole rest = whole refl
+by_value false P whole rest = rest refl
+
+both_false : (a b : Bool) → a ≡ false → (a && b) ≡ false
+both_false a b e = rw e refl
+
+second_false : (a b : Bool) → b ≡ false → (a && b) ≡ false
+second_false true b e = e
+second_false false b e = refl
+
+-- two of them have two names
+apart : (trimmed lumps : List Lump) (flats : List ℕ) → HasFlats trimmed lumps flats → (j k : ℕ) → j < k → k < length flats
+    → bytes_eq (lump_at lumps (get_or flats k 0)).name (lump_at lumps (get_or flats j 0)).name ≡ false
+apart trimmed lumps flats has j k lt inside =
+    let b = bytes_eq (lump_at lumps (get_or flats k 0)).name (lump_at lumps (get_or flats j 0)).name in
+    by_value b (b ≡ false)
+    (λ same.
+    let names : (lump_at lumps (get_or flats k 0)).name ≡ (lump_at lumps (get_or flats j 0)).name =
+    (bytes_eq-Decides (lump_at lumps (get_or flats k 0)).name (lump_at lumps (get_or flats j 0)).name).0 same in
+    let there : j < length flats = omega arith in
+    let equal : get_or flats k 0 ≡ get_or flats j 0 =
+    one_of _ _ (sym (has.last k inside) ∙ ap (flat_of lumps) names ∙ has.last j there) in
+    let less : get_or flats j 0 < get_or flats k 0 = has.ascending j k lt inside in
+    absurd (omega arith))
+    (λ differ. differ)
+
+-- each is found by its name
+pub trimmed_flat : (trimmed lumps : List Lump) (flats : List ℕ) → HasFlats trimmed lumps flats → (k : ℕ) → k < length flats
+    → flat_of trimmed (lump_at lumps (get_or flats k 0)).name ≡ Some (suc k)
+trimmed_flat trimmed lumps flats has k inside =
+    let name = (lump_at lumps (get_or flats k 0)).name in
+    let p = λ (n : ℕ). is_member Flats trimmed n && has_name trimmed name n in
+    let end : 0 + suc (length flats) < length trimmed = has.group.inside in
+    let there : suc k < length trimmed = omega arith in
+    let first : 0 < suc k = omega arith in
+    let below : suc k < 0 + suc (length flats) = omega arith in
+    greatest-some p (length trimmed) (suc k) there
+    (rw (between-member Flats trimmed 0 (length flats) has.group (suc k) first below)
+    (is_lump-at (λ lump. bytes_eq lump.name name) trimmed (suc k) there
+    ∙ (bytes_eq-Decides (lump_at trimmed (suc k)).name name).1 (has.names k inside)))
+    (λ n above within. elim (cases_lt n (suc (length flats))) [
+      | inl among ↦ later n above within among
+      | inr past ↦
+          let from : 0 + suc (length flats) ≤ n = omega arith in
+          both_false (is_member Flats trimmed n) _ (behind-member Flats trimmed 0 (length flats) has.group n within from)
+    ]) where
+      later : (n : ℕ) → suc k < n → n < length trimmed → n < suc (length flats)
+          → (is_member Flats trimmed n && has_name trimmed (lump_at lumps (get_or flats k 0)).name n) ≡ false
+      later zero above within among = absurd (omega arith)
+      later (suc m) above within among =
+          let inside' : m < length flats = omega arith in
+          let lt : k < m = omega arith in
+          second_false (is_member Flats trimmed (suc m)) _
+          (is_lump-at (λ lump. bytes_eq lump.name (lump_at lumps (get_or flats k 0)).name) trimmed (suc m) within
+          ∙ ap (λ name. bytes_eq name (lump_at lumps (get_or flats k 0)).name) (has.names m inside')
+          ∙ apart trimmed lumps flats has k m lt inside')

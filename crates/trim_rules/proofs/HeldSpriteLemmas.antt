@@ -1,0 +1,286 @@
+-- The sprite lumps of the trimmed file are the pictures of the level: each stands for its source,
+-- and all of them were sprite lumps.
+use Rattle.std.proofs.Common.{◌≡◌, ℕ, suc, ◌+◌, ◌<◌, Bool, true, false, cond, List, [], ◌∷◌, map, length, get_or, Option, Some, None, Result, Ok, Err, refl, ap, sym, subst, ◌∙◌, arith, append_assoc}
+use Rattle.std.specs.Prelude.{◌==◌, ◌||◌, filter, ⊤}
+use Rattle.std.specs.Option.{ok_or}
+use Rattle.std.specs.List.{AllByRecursion, list_any, range_with_len}
+use Rattle.std.proofs.lemmas.Bool.Decides.{Decides-eqb}
+use Rattle.std.proofs.lemmas.List.{length-map}
+use Rattle.outside.specs.Faults.{and_then}
+use Rattle.word_rules.specs.Least.{or_else}
+use Rattle.word_rules.specs.Listed.{joined_lists}
+use Rattle.lump_rules.specs.declared.wad.Lump.{Lump}
+use Rattle.lump_rules.specs.declared.names.TheConstants.{F_START, F_END, S_END}
+use Rattle.lump_rules.specs.declared.names.Group.TheVariants.{Sprites}
+use Rattle.lump_rules.specs.Lookups.{is_member, lump_at, members}
+use Rattle.made_rules.specs.declared.wad.TheConstants.{HEAD_SIZE}
+use Rattle.art_rules.specs.declared.Mention.{Mention}
+use Rattle.art_rules.specs.declared.patch.Patch.{Patch}
+use Rattle.art_rules.specs.declared.refusal.SpriteRefusal.{SpriteRefusal}
+use Rattle.art_rules.specs.declared.shapes.Frame.{Frame}
+use Rattle.art_rules.specs.declared.shapes.Need.{Need}
+use Rattle.art_rules.specs.declared.shapes.Shape.{Shape}
+use Rattle.art_rules.specs.declared.TheConstants.{ROTATIONS, SPRITE_LETTERS, SECOND_PAIR_AT}
+use Rattle.art_rules.specs.Books.{book_lumps, each_of, frame_in, frame_of, last_mention, patch_or_bad, picture_or_missing, pictures_of, shape_in, shape_lumps, shape_of}
+use Rattle.art_rules.specs.Frames.{frame_picture, is_of_frame, is_of_rotation, last_that, lump_mentions, mention_at, mentions, name_mentions, picture_by, picture_if}
+use Rattle.scene_rules.specs.Sizes.{SceneArt}
+use Rattle.trim_rules.specs.declared.part.TrimPart.{TrimPart}
+use Rattle.trim_rules.specs.declared.part.TrimPart.TheVariants.{Mark}
+use Rattle.trim_rules.specs.Parts.{copy_part, flat_lumps, group_parts, part_name, picture_lumps, trim_parts}
+use Rattle.trim_rules.specs.Files.{part_lump, stored_lumps, trimmed_lumps}
+use Rattle.trim_rules.proofs.MemberLemmas.{group-members}
+use Rattle.trim_rules.proofs.SpriteLemmas.{StandFor, count_of}
+use Rattle.trim_rules.proofs.TrimmedLemmas.{IsUnmarked, trimmed-pictures}
+use Rattle.trim_rules.proofs.PlaceLemmas.{part_at, part_at-behind, part_at-copied, source_of, part_source, stored-name}
+use Rattle.trim_rules.proofs.OrderLemmas.{kept-passing}
+use Rattle.trim_rules.proofs.ThereLemmas.{all-append}
+
+-- a sprite lump
+abbrev pub IsSprite : List Lump → ℕ → Type 0
+IsSprite lumps n = is_member Sprites lumps n ≡ true
+
+-- copied lumps from a place on stand for their sources
+module _ (bytes : ℕ → List ℕ) (lumps : List Lump) (parts : List TrimPart) where
+  copied-stand : (a : ℕ) (ns : List ℕ) → ((k : ℕ) → k < length ns → part_at parts (a + k) ≡ copy_part (get_or ns k 0))
+      → StandFor (trimmed_lumps bytes lumps parts) lumps (source_of parts) a ns
+  unfolding trimmed_lumps stored_lumps part_name
+  copied-stand a [] at = tt
+  copied-stand a (n ∷ ns) at =
+      let here : part_at parts a ≡ copy_part n = (let e : a ≡ a + 0 = omega arith in ap (part_at parts) e) ∙ at 0 (omega arith) in (
+        ap part_source here,
+        stored-name bytes lumps HEAD_SIZE parts a ∙ ap (part_name lumps) here,
+        copied-stand (a + 1) ns (λ k lt. (let e : (a + 1) + k ≡ a + suc k = omega arith in ap (part_at parts) e) ∙ at (suc k) (omega arith)),
+      )
+
+-- where part 2 begins: behind the flats and their marks
+abbrev pub first_picture : List Lump → SceneArt → ℕ
+first_picture lumps art = suc (length (group_parts F_START (flat_lumps lumps art.flats) F_END))
+
+picture_part : (lumps : List Lump) (art : SceneArt) (name : List ℕ) (k : ℕ) → k < length (picture_lumps lumps art.pictures)
+    → part_at (trim_parts lumps art name) (first_picture lumps art + k) ≡ copy_part (get_or (picture_lumps lumps art.pictures) k 0)
+unfolding trim_parts group_parts
+picture_part lumps art name k lt =
+    let first = group_parts F_START (flat_lumps lumps art.flats) F_END in
+    let e : suc (length first) + k ≡ length first + suc k = omega arith in
+    ap (part_at (trim_parts lumps art name)) e
+    ∙ part_at-behind first _ (suc k)
+    ∙ ap (λ parts. part_at parts k) (append_assoc (map copy_part (picture_lumps lumps art.pictures)) (Mark S_END ∷ []) _)
+    ∙ part_at-copied (picture_lumps lumps art.pictures) _ k lt
+
+-- a test that only members pass keeps the same of them as of all
+fewer_step : (keep member : ℕ → Bool) (n : ℕ) (ns : List ℕ) (b c : Bool) → member n ≡ b → keep n ≡ c → (keep n ≡ true → member n ≡ true)
+    → filter keep ns ≡ filter keep (filter member ns) → cond c (n ∷ filter keep ns) (filter keep ns) ≡ filter keep (cond b (n ∷ filter member ns) (filter member ns))
+fewer_step keep member n ns true true is kept only more = rw kept (ap (λ ks. n ∷ ks) more)
+fewer_step keep member n ns true false is kept only more = rw kept more
+fewer_step keep member n ns false true is kept only more = let f : false ≡ true = sym is ∙ only kept in absurd (cc)
+fewer_step keep member n ns false false is kept only more = more
+
+kept-fewer : (keep member : ℕ → Bool) → ((n : ℕ) → keep n ≡ true → member n ≡ true) → (ns : List ℕ) → filter keep ns ≡ filter keep (filter member ns)
+kept-fewer keep member only [] = refl
+kept-fewer keep member only (n ∷ ns) = fewer_step keep member n ns (member n) (keep n) refl refl (only n) (kept-fewer keep member only ns)
+
+either : (a b : Bool) (P : Type 0) → (a ≡ true → P) → (b ≡ true → P) → (a || b) ≡ true → P
+either true b P one two e = one refl
+either false b P one two e = two e
+
+one_of_all : (P : ℕ → Type 0) (ns : List ℕ) (n : ℕ) → AllByRecursion P ns → list_any (λ m. m == n) ns ≡ true → P n
+one_of_all P [] n all any = absurd (cc)
+one_of_all P (m ∷ ns) n all any =
+    either (m == n) (list_any (λ k. k == n) ns) (P n) (λ is. subst P ((Decides-eqb m n).0 is) all.0) (λ later. one_of_all P ns n all.1 later) any
+
+-- the pictures that are listed are the sprite lumps that are kept
+pub pictures-kept : (lumps : List Lump) (pictures : List ℕ) → AllByRecursion (IsSprite lumps) pictures
+    → picture_lumps lumps pictures ≡ filter (λ n. list_any (λ m. m == n) pictures) (members Sprites lumps)
+unfolding picture_lumps members
+pictures-kept lumps pictures all =
+    kept-fewer (λ n. list_any (λ m. m == n) pictures) (is_member Sprites lumps) (λ n is. one_of_all (IsSprite lumps) pictures n all is) (range_with_len 0 (length lumps))
+
+count-is : (ns : List ℕ) → length ns ≡ count_of ns
+unfolding count_of
+count-is [] = refl
+count-is (n ∷ ns) = ap suc (count-is ns)
+
+-- The sprite lumps of the trimmed file, as `trimmed_picture` asks for them.
+pub record HoldsPictures (trimmed lumps : List Lump) (σ : ℕ → ℕ) (a : ℕ) (pictures : List ℕ) : Type 0 where
+  pub are : members Sprites trimmed ≡ range_with_len a (count_of (filter (λ n. list_any (λ m. m == n) pictures) (members Sprites lumps)))
+  pub stand : StandFor trimmed lumps σ a (filter (λ n. list_any (λ m. m == n) pictures) (members Sprites lumps))
+
+pub pictures-held : (bytes : ℕ → List ℕ) (lumps : List Lump) (art : SceneArt) (name : List ℕ)
+    → AllByRecursion (IsSprite lumps) art.pictures → AllByRecursion (IsUnmarked lumps) (trim_parts lumps art name)
+    → HoldsPictures (trimmed_lumps bytes lumps (trim_parts lumps art name)) lumps (source_of (trim_parts lumps art name)) (first_picture lumps art) art.pictures
+pictures-held bytes lumps art name sprites unmarked =
+    let parts = trim_parts lumps art name in
+    let trimmed = trimmed_lumps bytes lumps parts in
+    let first = group_parts F_START (flat_lumps lumps art.flats) F_END in
+    let pictures = picture_lumps lumps art.pictures in
+    let same = pictures-kept lumps art.pictures sprites in
+    let start : length (map (part_lump bytes lumps) first) ≡ length first = length-map first (part_lump bytes lumps) in
+    let count : length (map (part_lump bytes lumps) (map copy_part pictures)) ≡ length pictures =
+    length-map (map copy_part pictures) (part_lump bytes lumps) ∙ length-map pictures copy_part in
+    record {
+      are =
+          group-members Sprites trimmed (length (map (part_lump bytes lumps) first)) (length (map (part_lump bytes lumps) (map copy_part pictures))) (trimmed-pictures bytes lumps art name unmarked)
+          ∙ ap (λ a. range_with_len (suc a) (length (map (part_lump bytes lumps) (map copy_part pictures)))) start
+          ∙ ap (range_with_len (suc (length first))) (count ∙ count-is pictures ∙ ap count_of same);
+      stand = subst (StandFor trimmed lumps (source_of parts) (suc (length first))) same
+          (copied-stand bytes lumps parts (suc (length first)) pictures (λ k lt. picture_part lumps art name k lt));
+    }
+
+-- Each picture of a book comes of a mention, and each mention of a sprite lump.
+abbrev IsSpriteMention : List Lump → Mention → Type 0
+IsSpriteMention lumps m = IsSprite lumps m.lump
+
+cond_all : {X : Type 0} (P : X → Type 0) (b : Bool) (xs ys : List X) → AllByRecursion P xs → AllByRecursion P ys → AllByRecursion P (cond b xs ys)
+cond_all P true xs ys a b = a
+cond_all P false xs ys a b = b
+
+mention_one : (lumps : List Lump) (n : ℕ) (name : List ℕ) (offset : ℕ) (flip : Bool) → IsSprite lumps n → AllByRecursion (IsSpriteMention lumps) (mention_at n name offset flip)
+unfolding mention_at
+mention_one lumps n name offset flip is = cond_all (IsSpriteMention lumps) _ (_ ∷ []) [] (is, tt) tt
+
+mention_both : (lumps : List Lump) (n : ℕ) (name : List ℕ) → IsSprite lumps n → AllByRecursion (IsSpriteMention lumps) (name_mentions n name)
+unfolding name_mentions
+mention_both lumps n name is =
+    all-append (IsSpriteMention lumps) (mention_at n name SPRITE_LETTERS false) _ (mention_one lumps n name SPRITE_LETTERS false is)
+    (cond_all (IsSpriteMention lumps) _ [] (mention_at n name SECOND_PAIR_AT true) tt (mention_one lumps n name SECOND_PAIR_AT true is))
+
+mention_lump : (lumps : List Lump) (sprite : List ℕ) (n : ℕ) → IsSprite lumps n → AllByRecursion (IsSpriteMention lumps) (lump_mentions lumps sprite n)
+unfolding lump_mentions
+mention_lump lumps sprite n is =
+    cond_all (IsSpriteMention lumps) _ (name_mentions n (lump_at lumps n).name) [] (mention_both lumps n (lump_at lumps n).name is) tt
+
+joined_all : {X Y : Type 0} (P : X → Type 0) (Q : Y → Type 0) (f : X → List Y) → ((x : X) → P x → AllByRecursion Q (f x)) → (xs : List X) → AllByRecursion P xs → AllByRecursion Q (joined_lists f xs)
+unfolding joined_lists
+joined_all P Q f each [] all = tt
+joined_all P Q f each (x ∷ xs) all = all-append Q (f x) (joined_lists f xs) (each x all.0) (joined_all P Q f each xs all.1)
+
+mentions-sprites : (lumps : List Lump) (sprite : List ℕ) → AllByRecursion (IsSpriteMention lumps) (mentions lumps sprite)
+unfolding mentions members
+mentions-sprites lumps sprite =
+    joined_all (IsSprite lumps) (IsSpriteMention lumps) (lump_mentions lumps sprite) (λ n is. mention_lump lumps sprite n is) (members Sprites lumps)
+    (kept-passing (is_member Sprites lumps) (range_with_len 0 (length lumps)))
+
+-- a mention that is found is one of them
+found_step : (P : Mention → Type 0) (o : Option Mention) (b : Bool) (x m : Mention) → P x → (o ≡ Some m → P m) → or_else o (cond b (Some x) None) ≡ Some m → P m
+found_step P (Some v) b x m one more e = more e
+found_step P None true x m one more e = subst P (one_of x m e) one where
+  one_of : (a b : Mention) → Some a ≡ Some b → a ≡ b
+  one_of a b e = cc
+found_step P None false x m one more e = absurd (cc)
+
+last_that-is : (P : Mention → Type 0) (passes : Mention → Bool) (all : List Mention) (m : Mention) → AllByRecursion P all → last_that passes all ≡ Some m → P m
+unfolding last_that
+last_that-is P passes [] m holds e = absurd (cc)
+last_that-is P passes (x ∷ all) m holds e =
+    found_step P (last_that passes all) (passes x) x m holds.0 (λ later. last_that-is P passes all m holds.1 later) e
+
+by_step : (P : Mention → Type 0) (b : Bool) (last m : Mention) (o : Option Mention) → P last → (o ≡ Some m → P m) → cond b (Some last) o ≡ Some m → P m
+by_step P true last m o one more e = subst P (one_of last m e) one where
+  one_of : (a b : Mention) → Some a ≡ Some b → a ≡ b
+  one_of a b e = cc
+by_step P false last m o one more e = more e
+
+if_step : (P : Mention → Type 0) (all : List Mention) (frame k : ℕ) (o : Option Mention) (m : Mention) → AllByRecursion P all → last_that (is_of_frame frame) all ≡ o
+    → picture_if all frame o k ≡ Some m → P m
+unfolding picture_if picture_by
+if_step P all frame k None m holds is e = absurd (cc)
+if_step P all frame k (Some last) m holds is e =
+    by_step P (last.rotation == 0) last m (last_that (is_of_rotation frame (suc k)) all) (last_that-is P (is_of_frame frame) all last holds is)
+    (λ found. last_that-is P (is_of_rotation frame (suc k)) all m holds found) e
+
+frame_picture-is : (P : Mention → Type 0) (all : List Mention) (frame k : ℕ) (m : Mention) → AllByRecursion P all → frame_picture all frame k ≡ Some m → P m
+unfolding frame_picture
+frame_picture-is P all frame k m holds e = if_step P all frame k (last_that (is_of_frame frame) all) m holds refl e
+
+-- what f gives of each
+ok_of : {X R : Type 0} (a b : X) → (let l : Result X R = Ok a in l) ≡ Ok b → a ≡ b
+ok_of a b e = cc
+
+each_step : {Y R : Type 0} (Q : Y → Type 0) (a : Result Y R) (b : Result (List Y) R) (ys : List Y) → ((y : Y) → a ≡ Ok y → Q y) → ((more : List Y) → b ≡ Ok more → AllByRecursion Q more)
+    → and_then a (λ y. and_then b (λ more. Ok (y ∷ more))) ≡ Ok ys → AllByRecursion Q ys
+each_step Q (Err r) b ys one more e = absurd (cc)
+each_step Q (Ok y) (Err r) ys one more e = absurd (cc)
+each_step Q (Ok y) (Ok rest) ys one more e = subst (AllByRecursion Q) (ok_of (y ∷ rest) ys e) (one y refl, more rest refl)
+
+each_all : {X Y R : Type 0} (P : X → Type 0) (Q : Y → Type 0) (f : X → Result Y R) → ((x : X) (y : Y) → P x → f x ≡ Ok y → Q y)
+    → (xs : List X) (ys : List Y) → AllByRecursion P xs → each_of f xs ≡ Ok ys → AllByRecursion Q ys
+unfolding each_of
+each_all P Q f each [] ys all e = subst (AllByRecursion Q) (ok_of [] ys e) tt
+each_all P Q f each (x ∷ xs) ys all e =
+    each_step Q (f x) (each_of f xs) ys (λ y is. each x y all.0 is) (λ more is. each_all P Q f each xs more all.1 is) e
+
+any_of : {X : Type 0} (xs : List X) → AllByRecursion (λ x. ⊤) xs
+any_of [] = tt
+any_of (x ∷ xs) = (tt, any_of xs)
+
+some_step : {R : Type 0} (o : Option Mention) (r : R) (m : Mention) → ok_or o r ≡ Ok m → o ≡ Some m
+some_step None r m e = absurd (cc)
+some_step (Some v) r m e = cc
+
+missing_is : (P : Mention → Type 0) (all : List Mention) (need : Need) (k : ℕ) (m : Mention) → AllByRecursion P all → picture_or_missing all need k ≡ Ok m → P m
+unfolding picture_or_missing
+missing_is P all need k m holds e = frame_picture-is P all need.frame k m holds (some_step (frame_picture all need.frame k) _ m e)
+
+pictures_step : (P : Mention → Type 0) (all : List Mention) (need : Need) (last : Result Mention SpriteRefusal) (ms : List Mention) → AllByRecursion P all
+    → and_then last (λ l. each_of (picture_or_missing all need) (range_with_len 0 ROTATIONS)) ≡ Ok ms → AllByRecursion P ms
+pictures_step P all need (Err r) ms holds e = absurd (cc)
+pictures_step P all need (Ok l) ms holds e =
+    each_all (λ k. ⊤) P (picture_or_missing all need) (λ k m t is. missing_is P all need k m holds is) (range_with_len 0 ROTATIONS) ms (any_of (range_with_len 0 ROTATIONS)) e
+
+pictures_of-all : (P : Mention → Type 0) (all : List Mention) (need : Need) (ms : List Mention) → AllByRecursion P all → pictures_of all need ≡ Ok ms → AllByRecursion P ms
+unfolding pictures_of
+pictures_of-all P all need ms holds e = pictures_step P all need (last_mention all need) ms holds e
+
+-- a shape has the lump of its mention
+abbrev IsSpriteShape : List Lump → Shape → Type 0
+IsSpriteShape lumps shape = IsSprite lumps shape.lump.0
+
+shape_step : (lumps : List Lump) (m : Mention) (patch : Result Patch SpriteRefusal) (s : Shape) → IsSpriteMention lumps m
+    → and_then patch (λ p. Ok (shape_in m p)) ≡ Ok s → IsSpriteShape lumps s
+unfolding shape_in
+shape_step lumps m (Err r) s is e = absurd (cc)
+shape_step lumps m (Ok p) s is e = subst (IsSpriteShape lumps) (ok_of (shape_in m p) s e) is
+
+shape_of-is : (bytes : ℕ → List ℕ) (lumps : List Lump) (m : Mention) (s : Shape) → IsSpriteMention lumps m → shape_of bytes m ≡ Ok s → IsSpriteShape lumps s
+unfolding shape_of
+shape_of-is bytes lumps m s is e = shape_step lumps m (patch_or_bad bytes m.lump) s is e
+
+abbrev IsSpriteFrame : List Lump → Frame → Type 0
+IsSpriteFrame lumps frame = AllByRecursion (IsSpriteShape lumps) frame.shapes
+
+shapes_step : (lumps : List Lump) (need : Need) (shapes : Result (List Shape) SpriteRefusal) (frame : Frame)
+    → ((ss : List Shape) → shapes ≡ Ok ss → AllByRecursion (IsSpriteShape lumps) ss)
+    → and_then shapes (λ ss. Ok (frame_in need ss)) ≡ Ok frame → IsSpriteFrame lumps frame
+unfolding frame_in
+shapes_step lumps need (Err r) frame all e = absurd (cc)
+shapes_step lumps need (Ok ss) frame all e = subst (IsSpriteFrame lumps) (ok_of (frame_in need ss) frame e) (all ss refl)
+
+frame_step : (bytes : ℕ → List ℕ) (lumps : List Lump) (need : Need) (pictures : Result (List Mention) SpriteRefusal) (frame : Frame)
+    → ((ms : List Mention) → pictures ≡ Ok ms → AllByRecursion (IsSpriteMention lumps) ms)
+    → and_then pictures (λ ms. and_then (each_of (shape_of bytes) ms) (λ ss. Ok (frame_in need ss))) ≡ Ok frame → IsSpriteFrame lumps frame
+frame_step bytes lumps need (Err r) frame all e = absurd (cc)
+frame_step bytes lumps need (Ok ms) frame all e =
+    shapes_step lumps need (each_of (shape_of bytes) ms) frame
+    (λ ss is. each_all (IsSpriteMention lumps) (IsSpriteShape lumps) (shape_of bytes) (λ m s one made. shape_of-is bytes lumps m s one made) ms ss (all ms refl) is) e
+
+frame_of-is : (bytes : ℕ → List ℕ) (lumps : List Lump) (need : Need) (frame : Frame) → frame_of bytes lumps need ≡ Ok frame → IsSpriteFrame lumps frame
+unfolding frame_of
+frame_of-is bytes lumps need frame e =
+    frame_step bytes lumps need (pictures_of (mentions lumps need.sprite) need) frame
+    (λ ms is. pictures_of-all (IsSpriteMention lumps) (mentions lumps need.sprite) need ms (mentions-sprites lumps need.sprite) is) e
+
+shapes_listed : (lumps : List Lump) (shapes : List Shape) → AllByRecursion (IsSpriteShape lumps) shapes → AllByRecursion (IsSprite lumps) (map (λ (shape : Shape). shape.lump.0) shapes)
+shapes_listed lumps [] all = tt
+shapes_listed lumps (s ∷ shapes) all = (all.0, shapes_listed lumps shapes all.1)
+
+frame_listed : (lumps : List Lump) (frame : Frame) → IsSpriteFrame lumps frame → AllByRecursion (IsSprite lumps) (shape_lumps frame)
+unfolding shape_lumps
+frame_listed lumps frame all = shapes_listed lumps frame.shapes all
+
+-- the pictures of any book of frames are sprite lumps
+pub book-sprites : (bytes : ℕ → List ℕ) (lumps : List Lump) (needs : List Need) (book : List Frame) → each_of (frame_of bytes lumps) needs ≡ Ok book
+    → AllByRecursion (IsSprite lumps) (book_lumps book)
+unfolding book_lumps
+book-sprites bytes lumps needs book e =
+    joined_all (IsSpriteFrame lumps) (IsSprite lumps) shape_lumps (λ frame all. frame_listed lumps frame all) book
+    (each_all (λ need. ⊤) (IsSpriteFrame lumps) (frame_of bytes lumps) (λ need frame t is. frame_of-is bytes lumps need frame is) needs book (any_of needs) e)

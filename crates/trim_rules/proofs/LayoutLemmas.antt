@@ -1,0 +1,262 @@
+-- A new file of lumps is a WAD whose directory lists them.
+use Rattle.std.proofs.Common.{◌≡◌, ℕ, zero, suc, ◌+◌, ◌*◌, ◌^◌, ◌<◌, ◌≤◌, Bool, true, false, cond, nat_lt, List, [], ◌∷◌, ◌++◌, length, take, drop, get_or, Option, Some, None, Ok, refl, ap, sym, ◌∙◌, arith, append_assoc}
+use Rattle.std.specs.Prelude.{◌&&◌, ◌==◌, codes, not}
+use Rattle.std.specs.Option.{option_map}
+use Rattle.std.specs.Int.{from_le_bytes, to_le_bytes, w32}
+use Rattle.std.specs.List.{AllByRecursion, position_or_len}
+use Rattle.std.proofs.lemmas.Bool.Decides.{Decides-ltb}
+use Rattle.std.proofs.lemmas.List.{append-nil, drop-drop, length-append}
+use Rattle.std.proofs.lemmas.List.Sums.{position_or_len_is}
+use Rattle.std.proofs.lemmas.Nat.{from_le_bytes-to_le_bytes_4}
+use Rattle.std.proofs.Math.Seq.{take-append_seam, drop-append-add, drop-append_seam, take-length}
+use Rattle.byteorder.specs.Endian.{little_number}
+use Rattle.word_rules.specs.Listed.{listed}
+use Rattle.word_rules.proofs.ListedLemmas.{listed-all}
+use Rattle.lump_rules.specs.declared.wad.Lump.{Lump}
+use Rattle.lump_rules.specs.Lookups.{no_lump}
+use Rattle.lump_rules.specs.Names.{name_of}
+use Rattle.lump_rules.specs.declared.wad.DirRefusal.TheVariants.{Entry}
+use Rattle.lump_rules.specs.declared.names.TheConstants.{LETTER_COUNT}
+use Rattle.lump_rules.specs.declared.wad.TheConstants.{ENTRY_SIZE, HEADER_SIZE, MAX_LUMPS}
+use Rattle.lump_rules.specs.Wads.{directory, directory_place, entries_in, entry_at, entry_count, entry_refusal, file_lumps, header, header_refusal, is_wad, lump_in, lumps_from, lumps_in, passes_end, refusal_from, whole_header_refusal}
+use Rattle.made_rules.specs.Bytes.{word_bytes}
+use Rattle.made_rules.specs.Wads as made
+use Rattle.made_rules.specs.declared.wad.TheConstants.{HEAD_SIZE}
+use Rattle.made_rules.specs.Wads.{contents, entries, file_of, wad_file}
+use Rattle.trim_rules.specs.Files.{stored_from, stored_lumps}
+
+-- the number that four bytes spell
+pub word_value : (n : ℕ) (xs : List ℕ) → n < 2 ^ 32 → little_number 4 (word_bytes n ++ xs) ≡ n
+unfolding word_bytes
+word_value n xs lt = let e : from_le_bytes w32 (to_le_bytes w32 n) ≡ n = from_le_bytes-to_le_bytes_4 n lt in omega (arith, e)
+
+-- a name as a directory spells it
+pub record IsSpelled (lump : made.Lump) : Type 0 where
+  pub size : length lump.name ≡ 8
+  pub name : name_of lump.name ≡ lump.name
+
+and_false : (a b : Bool) → b ≡ false → (a && b) ≡ false
+and_false true b e = e
+and_false false b e = refl
+
+not_less : (a b : ℕ) → b ≤ a → nat_lt a b ≡ false
+not_less a b le = by_value (nat_lt a b) refl where
+  by_value : (r : Bool) → nat_lt a b ≡ r → r ≡ false
+  by_value true e = let lt : a < b = (Decides-ltb a b).0 e in absurd (omega arith)
+  by_value false e = refl
+
+same_lump : (p p' s s' : ℕ) (n n' : List ℕ) → p ≡ p' → s ≡ s' → n ≡ n'
+    → (let a : Lump = record { file = 0; place = p; size = s; name = n } in a) ≡ record { file = 0; place = p'; size = s'; name = n' }
+same_lump p p' s s' n n' e f g = cc
+
+entry : ℕ → made.Lump → List ℕ
+entry place lump = (word_bytes place ++ word_bytes (length lump.bytes)) ++ lump.name
+
+entry-length : (place : ℕ) (lump : made.Lump) → IsSpelled lump → length (entry place lump) ≡ 16
+unfolding entry word_bytes
+entry-length place lump spelled = rw (length-append, spelled.size) refl
+
+name_part : (place : ℕ) (lump : made.Lump) → IsSpelled lump → name_of (take 8 (drop 8 (entry place lump))) ≡ lump.name
+unfolding entry word_bytes
+name_part place lump spelled =
+    ap name_of (ap (λ n. take n lump.name) (sym spelled.size) ∙ take_all lump.name) ∙ spelled.name where
+      take_all : (xs : List ℕ) → take (length xs) xs ≡ xs
+      take_all [] = refl
+      take_all (x ∷ xs) = ap (λ ys. x ∷ ys) (take_all xs)
+
+-- an entry spells its lump
+entry-lump : (place : ℕ) (lump : made.Lump) → IsSpelled lump → place < 2 ^ 32 → length lump.bytes < 2 ^ 32
+    → lump_in 0 (entry place lump) ≡ record { file = 0; place = place; size = length lump.bytes; name = lump.name }
+unfolding entry word_bytes
+entry-lump place lump spelled p s =
+    same_lump _ _ _ _ _ _ (word_value place (word_bytes (length lump.bytes) ++ lump.name) p) (word_value (length lump.bytes) lump.name s) (name_part place lump spelled)
+
+entries-first : (place : ℕ) (lump : made.Lump) (rest : List made.Lump) → entries place (lump ∷ rest) ≡ entry place lump ++ entries (place + length lump.bytes) rest
+unfolding entries entry
+entries-first place lump rest = refl
+
+pub entries-length : (place : ℕ) (lumps : List made.Lump) → AllByRecursion IsSpelled lumps → length (entries place lumps) ≡ 16 * length lumps
+unfolding entries
+entries-length place [] spelled = refl
+entries-length place (lump ∷ rest) spelled =
+    ap length (entries-first place lump rest)
+    ∙ length-append (entry place lump) (entries (place + length lump.bytes) rest)
+    ∙ rw (entry-length place lump spelled.0, entries-length (place + length lump.bytes) rest spelled.1) (omega arith)
+
+-- entry k of the directory
+first_entry : (place : ℕ) (lump : made.Lump) (rest : List made.Lump) → IsSpelled lump → entry_at (entries place (lump ∷ rest)) 0 ≡ entry place lump
+first_entry place lump rest spelled =
+    ap (λ es. take 16 es) (entries-first place lump rest)
+    ∙ ap (λ n. take n (entry place lump ++ entries (place + length lump.bytes) rest)) (sym (entry-length place lump spelled))
+    ∙ take-append_seam (entry place lump) (entries (place + length lump.bytes) rest)
+
+later_entry : (place : ℕ) (lump : made.Lump) (rest : List made.Lump) (k : ℕ) → IsSpelled lump
+    → entry_at (entries place (lump ∷ rest)) (suc k) ≡ entry_at (entries (place + length lump.bytes) rest) k
+later_entry place lump rest k spelled =
+    let past : 16 * suc k ≡ 16 + 16 * k = omega arith in
+    let all = entries place (lump ∷ rest) in
+    ap (λ es. take 16 es)
+    (ap (λ n. drop n all) past
+    ∙ sym (drop-drop (16 * k) 16 all)
+    ∙ ap (drop (16 * k))
+    (ap (drop 16) (entries-first place lump rest)
+    ∙ ap (λ n. drop n (entry place lump ++ entries (place + length lump.bytes) rest)) (sym (entry-length place lump spelled))
+    ∙ drop-append_seam (entry place lump) (entries (place + length lump.bytes) rest)))
+
+stored-entry : (place : ℕ) (lumps : List made.Lump) (k : ℕ) (d : Lump) → AllByRecursion IsSpelled lumps → place + length (contents lumps) < 2 ^ 32 → k < length lumps
+    → get_or (stored_from place lumps) k d ≡ lump_in 0 (entry_at (entries place lumps) k)
+unfolding stored_from contents
+stored-entry place [] k d spelled fits lt = absurd (omega arith)
+stored-entry place (lump ∷ rest) zero d spelled fits lt =
+    let n : length (lump.bytes ++ contents rest) ≡ length lump.bytes + length (contents rest) = length-append lump.bytes (contents rest) in
+    sym (ap (lump_in 0) (first_entry place lump rest spelled.0) ∙ entry-lump place lump spelled.0 (omega arith) (omega (arith, n)))
+stored-entry place (lump ∷ rest) (suc k) d spelled fits lt =
+    let n : length (lump.bytes ++ contents rest) ≡ length lump.bytes + length (contents rest) = length-append lump.bytes (contents rest) in
+    stored-entry (place + length lump.bytes) rest k d spelled.1 (omega (arith, n)) (omega arith)
+    ∙ ap (lump_in 0) (sym (later_entry place lump rest k spelled.0))
+
+stored-length : (place : ℕ) (lumps : List made.Lump) → length (stored_from place lumps) ≡ length lumps
+unfolding stored_from
+stored-length place [] = refl
+stored-length place (lump ∷ rest) = ap suc (stored-length (place + length lump.bytes) rest)
+
+-- the lumps that the entries spell
+pub lumps_in-entries : (place : ℕ) (lumps : List made.Lump) → AllByRecursion IsSpelled lumps → place + length (contents lumps) < 2 ^ 32
+    → lumps_in 0 (length lumps) (entries place lumps) ≡ stored_from place lumps
+unfolding lumps_in
+lumps_in-entries place lumps spelled fits =
+    sym (listed-all (λ index. lump_in 0 (entry_at (entries place lumps) index)) (stored_from place lumps) (length lumps) no_lump
+    (stored-length place lumps) (λ k lt. stored-entry place lumps k no_lump spelled fits lt))
+
+-- no lump passes the end of the file
+stored-within : (place size : ℕ) (lumps : List made.Lump) → place + length (contents lumps) ≤ size → (k : ℕ) (d : Lump) → k < length lumps
+    → passes_end size (get_or (stored_from place lumps) k d) ≡ false
+unfolding stored_from contents
+stored-within place size [] fits k d lt = absurd (omega arith)
+stored-within place size (lump ∷ rest) fits zero d lt =
+    let n : length (lump.bytes ++ contents rest) ≡ length lump.bytes + length (contents rest) = length-append lump.bytes (contents rest) in
+    let inside : place + length lump.bytes ≤ size = omega (arith, n) in
+    and_false (not (length lump.bytes == 0)) _ (not_less size (place + length lump.bytes) inside)
+stored-within place size (lump ∷ rest) fits (suc k) d lt =
+    let n : length (lump.bytes ++ contents rest) ≡ length lump.bytes + length (contents rest) = length-append lump.bytes (contents rest) in
+    stored-within (place + length lump.bytes) size rest (omega (arith, n)) k d (omega arith)
+
+no_entry-refused : (place size : ℕ) (lumps : List made.Lump) → place + length (contents lumps) ≤ size → entry_refusal 0 size (stored_from place lumps) ≡ None
+unfolding entry_refusal
+no_entry-refused place size lumps fits =
+    let all = stored_from place lumps in
+    let end : position_or_len (passes_end size) all ≡ length all =
+    position_or_len_is (passes_end size) all (length all) no_lump (omega arith)
+    (λ k lt. stored-within place size lumps fits k no_lump (omega (arith, stored-length place lumps)))
+    (λ lt. absurd (omega arith)) in
+    ap (λ n. option_map (λ index. Entry 0 index) (cond (nat_lt n (length all)) (Some n) None)) end
+    ∙ rw (not_less (length all) (length all) (omega arith)) refl
+
+-- the first twelve bytes of the file of so many lumps whose directory begins there
+pub front : ℕ → ℕ → List ℕ
+front count place = (codes "IWAD" ++ word_bytes count) ++ word_bytes place
+
+pub front-length : (count place : ℕ) → length (front count place) ≡ 12
+unfolding front word_bytes
+front-length count place = refl
+
+-- where the directory of a new file begins
+pub directory_at : List made.Lump → ℕ
+directory_at lumps = HEAD_SIZE + length (contents lumps)
+
+pub directory_at-is : (lumps : List made.Lump) → directory_at lumps ≡ 12 + length (contents lumps)
+unfolding directory_at
+directory_at-is lumps = refl
+
+pub file-parts : (lumps : List made.Lump) → wad_file lumps ≡ front (length lumps) (directory_at lumps) ++ (contents lumps ++ entries HEAD_SIZE lumps)
+unfolding wad_file file_of front directory_at
+file-parts lumps =
+    append_assoc (front (length lumps) (directory_at lumps)) (contents lumps) (entries HEAD_SIZE lumps)
+
+pub wad_file-length : (lumps : List made.Lump) → AllByRecursion IsSpelled lumps
+    → length (wad_file lumps) ≡ directory_at lumps + 16 * length lumps
+wad_file-length lumps spelled =
+    let f : ℕ = length (front (length lumps) (directory_at lumps)) in
+    ap length (file-parts lumps)
+    ∙ length-append (front (length lumps) (directory_at lumps)) (contents lumps ++ entries HEAD_SIZE lumps)
+    ∙ rw (front-length (length lumps) (directory_at lumps), length-append (contents lumps) (entries HEAD_SIZE lumps), entries-length HEAD_SIZE lumps spelled)
+    (let e : directory_at lumps ≡ 12 + length (contents lumps) = directory_at-is lumps in omega arith)
+
+file-header : (lumps : List made.Lump) → header (wad_file lumps) ≡ front (length lumps) (directory_at lumps)
+file-header lumps =
+    let head = front (length lumps) (directory_at lumps) in
+    ap (take 12) (file-parts lumps)
+    ∙ ap (λ n. take n (head ++ (contents lumps ++ entries HEAD_SIZE lumps))) (sym (front-length (length lumps) (directory_at lumps)))
+    ∙ take-append_seam head (contents lumps ++ entries HEAD_SIZE lumps)
+
+front-count : (count place : ℕ) → count < 2 ^ 32 → entry_count (front count place) ≡ count
+unfolding front
+front-count count place lt = word_value count (word_bytes place) lt
+
+front-place : (count place : ℕ) → place < 2 ^ 32 → directory_place (front count place) ≡ place
+unfolding front word_bytes
+front-place count place lt = word_value place [] lt
+
+front-wad : (count place : ℕ) → is_wad (take LETTER_COUNT (front count place)) ≡ true
+unfolding front word_bytes
+front-wad count place = refl
+
+-- the entries of a new file
+file-entries : (lumps : List made.Lump) → AllByRecursion IsSpelled lumps → length lumps < 2 ^ 32 → directory_at lumps < 2 ^ 32
+    → entries_in (header (wad_file lumps)) (wad_file lumps) ≡ entries HEAD_SIZE lumps
+file-entries lumps spelled few fits =
+    let head = front (length lumps) (directory_at lumps) in
+    let es = entries HEAD_SIZE lumps in
+    let behind = contents lumps ++ es in
+    let place : directory_place (header (wad_file lumps)) ≡ directory_at lumps = ap (λ h. directory_place h) (file-header lumps) ∙ front-place (length lumps) (directory_at lumps) fits in
+    let count : entry_count (header (wad_file lumps)) ≡ length lumps = ap (λ h. entry_count h) (file-header lumps) ∙ front-count (length lumps) (directory_at lumps) few in
+    let at : directory_at lumps ≡ length head + length (contents lumps) = directory_at-is lumps ∙ ap (λ n. n + length (contents lumps)) (sym (front-length (length lumps) (directory_at lumps))) in
+    let dropped : drop (directory_at lumps) (wad_file lumps) ≡ es =
+    ap (drop (directory_at lumps)) (file-parts lumps)
+    ∙ ap (λ n. drop n (head ++ behind)) at
+    ∙ drop-append-add head behind (length (contents lumps))
+    ∙ drop-append_seam (contents lumps) es in
+    ap (λ n. take (ENTRY_SIZE * n) (drop (directory_place (header (wad_file lumps))) (wad_file lumps))) count
+    ∙ ap (λ n. take (ENTRY_SIZE * length lumps) (drop n (wad_file lumps))) place
+    ∙ ap (take (ENTRY_SIZE * length lumps)) dropped
+    ∙ ap (λ n. take n es) (sym (entries-length HEAD_SIZE lumps spelled))
+    ∙ take-length es
+
+file-lumps : (lumps : List made.Lump) → AllByRecursion IsSpelled lumps → length lumps < 2 ^ 32 → directory_at lumps < 2 ^ 32
+    → file_lumps 0 (wad_file lumps) ≡ stored_from HEAD_SIZE lumps
+unfolding file_lumps
+file-lumps lumps spelled few fits =
+    let count : entry_count (header (wad_file lumps)) ≡ length lumps = ap (λ h. entry_count h) (file-header lumps) ∙ front-count (length lumps) (directory_at lumps) few in
+    ap (λ n. lumps_in 0 n (entries_in (header (wad_file lumps)) (wad_file lumps))) count
+    ∙ ap (lumps_in 0 (length lumps)) (file-entries lumps spelled few fits)
+    ∙ lumps_in-entries HEAD_SIZE lumps spelled (let e : directory_at lumps ≡ 12 + length (contents lumps) = directory_at-is lumps in omega arith)
+
+header-unrefused : (lumps : List made.Lump) → AllByRecursion IsSpelled lumps → length lumps ≤ MAX_LUMPS → directory_at lumps < 2 ^ 32
+    → header_refusal 0 0 (wad_file lumps) ≡ None
+unfolding whole_header_refusal
+header-unrefused lumps spelled few fits =
+    let few' : length lumps < 2 ^ 32 = omega arith in
+    let size : length (wad_file lumps) ≡ directory_at lumps + 16 * length lumps = wad_file-length lumps spelled in
+    let e : directory_at lumps ≡ 12 + length (contents lumps) = directory_at-is lumps in
+    let place : directory_place (header (wad_file lumps)) ≡ directory_at lumps = ap (λ h. directory_place h) (file-header lumps) ∙ front-place (length lumps) (directory_at lumps) fits in
+    let count : entry_count (header (wad_file lumps)) ≡ length lumps = ap (λ h. entry_count h) (file-header lumps) ∙ front-count (length lumps) (directory_at lumps) few' in
+    let wad : is_wad (take LETTER_COUNT (header (wad_file lumps))) ≡ true = ap (λ h. is_wad (take LETTER_COUNT h)) (file-header lumps) ∙ front-wad (length lumps) (directory_at lumps) in
+    let whole : nat_lt (length (wad_file lumps)) HEADER_SIZE ≡ false = not_less (length (wad_file lumps)) HEADER_SIZE (omega arith) in
+    let inside : nat_lt (length (wad_file lumps)) (directory_place (header (wad_file lumps)) + ENTRY_SIZE * entry_count (header (wad_file lumps))) ≡ false =
+    not_less _ _ (omega arith) in
+    let many : nat_lt MAX_LUMPS (0 + entry_count (header (wad_file lumps))) ≡ false = not_less _ _ (omega arith) in
+    rw (whole, wad, inside, many) refl
+
+-- The directory of a new file lists its lumps, where their names are spelled as a directory spells
+-- them, they are not too many, and the directory begins below 2^32.
+pub directory-of_file : (lumps : List made.Lump) → AllByRecursion IsSpelled lumps → length lumps ≤ MAX_LUMPS → directory_at lumps < 2 ^ 32
+    → directory (wad_file lumps ∷ []) ≡ Ok (stored_lumps lumps)
+unfolding refusal_from lumps_from stored_lumps
+directory-of_file lumps spelled few fits =
+    let few' : length lumps < 2 ^ 32 = omega arith in
+    let e : directory_at lumps ≡ 12 + length (contents lumps) = directory_at-is lumps in
+    let size : length (wad_file lumps) ≡ directory_at lumps + 16 * length lumps = wad_file-length lumps spelled in
+    let all : file_lumps 0 (wad_file lumps) ≡ stored_from HEAD_SIZE lumps = file-lumps lumps spelled few' fits in
+    let none : entry_refusal 0 (length (wad_file lumps)) (file_lumps 0 (wad_file lumps)) ≡ None =
+    ap (entry_refusal 0 (length (wad_file lumps))) all ∙ no_entry-refused HEAD_SIZE (length (wad_file lumps)) lumps (omega arith) in
+    rw (header-unrefused lumps spelled few fits, none) (ap Ok (append-nil (file_lumps 0 (wad_file lumps)) ∙ all))

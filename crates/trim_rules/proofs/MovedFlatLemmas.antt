@@ -1,0 +1,170 @@
+-- The flats of the sectors by the trimmed directory are those by the given one under other numbers.
+use Rattle.std.proofs.Common.{◌≡◌, ℕ, zero, suc, ◌+◌, ◌<◌, ◌≤◌, Bool, true, false, cond, List, [], ◌∷◌, map, length, get_or, Option, Some, None, Result, Ok, Err, refl, ap, sym, ◌∙◌, arith, inl, inr}
+use Rattle.std.specs.Prelude.{◌==◌, ◌||◌, ◌&&◌, filter}
+use Rattle.std.specs.Option.{ok_or, option_and_then, option_map}
+use Rattle.std.specs.List.{list_any, range_with_len}
+use Rattle.std.specs.Str.{bytes_eq}
+use Rattle.std.proofs.lemmas.Bool.{cases_lt}
+use Rattle.std.proofs.lemmas.Bool.Decides.{Decides-eqb}
+use Rattle.std.proofs.lemmas.Slice.Eq.{bytes_eq-Decides}
+use Rattle.outside.specs.Faults.{and_then}
+use Rattle.word_rules.proofs.LeastLemmas.{greatest-is}
+use Rattle.lump_rules.specs.declared.wad.Lump.{Lump}
+use Rattle.lump_rules.specs.declared.names.Group.TheVariants.{Flats}
+use Rattle.lump_rules.specs.Lookups.{flat_of, has_name, is_member, lump_at}
+use Rattle.level_rules.specs.declared.Sector.{Sector}
+use Rattle.scene_rules.specs.declared.Flat.{Flat}
+use Rattle.scene_rules.specs.declared.Flat.TheVariants.{Sky, Lump as LumpFlat}
+use Rattle.scene_rules.specs.declared.SectorFlats.{SectorFlats}
+use Rattle.scene_rules.specs.declared.refusal.SceneRefusal.{SceneRefusal}
+use Rattle.scene_rules.specs.declared.refusal.SceneRefusal.TheVariants.{SectorFlat}
+use Rattle.scene_rules.specs.Numbered.{each_from, each_or}
+use Rattle.scene_rules.specs.SectorFlats.{both_flats, flat_named, flat_number, flats_of, lump_flat, sector_flats}
+use Rattle.scene_rules.specs.Skies.{is_sky_name}
+use Rattle.scene_rules.specs.Sizes.{has_flat}
+use Rattle.trim_rules.specs.Parts.{flat_lumps}
+use Rattle.trim_rules.proofs.FlatLemmas.{HasFlats, trimmed_flat}
+use Rattle.trim_rules.proofs.MemberLemmas.{is_lump-at}
+use Rattle.trim_rules.proofs.NamedLemmas.{any_kept}
+use Rattle.trim_rules.proofs.ThereLemmas.{both-true}
+
+-- a flat under other numbers
+abbrev pub move_flat : (ℕ → ℕ) → Flat → Flat
+move_flat σ Sky = Sky
+move_flat σ (LumpFlat lump) = LumpFlat (record { 0 = σ lump.0 })
+
+abbrev pub move_both : (ℕ → ℕ) → SectorFlats → SectorFlats
+move_both σ both = record { floor = move_flat σ both.floor; ceiling = move_flat σ both.ceiling }
+
+-- a number has a place in a list
+abbrev pub IsListed : List ℕ → ℕ → Type 0
+IsListed ns n = (k : ℕ) × (k < length ns) × (get_or ns k 0 ≡ n)
+
+either : (a b : Bool) (P : Type 0) → (a ≡ true → P) → (b ≡ true → P) → (a || b) ≡ true → P
+either true b P one two e = one refl
+either false b P one two e = two e
+
+or_right : (a b : Bool) → b ≡ true → (a || b) ≡ true
+or_right true b e = refl
+or_right false b e = e
+
+or_left : (a b : Bool) → a ≡ true → (a || b) ≡ true
+or_left true b e = refl
+or_left false b e = absurd (cc)
+
+later_place : (m : ℕ) (ns : List ℕ) (n : ℕ) → IsListed ns n → IsListed (m ∷ ns) n
+later_place m ns n at = let lt : at.0 < length ns = at.1 in (suc at.0, omega arith, at.2)
+
+first_place : (m : ℕ) (ns : List ℕ) (n : ℕ) → m ≡ n → IsListed (m ∷ ns) n
+first_place m ns n e = (0, omega arith, e)
+
+place-of : (ns : List ℕ) (n : ℕ) → list_any (λ m. m == n) ns ≡ true → IsListed ns n
+place-of [] n any = absurd (cc)
+place-of (m ∷ ns) n any =
+    either (m == n) (list_any (λ k. k == n) ns) (IsListed (m ∷ ns) n) (λ e. first_place m ns n ((Decides-eqb m n).0 e)) (λ more. later_place m ns n (place-of ns n more)) any
+
+range-any : (a c n : ℕ) → a ≤ n → n < a + c → list_any (λ m. m == n) (range_with_len a c) ≡ true
+range-any a zero n le lt = absurd (omega arith)
+range-any a (suc c) n le lt = elim (cases_lt a n) [
+  | inl below ↦ or_right (a == n) _ (range-any (a + 1) c n (omega arith) (omega arith))
+  | inr same ↦ let e : a ≡ n = omega arith in or_left (a == n) _ ((Decides-eqb a n).1 e)
+]
+
+-- a lump that a sector has is one of the flats
+pub flat-listed : (lumps : List Lump) (flats : List SectorFlats) (n : ℕ) → n < length lumps → list_any (has_flat n) flats ≡ true → IsListed (flat_lumps lumps flats) n
+unfolding flat_lumps
+flat-listed lumps flats n lt any =
+    place-of (filter (λ k. list_any (has_flat k) flats) (range_with_len 0 (length lumps))) n
+    (any_kept (λ k. list_any (has_flat k) flats) n (range_with_len 0 (length lumps)) any (range-any 0 (length lumps) n (omega arith) (omega arith)))
+
+some_of : {X : Type 0} (a b : X) → Some a ≡ Some b → a ≡ b
+some_of a b e = cc
+
+passed : {A B R : Type 0} (r : Result A R) (next : A → Result B R) (y : B) → and_then r next ≡ Ok y → (x : A) × (r ≡ Ok x) × (next x ≡ Ok y)
+passed (Ok x) next y e = (x, refl, e)
+passed (Err reason) next y e = cc
+
+some_value : {X E : Type 0} (o : Option X) (e : E) (x : X) → ok_or o e ≡ Ok x → o ≡ Some x
+some_value None e x is = cc
+some_value (Some y) e x is = let same : y ≡ x = cc in ap Some same
+
+each-made : (lumps : List Lump) (number : ℕ) (sector : Sector) (sectors : List Sector) (both : SectorFlats) (more : List SectorFlats)
+    → flats_of lumps sector ≡ Some both → each_from (flats_of lumps) SectorFlat (suc number) sectors ≡ Ok more → each_from (flats_of lumps) SectorFlat number (sector ∷ sectors) ≡ Ok (both ∷ more)
+unfolding each_from
+each-made lumps number sector sectors both more one rest = rw (one, rest) refl
+
+module _ (trimmed lumps : List Lump) (σ : ℕ → ℕ) (flats : List ℕ) (has : HasFlats trimmed lumps flats)
+    (sources : (k : ℕ) → k < length flats → σ (suc k) ≡ get_or flats k 0) where
+  -- a flat that is found by a name
+  found : (name : List ℕ) (n : ℕ) → flat_of lumps name ≡ Some n → (k : ℕ) → k < length flats → get_or flats k 0 ≡ n → flat_of trimmed name ≡ Some (suc k)
+  found name n e k lt same =
+      let is = greatest-is (λ number. is_member Flats lumps number && has_name lumps name number) (length lumps) n e in
+      let own : (lump_at lumps n).name ≡ name = (bytes_eq-Decides (lump_at lumps n).name name).0
+      (sym (is_lump-at (λ lump. bytes_eq lump.name name) lumps n is.0) ∙ (both-true (is_member Flats lumps n) (has_name lumps name n) is.1).1) in
+      ap (flat_of trimmed) (sym own ∙ ap (λ m. (lump_at lumps m).name) (sym same)) ∙ trimmed_flat trimmed lumps flats has k lt
+
+  named_step : (name : List ℕ) (f : Flat) (b : Bool) (o : Option ℕ) → is_sky_name name ≡ b → flat_of lumps name ≡ o → cond b (Some Sky) (option_map lump_flat o) ≡ Some f
+      → ((n : ℕ) → n < length lumps → flat_number f ≡ n → IsListed flats n)
+      → (g : Flat) × (cond b (Some Sky) (option_map lump_flat (flat_of trimmed name)) ≡ Some g) × (move_flat σ g ≡ f)
+  unfolding lump_flat flat_number
+  named_step name f true o sky is e listed = (Sky, refl, some_of Sky f e)
+  named_step name f false None sky is e listed = absurd (cc)
+  named_step name f false (Some n) sky is e listed =
+      let this : LumpFlat (record { 0 = n }) ≡ f = some_of (LumpFlat (record { 0 = n })) f e in
+      let inside = (greatest-is (λ number. is_member Flats lumps number && has_name lumps name number) (length lumps) n is).0 in
+      let at = listed n inside (ap flat_number (sym this)) in (
+        LumpFlat (record { 0 = suc at.0 }),
+        ap (option_map lump_flat) (found name n is at.0 at.1 at.2),
+        ap (λ m. LumpFlat (record { 0 = m })) (sources at.0 at.1 ∙ at.2) ∙ this,
+      )
+
+  flat-moved : (name : List ℕ) (f : Flat) → flat_named lumps name ≡ Some f → ((n : ℕ) → n < length lumps → flat_number f ≡ n → IsListed flats n)
+      → (g : Flat) × (flat_named trimmed name ≡ Some g) × (move_flat σ g ≡ f)
+  unfolding flat_named
+  flat-moved name f e listed = named_step name f (is_sky_name name) (flat_of lumps name) refl refl e listed
+
+  both_step : (sector : Sector) (both : SectorFlats) (f c : Option Flat) → flat_named lumps sector.floor_name ≡ f → flat_named lumps sector.ceiling_name ≡ c
+      → option_and_then (λ g. option_map (both_flats g) c) f ≡ Some both → ((n : ℕ) → n < length lumps → has_flat n both ≡ true → IsListed flats n)
+      → (moved : SectorFlats) × (option_and_then (λ g. option_map (both_flats g) (flat_named trimmed sector.ceiling_name)) (flat_named trimmed sector.floor_name) ≡ Some moved) × (move_both σ moved ≡ both)
+  unfolding both_flats has_flat
+  both_step sector both None c is js e listed = absurd (cc)
+  both_step sector both (Some f) None is js e listed = absurd (cc)
+  both_step sector both (Some f) (Some c) is js e listed =
+      let same : record { floor = f; ceiling = c } ≡ both = some_of _ both e in
+      let floor = flat-moved sector.floor_name f is (λ n lt number. listed n lt
+      (or_left (flat_number both.floor == n) _ ((Decides-eqb (flat_number both.floor) n).1 (ap (λ (b : SectorFlats). flat_number b.floor) (sym same) ∙ number)))) in
+      let ceiling = flat-moved sector.ceiling_name c js (λ n lt number. listed n lt
+      (or_right (flat_number both.floor == n) _ ((Decides-eqb (flat_number both.ceiling) n).1 (ap (λ (b : SectorFlats). flat_number b.ceiling) (sym same) ∙ number)))) in (
+        record { floor = floor.0; ceiling = ceiling.0 },
+        rw (floor.1, ceiling.1) refl,
+        ap (λ (g : Flat). record { floor = g; ceiling = move_flat σ ceiling.0 }) floor.2 ∙ ap (λ (g : Flat). record { floor = f; ceiling = g }) ceiling.2 ∙ same,
+      )
+
+  sector-moved : (sector : Sector) (both : SectorFlats) → flats_of lumps sector ≡ Some both → ((n : ℕ) → n < length lumps → has_flat n both ≡ true → IsListed flats n)
+      → (moved : SectorFlats) × (flats_of trimmed sector ≡ Some moved) × (move_both σ moved ≡ both)
+  unfolding flats_of
+  sector-moved sector both e listed = both_step sector both (flat_named lumps sector.floor_name) (flat_named lumps sector.ceiling_name) refl refl e listed
+
+  each-moved : (number : ℕ) (sectors : List Sector) (all : List SectorFlats) → each_from (flats_of lumps) SectorFlat number sectors ≡ Ok all
+      → ((n : ℕ) → n < length lumps → list_any (has_flat n) all ≡ true → IsListed flats n)
+      → (moved : List SectorFlats) × (each_from (flats_of trimmed) SectorFlat number sectors ≡ Ok moved) × (map (move_both σ) moved ≡ all)
+  unfolding each_from
+  each-moved number [] all e listed = let same : [] ≡ all = cc in ([], refl, same)
+  each-moved number (sector ∷ sectors) all e listed =
+      let one = passed (ok_or (flats_of lumps sector) (SectorFlat number)) _ all e in
+      let rest = passed (each_from (flats_of lumps) SectorFlat (suc number) sectors) _ all one.2 in
+      let same : one.0 ∷ rest.0 ≡ all = ok_of (one.0 ∷ rest.0) all rest.2 in
+      let first = sector-moved sector one.0 (some_value (flats_of lumps sector) (SectorFlat number) one.0 one.1)
+      (λ n lt is. listed n lt (ap (list_any (has_flat n)) (sym same) ∙ or_left (has_flat n one.0) _ is)) in
+      let more = each-moved (suc number) sectors rest.0 rest.1 (λ n lt any. listed n lt (ap (list_any (has_flat n)) (sym same) ∙ or_right (has_flat n one.0) _ any)) in
+      (first.0 ∷ more.0, each-made trimmed number sector sectors first.0 more.0 first.1 more.1, ap (λ (b : SectorFlats). b ∷ map (move_both σ) more.0) first.2 ∙ ap (λ bs. one.0 ∷ bs) more.2 ∙ same) where
+        ok_of : (a b : List SectorFlats) → (let l : Result (List SectorFlats) SceneRefusal = Ok a in l) ≡ Ok b → a ≡ b
+        ok_of a b e = cc
+
+-- The flats of an accepted level's sectors, by a directory that has its flats.
+pub sectors-moved : (trimmed lumps : List Lump) (σ : ℕ → ℕ) (sectors : List Sector) (all : List SectorFlats) → HasFlats trimmed lumps (flat_lumps lumps all)
+    → ((k : ℕ) → k < length (flat_lumps lumps all) → σ (suc k) ≡ get_or (flat_lumps lumps all) k 0) → sector_flats lumps sectors ≡ Ok all
+    → (moved : List SectorFlats) × (sector_flats trimmed sectors ≡ Ok moved) × (map (move_both σ) moved ≡ all)
+unfolding sector_flats each_or
+sectors-moved trimmed lumps σ sectors all has sources e =
+    each-moved trimmed lumps σ (flat_lumps lumps all) has sources 0 sectors all e (λ n lt any. flat-listed lumps all n lt any)

@@ -1,0 +1,268 @@
+-- The trimmed file gives the base of the level again: its map, its lists of textures and its
+-- palette.
+use Rattle.std.proofs.Common.{◌≡◌, ℕ, zero, suc, ◌+◌, ◌<◌, Bool, true, false, cond, nat_le, List, [], ◌∷◌, ◌++◌, map, length, take, Option, Some, None, Result, Ok, Err, refl, ap, sym, subst, ◌∙◌, arith}
+use Rattle.std.specs.Prelude.{filter, not}
+use Rattle.std.specs.Option.{ok_or, option_and_then, option_map}
+use Rattle.outside.specs.Faults.{and_then, from_below}
+use Rattle.word_rules.proofs.LeastLemmas.{greatest-is}
+use Rattle.lump_rules.specs.declared.wad.Lump.{Lump}
+use Rattle.lump_rules.specs.Contents.{LiesWithin, lump_bytes, named_bytes}
+use Rattle.lump_rules.specs.Lookups.{has_name, last_of, lump_at, map_of, no_lump}
+use Rattle.lump_rules.specs.Wads.{directory}
+use Rattle.lump_rules.proofs.ContentLemmas.{directory_within, lump_bytes-length}
+use Rattle.made_rules.specs.declared.wad.TheConstants.{HEAD_SIZE}
+use Rattle.level_rules.specs.declared.maps.refusal.MapRefusal.TheVariants.{NoMap}
+use Rattle.level_rules.specs.maps.Levels.{level_of}
+use Rattle.art_rules.specs.declared.TheConstants.{PNAMES, TEXTURE1, TEXTURE2}
+use Rattle.art_rules.specs.Textures.{Texture as ListedTexture, TextureLists, both_lists, first_list, patch_names, texture_lists}
+use Rattle.art_rules.specs.Wanted.{prepared_textures}
+use Rattle.scene_rules.specs.declared.TheConstants.{COLORMAP, COLORMAP_SIZE, PLAYPAL, PALETTE_SIZE}
+use Rattle.scene_rules.specs.declared.refusal.ArtRefusal.TheVariants.{Colormap, Playpal}
+use Rattle.scene_rules.specs.declared.refusal.AuditRefusal.TheVariants.{Art, Map, Texture}
+use Rattle.scene_rules.specs.Scenes.{LevelBase, base_in, base_over, colormap_of, if_long, label_of, level_in, lists_in, long_lump, map_bytes, playpal_of}
+use Rattle.scene_rules.specs.Sizes.{SceneArt}
+use Rattle.trim_rules.specs.declared.part.TrimPart.{TrimPart}
+use Rattle.trim_rules.specs.Parts.{called_lumps, copy_part, label_or_copy, trim_parts}
+use Rattle.trim_rules.specs.Files.{part_bytes, part_lump, stored_from, stored_lumps, trimmed_file, trimmed_lumps}
+use Rattle.trim_rules.proofs.BaseLemmas.{ServesBase, base-made, base-served}
+use Rattle.trim_rules.proofs.BytesLemmas.{part-bytes}
+use Rattle.trim_rules.proofs.LastLemmas.{called-last}
+use Rattle.trim_rules.proofs.MapLemmas.{HasFixed, behind_map, front_parts, is_called, map_place, parts-by-map, row-at, trimmed-map}
+use Rattle.trim_rules.proofs.NamedLemmas.{colormap-fixed, named-same, playpal-fixed, pnames-fixed, texture1-fixed, texture2-fixed}
+use Rattle.trim_rules.proofs.PlaceLemmas.{part_at}
+
+-- a step that was passed
+passed : {A B R : Type 0} (r : Result A R) (next : A → Result B R) (y : B) → and_then r next ≡ Ok y → (x : A) × (r ≡ Ok x) × (next x ≡ Ok y)
+passed (Ok x) next y e = (x, refl, e)
+passed (Err reason) next y e = cc
+
+below : {A R Q : Type 0} (f : R → Q) (r : Result A R) (x : A) → from_below f r ≡ Ok x → r ≡ Ok x
+below f (Ok y) x e = let same : y ≡ x = cc in ap Ok same
+below f (Err reason) x e = cc
+
+some_value : {X E : Type 0} (o : Option X) (e : E) (x : X) → ok_or o e ≡ Ok x → o ≡ Some x
+some_value None e x is = cc
+some_value (Some y) e x is = let same : y ≡ x = cc in ap Some same
+
+-- what the directory tells of a base
+pub record IsFoundBy (lumps : List Lump) (name : List ℕ) (base : LevelBase) : Type 0 where
+  pub colormap : colormap_of lumps ≡ Ok base.colormap
+  pub playpal : playpal_of lumps ≡ Ok base.playpal
+  pub label : label_of lumps name ≡ Ok base.label
+
+pub base-found : (bytes : ℕ → List ℕ) (lumps : List Lump) (name : List ℕ) (base : LevelBase) → base_in bytes lumps name ≡ Ok base → IsFoundBy lumps name base
+unfolding base_in base_over level_in
+base-found bytes lumps name base e =
+    let a = passed (from_below Art (colormap_of lumps)) _ base e in
+    let b = passed (from_below Art (playpal_of lumps)) _ base a.2 in
+    let c = passed (from_below Map (level_in bytes lumps name)) _ base b.2 in
+    let d = passed (from_below Texture (lists_in bytes lumps)) _ base c.2 in
+    let found = passed (label_of lumps name) _ c.0 (below Map (level_in bytes lumps name) c.0 c.1) in
+    let level = passed (level_of _) _ c.0 found.2 in
+    let made : ◌≡◌ {A = LevelBase} (record { colormap = a.0; playpal = b.0; palette = take PALETTE_SIZE (bytes b.0); label = c.0.0; level = c.0.1; lists = d.0 }) base = cc in
+    let pair : (found.0, level.0) ≡ c.0 = cc in
+    subst (IsFoundBy lumps name) made (record { colormap = below Art (colormap_of lumps) a.0 a.1; playpal = below Art (playpal_of lumps) b.0 b.1; label = found.1 ∙ ap (λ (x : ℕ × _). Ok x.0) pair })
+
+-- a lump that is long enough
+long_step : (lumps : List Lump) (size n number : ℕ) (b : Bool) → nat_le size (lump_at lumps n).size ≡ b → cond b (Some n) None ≡ Some number → (n ≡ number) × (nat_le size (lump_at lumps number).size ≡ true)
+long_step lumps size n number true is e = let same : n ≡ number = cc in (same, ap (λ k. nat_le size (lump_at lumps k).size) (sym same) ∙ is)
+long_step lumps size n number false is e = absurd (cc)
+
+long_found : (lumps : List Lump) (name : List ℕ) (size number : ℕ) (o : Option ℕ) → last_of lumps name ≡ o → option_and_then (if_long lumps size) o ≡ Some number
+    → (last_of lumps name ≡ Some number) × (nat_le size (lump_at lumps number).size ≡ true)
+long_found lumps name size number None is e = absurd (cc)
+long_found lumps name size number (Some n) is e =
+    let both = long_step lumps size n number (nat_le size (lump_at lumps n).size) refl e in
+    (is ∙ ap Some both.0, both.1)
+
+long-is : (lumps : List Lump) (name : List ℕ) (size number : ℕ) → long_lump lumps name size ≡ Some number → (last_of lumps name ≡ Some number) × (nat_le size (lump_at lumps number).size ≡ true)
+long-is lumps name size number e = long_found lumps name size number (last_of lumps name) refl e
+
+long-made : (lumps : List Lump) (name : List ℕ) (size number : ℕ) → last_of lumps name ≡ Some number → nat_le size (lump_at lumps number).size ≡ true → long_lump lumps name size ≡ Some number
+long-made lumps name size number is long = rw (is, long) refl
+
+-- the size of a lump of the trimmed file
+stored-size : (bytes : ℕ → List ℕ) (lumps : List Lump) (place : ℕ) (parts : List TrimPart) (k : ℕ)
+    → (lump_at (stored_from place (map (part_lump bytes lumps) parts)) k).size ≡ length (part_bytes bytes (part_at parts k))
+unfolding stored_from part_lump part_bytes
+stored-size bytes lumps place [] k = refl
+stored-size bytes lumps place (p ∷ parts) zero = refl
+stored-size bytes lumps place (p ∷ parts) (suc k) = stored-size bytes lumps (place + length (part_lump bytes lumps p).bytes) parts k
+
+trimmed-size : (bytes : ℕ → List ℕ) (lumps : List Lump) (parts : List TrimPart) (k : ℕ)
+    → (lump_at (trimmed_lumps bytes lumps parts) k).size ≡ length (lump_bytes (trimmed_file bytes lumps parts ∷ []) (trimmed_lumps bytes lumps parts) k)
+unfolding trimmed_lumps stored_lumps
+trimmed-size bytes lumps parts k = stored-size bytes lumps HEAD_SIZE parts k ∙ ap length (sym (part-bytes bytes lumps parts k))
+
+named_step : (b : ℕ → List ℕ) (o : Option ℕ) (v : List ℕ) → option_map b o ≡ Some v → (c : ℕ) × (o ≡ Some c) × (b c ≡ v)
+named_step b None v e = absurd (cc)
+named_step b (Some c) v e = (c, refl, cc)
+
+-- a long lump of the given directory is one of the trimmed
+module _ (contents : List (List ℕ)) (lumps : List Lump) (parts : List TrimPart) (listed : directory contents ≡ Ok lumps) where
+  long-kept : (wanted : List ℕ) (size n : ℕ) → long_lump lumps wanted size ≡ Some n
+      → named_bytes (lump_bytes (trimmed_file (lump_bytes contents lumps) lumps parts ∷ []) (trimmed_lumps (lump_bytes contents lumps) lumps parts)) (trimmed_lumps (lump_bytes contents lumps) lumps parts) wanted
+      ≡ named_bytes (lump_bytes contents lumps) lumps wanted
+      → (c : ℕ) × (long_lump (trimmed_lumps (lump_bytes contents lumps) lumps parts) wanted size ≡ Some c)
+      × (lump_bytes (trimmed_file (lump_bytes contents lumps) lumps parts ∷ []) (trimmed_lumps (lump_bytes contents lumps) lumps parts) c ≡ lump_bytes contents lumps n)
+  long-kept wanted size n e same =
+      let bytes = lump_bytes contents lumps in
+      let trimmed = trimmed_lumps bytes lumps parts in
+      let bytes' = lump_bytes (trimmed_file bytes lumps parts ∷ []) trimmed in
+      let found = long-is lumps wanted size n e in
+      let inside = (greatest-is (has_name lumps wanted) (length lumps) n found.0).0 in
+      let have : option_map bytes' (last_of trimmed wanted) ≡ Some (bytes n) = same ∙ ap (option_map bytes) found.0 in
+      let at = named_step bytes' (last_of trimmed wanted) (bytes n) have in
+      let within : LiesWithin contents (lump_at lumps n) = directory_within contents lumps listed n no_lump inside in
+      let sizes : (lump_at trimmed at.0).size ≡ (lump_at lumps n).size =
+      trimmed-size bytes lumps parts at.0 ∙ ap length at.2 ∙ lump_bytes-length contents lumps n within in
+      (at.0, long-made trimmed wanted size at.0 at.1 (ap (nat_le size) sizes ∙ found.1), at.2)
+
+-- lists of textures are of lumps that are there
+names_there : (o : Option (List ℕ)) (names : List (List ℕ)) → patch_names o ≡ Ok names → (v : List ℕ) × (o ≡ Some v)
+unfolding patch_names
+names_there None names e = absurd (cc)
+names_there (Some v) names e = (v, refl)
+
+first_there : (o : Option (List ℕ)) (first : List ℕ) → first_list o ≡ Ok first → (v : List ℕ) × (o ≡ Some v)
+unfolding first_list
+first_there None first e = absurd (cc)
+first_there (Some v) first e = (v, refl)
+
+both_there : (a b : Option (List ℕ)) (textures : List ListedTexture) → both_lists a b ≡ Ok textures → (v : List ℕ) × (a ≡ Some v)
+unfolding both_lists
+both_there a b textures e = let one = passed (first_list a) _ textures e in first_there a one.0 one.1
+
+lists_there : (a b c : Option (List ℕ)) (lists : TextureLists) → texture_lists a b c ≡ Ok lists → ((v : List ℕ) × (a ≡ Some v)) × ((w : List ℕ) × (b ≡ Some w))
+unfolding texture_lists
+lists_there a b c lists e =
+    let one = passed (patch_names a) _ lists e in
+    let two = passed (both_lists b c) _ lists one.2 in
+    (names_there a one.0 one.1, both_there b c two.0 two.1)
+
+list-lumps : (bytes : ℕ → List ℕ) (lumps : List Lump) (lists : TextureLists) → lists_in bytes lumps ≡ Ok lists
+    → ((n : ℕ) × (last_of lumps PNAMES ≡ Some n)) × ((t : ℕ) × (last_of lumps TEXTURE1 ≡ Some t))
+unfolding lists_in
+list-lumps bytes lumps lists e =
+    let both = lists_there (named_bytes bytes lumps PNAMES) (named_bytes bytes lumps TEXTURE1) (named_bytes bytes lumps TEXTURE2) lists e in
+    let n = named_step bytes (last_of lumps PNAMES) both.0.0 both.0.1 in
+    let t = named_step bytes (last_of lumps TEXTURE1) both.1.0 both.1.1 in
+    ((n.0, n.1), (t.0, t.1))
+
+-- the eight lumps of the map
+copy_bytes : (bytes : ℕ → List ℕ) (n : ℕ) → part_bytes bytes (copy_part n) ≡ bytes n
+unfolding part_bytes
+copy_bytes bytes n = refl
+
+module _ (bytes : ℕ → List ℕ) (lumps : List Lump) (art : SceneArt) (name : List ℕ) (label : ℕ) (is : map_of lumps name ≡ Some label) where
+  behind-label : (k : ℕ) → k < 8 → lump_bytes (trimmed_file bytes lumps (trim_parts lumps art name) ∷ []) (trimmed_lumps bytes lumps (trim_parts lumps art name)) (map_place lumps art + suc k) ≡ bytes (label + suc k)
+  behind-label k lt =
+      let parts = trim_parts lumps art name in
+      let copied = map copy_part (filter (λ n. not (has_name lumps name n)) (called_lumps lumps art.prepared)) in
+      let at : part_at parts (map_place lumps art + suc k) ≡ copy_part (label + suc k) =
+      ap (λ ps. part_at ps (map_place lumps art + suc k)) (parts-by-map lumps art name label is)
+      ∙ (let e : map_place lumps art + suc k ≡ suc (map_place lumps art) + k = omega arith in
+      ap (part_at (front_parts lumps art ++ label_or_copy (is_called lumps art name) label ∷ behind_map lumps art.prepared name label)) e)
+      ∙ row-at bytes lumps (front_parts lumps art) label (label_or_copy (is_called lumps art name) label) copied k lt
+      ∙ (let e : suc label + k ≡ label + suc k = omega arith in ap copy_part e) in
+      part-bytes bytes lumps parts (map_place lumps art + suc k) ∙ ap (part_bytes bytes) at ∙ copy_bytes bytes (label + suc k)
+
+  map-kept : map_bytes (lump_bytes (trimmed_file bytes lumps (trim_parts lumps art name) ∷ []) (trimmed_lumps bytes lumps (trim_parts lumps art name))) (map_place lumps art) ≡ map_bytes bytes label
+  unfolding map_bytes
+  map-kept =
+      rw (
+        behind-label 0 (omega arith),
+        behind-label 1 (omega arith),
+        behind-label 2 (omega arith),
+        behind-label 3 (omega arith),
+        behind-label 4 (omega arith),
+        behind-label 5 (omega arith),
+        behind-label 6 (omega arith),
+        behind-label 7 (omega arith),
+      ) refl
+
+ok_some : {X E : Type 0} (o : Option X) (e : E) (x : X) → o ≡ Some x → ok_or o e ≡ Ok x
+ok_some o e x is = rw is refl
+
+module _ (lumps : List Lump) where
+  colormap_long : (c : ℕ) → colormap_of lumps ≡ Ok c → long_lump lumps COLORMAP COLORMAP_SIZE ≡ Some c
+  unfolding colormap_of
+  colormap_long c e = some_value (long_lump lumps COLORMAP COLORMAP_SIZE) Colormap c e
+
+  long_colormap : (c : ℕ) → long_lump lumps COLORMAP COLORMAP_SIZE ≡ Some c → colormap_of lumps ≡ Ok c
+  unfolding colormap_of
+  long_colormap c e = ok_some (long_lump lumps COLORMAP COLORMAP_SIZE) Colormap c e
+
+  playpal_long : (c : ℕ) → playpal_of lumps ≡ Ok c → long_lump lumps PLAYPAL PALETTE_SIZE ≡ Some c
+  unfolding playpal_of
+  playpal_long c e = some_value (long_lump lumps PLAYPAL PALETTE_SIZE) Playpal c e
+
+  long_playpal : (c : ℕ) → long_lump lumps PLAYPAL PALETTE_SIZE ≡ Some c → playpal_of lumps ≡ Ok c
+  unfolding playpal_of
+  long_playpal c e = ok_some (long_lump lumps PLAYPAL PALETTE_SIZE) Playpal c e
+
+  label_map : (name : List ℕ) (l : ℕ) → label_of lumps name ≡ Ok l → map_of lumps name ≡ Some l
+  unfolding label_of
+  label_map name l e = some_value (map_of lumps name) NoMap l e
+
+  map_label : (name : List ℕ) (l : ℕ) → map_of lumps name ≡ Some l → label_of lumps name ≡ Ok l
+  unfolding label_of
+  map_label name l e = ok_some (map_of lumps name) NoMap l e
+
+-- The trimmed file serves the base.
+pub trimmed-serves : (contents : List (List ℕ)) (lumps : List Lump) (art : SceneArt) (name : List ℕ) (base : LevelBase) (wanted : ℕ → Bool)
+    → directory contents ≡ Ok lumps → base_in (lump_bytes contents lumps) lumps name ≡ Ok base
+    → prepared_textures (last_of lumps) (lump_bytes contents lumps) base.lists wanted ≡ Ok art.prepared
+    → (c : ℕ) × (p : ℕ)
+    × (lump_bytes (trimmed_file (lump_bytes contents lumps) lumps (trim_parts lumps art name) ∷ []) (trimmed_lumps (lump_bytes contents lumps) lumps (trim_parts lumps art name)) c ≡ lump_bytes contents lumps base.colormap)
+    × ServesBase (lump_bytes contents lumps)
+    (lump_bytes (trimmed_file (lump_bytes contents lumps) lumps (trim_parts lumps art name) ∷ []) (trimmed_lumps (lump_bytes contents lumps) lumps (trim_parts lumps art name)))
+    lumps (trimmed_lumps (lump_bytes contents lumps) lumps (trim_parts lumps art name)) name base c p (map_place lumps art)
+trimmed-serves contents lumps art name base wanted listed is prepared =
+    let bytes = lump_bytes contents lumps in
+    let parts = trim_parts lumps art name in
+    let trimmed = trimmed_lumps bytes lumps parts in
+    let found = base-found bytes lumps name base is in
+    let made = base-made bytes lumps name base is in
+    let lists = list-lumps bytes lumps base.lists made.lists in
+    let label = label_map lumps name base.label found.label in
+    let all = called-last lumps bytes base.lists wanted art.prepared name prepared in
+    let colormap = named-same bytes lumps art name base.label label all COLORMAP (colormap-fixed lumps) (record { f_start = refl; f_end = refl; s_start = refl; s_end = refl }) in
+    let playpal = named-same bytes lumps art name base.label label all PLAYPAL (playpal-fixed lumps) (record { f_start = refl; f_end = refl; s_start = refl; s_end = refl }) in
+    let c = long-kept contents lumps parts listed COLORMAP COLORMAP_SIZE base.colormap (colormap_long lumps base.colormap found.colormap) colormap in
+    let p = long-kept contents lumps parts listed PLAYPAL PALETTE_SIZE base.playpal (playpal_long lumps base.playpal found.playpal) playpal in
+    let fixed : HasFixed lumps base.playpal base.colormap lists.0.0 lists.1.0 = record {
+      playpal = (long-is lumps PLAYPAL PALETTE_SIZE base.playpal (playpal_long lumps base.playpal found.playpal)).0;
+      colormap = (long-is lumps COLORMAP COLORMAP_SIZE base.colormap (colormap_long lumps base.colormap found.colormap)).0;
+      pnames = lists.0.1;
+      texture1 = lists.1.1;
+    } in (
+      c.0,
+      p.0,
+      c.2,
+      record {
+        is = is;
+        colormap = long_colormap trimmed c.0 c.1;
+        playpal = long_playpal trimmed p.0 p.1;
+        palette = p.2;
+        label = map_label trimmed name (map_place lumps art) (trimmed-map bytes lumps art name base.label base.playpal base.colormap lists.0.0 lists.1.0 label fixed);
+        level = map-kept bytes lumps art name base.label label;
+        pnames = named-same bytes lumps art name base.label label all PNAMES (pnames-fixed lumps) (record { f_start = refl; f_end = refl; s_start = refl; s_end = refl });
+        texture1 = named-same bytes lumps art name base.label label all TEXTURE1 (texture1-fixed lumps) (record { f_start = refl; f_end = refl; s_start = refl; s_end = refl });
+        texture2 = named-same bytes lumps art name base.label label all TEXTURE2 (texture2-fixed lumps) (record { f_start = refl; f_end = refl; s_start = refl; s_end = refl });
+      },
+    )
+
+-- The base by the trimmed file is the level's, with other numbers for its lumps.
+pub trimmed-base : (contents : List (List ℕ)) (lumps : List Lump) (art : SceneArt) (name : List ℕ) (base : LevelBase) (wanted : ℕ → Bool)
+    → directory contents ≡ Ok lumps → base_in (lump_bytes contents lumps) lumps name ≡ Ok base
+    → prepared_textures (last_of lumps) (lump_bytes contents lumps) base.lists wanted ≡ Ok art.prepared
+    → (c : ℕ) × (p : ℕ)
+    × (base_in (lump_bytes (trimmed_file (lump_bytes contents lumps) lumps (trim_parts lumps art name) ∷ []) (trimmed_lumps (lump_bytes contents lumps) lumps (trim_parts lumps art name)))
+    (trimmed_lumps (lump_bytes contents lumps) lumps (trim_parts lumps art name)) name
+    ≡ Ok (record { colormap = c; playpal = p; palette = base.palette; label = map_place lumps art; level = base.level; lists = base.lists }))
+trimmed-base contents lumps art name base wanted listed is prepared =
+    let serves = trimmed-serves contents lumps art name base wanted listed is prepared in
+    let bytes = lump_bytes contents lumps in
+    let trimmed = trimmed_lumps bytes lumps (trim_parts lumps art name) in
+    (serves.0, serves.1, base-served bytes (lump_bytes (trimmed_file bytes lumps (trim_parts lumps art name) ∷ []) trimmed) lumps trimmed name base serves.0 serves.1 (map_place lumps art) serves.3)

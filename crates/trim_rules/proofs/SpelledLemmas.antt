@@ -1,0 +1,180 @@
+-- The names of lumps of a directory are spelled as a directory spells them, so that they may be put
+-- into a new file.
+use Rattle.std.proofs.Common.{◌≡◌, ℕ, zero, suc, ◌+◌, ◌-◌, ◌<◌, ◌≤◌, Bool, true, false, cond, nat_lt, List, [], ◌∷◌, ◌++◌, map, length, take, drop, replicate, min, Ok, All, refl, ap, sym, subst, ◌∙◌, arith, ltb-false}
+use Rattle.std.specs.Prelude.{◌==◌}
+use Rattle.std.specs.Char.{to_ascii_uppercase}
+use Rattle.std.specs.List.{AllByRecursion, before_first}
+use Rattle.std.proofs.lemmas.Bool.Decides.{Decides-eqb}
+use Rattle.std.proofs.lemmas.List.{length-append, length-map, length-replicate, length-take}
+use Rattle.std.proofs.lemmas.List.Elements.{All-append, All-nil}
+use Rattle.std.proofs.lemmas.Str.Ascii.{uppercase-uppercase}
+use Rattle.word_rules.proofs.ListedLemmas.{get_or-listed}
+use Rattle.lump_rules.specs.declared.wad.Lump.{Lump}
+use Rattle.lump_rules.specs.declared.names.TheConstants.{F_START, F_END, S_START, S_END}
+use Rattle.lump_rules.specs.Lookups.{lump_at, no_lump}
+use Rattle.lump_rules.specs.Names.{filled, name_of}
+use Rattle.lump_rules.specs.Wads.{directory, entries_in, entry_at, entry_count, file_lumps, header, lump_in, lumps_from, lumps_in, refusal_from}
+use Rattle.lump_rules.proofs.WadLemmas.{lumps_in-length, unless_refused_ok}
+use Rattle.scene_rules.specs.Sizes.{SceneArt}
+use Rattle.trim_rules.specs.declared.part.TrimPart.{TrimPart}
+use Rattle.trim_rules.specs.declared.part.TrimPart.TheVariants.{Mark}
+use Rattle.trim_rules.specs.Parts.{copy_part, label_part, part_name, trim_parts}
+use Rattle.trim_rules.specs.Files.{part_lump}
+use Rattle.trim_rules.proofs.LayoutLemmas.{IsSpelled}
+use Rattle.trim_rules.proofs.ThereLemmas.{parts-all}
+
+-- a name as a directory spells it
+pub record IsName (name : List ℕ) : Type 0 where
+  pub size : length name ≡ 8
+  pub same : name_of name ≡ name
+
+abbrev is_end_byte : ℕ → Bool
+is_end_byte byte = byte == 0
+
+one_more : (n x : ℕ) (xs : List ℕ) → take (1 + n) (x ∷ xs) ≡ x ∷ take n xs
+one_more n x xs = let e : 1 + n ≡ suc n = omega arith in ap (λ k. take k (x ∷ xs)) e
+
+first_step : (x : ℕ) (xs : List ℕ) (b : Bool) → is_end_byte x ≡ b → before_first is_end_byte (x ∷ xs) ≡ cond b [] (x ∷ before_first is_end_byte xs)
+first_step x xs true e = rw e refl
+first_step x xs false e = rw e (one_more _ x xs)
+
+abbrev IsLetter : ℕ → Type 0
+IsLetter x = is_end_byte x ≡ false
+
+letters_step : (x : ℕ) (xs : List ℕ) (b : Bool) → is_end_byte x ≡ b → AllByRecursion IsLetter xs → AllByRecursion IsLetter (cond b [] (x ∷ xs))
+letters_step x xs true e all = tt
+letters_step x xs false e all = (e, all)
+
+letters : (xs : List ℕ) → AllByRecursion IsLetter (before_first is_end_byte xs)
+letters [] = tt
+letters (x ∷ xs) =
+    subst (AllByRecursion IsLetter) (sym (first_step x xs (is_end_byte x) refl)) (letters_step x (before_first is_end_byte xs) (is_end_byte x) refl (letters xs))
+
+-- letters, and bytes 0 behind them
+before-zeros : (ys : List ℕ) (k : ℕ) → AllByRecursion IsLetter ys → before_first is_end_byte (ys ++ replicate k 0) ≡ ys
+before-zeros [] zero all = refl
+before-zeros [] (suc k) all = refl
+before-zeros (y ∷ ys) k all =
+    first_step y (ys ++ replicate k 0) false all.0 ∙ ap (λ zs. y ∷ zs) (before-zeros ys k all.1)
+
+-- a capital is no byte 0
+upper_step : (c : ℕ) (a b : Bool) → nat_lt c 97 ≡ a → nat_lt c 123 ≡ b → cond a c (cond b (c - 32) c) ≡ 0 → c ≡ 0
+upper_step c true b is js e = e
+upper_step c false true is js e = omega (arith, ltb-false)
+upper_step c false false is js e = e
+
+upper_zero : (c : ℕ) → to_ascii_uppercase c ≡ 0 → c ≡ 0
+upper_zero c e = upper_step c (nat_lt c 97) (nat_lt c 123) refl refl e
+
+letter_step : (c : ℕ) (b : Bool) → (to_ascii_uppercase c == 0) ≡ b → IsLetter c → b ≡ false
+letter_step c false e is = refl
+letter_step c true e is =
+    let none : c ≡ 0 = upper_zero c ((Decides-eqb (to_ascii_uppercase c) 0).0 e) in
+    let f : true ≡ false = sym ((Decides-eqb c 0).1 none) ∙ is in absurd (cc)
+
+capitals : (xs : List ℕ) → AllByRecursion IsLetter xs → AllByRecursion IsLetter (map to_ascii_uppercase xs)
+capitals [] all = tt
+capitals (x ∷ xs) all = (letter_step x (to_ascii_uppercase x == 0) refl all.0, capitals xs all.1)
+
+capitals-again : (xs : List ℕ) → map to_ascii_uppercase (map to_ascii_uppercase xs) ≡ map to_ascii_uppercase xs
+capitals-again [] = refl
+capitals-again (x ∷ xs) = rw (uppercase-uppercase x, capitals-again xs) refl
+
+-- a filled text of eight letters at most is a name
+filled-name : (text : List ℕ) → AllByRecursion IsLetter text → length text ≤ 8 → IsName (filled text)
+unfolding filled
+filled-name text all le =
+    let upper = map to_ascii_uppercase text in
+    let count : length upper ≡ length text = length-map text to_ascii_uppercase in
+    record {
+      size = length-append upper (replicate (8 - length text) 0) ∙ rw (length-map, length-replicate) (omega arith);
+      same =
+          ap filled (before-zeros upper (8 - length text) (capitals text all))
+          ∙ ap (λ xs. xs ++ replicate (8 - length upper) 0) (capitals-again text)
+          ∙ ap (λ n. upper ++ replicate (8 - n) 0) count;
+    }
+
+before_step : (x : ℕ) (xs : List ℕ) (b : Bool) → is_end_byte x ≡ b → length (before_first is_end_byte xs) ≤ length xs → length (before_first is_end_byte (x ∷ xs)) ≤ suc (length xs)
+before_step x xs true e le = let n : length (before_first is_end_byte (x ∷ xs)) ≡ 0 = ap length (first_step x xs true e) in omega arith
+before_step x xs false e le =
+    let n : length (before_first is_end_byte (x ∷ xs)) ≡ suc (length (before_first is_end_byte xs)) = ap length (first_step x xs false e) in omega arith
+
+before-length : (xs : List ℕ) → length (before_first is_end_byte xs) ≤ length xs
+before-length [] = omega arith
+before-length (x ∷ xs) = before_step x xs (is_end_byte x) refl (before-length xs)
+
+pub name_of-name : (bytes : List ℕ) → length bytes ≤ 8 → IsName (name_of bytes)
+name_of-name bytes le =
+    let shorter : length (before_first is_end_byte bytes) ≤ length bytes = before-length bytes in
+    filled-name (before_first is_end_byte bytes) (letters bytes) (omega arith)
+
+abbrev IsNamed : Lump → Type 0
+IsNamed lump = IsName lump.name
+
+taken : (xs : List ℕ) → length (take 8 xs) ≤ 8
+taken xs = let n : length (take 8 xs) ≡ min 8 (length xs) = length-take 8 xs in omega arith
+
+entry_named : (file : ℕ) (entry : List ℕ) → IsNamed (lump_in file entry)
+entry_named file entry = name_of-name (take 8 (drop 8 entry)) (taken (drop 8 entry))
+
+in_named : (file count : ℕ) (entries : List ℕ) → All IsNamed (lumps_in file count entries)
+unfolding lumps_in
+in_named file count entries k d lt =
+    let inside : k < count = omega (arith, lumps_in-length file count entries) in
+    subst IsNamed (sym (get_or-listed (λ (index : ℕ). lump_in file (entry_at entries index)) count k d inside)) (entry_named file (entry_at entries k))
+
+file_named : (file : ℕ) (bytes : List ℕ) → All IsNamed (file_lumps file bytes)
+unfolding file_lumps
+file_named file bytes = in_named file (entry_count (header bytes)) (entries_in (header bytes) bytes)
+
+from_named : (file : ℕ) (contents : List (List ℕ)) → All IsNamed (lumps_from file contents)
+unfolding lumps_from
+from_named file [] = All-nil IsNamed
+from_named file (bytes ∷ rest) = All-append IsNamed (file_lumps file bytes) (lumps_from (suc file) rest) (file_named file bytes) (from_named (suc file) rest)
+
+-- The name of each lump of a directory is one.
+pub directory-named : (contents : List (List ℕ)) (lumps : List Lump) → directory contents ≡ Ok lumps → (n : ℕ) → n < length lumps → IsName (lump_at lumps n).name
+directory-named contents lumps e n lt =
+    let same = (unless_refused_ok (refusal_from 0 0 contents) (lumps_from 0 contents) lumps e).1 in
+    subst (All IsNamed) same (from_named 0 contents) n no_lump lt
+
+-- the names of parts
+abbrev IsNamedPart : List Lump → TrimPart → Type 0
+IsNamedPart lumps p = IsName (part_name lumps p)
+
+mark_start : (lumps : List Lump) → IsNamedPart lumps (Mark F_START)
+unfolding part_name filled
+mark_start lumps = record { size = refl; same = refl }
+
+mark_end : (lumps : List Lump) → IsNamedPart lumps (Mark F_END)
+unfolding part_name filled
+mark_end lumps = record { size = refl; same = refl }
+
+sprite_start : (lumps : List Lump) → IsNamedPart lumps (Mark S_START)
+unfolding part_name filled
+sprite_start lumps = record { size = refl; same = refl }
+
+sprite_end : (lumps : List Lump) → IsNamedPart lumps (Mark S_END)
+unfolding part_name filled
+sprite_end lumps = record { size = refl; same = refl }
+
+copy_named : (lumps : List Lump) (n : ℕ) → IsName (lump_at lumps n).name → IsNamedPart lumps (copy_part n)
+unfolding part_name
+copy_named lumps n is = is
+
+label_named : (lumps : List Lump) (n : ℕ) → IsName (lump_at lumps n).name → IsNamedPart lumps (label_part n)
+unfolding part_name
+label_named lumps n is = is
+
+put_spelled : (bytes : ℕ → List ℕ) (lumps : List Lump) (parts : List TrimPart) → AllByRecursion (IsNamedPart lumps) parts → AllByRecursion IsSpelled (map (part_lump bytes lumps) parts)
+unfolding part_lump
+put_spelled bytes lumps [] all = tt
+put_spelled bytes lumps (p ∷ parts) all = (record { size = all.0.size; name = all.0.same }, put_spelled bytes lumps parts all.1)
+
+-- The lumps of the trimmed file are spelled as a directory spells them.
+pub trimmed-spelled : (bytes : ℕ → List ℕ) (contents : List (List ℕ)) (lumps : List Lump) (art : SceneArt) (name : List ℕ) → directory contents ≡ Ok lumps
+    → AllByRecursion IsSpelled (map (part_lump bytes lumps) (trim_parts lumps art name))
+trimmed-spelled bytes contents lumps art name e =
+    put_spelled bytes lumps (trim_parts lumps art name)
+    (parts-all lumps (IsNamedPart lumps) (λ n lt. copy_named lumps n (directory-named contents lumps e n lt)) art name
+    (mark_start lumps) (mark_end lumps) (sprite_start lumps) (sprite_end lumps) (λ n lt. label_named lumps n (directory-named contents lumps e n lt)))

@@ -1,0 +1,71 @@
+-- Lists of lumps by their numbers, and what marks of numbers list.
+use Rattle.std.proofs.Common.{◌≡◌, ℕ, zero, suc, ◌<◌, Bool, true, Decides, List, [], ◌∷◌, ◌++◌, length, get_or, filter, refl, ap, sym, subst, ◌∙◌, arith}
+use Rattle.std.specs.Prelude.{◌==◌, ◌||◌, ◌↔◌, All, Contains}
+use Rattle.std.specs.List.{AllByRecursion, list_any, range_with_len}
+use Rattle.std.proofs.lemmas.Bool.Decides.{nat_tests, same_from_decides}
+use Rattle.std.proofs.lemmas.List.Folds.{Any-from_list_any, list_any_at, list_any-append}
+use Rattle.lump_rules.specs.declared.wad.Lump.{Lump}
+use Rattle.lump_rules.specs.declared.wad.LumpNo.{LumpNo}
+use Rattle.scene_rules.specs.declared.SectorFlats.{SectorFlats}
+use Rattle.scene_rules.specs.Sizes.{has_flat}
+use Rattle.texture_build.specs.Views.{is_marked}
+use Rattle.texture_build.proofs.MarkLemmas.{filter_same}
+use Rattle.sound_scene.specs.Views.{lump_numbers}
+use Rattle.trim_rules.specs.Parts.{flat_lumps, picture_lumps}
+
+-- a test of lumps by their numbers
+pub any-number : (p : ℕ → Bool) (lumps : List LumpNo) → list_any (λ (lump : LumpNo). p lump.0) lumps ≡ list_any p (lump_numbers lumps)
+any-number p [] = refl
+any-number p (lump ∷ lumps) = ap (λ (b : Bool). p lump.0 || b) (any-number p lumps)
+
+-- what holds of all numbers holds of all lumps
+lumps_below : (count : ℕ) (lumps : List LumpNo) → AllByRecursion (λ n. n < count) (lump_numbers lumps) → (i : ℕ) (d : LumpNo) → i < length lumps → (get_or lumps i d).0 < count
+lumps_below count [] all i d l = absurd (omega (arith, l))
+lumps_below count (lump ∷ rest) all zero d l = all.0
+lumps_below count (lump ∷ rest) all (suc i) d l = lumps_below count rest all.1 i d (omega (arith, l))
+
+pub all-numbers : (count : ℕ) (lumps : List LumpNo) (ns : List ℕ) → lump_numbers lumps ≡ ns → AllByRecursion (λ n. n < count) ns → All (λ (lump : LumpNo). lump.0 < count) lumps
+all-numbers count lumps ns e all = lumps_below count lumps (subst (AllByRecursion (λ n. n < count)) (sym e) all)
+
+-- the test for a number, in lists with the same members
+equal_number : (n k : ℕ) → (n == k) ≡ true → n ≡ k
+equal_number n k e = grind (arith, nat_tests)
+
+pub itself : (n k : ℕ) → n ≡ k → (n == k) ≡ true
+itself n k e = grind (arith, nat_tests)
+
+any_member : (xs : List ℕ) (k : ℕ) → Decides (list_any (λ n. n == k) xs) (Contains xs k)
+any_member xs k = (found, passes) where
+  found : list_any (λ n. n == k) xs ≡ true → Contains xs k
+  found e =
+      let any = Any-from_list_any (λ (n : ℕ). n == k) xs e in
+      let same : any.1 ≡ k = equal_number any.1 k any.4 in
+      (any.0, any.2, subst (λ (n : ℕ). get_or xs any.0 n ≡ n) same any.3)
+
+  passes : Contains xs k → list_any (λ n. n == k) xs ≡ true
+  passes there = list_any_at (λ (n : ℕ). n == k) xs there.0 k there.1 (itself (get_or xs there.0 k) k there.2)
+
+pub members-same : (xs ys : List ℕ) (k : ℕ) → ((n : ℕ) → Contains xs n ↔ Contains ys n) → list_any (λ n. n == k) xs ≡ list_any (λ n. n == k) ys
+members-same xs ys k same =
+    let there = any_member xs k in
+    same_from_decides (list_any (λ n. n == k) xs) (list_any (λ n. n == k) ys) (λ e. (same k).0 (there.0 e), λ c. there.1 ((same k).1 c)) (any_member ys k)
+
+-- the marked lumps are the flats of sectors
+pub flats-marked : (lumps : List Lump) (flats : List SectorFlats) (marks : List Bool) → length marks ≡ length lumps →
+    ((k : ℕ) → k < length lumps → is_marked marks k ≡ list_any (has_flat k) flats) → filter (is_marked marks) (range_with_len 0 (length marks)) ≡ flat_lumps lumps flats
+unfolding flat_lumps
+flats-marked lumps flats marks e same =
+    ap (λ (m : ℕ). filter (is_marked marks) (range_with_len 0 m)) e
+    ∙ filter_same (is_marked marks) (λ n. list_any (has_flat n) flats) 0 (length lumps) (λ k l. same k (omega (arith, l)))
+
+-- the marked lumps are the pictures
+pub pictures-marked : (lumps : List Lump) (pictures : List ℕ) (marks : List Bool) → length marks ≡ length lumps →
+    ((k : ℕ) → k < length lumps → is_marked marks k ≡ list_any (λ m. m == k) pictures) → filter (is_marked marks) (range_with_len 0 (length marks)) ≡ picture_lumps lumps pictures
+unfolding picture_lumps
+pictures-marked lumps pictures marks e same =
+    ap (λ (m : ℕ). filter (is_marked marks) (range_with_len 0 m)) e
+    ∙ filter_same (is_marked marks) (λ n. list_any (λ m. m == n) pictures) 0 (length lumps) (λ k l. same k (omega (arith, l)))
+
+-- the pictures of two lists
+pub either-picture : (xs ys : List ℕ) (k : ℕ) → (list_any (λ m. m == k) xs || list_any (λ m. m == k) ys) ≡ list_any (λ m. m == k) (xs ++ ys)
+either-picture xs ys k = sym (list_any-append (λ (m : ℕ). m == k) xs ys)

@@ -1,0 +1,182 @@
+-- The parts of a file: that they are those of the definition, are there, and are few.
+use Rattle.std.proofs.Common.{◌≡◌, ℕ, zero, suc, ◌+◌, ◌^◌, ◌<◌, ◌≤◌, Bool, List, [], ◌∷◌, ◌++◌, length, get_or, map, filter, Option, Some, None, not, refl, ap, sym, subst, ◌∙◌, arith, append_assoc}
+use Rattle.std.specs.Prelude.{◌==◌, All}
+use Rattle.std.specs.List.{AllByRecursion, list_any, range_with_len}
+use Rattle.std.proofs.lemmas.List.{length-append, length-map}
+use Rattle.std.proofs.lemmas.List.FromFn.{length-range_with_len, map-range_with_len_more}
+use Rattle.std.proofs.lemmas.List.Sums.{count_by-le-length, length-filter}
+use Rattle.lump_rules.specs.Names.{filled, name_of}
+use Rattle.lump_rules.specs.declared.names.TheConstants.{F_START, F_END, MAP_LUMPS, S_START, S_END}
+use Rattle.lump_rules.specs.declared.wad.Lump.{Lump}
+use Rattle.lump_rules.specs.Lookups.{has_name, last_of, map_of}
+use Rattle.art_rules.specs.declared.TheConstants.{PNAMES, TEXTURE1, TEXTURE2}
+use Rattle.art_rules.specs.Wanted.{PreparedTexture, is_patch_of_any, patch_lumps}
+use Rattle.scene_rules.specs.declared.SectorFlats.{SectorFlats}
+use Rattle.scene_rules.specs.declared.TheConstants.{COLORMAP, PLAYPAL}
+use Rattle.scene_rules.specs.Sizes.{SceneArt, has_flat}
+use Rattle.trim_rules.specs.declared.part.TrimPart.{TrimPart}
+use Rattle.trim_rules.specs.declared.part.TrimPart.TheVariants.{Mark, Label, Copy}
+use Rattle.trim_rules.specs.Parts.{called_lumps, copy_part, fixed_lumps, flat_lumps, group_parts, last_list, listed_last, map_parts, picture_lumps, trim_parts}
+use Rattle.trim_rules.proofs.ThereLemmas.{parts-there}
+use Rattle.trim_rules.proofs.TrimmedLemmas.{IsThere}
+use Rattle.wad_trim.specs.Writes.{IsPartThere}
+
+-- the parts of a file are there
+parts_below : (lumps : List Lump) (parts : List TrimPart) → AllByRecursion (IsThere lumps) parts → (i : ℕ) (d : TrimPart) → i < length parts → IsPartThere (length lumps) (get_or parts i d)
+parts_below lumps [] all i d l = absurd (omega (arith, l))
+parts_below lumps (part ∷ rest) all zero d l = part_below part all.0 where
+  part_below : (p : TrimPart) → IsThere lumps p → IsPartThere (length lumps) p
+  part_below (Mark name) there = tt
+  part_below (Label lump) there = there
+  part_below (Copy lump) there = there
+parts_below lumps (part ∷ rest) all (suc i) d l = parts_below lumps rest all.1 i d (omega (arith, l))
+
+pub all-there : (lumps : List Lump) (art : SceneArt) (name : List ℕ) (parts : List TrimPart) → parts ≡ trim_parts lumps art name → All (IsPartThere (length lumps)) parts
+all-there lumps art name parts e = parts_below lumps parts (subst (AllByRecursion (IsThere lumps)) (sym e) (parts-there lumps art name))
+
+-- names of marks that are spelled as a directory spells them
+spelled_f_start : name_of F_START ≡ F_START
+unfolding filled
+spelled_f_start = refl
+
+spelled_f_end : name_of F_END ≡ F_END
+unfolding filled
+spelled_f_end = refl
+
+spelled_s_start : name_of S_START ≡ S_START
+unfolding filled
+spelled_s_start = refl
+
+spelled_s_end : name_of S_END ≡ S_END
+unfolding filled
+spelled_s_end = refl
+
+-- a lump more of those behind a label
+pub behind-more : (old now new : List TrimPart) (label i : ℕ) (part : TrimPart) → part ≡ copy_part (label + 1 + i) → now ≡ old ++ map copy_part (range_with_len (suc label) i) → new ≡ now ++ part ∷ [] →
+    new ≡ old ++ map copy_part (range_with_len (suc label) (i + 1))
+behind-more old now new label i part is before push =
+    let at : suc label + i ≡ label + 1 + i = omega arith in
+    let copies = map copy_part (range_with_len (suc label) i) in
+    push
+    ∙ ap (λ (v : List TrimPart). v ++ part ∷ []) before
+    ∙ append_assoc old copies (part ∷ [])
+    ∙ ap (λ (p : TrimPart). old ++ (copies ++ p ∷ [])) is
+    ∙ ap (λ (v : List TrimPart). old ++ v) (sym (map-range_with_len_more copy_part (suc label) i (label + 1 + i) at))
+
+regroup_parts : (a b c d : List TrimPart) → ((a ++ b) ++ c) ++ d ≡ a ++ (b ++ (c ++ d))
+regroup_parts a b c d = simp append_assoc
+
+-- flats, pictures, the map and what is called, one after the other
+pub parts-are : (lumps : List Lump) (art : SceneArt) (name : List ℕ) (flats pictures called more : List ℕ) (a b c d e : List TrimPart) →
+    flats ≡ flat_lumps lumps art.flats → pictures ≡ picture_lumps lumps art.pictures → called ≡ called_lumps lumps art.prepared → more ≡ called_lumps lumps art.prepared →
+    a ≡ [] → b ≡ a ++ group_parts (name_of F_START) flats (name_of F_END) → c ≡ b ++ group_parts (name_of S_START) pictures (name_of S_END) →
+    d ≡ c ++ map_parts (list_any (has_name lumps name) called) (map_of lumps name) → e ≡ d ++ map copy_part (filter (λ n. not (has_name lumps name n)) more) →
+    e ≡ trim_parts lumps art name
+unfolding trim_parts
+parts-are lumps art name flats pictures called more a b c d e f g h i none p q r s =
+    let called' = called_lumps lumps art.prepared in
+    let one = group_parts F_START (flat_lumps lumps art.flats) F_END in
+    let two = group_parts S_START (picture_lumps lumps art.pictures) S_END in
+    let three = map_parts (list_any (has_name lumps name) called') (map_of lumps name) in
+    let four = map copy_part (filter (λ n. not (has_name lumps name n)) called') in
+    let p' = p ∙ ap (λ (n : List ℕ). a ++ group_parts n flats (name_of F_END)) spelled_f_start ∙ ap (λ (n : List ℕ). a ++ group_parts F_START flats n) spelled_f_end ∙ ap (λ (n : List ℕ). a ++ group_parts F_START n F_END) f in
+    let q' = q ∙ ap (λ (n : List ℕ). b ++ group_parts n pictures (name_of S_END)) spelled_s_start ∙ ap (λ (n : List ℕ). b ++ group_parts S_START pictures n) spelled_s_end ∙ ap (λ (n : List ℕ). b ++ group_parts S_START n S_END) g in
+    let r' = r ∙ ap (λ (n : List ℕ). c ++ map_parts (list_any (has_name lumps name) n) (map_of lumps name)) h in
+    s ∙ ap (λ (n : List ℕ). d ++ map copy_part (filter (λ k. not (has_name lumps name k)) n)) i
+    ∙ ap (λ (v : List TrimPart). v ++ four) (r' ∙ ap (λ (v : List TrimPart). v ++ three) (q' ∙ ap (λ (v : List TrimPart). v ++ two) (p' ∙ ap (λ (v : List TrimPart). v ++ one) none)))
+    ∙ regroup_parts one two three four
+
+-- no more lumps pass than there are
+few_kept : (p : ℕ → Bool) (n : ℕ) → length (filter p (range_with_len 0 n)) ≤ n
+few_kept p n = omega (arith, length-filter p (range_with_len 0 n), count_by-le-length p (range_with_len 0 n), length-range_with_len 0 n)
+
+few_filtered : (p : ℕ → Bool) (ns : List ℕ) → length (filter p ns) ≤ length ns
+few_filtered p ns = omega (arith, length-filter p ns, count_by-le-length p ns)
+
+few_flats : (lumps : List Lump) (flats : List SectorFlats) → length (flat_lumps lumps flats) ≤ length lumps
+unfolding flat_lumps
+few_flats lumps flats = few_kept (λ n. list_any (has_flat n) flats) (length lumps)
+
+few_pictures : (lumps : List Lump) (pictures : List ℕ) → length (picture_lumps lumps pictures) ≤ length lumps
+unfolding picture_lumps
+few_pictures lumps pictures = few_kept (λ n. list_any (λ m. m == n) pictures) (length lumps)
+
+few_last : (o : Option ℕ) → length (last_list o) ≤ 1
+few_last None = omega arith
+few_last (Some n) = omega arith
+
+few_listed : (lumps : List Lump) (name : List ℕ) → length (listed_last lumps name) ≤ 1
+unfolding listed_last
+few_listed lumps name = few_last (last_of lumps name)
+
+few_fixed : (lumps : List Lump) → length (fixed_lumps lumps) ≤ 5
+unfolding fixed_lumps
+few_fixed lumps =
+    let a = listed_last lumps PLAYPAL in
+    let b = listed_last lumps COLORMAP in
+    let c = listed_last lumps PNAMES in
+    let d = listed_last lumps TEXTURE1 in
+    let e = listed_last lumps TEXTURE2 in
+    omega (
+      arith,
+      length-append a (b ++ (c ++ (d ++ e))),
+      length-append b (c ++ (d ++ e)),
+      length-append c (d ++ e),
+      length-append d e,
+      few_listed lumps PLAYPAL,
+      few_listed lumps COLORMAP,
+      few_listed lumps PNAMES,
+      few_listed lumps TEXTURE1,
+      few_listed lumps TEXTURE2,
+    )
+
+few_patches : (prepared : List (Option PreparedTexture)) (n : ℕ) → length (patch_lumps prepared n) ≤ n
+unfolding patch_lumps
+few_patches prepared n = few_kept (is_patch_of_any prepared) n
+
+few_called : (lumps : List Lump) (prepared : List (Option PreparedTexture)) → length (called_lumps lumps prepared) ≤ 5 + length lumps
+unfolding called_lumps
+few_called lumps prepared =
+    let p : ℕ → Bool = λ n. not (list_any (λ m. m == n) (fixed_lumps lumps)) in
+    let rest = filter p (patch_lumps prepared (length lumps)) in
+    omega (arith, length-append (fixed_lumps lumps) rest, few_fixed lumps, few_filtered p (patch_lumps prepared (length lumps)), few_patches prepared (length lumps))
+
+few_group : (start end : List ℕ) (ns : List ℕ) → length (group_parts start ns end) ≡ length ns + 2
+unfolding group_parts
+few_group start end ns = omega (arith, length-append (map copy_part ns) (Mark end ∷ []), length-map ns copy_part)
+
+few_map : (called : Bool) (o : Option ℕ) → length (map_parts called o) ≤ 9
+unfolding map_parts
+few_map called None = omega arith
+few_map called (Some label) =
+    let eight : length MAP_LUMPS ≡ 8 = refl in
+    omega (arith, length-map (range_with_len (suc label) (length MAP_LUMPS)) copy_part, length-range_with_len (suc label) (length MAP_LUMPS))
+
+-- how many parts there are at most
+parts-few : (lumps : List Lump) (art : SceneArt) (name : List ℕ) → length lumps < 2 ^ 16 → length (trim_parts lumps art name) ≤ 2 ^ 18
+unfolding trim_parts
+parts-few lumps art name l =
+    let called = called_lumps lumps art.prepared in
+    let p : ℕ → Bool = λ n. not (has_name lumps name n) in
+    let one = group_parts F_START (flat_lumps lumps art.flats) F_END in
+    let two = group_parts S_START (picture_lumps lumps art.pictures) S_END in
+    let three = map_parts (list_any (has_name lumps name) called) (map_of lumps name) in
+    let four = map copy_part (filter p called) in
+    omega (
+      arith,
+      l,
+      length-append one (two ++ (three ++ four)),
+      length-append two (three ++ four),
+      length-append three four,
+      few_group F_START F_END (flat_lumps lumps art.flats),
+      few_flats lumps art.flats,
+      few_group S_START S_END (picture_lumps lumps art.pictures),
+      few_pictures lumps art.pictures,
+      few_map (list_any (has_name lumps name) called) (map_of lumps name),
+      length-map (filter p called) copy_part,
+      few_filtered p called,
+      few_called lumps art.prepared,
+    )
+
+pub listed-few : (lumps : List Lump) (art : SceneArt) (name : List ℕ) (parts : List TrimPart) → parts ≡ trim_parts lumps art name → length lumps < 2 ^ 16 → length parts ≤ 2 ^ 18
+listed-few lumps art name parts e l = subst (λ (some : List TrimPart). length some ≤ 2 ^ 18) (sym e) (parts-few lumps art name l)

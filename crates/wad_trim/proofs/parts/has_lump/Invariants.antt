@@ -1,0 +1,9 @@
+use Rattle.std.proofs.Common.{◌≡◌, false, take}
+use Rattle.std.specs.Prelude.{◌==◌}
+use Rattle.std.specs.List.{list_any}
+use Rattle.lump_rules.specs.declared.wad.LumpNo.{LumpNo}
+use Rattle.wad_trim.proofs.parts.has_lump.Given as goal
+
+-- none so far is the lump
+abbrev pub invariant-loop-other : goal.invariant-loop-other
+invariant-loop-other l = list_any (λ (other : LumpNo). other.0 == l.lump.0) (take l.other-index l.lumps) ≡ false

@@ -1,0 +1,21 @@
+use Rattle.std.proofs.Common.{sym, ap, arith, ◌∙◌}
+use Rattle.std.specs.List.{list_any}
+use Rattle.std.proofs.lemmas.List.{take_all}
+use Rattle.std.proofs.lemmas.List.Folds.{list_any_at}
+use Rattle.lump_rules.specs.declared.wad.LumpNo.{LumpNo}
+use Rattle.lump_rules.specs.Lookups.{has_name}
+use Rattle.wad_trim.proofs.ListLemmas.{any-number}
+use Rattle.wad_trim.proofs.parts.has_named.Goals as goal
+
+pub returns-then-lump_has_name : goal.returns-then-lump_has_name
+returns-then-lump_has_name c =
+    let passes = has_name c.args.dir.now.lumps c.args.name.now in
+    sym (sym (any-number passes c.args.lumps.now)
+    ∙ list_any_at (λ (lump : LumpNo). passes lump.0) c.args.lumps.now c.loop-lump.lump-index (record { 0 = 0 }) (omega arith) (sym c.lump_has_name.ensures ∙ c.if-lump_has_name.true))
+
+pub returns : goal.returns
+returns c =
+    let passes = has_name c.args.dir.now.lumps c.args.name.now in
+    sym (sym (any-number passes c.args.lumps.now)
+    ∙ ap (list_any (λ (lump : LumpNo). passes lump.0)) (sym (take_all c.loop-lump.lump-index c.args.lumps.now (omega arith)))
+    ∙ c.loop-lump.invariant)

@@ -1,0 +1,9 @@
+use Rattle.std.proofs.Common.{◌≡◌, false, take}
+use Rattle.std.specs.List.{list_any}
+use Rattle.lump_rules.specs.declared.wad.LumpNo.{LumpNo}
+use Rattle.lump_rules.specs.Lookups.{has_name}
+use Rattle.wad_trim.proofs.parts.has_named.Given as goal
+
+-- none so far has the name
+abbrev pub invariant-loop-lump : goal.invariant-loop-lump
+invariant-loop-lump l = list_any (λ (lump : LumpNo). has_name l.dir.lumps l.name lump.0) (take l.lump-index l.lumps) ≡ false

@@ -1,0 +1,12 @@
+use Rattle.std.proofs.Common.{◌≡◌, length, take}
+use Rattle.std.specs.List.{list_any}
+use Rattle.scene_rules.specs.Sizes.{has_flat}
+use Rattle.sound_scene.specs.Views.{AddsMarks}
+use Rattle.wad_trim.proofs.parts.mark_flats.Given as goal
+
+-- the flats of the sectors so far
+abbrev pub invariant-loop-both : goal.invariant-loop-both
+invariant-loop-both l = record {
+  count : length l.marks ≡ length l.initial.marks;
+  marked : AddsMarks l.initial.marks l.marks (λ number. list_any (has_flat number) (take l.both-index l.flats));
+}

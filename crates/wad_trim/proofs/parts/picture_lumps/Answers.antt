@@ -1,0 +1,22 @@
+use Rattle.std.proofs.Common.{ap, arith, ◌++◌, ◌∙◌}
+use Rattle.std.specs.Prelude.{◌==◌, ◌||◌}
+use Rattle.std.specs.List.{list_any}
+use Rattle.std.specs.Option.{option_copied}
+use Rattle.std.proofs.lemmas.Result.{IfOk-weaker}
+use Rattle.art_rules.specs.Books.{book_lumps}
+use Rattle.wad_trim.specs.Plans.{weapon_lumps}
+use Rattle.wad_trim.proofs.ListLemmas.{either-picture, pictures-marked}
+use Rattle.wad_trim.proofs.parts.picture_lumps.Goals as goal
+
+pub returns : goal.returns
+returns c =
+    let lumps = c.args.dir.now.lumps in
+    let own = book_lumps c.args.sprites.now in
+    let layers = weapon_lumps (option_copied c.args.weapons) in
+    let count = c.in_ok-marks.ensures.count ∙ c.count.ensures.count in
+    IfOk-weaker c.lumps.result _ _
+    (λ found e. e ∙ pictures-marked lumps (own ++ layers) c.mark_layers.new.marks (c.mark_layers.ensures.count ∙ c.mark_pictures.ensures.count ∙ count)
+    (λ k l. c.mark_layers.ensures.marked k (omega (arith, l, c.mark_pictures.ensures.count, count))
+    ∙ ap (λ b. b || list_any (λ m. m == k) layers) (c.mark_pictures.ensures.marked k (omega (arith, l, count)) ∙ ap (λ b. b || list_any (λ m. m == k) own) (c.in_ok-marks.ensures.none k))
+    ∙ either-picture own layers k))
+    c.lumps.ensures

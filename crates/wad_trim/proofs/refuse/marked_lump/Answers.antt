@@ -1,0 +1,21 @@
+use Rattle.std.proofs.Common.{Option, ℕ, ◌∷◌, [], take, ap, sym, ◌∙◌, arith}
+use Rattle.std.specs.Prelude.{option_map}
+use Rattle.lump_rules.specs.declared.wad.LumpNo.{LumpNo}
+use Rattle.trim_rules.specs.declared.part.TrimPart.{TrimPart}
+use Rattle.trim_rules.specs.Parts.{marked_lump}
+use Rattle.wad_trim.specs.Lessers.{lesser}
+use Rattle.wad_trim.proofs.MarkedLemmas.{marked-more, marked-none}
+use Rattle.wad_trim.proofs.refuse.marked_lump.Goals as goal
+
+pub loop-part-init : goal.loop-part-init
+loop-part-init c = sym (marked-none c.args.dir.now.lumps)
+
+pub loop-part-preserved : goal.loop-part-preserved
+loop-part-preserved c =
+    let lumps = c.args.dir.now.lumps in
+    let parts = c.args.parts.now in
+    let i = c.loop-part.part-index in
+    c.lesser-least.ensures
+    ∙ ap (λ (o : Option ℕ). lesser o (option_map (λ (l : LumpNo). l.0) c.marked_part.result)) c.loop-part.invariant
+    ∙ ap (lesser (marked_lump lumps (take i parts))) (c.marked_part.ensures ∙ ap (λ (p : TrimPart). marked_lump lumps (p ∷ [])) c.part-item.is)
+    ∙ sym (marked-more lumps parts i c.part-item.result (omega arith))

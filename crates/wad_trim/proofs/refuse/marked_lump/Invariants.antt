@@ -1,0 +1,9 @@
+use Rattle.std.proofs.Common.{◌≡◌, take}
+use Rattle.std.specs.Prelude.{option_map}
+use Rattle.lump_rules.specs.declared.wad.LumpNo.{LumpNo}
+use Rattle.trim_rules.specs.Parts.{marked_lump}
+use Rattle.wad_trim.proofs.refuse.marked_lump.Given as goal
+
+-- the least of the parts so far
+abbrev pub invariant-loop-part : goal.invariant-loop-part
+invariant-loop-part l = option_map (λ (lump : LumpNo). lump.0) l.least ≡ marked_lump l.dir.lumps (take l.part-index l.parts)

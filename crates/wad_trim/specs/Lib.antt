@@ -1,0 +1,4 @@
+pub mod Faults
+pub mod Lessers
+pub mod Plans
+pub mod Writes
