@@ -1,5 +1,5 @@
 -- What a level stands on, in a directory that gives the same bytes for the same names.
-use Rattle.std.proofs.Common.{◌≡◌, ℕ, List, Option, Some, None, Result, Ok, Err, take, refl, ap, sym, ◌∙◌}
+use Rattle.std.proofs.Common.{◌≡◌, ℕ, List, Result, Ok, Err, take, refl, ap, sym, ◌∙◌}
 use Rattle.outside.specs.Faults.{and_then, from_below}
 use Rattle.lump_rules.specs.declared.wad.Lump.{Lump}
 use Rattle.lump_rules.specs.Contents.{named_bytes}
@@ -10,12 +10,11 @@ use Rattle.art_rules.specs.declared.refusal.TexRefusal.{TexRefusal}
 use Rattle.art_rules.specs.Textures.{TextureLists}
 use Rattle.scene_rules.specs.declared.TheConstants.{PALETTE_SIZE}
 use Rattle.scene_rules.specs.declared.refusal.ArtRefusal.{ArtRefusal}
-use Rattle.scene_rules.specs.declared.refusal.AuditRefusal.{AuditRefusal}
 use Rattle.scene_rules.specs.declared.refusal.AuditRefusal.TheVariants.{Art, Map, Texture}
 use Rattle.scene_rules.specs.Scenes.{LevelBase, base_in, base_over, colormap_of, label_of, level_in, lists_in, map_bytes, playpal_of}
 
--- Two directories with the bytes of their lumps, which give the same for what a level stands on;
--- `c`, `p` and `l` are COLORMAP, PLAYPAL and the label in the second.
+-- Two directories with the bytes of their lumps, which give the same for what a level stands on; `c`, `p` and `l` are
+-- COLORMAP, PLAYPAL and the label in the second.
 pub record ServesBase (bytes bytes' : ℕ → List ℕ) (lumps lumps' : List Lump) (name : List ℕ) (base : LevelBase) (c p l : ℕ) : Type 0 where
   pub is : base_in bytes lumps name ≡ Ok base
   pub colormap : colormap_of lumps' ≡ Ok c

@@ -1,5 +1,5 @@
 -- What is found by its name in the trimmed file has the bytes that it has in the given files.
-use Rattle.std.proofs.Common.{◌≡◌, ℕ, ◌+◌, ◌<◌, Bool, true, false, cond, List, [], ◌∷◌, ◌++◌, map, ◌⊎◌, inl, inr, Option, Some, None, refl, ap, sym, ◌∙◌}
+use Rattle.std.proofs.Common.{◌≡◌, ℕ, Bool, true, false, cond, List, [], ◌∷◌, ◌++◌, map, ◌⊎◌, inl, inr, Option, Some, None, refl, ap, sym, ◌∙◌}
 use Rattle.std.specs.Prelude.{◌==◌, ◌||◌, filter, not}
 use Rattle.std.specs.List.{AllByRecursion, list_any}
 use Rattle.std.specs.Str.{bytes_eq}
@@ -12,7 +12,6 @@ use Rattle.lump_rules.specs.Lookups.{has_name, last_of, lump_at, map_of}
 use Rattle.lump_rules.specs.declared.names.TheConstants.{F_START, F_END, S_START, S_END}
 use Rattle.made_rules.specs.Wads as made
 use Rattle.scene_rules.specs.Sizes.{SceneArt}
-use Rattle.trim_rules.specs.declared.part.TrimPart.{TrimPart}
 use Rattle.trim_rules.specs.Parts.{called_lumps, copy_part, flat_lumps, group_parts, map_parts, part_name, picture_lumps, trim_parts}
 use Rattle.trim_rules.specs.Files.{part_bytes, part_lump}
 use Rattle.trim_rules.proofs.NameLemmas.{last_bytes, last_bytes-append}

@@ -3,8 +3,7 @@ use Rattle.std.proofs.Common.{◌≡◌, ℕ, zero, suc, ◌+◌, ◌<◌, List,
 use Rattle.std.specs.Prelude.{slice_index_or}
 use Rattle.std.proofs.lemmas.List.{length-append}
 use Rattle.std.proofs.Math.Seq.{take-append_seam, drop-append_seam}
-use Rattle.lump_rules.specs.declared.wad.Lump.{Lump}
-use Rattle.lump_rules.specs.Contents.{bytes_of, lump_bytes}
+use Rattle.lump_rules.specs.Contents.{bytes_of}
 use Rattle.lump_rules.specs.Lookups.{lump_at}
 use Rattle.made_rules.specs.Wads as made
 use Rattle.made_rules.specs.Wads.{contents}

@@ -1,5 +1,4 @@
--- What the names of a level mean by the trimmed file: the same sides and sky, and the flats under
--- other numbers.
+-- What the names of a level mean by the trimmed file: the same sides and sky, and the flats under other numbers.
 use Rattle.std.proofs.Common.{◌≡◌, ℕ, ◌≤◌, List, map, length, Option, Result, Ok, Err, refl, ap, sym, ◌∙◌}
 use Rattle.std.specs.List.{AllByRecursion}
 use Rattle.outside.specs.Faults.{and_then}

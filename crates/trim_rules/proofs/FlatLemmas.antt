@@ -1,11 +1,9 @@
--- The flats of a directory whose first lumps are flats between marks, each the last flat of its
--- name in the given files.
-use Rattle.std.proofs.Common.{◌≡◌, ℕ, zero, suc, ◌+◌, ◌<◌, ◌≤◌, Bool, true, false, cond, List, length, get_or, Option, Some, None, refl, ap, sym, ◌∙◌, arith, inl, inr}
+-- The flats of a directory whose first lumps are flats between marks, each the last flat of its name in the given files.
+use Rattle.std.proofs.Common.{◌≡◌, ℕ, zero, suc, ◌+◌, ◌<◌, ◌≤◌, Bool, true, false, List, length, get_or, Some, refl, ap, sym, ◌∙◌, arith, inl, inr}
 use Rattle.std.specs.Prelude.{◌&&◌}
 use Rattle.std.specs.Str.{bytes_eq}
 use Rattle.std.proofs.lemmas.Bool.{cases_lt}
 use Rattle.std.proofs.lemmas.Slice.Eq.{bytes_eq-Decides}
-use Rattle.word_rules.specs.Least.{greatest}
 use Rattle.word_rules.proofs.LeastLemmas.{greatest-some}
 use Rattle.lump_rules.specs.declared.wad.Lump.{Lump}
 use Rattle.lump_rules.specs.declared.names.Group.TheVariants.{Flats}

@@ -1,5 +1,5 @@
--- The sprite lumps of the trimmed file are the pictures of the level: each stands for its source,
--- and all of them were sprite lumps.
+-- The sprite lumps of the trimmed file are the pictures of the level: each stands for its source, and all of them were
+-- sprite lumps.
 use Rattle.std.proofs.Common.{◌≡◌, ℕ, suc, ◌+◌, ◌<◌, Bool, true, false, cond, List, [], ◌∷◌, map, length, get_or, Option, Some, None, Result, Ok, Err, refl, ap, sym, subst, ◌∙◌, arith, append_assoc}
 use Rattle.std.specs.Prelude.{◌==◌, ◌||◌, filter, ⊤}
 use Rattle.std.specs.Option.{ok_or}

@@ -1,5 +1,5 @@
 -- A new file of lumps is a WAD whose directory lists them.
-use Rattle.std.proofs.Common.{◌≡◌, ℕ, zero, suc, ◌+◌, ◌*◌, ◌^◌, ◌<◌, ◌≤◌, Bool, true, false, cond, nat_lt, List, [], ◌∷◌, ◌++◌, length, take, drop, get_or, Option, Some, None, Ok, refl, ap, sym, ◌∙◌, arith, append_assoc}
+use Rattle.std.proofs.Common.{◌≡◌, ℕ, zero, suc, ◌+◌, ◌*◌, ◌^◌, ◌<◌, ◌≤◌, Bool, true, false, cond, nat_lt, List, [], ◌∷◌, ◌++◌, length, take, drop, get_or, Some, None, Ok, refl, ap, sym, ◌∙◌, arith, append_assoc}
 use Rattle.std.specs.Prelude.{◌&&◌, ◌==◌, codes, not}
 use Rattle.std.specs.Option.{option_map}
 use Rattle.std.specs.Int.{from_le_bytes, to_le_bytes, w32}
@@ -10,7 +10,6 @@ use Rattle.std.proofs.lemmas.List.Sums.{position_or_len_is}
 use Rattle.std.proofs.lemmas.Nat.{from_le_bytes-to_le_bytes_4}
 use Rattle.std.proofs.Math.Seq.{take-append_seam, drop-append-add, drop-append_seam, take-length}
 use Rattle.byteorder.specs.Endian.{little_number}
-use Rattle.word_rules.specs.Listed.{listed}
 use Rattle.word_rules.proofs.ListedLemmas.{listed-all}
 use Rattle.lump_rules.specs.declared.wad.Lump.{Lump}
 use Rattle.lump_rules.specs.Lookups.{no_lump}
@@ -247,8 +246,8 @@ header-unrefused lumps spelled few fits =
     let many : nat_lt MAX_LUMPS (0 + entry_count (header (wad_file lumps))) ≡ false = not_less _ _ (omega arith) in
     rw (whole, wad, inside, many) refl
 
--- The directory of a new file lists its lumps, where their names are spelled as a directory spells
--- them, they are not too many, and the directory begins below 2^32.
+-- The directory of a new file lists its lumps, where their names are spelled as a directory spells them, they are
+-- not too many, and the directory begins below 2^32.
 pub directory-of_file : (lumps : List made.Lump) → AllByRecursion IsSpelled lumps → length lumps ≤ MAX_LUMPS → directory_at lumps < 2 ^ 32
     → directory (wad_file lumps ∷ []) ≡ Ok (stored_lumps lumps)
 unfolding refusal_from lumps_from stored_lumps

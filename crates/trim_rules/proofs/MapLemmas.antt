@@ -1,5 +1,4 @@
--- The map of the trimmed file is the label of its third part, and what is called by the map's name
--- is that label.
+-- The map of the trimmed file is the label of its third part, and what is called by the map's name is that label.
 use Rattle.std.proofs.Common.{◌≡◌, ◌⊎◌, inl, inr, ℕ, zero, suc, ◌+◌, ◌<◌, Bool, true, false, List, [], ◌∷◌, ◌++◌, map, length, Option, Some, None, refl, ap, sym, ◌∙◌, arith, append_assoc}
 use Rattle.std.specs.Prelude.{◌==◌, ◌&&◌, filter, not}
 use Rattle.std.specs.Option.{option_and_then}
@@ -240,8 +239,7 @@ label_part-bytes bytes label = refl
 label-named : (lumps : List Lump) (name : List ℕ) (called : Bool) (label : ℕ) → map_of lumps name ≡ Some label → part_name lumps (label_or_copy called label) ≡ name
 label-named lumps name called label is = label_part-name lumps called label ∙ last_of-name lumps name label (label-is lumps name label is).0
 
--- The map's name called as a lump gives the label with what it has in the file, which are its bytes
--- where it is called.
+-- The map's name called as a lump gives the label with what it has in the file, which are its bytes where it is called.
 pub none_called : (bytes : ℕ → List ℕ) (lumps : List Lump) (name : List ℕ) (ps : List TrimPart) → AllByRecursion (IsOther lumps name) ps → last_bytes (map (part_lump bytes lumps) ps) name ≡ None
 unfolding last_bytes part_lump
 none_called bytes lumps name [] all = refl

@@ -1,13 +1,10 @@
 -- Where a directory has one start and one end of a group, the lumps between them are the group.
-use Rattle.std.proofs.Common.{◌≡◌, ℕ, zero, suc, ◌+◌, ◌-◌, ◌++◌, zero-add, ◌<◌, ◌≤◌, Bool, true, false, cond, nat_lt, List, [], ◌∷◌, length, Option, Some, None, refl, ap, sym, ◌∙◌, arith, inl, inr, ltb-true, ltb-false, lt-ltb}
+use Rattle.std.proofs.Common.{◌≡◌, ℕ, zero, suc, ◌+◌, ◌-◌, ◌++◌, zero-add, ◌<◌, ◌≤◌, Bool, true, false, List, [], ◌∷◌, length, Some, None, refl, ap, ◌∙◌, arith, inl, inr}
 use Rattle.std.specs.Prelude.{◌&&◌, ◌||◌, ◌==◌, not, filter}
 use Rattle.std.specs.List.{range_with_len}
 use Rattle.std.proofs.lemmas.List.{append-nil}
 use Rattle.std.proofs.lemmas.List.Elements.{filter-append}
-use Rattle.std.specs.Bool.{Decides}
 use Rattle.std.proofs.lemmas.Bool.{cases_lt}
-use Rattle.std.proofs.lemmas.Bool.Decides.{Decides-eqb, Decides-ltb}
-use Rattle.word_rules.specs.Least.{greatest}
 use Rattle.word_rules.proofs.LeastLemmas.{greatest-none, greatest-some}
 use Rattle.lump_rules.specs.declared.wad.Lump.{Lump}
 use Rattle.lump_rules.specs.declared.names.Group.{Group}

@@ -1,8 +1,6 @@
--- The pictures of a frame by the mentions of fewer lumps: where those that are its pictures are
--- kept, they stay so.
+-- The pictures of a frame by the mentions of fewer lumps: where those that are its pictures are kept, they stay so.
 use Rattle.std.proofs.Common.{◌≡◌, ℕ, suc, Bool, true, false, cond, List, [], ◌∷◌, Option, Some, None, refl, ap, sym, ◌∙◌}
-use Rattle.std.specs.Prelude.{◌==◌, filter, map}
-use Rattle.std.specs.Option.{option_map}
+use Rattle.std.specs.Prelude.{◌==◌, filter}
 use Rattle.word_rules.specs.Least.{or_else}
 use Rattle.art_rules.specs.declared.Mention.{Mention}
 use Rattle.art_rules.specs.Frames.{last_that, is_of_frame, is_of_rotation, picture_by, picture_if, frame_picture}
@@ -46,8 +44,7 @@ last_that-fewer passes keep [] m e k = cc
 last_that-fewer passes keep (x ∷ rest) m e k =
     fewer_some passes keep x m rest (λ f. last_that-fewer passes keep rest m f k) k (keep x) refl (last_that passes rest) (passes x) refl refl e
 
--- the picture of a frame from a rotation, where the last mention of the frame and this picture are
--- kept
+-- the picture of a frame from a rotation, where the last mention of the frame and this picture are kept
 picture_fewer : (keep : Mention → Bool) (all : List Mention) (frame k : ℕ) (last m : Mention)
     → keep m ≡ true → (b : Bool) → (last.rotation == 0) ≡ b
     → cond b (Some last) (last_that (is_of_rotation frame (suc k)) all) ≡ Some m

@@ -63,7 +63,7 @@ place-of [] n any = absurd (cc)
 place-of (m ∷ ns) n any =
     either (m == n) (list_any (λ k. k == n) ns) (IsListed (m ∷ ns) n) (λ e. first_place m ns n ((Decides-eqb m n).0 e)) (λ more. later_place m ns n (place-of ns n more)) any
 
-range-any : (a c n : ℕ) → a ≤ n → n < a + c → list_any (λ m. m == n) (range_with_len a c) ≡ true
+pub range-any : (a c n : ℕ) → a ≤ n → n < a + c → list_any (λ m. m == n) (range_with_len a c) ≡ true
 range-any a zero n le lt = absurd (omega arith)
 range-any a (suc c) n le lt = elim (cases_lt a n) [
   | inl below ↦ or_right (a == n) _ (range-any (a + 1) c n (omega arith) (omega arith))

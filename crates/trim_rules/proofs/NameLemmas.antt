@@ -4,7 +4,6 @@ use Rattle.std.specs.Prelude.{slice_index_or}
 use Rattle.std.specs.Option.{option_map}
 use Rattle.std.specs.Str.{bytes_eq}
 use Rattle.word_rules.specs.Least.{greatest, or_else}
-use Rattle.lump_rules.specs.declared.wad.Lump.{Lump}
 use Rattle.lump_rules.specs.Lookups.{has_name, last_of}
 use Rattle.made_rules.specs.Wads as made
 use Rattle.trim_rules.specs.Files.{stored_from}

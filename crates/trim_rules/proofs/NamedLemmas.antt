@@ -1,5 +1,5 @@
--- By the trimmed directory the names of colours and of the lists of textures have the bytes that
--- they have by the given one, or none where they had none.
+-- By the trimmed directory the names of colours and of the lists of textures have the bytes that they have by the given
+-- one, or none where they had none.
 use Rattle.std.proofs.Common.{◌≡◌, ◌⊎◌, inl, inr, ℕ, ◌<◌, Bool, true, false, cond, List, [], ◌∷◌, ◌++◌, map, length, Option, Some, None, refl, ap, sym, ◌∙◌, arith}
 use Rattle.std.specs.Prelude.{◌==◌, ◌||◌, filter, not}
 use Rattle.std.specs.Option.{option_map}
@@ -42,12 +42,12 @@ or_left : (a b : Bool) → a ≡ true → (a || b) ≡ true
 or_left true b e = refl
 or_left false b e = absurd (cc)
 
-any_left : (q : ℕ → Bool) (xs ys : List ℕ) → list_any q xs ≡ true → list_any q (xs ++ ys) ≡ true
+pub any_left : (q : ℕ → Bool) (xs ys : List ℕ) → list_any q xs ≡ true → list_any q (xs ++ ys) ≡ true
 any_left q [] ys e = absurd (cc)
 any_left q (x ∷ xs) ys e =
     either (q x) (list_any q xs) (list_any q (x ∷ (xs ++ ys)) ≡ true) (λ one. or_left (q x) _ one) (λ more. or_right (q x) _ (any_left q xs ys more)) e
 
-any_right : (q : ℕ → Bool) (xs ys : List ℕ) → list_any q ys ≡ true → list_any q (xs ++ ys) ≡ true
+pub any_right : (q : ℕ → Bool) (xs ys : List ℕ) → list_any q ys ≡ true → list_any q (xs ++ ys) ≡ true
 any_right q [] ys e = e
 any_right q (x ∷ xs) ys e = or_right (q x) _ (any_right q xs ys e)
 

@@ -1,5 +1,4 @@
--- The trimmed file gives the base of the level again: its map, its lists of textures and its
--- palette.
+-- The trimmed file gives the base of the level again: its map, its lists of textures and its palette.
 use Rattle.std.proofs.Common.{◌≡◌, ℕ, zero, suc, ◌+◌, ◌<◌, Bool, true, false, cond, nat_le, List, [], ◌∷◌, ◌++◌, map, length, take, Option, Some, None, Result, Ok, Err, refl, ap, sym, subst, ◌∙◌, arith}
 use Rattle.std.specs.Prelude.{filter, not}
 use Rattle.std.specs.Option.{ok_or, option_and_then, option_map}
@@ -201,7 +200,7 @@ module _ (lumps : List Lump) where
   unfolding playpal_of
   long_playpal c e = ok_some (long_lump lumps PLAYPAL PALETTE_SIZE) Playpal c e
 
-  label_map : (name : List ℕ) (l : ℕ) → label_of lumps name ≡ Ok l → map_of lumps name ≡ Some l
+  pub label_map : (name : List ℕ) (l : ℕ) → label_of lumps name ≡ Ok l → map_of lumps name ≡ Some l
   unfolding label_of
   label_map name l e = some_value (map_of lumps name) NoMap l e
 

@@ -1,5 +1,4 @@
--- The names of lumps of a directory are spelled as a directory spells them, so that they may be put
--- into a new file.
+-- The names of lumps of a directory are spelled as a directory spells them, so that they may be put into a new file.
 use Rattle.std.proofs.Common.{◌≡◌, ℕ, zero, suc, ◌+◌, ◌-◌, ◌<◌, ◌≤◌, Bool, true, false, cond, nat_lt, List, [], ◌∷◌, ◌++◌, map, length, take, drop, replicate, min, Ok, All, refl, ap, sym, subst, ◌∙◌, arith, ltb-false}
 use Rattle.std.specs.Prelude.{◌==◌}
 use Rattle.std.specs.Char.{to_ascii_uppercase}

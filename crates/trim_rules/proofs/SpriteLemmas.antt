@@ -1,6 +1,6 @@
--- The pictures of a frame in a directory that has fewer sprite lumps under other numbers: where
--- those of the frame are among them, they stay its pictures.
-use Rattle.std.proofs.Common.{◌≡◌, ℕ, zero, suc, ◌+◌, ◌<◌, Bool, true, false, cond, List, [], ◌∷◌, ◌++◌, map, Option, Some, None, refl, ap, sym, ◌∙◌}
+-- The pictures of a frame in a directory that has fewer sprite lumps under other numbers: where those of the frame
+-- are among them, they stay its pictures.
+use Rattle.std.proofs.Common.{◌≡◌, ℕ, suc, ◌+◌, Bool, true, false, cond, List, [], ◌∷◌, ◌++◌, map, Option, Some, None, refl, ap, sym, ◌∙◌}
 use Rattle.std.specs.Prelude.{◌==◌, filter, ⊤}
 use Rattle.std.specs.List.{range_with_len}
 use Rattle.std.specs.Option.{option_map}
@@ -13,7 +13,7 @@ use Rattle.lump_rules.specs.declared.names.Group.TheVariants.{Sprites}
 use Rattle.lump_rules.specs.Lookups.{lump_at, members}
 use Rattle.art_rules.specs.declared.Mention.{Mention}
 use Rattle.art_rules.specs.declared.TheConstants.{SPRITE_LETTERS, SECOND_PAIR_AT}
-use Rattle.art_rules.specs.Frames.{frame_picture, is_of_frame, is_of_rotation, is_of_sprite, is_pair, last_that, lump_mentions, mention_at, mentions, name_mentions, picture_by, picture_if}
+use Rattle.art_rules.specs.Frames.{frame_picture, is_of_frame, is_of_rotation, is_of_sprite, last_that, lump_mentions, mention_at, mentions, name_mentions, picture_by, picture_if}
 use Rattle.trim_rules.proofs.MentionLemmas.{frame_picture-fewer}
 
 -- the same mention of the lump that has another number
@@ -182,8 +182,8 @@ some_of : (σ : ℕ → ℕ) (o : Option Mention) (m : Mention) → option_map (
 some_of σ None m e = absurd (cc)
 some_of σ (Some n) m e = (n, refl, cc)
 
--- The picture of a frame from a rotation, in a directory whose sprite lumps are these, stands for
--- that of the given directory, where the last mention of the frame and this picture are among them.
+-- The picture of a frame from a rotation, in a directory whose sprite lumps are these, stands for that of the given
+-- directory, where the last mention of the frame and this picture are among them.
 pub trimmed_picture : (trimmed lumps : List Lump) (σ : ℕ → ℕ) (keep : ℕ → Bool) (sprite : List ℕ) (a frame k : ℕ) (last m : Mention)
     → members Sprites trimmed ≡ range_with_len a (count_of (filter keep (members Sprites lumps)))
     → StandFor trimmed lumps σ a (filter keep (members Sprites lumps))

@@ -1,13 +1,12 @@
--- The texels of a texture whose patches have other numbers: where the bytes of the one are those of
--- the other, so are the texels.
-use Rattle.std.proofs.Common.{◌≡◌, ℕ, suc, ◌+◌, ◌*◌, Bool, true, false, cond, List, [], ◌∷◌, ◌++◌, map, length, nat_lt, refl, ap, sym, ◌∙◌}
+-- The texels of a texture whose patches have other numbers: where the bytes of the one are those of the other, so are
+-- the texels.
+use Rattle.std.proofs.Common.{◌≡◌, ℕ, suc, ◌*◌, Bool, true, false, cond, List, [], ◌∷◌, map, length, nat_lt, refl, ap, ◌∙◌}
 use Rattle.std.specs.Prelude.{filter}
 use Rattle.std.specs.List.{range_with_len}
 use Rattle.word_rules.specs.Listed.{joined_lists, listed}
 use Rattle.art_rules.specs.declared.ColumnLookup.{ColumnLookup}
 use Rattle.art_rules.specs.declared.ColumnLookup.TheVariants.{Empty, Single, Composed}
 use Rattle.art_rules.specs.declared.PlacedPatch.{PlacedPatch}
-use Rattle.art_rules.specs.Bytes.{byte_at}
 use Rattle.art_rules.specs.Columns.{column_posts, composed_byte, composed_column, composed_columns, composed_count, composite, composite_place, is_composed, own_column, patch_texel, patches_in, placed_posts, stands_in, texel, texel_of}
 use Rattle.art_rules.specs.Lookups.{column_lookup, lookup_of}
 

@@ -1,11 +1,10 @@
--- The groups of a trimmed file: the flats of part 1 and the pictures of part 2, where no lump that
--- is copied has the name of a mark.
-use Rattle.std.proofs.Common.{◌≡◌, ℕ, zero, suc, ◌+◌, ◌<◌, Bool, true, false, cond, List, [], ◌∷◌, ◌++◌, map, length, Option, Some, None, refl, ap, sym, subst, ◌∙◌, arith, append_assoc}
-use Rattle.std.specs.Prelude.{◌==◌, ◌&&◌, ◌||◌, filter, not, ⊤}
+-- The groups of a trimmed file: the flats of part 1 and the pictures of part 2, where no lump that is copied has the
+-- name of a mark.
+use Rattle.std.proofs.Common.{◌≡◌, ℕ, suc, ◌<◌, Bool, true, false, List, [], ◌∷◌, ◌++◌, map, length, Option, Some, None, refl, ap, sym, subst, ◌∙◌, append_assoc}
+use Rattle.std.specs.Prelude.{◌&&◌, ◌||◌, filter, not, ⊤}
 use Rattle.std.specs.List.{AllByRecursion, list_any, range_with_len}
 use Rattle.std.proofs.lemmas.Bool.Decides.{Decides-eqb}
 use Rattle.std.proofs.lemmas.List.{map-append}
-use Rattle.word_rules.specs.Least.{least}
 use Rattle.word_rules.proofs.LeastLemmas.{none-below}
 use Rattle.lump_rules.specs.declared.wad.Lump.{Lump}
 use Rattle.lump_rules.specs.declared.names.TheConstants.{F_START, F_END, MAP_LUMPS, S_START, S_END}
@@ -13,7 +12,6 @@ use Rattle.lump_rules.specs.declared.names.Group.{Group}
 use Rattle.lump_rules.specs.declared.names.Group.TheVariants.{Flats, Sprites}
 use Rattle.lump_rules.specs.Lookups.{has_name, is_end, is_start, lump_at, map_of}
 use Rattle.made_rules.specs.declared.wad.TheConstants.{HEAD_SIZE}
-use Rattle.made_rules.specs.Wads as made
 use Rattle.scene_rules.specs.Sizes.{SceneArt}
 use Rattle.trim_rules.specs.declared.part.TrimPart.{TrimPart}
 use Rattle.trim_rules.specs.declared.part.TrimPart.TheVariants.{Mark, Label, Copy}

@@ -6,7 +6,7 @@ use Rattle.lump_rules.specs.declared.wad.Lump.{Lump}
 use Rattle.lump_rules.specs.declared.wad.TheConstants.{ENTRY_SIZE, MAX_LUMPS}
 use Rattle.lump_rules.specs.declared.names.TheConstants.{F_START, F_END, S_START, S_END, MAP_LUMPS}
 use Rattle.lump_rules.specs.declared.names.Group.TheVariants.{Flats, Sprites}
-use Rattle.lump_rules.specs.Lookups.{has_name, is_end, is_lump, is_start, last_of, lump_at, map_of}
+use Rattle.lump_rules.specs.Lookups.{has_name, is_end, is_start, last_of, lump_at, map_of}
 use Rattle.made_rules.specs.declared.wad.TheConstants.{HEAD_SIZE}
 use Rattle.art_rules.specs.declared.TheConstants.{PNAMES, TEXTURE1, TEXTURE2}
 use Rattle.art_rules.specs.Wanted.{PreparedTexture, patch_lumps}

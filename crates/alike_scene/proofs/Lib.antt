@@ -1,0 +1,5 @@
+pub mod ArtLemmas
+pub mod SceneOfLemmas
+pub mod TrimmedLemmas
+pub mod StepLemmas
+pub mod LoadLemmas

@@ -1,0 +1,163 @@
+-- The numbers of flats in the trimmed file are those of part 1 and that of the sky, and stand for their sources one to
+-- one.
+use Rattle.std.proofs.Common.{◌≡◌, ◌⊎◌, inl, inr, ℕ, zero, suc, ◌+◌, ◌<◌, ◌≤◌, Bool, true, false, cond, List, [], ◌∷◌, length, get_or, Option, Some, None, Result, Ok, Err, refl, ap, sym, subst, ◌∙◌, arith}
+use Rattle.std.specs.Prelude.{◌==◌, ◌||◌, ◌&&◌}
+use Rattle.std.specs.Option.{ok_or, option_and_then, option_map}
+use Rattle.std.specs.List.{AllByRecursion, list_any, range_with_len}
+use Rattle.std.proofs.lemmas.Bool.{cases_lt}
+use Rattle.std.proofs.lemmas.Bool.Decides.{Decides-eqb}
+use Rattle.outside.specs.Faults.{and_then}
+use Rattle.word_rules.proofs.LeastLemmas.{greatest-is}
+use Rattle.lump_rules.specs.declared.wad.Lump.{Lump}
+use Rattle.lump_rules.specs.declared.names.Group.TheVariants.{Flats}
+use Rattle.lump_rules.specs.Lookups.{flat_of, has_name, is_member, members}
+use Rattle.level_rules.specs.declared.Sector.{Sector}
+use Rattle.level_rules.specs.declared.TheConstants.{SKY_FLAT}
+use Rattle.scene_rules.specs.declared.Flat.{Flat}
+use Rattle.scene_rules.specs.declared.Flat.TheVariants.{Sky, Lump as LumpFlat}
+use Rattle.scene_rules.specs.declared.SectorFlats.{SectorFlats}
+use Rattle.scene_rules.specs.declared.refusal.SceneRefusal.TheVariants.{SectorFlat}
+use Rattle.scene_rules.specs.Numbered.{each_from, each_or}
+use Rattle.scene_rules.specs.SectorFlats.{both_flats, flat_named, flat_number, flats_of, lump_flat, sector_flats}
+use Rattle.scene_rules.specs.Skies.{is_sky_name}
+use Rattle.trim_rules.specs.declared.part.TrimPart.{TrimPart}
+use Rattle.trim_rules.specs.declared.part.TrimPart.TheVariants.{Mark}
+use Rattle.trim_rules.proofs.MemberLemmas.{HasGroup, group-members}
+use Rattle.trim_rules.proofs.MovedFlatLemmas.{range-any}
+use Rattle.trim_rules.proofs.NamedLemmas.{any_kept}
+use Rattle.trim_rules.proofs.OrderLemmas.{AreAscending}
+use Rattle.trim_rules.proofs.PlaceLemmas.{part_at, part_source, source_of}
+use Rattle.trim_rules.proofs.ThereLemmas.{both-true}
+
+-- the number of a flat of part 1, whose first lump is the mark, or that of the sky
+abbrev pub IsFlatPlace : ℕ → ℕ → Type 0
+IsFlatPlace count n = (n ≡ SKY_FLAT) ⊎ ((k : ℕ) × (n ≡ suc k) × (k < count))
+
+-- two tests of numbers that mean the same
+eq_step : (a b c d : ℕ) (x y : Bool) → (a == b) ≡ x → (c == d) ≡ y → (a ≡ b → c ≡ d) → (c ≡ d → a ≡ b) → x ≡ y
+eq_step a b c d true true is js one two = refl
+eq_step a b c d true false is js one two = sym ((Decides-eqb c d).1 (one ((Decides-eqb a b).0 is))) ∙ js
+eq_step a b c d false true is js one two = sym is ∙ (Decides-eqb a b).1 (two ((Decides-eqb c d).0 js))
+eq_step a b c d false false is js one two = refl
+
+-- a place past the end has no source
+past_end : (parts : List TrimPart) (k : ℕ) → length parts ≤ k → part_at parts k ≡ Mark []
+past_end [] k le = refl
+past_end (p ∷ parts) zero le = absurd (omega arith)
+past_end (p ∷ parts) (suc k) le = past_end parts k (omega arith)
+
+pub source-past : (parts : List TrimPart) (k : ℕ) → length parts ≤ k → source_of parts k ≡ SKY_FLAT
+source-past parts k le = ap part_source (past_end parts k le)
+
+-- One to one, where the sources ascend and are lumps.
+module _ (σ : ℕ → ℕ) (flats : List ℕ) (keeps : σ SKY_FLAT ≡ SKY_FLAT) (few : length flats < SKY_FLAT)
+    (sources : (k : ℕ) → k < length flats → σ (suc k) ≡ get_or flats k 0)
+    (below : (k : ℕ) → k < length flats → get_or flats k 0 < SKY_FLAT) (ascending : AreAscending flats) where
+  place_of : (j k : ℕ) → j < length flats → k < length flats → get_or flats j 0 ≡ get_or flats k 0 → j ≡ k
+  place_of j k lj lk e = elim (cases_lt j k) [
+    | inl lt ↦ let more : get_or flats j 0 < get_or flats k 0 = ascending j k lt lk in absurd (omega arith)
+    | inr le ↦ elim (cases_lt k j) [
+      | inl lt ↦ let more : get_or flats k 0 < get_or flats j 0 = ascending k j lt lj in absurd (omega arith)
+      | inr ge ↦ omega arith
+    ]
+  ]
+
+  injective : (a b : ℕ) → IsFlatPlace (length flats) a → IsFlatPlace (length flats) b → σ a ≡ σ b → a ≡ b
+  injective a b (inl is) (inl js) e = is ∙ sym js
+  injective a b (inl is) (inr (k, js, lt)) e =
+      let sky : σ a ≡ SKY_FLAT = ap σ is ∙ keeps in
+      let lump : σ b ≡ get_or flats k 0 = ap σ js ∙ sources k lt in
+      let small : get_or flats k 0 < SKY_FLAT = below k lt in
+      absurd (omega arith)
+  injective a b (inr (k, is, lt)) (inl js) e =
+      let sky : σ b ≡ SKY_FLAT = ap σ js ∙ keeps in
+      let lump : σ a ≡ get_or flats k 0 = ap σ is ∙ sources k lt in
+      let small : get_or flats k 0 < SKY_FLAT = below k lt in
+      absurd (omega arith)
+  injective a b (inr (j, is, lj)) (inr (k, js, lk)) e =
+      let same : j ≡ k = place_of j k lj lk (sym (sources j lj) ∙ ap σ (sym is) ∙ e ∙ ap σ js ∙ sources k lk) in
+      is ∙ ap suc same ∙ sym js
+
+  pub one-to-one : (a b : ℕ) → IsFlatPlace (length flats) a → IsFlatPlace (length flats) b → (σ a == σ b) ≡ (a == b)
+  one-to-one a b p q = eq_step (σ a) (σ b) a b (σ a == σ b) (a == b) refl refl (injective a b p q) (ap σ)
+
+-- a number within a range
+either : (a b : Bool) (P : Type 0) → (a ≡ true → P) → (b ≡ true → P) → (a || b) ≡ true → P
+either true b P one two e = one refl
+either false b P one two e = two e
+
+range_place : (a c n : ℕ) → list_any (λ m. m == n) (range_with_len a c) ≡ true → (k : ℕ) × (n ≡ a + k) × (k < c)
+range_place a zero n any = absurd (cc)
+range_place a (suc c) n any =
+    either (a == n) (list_any (λ m. m == n) (range_with_len (a + 1) c)) ((k : ℕ) × (n ≡ a + k) × (k < suc c))
+    (λ is. let same : a ≡ n = (Decides-eqb a n).0 is in (0, omega arith, omega arith))
+    (λ later. let more = range_place (a + 1) c n later in
+    let at : n ≡ (a + 1) + more.0 = more.1 in let lt : more.0 < c = more.2 in (suc more.0, omega arith, omega arith)) any
+
+some_of : {X : Type 0} (a b : X) → Some a ≡ Some b → a ≡ b
+some_of a b e = cc
+
+passed : {A B R : Type 0} (r : Result A R) (next : A → Result B R) (y : B) → and_then r next ≡ Ok y → (x : A) × (r ≡ Ok x) × (next x ≡ Ok y)
+passed (Ok x) next y e = (x, refl, e)
+passed (Err reason) next y e = cc
+
+some_value : {X E : Type 0} (o : Option X) (e : E) (x : X) → ok_or o e ≡ Ok x → o ≡ Some x
+some_value None e x is = cc
+some_value (Some y) e x is = let same : y ≡ x = cc in ap Some same
+
+ok_of : {X R : Type 0} (a b : X) → (let l : Result X R = Ok a in l) ≡ Ok b → a ≡ b
+ok_of a b e = cc
+
+-- both flats of a sector are such numbers
+pub record AreFlatPlaces (count : ℕ) (both : SectorFlats) : Type 0 where
+  pub floor : IsFlatPlace count (flat_number both.floor)
+  pub ceiling : IsFlatPlace count (flat_number both.ceiling)
+
+module _ (trimmed : List Lump) (count : ℕ) (has : HasGroup Flats trimmed 0 count) where
+  member_place : (n : ℕ) → n < length trimmed → is_member Flats trimmed n ≡ true → (k : ℕ) × (n ≡ suc k) × (k < count)
+  unfolding members
+  member_place n lt is =
+      let at = range_place 1 count n (ap (list_any (λ m. m == n)) (sym (group-members Flats trimmed 0 count has))
+      ∙ any_kept (is_member Flats trimmed) n (range_with_len 0 (length trimmed)) is (range-any 0 (length trimmed) n (omega arith) (omega arith))) in
+      let e : n ≡ 1 + at.0 = at.1 in
+      (at.0, omega arith, at.2)
+
+  named_step : (name : List ℕ) (f : Flat) (b : Bool) (o : Option ℕ) → flat_of trimmed name ≡ o → cond b (Some Sky) (option_map lump_flat o) ≡ Some f → IsFlatPlace count (flat_number f)
+  unfolding flat_number lump_flat
+  named_step name f true o is e = inl (ap flat_number (sym (some_of Sky f e)))
+  named_step name f false None is e = absurd (cc)
+  named_step name f false (Some n) is e =
+      let found = greatest-is (λ number. is_member Flats trimmed number && has_name trimmed name number) (length trimmed) n is in
+      let at = member_place n found.0 (both-true (is_member Flats trimmed n) (has_name trimmed name n) found.1).0 in
+      inr (at.0, ap flat_number (sym (some_of (LumpFlat (record { 0 = n })) f e)) ∙ at.1, at.2)
+
+  named_place : (name : List ℕ) (f : Flat) → flat_named trimmed name ≡ Some f → IsFlatPlace count (flat_number f)
+  unfolding flat_named
+  named_place name f e = named_step name f (is_sky_name name) (flat_of trimmed name) refl e
+
+  both_step : (sector : Sector) (both : SectorFlats) (f c : Option Flat) → flat_named trimmed sector.floor_name ≡ f → flat_named trimmed sector.ceiling_name ≡ c
+      → option_and_then (λ g. option_map (both_flats g) c) f ≡ Some both → AreFlatPlaces count both
+  unfolding both_flats
+  both_step sector both None c is js e = absurd (cc)
+  both_step sector both (Some f) None is js e = absurd (cc)
+  both_step sector both (Some f) (Some c) is js e =
+      let same : record { floor = f; ceiling = c } ≡ both = some_of _ both e in
+      subst (AreFlatPlaces count) same (record { floor = named_place sector.floor_name f is; ceiling = named_place sector.ceiling_name c js })
+
+  sector_places : (sector : Sector) (both : SectorFlats) → flats_of trimmed sector ≡ Some both → AreFlatPlaces count both
+  unfolding flats_of
+  sector_places sector both e = both_step sector both (flat_named trimmed sector.floor_name) (flat_named trimmed sector.ceiling_name) refl refl e
+
+  each_places : (number : ℕ) (sectors : List Sector) (all : List SectorFlats) → each_from (flats_of trimmed) SectorFlat number sectors ≡ Ok all → AllByRecursion (AreFlatPlaces count) all
+  unfolding each_from
+  each_places number [] all e = subst (AllByRecursion (AreFlatPlaces count)) (ok_of [] all e) tt
+  each_places number (sector ∷ sectors) all e =
+      let one = passed (ok_or (flats_of trimmed sector) (SectorFlat number)) _ all e in
+      let rest = passed (each_from (flats_of trimmed) SectorFlat (suc number) sectors) _ all one.2 in
+      subst (AllByRecursion (AreFlatPlaces count)) (ok_of (one.0 ∷ rest.0) all rest.2)
+      (sector_places sector one.0 (some_value (flats_of trimmed sector) (SectorFlat number) one.0 one.1), each_places (suc number) sectors rest.0 rest.1)
+
+  -- the flats of all sectors
+  pub places-flats : (sectors : List Sector) (all : List SectorFlats) → sector_flats trimmed sectors ≡ Ok all → AllByRecursion (AreFlatPlaces count) all
+  unfolding sector_flats each_or
+  places-flats sectors all e = each_places 0 sectors all e

@@ -1,0 +1,169 @@
+-- The scene of an accepted level by the trimmed file: the same, with its lumps moved.
+use Rattle.std.proofs.Common.{◌≡◌, ℕ, ◌≤◌, true, List, [], ◌∷◌, map, length, Result, Ok, Err, refl, ap, sym, subst, ◌∙◌}
+use Rattle.std.specs.Prelude.{◌==◌}
+use Rattle.std.specs.Option.{option_map}
+use Rattle.std.specs.List.{AllByRecursion, list_any}
+use Rattle.outside.specs.Faults.{and_then, from_below}
+use Rattle.lump_rules.specs.declared.wad.Lump.{Lump}
+use Rattle.lump_rules.specs.Contents.{lump_bytes}
+use Rattle.lump_rules.specs.Lookups.{last_of}
+use Rattle.lump_rules.specs.Wads.{directory}
+use Rattle.level_rules.specs.declared.ThingLine.{ThingLine}
+use Rattle.level_rules.specs.declared.TheConstants.{SKY_FLAT}
+use Rattle.art_rules.specs.Books.{book_lumps, first_needs}
+use Rattle.art_rules.specs.Wanted.{prepared_textures}
+use Rattle.scene_rules.specs.declared.refusal.AuditRefusal.TheVariants.{Texture, Sprite, Scene}
+use Rattle.scene_rules.specs.Middles.{bad_middle}
+use Rattle.scene_rules.specs.Places.{need_of, placed_things}
+use Rattle.scene_rules.specs.Scenes.{LevelBase, SceneValue, base_in, book_in, checked, faces_in, scene_in, scene_on, scene_over, scene_with, texture_by}
+use Rattle.scene_rules.specs.Sides.{is_wanted_texture}
+use Rattle.scene_rules.specs.Sizes.{SceneArt}
+use Rattle.trim_rules.specs.declared.part.TrimPart.{TrimPart}
+use Rattle.trim_rules.specs.Parts.{trim_parts, trim_plan}
+use Rattle.trim_rules.specs.Files.{trimmed_file, trimmed_lumps}
+use Rattle.trim_rules.proofs.BaseLemmas.{base-served}
+use Rattle.trim_rules.proofs.BookLemmas.{IsPicture, book-moved, move_frame}
+use Rattle.trim_rules.proofs.FacesLemmas.{trimmed-faces}
+use Rattle.trim_rules.proofs.HeldSpriteLemmas.{IsSprite, pictures-held, first_picture}
+use Rattle.trim_rules.proofs.MapLemmas.{map_place}
+use Rattle.trim_rules.proofs.MiddleLemmas.{bad_middle-same}
+use Rattle.trim_rules.proofs.MovedFlatLemmas.{move_both}
+use Rattle.trim_rules.proofs.PlaceLemmas.{source_of}
+use Rattle.trim_rules.proofs.PlanLemmas.{plan-unmarked}
+use Rattle.trim_rules.proofs.PreparedLemmas.{move_texture}
+use Rattle.trim_rules.proofs.ServedLemmas.{trimmed-serves}
+use Rattle.trim_rules.proofs.TextureLemmas.{bytes-moved, trimmed-prepared}
+
+ok_of : {X R : Type 0} (a b : X) → (let l : Result X R = Ok a in l) ≡ Ok b → a ≡ b
+ok_of a b e = cc
+
+passed : {A B R : Type 0} (r : Result A R) (next : A → Result B R) (y : B) → and_then r next ≡ Ok y → (x : A) × (r ≡ Ok x) × (next x ≡ Ok y)
+passed (Ok x) next y e = (x, refl, e)
+passed (Err reason) next y e = cc
+
+below : {A R Q : Type 0} (f : R → Q) (r : Result A R) (x : A) → from_below f r ≡ Ok x → r ≡ Ok x
+below f (Ok y) x e = let same : y ≡ x = cc in ap Ok same
+below f (Err reason) x e = cc
+
+-- the steps of a scene that is accepted
+pub record IsSceneOf (bytes : ℕ → List ℕ) (lumps : List Lump) (lines : List ThingLine) (name : List ℕ) (skill : ℕ) (scene : SceneValue) : Type 0 where
+  pub base : base_in bytes lumps name ≡ Ok scene.base
+  pub faces : faces_in lumps name scene.base.level scene.base.lists ≡ Ok scene.faces
+  pub prepared : prepared_textures (last_of lumps) bytes scene.base.lists (is_wanted_texture scene.faces.sides scene.faces.sky) ≡ Ok scene.prepared
+  pub placed : scene.placed ≡ placed_things scene.base.level lines skill
+  pub book : book_in bytes lumps scene.placed ≡ Ok scene.book
+  pub checked : checked scene.placed (bad_middle (texture_by scene.prepared) scene.base.level.segs scene.faces.sides) ≡ Ok tt
+
+module _ (bytes : ℕ → List ℕ) (lumps : List Lump) (lines : List ThingLine) (name : List ℕ) (skill : ℕ) where
+  pub scene-steps : (scene : SceneValue) → scene_in bytes lumps lines name skill ≡ Ok scene → IsSceneOf bytes lumps lines name skill scene
+  unfolding scene_in scene_on scene_with scene_over
+  scene-steps scene e =
+      let base = passed (base_in bytes lumps name) _ scene e in
+      let faces = passed (from_below Scene (faces_in lumps name base.0.level base.0.lists)) _ scene base.2 in
+      let prepared = passed (from_below Texture (prepared_textures (last_of lumps) bytes base.0.lists (is_wanted_texture faces.0.sides faces.0.sky))) _ scene faces.2 in
+      let placed = placed_things base.0.level lines skill in
+      let book = passed (from_below Sprite (book_in bytes lumps placed)) _ scene prepared.2 in
+      let last = passed (from_below Scene (checked placed (bad_middle (texture_by prepared.0) base.0.level.segs faces.0.sides))) _ scene book.2 in
+      let made : ◌≡◌ {A = SceneValue} (record { base = base.0; faces = faces.0; prepared = prepared.0; placed = placed; book = book.0 }) scene = ok_of _ scene last.2 in
+      subst (IsSceneOf bytes lumps lines name skill) made (record {
+        base = base.1;
+        faces = below Scene (faces_in lumps name base.0.level base.0.lists) faces.0 faces.1;
+        prepared = below Texture (prepared_textures (last_of lumps) bytes base.0.lists (is_wanted_texture faces.0.sides faces.0.sky)) prepared.0 prepared.1;
+        placed = refl;
+        book = below Sprite (book_in bytes lumps placed) book.0 book.1;
+        checked = below Scene (checked placed (bad_middle (texture_by prepared.0) base.0.level.segs faces.0.sides)) last.0 last.1;
+      })
+
+  pub scene-made : (scene : SceneValue) → IsSceneOf bytes lumps lines name skill scene → scene_in bytes lumps lines name skill ≡ Ok scene
+  unfolding scene_in scene_on scene_with scene_over
+  scene-made scene is =
+      rw (is.base, is.faces, is.prepared, sym is.placed, is.book, is.checked) refl
+
+-- What a scene takes from the directory, with the pictures of these lumps.
+abbrev pub art_for : SceneValue → List ℕ → SceneArt
+art_for scene pictures = record {
+  colormap = scene.base.colormap;
+  playpal = scene.base.playpal;
+  label = scene.base.label;
+  prepared = scene.prepared;
+  flats = scene.faces.flats;
+  pictures = pictures;
+}
+
+-- The same scene with its lumps moved.
+pub record IsSceneMoved (σ : ℕ → ℕ) (bytes : ℕ → List ℕ) (moved scene : SceneValue) : Type 0 where
+  pub level : scene.base.level ≡ moved.base.level
+  pub lists : scene.base.lists ≡ moved.base.lists
+  pub palette : scene.base.palette ≡ moved.base.palette
+  pub colormap : bytes scene.base.colormap ≡ bytes (σ moved.base.colormap)
+  pub sides : scene.faces.sides ≡ moved.faces.sides
+  pub sky : scene.faces.sky ≡ moved.faces.sky
+  pub flats : map (move_both σ) moved.faces.flats ≡ scene.faces.flats
+  pub prepared : map (option_map (move_texture σ)) moved.prepared ≡ scene.prepared
+  pub placed : scene.placed ≡ moved.placed
+  pub book : map (move_frame σ) moved.book ≡ scene.book
+
+module _ (contents : List (List ℕ)) (lumps : List Lump) (listed : directory contents ≡ Ok lumps) (few : length lumps ≤ SKY_FLAT)
+    (lines : List ThingLine) (name : List ℕ) (skill : ℕ) (scene : SceneValue) (is : scene_in (lump_bytes contents lumps) lumps lines name skill ≡ Ok scene)
+    (pictures : List ℕ) (sprites : AllByRecursion (IsSprite lumps) pictures) (kept : (n : ℕ) → list_any (λ m. m == n) (book_lumps scene.book) ≡ true → IsPicture pictures n)
+    (parts : List TrimPart) (plan : trim_plan lumps (art_for scene pictures) name ≡ Ok parts) where
+  -- The scene of an accepted level by the trimmed file.
+  pub trimmed-scene : (moved : SceneValue)
+      × (scene_in (λ k. lump_bytes contents lumps (source_of (trim_parts lumps (art_for scene pictures) name) k))
+      (trimmed_lumps (lump_bytes contents lumps) lumps (trim_parts lumps (art_for scene pictures) name)) lines name skill ≡ Ok moved)
+      × IsSceneMoved (source_of (trim_parts lumps (art_for scene pictures) name)) (lump_bytes contents lumps) moved scene
+  unfolding book_in
+  trimmed-scene =
+      let bytes = lump_bytes contents lumps in
+      let art = art_for scene pictures in
+      let all = trim_parts lumps art name in
+      let σ = source_of all in
+      let trimmed = trimmed_lumps bytes lumps all in
+      let steps = scene-steps bytes lumps lines name skill scene is in
+      let unmarked = plan-unmarked lumps art name parts plan in
+      let wanted = is_wanted_texture scene.faces.sides scene.faces.sky in
+      let same : lump_bytes (trimmed_file bytes lumps all ∷ []) trimmed ≡ (λ k. bytes (σ k)) = bytes-moved contents lumps all few in
+      let serves = trimmed-serves contents lumps art name scene.base wanted listed steps.base steps.prepared in
+      let faces = trimmed-faces bytes lumps art name scene.base.level scene.base.lists scene.faces few steps.faces refl unmarked in
+      let prepared = trimmed-prepared contents lumps art name scene.base wanted few steps.base steps.prepared in
+      let held = pictures-held bytes lumps art name sprites unmarked in
+      let book = book-moved trimmed lumps σ (first_picture lumps art) pictures held bytes (first_needs (map need_of scene.placed)) scene.book steps.book kept in
+      let base : LevelBase = record {
+        colormap = serves.0;
+        playpal = serves.1;
+        palette = scene.base.palette;
+        label = map_place lumps art;
+        level = scene.base.level;
+        lists = scene.base.lists;
+      } in
+      let moved : SceneValue = record {
+        base = base;
+        faces = record { sides = scene.faces.sides; sky = scene.faces.sky; flats = faces.0 };
+        prepared = prepared.0;
+        placed = scene.placed;
+        book = book.0;
+      } in (
+        moved,
+        scene-made (λ k. bytes (σ k)) trimmed lines name skill moved (record {
+          base = subst (λ b. base_in b trimmed name ≡ Ok base) same
+              (base-served bytes (lump_bytes (trimmed_file bytes lumps all ∷ []) trimmed) lumps trimmed name scene.base serves.0 serves.1 (map_place lumps art) serves.3);
+          faces = faces.1;
+          prepared = prepared.1;
+          placed = steps.placed;
+          book = book.1;
+          checked = ap (λ bad. checked scene.placed bad) (sym (bad_middle-same σ prepared.0 scene.base.level.segs scene.faces.sides)
+              ∙ ap (λ ts. bad_middle (texture_by ts) scene.base.level.segs scene.faces.sides) prepared.2) ∙ steps.checked;
+        }),
+        record {
+          level = refl;
+          lists = refl;
+          palette = refl;
+          colormap = sym serves.2 ∙ ap (λ b. b serves.0) same;
+          sides = refl;
+          sky = refl;
+          flats = faces.2;
+          prepared = prepared.2;
+          placed = refl;
+          book = book.2;
+        },
+      )

@@ -1,0 +1,80 @@
+-- The prepared textures of an accepted level by the trimmed directory: the same, with their patches moved.
+use Rattle.std.proofs.Common.{◌≡◌, ℕ, ◌≤◌, Bool, true, false, List, [], ◌∷◌, map, length, Option, Some, None, Ok, refl}
+use Rattle.std.specs.Prelude.{◌==◌, ◌||◌}
+use Rattle.std.specs.Option.{option_map}
+use Rattle.std.specs.List.{AllByRecursion, list_any}
+use Rattle.std.proofs.lemmas.Bool.Decides.{Decides-eqb}
+use Rattle.word_rules.proofs.LeastLemmas.{greatest-is}
+use Rattle.lump_rules.specs.declared.wad.Lump.{Lump}
+use Rattle.lump_rules.specs.Contents.{lump_bytes}
+use Rattle.lump_rules.specs.Lookups.{has_name, last_of}
+use Rattle.level_rules.specs.declared.TheConstants.{SKY_FLAT}
+use Rattle.art_rules.specs.declared.PlacedPatch.{PlacedPatch}
+use Rattle.art_rules.specs.Wanted.{PreparedTexture, is_patch_of, is_patch_of_any, prepared_textures}
+use Rattle.scene_rules.specs.Scenes.{LevelBase, base_in}
+use Rattle.scene_rules.specs.Sizes.{SceneArt}
+use Rattle.trim_rules.specs.declared.part.TrimPart.{TrimPart}
+use Rattle.trim_rules.specs.Parts.{trim_parts}
+use Rattle.trim_rules.specs.Files.{trimmed_file, trimmed_lumps}
+use Rattle.trim_rules.proofs.BytesLemmas.{trimmed-bytes}
+use Rattle.trim_rules.proofs.LastLemmas.{called-last}
+use Rattle.trim_rules.proofs.PlaceLemmas.{source_of}
+use Rattle.trim_rules.proofs.PreparedLemmas.{PatchIs, PatchesAre, move_texture, prepared-moved}
+use Rattle.trim_rules.proofs.ServedLemmas.{base-found, label_map}
+use Rattle.trim_rules.proofs.SourceLemmas.{called-source, patch-called}
+
+or_right : (a b : Bool) → b ≡ true → (a || b) ≡ true
+or_right true b e = refl
+or_right false b e = e
+
+or_left : (a b : Bool) → a ≡ true → (a || b) ≡ true
+or_left true b e = refl
+or_left false b e = absurd (cc)
+
+-- each patch of the textures is one of their patches
+module _ (Q : ℕ → Type 0) where
+  texture_own : (ps : List PlacedPatch) → ((n : ℕ) → list_any (λ (patch : PlacedPatch). patch.lump == n) ps ≡ true → Q n) → AllByRecursion (PatchIs Q) ps
+  texture_own [] gives = tt
+  texture_own (p ∷ ps) gives =
+      (gives p.lump (or_left (p.lump == p.lump) _ ((Decides-eqb p.lump p.lump).1 refl)), texture_own ps (λ n any. gives n (or_right (p.lump == n) _ any)))
+
+  textures_own : (ts : List (Option PreparedTexture)) → ((n : ℕ) → list_any (is_patch_of n) ts ≡ true → Q n) → AllByRecursion (PatchesAre Q) ts
+  unfolding is_patch_of
+  textures_own [] gives = tt
+  textures_own (None ∷ ts) gives = (tt, textures_own ts (λ n any. gives n any))
+  textures_own (Some t ∷ ts) gives = (
+    texture_own t.patches (λ n any. gives n (or_left (list_any (λ (patch : PlacedPatch). patch.lump == n) t.patches) _ any)),
+    textures_own ts (λ n any. gives n (or_right (is_patch_of n (Some t)) _ any)),
+  )
+
+abbrev IsOwn : List (Option PreparedTexture) → ℕ → Type 0
+IsOwn ts n = is_patch_of_any ts n ≡ true
+
+patches-own : (ts : List (Option PreparedTexture)) → AllByRecursion (PatchesAre (IsOwn ts)) ts
+unfolding is_patch_of_any
+patches-own ts = textures_own (IsOwn ts) ts (λ n any. any)
+
+-- the bytes of the trimmed lumps, as a function
+pub bytes-moved : (contents : List (List ℕ)) (lumps : List Lump) (parts : List TrimPart) → length lumps ≤ SKY_FLAT
+    → lump_bytes (trimmed_file (lump_bytes contents lumps) lumps parts ∷ []) (trimmed_lumps (lump_bytes contents lumps) lumps parts)
+    ≡ (λ k. lump_bytes contents lumps (source_of parts k))
+bytes-moved contents lumps parts few = λ i k. trimmed-bytes contents lumps parts few k i
+
+-- The prepared textures of an accepted level.
+pub trimmed-prepared : (contents : List (List ℕ)) (lumps : List Lump) (art : SceneArt) (name : List ℕ) (base : LevelBase) (wanted : ℕ → Bool)
+    → length lumps ≤ SKY_FLAT → base_in (lump_bytes contents lumps) lumps name ≡ Ok base
+    → prepared_textures (last_of lumps) (lump_bytes contents lumps) base.lists wanted ≡ Ok art.prepared
+    → (textures : List (Option PreparedTexture))
+    × (prepared_textures (last_of (trimmed_lumps (lump_bytes contents lumps) lumps (trim_parts lumps art name)))
+    (λ k. lump_bytes contents lumps (source_of (trim_parts lumps art name) k)) base.lists wanted ≡ Ok textures)
+    × (map (option_map (move_texture (source_of (trim_parts lumps art name)))) textures ≡ art.prepared)
+trimmed-prepared contents lumps art name base wanted few is prepared =
+    let bytes = lump_bytes contents lumps in
+    let parts = trim_parts lumps art name in
+    let trimmed = trimmed_lumps bytes lumps parts in
+    let label = label_map lumps name base.label (base-found bytes lumps name base is).label in
+    let all = called-last lumps bytes base.lists wanted art.prepared name prepared in
+    prepared-moved (source_of parts) bytes (last_of lumps) (last_of trimmed) (IsOwn art.prepared)
+    (λ wanted n e own. called-source bytes lumps art name base.label label all wanted n e
+    (patch-called lumps art.prepared n (greatest-is (has_name lumps wanted) (length lumps) n e).0 own))
+    base.lists wanted art.prepared prepared (patches-own art.prepared)
