@@ -1,1 +1,2 @@
 pub mod BandLemmas
+pub mod WordLemmas

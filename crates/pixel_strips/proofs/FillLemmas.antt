@@ -1,5 +1,7 @@
 -- Laws of `fill_cells`: one cell more, and that the cells of a strip of a frame are those of its dots.
-use Rattle.std.proofs.Common.{◌≡◌, ℕ, zero, suc, ◌+◌, ◌*◌, ℤ, List, [], ◌∷◌, ◌++◌, set, refl, ap, sym, ◌∙◌, arith}
+use Rattle.std.proofs.Common.{◌≡◌, ℕ, zero, suc, ◌+◌, ◌-◌, ◌*◌, ◌<◌, ◌≤◌, ◌≢◌, max, ℤ, List, [], ◌∷◌, ◌++◌, set, inl, inr, refl, ap, subst, sym, ◌∙◌, arith}
+use Rattle.std.proofs.lemmas.Bool.{cases_lt}
+use Rattle.std.proofs.lemmas.List.{set-set, set_comm}
 use Rattle.view_rules.specs.declared.TheConstants.{FRAME_WIDTH}
 use Rattle.pixel_rules.specs.declared.Painter.{Painter}
 use Rattle.pixel_rules.specs.Dots.{Dot, cell_of, put_dots}
@@ -21,12 +23,45 @@ column_filled-none {cells = cells} = record { filled = fill_cells-none _ _ cells
 pub span_filled-none : {texels shades : List ℕ} {x y x_step y_step : ℤ} {start : ℕ} {cells : List ℕ} → SpanFilled texels shades x y x_step y_step start 0 cells cells
 span_filled-none {cells = cells} = record { filled = fill_cells-none _ _ cells }
 
+-- the same under another name of their count
+pub column_filled-to : {texels shades : List ℕ} {fraction step : ℤ} {start m n : ℕ} {before cells : List ℕ} → m ≡ n →
+    ColumnFilled texels shades fraction step start m before cells → ColumnFilled texels shades fraction step start n before cells
+column_filled-to {texels} {shades} {fraction} {step} {start} {m} {n} {before} {cells} e i = subst (λ (k : ℕ). ColumnFilled texels shades fraction step start k before cells) e i
+
+pub span_filled-to : {texels shades : List ℕ} {x y x_step y_step : ℤ} {start m n : ℕ} {before cells : List ℕ} → m ≡ n →
+    SpanFilled texels shades x y x_step y_step start m before cells → SpanFilled texels shades x y x_step y_step start n before cells
+span_filled-to {texels} {shades} {x} {y} {x_step} {y_step} {start} {m} {n} {before} {cells} e i = subst (λ (k : ℕ). SpanFilled texels shades x y x_step y_step start k before cells) e i
+
 pub fill_cells-more : (place value : ℕ → ℕ) (k n : ℕ) (cells : List ℕ) → k + 1 ≡ n →
     set (fill_cells place value k cells) (place k) (value k) ≡ fill_cells place value n cells
 unfolding fill_cells
 fill_cells-more place value k n cells e =
     let f : suc k ≡ n = omega arith in
     ap (λ (m : ℕ). fill_cells place value m cells) f
+
+-- a cell that is set again to what it has
+fill_cells-again : (place value : ℕ → ℕ) (cells : List ℕ) → ((i j : ℕ) → i < j → place i < place j) → (k m n : ℕ) → k + 1 + m ≡ n →
+    set (fill_cells place value n cells) (place k) (value k) ≡ fill_cells place value n cells
+fill_cells-again place value cells below k zero n e =
+    let more = fill_cells-more place value k n cells (omega (arith, e)) in
+    ap (λ (cs : List ℕ). set cs (place k) (value k)) (sym more) ∙ set-set (fill_cells place value k cells) (place k) (value k) (value k) ∙ more
+fill_cells-again place value cells below k (suc m) n e =
+    let last : ℕ = k + 1 + m in
+    let more = fill_cells-more place value last n cells (omega (arith, e)) in
+    let apart : place last ≢ place k = let l = below k last (omega arith) in omega arith in
+    ap (λ (cs : List ℕ). set cs (place k) (value k)) (sym more)
+    ∙ set_comm (fill_cells place value last cells) (place last) (place k) (value last) (value k) apart
+    ∙ ap (λ (cs : List ℕ). set cs (place last) (value last)) (fill_cells-again place value cells below k m last refl) ∙ more
+
+-- the next cell, or one that is set already
+pub fill_cells-on : (place value : ℕ → ℕ) (cells : List ℕ) → ((i j : ℕ) → i < j → place i < place j) → (k n : ℕ) → k ≤ n →
+    set (fill_cells place value n cells) (place k) (value k) ≡ fill_cells place value (max n (k + 1)) cells
+fill_cells-on place value cells below k n h = elim (cases_lt k n) [
+  | inl l ↦ let same : n ≡ max n (k + 1) = omega (arith, l) in
+      fill_cells-again place value cells below k (n - (k + 1)) n (omega (arith, l)) ∙ ap (λ (m : ℕ). fill_cells place value m cells) same
+  | inr l ↦ let same : k ≡ n = omega (arith, l, h) in
+      ap (λ (m : ℕ). set (fill_cells place value m cells) (place k) (value k)) (sym same) ∙ fill_cells-more place value k (max n (k + 1)) cells (omega (arith, same))
+]
 
 -- dots that come one by one set the cells one by one
 fill_cells-dots : (left top : ℕ) (dots : ℕ → List Dot) (dot : ℕ → Dot) (place value : ℕ → ℕ) (cells : List ℕ) →

@@ -1,13 +1,13 @@
 -- Laws of places: the first one, one step more, and the texel that a place stands for.
-use Rattle.std.proofs.Common.{◌≡◌, ℕ, ◌+◌, ◌*◌, ◌/◌, ◌%◌, ◌^◌, ◌<◌, ◌≤◌, ℤ, pos, negsuc, FitsSigned, refl, subst, subst₂, to_z, of_z, sym, ap, ap₂, ◌∙◌, arith, add-mul, mod-lt, pow_pos}
+use Rattle.std.proofs.Common.{◌≡◌, ℕ, zero, suc, ◌+◌, ◌*◌, ◌/◌, ◌%◌, ◌^◌, ◌<◌, ◌≤◌, ℤ, pos, negsuc, FitsSigned, refl, subst, subst₂, to_z, of_z, sym, ap, ap₂, ◌∙◌, arith, add-mul, mul-suc, mod-lt, pow_pos}
 use native.Mathlib.Nat.{add-mod}
-use Rattle.std.specs.Int.{w32, cast_unsigned, int_wrap}
-use Rattle.std.proofs.lemmas.Int.{of_z-to_z, to_z-of_z, int_wrap-add_left, int_wrap-add_right, wrapping_add_is, SFits-int_wrap}
+use Rattle.std.specs.Int.{w32, cast_unsigned}
+use Rattle.std.proofs.lemmas.Int.{of_z-to_z, to_z-of_z, wrapping_add_is, SFits-int_wrap}
 use Rattle.std.proofs.lemmas.Nat.{mul-mod_first}
-use lib.IntN.{◌+ℤ◌, +ℤ_assoc}
+use lib.IntN.{◌+ℤ◌}
 use Rattle.word_rules.specs.Steps.{step_at}
 use Rattle.word_rules.proofs.StepLemmas.{step_at-zero, step_at-more}
-use Rattle.word_rules.specs.Words.{bits_of, plus, shr_word}
+use Rattle.word_rules.specs.Words.{bits_of, plus, times, shr_word}
 use Rattle.word_rules.specs.declared.TheConstants.{FRACTION_BITS}
 use Rattle.pixel_rules.specs.declared.TheConstants.{FLAT_SIDE}
 use Rattle.pixel_rules.specs.Strips.{texel_row, flat_place}
@@ -144,27 +144,6 @@ flat_place_more x y a b most few place step h p s =
           (sym (lifted-plus FLAT_LIFT y b p.y_fits s.y_fits)) (sym (lifted-plus FLAT_LIFT x a p.x_fits s.x_fits));
     }
 
--- two, three and four steps at once
-plus_regrouped : (a b c : ℤ) → plus a (plus b c) ≡ plus (plus a b) c
-unfolding plus
-plus_regrouped a b c =
-    int_wrap-add_right w32 a (b +ℤ c) ∙ ap (int_wrap w32) (sym (+ℤ_assoc a b c)) ∙ sym (int_wrap-add_left w32 (a +ℤ b) c)
-
-pub step_at-two : (first step : ℤ) (k n : ℕ) → k + 2 ≡ n → plus (step_at first step k) (plus step step) ≡ step_at first step n
-step_at-two first step k n e =
-    plus_regrouped (step_at first step k) step step
-    ∙ ap (λ (z : ℤ). plus z step) (step_at-more first step k (k + 1) refl) ∙ step_at-more first step (k + 1) n (omega (arith, e))
-
-pub step_at-three : (first step : ℤ) (k n : ℕ) → k + 3 ≡ n → plus (step_at first step k) (plus (plus step step) step) ≡ step_at first step n
-step_at-three first step k n e =
-    plus_regrouped (step_at first step k) (plus step step) step
-    ∙ ap (λ (z : ℤ). plus z step) (step_at-two first step k (k + 2) refl) ∙ step_at-more first step (k + 2) n (omega (arith, e))
-
-pub step_at-four : (first step : ℤ) (k n : ℕ) → k + 4 ≡ n → plus (step_at first step k) (plus (plus (plus step step) step) step) ≡ step_at first step n
-step_at-four first step k n e =
-    plus_regrouped (step_at first step k) (plus (plus step step) step) step
-    ∙ ap (λ (z : ℤ). plus z step) (step_at-three first step k (k + 3) refl) ∙ step_at-more first step (k + 3) n (omega (arith, e))
-
 -- the same place under other names of its fractions
 pub flat_place-on : (x y a b : ℤ) (most few place : ℕ) → x ≡ a → y ≡ b → most ≤ few → IsFlatPlace x y most place → IsFlatPlace a b few place
 flat_place-on x y a b most few place d e h p = record {
@@ -174,6 +153,54 @@ flat_place-on x y a b most few place d e h p = record {
   few = let held = p.few in omega (arith, held, h);
   is = p.is ∙ ap₂ (λ (u v : ℤ). 2 ^ 32 * (lifted FLAT_LIFT v + p.carries) + lifted FLAT_LIFT u) d e;
 }
+
+-- so many steps, and so many more
+pub step_at-on : (first step : ℤ) (k m n : ℕ) → k + m ≡ n → step_at (step_at first step k) step m ≡ step_at first step n
+unfolding step_at
+step_at-on first step k zero n e =
+    sym (step_at-zero (step_at first step k) step (plus_fits first (times (pos k) step))) ∙ ap (step_at first step) (let f : k ≡ n = omega (arith, e) in f)
+step_at-on first step k (suc m) n e =
+    sym (step_at-more (step_at first step k) step m (suc m) (omega arith))
+    ∙ ap (λ (z : ℤ). plus z step) (step_at-on first step k m (k + m) refl) ∙ step_at-more first step (k + m) n (omega (arith, e))
+
+-- a product, and one step more
+word_more : (place step m n : ℕ) → n ≡ m + step → ((place + m % 2 ^ 32) % 2 ^ 32 + step) % 2 ^ 32 ≡ (place + n % 2 ^ 32) % 2 ^ 32
+word_more place step m n e = omega arith
+
+packed_more : (place step m n : ℕ) → n ≡ m + step → ((place + m % 2 ^ 64) % 2 ^ 64 + step) % 2 ^ 64 ≡ (place + n % 2 ^ 64) % 2 ^ 64
+packed_more place step m n e = omega arith
+
+-- so many steps at once
+pub texel_place_steps : (a b : ℤ) (place step k : ℕ) → IsTexelPlace a place → IsTexelPlace b step →
+    IsTexelPlace (step_at a b k) ((place + step * k % 2 ^ 32) % 2 ^ 32)
+texel_place_steps a b place step zero p s =
+    let below = lifted_below ROW_LIFT a in
+    let is = p.is in
+    let same : place ≡ (place + step * 0 % 2 ^ 32) % 2 ^ 32 = omega arith in
+    subst₂ IsTexelPlace (step_at-zero a b p.fits) same p
+texel_place_steps a b place step (suc k) p s =
+    subst₂ IsTexelPlace (step_at-more a b k (suc k) (omega arith)) (word_more place step (step * k) (step * suc k) (mul-suc step k))
+    (texel_place_more (step_at a b k) b ((place + step * k % 2 ^ 32) % 2 ^ 32) step (texel_place_steps a b place step k p s) s)
+
+flat_place_below : (x y carries : ℕ) → carries < 2 ^ 10 → x < 2 ^ 32 → 2 ^ 32 * (y * 2 ^ 10 % 2 ^ 32 + carries) + x < 2 ^ 64
+flat_place_below x y carries h l = omega arith
+
+pub flat_place_steps : (x y a b : ℤ) (most place step k : ℕ) → most + k < CARRIES → IsFlatPlace x y most place → IsFlatPlace a b 0 step →
+    IsFlatPlace (step_at x a k) (step_at y b k) (most + k) ((place + step * k % 2 ^ 64) % 2 ^ 64)
+unfolding lifted
+flat_place_steps x y a b most place step zero h p s =
+    let few = p.few in
+    let below = flat_place_below (lifted FLAT_LIFT x) (bits_of y) p.carries (omega arith) (lifted_below FLAT_LIFT x) in
+    let is = p.is in
+    let same : place ≡ (place + step * 0 % 2 ^ 64) % 2 ^ 64 = omega arith in
+    subst (IsFlatPlace (step_at x a 0) (step_at y b 0) (most + 0)) same
+    (flat_place-on x y _ _ most (most + 0) place (step_at-zero x a p.x_fits) (step_at-zero y b p.y_fits) (omega arith) p)
+flat_place_steps x y a b most place step (suc k) h p s =
+    let before : ℕ = (place + step * k % 2 ^ 64) % 2 ^ 64 in
+    subst (IsFlatPlace (step_at x a (suc k)) (step_at y b (suc k)) (most + suc k)) (packed_more place step (step * k) (step * suc k) (mul-suc step k))
+    (flat_place-on (plus (step_at x a k) a) (plus (step_at y b k) b) _ _ (most + k + 0 + 1) (most + suc k) ((before + step) % 2 ^ 64)
+    (step_at-more x a k (suc k) (omega arith)) (step_at-more y b k (suc k) (omega arith)) (omega arith)
+    (flat_place_more (step_at x a k) (step_at y b k) a b (most + k) 0 before step (omega arith) (flat_place_steps x y a b most place step k (omega arith) p s) s))
 
 -- the first fraction, as the code has its word, is that of step 0
 first_step : (first step : ℤ) → FitsSigned w32 first → to_z w32 (of_z w32 first) ≡ step_at first step 0
@@ -185,3 +212,20 @@ texel_place_begun first step place f p = subst (λ (z : ℤ). IsTexelPlace z pla
 pub flat_place_begun : (x y x_step y_step : ℤ) (place : ℕ) → FitsSigned w32 x → FitsSigned w32 y →
     IsFlatPlace (to_z w32 (of_z w32 x)) (to_z w32 (of_z w32 y)) 0 place → IsFlatPlace (step_at x x_step 0) (step_at y y_step 0) 0 place
 flat_place_begun x y x_step y_step place f g p = subst₂ (λ (a b : ℤ). IsFlatPlace a b 0 place) (first_step x x_step f) (first_step y y_step g) p
+
+-- a step, as the code has its word
+pub texel_place_word : (step : ℤ) (place : ℕ) → FitsSigned w32 step → IsTexelPlace (to_z w32 (of_z w32 step)) place → IsTexelPlace step place
+texel_place_word step place f p = subst (λ (z : ℤ). IsTexelPlace z place) (to_z-of_z w32 step f) p
+
+pub flat_place_words : (x y : ℤ) (place : ℕ) → FitsSigned w32 x → FitsSigned w32 y → IsFlatPlace (to_z w32 (of_z w32 x)) (to_z w32 (of_z w32 y)) 0 place → IsFlatPlace x y 0 place
+flat_place_words x y place f g p = subst₂ (λ (a b : ℤ). IsFlatPlace a b 0 place) (to_z-of_z w32 x f) (to_z-of_z w32 y g) p
+
+-- so many steps further on
+pub texel_place_later : (first step : ℤ) (k m n place : ℕ) → k + m ≡ n → IsTexelPlace (step_at (step_at first step k) step m) place → IsTexelPlace (step_at first step n) place
+texel_place_later first step k m n place e p = subst (λ (z : ℤ). IsTexelPlace z place) (step_at-on first step k m n e) p
+
+pub flat_place_later : (x y x_step y_step : ℤ) (k m n place : ℕ) → k + m ≡ n →
+    IsFlatPlace (step_at (step_at x x_step k) x_step m) (step_at (step_at y y_step k) y_step m) (k + m) place →
+    IsFlatPlace (step_at x x_step n) (step_at y y_step n) n place
+flat_place_later x y x_step y_step k m n place e p =
+    flat_place-on _ _ _ _ (k + m) n place (step_at-on x x_step k m n e) (step_at-on y y_step k m n e) (omega (arith, e)) p

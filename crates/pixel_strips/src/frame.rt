@@ -1,16 +1,15 @@
 // A frame of palette indices.
-ghost use Rattle.std.specs.Prelude.{◌≡◌, ◌+◌, ◌<◌, ◌≤◌, ◌*◌, ℕ, ℤ, List, length, replicate, IfOk};
+ghost use Rattle.std.specs.Prelude.{◌≡◌, ◌+◌, ◌<◌, ◌≤◌, ◌*◌, ℕ, ℤ, List, length, max, replicate, IfOk};
 ghost use Rattle.word_rules.specs.Steps.{step_at};
 ghost use Rattle.view_rules.specs.declared.TheConstants.{FRAME_WIDTH};
 ghost use Rattle.pixel_rules.specs.declared.TheConstants.{FRAME_CELLS, TEXEL_ROWS, MAP_COLOURS};
 ghost use Rattle.pixel_strips.specs.declared.texels.TheConstants.{FLAT_BYTES};
-ghost use Rattle.pixel_strips.specs.Canvases.{CanvasView, blank, marked_by_colour, fill_cells};
+ghost use Rattle.pixel_strips.specs.Canvases.{CanvasView, blank, marked_by_colour};
 ghost use Rattle.pixel_strips.specs.Fills.{ColumnFilled, SpanFilled};
 ghost use Rattle.pixel_strips.specs.Places.{IsTexelPlace, IsFlatPlace};
-ghost use Rattle.pixel_strips.specs.Strips.{cut_colour, cut_span_colour};
 
 use crate::canvas::{Canvas, CutColumn, CutSpan};
-use crate::places::{flat_place_at, packed_after, packed_place, place_after, row_at, texel_place};
+use crate::places::{flat_place_at, packed_after, packed_place, places_after, row_at, texel_place};
 use pixel_rules::{FRAME_CELLS, Painter};
 use std::alloc::{AllocError, Global};
 use std::marker::Model;
@@ -121,71 +120,105 @@ impl Canvas for Frame {
     }
 }
 
-// Sets `count` cells below one another, the first at `start`: four a round, and then the rest. `cut`
-// is copied: behind each write to a cell its fields would be read again. Not inlined, so that the
-// loops are the same in every caller.
+// Sets `count` cells below one another, the first at `start`. `cut` is copied: behind each write to a
+// cell its fields would be read again. Not inlined, so that the loops are the same in every caller.
 #[inline(never)]
 fn fill_column(cells: &mut [u8], start: usize, count: usize, cut: &CutColumn<'_>)
     requires size { length cells.old ≡ FRAME_CELLS }
     requires within { start + FRAME_WIDTH * count < FRAME_CELLS + FRAME_WIDTH }
     requires texels { length cut.now.texels.now ≡ TEXEL_ROWS }
     requires shades { length cut.now.shades.now ≡ MAP_COLOURS }
-    ensures { cells.new ≡ fill_cells (λ k. start + FRAME_WIDTH * k)
-        (λ k. cut_colour cut.now.texels.now cut.now.shades.now
-        (step_at cut.now.fraction cut.now.step k)) count cells.old }
+    ensures { ColumnFilled cut.now.texels.now cut.now.shades.now cut.now.fraction cut.now.step
+        start count cells.old cells.new }
 {
     let cut = *cut;
-    let fours = count / 4;
-    let step = texel_place(cut.step);
-    let mut place = fill_fours(cells, start, fours, &cut);
-    for k in 4 * fours..count {
-        fill_row(cells, start + FRAME_WIDTH as usize * k, place, &cut);
-        place = place_after(place, step);
+    if count < 4 {
+        fill_few(cells, start, count, &cut);
+    } else {
+        fill_fours(cells, start, count, &cut);
     }
 }
 
-// Sets four times so many cells below one another, and gives the place of the next. Four places
-// are reckoned from one, so that none waits for another.
+// Sets few cells below one another, one by one.
 #[inline(always)]
-fn fill_fours(cells: &mut [u8], start: usize, fours: usize, cut: &CutColumn<'_>) -> u32
+fn fill_few(cells: &mut [u8], start: usize, count: usize, cut: &CutColumn<'_>)
     requires size { length cells.old ≡ FRAME_CELLS }
-    requires within { start + FRAME_WIDTH * (4 * fours) < FRAME_CELLS + FRAME_WIDTH }
+    requires within { start + FRAME_WIDTH * count < FRAME_CELLS + FRAME_WIDTH }
     requires texels { length cut.now.texels.now ≡ TEXEL_ROWS }
     requires shades { length cut.now.shades.now ≡ MAP_COLOURS }
-    ensures cells { ColumnFilled cut.now.texels.now cut.now.shades.now cut.now.fraction
-        cut.now.step start (4 * fours) cells.old cells.new }
-    ensures place { IsTexelPlace (step_at cut.now.fraction cut.now.step (4 * fours)) result }
+    ensures { ColumnFilled cut.now.texels.now cut.now.shades.now cut.now.fraction cut.now.step
+        start count cells.old cells.new }
+{
+    let step = texel_place(cut.step);
+    let mut place = texel_place(cut.fraction);
+    for k in 0..count {
+        fill_row(cells, start + FRAME_WIDTH as usize * k, place, cut);
+        place = places_after(place, step, 1);
+    }
+}
+
+// Sets four cells or more below one another, four a round. The last four are set once more or for
+// the first time, so that no second loop ends where nobody can foretell it.
+#[inline(always)]
+fn fill_fours(cells: &mut [u8], start: usize, count: usize, cut: &CutColumn<'_>)
+    requires size { length cells.old ≡ FRAME_CELLS }
+    requires within { start + FRAME_WIDTH * count < FRAME_CELLS + FRAME_WIDTH }
+    requires four { 4 ≤ count }
+    requires texels { length cut.now.texels.now ≡ TEXEL_ROWS }
+    requires shades { length cut.now.shades.now ≡ MAP_COLOURS }
+    ensures { ColumnFilled cut.now.texels.now cut.now.shades.now cut.now.fraction cut.now.step
+        start count cells.old cells.new }
 {
     let width = FRAME_WIDTH as usize;
     let step = texel_place(cut.step);
-    let twice = place_after(step, step);
-    let thrice = place_after(twice, step);
-    let four = place_after(thrice, step);
-    let mut place = texel_place(cut.fraction);
-    for k in 0..fours {
-        let cell = start + 4 * width * k;
-        fill_row(cells, cell, place, cut);
-        fill_row(cells, cell + width, place_after(place, step), cut);
-        fill_row(cells, cell + 2 * width, place_after(place, twice), cut);
-        fill_row(cells, cell + 3 * width, place_after(place, thrice), cut);
-        place = place_after(place, four);
+    let first = texel_place(cut.fraction);
+    let mut place = first;
+    for k in 0..(count - 1) / 4 {
+        fill_four(cells, start + 4 * width * k, place, step, cut);
+        place = places_after(place, step, 4);
     }
-    place
+    let done = count - 4;
+    let last = places_after(first, step, done as u32);
+    fill_four(cells, start + width * done, last, step, cut);
 }
 
-// Sets one cell of a column.
+// Sets four cells below one another, of which some may be set already: row `n` of a column and the
+// three below. Four places are reckoned from one, so that none waits for another.
+#[inline(always)]
+fn fill_four(cells: &mut [u8], cell: usize, place: u32, step: u32, cut: &CutColumn<'_>)
+    requires size { length cells.old ≡ FRAME_CELLS }
+    requires within { cell + 3 * FRAME_WIDTH < FRAME_CELLS }
+    requires texels { length cut.now.texels.now ≡ TEXEL_ROWS }
+    requires shades { length cut.now.shades.now ≡ MAP_COLOURS }
+    ensures { (fraction : ℤ) (start n so_far : ℕ) (before : List ℕ) →
+        cell ≡ start + FRAME_WIDTH * n → n ≤ so_far → so_far ≤ n + 4 →
+        IsTexelPlace cut.now.step step → IsTexelPlace (step_at fraction cut.now.step n) place →
+        ColumnFilled cut.now.texels.now cut.now.shades.now fraction cut.now.step start so_far
+        before cells.old →
+        ColumnFilled cut.now.texels.now cut.now.shades.now fraction cut.now.step start (n + 4)
+        before cells.new }
+{
+    let width = FRAME_WIDTH as usize;
+    fill_row(cells, cell, place, cut);
+    fill_row(cells, cell + width, places_after(place, step, 1), cut);
+    fill_row(cells, cell + 2 * width, places_after(place, step, 2), cut);
+    fill_row(cells, cell + 3 * width, places_after(place, step, 3), cut);
+}
+
+// Sets the cell of row `n` of a column, which may be set already.
 #[inline(always)]
 fn fill_row(cells: &mut [u8], cell: usize, place: u32, cut: &CutColumn<'_>)
     requires size { length cells.old ≡ FRAME_CELLS }
     requires within { cell < FRAME_CELLS }
     requires texels { length cut.now.texels.now ≡ TEXEL_ROWS }
     requires shades { length cut.now.shades.now ≡ MAP_COLOURS }
-    ensures { (fraction : ℤ) (start n : ℕ) (before : List ℕ) → cell ≡ start + FRAME_WIDTH * n →
+    ensures { (fraction : ℤ) (start n so_far : ℕ) (before : List ℕ) →
+        cell ≡ start + FRAME_WIDTH * n → n ≤ so_far →
         IsTexelPlace (step_at fraction cut.now.step n) place →
-        ColumnFilled cut.now.texels.now cut.now.shades.now fraction cut.now.step start n
+        ColumnFilled cut.now.texels.now cut.now.shades.now fraction cut.now.step start so_far
         before cells.old →
-        ColumnFilled cut.now.texels.now cut.now.shades.now fraction cut.now.step start (n + 1)
-        before cells.new }
+        ColumnFilled cut.now.texels.now cut.now.shades.now fraction cut.now.step start
+        (max so_far (n + 1)) before cells.new }
 {
     cells[cell] = cut.shades[cut.texels[row_at(place)] as usize];
 }
@@ -198,63 +231,96 @@ fn fill_span(cells: &mut [u8], start: usize, count: usize, cut: &CutSpan<'_>)
     requires few { count ≤ FRAME_WIDTH }
     requires texels { length cut.now.texels.now ≡ FLAT_BYTES }
     requires shades { length cut.now.shades.now ≡ MAP_COLOURS }
-    ensures { cells.new ≡ fill_cells (λ k. start + k)
-        (λ k. cut_span_colour cut.now.texels.now cut.now.shades.now
-        (step_at cut.now.x_fraction cut.now.x_step k)
-        (step_at cut.now.y_fraction cut.now.y_step k)) count cells.old }
+    ensures { SpanFilled cut.now.texels.now cut.now.shades.now cut.now.x_fraction
+        cut.now.y_fraction cut.now.x_step cut.now.y_step start count cells.old cells.new }
 {
     let cut = *cut;
-    let fours = count / 4;
-    let step = packed_place(cut.x_step, cut.y_step);
-    let mut place = fill_across(cells, start, fours, &cut);
-    for k in 4 * fours..count {
-        fill_one(cells, start + k, place, &cut);
-        place = packed_after(place, step);
+    if count < 4 {
+        fill_few_across(cells, start, count, &cut);
+    } else {
+        fill_fours_across(cells, start, count, &cut);
     }
 }
 
-// Sets four times so many cells side by side, and gives the place of the next.
+// Sets few cells side by side, one by one.
 #[inline(always)]
-fn fill_across(cells: &mut [u8], start: usize, fours: usize, cut: &CutSpan<'_>) -> u64
+fn fill_few_across(cells: &mut [u8], start: usize, count: usize, cut: &CutSpan<'_>)
     requires size { length cells.old ≡ FRAME_CELLS }
-    requires within { start + 4 * fours ≤ FRAME_CELLS }
-    requires few { 4 * fours ≤ FRAME_WIDTH }
+    requires within { start + count ≤ FRAME_CELLS }
+    requires few { count ≤ FRAME_WIDTH }
     requires texels { length cut.now.texels.now ≡ FLAT_BYTES }
     requires shades { length cut.now.shades.now ≡ MAP_COLOURS }
-    ensures cells { SpanFilled cut.now.texels.now cut.now.shades.now cut.now.x_fraction
-        cut.now.y_fraction cut.now.x_step cut.now.y_step start (4 * fours) cells.old cells.new }
-    ensures place { IsFlatPlace (step_at cut.now.x_fraction cut.now.x_step (4 * fours))
-        (step_at cut.now.y_fraction cut.now.y_step (4 * fours)) (4 * fours) result }
+    ensures { SpanFilled cut.now.texels.now cut.now.shades.now cut.now.x_fraction
+        cut.now.y_fraction cut.now.x_step cut.now.y_step start count cells.old cells.new }
 {
     let step = packed_place(cut.x_step, cut.y_step);
-    let twice = packed_after(step, step);
-    let thrice = packed_after(twice, step);
-    let four = packed_after(thrice, step);
     let mut place = packed_place(cut.x_fraction, cut.y_fraction);
-    for k in 0..fours {
-        let cell = start + 4 * k;
-        fill_one(cells, cell, place, cut);
-        fill_one(cells, cell + 1, packed_after(place, step), cut);
-        fill_one(cells, cell + 2, packed_after(place, twice), cut);
-        fill_one(cells, cell + 3, packed_after(place, thrice), cut);
-        place = packed_after(place, four);
+    for k in 0..count {
+        fill_one(cells, start + k, place, cut);
+        place = packed_after(place, step, 1);
     }
-    place
 }
 
-// Sets one cell of a span.
+// Sets four cells or more side by side, four a round, and the last four likewise.
+#[inline(always)]
+fn fill_fours_across(cells: &mut [u8], start: usize, count: usize, cut: &CutSpan<'_>)
+    requires size { length cells.old ≡ FRAME_CELLS }
+    requires within { start + count ≤ FRAME_CELLS }
+    requires four { 4 ≤ count }
+    requires few { count ≤ FRAME_WIDTH }
+    requires texels { length cut.now.texels.now ≡ FLAT_BYTES }
+    requires shades { length cut.now.shades.now ≡ MAP_COLOURS }
+    ensures { SpanFilled cut.now.texels.now cut.now.shades.now cut.now.x_fraction
+        cut.now.y_fraction cut.now.x_step cut.now.y_step start count cells.old cells.new }
+{
+    let step = packed_place(cut.x_step, cut.y_step);
+    let first = packed_place(cut.x_fraction, cut.y_fraction);
+    let mut place = first;
+    for k in 0..(count - 1) / 4 {
+        fill_four_across(cells, start + 4 * k, place, step, cut);
+        place = packed_after(place, step, 4);
+    }
+    let done = count - 4;
+    let last = packed_after(first, step, done as u64);
+    fill_four_across(cells, start + done, last, step, cut);
+}
+
+// Sets four cells side by side, of which some may be set already: column `n` of a span and the three
+// to the right.
+#[inline(always)]
+fn fill_four_across(cells: &mut [u8], cell: usize, place: u64, step: u64, cut: &CutSpan<'_>)
+    requires size { length cells.old ≡ FRAME_CELLS }
+    requires within { cell + 3 < FRAME_CELLS }
+    requires texels { length cut.now.texels.now ≡ FLAT_BYTES }
+    requires shades { length cut.now.shades.now ≡ MAP_COLOURS }
+    ensures { (x y : ℤ) (start n so_far : ℕ) (before : List ℕ) → n + 3 < FRAME_WIDTH →
+        cell ≡ start + n → n ≤ so_far → so_far ≤ n + 4 → IsFlatPlace cut.now.x_step cut.now.y_step 0 step →
+        IsFlatPlace (step_at x cut.now.x_step n) (step_at y cut.now.y_step n) n place →
+        SpanFilled cut.now.texels.now cut.now.shades.now x y cut.now.x_step cut.now.y_step
+        start so_far before cells.old →
+        SpanFilled cut.now.texels.now cut.now.shades.now x y cut.now.x_step cut.now.y_step
+        start (n + 4) before cells.new }
+{
+    fill_one(cells, cell, place, cut);
+    fill_one(cells, cell + 1, packed_after(place, step, 1), cut);
+    fill_one(cells, cell + 2, packed_after(place, step, 2), cut);
+    fill_one(cells, cell + 3, packed_after(place, step, 3), cut);
+}
+
+// Sets the cell of column `n` of a span, which may be set already.
 #[inline(always)]
 fn fill_one(cells: &mut [u8], cell: usize, place: u64, cut: &CutSpan<'_>)
     requires size { length cells.old ≡ FRAME_CELLS }
     requires within { cell < FRAME_CELLS }
     requires texels { length cut.now.texels.now ≡ FLAT_BYTES }
     requires shades { length cut.now.shades.now ≡ MAP_COLOURS }
-    ensures { (x y : ℤ) (start n : ℕ) (before : List ℕ) → n < FRAME_WIDTH → cell ≡ start + n →
+    ensures { (x y : ℤ) (start n so_far : ℕ) (before : List ℕ) → n < FRAME_WIDTH →
+        cell ≡ start + n → n ≤ so_far →
         IsFlatPlace (step_at x cut.now.x_step n) (step_at y cut.now.y_step n) n place →
         SpanFilled cut.now.texels.now cut.now.shades.now x y cut.now.x_step cut.now.y_step
-        start n before cells.old →
+        start so_far before cells.old →
         SpanFilled cut.now.texels.now cut.now.shades.now x y cut.now.x_step cut.now.y_step
-        start (n + 1) before cells.new }
+        start (max so_far (n + 1)) before cells.new }
 {
     cells[cell] = cut.shades[cut.texels[flat_place_at(place)] as usize];
 }

@@ -3,7 +3,7 @@
 ghost use Rattle.std.specs.Prelude.{◌≡◌, ◌+◌, ◌<◌, ℕ, ℤ};
 ghost use Rattle.pixel_rules.specs.declared.TheConstants.{TEXEL_ROWS};
 ghost use Rattle.pixel_rules.specs.Strips.{texel_row, flat_place};
-ghost use Rattle.word_rules.specs.Words.{plus};
+ghost use Rattle.word_rules.specs.Steps.{step_at};
 ghost use Rattle.pixel_strips.specs.declared.texels.TheConstants.{FLAT_BYTES};
 ghost use Rattle.pixel_strips.specs.Places.{IsTexelPlace, IsFlatPlace};
 
@@ -41,13 +41,13 @@ pub fn texel_place(fraction: i32) -> u32
     fraction.cast_unsigned() << ROW_LIFT
 }
 
-/// The place after one step.
+/// The place after `count` steps.
 #[inline(always)]
-pub fn place_after(place: u32, step: u32) -> u32
+pub fn places_after(place: u32, step: u32, count: u32) -> u32
     ensures { (a b : ℤ) → IsTexelPlace a place → IsTexelPlace b step →
-        IsTexelPlace (plus a b) result }
+        IsTexelPlace (step_at a b count) result }
 {
-    place.wrapping_add(step)
+    place.wrapping_add(step.wrapping_mul(count))
 }
 
 /// The texel row of a place, 0 to 127.
@@ -71,15 +71,14 @@ pub fn packed_place(x_fraction: i32, y_fraction: i32) -> u64
     ((y as u64) << u32::BITS) + x as u64
 }
 
-/// The place after one step, or the sum of two steps, with one carry more at most.
-#[tactic(auto, using(crate::proofs::PlaceLemmas::flat_place_more))]
+/// The place after `count` steps, with one carry a step more at most.
 #[inline(always)]
-pub fn packed_after(place: u64, step: u64) -> u64
-    ensures { (x y a b : ℤ) (most few : ℕ) → most + few + 1 < CARRIES →
-        IsFlatPlace x y most place → IsFlatPlace a b few step →
-        IsFlatPlace (plus x a) (plus y b) (most + few + 1) result }
+pub fn packed_after(place: u64, step: u64, count: u64) -> u64
+    ensures { (x y a b : ℤ) (most : ℕ) → most + count < CARRIES →
+        IsFlatPlace x y most place → IsFlatPlace a b 0 step →
+        IsFlatPlace (step_at x a count) (step_at y b count) (most + count) result }
 {
-    place.wrapping_add(step)
+    place.wrapping_add(step.wrapping_mul(count))
 }
 
 /// The texel of a flat, 0 to 4095, row by row, that a place stands for.

@@ -31,28 +31,16 @@ pub(crate) fn bearing(tables: &Tables, x: i32, y: i32) -> u32
     }
     let a = abs_word(x).unsigned_abs();
     let b = abs_word(y).unsigned_abs();
-    if x >= 0 {
-        if y >= 0 {
-            if b < a {
-                slope_angle(tables, b, a)
-            } else {
-                turn_back(ANG90 - 1, slope_angle(tables, a, b))
-            }
-        } else if b < a {
-            turn_back(0, slope_angle(tables, b, a))
-        } else {
-            turn(ANG270, slope_angle(tables, a, b))
-        }
-    } else if y >= 0 {
-        if b < a {
-            turn_back(ANG180 - 1, slope_angle(tables, b, a))
-        } else {
-            turn(ANG90, slope_angle(tables, a, b))
-        }
-    } else if b < a {
-        turn(ANG180, slope_angle(tables, b, a))
-    } else {
-        turn_back(ANG270 - 1, slope_angle(tables, a, b))
+    let slope = slope_angle(tables, a.min(b), a.max(b));
+    match (x < 0, y < 0, a <= b) {
+        (false, false, false) => slope,
+        (false, false, true) => turn_back(ANG90 - 1, slope),
+        (false, true, false) => turn_back(0, slope),
+        (false, true, true) => turn(ANG270, slope),
+        (true, false, false) => turn_back(ANG180 - 1, slope),
+        (true, false, true) => turn(ANG90, slope),
+        (true, true, false) => turn(ANG180, slope),
+        (true, true, true) => turn_back(ANG270 - 1, slope),
     }
 }
 

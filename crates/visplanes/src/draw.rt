@@ -151,8 +151,21 @@ fn close_rows<C: Canvas>(
     paint_rows(floor, starts, below, x, canvas);
 }
 
-// Paints the spans of these rows, each to the column before `x`.
+// Paints the spans of these rows, each to the column before `x`. Often there is none.
+#[inline(always)]
 fn paint_rows<C: Canvas>(floor: &Floor<'_, '_>, starts: &[u16], rows: Rows, x: u16, canvas: &mut C)
+    requires spans { AreOpen floor.now starts.now rows x (C.view canvas.old) }
+    ensures { C.view canvas.new ≡ with_dots C.mark
+        (closed_rows floor.now (C.view canvas.old).painter (slice_index starts.now) x rows.begin
+        (rows.end - rows.begin)) (C.view canvas.old) }
+{
+    if rows.begin < rows.end {
+        paint_spans(floor, starts, rows, x, canvas);
+    }
+}
+
+// Paints the spans of these rows, of which there is one at least, each to the column before `x`.
+fn paint_spans<C: Canvas>(floor: &Floor<'_, '_>, starts: &[u16], rows: Rows, x: u16, canvas: &mut C)
     requires spans { AreOpen floor.now starts.now rows x (C.view canvas.old) }
     ensures { C.view canvas.new ≡ with_dots C.mark
         (closed_rows floor.now (C.view canvas.old).painter (slice_index starts.now) x rows.begin

@@ -248,6 +248,7 @@ impl ColumnState {
     }
 
     /// Marks and saves the columns of a fragment, from left to right.
+    #[inline(always)]
     pub fn count_columns(
         &mut self,
         view: &View<'_>,

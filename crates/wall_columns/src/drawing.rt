@@ -7,7 +7,7 @@ ghost use Rattle.wall_columns.specs.Columns.{plane_number, columns_of, HasMarked
 ghost use Rattle.wall_columns.specs.Drawn.{CanPaint, PaintsColumns};
 ghost use Rattle.wall_columns.specs.Tools.{AreSameWallTools};
 
-use crate::clips::has_part;
+use crate::clips::{has_part, has_texture};
 use crate::column_state::{ColumnState, save_column};
 use crate::fault::DrawFault;
 use crate::notes::SavePlaces;
@@ -57,6 +57,54 @@ impl ColumnState {
             self.count_columns(tools.view, tools.planes, fragment, numbers, places);
             return Ok(());
         }
+        // A loop for each kind of fragment, without what the kind has not.
+        if has_texture(numbers.middle_part) {
+            return self.draw_each(tools, number, fragment, numbers, places);
+        }
+        if !has_texture(numbers.bottom_part) {
+            return self.draw_each(tools, number, fragment, numbers, places);
+        }
+        if !has_texture(numbers.top_part) {
+            return self.draw_each(tools, number, fragment, numbers, places);
+        }
+        self.draw_each(tools, number, fragment, numbers, places)
+    }
+
+    // Marks, paints and saves the columns of fragment `number`, from left to right. Inlined, so that
+    // each call is a loop of its own.
+    #[inline(always)]
+    fn draw_each<S: Shelf, C: Canvas>(
+        &mut self,
+        tools: &mut WallTools<'_, S, C>,
+        number: u16,
+        fragment: &Fragment,
+        numbers: &FragmentNumbers,
+        places: SavePlaces,
+    ) -> Result<(), DrawFault>
+        requires numbers { numbers.now ≡ fragment.now.numbers }
+        requires height { self.old.windows.height ≡ tools.old.view.now.shape.height }
+        requires paints { CanPaint tools.old.view.now tools.old.dir.now tools.old.textures.now
+            tools.old.colormap.0 tools.old.cache.now (C.view tools.old.canvas.now) fragment.now }
+        requires places { ArePlacesIn (columns_of fragment.now)
+            (length self.old.openings.saved) places }
+        requires floor { IsAmongPlanes tools.old.planes.now.planes (plane_number self.old.floor) }
+        requires ceiling { IsAmongPlanes tools.old.planes.now.planes
+            (plane_number self.old.ceiling) }
+        ensures same { AreSameWallTools tools.old tools.new }
+        ensures limit { limit_of_result result ≡ None }
+        ensures marked { OnOk result (HasMarked fragment.now (columns_of fragment.now) self.old
+            self.new tools.old.planes.now tools.new.planes.now) }
+        ensures saved { OnOk result (HasSaved tools.old.view.now fragment.now places
+            (columns_of fragment.now) self.old self.new.openings) }
+        ensures paints { PaintsColumns tools.old.view.now tools.old.dir.now tools.old.textures.now
+            tools.old.colormap.0 C.mark number fragment.now (window_at self.old.windows)
+            (columns_of fragment.now) (S.view tools.old.shelf.now) (S.view tools.new.shelf.now)
+            tools.old.cache.now tools.new.cache.now (C.view tools.old.canvas.now)
+            (C.view tools.new.canvas.now) result }
+        ensures height { self.new.windows.height ≡ self.old.windows.height }
+        ensures room { self.new.openings.room ≡ self.old.openings.room }
+        ensures planes_room { tools.new.planes.now.room ≡ tools.old.planes.now.room }
+    {
         let mut stepper = Stepper::new(fragment);
         let mut k: u32 = 0;
         loop {

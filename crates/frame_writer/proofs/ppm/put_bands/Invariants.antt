@@ -3,10 +3,10 @@ use Rattle.std.specs.List.{flat_map}
 use Rattle.outside.specs.declared.shelf.Failed.{Failed}
 use Rattle.outside.specs.Sink.{Writes}
 use Rattle.frame_writer.specs.declared.ppm.TheConstants.{BAND_BYTES}
-use Rattle.frame_writer.specs.Ppm.{colour}
+use Rattle.frame_writer.specs.Words.{word_colour}
 use Rattle.frame_writer.proofs.ppm.put_bands.Given as goal
 
 abbrev pub invariant-loop-band : goal.invariant-loop-band
 invariant-loop-band g l =
     Writes {E = Failed} (g.K.Sink.written l.fn.sink) (g.K.Sink.written l.sink) (g.K.Sink.faults l.fn.sink) (g.K.Sink.faults l.sink)
-    (flat_map (colour l.playpal) (take (BAND_BYTES * l.band) l.frame)) (Ok tt)
+    (flat_map (word_colour l.words) (take (BAND_BYTES * l.band) l.frame)) (Ok tt)

@@ -1,6 +1,7 @@
-use Rattle.std.proofs.Common.{refl}
+use Rattle.std.proofs.Common.{List, ◌++◌, ℕ, ap, refl}
 use Rattle.std.specs.List.{flat_map}
 use Rattle.frame_writer.specs.Ppm.{colour, ppm, ppm_header}
+use Rattle.frame_writer.proofs.WordLemmas.{words_frame}
 use Rattle.outside.proofs.WriteLemmas.{writes_stop, writes_then}
 use Rattle.frame_writer.proofs.ppm.put_ppm.Goals as goal
 
@@ -11,4 +12,6 @@ returns-in_err-put g c =
 
 pub returns : goal.returns
 unfolding ppm ppm_header
-returns g c = writes_then _ c.put.ensures _ c.in_ok-put.was c.put_bands.ensures refl
+returns g c =
+    writes_then _ c.put.ensures _ c.in_ok-put.was c.put_bands.ensures
+    (ap (λ (xs : List ℕ). ppm_header ++ xs) (words_frame c.words_of-words.result c.args.playpal.now c.args.frame.now c.words_of-words.ensures.colours))

@@ -1,35 +1,13 @@
-use Rattle.std.proofs.Common.{ℕ, ◌+◌, ◌-◌, List, ap, sym, ◌∙◌, arith}
+use Rattle.std.proofs.Common.{◌-◌, List, ap, sym, ◌∙◌, arith}
 use Rattle.std.specs.Prelude.{slice_index}
 use Rattle.pixel_rules.specs.Dots.{Dot}
-use Rattle.pixel_strips.specs.Canvases.{CanvasView, with_dots}
+use Rattle.pixel_strips.specs.Canvases.{with_dots}
 use Rattle.pixel_strips.proofs.CanvasLemmas.{dots_none}
-use Rattle.visplanes.specs.Spans.{closed_rows, row_dots}
-use Rattle.visplanes.proofs.DotLemmas.{closed_rows-none, closed_rows-more}
-use Rattle.visplanes.proofs.DrawLemmas.{dots_append}
+use Rattle.visplanes.proofs.DotLemmas.{closed_rows-none}
 use Rattle.visplanes.proofs.draw.paint_rows.Goals as goal
 
-pub loop-y-init : goal.loop-y-init
-loop-y-init g c =
+pub returns-else-rows : goal.returns-else-rows
+returns-else-rows g c =
     let old = g.C.Canvas.view c.args.canvas.now in
-    record {
-      from = omega arith;
-      idle = omega arith;
-      painted = dots_none g.C.Canvas.mark old
-          ∙ ap (λ (dots : List Dot). with_dots g.C.Canvas.mark dots old) (sym (closed_rows-none c.args.floor.now old.painter (slice_index c.args.starts.now) c.args.x c.args.rows.begin (c.args.rows.begin - c.args.rows.begin) (omega arith)));
-    }
-
-pub loop-y-preserved : goal.loop-y-preserved
-loop-y-preserved g c =
-    let old = g.C.Canvas.view c.args.canvas.now in
-    let i = c.loop-y.invariant in
-    let start : ℕ → ℕ = slice_index c.args.starts.now in
-    let above : List Dot = closed_rows c.args.floor.now old.painter start c.args.x c.args.rows.begin (c.loop-y.y - c.args.rows.begin) in
-    record {
-      from = omega (arith, i.from);
-      idle = omega (arith, c.loop-y-test.true);
-      painted = c.paint_row.ensures
-          ∙ ap (λ (v : CanvasView). with_dots g.C.Canvas.mark (row_dots c.args.floor.now v.painter c.loop-y.y (start c.loop-y.y) (c.args.x - 1)) v) i.painted
-          ∙ dots_append g.C.Canvas.mark above (row_dots c.args.floor.now old.painter c.loop-y.y (start c.loop-y.y) (c.args.x - 1)) old
-          ∙ ap (λ (dots : List Dot). with_dots g.C.Canvas.mark dots old)
-          (closed_rows-more c.args.floor.now old.painter start c.args.x c.args.rows.begin (c.loop-y.y - c.args.rows.begin) (c.loop-y.y + 1 - c.args.rows.begin) c.loop-y.y (omega (arith, i.from)) (omega (arith, i.from)));
-    }
+    dots_none g.C.Canvas.mark old
+    ∙ ap (λ (dots : List Dot). with_dots g.C.Canvas.mark dots old) (sym (closed_rows-none c.args.floor.now old.painter (slice_index c.args.starts.now) c.args.x c.args.rows.begin (c.args.rows.end - c.args.rows.begin) (omega (arith, c.if-rows.false))))

@@ -15,7 +15,7 @@ returns c =
     let first = c.args.first in
     let colour_of : ℕ → ℕ = cut_strip_colour cut.texels.now cut.shades.now cut.fraction cut.step first in
     let put : List ℕ → List ℕ = put_dots marked_by_colour inside.left inside.top (column_strip_dots inside.painter c.args.x colour_of first c.args.last) in
-    ap (view_with inside.painter inside.left inside.top) (with_items_is inside.cells c.fill_column.new.cells (omega arith) ∙ c.fill_column.ensures
+    ap (view_with inside.painter inside.left inside.top) (with_items_is inside.cells c.fill_column.new.cells (omega arith) ∙ c.fill_column.ensures.filled
     ∙ fill_cells-column inside.painter inside.left inside.top c.args.x colour_of first c.args.last _ _ _ _ (omega arith) (omega arith)
     (cut_strip_from cut.texels.now cut.shades.now cut.fraction cut.step first)
     ∙ ap put c.deref_mut.ensures.value)

@@ -2,7 +2,7 @@ use Rattle.std.proofs.Common.{◌*◌}
 use Rattle.word_rules.specs.Steps.{step_at}
 use Rattle.pixel_strips.specs.Fills.{SpanFilled}
 use Rattle.pixel_strips.specs.Places.{IsFlatPlace}
-use Rattle.pixel_strips.proofs.frame.fill_across.Given as goal
+use Rattle.pixel_strips.proofs.frame.fill_fours_across.Given as goal
 
 -- four times k cells are set, and the place is that of the next one, with at most one carry a step
 abbrev pub invariant-loop-k : goal.invariant-loop-k

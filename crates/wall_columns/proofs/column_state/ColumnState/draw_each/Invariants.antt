@@ -5,7 +5,7 @@ use Rattle.wall_columns.specs.Windows.{window_at}
 use Rattle.wall_columns.specs.Columns.{HasMarked, HasSaved}
 use Rattle.wall_columns.specs.Drawn.{PaintsColumns}
 use Rattle.wall_columns.specs.Tools.{AreSameWallTools}
-use Rattle.wall_columns.proofs.column_state.ColumnState.draw_columns.Given as goal
+use Rattle.wall_columns.proofs.column_state.ColumnState.draw_each.Given as goal
 
 abbrev pub invariant-loop-edges : goal.invariant-loop-edges
 invariant-loop-edges g l = record {

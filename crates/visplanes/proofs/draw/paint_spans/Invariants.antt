@@ -2,7 +2,7 @@ use Rattle.std.proofs.Common.{◌≡◌, ◌-◌, ◌≤◌, max}
 use Rattle.std.specs.Prelude.{slice_index}
 use Rattle.pixel_strips.specs.Canvases.{with_dots}
 use Rattle.visplanes.specs.Spans.{closed_rows}
-use Rattle.visplanes.proofs.draw.paint_rows.Given as goal
+use Rattle.visplanes.proofs.draw.paint_spans.Given as goal
 
 -- the spans of the rows above y are painted
 abbrev pub invariant-loop-y : goal.invariant-loop-y

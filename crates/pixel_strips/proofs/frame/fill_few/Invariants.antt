@@ -1,7 +1,7 @@
 use Rattle.word_rules.specs.Steps.{step_at}
 use Rattle.pixel_strips.specs.Fills.{ColumnFilled}
 use Rattle.pixel_strips.specs.Places.{IsTexelPlace}
-use Rattle.pixel_strips.proofs.frame.fill_column.Given as goal
+use Rattle.pixel_strips.proofs.frame.fill_few.Given as goal
 
 -- k cells are set, and the place is that of the next one
 abbrev pub invariant-loop-k : goal.invariant-loop-k
