@@ -49,7 +49,8 @@ fn put_bands<K: Sink>(sink: &mut K, frame: &[u8], words: &[u8]) -> Result<(), Fa
     requires frame { length frame.now ≡ FRAME_BYTES }
     requires words { length words.now ≡ WORD_BYTES * COLOURS }
     ensures { Writes (K.written sink.old) (K.written sink.new)
-        (K.faults sink.old) (K.faults sink.new) (flat_map (word_colour words.now) frame.now) result }
+        (K.faults sink.old) (K.faults sink.new)
+        (flat_map (word_colour words.now) frame.now) result }
 {
     for band in 0..BANDS {
         let start = BAND_BYTES * band;
