@@ -287,7 +287,8 @@ class Doomview(unittest.TestCase):
         """Words of the script alone: the table of jobs without a build, a build without a job."""
         status, output, error = self.runs('--help')
         self.assertEqual((status, error), (0, ''))
-        for job in ('render MAP', 'limits MAP', 'audit MAP', 'flat NAME', 'make WHAT', 'exercise N'):
+        for job in ('render MAP', 'trace MAP', 'limits MAP', 'audit MAP', 'trim MAP', 'flat NAME', 'make WHAT',
+                    'exercise N'):
             self.assertIn('\n  ' + job, output)
         self.assertEqual(self.runs(), (1, '', 'doomview: usage\n' + output))
         self.assertEqual(self.runs('--built')[:2], (1, ''))

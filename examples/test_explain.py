@@ -39,7 +39,8 @@ class Explain(Scripts):
                            ('803 1', 'lump COLORMAP of made.wad'), ('901 0', 'middle WALL1'),
                            ('903 1', 'sector 1: floor FLAT1, ceiling FLAT1'), ('401 0', 'made.wad'),
                            ('403 0 5', 'made.wad'), ('703 9', 'a texture'),
-                           ('902', "To mend it: put the game's IWAD first"),
+                           ('902', "To mend it: put the game's IWAD first"), ('907 2', 'lump MAP01 of made.wad'),
+                           ('908 65536', ': 65536 entries'), ('909 4294967296', ': 4294967296 bytes'),
                            ('604 9 9 9', '604: '), ('999 1', 'no such code')]:
             self.explains(f'doomview: refused {line}', part=part)
         self.assertIn('(map of made.wad)', self.explains('doomview: refused 901 0', part='901: ')[0])
@@ -85,6 +86,8 @@ class Explain(Scripts):
                             (['audit', *MAP, '--skill', '6'], '--skill is a number from 1 to 5'),
                             (['audit', *MAP, '--zone=65'], '--zone is a multiple of 4'),
                             (['audit', *MAP, '--format', 'ppm'], 'audit takes no --format'),
+                            (['trim', *MAP, '--format', 'ppm'], 'trim takes no --format'),
+                            (['trim', 'MAP01'], 'trim needs --tables and --things and --path too'),
                             (['render', *MAP, '--format', 'png'], '--format is index or ppm'),
                             (['limits', *MAP, '--size'], '--size needs a value'),
                             (['flat', 'A', 'b', '--zone', '64'], 'takes no'),
@@ -100,6 +103,10 @@ class Explain(Scripts):
                                    ('doomview: out of memory', 7, 'memory ran out'),
                                    ('doomview: read fault', 3, 'a file could not be read to its end')]:
             self.explains(line, status=status, part=part)
+        cut = 'no whole WAD; throw it away'
+        self.explains('doomview: zone full wanted 8 widest 4', 'trim', *MAP, status=6, part=cut)
+        self.assertFalse(any(cut in sentence for sentence in
+                             self.explains('doomview: refused 601', 'trim', *MAP, part='601: ')))
         os.remove(self.at('path.csv'))
         self.explains('doomview: read fault', status=3, part='path.csv: No such file')
         os.mkdir(self.at('path.csv'))
