@@ -63,10 +63,6 @@ pub record IsDecidedBy (rule : Option CommandValue) (result : Result Command Com
   pub counted : IfOk result (λ command. IsCounted (command_value command))
   pub usage : IfErr result (λ _. rule ≡ None)
 
--- trim is not built
-unfoldable pub is_built : Text → Bool
-is_built job = not (bytes_eq job (codes "trim"))
-
 -- flat NAME FILE, and no option
 unfoldable pub flat_of : List Row → List Text → Option CommandValue
 flat_of rows [] = None
@@ -124,9 +120,9 @@ job_named rows job rest =
     (cond (bytes_eq job (codes "exercise")) (exercise_of rows rest)
     (level_of rows job rest)))
 
--- the command of what clap found: a job that is built, and words after it
+-- the command of what clap found: a job, and words after it
 unfoldable pub command_in : List Row → Option CommandValue
-command_in rows = option_and_then (λ job. option_and_then (λ rest. cond (is_built job) (job_named rows job rest) None) (all_of (codes "rest") rows)) (first_of (codes "job") rows)
+command_in rows = option_and_then (λ job. option_and_then (λ rest. job_named rows job rest) (all_of (codes "rest") rows)) (first_of (codes "job") rows)
 
 -- the words are a command where clap finds no fault in them, and the table takes what it finds
 unfoldable pub command_of : List Text → Option CommandValue

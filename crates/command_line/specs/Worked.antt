@@ -5,16 +5,16 @@ use Rattle.clap.proofs.OnLiterals.{clap_on_literals}
 use Rattle.numerals.specs.Numerals.{digits_after, is_numeral, numeral}
 use Rattle.lump_rules.specs.Names.{filled}
 use Rattle.command_line.specs.declared.command.MakeJob.TheVariants.{Wad}
-use Rattle.command_line.specs.declared.command.LevelTask.TheVariants.{Audit, Limits, Render}
+use Rattle.command_line.specs.declared.command.LevelTask.TheVariants.{Audit, Limits, Trim, Render}
 use Rattle.command_line.specs.declared.command.Format.TheVariants.{Index, Ppm}
 use Rattle.command_line.specs.Simple.{simple_command, with_files, with_limits, with_option, with_settings}
 use Rattle.command_line.specs.Choices.{format_in, format_named, has_no_files, has_no_options, has_no_settings, multiple_of_step, number_option, number_within, settings_in, zone_in}
 use Rattle.command_line.specs.LevelJobs.{are_wads, files_in, other_level_task, level_task_in, level_job_of}
-use Rattle.command_line.specs.Commands.{command_in, command_of, count_of, exercise, exercise_numbers, exercise_of, flat, flat_of, is_built, job_named, make, make_job_of, make_of, numbered_make, plain_make, level_job, level_of, level_with}
+use Rattle.command_line.specs.Commands.{command_in, command_of, count_of, exercise, exercise_numbers, exercise_of, flat, flat_of, job_named, make, make_job_of, make_of, numbered_make, plain_make, level_job, level_of, level_with}
 
 -- what the rows below unfold
 unfoldable pub words_unfolded : ℕ
-unfolding clap_on_literals digits_after is_numeral numeral filled simple_command with_files with_limits with_option with_settings format_in format_named has_no_files has_no_options has_no_settings multiple_of_step number_option number_within settings_in zone_in are_wads files_in other_level_task level_task_in level_job_of command_in command_of count_of exercise_numbers exercise_of flat_of is_built job_named make_job_of make_of numbered_make plain_make level_of level_with
+unfolding clap_on_literals digits_after is_numeral numeral filled simple_command with_files with_limits with_option with_settings format_in format_named has_no_files has_no_options has_no_settings multiple_of_step number_option number_within settings_in zone_in are_wads files_in other_level_task level_task_in level_job_of command_in command_of count_of exercise_numbers exercise_of flat_of job_named make_job_of make_of numbered_make plain_make level_of level_with
 words_unfolded = 0
 
 -- words after `--` are no options
@@ -69,10 +69,14 @@ pub limits_plain : command_of (level_words (codes "limits") []) ≡ Some (level_
 unfolding words_unfolded
 limits_plain = refl
 
--- a job that is not built
-pub trim_none : command_of (level_words (codes "trim") []) ≡ None
+-- the trimmed file of a level, which has no format
+pub trim_plain : command_of (level_words (codes "trim") []) ≡ Some (level_job Trim (record { map_name = 69 ∷ 49 ∷ 77 ∷ 49 ∷ 0 ∷ 0 ∷ 0 ∷ 0 ∷ []; files = record { tables = codes "t"; things = codes "o"; path = codes "p"; weapon = None }; settings = record { zone = 6291456; skill = 3; size = 11; planes = 128; openings = 20480 } }) (codes "a" ∷ []))
 unfolding words_unfolded
-trim_none = refl
+trim_plain = refl
+
+pub trim_format : command_of (level_words (codes "trim") (codes "--format" ∷ codes "ppm" ∷ [])) ≡ None
+unfolding words_unfolded
+trim_format = refl
 
 -- one made file in the least zone
 pub exercise_least : command_of (codes "exercise" ∷ codes "1" ∷ codes "--zone" ∷ codes "64" ∷ []) ≡ Some (exercise 1 64 Index)

@@ -12,7 +12,7 @@ pub enum Format {
     Ppm,
 }
 
-/// A job over a level. `Trim` is no command yet.
+/// A job over a level.
 #[derive(Clone, Copy, Debug, PartialEq, Eq)]
 pub enum LevelTask {
     Render(Format),

@@ -2,7 +2,7 @@
 
 ghost use Rattle.std.specs.Prelude.{◌≡◌, ◌≢◌, ◌==◌, true, false, [], Err, IfOk, IfErr, IfSome, Some, None, map, option_map, codes, string_bytes};
 ghost use Rattle.clap.specs.Words.{found_of, rows_of};
-ghost use Rattle.command_line.specs.Commands.{IsCommandOf, IsCount, IsCounted, IsCountedMake, IsDecidedBy, IsExercise, command_in, command_of, count_of, exercise_of, flat_of, is_built, job_named, make_job_of, make_of, numbered_make, plain_make, level_of, level_with, exercise_numbers, command_value};
+ghost use Rattle.command_line.specs.Commands.{IsCommandOf, IsCount, IsCounted, IsCountedMake, IsDecidedBy, IsExercise, command_in, command_of, count_of, exercise_of, flat_of, job_named, make_job_of, make_of, numbered_make, plain_make, level_of, level_with, exercise_numbers, command_value};
 
 use crate::choices::{format_in, has_no_options, has_no_settings, number_within, zone_in};
 use crate::command::{Command, CommandFault, Format, LevelTask, MakeJob};
@@ -18,8 +18,7 @@ pub const MIN_COUNT: u32 = 1;
 pub const MAX_COUNT: u32 = 32;
 
 /// The command of the words after the program's name. The number of made files, the size of their
-/// zone in an exercise, and the numbers of a job over a level are in their ranges. The job `trim` is
-/// no command yet.
+/// zone in an exercise, and the numbers of a job over a level are in their ranges.
 ///
 /// Takes memory for what `clap` finds and for the list of WADs.
 ///
@@ -53,23 +52,9 @@ fn command_in<'a>(alloc: Global, found: &ArgMatches<'a>) -> Taken<'a>
         None => Err(CommandFault::Usage),
         Some(job) => match rest(found) {
             None => Err(CommandFault::Usage),
-            Some(rest) => {
-                if is_built(job) {
-                    job_named(alloc, found, job, rest)
-                } else {
-                    Err(CommandFault::Usage)
-                }
-            }
+            Some(rest) => job_named(alloc, found, job, rest),
         },
     }
-}
-
-// Whether the job of that name is built: `trim` is not.
-#[tactic(auto, unfolding(crate::specs::Commands::is_built))]
-fn is_built(job: &str) -> bool
-    ensures { result ≡ is_built job.now }
-{
-    job != "trim"
 }
 
 // The command of the job of that name.

@@ -2,9 +2,8 @@
 //!
 //! Rules: `specs/`, over `clap`'s own words for a simple command. Proved: the words are a command
 //! exactly where clap finds no fault in them and the table of jobs and options takes what it
-//! finds, and the command is that one, with its numbers in their ranges. Two jobs of the table are
-//! no command yet: `trim` and `trace`. Tested only: that memory is found. This project's own: the
-//! original reads its words by `M_CheckParm`, m_argv.c.
+//! finds, and the command is that one, with its numbers in their ranges. Tested only: that memory
+//! is found. This project's own: the original reads its words by `M_CheckParm`, m_argv.c.
 #![tactic(auto)]
 
 mod choices;

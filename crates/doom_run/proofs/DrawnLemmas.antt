@@ -70,24 +70,29 @@ drawn_full level wads files ready stands is wanted widest' (inr (inr layer)) =
       small = layer.room scene.base.colormap (lump_at lumps scene.base.colormap).size stands.rest;
     })
 
+-- no room for what is needed
+pub art_draw : (level : LevelJobValue) (wads : List (List ℕ)) (files : List File) (loaded : LoadedValue) → load_in level wads files ≡ Ok loaded → (wanted widest' : ℕ) → widest' < wanted →
+    IsArtFull loaded.files.lumps (art_with loaded.scene (loaded_pictures loaded)) level.settings.zone wanted → IsFullDraw level wads files wanted widest'
+unfolding loaded_sizes zone_sizes
+art_draw level wads files loaded is wanted widest' narrow full = record {
+  loaded = loaded;
+  is = is;
+  block = full_block loaded level.settings.zone wanted full;
+  narrow = narrow;
+  small = full_room loaded level.settings.zone wanted full;
+  enough = full-small loaded.files.lumps (art_with loaded.scene (loaded_pictures loaded)) level.settings.zone wanted full;
+}
+
 -- no room for a texture or a lump of a view
 pub view_draw : (level : LevelJobValue) (wads : List (List ℕ)) (files : List File) (ready : ReadyViews) → IsReady level ready → load_in level wads files ≡ Ok (loaded_value ready.loaded) → (wanted widest' : ℕ) →
     IsFullView ready wanted widest' → IsFullDraw level wads files wanted widest'
-unfolding loaded_sizes zone_sizes
 view_draw level wads files ready stands is wanted widest' full =
     let loaded : LoadedValue = loaded_value ready.loaded in
     let art : SceneArt = art_with loaded.scene (loaded_pictures loaded) in
     let drawn : IsArtFull loaded.files.lumps art level.settings.zone wanted =
     subst (λ n. IsArtFull loaded.files.lumps art n wanted) stands.zone
     (drawn_full level wads files ready stands is wanted widest' full) in
-    record {
-      loaded = loaded;
-      is = is;
-      block = full_block loaded level.settings.zone wanted drawn;
-      narrow = narrow_of ready wanted widest' full;
-      small = full_room loaded level.settings.zone wanted drawn;
-      enough = full-small loaded.files.lumps art level.settings.zone wanted drawn;
-    }
+    art_draw level wads files loaded is wanted widest' (narrow_of ready wanted widest' full) drawn
 
 -- the same of a scene that is ready
 ready_draw : {wanted widest' : ℕ} (level : LevelJobValue) (wads : List (List ℕ)) (files : List File) → IsFullReady level wads files wanted widest' → IsFullDraw level wads files wanted widest'

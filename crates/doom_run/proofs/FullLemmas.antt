@@ -18,7 +18,9 @@ use Rattle.level_audit.specs.scene_load.Loads.{LoadedValue, load_in, loaded_size
 use Rattle.doom_run.specs.Exercises.{made_files, made_level, made_wads}
 use Rattle.doom_run.specs.Fulls.{HasRoom, IsFullDraw, IsFullRun, IsOver}
 use Rattle.doom_run.specs.Steps.{RunStop, absent, at_step, else_usage}
-use Rattle.doom_run.specs.Verdict.{Accepted, audited, counted, enough_for, exercised, job_verdict, level_verdict, rendered}
+use Rattle.trim_rules.specs.declared.part.TrimPart.{TrimPart}
+use Rattle.doom_run.specs.Trims.{plan_in, trim_of}
+use Rattle.doom_run.specs.Verdict.{Accepted, audited, counted, enough_for, exercised, job_verdict, level_verdict, rendered, trimmed}
 use Rattle.doom_run.specs.Views.{ViewsValue, views_of}
 
 -- steps that ask for no file find none absent
@@ -62,6 +64,43 @@ accepted_load next accept (Ok loaded) accepted e = (loaded, refl, cc)
 accepted_load next accept (Err files.absent) accepted e = absurd (cc)
 accepted_load next accept (Err (files.stopped refusal)) accepted e = absurd (cc)
 
+-- the same of a job that trims, whose parts may be refused
+abbrev trim_after : LevelJobValue → List (List ℕ) → List File → Result LoadedValue (files.Stop Refusal) → Result Accepted RunStop
+trim_after level wads held loading = and_then (from_below at_step (and_then loading (λ loaded.
+    and_then (no_file (plan_in level loaded)) (λ parts.
+    Ok (trim_of (wad_bytes wads held loaded.files.lumps) loaded parts))))) (λ value. Ok (trimmed value))
+
+plan_not_absent : {A R : Type 0} {B : Type 0} (make : A → B) (plan : Result A R) (accept : B → Accepted) (to : files.Stop R → RunStop) →
+    and_then (from_below to (and_then (no_file plan) (λ parts. Ok (make parts)))) (λ value. Ok (accept value)) ≡ Err (to files.absent) → ((refusal : R) → to (files.stopped refusal) ≡ to files.absent → ⊥) → ⊥
+plan_not_absent make (Ok parts) accept to e apart = absurd (cc)
+plan_not_absent make (Err refusal) accept to e apart = apart refusal (cc)
+
+stop_apart : (refusal : Refusal) → at_step (files.stopped refusal) ≡ at_step files.absent → ⊥
+stop_apart refusal e = cc
+
+absent_trim : (level : LevelJobValue) (wads : List (List ℕ)) (held : List File) (loading : Result LoadedValue (files.Stop Refusal)) → trim_after level wads held loading ≡ Err absent → loading ≡ Err files.absent
+absent_trim level wads held (Ok loaded) e = absurd (plan_not_absent (trim_of (wad_bytes wads held loaded.files.lumps) loaded) (plan_in level loaded) trimmed at_step e stop_apart)
+absent_trim level wads held (Err files.absent) e = refl
+absent_trim level wads held (Err (files.stopped refusal)) e = absurd (cc)
+
+trim_sizes : (bytes : ℕ → List ℕ) (loaded : LoadedValue) (parts : List TrimPart) → (trim_of bytes loaded parts).sizes ≡ loaded_sizes loaded
+unfolding trim_of
+trim_sizes bytes loaded parts = refl
+
+plan_accepts : {A R B : Type 0} (make : A → B) (plan : Result A R) (accept : B → Accepted) (to : files.Stop R → RunStop) (accepted : Accepted) →
+    and_then (from_below to (and_then (no_file plan) (λ parts. Ok (make parts)))) (λ value. Ok (accept value)) ≡ Ok accepted → (parts : A) × (accept (make parts) ≡ accepted)
+plan_accepts make (Ok parts) accept to accepted e = (parts, cc)
+plan_accepts make (Err refusal) accept to accepted e = absurd (cc)
+
+accepted_trim : (level : LevelJobValue) (wads : List (List ℕ)) (held : List File) (loading : Result LoadedValue (files.Stop Refusal)) (accepted : Accepted) → trim_after level wads held loading ≡ Ok accepted →
+    (loaded : LoadedValue) × (loading ≡ Ok loaded) × (enough_for accepted ≡ (loaded_sizes loaded).enough)
+accepted_trim level wads held (Ok loaded) accepted e =
+    let bytes = wad_bytes wads held loaded.files.lumps in
+    let p = plan_accepts (trim_of bytes loaded) (plan_in level loaded) trimmed at_step accepted e in
+    (loaded, refl, sym (ap (λ (a : Accepted). enough_for a) p.1) ∙ ap (λ s. s.enough) (trim_sizes bytes loaded p.0))
+accepted_trim level wads held (Err files.absent) accepted e = absurd (cc)
+accepted_trim level wads held (Err (files.stopped refusal)) accepted e = absurd (cc)
+
 -- the views tell how large a zone has to be for what was loaded
 views_sizes : (bytes : ℕ → List ℕ) (settings : Settings) (loaded : LoadedValue) → (views_of bytes settings loaded).sizes ≡ loaded_sizes loaded
 unfolding views_of
@@ -85,7 +124,7 @@ module _ (level : LevelJobValue) (wads : List (List ℕ)) (held : List File) whe
   level_absent (Render format) e = absent_load views_in (rendered (form.Frame format)) (load_in level wads held) e
   level_absent Audit e = absent_load loaded_sizes audited (load_in level wads held) e
   level_absent Limits e = absent_load views_in counted (load_in level wads held) e
-  level_absent Trim e = absurd (cc)
+  level_absent Trim e = absent_trim level wads held (load_in level wads held) e
   level_absent Trace e = absent_load views_in (rendered form.Trace) (load_in level wads held) e
 
   -- one that accepts has loaded
@@ -95,7 +134,7 @@ module _ (level : LevelJobValue) (wads : List (List ℕ)) (held : List File) whe
       let p : (loaded : LoadedValue) × (load_in level wads held ≡ Ok loaded) × (audited (loaded_sizes loaded) ≡ accepted) = accepted_load loaded_sizes audited (load_in level wads held) accepted e in
       (p.0, p.1, sym (ap (λ (a : Accepted). enough_for a) p.2))
   level_loaded Limits accepted e = views_enough counted accepted (λ views. refl) e
-  level_loaded Trim accepted e = absurd (cc)
+  level_loaded Trim accepted e = accepted_trim level wads held (load_in level wads held) accepted e
   level_loaded Trace accepted e = views_enough (rendered form.Trace) accepted (λ views. refl) e
 
 -- the same level over the same files is loaded alike
@@ -149,7 +188,7 @@ run_room words (Some command) held accepted wanted widest' are full room e = ove
 pub level_full : {wanted widest' : ℕ} (task : LevelTask) (level : LevelJobValue) (wads : List (List ℕ)) (held : List File) → IsFullLoad level wads held wanted widest' → IsFullRun (level_job task level wads) held wanted widest'
 level_full task level wads held load = record { level = level; wads = wads; own_files = held; is = inl ((task, refl), refl); full = inl load }
 
--- for one that draws
+-- for one that draws or trims
 pub render_full : {wanted widest' : ℕ} (format : Format) (level : LevelJobValue) (wads : List (List ℕ)) (held : List File) → IsFullLoad level wads held wanted widest' ⊎ IsFullDraw level wads held wanted widest' →
     IsFullRun (level_job (Render format) level wads) held wanted widest'
 render_full format level wads held (inl load) = level_full (Render format) level wads held load
@@ -160,8 +199,13 @@ pub trace_full : {wanted widest' : ℕ} (level : LevelJobValue) (wads : List (Li
 trace_full level wads held (inl load) = level_full Trace level wads held load
 trace_full level wads held (inr draw) = record { level = level; wads = wads; own_files = held; is = inl ((Trace, refl), refl); full = inr (inr (inl (level, wads, refl)), draw) }
 
+pub trim_full : {wanted widest' : ℕ} (level : LevelJobValue) (wads : List (List ℕ)) (held : List File) → IsFullLoad level wads held wanted widest' ⊎ IsFullDraw level wads held wanted widest' →
+    IsFullRun (level_job Trim level wads) held wanted widest'
+trim_full level wads held (inl load) = level_full Trim level wads held load
+trim_full level wads held (inr draw) = record { level = level; wads = wads; own_files = held; is = inl ((Trim, refl), refl); full = inr (inr (inr (inl (level, wads, refl))), draw) }
+
 -- and for an exercise
 pub exercise_full : {wanted widest' : ℕ} (n zone : ℕ) (format : Format) (held : List File) → IsFullLoad (made_level zone) made_wads (made_files n) wanted widest' ⊎ IsFullDraw (made_level zone) made_wads (made_files n) wanted widest' →
     IsFullRun (exercise n zone format) held wanted widest'
 exercise_full n zone format held (inl load) = record { level = made_level zone; wads = made_wads; own_files = made_files n; is = inr (n, format, refl, refl, refl, refl); full = inl load }
-exercise_full n zone format held (inr draw) = record { level = made_level zone; wads = made_wads; own_files = made_files n; is = inr (n, format, refl, refl, refl, refl); full = inr (inr (inr (n, zone, format, refl)), draw) }
+exercise_full n zone format held (inr draw) = record { level = made_level zone; wads = made_wads; own_files = made_files n; is = inr (n, format, refl, refl, refl, refl); full = inr (inr (inr (inr (n, zone, format, refl))), draw) }

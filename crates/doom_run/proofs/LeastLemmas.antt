@@ -23,7 +23,7 @@ use Rattle.texture_build.specs.Draws.{FitBeside, FitsBeside}
 use Rattle.texture_build.specs.Views.{TexturesView}
 use Rattle.command_line.specs.LevelJobs.{LevelJobValue}
 use Rattle.command_line.specs.declared.command.LevelTask.{LevelTask}
-use Rattle.command_line.specs.declared.command.LevelTask.TheVariants.{Audit, Limits}
+use Rattle.command_line.specs.declared.command.LevelTask.TheVariants.{Audit, Limits, Trim}
 use Rattle.refusals.specs.declared.refusal.Refusal.{Refusal}
 use Rattle.scene_rules.specs.Scenes.{LevelBase}
 use Rattle.scene_rules.specs.Sizes.{greatest_by, is_last, is_list, is_map_lump, lump_block}
@@ -185,6 +185,10 @@ module _ (level : LevelJobValue) (wads : List (List ℕ)) (files : List File) (l
   pub least_audit : level_least Audit level wads files ≤ level.settings.zone
   unfolding least_views
   least_audit = subst (λ n. n ≤ level.settings.zone) (least_is Audit) (none_room _)
+
+  pub least_trim : level_least Trim level wads files ≤ level.settings.zone
+  unfolding least_views
+  least_trim = subst (λ n. n ≤ level.settings.zone) (least_is Trim) (none_room _)
 
   pub least_limits : level_least Limits level wads files ≤ level.settings.zone
   unfolding least_views

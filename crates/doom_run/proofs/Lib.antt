@@ -1,3 +1,5 @@
+pub mod AlikeLemmas
+pub mod AlikeRunLemmas
 pub mod AskedLemmas
 pub mod CanvasLemmas
 pub mod CountLemmas
@@ -18,3 +20,5 @@ pub mod RunLemmas
 pub mod SeenLemmas
 pub mod TakeLemmas
 pub mod TallyLemmas
+pub mod TrimLemmas
+pub mod UsageLemmas

@@ -45,7 +45,7 @@ DeliversAt accepted old new (Limit view kind count) = (end_of accepted ≡ Limit
 DeliversAt accepted old new (ZoneFull wanted widest) = ⊥
 DeliversAt accepted old new OutOfMemory = ⊥
 
--- the same of frames, which are written as they are drawn: over a steady shelf no read fails
+-- the same of a job that reads on while it writes: over a steady shelf no read fails
 abbrev pub RendersAt : Bool → Accepted → (List ℕ → Type 0) → (List ℕ → Type 0) → Status → Type 0
 RendersAt steady accepted old new Done = (end_of accepted ≡ Done) × Grew old new (output accepted)
 RendersAt steady accepted old new Usage = ⊥
@@ -83,7 +83,7 @@ IsUnwritten (Limit view kind count) = ⊥
 IsUnwritten (ZoneFull wanted widest) = ⊥
 IsUnwritten OutOfMemory = Unit {0}
 
--- a read fault or a full zone, which come before anything is written but for frames
+-- a read fault or a full zone, which come before anything is written but for a job that reads on
 abbrev pub IsReadOrFull : Status → Type 0
 IsReadOrFull Done = ⊥
 IsReadOrFull Usage = ⊥

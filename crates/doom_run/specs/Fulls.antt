@@ -8,7 +8,7 @@ use Rattle.command_line.specs.Commands.{CommandValue, level_job, exercise, comma
 use Rattle.command_line.specs.LevelJobs.{LevelJobValue}
 use Rattle.command_line.specs.declared.command.Format.{Format}
 use Rattle.command_line.specs.declared.command.LevelTask.{LevelTask}
-use Rattle.command_line.specs.declared.command.LevelTask.TheVariants.{Render, Trace}
+use Rattle.command_line.specs.declared.command.LevelTask.TheVariants.{Render, Trim, Trace}
 use Rattle.scene_rules.specs.Sizes.{composite_block, is_needed, lump_block}
 use Rattle.sound_scene.specs.Sound.{art_with}
 use Rattle.level_audit.specs.scene_load.Fulls.{IsFullLoad}
@@ -16,7 +16,7 @@ use Rattle.level_audit.specs.scene_load.Loads.{LoadedValue, load_in, loaded_pict
 use Rattle.doom_run.specs.Exercises.{made_files, made_level, made_wads}
 use Rattle.doom_run.specs.Verdict.{Accepted, enough_for}
 
--- A block that drawing asks for: that of a lump of the directory that the scene needs, or of a prepared
+-- A block that drawing or trimming asks for: that of a lump of the directory that the scene needs, or of a prepared
 -- texture's composite.
 pub record IsDrawnBlock (loaded : LoadedValue) (wanted : ℕ) : Type 0 where
   pub is : ((lump : ℕ) × (lump < length loaded.files.lumps) × (is_needed loaded.files.lumps (art_with loaded.scene (loaded_pictures loaded)) lump ≡ true) × (wanted ≡ lump_block loaded.files.lumps lump))
@@ -33,8 +33,8 @@ pub record IsPatchBeside (loaded : LoadedValue) (zone wanted : ℕ) : Type 0 whe
   pub small : zone < lump_block loaded.files.lumps loaded.scene.base.colormap
       + composite_block (Some texture) + 2 * wanted + 2 * MIN_FRAGMENT
 
--- No gap held a block that drawing asks for. The zone does not hold it beside COLORMAP, or it is a patch of
--- a composite that is built; and the zone is smaller than enough.
+-- No gap held a block that drawing asks for, or the block of a lump of a trimmed file. The zone does not hold
+-- it beside COLORMAP, or it is a patch of a composite that is built; and the zone is smaller than enough.
 pub record IsFullDraw (level : LevelJobValue) (wads : List (List ℕ)) (files : List File) (wanted widest' : ℕ) : Type 0 where
   pub loaded : LoadedValue
   pub is : load_in level wads files ≡ Ok loaded
@@ -50,20 +50,22 @@ IsOver command files level wads own_files =
     (((task : LevelTask) × (command ≡ level_job task level wads)) × (own_files ≡ files))
     ⊎ ((n : ℕ) × (format : Format) × (command ≡ exercise n level.settings.zone format) × (level ≡ made_level level.settings.zone) × (wads ≡ made_wads) × (own_files ≡ made_files n))
 
--- a job that draws
-abbrev pub Draws : CommandValue → Type 0
-Draws command =
+-- a job that reads lumps once it has loaded: one that draws, and one that trims
+abbrev pub ReadsMore : CommandValue → Type 0
+ReadsMore command =
     ((format : Format) × (level : LevelJobValue) × (wads : List (List ℕ)) × (command ≡ level_job (Render format) level wads))
     ⊎ ((level : LevelJobValue) × (wads : List (List ℕ)) × (command ≡ level_job Trace level wads))
+    ⊎ ((level : LevelJobValue) × (wads : List (List ℕ)) × (command ≡ level_job Trim level wads))
     ⊎ ((n : ℕ) × (zone : ℕ) × (format : Format) × (command ≡ exercise n zone format))
 
--- The words are a command with a zone, whose files are in order, and the zone is small: for what loading reads, or for what is drawn.
+-- The words are a command with a zone, whose files are in order, and the zone is small: for what loading
+-- reads, or for what is drawn or copied.
 pub record IsFullRun (command : CommandValue) (files : List File) (wanted widest' : ℕ) : Type 0 where
   pub level : LevelJobValue
   pub wads : List (List ℕ)
   pub own_files : List File
   pub is : IsOver command files level wads own_files
-  pub full : IsFullLoad level wads own_files wanted widest' ⊎ (Draws command × IsFullDraw level wads own_files wanted widest')
+  pub full : IsFullLoad level wads own_files wanted widest' ⊎ (ReadsMore command × IsFullDraw level wads own_files wanted widest')
 
 -- the zone of a command is large enough for what it accepts
 pub record HasRoom (words : List (List ℕ)) (accepted : Accepted) : Type 0 where

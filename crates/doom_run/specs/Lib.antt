@@ -1,3 +1,4 @@
+pub mod Alike
 pub mod Audits
 pub mod Ends
 pub mod Exercises
@@ -7,6 +8,7 @@ pub mod Leasts
 pub mod Renders
 pub mod Steps
 pub mod Takes
+pub mod Trims
 pub mod Verdict
 pub mod Layers
 pub mod Views

@@ -1,5 +1,5 @@
 -- What a run comes to for its words and the files that are held.
-use Rattle.std.specs.Prelude.{ℕ, zero, List, Result, Ok, Err, codes}
+use Rattle.std.specs.Prelude.{ℕ, zero, List, Result, Ok, codes}
 use Rattle.outside.specs.Shelf.{File}
 use Rattle.outside.specs.Faults.{and_then, from_below}
 use Rattle.frame_writer.specs.Ppm.{ppm}
@@ -19,7 +19,8 @@ use Rattle.doom_run.specs.declared.canvas.ViewForm.{ViewForm}
 use Rattle.doom_run.specs.declared.canvas.ViewForm.TheVariants.{Frame, Trace}
 use Rattle.doom_run.specs.Audits.{audit_verdict}
 use Rattle.doom_run.specs.Exercises.{exercise_verdict, exercised_bytes}
-use Rattle.doom_run.specs.Steps.{RunStop, usage, at_step, else_usage}
+use Rattle.doom_run.specs.Steps.{RunStop, at_step, else_usage}
+use Rattle.doom_run.specs.Trims.{TrimValue, trim_verdict}
 use Rattle.doom_run.specs.Views.{ViewsValue, counted_bytes, rendered_bytes, rendered_end, views_verdict}
 
 -- what an accepted run writes of, a constructor for each job
@@ -35,16 +36,18 @@ pub data Accepted : Type 0 where
   counted : ViewsValue → Accepted
   -- the made files of a number, rendered and counted
   exercised : ℕ → Format → ViewsValue → Accepted
+  -- the trimmed file of a level
+  trimmed : TrimValue → Accepted
 
--- What a job over a level comes to. `trim` is not built: it is no command.
+-- What a job over a level determines.
 abbrev pub level_verdict : LevelTask → LevelJobValue → List (List ℕ) → List File → Result Accepted RunStop
 level_verdict (Render format) level wads files = and_then (from_below at_step (views_verdict level wads files)) (λ views. Ok (rendered (Frame format) views))
 level_verdict Audit level wads files = and_then (from_below at_step (audit_verdict level wads files)) (λ sizes. Ok (audited sizes))
 level_verdict Limits level wads files = and_then (from_below at_step (views_verdict level wads files)) (λ views. Ok (counted views))
-level_verdict Trim level wads files = Err usage
+level_verdict Trim level wads files = and_then (from_below at_step (trim_verdict level wads files)) (λ value. Ok (trimmed value))
 level_verdict task.Trace level wads files = and_then (from_below at_step (views_verdict level wads files)) (λ views. Ok (rendered Trace views))
 
--- What a job comes to. A job that is not built is no command.
+-- What a job determines.
 abbrev pub job_verdict : CommandValue → List File → Result Accepted RunStop
 job_verdict (flat name file) files = and_then (from_below at_step (flat_verdict name file files)) (λ picture. Ok (tiled_flat picture))
 job_verdict (level_job job level wads) files = level_verdict job level wads files
@@ -64,6 +67,7 @@ end_of (audited sizes) = Done
 end_of (rendered form views) = rendered_end views
 end_of (counted views) = Done
 end_of (exercised count format views) = rendered_end views
+end_of (trimmed value) = Done
 
 -- all that an accepted run writes
 abbrev pub output : Accepted → List ℕ
@@ -73,6 +77,7 @@ output (audited sizes) = pair_line (codes "accepted enough ") sizes.enough (code
 output (rendered form views) = rendered_bytes form views
 output (counted views) = counted_bytes views
 output (exercised count format views) = exercised_bytes count format views
+output (trimmed value) = value.bytes
 
 -- how many bytes a zone needs that is never full, 0 where the job has none
 abbrev pub enough_for : Accepted → ℕ
@@ -82,3 +87,4 @@ enough_for (audited sizes) = sizes.enough
 enough_for (rendered form views) = views.sizes.enough
 enough_for (counted views) = views.sizes.enough
 enough_for (exercised count format views) = views.sizes.enough
+enough_for (trimmed value) = value.sizes.enough

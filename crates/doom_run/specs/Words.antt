@@ -12,28 +12,20 @@ use Rattle.command_line.specs.declared.command.LevelTask.TheVariants.{Render, Au
 abbrev pub texts : List (String Global) → List (List ℕ)
 texts words = map (λ word. string_bytes word) words
 
--- a job over a level asks for files, if it is built
-abbrev pub level_asks : LevelTask → Bool
-level_asks (Render format) = true
-level_asks Audit = true
-level_asks Limits = true
-level_asks Trim = false
-level_asks Trace = true
-
 -- the job that writes views in a form
 abbrev pub task_of : ViewForm → LevelTask
 task_of (form.Frame format) = Render format
 task_of form.Trace = Trace
 
--- a test of a command, by what it is for a flat and for an exercise; it is false for a made file
+-- a test of a command, by what it is for a flat and for an exercise; it is true for a level, and false for a
+-- made file
 abbrev pub by_command : Bool → Bool → CommandValue → Bool
 by_command of_flat of_exercise (flat name file) = of_flat
-by_command of_flat of_exercise (level_job job level wads) = level_asks job
+by_command of_flat of_exercise (level_job job level wads) = true
 by_command of_flat of_exercise (make job) = false
 by_command of_flat of_exercise (exercise count zone format) = of_exercise
 
--- The job asks the shelf for files. A made file is told by its words alone, and a job that is not
--- built asks for nothing.
+-- The job asks the shelf for files. A made file is told by its words alone.
 abbrev pub asks_for_files : CommandValue → Bool
 asks_for_files command = by_command true false command
 
@@ -41,7 +33,7 @@ asks_for_files command = by_command true false command
 abbrev pub ask_for_files : List (List ℕ) → Bool
 ask_for_files words = option_map_or asks_for_files (command_of words) false
 
--- a job over a level has a zone, if it is built, and so has an exercise
+-- a job over a level has a zone, and so has an exercise
 abbrev pub has_zone : CommandValue → Bool
 has_zone command = by_command false true command
 
@@ -53,17 +45,17 @@ have_zone words = option_map_or has_zone (command_of words) false
 abbrev pub WhereAsked : List (List ℕ) → Type 0 → Type 0
 WhereAsked words Premise = IsTrue (ask_for_files words) → Premise
 
--- the job writes frames or traces as they are drawn
-abbrev pub writes_frames : CommandValue → Bool
-writes_frames (flat name file) = false
-writes_frames (level_job (Render format) level wads) = true
-writes_frames (level_job Audit level wads) = false
-writes_frames (level_job Limits level wads) = false
-writes_frames (level_job Trim level wads) = false
-writes_frames (level_job Trace level wads) = true
-writes_frames (make job) = false
-writes_frames (exercise count zone format) = false
+-- the job reads on while it writes: frames and traces as they are drawn, a trimmed file lump by lump
+abbrev pub reads_on : CommandValue → Bool
+reads_on (flat name file) = false
+reads_on (level_job (Render format) level wads) = true
+reads_on (level_job Audit level wads) = false
+reads_on (level_job Limits level wads) = false
+reads_on (level_job Trim level wads) = true
+reads_on (level_job Trace level wads) = true
+reads_on (make job) = false
+reads_on (exercise count zone format) = false
 
 -- the words are a command that does
-abbrev pub write_frames : List (List ℕ) → Bool
-write_frames words = option_map_or writes_frames (command_of words) false
+abbrev pub read_on : List (List ℕ) → Bool
+read_on words = option_map_or reads_on (command_of words) false

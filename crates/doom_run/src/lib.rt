@@ -2,14 +2,14 @@
 //!
 //! A run has a command, which its words give (`command_line`). Each job has two halves:
 //! `prepare_..` reads and checks all that it needs and takes all memory, `deliver_..` writes. So
-//! nothing is written before the last step that can refuse has passed. `render` and `trace` alone
-//! read on while they write: each view goes out as it is drawn. The jobs `flat` and `make`, the
-//! statuses and their lines are in `job_files`.
+//! nothing is written before the last step that can refuse has passed. `render`, `trace` and `trim`
+//! alone read on while they write: each view goes out as it is drawn, each lump as it is read. The
+//! jobs `flat` and `make`, the statuses and their lines are in `job_files`.
 //!
 //! Rules: specs, Words (whether the words ask for files), Audits (how large a zone has to be for a
 //! level), Views (the frames and the counts of a path, and the first view over a limit), Exercises
-//! (the made files, rendered), Steps (where a run stops), Verdict (what a run comes to, and its
-//! output), Ends (what a status says of a run), Fulls (when a zone is full), Leasts (the smallest
+//! (the made files, rendered), Trims (the trimmed file), Steps (where a run stops), Verdict (what a run determines,
+//! and its output), Alike (what a trimmed file is for), Ends (what a status says of a run), Fulls (when a zone is full), Leasts (the smallest
 //! zone in which a run ends), Takes (how many bytes are read). Proved: what `run` writes, each
 //! status and its cause, and the line for each status. Tested only: that memory is found. The
 //! original: none; `D_DoomMain`, d_main.c, stands in its place there.
@@ -26,6 +26,9 @@ mod render;
 #[cfg(test)]
 mod tests;
 mod top;
+mod trim;
+#[cfg(test)]
+mod trim_tests;
 mod view_jobs;
 #[cfg(test)]
 mod view_tests;

@@ -1,24 +1,26 @@
 // A run, from its words to its status.
-ghost use Rattle.std.specs.Prelude.{◌≡◌, ◌≤◌, ◌⊎◌, ℕ, Bool, false, List, [], map, Ok, Err, IsTrue, IfSome};
+ghost use Rattle.std.specs.Prelude.{◌≡◌, ◌≤◌, ◌⊎◌, ℕ, Bool, false, List, [], map, Some, Ok, Err, IsTrue, IfSome};
 ghost use Rattle.outside.specs.Causes.{FaultsRose};
 ghost use Rattle.outside.specs.Shelf.{File, Holds};
 ghost use Rattle.outside.specs.Sink.{Grew, GrewByPrefix};
 ghost use Rattle.command_line.specs.Commands.{IsCounted, IsCountedMake, command_of, command_value, flat, level_job, make};
-ghost use Rattle.command_line.specs.LevelJobs.{IsLevelJob, level_job_value};
-ghost use Rattle.command_line.specs.declared.command.LevelTask.TheVariants.{Audit};
+ghost use Rattle.command_line.specs.LevelJobs.{IsLevelJob, LevelJobValue, level_job_value};
+ghost use Rattle.command_line.specs.declared.command.LevelTask.TheVariants.{Audit, Trim};
 ghost use Rattle.level_audit.specs.scene_load.Fulls.{IsFullLoad};
 ghost use Rattle.job_files.specs.Lines.{line_of};
+ghost use Rattle.doom_run.specs.Alike.{RendersAlike};
 ghost use Rattle.doom_run.specs.Ends.{EndsAt, EndsWith, IsEnd, IsReadOrFull, IsUnwritten};
 ghost use Rattle.doom_run.specs.Fulls.{HasRoom, IsFullRun};
 ghost use Rattle.doom_run.specs.Leasts.{command_least, command_zone, level_least};
 ghost use Rattle.doom_run.specs.Steps.{RunStop, usage, absent, refused};
 ghost use Rattle.doom_run.specs.Takes.{CommandTakes, TakesOnce};
 ghost use Rattle.doom_run.specs.Verdict.{Accepted, job_verdict, level_verdict, verdict, end_of, output};
-ghost use Rattle.doom_run.specs.Words.{WhereAsked, ask_for_files, asks_for_files, has_zone, have_zone, level_asks, texts, write_frames, writes_frames};
+ghost use Rattle.doom_run.specs.Words.{WhereAsked, ask_for_files, asks_for_files, has_zone, have_zone, read_on, reads_on, texts};
 
 use crate::Refusal;
 use crate::audit::{deliver_audit, prepare_audit};
 use crate::canvas::ViewForm;
+use crate::trim::perform_trim;
 use crate::view_jobs::{perform_exercise, perform_limits, perform_views};
 use command_line::{Command, CommandFault, LevelJob, LevelTask, MakeJob, command_of};
 use job_files::{Status, deliver_flat, deliver_make, prepare_flat, prepare_make, put_note};
@@ -48,14 +50,14 @@ pub fn run<S: Shelf, K: Sink, N: Sink>(
         WhereAsked (texts words.now) (Holds (S.view shelf.old) files) →
         EndsWith (verdict (texts words.now) files) (K.written out.old) (K.written out.new) result }
 
-    // Another status: a prefix of the output, and nothing where none is due or memory ran out. Frames
-    // and traces alone are written before all is read.
+    // Another status: a prefix of the output, and nothing where none is due or memory ran out. Frames,
+    // traces and trimmed files alone are written before all is read.
     ensures prefix { (files : List File) (accepted : Accepted) →
         WhereAsked (texts words.now) (Holds (S.view shelf.old) files) →
         verdict (texts words.now) files ≡ Ok accepted →
         GrewByPrefix (K.written out.old) (K.written out.new) (output accepted) }
     ensures unwritten { IsUnwritten result → Grew (K.written out.old) (K.written out.new) [] }
-    ensures before { write_frames (texts words.now) ≡ false → IsReadOrFull result →
+    ensures before { read_on (texts words.now) ≡ false → IsReadOrFull result →
         Grew (K.written out.old) (K.written out.new) [] }
     ensures stopped { (files : List File) (stop : RunStop) →
         WhereAsked (texts words.now) (Holds (S.view shelf.old) files) →
@@ -137,6 +139,14 @@ pub fn run<S: Shelf, K: Sink, N: Sink>(
         (FaultsRose (K.faults out.old) (K.faults out.new) → ⊥) →
         (result ≡ end_of accepted) ⊎ (result ≡ Status.OutOfMemory) }
 
+    // A trimmed file renders as the WADs do that it was made of.
+    ensures trimmed { (files : List File) (level : LevelJobValue) (wads : List (List ℕ))
+        (accepted : Accepted) → result ≡ Status.Done →
+        WhereAsked (texts words.now) (Holds (S.view shelf.old) files) →
+        command_of (texts words.now) ≡ Some (level_job Trim level wads) →
+        verdict (texts words.now) files ≡ Ok accepted →
+        RendersAlike level wads files (output accepted) }
+
     // The line of the status is noted, unless the notes fail.
     ensures noted { (FaultsRose (N.faults notes.old) (N.faults notes.new) → ⊥) →
         Grew (N.written notes.old) (N.written notes.new) (line_of result) }
@@ -155,7 +165,7 @@ fn perform<S: Shelf, K: Sink>(alloc: Global, words: &[String], shelf: &mut S, ou
         EndsAt (S.view shelf.old).steady (verdict (texts words.now) files)
         (K.written out.old) (K.written out.new) result }
     ensures unwritten { IsUnwritten result → Grew (K.written out.old) (K.written out.new) [] }
-    ensures before { write_frames (texts words.now) ≡ false → IsReadOrFull result →
+    ensures before { read_on (texts words.now) ≡ false → IsReadOrFull result →
         Grew (K.written out.old) (K.written out.new) [] }
     ensures usage { (files : List File) → result ≡ Status.Usage →
         verdict (texts words.now) files ≡ Err usage }
@@ -202,13 +212,9 @@ fn perform_job<S: Shelf, K: Sink>(
         EndsAt (S.view shelf.old).steady (job_verdict (command_value command.now) files)
         (K.written out.old) (K.written out.new) result }
     ensures unwritten { IsUnwritten result → Grew (K.written out.old) (K.written out.new) [] }
-    ensures before { writes_frames (command_value command.now) ≡ false → IsReadOrFull result →
+    ensures before { reads_on (command_value command.now) ≡ false → IsReadOrFull result →
         Grew (K.written out.old) (K.written out.new) [] }
-    ensures usage { (files : List File) → result ≡ Status.Usage →
-        job_verdict (command_value command.now) files ≡ Err usage }
-    ensures not_built { (files : List File) →
-        job_verdict (command_value command.now) files ≡ Err usage →
-        result ≡ Status.Usage }
+    ensures not_usage { result ≡ Status.Usage → ⊥ }
     ensures read_fault { result ≡ Status.ReadFault →
         FaultsRose (S.view shelf.old).faults (S.view shelf.new).faults }
     ensures write_fault { result ≡ Status.WriteFault →
@@ -256,44 +262,33 @@ fn perform_level<S: Shelf, K: Sink>(
 ) -> Status
     requires { IsLevelJob (level_job_value level.now) (map (λ wad. wad.now) wads.now) }
     ensures ends { (files : List File) →
-        (IsTrue (level_asks job) → Holds (S.view shelf.old) files) →
+        Holds (S.view shelf.old) files →
         EndsAt (S.view shelf.old).steady
         (level_verdict job (level_job_value level.now) (map (λ wad. wad.now) wads.now) files)
         (K.written out.old) (K.written out.new) result }
     ensures unwritten { IsUnwritten result → Grew (K.written out.old) (K.written out.new) [] }
-    ensures before { writes_frames (level_job job (level_job_value level.now)
+    ensures before { reads_on (level_job job (level_job_value level.now)
         (map (λ wad. wad.now) wads.now)) ≡ false →
         IsReadOrFull result → Grew (K.written out.old) (K.written out.new) [] }
-    ensures usage { (files : List File) → result ≡ Status.Usage →
-        level_verdict job (level_job_value level.now) (map (λ wad. wad.now) wads.now) files
-        ≡ Err usage }
-    ensures not_built { (files : List File) →
-        level_verdict job (level_job_value level.now) (map (λ wad. wad.now) wads.now) files
-        ≡ Err usage →
-        result ≡ Status.Usage }
+    ensures not_usage { result ≡ Status.Usage → ⊥ }
     ensures read_fault { result ≡ Status.ReadFault →
         FaultsRose (S.view shelf.old).faults (S.view shelf.new).faults }
     ensures write_fault { result ≡ Status.WriteFault →
         FaultsRose (K.faults out.old) (K.faults out.new) }
     ensures zone_full { (files : List File) (wanted widest : ℕ) →
         result ≡ Status.ZoneFull wanted widest →
-        (IsTrue (level_asks job) → Holds (S.view shelf.old) files) →
+        Holds (S.view shelf.old) files →
         IsFullRun (level_job job (level_job_value level.now) (map (λ wad. wad.now) wads.now)) files
         wanted widest }
-    ensures zoned { (wanted widest : ℕ) → result ≡ Status.ZoneFull wanted widest →
-        IsTrue (level_asks job) }
     ensures least { (files : List File) → IsEnd result →
-        (IsTrue (level_asks job) → Holds (S.view shelf.old) files) →
+        Holds (S.view shelf.old) files →
         level_least job (level_job_value level.now) (map (λ wad. wad.now) wads.now) files
         ≤ level.now.settings.zone }
     ensures taken { (files : List File) →
-        (IsTrue (level_asks job) → Holds (S.view shelf.old) files) →
+        Holds (S.view shelf.old) files →
         (FaultsRose (S.view shelf.old).faults (S.view shelf.new).faults → ⊥) →
         TakesOnce (level_job_value level.now) (map (λ wad. wad.now) wads.now) files
         (S.view shelf.old).taken (S.view shelf.new).taken }
-    ensures asked { result ≡ Status.ReadFault →
-        IsTrue (level_asks job) }
-    ensures untouched { level_asks job ≡ false → shelf.new ≡ shelf.old }
 {
     match job {
         LevelTask::Render(format) => {
@@ -301,7 +296,7 @@ fn perform_level<S: Shelf, K: Sink>(
         }
         LevelTask::Audit => perform_audit(alloc, level, wads, shelf, out),
         LevelTask::Limits => perform_limits(alloc, level, wads, shelf, out),
-        LevelTask::Trim => Status::Usage,
+        LevelTask::Trim => perform_trim(alloc, level, wads, shelf, out),
         LevelTask::Trace => perform_views(alloc, ViewForm::Trace, level, wads, shelf, out),
     }
 }

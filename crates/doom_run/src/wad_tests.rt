@@ -24,7 +24,7 @@ const COLORMAP_FRAMES: u64 = 0xd111_faaa_2bed_f903;
 const WAD_HEAD_BYTES: usize = 12;
 
 // A run over these files, the tables and the things.
-fn run_files(alloc: Global, words: &str, files: Vec<MemoryFile>) -> Result<Ended, Fail> {
+pub(crate) fn run_files(alloc: Global, words: &str, files: Vec<MemoryFile>) -> Result<Ended, Fail> {
     let mut shelf = shelf_of(alloc, files, Vec::new(alloc))?;
     Ok(run_shelf(alloc, words, &mut shelf, Vec::new(alloc))?)
 }
@@ -36,7 +36,7 @@ fn run_wad(alloc: Global, words: &str, wad: MemoryFile) -> Result<Ended, Fail> {
 }
 
 // Writes other bytes over a file, from an offset on.
-fn put_over(file: &mut Vec<u8>, offset: usize, bytes: &[u8]) {
+pub(crate) fn put_over(file: &mut Vec<u8>, offset: usize, bytes: &[u8]) {
     for (i, new) in bytes.iter().enumerate() {
         if let Some(old) = file.get_mut(offset.wrapping_add(i)) {
             *old = *new;
@@ -45,7 +45,7 @@ fn put_over(file: &mut Vec<u8>, offset: usize, bytes: &[u8]) {
 }
 
 // The made WAD of 1 with other bytes from an offset on.
-fn changed_wad(alloc: Global, offset: usize, bytes: &[u8]) -> Result<MemoryFile, Fail> {
+pub(crate) fn changed_wad(alloc: Global, offset: usize, bytes: &[u8]) -> Result<MemoryFile, Fail> {
     let mut wad = wad_of(alloc, 1)?;
     put_over(&mut wad.bytes, offset, bytes);
     Ok(wad)
@@ -101,7 +101,7 @@ fn put_size(out: &mut Vec<u8>, size: usize) -> Result<(), AllocError> {
 }
 
 // A WAD whose lumps are named so, and have bytes of another file, from one offset up to another.
-fn wad_with(
+pub(crate) fn wad_with(
     alloc: Global,
     file: &[u8],
     lumps: &[(&[u8; 8], usize, usize)],

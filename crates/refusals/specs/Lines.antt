@@ -16,11 +16,13 @@ use Rattle.scene_rules.specs.declared.refusal.SceneRefusal.{SceneRefusal}
 use Rattle.scene_rules.specs.declared.refusal.SceneRefusal.TheVariants as scene
 use Rattle.scene_rules.specs.declared.refusal.WeaponRefusal.{WeaponRefusal}
 use Rattle.scene_rules.specs.declared.refusal.WeaponRefusal.TheVariants as weapon
+use Rattle.trim_rules.specs.declared.refusal.TrimRefusal.{TrimRefusal}
+use Rattle.trim_rules.specs.declared.refusal.TrimRefusal.TheVariants as trim
 use Rattle.csv_tables.specs.declared.fault.CsvRefusal.{CsvRefusal}
 use Rattle.csv_tables.specs.declared.fault.CsvRefusal.TheVariants as csv
-use Rattle.refusals.specs.declared.codes.TheConstants.{CODE_TABLES_LENGTH, CODE_SINE, CODE_TANGENT, CODE_ANGLE, CODE_FIELD_OF_VIEW, CODE_NOT_WAD, CODE_SHORT, CODE_ENTRY, CODE_TOO_MANY, CODE_COLORMAP, CODE_PLAYPAL, CODE_NO_MAP, CODE_MAP_SIZE, CODE_NO_LEAF, CODE_INDEX, CODE_EMPTY_LEAF, CODE_NODE_TWICE, CODE_TOO_DEEP, CODE_PNAMES, CODE_TEXTURE_LUMP, CODE_TEXTURE_ENTRY, CODE_MISSING_PATCH, CODE_TOO_BIG, CODE_NO_FRAME, CODE_MISSING_ROTATION, CODE_BAD_PATCH, CODE_SIDE_TEXTURE, CODE_SKY_TEXTURE, CODE_SECTOR_FLAT, CODE_SHADOW, CODE_MIDDLE, CODE_FLAT_NAME, CODE_WEAPON_NO_FRAME, CODE_WEAPON_ROTATION, CODE_WEAPON_PATCH, GROUP_PATH, GROUP_THINGS, GROUP_WEAPONS}
+use Rattle.refusals.specs.declared.codes.TheConstants.{CODE_TABLES_LENGTH, CODE_SINE, CODE_TANGENT, CODE_ANGLE, CODE_FIELD_OF_VIEW, CODE_NOT_WAD, CODE_SHORT, CODE_ENTRY, CODE_TOO_MANY, CODE_COLORMAP, CODE_PLAYPAL, CODE_NO_MAP, CODE_MAP_SIZE, CODE_NO_LEAF, CODE_INDEX, CODE_EMPTY_LEAF, CODE_NODE_TWICE, CODE_TOO_DEEP, CODE_PNAMES, CODE_TEXTURE_LUMP, CODE_TEXTURE_ENTRY, CODE_MISSING_PATCH, CODE_TOO_BIG, CODE_NO_FRAME, CODE_MISSING_ROTATION, CODE_BAD_PATCH, CODE_SIDE_TEXTURE, CODE_SKY_TEXTURE, CODE_SECTOR_FLAT, CODE_SHADOW, CODE_MIDDLE, CODE_FLAT_NAME, CODE_MARK_NAME, CODE_TRIM_TOO_MANY, CODE_TRIM_TOO_LARGE, CODE_WEAPON_NO_FRAME, CODE_WEAPON_ROTATION, CODE_WEAPON_PATCH, GROUP_PATH, GROUP_THINGS, GROUP_WEAPONS}
 use Rattle.refusals.specs.declared.refusal.Refusal.{Refusal}
-use Rattle.refusals.specs.declared.refusal.Refusal.TheVariants.{Tables, Things, Path, Weapons, Wad, Art, Map, Texture, Sprite, Scene, WeaponArt}
+use Rattle.refusals.specs.declared.refusal.Refusal.TheVariants.{Tables, Things, Path, Weapons, Wad, Art, Map, Texture, Sprite, Scene, WeaponArt, Trim}
 
 -- the code of a refusal, and its numbers
 abbrev pub tables_numbers : TablesRefusal → List ℕ
@@ -74,6 +76,11 @@ weapon_numbers (weapon.NoFrame row) = CODE_WEAPON_NO_FRAME ∷ row ∷ []
 weapon_numbers (weapon.MissingRotation row rotation) = CODE_WEAPON_ROTATION ∷ row ∷ rotation ∷ []
 weapon_numbers (weapon.BadPatch lump) = CODE_WEAPON_PATCH ∷ lump ∷ []
 
+abbrev pub trim_numbers : TrimRefusal → List ℕ
+trim_numbers (trim.MarkName lump) = CODE_MARK_NAME ∷ lump ∷ []
+trim_numbers (trim.TrimTooMany count) = CODE_TRIM_TOO_MANY ∷ count ∷ []
+trim_numbers (trim.TrimTooLarge bytes) = CODE_TRIM_TOO_LARGE ∷ bytes ∷ []
+
 -- of a table of text, whose codes stand behind the number of its group
 abbrev pub csv_numbers : ℕ → CsvRefusal → List ℕ
 csv_numbers group (csv.TooLong bytes) = (group + 1) ∷ bytes ∷ []
@@ -96,6 +103,7 @@ numbers_of (Texture refusal) = texture_numbers refusal
 numbers_of (Sprite refusal) = sprite_numbers refusal
 numbers_of (Scene refusal) = scene_numbers refusal
 numbers_of (WeaponArt refusal) = weapon_numbers refusal
+numbers_of (Trim refusal) = trim_numbers refusal
 
 -- a number after some text
 abbrev pub labelled : List ℕ → ℕ → List ℕ

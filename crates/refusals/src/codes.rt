@@ -71,6 +71,12 @@ pub const CODE_MIDDLE: u64 = 905;
 
 pub const CODE_FLAT_NAME: u64 = 906;
 
+pub const CODE_MARK_NAME: u64 = 907;
+
+pub const CODE_TRIM_TOO_MANY: u64 = 908;
+
+pub const CODE_TRIM_TOO_LARGE: u64 = 909;
+
 pub const CODE_WEAPON_NO_FRAME: u64 = 1011;
 
 pub const CODE_WEAPON_ROTATION: u64 = 1012;

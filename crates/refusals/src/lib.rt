@@ -16,4 +16,5 @@ pub use lines::{put_labelled, put_numbers_of};
 pub use lump_rules::DirRefusal;
 pub use refusal::Refusal;
 pub use scene_rules::{ArtRefusal, SceneRefusal, WeaponRefusal};
+pub use trim_rules::TrimRefusal;
 pub use view_rules::TablesRefusal;

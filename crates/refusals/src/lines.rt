@@ -3,20 +3,21 @@ ghost use Rattle.std.specs.Prelude.{◌≤◌, codes};
 ghost use Rattle.std.specs.List.{flat_map};
 ghost use Rattle.outside.specs.Sink.{Writes};
 ghost use Rattle.refusals.specs.declared.codes.TheConstants.{GROUP_WEAPONS};
-ghost use Rattle.refusals.specs.Lines.{labelled, spaced, numbers_of, csv_numbers, tables_numbers, wad_numbers, art_numbers, map_numbers, texture_numbers, sprite_numbers, scene_numbers, weapon_numbers};
+ghost use Rattle.refusals.specs.Lines.{labelled, spaced, numbers_of, csv_numbers, tables_numbers, wad_numbers, art_numbers, map_numbers, texture_numbers, sprite_numbers, scene_numbers, weapon_numbers, trim_numbers};
 
 use crate::codes::{
     CODE_ANGLE, CODE_BAD_PATCH, CODE_COLORMAP, CODE_EMPTY_LEAF, CODE_ENTRY, CODE_FIELD_OF_VIEW,
-    CODE_FLAT_NAME, CODE_INDEX, CODE_MAP_SIZE, CODE_MIDDLE, CODE_MISSING_PATCH,
+    CODE_FLAT_NAME, CODE_INDEX, CODE_MAP_SIZE, CODE_MARK_NAME, CODE_MIDDLE, CODE_MISSING_PATCH,
     CODE_MISSING_ROTATION, CODE_NO_FRAME, CODE_NO_LEAF, CODE_NO_MAP, CODE_NODE_TWICE, CODE_NOT_WAD,
     CODE_PLAYPAL, CODE_PNAMES, CODE_SECTOR_FLAT, CODE_SHADOW, CODE_SHORT, CODE_SIDE_TEXTURE,
     CODE_SINE, CODE_SKY_TEXTURE, CODE_TABLES_LENGTH, CODE_TANGENT, CODE_TEXTURE_ENTRY,
-    CODE_TEXTURE_LUMP, CODE_TOO_BIG, CODE_TOO_DEEP, CODE_TOO_MANY, CODE_WEAPON_NO_FRAME,
-    CODE_WEAPON_PATCH, CODE_WEAPON_ROTATION, GROUP_PATH, GROUP_THINGS, GROUP_WEAPONS,
+    CODE_TEXTURE_LUMP, CODE_TOO_BIG, CODE_TOO_DEEP, CODE_TOO_MANY, CODE_TRIM_TOO_LARGE,
+    CODE_TRIM_TOO_MANY, CODE_WEAPON_NO_FRAME, CODE_WEAPON_PATCH, CODE_WEAPON_ROTATION, GROUP_PATH,
+    GROUP_THINGS, GROUP_WEAPONS,
 };
 use crate::{
     ArtRefusal, CsvRefusal, DirRefusal, MapRefusal, Refusal, SceneRefusal, SpriteRefusal,
-    TablesRefusal, TexRefusal, WeaponRefusal,
+    TablesRefusal, TexRefusal, TrimRefusal, WeaponRefusal,
 };
 use itoa::Buffer;
 use outside::{Failed, Sink};
@@ -44,6 +45,7 @@ pub fn put_numbers_of<N: Sink>(notes: &mut N, refusal: Refusal) -> Result<(), Fa
         Refusal::Sprite(refusal) => put_sprite_numbers(notes, refusal),
         Refusal::Scene(refusal) => put_scene_numbers(notes, refusal),
         Refusal::WeaponArt(refusal) => put_weapon_numbers(notes, refusal),
+        Refusal::Trim(refusal) => put_trim_numbers(notes, refusal),
     }
 }
 
@@ -161,6 +163,18 @@ fn put_weapon_numbers<N: Sink>(notes: &mut N, refusal: WeaponRefusal) -> Result<
             &[CODE_WEAPON_ROTATION, row, rotation],
         ),
         WeaponRefusal::BadPatch { lump } => put_numbers(notes, &[CODE_WEAPON_PATCH, lump]),
+    }
+}
+
+fn put_trim_numbers<N: Sink>(notes: &mut N, refusal: TrimRefusal) -> Result<(), Failed>
+    ensures { Writes (N.written notes.old) (N.written notes.new)
+        (N.faults notes.old) (N.faults notes.new)
+        (flat_map spaced (trim_numbers refusal)) result }
+{
+    match refusal {
+        TrimRefusal::MarkName { lump } => put_numbers(notes, &[CODE_MARK_NAME, lump]),
+        TrimRefusal::TrimTooMany { count } => put_numbers(notes, &[CODE_TRIM_TOO_MANY, count]),
+        TrimRefusal::TrimTooLarge { bytes } => put_numbers(notes, &[CODE_TRIM_TOO_LARGE, bytes]),
     }
 }
 

@@ -8,6 +8,7 @@ use level_rules::MapRefusal;
 use lump_rules::DirRefusal;
 use scene_rules::{ArtRefusal, AuditRefusal, SceneRefusal, WeaponRefusal};
 use thiserror::Error;
+use trim_rules::TrimRefusal;
 use view_rules::TablesRefusal;
 
 /// Why a run is refused: a group for each kind of file or check.
@@ -46,6 +47,9 @@ pub enum Refusal {
     /// A picture of a weapon layer.
     #[error("{0}")]
     WeaponArt(WeaponRefusal),
+    /// The trimmed file of the level.
+    #[error("{0}")]
+    Trim(TrimRefusal),
 }
 
 impl From<AuditRefusal> for Refusal {

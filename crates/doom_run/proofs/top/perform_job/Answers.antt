@@ -1,3 +1,4 @@
+use Rattle.std.proofs.Common.{refl}
 use Rattle.command_line.specs.Commands.{IsExercise}
 use Rattle.doom_run.proofs.FullLemmas.{exercise_full}
 use Rattle.doom_run.proofs.top.perform_job.Goals as goal
@@ -8,7 +9,7 @@ returns-in-Make-clause-ends g c files held =
 
 pub returns-in-Level-clause-ends : goal.returns-in-Level-clause-ends
 returns-in-Level-clause-ends g c files held =
-    rw (c.in-Level.is, ← c.deref.ensures.value) (c.perform_level.ensures.ends files (λ asked. held (rw c.in-Level.is asked)))
+    rw (c.in-Level.is, ← c.deref.ensures.value) (c.perform_level.ensures.ends files (held (rw c.in-Level.is refl)))
 
 pub perform_exercise-requires-clause-count : goal.perform_exercise-requires-clause-count
 perform_exercise-requires-clause-count g c =
@@ -30,11 +31,11 @@ returns-in-Exercise-clause-zone_full g c files wanted widest is held =
 
 pub returns-in-Level-clause-least : goal.returns-in-Level-clause-least
 returns-in-Level-clause-least g c files end held =
-    rw (c.in-Level.is, ← c.deref.ensures.value) (c.perform_level.ensures.least files end (λ asked. held (rw c.in-Level.is asked)))
+    rw (c.in-Level.is, ← c.deref.ensures.value) (c.perform_level.ensures.least files end (held (rw c.in-Level.is refl)))
 
 pub returns-in-Level-clause-taken : goal.returns-in-Level-clause-taken
 returns-in-Level-clause-taken g c files held calm =
-    rw (c.in-Level.is, ← c.deref.ensures.value) (c.perform_level.ensures.taken files (λ asked. held (rw c.in-Level.is asked)) calm)
+    rw (c.in-Level.is, ← c.deref.ensures.value) (c.perform_level.ensures.taken files (held (rw c.in-Level.is refl)) calm)
 
 pub returns-in-Exercise-clause-least : goal.returns-in-Exercise-clause-least
 returns-in-Exercise-clause-least g c files end held = rw c.in-Exercise.is (c.perform_exercise.ensures.least end)

@@ -2,6 +2,7 @@ use Rattle.outside.proofs.WriteLemmas.{prefix_written}
 use Rattle.std.proofs.Common.{refl}
 use Rattle.command_line.specs.Commands.{command_of}
 use Rattle.doom_run.specs.Words.{texts}
+use Rattle.doom_run.proofs.AlikeRunLemmas.{trimmed-run}
 use Rattle.doom_run.proofs.FullLemmas.{run_held, run_room}
 use Rattle.doom_run.proofs.RunLemmas.{absent_at, complete_at, end_at, prefix_at_end, refusal_at, steady_reads, stopped_at}
 use Rattle.doom_run.proofs.top.run.Goals as goal
@@ -48,3 +49,6 @@ returns-clause-complete_steady g c files accepted held is room steady write =
 
 pub returns-clause-noted_prefix : goal.returns-clause-noted_prefix
 returns-clause-noted_prefix g c = prefix_written c.put_note.ensures
+
+pub returns-clause-trimmed : goal.returns-clause-trimmed
+returns-clause-trimmed g c files level wads accepted done held are is = trimmed-run (texts c.args.words.now) files level wads accepted are is

@@ -1,0 +1,30 @@
+-- What a trimmed file is for: rendering it comes to the same as rendering the WADs that it was made of.
+use Rattle.std.specs.Prelude.{◌≡◌, ℕ, List, [], ◌∷◌, Some, Result, Ok}
+use Rattle.outside.specs.Shelf.{File, file_named}
+use Rattle.command_line.specs.LevelJobs.{FileNames, LevelJobValue}
+use Rattle.command_line.specs.declared.command.Format.{Format}
+use Rattle.command_line.specs.declared.command.LevelTask.TheVariants.{Render}
+use Rattle.doom_run.specs.Steps.{RunStop}
+use Rattle.doom_run.specs.Verdict.{Accepted, end_of, level_verdict, output}
+
+-- Other files, of which the first of a name has these bytes. The files beside the WADs are the same.
+pub record StandsForWads (names : FileNames) (bytes name : List ℕ) (files others : List File) : Type 0 where
+  pub trimmed : file_named name others ≡ Some bytes
+  pub tables : file_named names.tables others ≡ file_named names.tables files
+  pub things : file_named names.things others ≡ file_named names.things files
+  pub path : file_named names.path others ≡ file_named names.path files
+  pub weapon : (layers : List ℕ) → names.weapon ≡ Some layers → file_named layers others ≡ file_named layers files
+
+-- both are accepted, come to the same end and write the same
+pub record EndAlike (one other : Result Accepted RunStop) : Type 0 where
+  pub first : Accepted
+  pub second : Accepted
+  pub is : one ≡ Ok first
+  pub is_too : other ≡ Ok second
+  pub end : end_of second ≡ end_of first
+  pub written : output second ≡ output first
+
+pub record RendersAlike (level : LevelJobValue) (wads : List (List ℕ)) (files : List File) (bytes : List ℕ) : Type 0 where
+  pub alike : (format : Format) (others : List File) (name : List ℕ) →
+      StandsForWads level.files bytes name files others →
+      EndAlike (level_verdict (Render format) level wads files) (level_verdict (Render format) level (name ∷ []) others)
