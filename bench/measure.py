@@ -1,121 +1,175 @@
 #!/usr/bin/env python3
-"""Measures the processor time of a view, and prints a table.
+"""Measures a view of doomview, and prints a table.
 
-measure.py PROGRAM                              exercise 1, 4, 16 and 32, and render over the same files
-measure.py PROGRAM WAD MAP.. [--beside OTHER]   render of a map's places, each 60 times over
+usage: measure.py [WAD..] [--programs PROGRAM..] [--maps NAMES] [--rounds N] [--repeat N] [--ppm] [--count]
 
-PROGRAM and OTHER take doomview's words. The time of a view is the processor time of a long run less that
-of a short one, by the views that the long one has more. Of five runs the least counts; beside OTHER of 15,
-the two programs by turns, since a machine that others use changes its pace from second to second."""
+With WADs: of each map 21 places at which one can stand, chosen by examples/places from a fixed seed. A view is what a
+run over the places REPEAT times takes more than a run over them once, so that the reading of the level does not count;
+clearing and writing the frame do. Times are processor time in microseconds, the least of ROUNDS; in each round all
+programs run in turn, since a machine that others use changes its pace from second to second. Where
+examples/original/build has made `still`, R_RenderPlayerView of the original is measured beside, and the ratios are to
+it; else they are to the first program.
+
+Without WADs: `exercise` of 1, 4, 16 and 32, with all else that the job does.
+
+--programs names versions of doomview; by default the one of this repository. --maps names the maps, by default nine
+of Freedoom's. --ppm writes pictures in place of indices. --count counts instructions by valgrind's callgrind in place
+of time: one round, the same on any machine of the same kind."""
 import argparse
+import collections
 import os
+import re
 import resource
+import shutil
 import subprocess
 import sys
 import tempfile
 
 TOP = os.path.dirname(os.path.dirname(os.path.abspath(__file__)))
+EXAMPLES = os.path.join(TOP, 'examples')
+STILL = os.path.join(EXAMPLES, 'original', 'still')
+sys.path.insert(0, EXAMPLES)
+from wad_maps import WadError, map_labels, read_wad  # noqa: E402
+
+MAPS = 'E1M1 E2M8 E3M1 MAP01 MAP07 MAP18 MAP19 MAP21 MAP31'
+PLACES, SEED = 20, 7
 NUMBERS = (1, 4, 16, 32)
 VIEWS_PER_NUMBER = 3
-TIMES = 60
-MADE_VIEWS = 4000
-RUNS = 5
-TURNS = 15
+RENDERER = 'R_RenderPlayerView'
+ROUNDS, REPEAT = 5, 60
+COUNTED_REPEAT = 3  # under valgrind, some 50 times slower
 
 
-def spent(words):
-    """The processor time of a run, whose output is thrown away."""
+def run(words, folder):
+    """What a program prints, on either stream."""
+    try:
+        done = subprocess.run(words, cwd=folder, stdout=subprocess.PIPE, stderr=subprocess.PIPE)
+    except OSError as error:
+        sys.exit(f'measure: cannot run {words[0]}: {error.strerror}')
+    if done.returncode:
+        sys.exit(f'measure: {words[0]}: {done.stderr.decode(errors="replace").strip()[-200:]}')
+    return done.stdout, done.stderr
+
+
+def seconds(words, folder):
     before = resource.getrusage(resource.RUSAGE_CHILDREN)
-    run = subprocess.run(words, stdout=subprocess.DEVNULL)
+    run(words, folder)
     after = resource.getrusage(resource.RUSAGE_CHILDREN)
-    if run.returncode:
-        sys.exit(f'measure: status {run.returncode} of {" ".join(words)}')
     return after.ru_utime + after.ru_stime - before.ru_utime - before.ru_stime
 
 
-def seconds(words):
-    """The least of some runs."""
-    return least_by_turns([words], RUNS)[0]
+def instructions(words, folder, *options):
+    told = run(['valgrind', '--tool=callgrind', '--callgrind-out-file=/dev/null', *options, *words], folder)[1]
+    return int(re.search(rb'Collected : (\d+)', told)[1])
 
 
-def least_by_turns(jobs, turns):
-    """The least of some runs of each job, the jobs by turns."""
-    least = [spent(words) for words in jobs]
-    for _ in range(turns - 1):
-        least = [min(best, spent(words)) for best, words in zip(least, jobs)]
-    return least
+def write_paths(folder, wad, name, repeat):
+    """The places once and REPEAT times; how many views the second has more."""
+    words = [os.path.join(EXAMPLES, 'places'), wad, name, str(PLACES), '--seed', str(SEED)]
+    head, *rows = run(words, folder)[0].decode().splitlines()
+    for path, times in (('one.csv', 1), ('many.csv', repeat)):
+        with open(os.path.join(folder, path), 'w') as file:
+            file.write('\n'.join([head, *rows * times]) + '\n')
+    return len(rows) * (repeat - 1)
 
 
-def made_files(folder, program, number):
-    """The files of `exercise`, as words of `render`, and its path once and many times over."""
-    for what, words in (('wad', [str(number)]), ('path', [str(number)]), ('things', []), ('tables', [])):
-        with open(os.path.join(folder, what), 'wb') as file:
-            subprocess.run([program, 'make', what, *words], stdout=file, check=True)
-    head, *rows = open(os.path.join(folder, 'path')).read().splitlines()
-    times = MADE_VIEWS // len(rows)
-    with open(os.path.join(folder, 'long'), 'w') as file:
-        file.write('\n'.join([head, *(rows * times), '']))
-    words = [program, 'render', 'MAP01', os.path.join(folder, 'wad'), '--tables', os.path.join(folder, 'tables'),
-             '--things', os.path.join(folder, 'things'), '--path']
-    return words, len(rows) * (times - 1)
+def doomview_words(program, wad, name, path, ppm):
+    return [program, 'render', name, wad, '--tables', 'tables.bin', '--path', path, '--things',
+            os.path.join(EXAMPLES, 'things.csv'), '--format', 'ppm' if ppm else 'index']
 
 
-def exercises(program):
-    print('Microseconds a view of `exercise`, with all else that the job does, and of `render` over the same files:\n')
-    print('| Number | Views | exercise | render |\n|---|---|---|---|')
+def still_words(wad, name, path, *more):
+    return [STILL, '-iwad', wad, '-map', name, '-path', path, '-out', os.devnull, *more]
+
+
+def timed(options, folder, wad, name):
+    """The least microseconds a view of the original, if it is there, and of each program."""
+    views = write_paths(folder, wad, name, options.repeat)
+    least = collections.defaultdict(lambda: float('inf'))
+    for _ in range(options.rounds):
+        for program in options.programs:
+            for path in ('one.csv', 'many.csv'):
+                words = doomview_words(program, wad, name, path, options.ppm)
+                least[program, path] = min(least[program, path], seconds(words, folder))
+        if options.original:
+            told = run(still_words(wad, name, 'one.csv', '-time', str(options.repeat)), folder)[0]
+            least[STILL] = min(least[STILL], int(re.search(rb'least (\d+) ns', told)[1]) / 1000)
+    return [least[STILL]] * options.original + [
+        (least[program, 'many.csv'] - least[program, 'one.csv']) / views * 1e6 for program in options.programs]
+
+
+def counted(options, folder, wad, name):
+    """The thousands of instructions a view of each of them."""
+    views = write_paths(folder, wad, name, COUNTED_REPEAT)
+    jobs = [(still_words, (), [f'--toggle-collect={RENDERER}'])] * options.original
+    jobs += [(lambda *words, program=it: doomview_words(program, *words), (options.ppm,), []) for it in options.programs]
+    return [(instructions(words(wad, name, 'many.csv', *more), folder, *flags)
+             - instructions(words(wad, name, 'one.csv', *more), folder, *flags)) / views / 1000
+            for words, more, flags in jobs]
+
+
+def print_row(cells):
+    print('| ' + ' | '.join(cells) + ' |', flush=True)
+
+
+def told(found):
+    """The first number, and each other with its ratio to the first."""
+    return [f'{found[0]:.1f}', *(cell for it in found[1:] for cell in (f'{it:.1f}', f'{it / found[0]:.3f}'))]
+
+
+def renders(options, maps):
+    names = ['original'] * options.original + [f'program {i + 1}' for i in range(len(options.programs))]
+    print('Thousands of instructions a view:' if options.count else 'Microseconds a view:')
+    print()
+    print_row(['Map', names[0], *(cell for it in names[1:] for cell in (it, 'ratio'))])
+    print('|---' * (2 * len(names)) + '|')
+    sums = [0.0] * len(names)
+    with tempfile.TemporaryDirectory() as folder:
+        with open(os.path.join(folder, 'tables.bin'), 'wb') as file:
+            file.write(run([sys.executable, os.path.join(EXAMPLES, 'make_tables.py')], folder)[0])
+        for wad, name in sorted(maps, key=lambda it: it[1]):
+            found = (counted if options.count else timed)(options, folder, wad, name)
+            sums = [a + b for a, b in zip(sums, found)]
+            print_row([name, *told(found)])
+    print_row(['mean', *told([it / len(maps) for it in sums])])
+
+
+def exercises(options):
+    print('Microseconds a view of `exercise`, with all else that the job does:\n')
+    print_row(['Number', 'Views', *(f'program {i + 1}' for i in range(len(options.programs)))])
+    print('|---' * (2 + len(options.programs)) + '|')
     for number in NUMBERS:
         views = VIEWS_PER_NUMBER * number
-        whole = 1e6 * seconds([program, 'exercise', str(number)]) / views
-        with tempfile.TemporaryDirectory() as folder:
-            words, more = made_files(folder, program, number)
-            alone = seconds([*words, os.path.join(folder, 'long')]) - seconds([*words, os.path.join(folder, 'path')])
-        print(f'| {number} | {views} | {whole:.0f} | {1e6 * alone / more:.0f} |')
-
-
-def made(folder, name, script, *words):
-    """A file that a script of the examples writes."""
-    path = os.path.join(folder, name)
-    with open(path, 'wb') as file:
-        subprocess.run([sys.executable, os.path.join(TOP, 'examples', script), *words], stdout=file, check=True)
-    return path
-
-
-def long_path(folder, wad, name):
-    """The places of a map, once and many times over, and how many views the second has more."""
-    with open(made(folder, 'short.csv', 'make_path.py', wad, name, '21')) as file:
-        head, *rows = file.read().splitlines()
-    path = os.path.join(folder, 'long.csv')
-    with open(path, 'w') as file:
-        file.write('\n'.join([head, *(rows * TIMES), '']))
-    return os.path.join(folder, 'short.csv'), path, len(rows) * (TIMES - 1)
-
-
-def renders(programs, wad, maps):
-    with tempfile.TemporaryDirectory() as folder:
-        tables = made(folder, 'tables.bin', 'make_tables.py')
-        things = os.path.join(TOP, 'examples', 'things.csv')
-        print('Microseconds a view:\n\n| Map | ' + ' | '.join(os.path.basename(it) for it in programs)
-              + ' |\n|---' + '|---' * len(programs) + '|')
-        for name in maps:
-            short, path, more = long_path(folder, wad, name)
-            words = [[program, 'render', name, wad, '--tables', tables, '--things', things, '--path', file]
-                     for program in programs for file in (path, short)]
-            least = least_by_turns(words, TURNS if len(programs) > 1 else RUNS)
-            found = [1e6 * (long - brief) / more for long, brief in zip(least[::2], least[1::2])]
-            print(f'| {name} | ' + ' | '.join(f'{it:.0f}' for it in found) + ' |')
+        rounds = [[seconds([program, 'exercise', str(number)], None) for program in options.programs]
+                  for _ in range(options.rounds)]
+        least = [1e6 * min(column) / views for column in zip(*rounds)]
+        print_row([str(number), str(views), *(f'{it:.0f}' for it in least)])
 
 
 def main():
-    reader = argparse.ArgumentParser(usage=__doc__)
-    reader.add_argument('program')
-    reader.add_argument('wad', nargs='?')
-    reader.add_argument('maps', nargs='*')
-    reader.add_argument('--beside')
-    words = reader.parse_args()
-    if words.wad:
-        renders([words.program, *([words.beside] if words.beside else [])], words.wad, words.maps)
-    else:
-        exercises(words.program)
+    reader = argparse.ArgumentParser(prog='measure', usage=__doc__.split('\n\n')[1][len('usage: '):])
+    reader.add_argument('wads', nargs='*')
+    reader.add_argument('--programs', nargs='+', default=[os.path.join(TOP, 'out', 'doomview')])
+    reader.add_argument('--maps', default=MAPS)
+    reader.add_argument('--rounds', type=int, default=ROUNDS)
+    reader.add_argument('--repeat', type=int, default=REPEAT)
+    reader.add_argument('--ppm', action='store_true')
+    reader.add_argument('--count', action='store_true')
+    options = reader.parse_args()
+    options.programs = [os.path.abspath(it) for it in options.programs]
+    options.original = os.access(STILL, os.X_OK)
+    if options.count and not shutil.which('valgrind'):
+        reader.error('--count needs valgrind, which is not installed')
+    if not options.wads:
+        return exercises(options)
+    try:
+        maps = [(os.path.abspath(wad), name) for wad in options.wads for name in map_labels(read_wad(wad))
+                if name in options.maps.split()]
+    except WadError as error:
+        reader.error(str(error))
+    if not maps:
+        reader.error('none of these maps is in the WADs; --maps names others')
+    renders(options, maps)
 
 
 if __name__ == '__main__':

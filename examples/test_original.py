@@ -96,14 +96,17 @@ class Original(Scripts):
         self.assertIn('near MAP01: fails: doomview: refused 601', output.decode())
         self.refuses('gcc is not installed', self.at('examples/original/build'))
 
-    def test_times(self):
-        self.refuses('there is no program still', self.at('examples/original/times'), 'room.wad')
-        self.originals('none')
-        words = ['room.wad', '--programs', self.doomview, '--rounds', '1', '--repeat', '2']
-        self.refuses('none of these maps', self.at('examples/original/times'), *words, '--maps', 'MAP02')
-        status, output, error = self.run_script(self.at('examples/original/times'), *words)
-        self.assertEqual((status, error), (0, ''))
-        self.assertRegex(output.decode(), r'MAP01 +1\.0 +-?[0-9.]+ +-?[0-9.]+\nmean +1\.0 ')
+    def test_speed(self):
+        """bench/measure.py has the original beside the programs where it is built."""
+        shutil.copytree(os.path.join(os.path.dirname(HERE), 'bench'), self.at('bench'))
+        words = [self.at('bench/measure.py'), 'room.wad', '--programs', self.doomview, '--rounds', '1', '--repeat', '2']
+        self.refuses('none of these maps', *words, '--maps', 'MAP02')
+        for ratio in ('', r' \| -?[0-9.]+'):
+            status, output, error = self.run_script(*words)
+            self.assertEqual((status, error), (0, ''))
+            first = r' \| 1\.0' if ratio else ''
+            self.assertRegex(output.decode(), rf'MAP01{first} \| -?[0-9.]+{ratio} \|\n\| mean{first} \| -?[0-9.]+{ratio} \|\n$')
+            self.originals('none')
 
     def test_release(self):
         """The package has the program and the pages, and the same bytes each time."""

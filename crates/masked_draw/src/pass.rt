@@ -262,13 +262,11 @@ fn pass_fragment<S: Shelf, C: Canvas>(
 }
 
 // Whether a fragment has one of the columns, and clips or is masked. Asked of each fragment for each
-// sprite, and seldom so: one branch in place of four, by a sum that is 0 where none of them misses.
+// sprite, and seldom so: one branch for both ends.
 fn counts(note: &FragmentNote, first: u16, last: u16) -> bool
     ensures yes { result ≡ true → (note.now.first ≤ last) × (first ≤ note.now.last) }
     ensures no { result ≡ false → MissesColumns note.now first last }
 {
-    let before = note.first.saturating_sub(last);
-    let after = first.saturating_sub(note.last);
-    let is_plain = (note.silhouette == 0) & note.masked.is_none();
-    before as u32 + after as u32 + is_plain as u32 == 0
+    let meets = (note.first <= last) & (first <= note.last);
+    meets && (note.silhouette != 0 || note.masked.is_some())
 }

@@ -83,6 +83,7 @@ fn paint_any_column<C: Canvas>(canvas: &mut C, strip: &ColumnStrip<'_>)
 }
 
 // Paints the strip from the texels and the shades that are cut out.
+#[inline(always)]
 fn paint_cut_column<C: Canvas>(
     canvas: &mut C,
     strip: &ColumnStrip<'_>,

@@ -105,6 +105,7 @@ impl Canvas for Frame {
         self.cells[FRAME_WIDTH as usize * row + column] = colour;
     }
 
+    #[inline(always)]
     fn column(&mut self, x: u16, first: u16, last: u16, cut: &CutColumn<'_>) {
         let row = first as usize + self.top as usize;
         let column = x as usize + self.left as usize;

@@ -12,15 +12,17 @@ pub const FLAT_BYTES: usize = FLAT_SIDE as usize * FLAT_SIDE as usize;
 
 /// `count` bytes from an offset on, None where the end comes before.
 pub fn window(bytes: &[u8], offset: u64, count: usize) -> Option<&[u8]>
-    requires { count ≤ FLAT_BYTES }
+    requires offset { offset < 2 ^ 63 }
+    requires count { count ≤ FLAT_BYTES }
     ensures some { IfSome result (λ part. IsWindow bytes.now offset count part.now) }
     ensures none { IfNone result (length bytes.now < offset + count) }
 {
     let start = offset as usize;
-    if start > bytes.len() || count > bytes.len() - start {
+    let end = start + count;
+    if end > bytes.len() {
         return None;
     }
-    Some(&bytes[start..start + count])
+    Some(&bytes[start..end])
 }
 
 /// The byte at an offset, 0 past the end.

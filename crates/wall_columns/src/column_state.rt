@@ -53,7 +53,7 @@ impl ColumnState {
         ensures ceiling { IfOk result (λ state. state.ceiling ≡ None) }
     {
         Ok(ColumnState {
-            windows: Windows::new(alloc)?,
+            windows: Windows::new(),
             openings: Openings::new(alloc, room)?,
             floor: None,
             ceiling: None,

@@ -53,21 +53,23 @@ impl ColumnState {
         ensures room { self.new.openings.room ≡ self.old.openings.room }
         ensures planes_room { tools.new.planes.now.room ≡ tools.old.planes.now.room }
     {
-        if !has_part(numbers) {
-            self.count_columns(tools.view, tools.planes, fragment, numbers, places);
+        // Copied: behind each write to a cell they would be read again.
+        let numbers = *numbers;
+        if !has_part(&numbers) {
+            self.count_columns(tools.view, tools.planes, fragment, &numbers, places);
             return Ok(());
         }
         // A loop for each kind of fragment, without what the kind has not.
         if has_texture(numbers.middle_part) {
-            return self.draw_each(tools, number, fragment, numbers, places);
+            return self.draw_each(tools, number, fragment, &numbers, places);
         }
         if !has_texture(numbers.bottom_part) {
-            return self.draw_each(tools, number, fragment, numbers, places);
+            return self.draw_each(tools, number, fragment, &numbers, places);
         }
         if !has_texture(numbers.top_part) {
-            return self.draw_each(tools, number, fragment, numbers, places);
+            return self.draw_each(tools, number, fragment, &numbers, places);
         }
-        self.draw_each(tools, number, fragment, numbers, places)
+        self.draw_each(tools, number, fragment, &numbers, places)
     }
 
     // Marks, paints and saves the columns of fragment `number`, from left to right. Inlined, so that

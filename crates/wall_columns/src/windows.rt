@@ -1,11 +1,10 @@
 // What is open of each column of a frame, and the rows of the view: this crate's Windows.
-ghost use Rattle.std.specs.Prelude.{◌≡◌, ◌≢◌, ◌<◌, ◌≤◌, ℕ};
+ghost use Rattle.std.specs.Prelude.{◌≡◌, ◌≢◌, ◌<◌, ◌≤◌, ℕ, replicate};
 ghost use Rattle.view_rules.specs.declared.TheConstants.{FRAME_WIDTH, FRAME_HEIGHT};
 ghost use Rattle.picture_rules.specs.wall.Clips.{open_clip};
 ghost use Rattle.wall_columns.specs.Windows.{window_at, with_window, IsClipIn};
 
 use picture_rules::ColumnClip;
-use std::alloc::{AllocError, Global};
 use std::marker::Model;
 use view_rules::FRAME_WIDTH;
 
@@ -14,8 +13,8 @@ use view_rules::FRAME_WIDTH;
 /// The original: `ceilingclip` and `floorclip`, r_plane.c.
 #[derive(Drop)]
 pub struct Windows {
-    ceiling_clips: Vec<i32>,
-    floor_clips: Vec<i32>,
+    ceiling_clips: [i32; FRAME_WIDTH as usize],
+    floor_clips: [i32; FRAME_WIDTH as usize],
     height: u16,
 }
 
@@ -25,20 +24,20 @@ impl Model for Windows {
 
     ghost Value = { WindowsView };
 
-    ghost view = { λ w. windows_view w.ceiling_clips.items w.floor_clips.items w.height };
+    ghost view = { λ w. windows_view w.ceiling_clips w.floor_clips w.height };
 
-    ghost invariant = { λ w. AreClips w.height w.ceiling_clips.items w.floor_clips.items };
+    ghost invariant = { λ w. AreClips w.height w.ceiling_clips w.floor_clips };
 }
 
 impl Windows {
-    /// The windows of a view without rows. Takes their memory.
+    /// The windows of a view without rows.
     #[tactic(auto, using(crate::proofs::PartLemmas::opened))]
-    pub fn new(alloc: Global) -> Result<Windows, AllocError> {
-        Ok(Windows {
-            ceiling_clips: vec![in alloc; 0; FRAME_WIDTH as usize]?,
-            floor_clips: vec![in alloc; 0; FRAME_WIDTH as usize]?,
+    pub fn new() -> Windows {
+        Windows {
+            ceiling_clips: same_rows(0),
+            floor_clips: same_rows(0),
             height: 0,
-        })
+        }
     }
 
     /// Opens each column of a view of `height` rows.
@@ -89,4 +88,11 @@ impl Windows {
         self.ceiling_clips[x as usize] = clip.ceiling_clip;
         self.floor_clips[x as usize] = clip.floor_clip;
     }
+}
+
+// The same row for each column of a frame.
+fn same_rows(row: i32) -> [i32; FRAME_WIDTH as usize]
+    ensures { result ≡ replicate FRAME_WIDTH row }
+{
+    [row; FRAME_WIDTH as usize]
 }

@@ -10,7 +10,7 @@ use level_scene::SceneFault;
 use lump_rules::DirRefusal;
 use map_lumps::MapFault;
 use outside::{Failed, Fault, PutFault};
-use refusals::Refusal;
+use refusals::{Refusal, TrimRefusal};
 use scene_rules::{ArtRefusal, AuditRefusal, SceneRefusal, WeaponRefusal};
 use std::fmt::Display;
 use std::process::Abort;
@@ -54,6 +54,19 @@ fn a_refusal_of_a_text_table_says_which_field_is_wrong(rt: HostRuntime) -> Resul
         row 12 of the table, column 5: the field is not a number\n\
         row 31 of the table has the thing type of an earlier row";
     reads(&rt, &format_args!("{long}\n{number}\n{twice}"), sentences)
+}
+
+#[test]
+fn a_refusal_of_a_trimmed_file_says_which_lump_or_size_is_wrong(
+    rt: HostRuntime,
+) -> Result<(), Fail> {
+    let name = TrimRefusal::MarkName { lump: 26 };
+    let many = TrimRefusal::TrimTooMany { count: 65540 };
+    let large = TrimRefusal::TrimTooLarge { bytes: 4294967300 };
+    let sentences = "lump 26 has the name of a mark, so it cannot stand in a trimmed file\n\
+        the trimmed file would have 65540 entries, but may have at most 65535\n\
+        the trimmed file would have 4294967300 bytes, but may have at most 4294967295";
+    reads(&rt, &format_args!("{name}\n{many}\n{large}"), sentences)
 }
 
 #[test]
