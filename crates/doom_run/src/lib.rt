@@ -8,10 +8,11 @@
 //!
 //! Rules: specs, Words (whether the words ask for files), Audits (how large a zone has to be for a
 //! level), Views (the frames and the counts of a path, and the first view over a limit), Exercises
-//! (the made files, rendered), Trims (the trimmed file), Steps (where a run stops), Verdict (what a run determines,
-//! and its output), Alike (what a trimmed file is for), Ends (what a status says of a run), Fulls (when a zone is full), Leasts (the smallest
-//! zone in which a run ends), Takes (how many bytes are read). Proved: what `run` writes, each
-//! status and its cause, and the line for each status. Tested only: that memory is found. The
+//! (the made files, rendered), Trims (the trimmed file), Steps (where a run stops), Verdict (what a
+//! run determines, and its output), Alike (what a trimmed file is for), Ends (what a status says of
+//! a run), Fulls (when a zone is full), Leasts (the smallest zone in which a run ends), Takes (how
+//! many bytes are read). Proved: what `run` writes, each status and its cause, the line for each
+//! status, and that a trimmed file renders as its WADs do. Tested only: that memory is found. The
 //! original: none; `D_DoomMain`, d_main.c, stands in its place there.
 #![tactic(auto)]
 

@@ -205,6 +205,6 @@ copied-needed bytes lumps lines name skill scene pictures parts n made plan copi
     let art = art_with scene pictures in
     let base = base_parts bytes lumps name scene.base made.base in
     let all = parts-needed lumps art name (palette_last lumps scene.base.playpal base.playpal) (colormap_last lumps scene.base.colormap base.colormap) (label_last lumps name scene.base.label base.label)
-        (patches-last lumps bytes scene.base.lists (is_wanted_texture scene.faces.sides scene.faces.sky) scene.prepared made.prepared) in
+    (patches-last lumps bytes scene.base.lists (is_wanted_texture scene.faces.sides scene.faces.sky) scene.prepared made.prepared) in
     let here : AllByRecursion (IsPartNeeded lumps art) parts = subst (AllByRecursion (IsPartNeeded lumps art)) (plan-accepted lumps art name parts plan).0 all in
     All-contains (IsPartNeeded lumps art) parts (copy_part n) (All-from_recursion (IsPartNeeded lumps art) parts here) copied
