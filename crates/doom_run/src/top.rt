@@ -50,8 +50,8 @@ pub fn run<S: Shelf, K: Sink, N: Sink>(
         WhereAsked (texts words.now) (Holds (S.view shelf.old) files) →
         EndsWith (verdict (texts words.now) files) (K.written out.old) (K.written out.new) result }
 
-    // Another status: a prefix of the output, and nothing where none is due or memory ran out. Frames,
-    // traces and trimmed files alone are written before all is read.
+    // Another status: a prefix of the output, and nothing where none is due or memory ran out.
+    // Frames, traces and trimmed files alone are written before all is read.
     ensures prefix { (files : List File) (accepted : Accepted) →
         WhereAsked (texts words.now) (Holds (S.view shelf.old) files) →
         verdict (texts words.now) files ≡ Ok accepted →
