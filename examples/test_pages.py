@@ -114,6 +114,41 @@ class Pages(unittest.TestCase):
         self.assertEqual({code for code in told if code not in known and code // 100 * 100 not in groups}, set())
         self.assertEqual(known - set(told), set())
 
+    def test_codes(self):
+        """Each row of the refusals names the variant for which the code writes that number."""
+        codes = dict(re.findall(r'(\w+): u64 = (\d+);', read('crates/refusals/src/codes.rt')))
+        lines = read('crates/refusals/src/lines.rt')
+        written = {int(codes[code]): variant for variant, code in
+                   re.findall(r'Refusal::(\w+)(?: \{[^}]*\})? => put_numbers\(\s*notes,\s*&\[(CODE_\w+)', lines)}
+        of_table = dict(re.findall(r'CsvRefusal::(\w+)(?: \{[^}]*\})? => put_numbers\(notes, &\[group \+ (\d)', lines))
+        groups = [int(number) for name, number in codes.items() if name.startswith('GROUP_')]
+        self.assertGreater(len(written), 35)
+        self.assertEqual(len(of_table), 7)
+        for code, _, _, _, where in rows('docs/FILES.md', '| Code | Numbers |'):
+            variant = re.match(r'`(?:\w+::)?(\w+)`', where)[1]
+            if variant in of_table and int(code) not in written:
+                self.assertIn(int(code) - int(of_table[variant]), groups, code)
+            else:
+                self.assertEqual(written[int(code)], variant, code)
+
+    def test_limits(self):
+        """Each number of the table of limits is that of the constant beside it."""
+        told = 0
+        for what, least, greatest, where in rows('docs/FILES.md', '| What | Least | Greatest |'):
+            words, _, place = where.rpartition(';')
+            crate, file = place.strip().split(', ')
+            crate, _, folder = crate.partition('/')
+            path = file if file.startswith('src/') else '/'.join(it for it in ('src', folder, f'{file}.rt') if it)
+            text = read(f'crates/{crate}/{path}')
+            bounds = [number.strip('` ') for number in f'{least},{greatest}'.split(',')]
+            for name, stated in re.findall(r'`(\w+)`(?: = (\d+))?', words):
+                value = re.search(rf"const {name}: \w+ = (?:b'(.)'|(-?[\d_]+));", text)
+                self.assertTrue(value, f'{what}: {name} is not in {crate}, {path}')
+                number = value[1] or value[2].replace('_', '')
+                self.assertTrue(stated == number if stated else number in bounds, f'{what}: {name} is {number}')
+                told += 1
+        self.assertGreater(told, 45)
+
     def test_jobs_and_options(self):
         """README, the script doomview, the manual and explain have the same jobs, options and statuses."""
         jobs = [re.match(r'`([a-z]+)', job)[1] for job, _ in rows('README.md', '| Job | Writes |')]
