@@ -1,30 +1,12 @@
 -- The options of a job, by what clap finds: numbers within a range, the format, and which are absent.
-use Rattle.std.specs.Prelude.{◌≡◌, ℕ, ◌≤◌, Bool, cond, not, ◌%◌, nat_le, ◌==◌, ◌&&◌, List, Option, Some, None, option_and_then, is_some, codes, bytes_eq}
+use Rattle.std.specs.Prelude.{ℕ, Bool, cond, not, ◌%◌, nat_le, ◌==◌, ◌&&◌, List, Option, Some, None, option_and_then, is_some, codes, bytes_eq}
 use Rattle.clap.specs.Words.{Row, Text, first_of}
 use Rattle.numerals.specs.Numerals.{numeral}
-use Rattle.command_line.specs.declared.command.Format.{Format}
-use Rattle.command_line.specs.declared.command.Format.TheVariants.{Index, Ppm}
-use Rattle.command_line.specs.declared.command.Settings.{Settings}
-use Rattle.command_line.specs.declared.choices.TheConstants.{DEFAULT_OPENINGS, DEFAULT_PLANES, DEFAULT_SIZE, DEFAULT_SKILL, DEFAULT_ZONE, MOST_OPENINGS, MAX_PLANES, MAX_SIZE, MAX_SKILL, MAX_ZONE, MIN_OPENINGS, MIN_PLANES, MIN_SIZE, MIN_SKILL, MIN_ZONE, ZONE_STEP}
-
--- a number from low to high
-pub record IsWithin (low high n : ℕ) : Type 0 where
-  pub least : low ≤ n
-  pub most : n ≤ high
-
--- a size that a zone can have
-pub record IsZone (size : ℕ) : Type 0 where
-  pub least : MIN_ZONE ≤ size
-  pub most : size ≤ MAX_ZONE
-  pub step : size % ZONE_STEP ≡ 0
-
--- the numbers of a job over a level are in their ranges
-pub record AreSettings (numbers : Settings) : Type 0 where
-  pub zone : IsZone numbers.zone
-  pub skill : IsWithin MIN_SKILL MAX_SKILL numbers.skill
-  pub size : IsWithin MIN_SIZE MAX_SIZE numbers.size
-  pub planes : IsWithin MIN_PLANES MAX_PLANES numbers.planes
-  pub openings : IsWithin MIN_OPENINGS MOST_OPENINGS numbers.openings
+use Rattle.job_rules.specs.declared.command.Format.{Format}
+use Rattle.job_rules.specs.declared.command.Format.TheVariants.{Index, Ppm}
+use Rattle.job_rules.specs.declared.command.Settings.{Settings}
+use Rattle.job_rules.specs.declared.ranges.TheConstants.{MOST_OPENINGS, MAX_PLANES, MAX_SIZE, MAX_SKILL, MAX_ZONE, MIN_OPENINGS, MIN_PLANES, MIN_SIZE, MIN_SKILL, MIN_ZONE, ZONE_STEP}
+use Rattle.command_line.specs.declared.choices.TheConstants.{DEFAULT_OPENINGS, DEFAULT_PLANES, DEFAULT_SIZE, DEFAULT_SKILL, DEFAULT_ZONE}
 
 -- the number that a word writes, from low to high
 unfoldable pub number_within : ℕ → ℕ → Text → Option ℕ

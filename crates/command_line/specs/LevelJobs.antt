@@ -1,38 +1,12 @@
 -- The jobs over a level: the level's name, the files, the numbers and the WADs.
-use Rattle.std.specs.Prelude.{ℕ, Bool, cond, nat_lt, nat_le, ◌&&◌, List, length, Option, Some, None, option_and_then, option_map, codes, bytes_eq}
+use Rattle.std.specs.Prelude.{Bool, cond, nat_lt, nat_le, ◌&&◌, List, length, Option, Some, None, option_and_then, codes, bytes_eq}
 use Rattle.clap.specs.Words.{Row, Text, first_of}
 use Rattle.lump_rules.specs.Names.{name_of_text}
-use Rattle.command_line.specs.declared.command.Files.{Files}
-use Rattle.command_line.specs.declared.command.LevelJob.{LevelJob}
-use Rattle.command_line.specs.declared.command.LevelTask.{LevelTask}
-use Rattle.command_line.specs.declared.command.LevelTask.TheVariants.{Render, Audit, Limits, Trim, Trace}
-use Rattle.command_line.specs.declared.command.Settings.{Settings}
-use Rattle.command_line.specs.declared.level_jobs.TheConstants.{MAX_WADS}
-use Rattle.command_line.specs.Choices.{AreSettings, IsWithin, format_in, lacks, settings_in}
-
--- the names of files, as text
-pub record FileNames : Type 0 where
-  pub tables : Text
-  pub things : Text
-  pub path : Text
-  pub weapon : Option Text
-
-abbrev pub file_names : Files → FileNames
-file_names files = record { tables = files.tables.now; things = files.things.now; path = files.path.now; weapon = option_map (λ w. w.now) files.weapon }
-
--- a level and how it is looked at, as text and numbers
-pub record LevelJobValue : Type 0 where
-  pub map_name : List ℕ
-  pub files : FileNames
-  pub settings : Settings
-
-abbrev pub level_job_value : LevelJob → LevelJobValue
-level_job_value level = record { map_name = level.map; files = file_names level.files; settings = level.settings }
-
--- the numbers of a job over a level and the number of its WADs are in their ranges
-pub record IsLevelJob (level : LevelJobValue) (wads : List Text) : Type 0 where
-  pub settings : AreSettings level.settings
-  pub count : IsWithin 1 MAX_WADS (length wads)
+use Rattle.job_rules.specs.declared.command.LevelTask.{LevelTask}
+use Rattle.job_rules.specs.declared.command.LevelTask.TheVariants.{Render, Audit, Limits, Trim, Trace}
+use Rattle.job_rules.specs.declared.ranges.TheConstants.{MAX_WADS}
+use Rattle.job_rules.specs.LevelJobs.{FileNames, LevelJobValue}
+use Rattle.command_line.specs.Choices.{format_in, lacks, settings_in}
 
 unfoldable pub other_level_task : Text → Option LevelTask
 other_level_task job =
@@ -48,8 +22,8 @@ level_task_in rows job =
     (cond (lacks (codes "format") rows) (other_level_task job) None)
 
 -- three files must be given, and one may be
-unfoldable pub files_in : List Row → Option FileNames
-files_in rows =
+unfoldable pub file_names_in : List Row → Option FileNames
+file_names_in rows =
     option_and_then (λ tables.
     option_and_then (λ things.
     option_and_then (λ path.
@@ -65,7 +39,7 @@ level_job_of rows text =
     option_and_then (λ settings.
     Some (record { map_name = name; files = files; settings = settings }))
     (settings_in rows))
-    (files_in rows))
+    (file_names_in rows))
     (name_of_text text)
 
 -- 1 to 16 WADs

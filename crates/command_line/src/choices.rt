@@ -2,50 +2,31 @@
 
 ghost use Rattle.std.specs.Prelude.{◌≡◌, ◌%◌, IfSome, option_map};
 ghost use Rattle.clap.specs.Words.{found_of, rows_of};
-ghost use Rattle.command_line.specs.Choices.{AreSettings, IsWithin, IsZone, format_in, has_no_files, has_no_options, has_no_settings, multiple_of_step, number_option, number_within, settings_in, zone_in};
-ghost use Rattle.command_line.specs.declared.command.Settings.{Settings};
+ghost use Rattle.job_rules.specs.Ranges.{AreSettings, IsWithin, IsZone};
+ghost use Rattle.command_line.specs.Choices.{format_in, has_no_files, has_no_options, has_no_settings, multiple_of_step, number_option, number_within, settings_in, zone_in};
+ghost use Rattle.job_rules.specs.declared.command.Settings.{Settings};
 
-use crate::command::{Format, Settings};
 use crate::simple::value;
 use clap::ArgMatches;
+use job_rules::{
+    Format, MAX_PLANES, MAX_SIZE, MAX_SKILL, MAX_ZONE, MIN_OPENINGS, MIN_PLANES, MIN_SIZE,
+    MIN_SKILL, MIN_ZONE, MOST_OPENINGS, Settings, ZONE_STEP,
+};
 use numerals::numeral;
 
-/// The size of a zone in bytes: the least and greatest, what it is a multiple of, and the size
-/// where none is asked for.
-pub const MIN_ZONE: u32 = 64;
-
-pub const MAX_ZONE: u32 = 536_870_912;
-
-pub const ZONE_STEP: u32 = 4;
-
+/// The size of a zone in bytes where none is asked for.
 pub const DEFAULT_ZONE: u32 = 6_291_456;
 
-/// The skill.
-pub const MIN_SKILL: u32 = 1;
-
-pub const MAX_SKILL: u32 = 5;
-
+/// The skill where none is asked for.
 pub const DEFAULT_SKILL: u32 = 3;
 
-/// The size of the view.
-pub const MIN_SIZE: u32 = 3;
-
-pub const MAX_SIZE: u32 = 11;
-
+/// The size of the view where none is asked for.
 pub const DEFAULT_SIZE: u32 = 11;
 
-/// The most planes of a view.
-pub const MIN_PLANES: u32 = 128;
-
-pub const MAX_PLANES: u32 = 1_024;
-
+/// The most planes of a view where no number is asked for.
 pub const DEFAULT_PLANES: u32 = 128;
 
-/// The most openings of a view.
-pub const MIN_OPENINGS: u32 = 20_480;
-
-pub const MOST_OPENINGS: u32 = 245_760;
-
+/// The most openings of a view where no number is asked for.
 pub const DEFAULT_OPENINGS: u32 = 20_480;
 
 // The number that a word writes, where it is from `low` to `high`.

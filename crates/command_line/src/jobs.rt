@@ -2,20 +2,17 @@
 
 ghost use Rattle.std.specs.Prelude.{◌≡◌, ◌≢◌, ◌==◌, true, false, [], Err, IfOk, IfErr, IfSome, Some, None, map, option_map, codes, string_bytes};
 ghost use Rattle.clap.specs.Words.{found_of, rows_of};
-ghost use Rattle.command_line.specs.Commands.{IsCommandOf, IsCount, IsCounted, IsCountedMake, IsDecidedBy, IsExercise, command_in, command_of, count_of, exercise_of, flat_of, job_named, make_job_of, make_of, numbered_make, plain_make, level_of, level_with, exercise_numbers, command_value};
+ghost use Rattle.job_rules.specs.Commands.{IsCount, IsCounted, IsCountedMake, IsExercise, command_value};
+ghost use Rattle.command_line.specs.Commands.{IsCommandOf, IsDecidedBy, command_in, command_of, count_of, exercise_command, flat_command, job_named, make_job_of, make_command, numbered_make, plain_make, level_command, level_with, exercise_numbers};
 
 use crate::choices::{format_in, has_no_options, has_no_settings, number_within, zone_in};
-use crate::command::{Command, CommandFault, Format, LevelTask, MakeJob};
+use crate::fault::CommandFault;
 use crate::level_jobs::{are_wads, copied, level_job_of, level_task_in};
 use crate::simple::{matches, rest, value};
 use clap::ArgMatches;
+use job_rules::{Command, Format, LevelTask, MAX_COUNT, MIN_COUNT, MakeJob};
 use lump_rules::Name8;
 use std::alloc::Global;
-
-/// The least and the greatest number of made files.
-pub const MIN_COUNT: u32 = 1;
-
-pub const MAX_COUNT: u32 = 32;
 
 /// The command of the words after the program's name. The number of made files, the size of their
 /// zone in an exercise, and the numbers of a job over a level are in their ranges.
@@ -64,20 +61,20 @@ fn job_named<'a>(alloc: Global, found: &ArgMatches<'a>, job: &str, rest: &[&'a s
         rest.now)) result }
 {
     if job == "flat" {
-        flat_of(found, rest)
+        flat_command(found, rest)
     } else if job == "make" {
-        make_of(found, rest)
+        make_command(found, rest)
     } else if job == "exercise" {
-        exercise_of(found, rest)
+        exercise_command(found, rest)
     } else {
-        level_of(alloc, found, job, rest)
+        level_command(alloc, found, job, rest)
     }
 }
 
 // The command flat NAME FILE.
-#[tactic(auto, unfolding(crate::specs::Commands::flat_of))]
-fn flat_of<'a>(found: &ArgMatches<'a>, rest: &[&'a str]) -> Taken<'a>
-    ensures { IsDecidedBy (flat_of (rows_of (found_of found.now)) (map (λ w. w.now) rest.now))
+#[tactic(auto, unfolding(crate::specs::Commands::flat_command))]
+fn flat_command<'a>(found: &ArgMatches<'a>, rest: &[&'a str]) -> Taken<'a>
+    ensures { IsDecidedBy (flat_command (rows_of (found_of found.now)) (map (λ w. w.now) rest.now))
         result }
 {
     match rest {
@@ -95,9 +92,9 @@ fn flat_of<'a>(found: &ArgMatches<'a>, rest: &[&'a str]) -> Taken<'a>
 }
 
 // The command make wad N, make path N, make tables or make things.
-#[tactic(auto, unfolding(crate::specs::Commands::make_of))]
-fn make_of<'a>(found: &ArgMatches<'a>, rest: &[&'a str]) -> Taken<'a>
-    ensures { IsDecidedBy (make_of (rows_of (found_of found.now)) (map (λ w. w.now) rest.now))
+#[tactic(auto, unfolding(crate::specs::Commands::make_command))]
+fn make_command<'a>(found: &ArgMatches<'a>, rest: &[&'a str]) -> Taken<'a>
+    ensures { IsDecidedBy (make_command (rows_of (found_of found.now)) (map (λ w. w.now) rest.now))
         result }
 {
     if !has_no_options(found) {
@@ -162,9 +159,9 @@ fn count_of(text: &str) -> Option<u8>
 }
 
 // The command exercise N.
-#[tactic(auto, unfolding(crate::specs::Commands::exercise_of))]
-fn exercise_of<'a>(found: &ArgMatches<'a>, rest: &[&'a str]) -> Taken<'a>
-    ensures { IsDecidedBy (exercise_of (rows_of (found_of found.now)) (map (λ w. w.now)
+#[tactic(auto, unfolding(crate::specs::Commands::exercise_command))]
+fn exercise_command<'a>(found: &ArgMatches<'a>, rest: &[&'a str]) -> Taken<'a>
+    ensures { IsDecidedBy (exercise_command (rows_of (found_of found.now)) (map (λ w. w.now)
         rest.now)) result }
 {
     match rest {
@@ -198,9 +195,14 @@ fn exercise_numbers(found: &ArgMatches<'_>, count: &str) -> Option<(u8, u32, For
 }
 
 // The command of a job over a level.
-#[tactic(auto, unfolding(crate::specs::Commands::level_of))]
-fn level_of<'a>(alloc: Global, found: &ArgMatches<'a>, job: &str, rest: &[&'a str]) -> Taken<'a>
-    ensures { IsCommandOf (level_of (rows_of (found_of found.now)) job.now (map (λ w. w.now)
+#[tactic(auto, unfolding(crate::specs::Commands::level_command))]
+fn level_command<'a>(
+    alloc: Global,
+    found: &ArgMatches<'a>,
+    job: &str,
+    rest: &[&'a str],
+) -> Taken<'a>
+    ensures { IsCommandOf (level_command (rows_of (found_of found.now)) job.now (map (λ w. w.now)
         rest.now)) result }
 {
     match rest.split_first() {

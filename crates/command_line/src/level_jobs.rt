@@ -2,18 +2,16 @@
 
 ghost use Rattle.std.specs.Prelude.{◌≡◌, IsTrue, [], length, Err, IfOk, IfSome, Some, None, map, option_map};
 ghost use Rattle.clap.specs.Words.{found_of, rows_of};
-ghost use Rattle.command_line.specs.Choices.{AreSettings, IsWithin};
-ghost use Rattle.command_line.specs.LevelJobs.{are_wads, files_in, other_level_task, level_task_in, level_job_of, file_names, level_job_value};
+ghost use Rattle.job_rules.specs.Ranges.{AreSettings, IsWithin};
+ghost use Rattle.job_rules.specs.LevelJobs.{file_names, level_job_value};
+ghost use Rattle.command_line.specs.LevelJobs.{are_wads, file_names_in, other_level_task, level_task_in, level_job_of};
 
 use crate::choices::{format_in, settings_in};
-use crate::command::{Files, LevelJob, LevelTask};
 use crate::simple::value;
 use clap::ArgMatches;
+use job_rules::{Files, LevelJob, LevelTask, MAX_WADS};
 use lump_rules::Name8;
 use std::alloc::{AllocError, Global};
-
-/// The most WADs of a command.
-pub const MAX_WADS: usize = 16;
 
 // The job over a level of that name: `render` alone has a format.
 #[tactic(auto, unfolding(crate::specs::LevelJobs::level_task_in))]
@@ -45,9 +43,9 @@ fn other_level_task(job: &str) -> Option<LevelTask>
 }
 
 // The names of the files, where the three that are needed are there.
-#[tactic(auto, unfolding(crate::specs::LevelJobs::files_in))]
-fn files_in<'a>(found: &ArgMatches<'a>) -> Option<Files<'a>>
-    ensures { option_map file_names result ≡ files_in (rows_of (found_of found.now)) }
+#[tactic(auto, unfolding(crate::specs::LevelJobs::file_names_in))]
+fn file_names_in<'a>(found: &ArgMatches<'a>) -> Option<Files<'a>>
+    ensures { option_map file_names result ≡ file_names_in (rows_of (found_of found.now)) }
 {
     let tables = value(found, "tables")?;
     let things = value(found, "things")?;
@@ -69,7 +67,7 @@ pub(crate) fn level_job_of<'a>(found: &ArgMatches<'a>, map: &str) -> Option<Leve
     ensures within { IfSome result (λ level. AreSettings level.settings) }
 {
     let map = Name8::from_text(map)?;
-    let files = files_in(found)?;
+    let files = file_names_in(found)?;
     let settings = settings_in(found)?;
     Some(LevelJob {
         map,

@@ -2,17 +2,16 @@
 //!
 //! Rules: `specs/`, over `clap`'s own words for a simple command. Proved: the words are a command
 //! exactly where clap finds no fault in them and the table of jobs and options takes what it
-//! finds, and the command is that one, with its numbers in their ranges. Tested only: that memory
-//! is found. This project's own: the original reads its words by `M_CheckParm`, m_argv.c.
+//! finds, and the command is that one, with its numbers in their ranges. The records of a command
+//! and their ranges are in `job_rules`. Tested only: that memory is found. This project's own: the
+//! original reads its words by `M_CheckParm`, m_argv.c.
 #![tactic(auto)]
 
 mod choices;
-mod command;
+mod fault;
 mod jobs;
 mod level_jobs;
 mod simple;
 
-pub use crate::command::{
-    Command, CommandFault, Files, Format, LevelJob, LevelTask, MakeJob, Settings,
-};
-pub use crate::jobs::command_of;
+pub use fault::CommandFault;
+pub use jobs::command_of;

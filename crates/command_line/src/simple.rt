@@ -4,7 +4,7 @@ ghost use Rattle.std.specs.Prelude.{◌≡◌, ◌≢◌, true, false, [], IfOk,
 ghost use Rattle.clap.specs.Words.{all_of, app_of, fault_of, first_of, found_of, kind_of, matches_of, new_rule, rows_of, rule_of};
 ghost use Rattle.command_line.specs.Simple.{bare_command, option_rule, rest_rule, simple_command, with_files, with_limits, with_option, with_settings, with_three};
 
-use crate::command::CommandFault;
+use crate::fault::CommandFault;
 use clap::error::ErrorKind;
 use clap::{Arg, ArgAction, ArgMatches, Command, Error};
 use std::alloc::{AllocError, Global};

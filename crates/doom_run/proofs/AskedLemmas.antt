@@ -11,7 +11,7 @@ use Rattle.texture_build.specs.Sources.{column_in, column_index}
 use Rattle.texture_build.specs.Views.{AreTexturesOf, IsPrepared, prepared_at, prepared_texture}
 use Rattle.texture_build.proofs.TexelLemmas.{prepared_is}
 use Rattle.texture_build.proofs.ViewLemmas.{textures_columns}
-use Rattle.command_line.specs.LevelJobs.{LevelJobValue}
+use Rattle.job_rules.specs.LevelJobs.{LevelJobValue}
 use Rattle.sound_scene.specs.Sound.{art_with, textures_view}
 use Rattle.job_files.specs.Sizes.{wad_contents}
 use Rattle.level_audit.specs.scene_load.Loads.{load_in, loaded_pictures, loaded_value, weapon_lumps}
@@ -34,7 +34,7 @@ module _ (level : LevelJobValue) (wads : List (List ℕ)) (files : List File) (r
   layers_asked : HasAll (loaded_items (loaded_value ready.loaded)) ready.loaded.files.dir (IsLayerLump ready.loaded)
   layers_asked lump asked =
       items_lump (loaded_value ready.loaded) lump (layer_needed ready.loaded.files.dir.lumps ready.loaded.scene.scene (weapon_lumps ready.loaded.weapons) lump asked)
-      (layer_there ready.loaded.files.dir.lumps ready.loaded.weapons lump stands.layers asked)
+      (layer_there ready.loaded.files.dir.lumps ready.loaded.weapons lump stands.loaded.audited.layers asked)
 
   module _ (number : ℕ) (some : IsPrepared (textures_view ready.loaded.scene.scene) number) where
     abbrev t : PreparedTexture
@@ -52,7 +52,7 @@ module _ (level : LevelJobValue) (wads : List (List ℕ)) (files : List File) (r
         rw (patch.2, patch.3)
         (items_lump (loaded_value ready.loaded) patch.0.lump
         (needed_patch ready.loaded.files.dir.lumps (art_with ready.loaded.scene.scene (loaded_pictures (loaded_value ready.loaded))) t patch.0 (among_prepared ready.loaded.scene.scene.prepared number some) patch.1)
-        (patch_there ready.loaded.files.dir.lumps ready.loaded.scene.scene t patch.0 stands.drawable.whole.art.patches (among_prepared ready.loaded.scene.scene.prepared number some) patch.1))
+        (patch_there ready.loaded.files.dir.lumps ready.loaded.scene.scene t patch.0 stands.loaded.audited.whole.art.patches (among_prepared ready.loaded.scene.scene.prepared number some) patch.1))
     texture_item owner size (inr composite) = rw (composite.0, composite.1) (items_composite (loaded_value ready.loaded) number t prepared_as composite.2)
 
     -- what a column of it asks for

@@ -11,7 +11,7 @@ use Rattle.picture_rules.specs.Picture.{AreInView, overlaid_picture}
 use Rattle.frame_writer.specs.Ppm.{ppm}
 use Rattle.pixel_trace.specs.Records.{trace_mark}
 use Rattle.pixel_trace.proofs.SeenLemmas.{IsCleared, seen-picture, seen-trace}
-use Rattle.command_line.specs.declared.command.Format.TheVariants.{Index, Ppm}
+use Rattle.job_rules.specs.declared.command.Format.TheVariants.{Index, Ppm}
 use Rattle.level_audit.specs.scene_load.Loads.{loaded_value}
 use Rattle.frame_core.specs.Scenes.{scene_of}
 use Rattle.frame_core.specs.Views.{placed_for}

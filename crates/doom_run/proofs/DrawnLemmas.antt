@@ -1,17 +1,19 @@
 -- A zone that is full while a scene is drawn: for which block, and how small it is.
-use Rattle.std.proofs.Common.{◌≡◌, ◌+◌, ◌<◌, ℕ, List, Some, Ok, subst, inl, inr}
+use Rattle.std.proofs.Common.{◌≡◌, ◌+◌, ◌<◌, ℕ, List, Some, Ok, arith, subst, inl, inr}
 use Rattle.std.specs.Prelude.{◌⊎◌}
 use Rattle.outside.specs.Shelf.{File}
 use Rattle.lump_rules.specs.Lookups.{lump_at}
 use Rattle.zone_rules.specs.declared.TheConstants.{MIN_FRAGMENT}
 use Rattle.texture_build.specs.Views.{AreTexturesOf}
-use Rattle.command_line.specs.LevelJobs.{LevelJobValue}
+use Rattle.job_rules.specs.LevelJobs.{LevelJobValue}
 use Rattle.scene_rules.specs.Sizes.{SceneArt, lump_block, zone_sizes}
 use Rattle.sound_scene.specs.Sound.{art_with, textures_view}
 use Rattle.sound_scene.proofs.SceneLemmas.{and_then-ok}
 use Rattle.frame_core.proofs.EnoughLemmas.{IsArtFull, full-small, view_full}
 use Rattle.job_files.specs.Files.{files_in}
-use Rattle.level_audit.specs.scene_load.Fulls.{IsFullLoad}
+use Rattle.frame_core.specs.Views.{CanDrawView}
+use Rattle.level_audit.specs.declared.scene_load.load.LoadedScene.{LoadedScene}
+use Rattle.level_audit.specs.scene_load.Calls.{IsLoadedScene}
 use Rattle.job_files.specs.Sizes.{wad_contents}
 use Rattle.level_audit.specs.scene_load.Loads.{LoadedValue, load_in, loaded_pictures, loaded_sizes, loaded_value, wad_bytes, weapon_lumps}
 use Rattle.level_audit.proofs.scene_load.ArtLemmas.{scene_textures}
@@ -19,7 +21,7 @@ use Rattle.level_audit.proofs.scene_load.AuditedLemmas.{audited_by}
 use Rattle.level_audit.proofs.scene_load.LoadLemmas.{audited_of}
 use Rattle.doom_run.specs.declared.render.ReadyViews.{ReadyViews}
 use Rattle.doom_run.specs.Fulls.{IsDrawnBlock, IsFullDraw, IsPatchBeside}
-use Rattle.doom_run.specs.Renders.{IsFullReady, IsFullView, IsReady}
+use Rattle.doom_run.specs.Renders.{IsFullView, IsReady}
 use Rattle.doom_run.proofs.PictureLemmas.{layer_needed, layer_there}
 
 -- the textures of a scene that is loaded are those of the directory
@@ -29,6 +31,19 @@ loaded_textures level wads files loaded e =
     let a = and_then-ok (files_in level.files wads level.settings.size files) _ loaded e in
     audited_by (λ l. AreTexturesOf (wad_contents wads files) l.files.lumps (textures_view l.scene)) (wad_bytes wads files a.0.lumps) level a.0 loaded (audited_of level wads files a.0 loaded a.1 e)
     (λ scene weapons accepted layers. scene_textures (wad_contents wads files) a.0.lumps a.0.things level.map_name level.settings.skill scene accepted)
+
+-- a loaded scene may be drawn
+pub drawable : (level : LevelJobValue) (loaded : LoadedScene) → IsLoadedScene level loaded → CanDrawView loaded.files.dir.lumps loaded.scene.scene loaded.cache
+drawable level loaded stands = record {
+  lines = loaded.files.things;
+  name = level.map_name;
+  skill = level.settings.skill;
+  whole = stands.audited.whole;
+  few = omega (arith, stands.few);
+  colormap = stands.audited.colormap;
+  slots = stands.slots;
+  composites = omega (arith, stands.audited.whole.few, stands.composites);
+}
 
 -- what a zone that was full for what was loaded had no room for
 module _ (loaded : LoadedValue) (zone wanted : ℕ) where
@@ -56,18 +71,18 @@ drawn_full : (level : LevelJobValue) (wads : List (List ℕ)) (files : List File
     IsFullView ready wanted widest' → IsArtFull ready.loaded.files.dir.lumps (art_with ready.loaded.scene.scene (loaded_pictures (loaded_value ready.loaded))) ready.loaded.cache.size wanted
 unfolding lump_block
 drawn_full level wads files ready stands is wanted widest' (inl texture) =
-    view_full (wad_contents wads files) ready.loaded.files.dir ready.loaded.scene.scene (weapon_lumps ready.loaded.weapons) ready.loaded.cache stands.drawable (loaded_textures level wads files (loaded_value ready.loaded) is) stands.rest wanted widest' (inl texture)
+    view_full (wad_contents wads files) ready.loaded.files.dir ready.loaded.scene.scene (weapon_lumps ready.loaded.weapons) ready.loaded.cache (drawable level ready.loaded stands.loaded) (loaded_textures level wads files (loaded_value ready.loaded) is) stands.loaded.audited.rest wanted widest' (inl texture)
 drawn_full level wads files ready stands is wanted widest' (inr (inl lump)) =
-    view_full (wad_contents wads files) ready.loaded.files.dir ready.loaded.scene.scene (weapon_lumps ready.loaded.weapons) ready.loaded.cache stands.drawable (loaded_textures level wads files (loaded_value ready.loaded) is) stands.rest wanted widest' (inr lump)
+    view_full (wad_contents wads files) ready.loaded.files.dir ready.loaded.scene.scene (weapon_lumps ready.loaded.weapons) ready.loaded.cache (drawable level ready.loaded stands.loaded) (loaded_textures level wads files (loaded_value ready.loaded) is) stands.loaded.audited.rest wanted widest' (inr lump)
 drawn_full level wads files ready stands is wanted widest' (inr (inr layer)) =
     let lumps = ready.loaded.files.dir.lumps in
     let scene = ready.loaded.scene.scene in
     inl (record {
       lump = layer.lump;
-      there = layer_there lumps ready.loaded.weapons layer.lump stands.layers layer.asked;
+      there = layer_there lumps ready.loaded.weapons layer.lump stands.loaded.audited.layers layer.asked;
       needed = layer_needed lumps scene (weapon_lumps ready.loaded.weapons) layer.lump layer.asked;
       is = layer.wanted_is;
-      small = layer.room scene.base.colormap (lump_at lumps scene.base.colormap).size stands.rest;
+      small = layer.room scene.base.colormap (lump_at lumps scene.base.colormap).size stands.loaded.audited.rest;
     })
 
 -- no room for what is needed
@@ -90,16 +105,6 @@ view_draw level wads files ready stands is wanted widest' full =
     let loaded : LoadedValue = loaded_value ready.loaded in
     let art : SceneArt = art_with loaded.scene (loaded_pictures loaded) in
     let drawn : IsArtFull loaded.files.lumps art level.settings.zone wanted =
-    subst (λ n. IsArtFull loaded.files.lumps art n wanted) stands.zone
+    subst (λ n. IsArtFull loaded.files.lumps art n wanted) stands.loaded.zone
     (drawn_full level wads files ready stands is wanted widest' full) in
     art_draw level wads files loaded is wanted widest' (narrow_of ready wanted widest' full) drawn
-
--- the same of a scene that is ready
-ready_draw : {wanted widest' : ℕ} (level : LevelJobValue) (wads : List (List ℕ)) (files : List File) → IsFullReady level wads files wanted widest' → IsFullDraw level wads files wanted widest'
-ready_draw {wanted} {widest'} level wads files full = view_draw level wads files full.ready full.stands full.is wanted widest' full.full
-
--- a zone that was full for an exercise
-pub load_or_draw : {wanted widest' : ℕ} (level : LevelJobValue) (wads : List (List ℕ)) (files : List File) → IsFullLoad level wads files wanted widest' ⊎ IsFullReady level wads files wanted widest' →
-    IsFullLoad level wads files wanted widest' ⊎ IsFullDraw level wads files wanted widest'
-load_or_draw level wads files (inl load) = inl load
-load_or_draw level wads files (inr full) = inr (ready_draw level wads files full)

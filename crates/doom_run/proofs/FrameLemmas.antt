@@ -29,7 +29,7 @@ use Rattle.doom_run.specs.declared.canvas.ViewForm.{ViewForm}
 use Rattle.doom_run.specs.Frames.{IsDrawnAt, ViewEnds, canvas_bytes, form_of, frame_at, status_of_view}
 use Rattle.doom_run.specs.Layers.{SeenView, eye_of, seen_view}
 use Rattle.doom_run.specs.Renders.{ready_views}
-use Rattle.doom_run.specs.Verdict.{rendered}
+use Rattle.doom_run.specs.Jobs.{rendered}
 use Rattle.doom_run.specs.Views.{ViewsValue, due_views, end_at, first_over, limit_at, frames_of, over_at, rendered_bytes, view_bytes}
 use Rattle.doom_run.proofs.LimitLemmas.{seen_by}
 use Rattle.doom_run.proofs.SeenLemmas.{seen_at}

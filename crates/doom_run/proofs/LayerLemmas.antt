@@ -15,7 +15,7 @@ use Rattle.scene_rules.specs.Places.{sector_at}
 use Rattle.scene_rules.specs.Scenes.{SceneValue}
 use Rattle.picture_rules.specs.sprite.Weapons.{WeaponLayer}
 use Rattle.frame_core.specs.Scenes.{drawn_shape}
-use Rattle.doom_run.specs.Layers.{layer_of, layer_with, light_at}
+use Rattle.doom_run.specs.Layers.{layer_of, layer_with, layer_light}
 
 -- there are as many surfaces as sectors
 pub length_surfaces : (sectors : List Sector) (flats : List SectorFlats) → length flats ≡ length sectors → length (surfaces_of sectors flats) ≡ length sectors
@@ -26,8 +26,8 @@ length_surfaces (sector ∷ sectors) (both ∷ flats) e = let rest : length flat
 
 -- the light of the surface that was found
 pub light_found : (scene : SceneValue) (eye : Eye) (surfaces : List Surface) (n : ℕ) (x y : ℤ) → surfaces ≡ surfaces_of scene.base.level.sectors scene.faces.flats → n ≡ sector_at scene.base.level x y → x ≡ eye.x → y ≡ eye.y →
-    (slice_index_or surfaces n no_surface).light ≡ light_at scene eye
-unfolding light_at surface_at
+    (slice_index_or surfaces n no_surface).light ≡ layer_light scene eye
+unfolding layer_light surface_at
 light_found scene eye surfaces n x y are is h v =
     let same : n ≡ sector_at scene.base.level eye.x eye.y = is ∙ ap (λ (a : ℤ). sector_at scene.base.level a y) h ∙ ap (λ (b : ℤ). sector_at scene.base.level eye.x b) v in
     ap (λ (xs : List Surface). (slice_index_or xs n no_surface).light) are ∙ ap (λ (k : ℕ). (slice_index_or (surfaces_of scene.base.level.sectors scene.faces.flats) k no_surface).light) same

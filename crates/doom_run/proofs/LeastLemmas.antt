@@ -1,14 +1,12 @@
 -- Where all of which a least zone is the greatest stands beside COLORMAP, the zone is no smaller.
-use Rattle.std.proofs.Common.{◌≡◌, ◌≢◌, ℕ, zero, suc, ◌+◌, ◌<◌, ◌≤◌, Bool, true, false, cond, List, [], ◌∷◌, length, take, Option, Some, None, Result, Ok, IfSome, refl, sym, ap, subst, ◌∙◌, arith, inl, inr, eq-eqb, eqb-true}
+use Rattle.std.proofs.Common.{◌≡◌, ◌≢◌, ℕ, zero, suc, ◌+◌, ◌<◌, ◌≤◌, Bool, true, false, cond, List, [], ◌∷◌, length, take, Option, Some, None, Ok, IfSome, refl, sym, ap, subst, ◌∙◌, arith, inl, inr, eq-eqb, eqb-true}
 use Rattle.std.specs.Prelude.{◌||◌, ◌==◌, slice_get, unwrap_or}
 use Rattle.std.specs.List.{AllByRecursion, range_with_len}
 use Rattle.std.specs.Option.{option_map_or}
 use Rattle.std.proofs.lemmas.Bool.{cases_lt, or_cases}
 use Rattle.std.proofs.lemmas.Bool.Decides.{nat_tests}
 use Rattle.outside.specs.Shelf.{File}
-use Rattle.outside.specs.Stops.{Stop}
 use Rattle.lump_rules.specs.declared.wad.Lump.{Lump}
-use Rattle.lump_rules.specs.Contents.{lump_bytes}
 use Rattle.lump_rules.specs.Lookups.{last_of, lump_at}
 use Rattle.lump_cache.specs.Named.{IsLast}
 use Rattle.zone_rules.specs.Zones.{block_size}
@@ -21,29 +19,24 @@ use Rattle.picture_rules.specs.Scene.{Scene}
 use Rattle.texture_lists.specs.Asked.{IsListLump}
 use Rattle.texture_build.specs.Draws.{FitBeside, FitsBeside}
 use Rattle.texture_build.specs.Views.{TexturesView}
-use Rattle.command_line.specs.LevelJobs.{LevelJobValue}
-use Rattle.command_line.specs.declared.command.LevelTask.{LevelTask}
-use Rattle.command_line.specs.declared.command.LevelTask.TheVariants.{Audit, Limits, Trim}
-use Rattle.refusals.specs.declared.refusal.Refusal.{Refusal}
+use Rattle.job_rules.specs.LevelJobs.{LevelJobValue}
 use Rattle.scene_rules.specs.Scenes.{LevelBase}
 use Rattle.scene_rules.specs.Sizes.{greatest_by, is_last, is_list, is_map_lump, lump_block}
 use Rattle.level_audit.specs.Asked.{IsOfBase}
 use Rattle.sound_scene.specs.Sound.{textures_view}
 use Rattle.sound_scene.proofs.SceneLemmas.{IsBaseOf, and_then-ok, base_parts, scene_parts}
-use Rattle.job_files.specs.Files.{files_in, files_named}
+use Rattle.job_files.specs.Files.{files_in}
 use Rattle.level_audit.specs.scene_load.Fulls.{IsBaseWithin}
 use Rattle.level_audit.specs.scene_load.Loads.{LoadedValue, load_in, loaded_value, wad_bytes}
 use Rattle.level_audit.proofs.scene_load.AuditedLemmas.{audited_by}
 use Rattle.level_audit.proofs.scene_load.LoadLemmas.{audited_of}
-use Rattle.doom_run.specs.declared.canvas.ViewForm.{ViewForm}
-use Rattle.doom_run.specs.declared.canvas.ViewForm.TheVariants.{Frame, Trace}
 use Rattle.doom_run.specs.declared.render.ReadyViews.{ReadyViews}
 use Rattle.doom_run.specs.Layers.{SeenView}
-use Rattle.doom_run.specs.Leasts.{base_block, block_beside, is_base_lump, least_loading, least_over, least_views, level_least, painted_block, source_block}
+use Rattle.doom_run.specs.Leasts.{base_block, block_beside, delivery_least, is_base_lump, least_over, painted_block, source_block}
+use Rattle.doom_run.specs.Jobs.{Written, drawing}
 use Rattle.doom_run.specs.Renders.{FitDue, IsReady, ready_views}
-use Rattle.doom_run.specs.Views.{ViewsValue, due_views, first_over, views_of}
-use Rattle.doom_run.specs.Words.{task_of}
-use Rattle.doom_run.proofs.EndLemmas.{loaded_named, ready_as}
+use Rattle.doom_run.specs.Views.{ViewsValue, due_views, first_over}
+use Rattle.doom_run.proofs.EndLemmas.{ready_as}
 
 -- what stands beside `m` for each stands there for the greatest
 module _ {X : Type 0} (f : X → ℕ) (m zone : ℕ) (least : m ≤ zone) where
@@ -173,47 +166,25 @@ module _ (level : LevelJobValue) (wads : List (List ℕ)) (files : List File) (l
   unfolding least_over
   over_room scene views drawn = omega (arith, drawn, base_room loaded.files.lumps level.map_name loaded.scene.base (loaded_base level wads files loaded is) level.settings.zone beside)
 
-  none_room : (scene : Scene) → least_over loaded scene [] ≤ level.settings.zone
+  -- where no view is drawn
+  pub least_none : (scene : Scene) → least_over loaded scene [] ≤ level.settings.zone
   unfolding greatest_by
-  none_room scene = over_room scene [] (omega (arith, loaded_room))
+  least_none scene = over_room scene [] (omega (arith, loaded_room))
 
-  least_is : (task : LevelTask) → least_views task loaded (views_of (wad_bytes wads files loaded.files.lumps) level.settings loaded) ≡ level_least task level wads files
-  unfolding level_least
-  least_is task = sym (ap (λ (loading : Result LoadedValue (Stop Refusal)). least_loading task level (wad_bytes wads files) loading) is)
-
-  -- a job that draws no frame
-  pub least_audit : level_least Audit level wads files ≤ level.settings.zone
-  unfolding least_views
-  least_audit = subst (λ n. n ≤ level.settings.zone) (least_is Audit) (none_room _)
-
-  pub least_trim : level_least Trim level wads files ≤ level.settings.zone
-  unfolding least_views
-  least_trim = subst (λ n. n ≤ level.settings.zone) (least_is Trim) (none_room _)
-
-  pub least_limits : level_least Limits level wads files ≤ level.settings.zone
-  unfolding least_views
-  least_limits = subst (λ n. n ≤ level.settings.zone) (least_is Limits) (none_room _)
-
--- a job that writes views draws those that are due
-least_due : (form : ViewForm) (loaded : LoadedValue) (r : ViewsValue) → least_over loaded r.scene (due_views r) ≡ least_views (task_of form) loaded r
-unfolding least_views
-least_due (Frame format) loaded r = refl
-least_due Trace loaded r = refl
-
-pub least_render : (level : LevelJobValue) (wads : List (List ℕ)) (files : List File) (form : ViewForm) (ready : ReadyViews) → load_in level wads files ≡ Ok (loaded_value ready.loaded) → IsReady level ready →
-    IsBaseWithin ready.loaded.files.dir.lumps level ready.loaded.scene.scene.base.colormap → FitDue (wad_bytes wads files ready.loaded.files.dir.lumps) (lump_at ready.loaded.files.dir.lumps ready.loaded.scene.scene.base.colormap).size ready →
-    level_least (task_of form) level wads files ≤ level.settings.zone
+-- where what the views that are due are painted from stands beside COLORMAP
+pub least_due : (level : LevelJobValue) (wads : List (List ℕ)) (files : List File) (ready : ReadyViews) → load_in level wads files ≡ Ok (loaded_value ready.loaded) → IsReady level ready →
+    FitDue (wad_bytes wads files ready.loaded.files.dir.lumps) (lump_at ready.loaded.files.dir.lumps ready.loaded.scene.scene.base.colormap).size ready →
+    least_over (loaded_value ready.loaded) (ready_views (wad_bytes wads files ready.loaded.files.dir.lumps) ready).scene (due_views (ready_views (wad_bytes wads files ready.loaded.files.dir.lumps) ready)) ≤ level.settings.zone
 unfolding due_views
-least_render level wads files form ready is stands within fit =
+least_due level wads files ready is stands fit =
     let loaded = loaded_value ready.loaded in
-    let bytes = wad_bytes wads files ready.loaded.files.dir.lumps in
-    let r = ready_views bytes ready in
+    let r = ready_views (wad_bytes wads files ready.loaded.files.dir.lumps) ready in
+    let within = stands.loaded.audited.fits in
     let room : lump_block ready.loaded.files.dir.lumps ready.loaded.scene.scene.base.colormap ≤ level.settings.zone = loaded_room level wads files loaded is within in
-    let drawn = taken_beside (painted_block ready.loaded.files.dir.lumps (textures_view ready.loaded.scene.scene) ready.loaded.scene.scene.base.colormap r.scene) (lump_block ready.loaded.files.dir.lumps ready.loaded.scene.scene.base.colormap) level.settings.zone room
+    over_room level wads files loaded is within r.scene (due_views r)
+    (taken_beside (painted_block ready.loaded.files.dir.lumps (textures_view ready.loaded.scene.scene) ready.loaded.scene.scene.base.colormap r.scene) (lump_block ready.loaded.files.dir.lumps ready.loaded.scene.scene.base.colormap) level.settings.zone room
     (unwrap_or (first_over r) (length r.views)) r.views
-    (λ k l. views_beside level ready stands room r (slice_get r.views k) (fit k l)) in
-    subst (λ n. n ≤ level.settings.zone) (least_due form loaded r ∙ ap (λ (v : ViewsValue). least_views (task_of form) loaded v) (sym (ready_as bytes level ready stands)) ∙ least_is level wads files loaded is within (task_of form))
-    (over_room level wads files loaded is within r.scene (due_views r) drawn)
+    (λ k l. views_beside level ready stands room r (slice_get r.views k) (fit k l)))
   where
     views_beside : (level : LevelJobValue) (ready : ReadyViews) → IsReady level ready → lump_block ready.loaded.files.dir.lumps ready.loaded.scene.scene.base.colormap ≤ level.settings.zone → (r : ViewsValue) (o : Option SeenView) →
         IfSome o (λ v. FitBeside ready.loaded.files.dir.lumps (textures_view ready.loaded.scene.scene) ready.loaded.scene.scene.base.colormap (lump_at ready.loaded.files.dir.lumps ready.loaded.scene.scene.base.colormap).size ready.loaded.cache.size (overlaid_paints v.view r.scene v.layers)) →
@@ -221,15 +192,13 @@ least_render level wads files form ready is stands within fit =
     views_beside level ready stands room r None fits = tt
     views_beside level ready stands room r (Some v) fits =
         view_beside ready.loaded.files.dir.lumps (textures_view ready.loaded.scene.scene) ready.loaded.scene.scene.base.colormap level.settings.zone room r.scene v
-        (subst (λ (n : ℕ). FitBeside ready.loaded.files.dir.lumps (textures_view ready.loaded.scene.scene) ready.loaded.scene.scene.base.colormap (lump_at ready.loaded.files.dir.lumps ready.loaded.scene.scene.base.colormap).size n (overlaid_paints v.view r.scene v.layers)) stands.zone fits)
+        (subst (λ (n : ℕ). FitBeside ready.loaded.files.dir.lumps (textures_view ready.loaded.scene.scene) ready.loaded.scene.scene.base.colormap (lump_at ready.loaded.files.dir.lumps ready.loaded.scene.scene.base.colormap).size n (overlaid_paints v.view r.scene v.layers)) stands.loaded.zone fits)
 
--- the same, told of the contents of the WADs that are named
-pub least_rendered : (level : LevelJobValue) (wads : List (List ℕ)) (files : List File) (form : ViewForm) (ready : ReadyViews) → load_in level wads files ≡ Ok (loaded_value ready.loaded) → IsReady level ready →
-    IsBaseWithin ready.loaded.files.dir.lumps level ready.loaded.scene.scene.base.colormap →
-    ((contents : List (List ℕ)) → files_named wads files ≡ Some contents → FitDue (lump_bytes contents ready.loaded.files.dir.lumps) (lump_at ready.loaded.files.dir.lumps ready.loaded.scene.scene.base.colormap).size ready) →
-    level_least (task_of form) level wads files ≤ level.settings.zone
-least_rendered level wads files form ready is stands within fits =
-    let named = loaded_named level wads files (loaded_value ready.loaded) is in
-    let count = (lump_at ready.loaded.files.dir.lumps ready.loaded.scene.scene.base.colormap).size in
-    least_render level wads files form ready is stands within
-    (subst (λ (contents : List (List ℕ)). FitDue (lump_bytes contents ready.loaded.files.dir.lumps) count ready) (sym named.are) (fits named.contents named.named))
+-- the least of a job that draws these views
+pub least_drawn : (level : LevelJobValue) (wads : List (List ℕ)) (files : List File) (writes : ViewsValue → Written) (ready : ReadyViews) → load_in level wads files ≡ Ok (loaded_value ready.loaded) → IsReady level ready →
+    FitDue (wad_bytes wads files ready.loaded.files.dir.lumps) (lump_at ready.loaded.files.dir.lumps ready.loaded.scene.scene.base.colormap).size ready →
+    delivery_least level (drawing level writes) (wad_bytes wads files ready.loaded.files.dir.lumps) (loaded_value ready.loaded) ≤ level.settings.zone
+unfolding delivery_least
+least_drawn level wads files writes ready is stands fit =
+    subst (λ (r : ViewsValue). least_over (loaded_value ready.loaded) r.scene (due_views r) ≤ level.settings.zone)
+    (sym (ready_as (wad_bytes wads files ready.loaded.files.dir.lumps) level ready stands)) (least_due level wads files ready is stands fit)

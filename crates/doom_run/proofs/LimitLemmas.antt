@@ -1,14 +1,12 @@
 -- The lines of the views of a path, one after the other.
-use Rattle.std.proofs.Common.{◌≡◌, ◌≤◌, ◌<◌, ℕ, zero, suc, ◌+◌, ◌-◌, List, [], ◌∷◌, ◌++◌, length, Some, None, Result, Ok, get_or, refl, subst, ap, sym, ◌∙◌, arith, append_assoc, append-nil}
-use Rattle.std.specs.Prelude.{slice_get, option_map}
-use Rattle.std.proofs.lemmas.Option.{slice_get-get_or}
+use Rattle.std.proofs.Common.{◌≡◌, ◌≤◌, ℕ, zero, suc, ◌+◌, ◌-◌, List, [], ◌∷◌, ◌++◌, length, Some, None, Result, Ok, refl, subst, ap, sym, ◌∙◌, arith, append_assoc, append-nil}
+use Rattle.std.specs.Prelude.{slice_get}
 use Rattle.outside.specs.Sink.{Grew, GrewByPrefix, Writes}
 use Rattle.outside.proofs.WriteLemmas.{prefix_of_more, writes_none, writes_then}
 use Rattle.word_rules.specs.Listed.{listed, joined_lists}
 use Rattle.word_rules.proofs.ListedLemmas.{joined_lists-append, joined_lists-cons, listed-more}
 use Rattle.view_rules.specs.declared.Eye.{Eye}
 use Rattle.view_rules.specs.View.{view_of}
-use Rattle.csv_tables.specs.declared.path.PathRow.{PathRow}
 use Rattle.picture_rules.specs.declared.Limits.{Limits}
 use Rattle.picture_rules.specs.declared.Counts.{Counts}
 use Rattle.picture_rules.specs.declared.OverLimit.{OverLimit}
@@ -18,9 +16,9 @@ use Rattle.level_audit.specs.scene_load.Loads.{LoadedValue, loaded_value}
 use Rattle.frame_core.specs.Scenes.{scene_of}
 use Rattle.doom_run.specs.declared.render.ReadyViews.{ReadyViews}
 use Rattle.doom_run.specs.Renders.{ready_views}
-use Rattle.doom_run.specs.Layers.{SeenView, eye_of, layers_of, seen_view}
+use Rattle.doom_run.specs.Layers.{SeenView, layers_of, seen_view}
 use Rattle.doom_run.specs.Views.{ViewsValue, counted_bytes, counts_line, first_lines, view_line_at, over_line, view_line}
-use Rattle.doom_run.proofs.SeenLemmas.{seen_at, seen_from-length}
+use Rattle.doom_run.proofs.SeenLemmas.{seen_from-length}
 
 -- before the first view there is no line
 pub lines_none : (r : ViewsValue) → [] ≡ first_lines r 0
@@ -83,16 +81,6 @@ seen_by loaded k eye = record {
   view = view_of loaded.files.tables eye;
   layers = layers_of loaded k eye;
 }
-
--- the view at a place of the path
-pub view_at : (bytes : ℕ → List ℕ) (ready : ReadyViews) (number : ℕ) (eye : Eye) (d : PathRow) (rows : List PathRow) →
-    number < length ready.loaded.files.path → rows ≡ ready.loaded.files.path → eye ≡ eye_of (get_or rows number d) →
-    slice_get (ready_views bytes ready).views number ≡ Some (seen_by (loaded_value ready.loaded) number eye)
-unfolding ready_views seen_view
-view_at bytes ready number eye d rows l same is =
-    seen_at (seen_view (loaded_value ready.loaded)) number ready.loaded.files.path
-    ∙ ap (option_map (seen_view (loaded_value ready.loaded) number)) (slice_get-get_or ready.loaded.files.path number d l)
-    ∙ ap (λ (e : Eye). Some (seen_by (loaded_value ready.loaded) number e)) (ap (λ (rows : List PathRow). eye_of (get_or rows number d)) (sym same) ∙ sym is)
 
 -- there are as many views as rows of the path
 pub length_views : (bytes : ℕ → List ℕ) (ready : ReadyViews) → length (ready_views bytes ready).views ≡ length ready.loaded.files.path

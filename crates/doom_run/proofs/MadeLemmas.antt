@@ -1,14 +1,11 @@
--- What the made files give: they are held, their path is not long, and a ready scene of theirs has the views of the verdict.
-use Rattle.std.proofs.Common.{◌≡◌, ℕ, ◌<◌, ◌≤◌, Bool, true, IsTrue, List, [], ◌∷◌, length, Option, Some, None, Result, Ok, Err, refl, subst, ap, sym, ◌∙◌, arith}
-use Rattle.std.specs.Prelude.{nat_lt, codes, unwrap_or}
+-- What the made files give: they are held, and their path is not long.
+use Rattle.std.proofs.Common.{◌≡◌, ℕ, ◌<◌, ◌≤◌, true, IsTrue, List, [], ◌∷◌, length, Some, None, Result, Ok, Err, refl, subst, ap, sym, ◌∙◌, arith}
+use Rattle.std.specs.Prelude.{nat_lt, codes}
 use Rattle.std.proofs.lemmas.Bool.Decides.{nat_tests}
 use Rattle.outside.specs.MemoryShelf.{ShelfInMemory, memory_view}
 use Rattle.outside.specs.Shelf.{File, Holds, file_named}
-use Rattle.outside.specs.Faults.{and_then, from_below, itself}
-use Rattle.outside.specs.declared.fault.Fault.{Fault}
-use Rattle.outside.specs.declared.fault.Fault.TheVariants as fault
-use Rattle.outside.specs.Stops.{Stop, absent, stopped, else_absent, no_file, FaultFitsOrAbsent}
-use Rattle.lump_rules.specs.Contents.{lump_bytes}
+use Rattle.outside.specs.Faults.{and_then, from_below}
+use Rattle.outside.specs.Stops.{Stop, absent, stopped, else_absent, no_file}
 use Rattle.lump_rules.specs.Names.{filled, name_of}
 use Rattle.csv_tables.specs.declared.fault.CsvRefusal.{CsvRefusal}
 use Rattle.csv_tables.specs.declared.fault.CsvRefusal.TheVariants.{TooMany}
@@ -17,29 +14,20 @@ use Rattle.csv_tables.specs.declared.path.TheConstants.{MAX_VIEWS}
 use Rattle.csv_tables.specs.Records.{checked_shape, table_records, then_checked}
 use Rattle.csv_tables.specs.Paths.{path_in, path_of_records, path_row, path_width}
 use Rattle.csv_tables.proofs.RowSentences.{rows_after-within}
-use Rattle.command_line.specs.declared.command.Format.{Format}
-use Rattle.command_line.specs.declared.command.MakeJob.TheVariants.{Wad, Path, Tables, Things}
-use Rattle.command_line.specs.declared.command.Settings.{Settings}
-use Rattle.command_line.specs.LevelJobs.{FileNames, LevelJobValue}
+use Rattle.job_rules.specs.declared.command.MakeJob.TheVariants.{Wad, Path, Tables, Things}
+use Rattle.zone_rules.specs.Zones.{IsZoneSize}
+use Rattle.job_rules.specs.LevelJobs.{FileNames, LevelJobValue}
+use Rattle.job_rules.specs.Ranges.{AreSettings}
 use Rattle.refusals.specs.declared.refusal.Refusal.{Refusal}
 use Rattle.refusals.specs.declared.refusal.Refusal.TheVariants as refusal
 use Rattle.refusals.specs.Groups.{of_audit}
-use Rattle.picture_rules.specs.declared.Limits.{Limits}
 use Rattle.sound_scene.proofs.SceneLemmas.{and_then-ok, from_below-ok}
 use Rattle.job_files.specs.declared.texts.TextTables.{TextTables}
 use Rattle.job_files.specs.Files.{FilesValue, files_in, files_named, in_file, in_optional_file, lumps_in, path_file, tables_file, texts_in, things_file, wad_files, weapons_file}
-use Rattle.level_audit.specs.scene_load.Loads.{LoadedValue, audited_in, load_in, loaded_sizes, loaded_value, wad_bytes}
+use Rattle.level_audit.specs.scene_load.Loads.{LoadedValue, audited_in, load_in, wad_bytes}
 use Rattle.level_audit.proofs.scene_load.AuditedLemmas.{audited_by}
-use Rattle.frame_core.specs.Scenes.{scene_of}
-use Rattle.job_files.specs.declared.status.Status.{Status}
-use Rattle.job_files.specs.Statuses.{status_of}
 use Rattle.job_files.specs.Made.{made_file}
-use Rattle.doom_run.specs.declared.exercise.Summary.{Summary}
-use Rattle.doom_run.specs.declared.render.ReadyViews.{ReadyViews}
-use Rattle.doom_run.specs.Exercises.{ExercisesAt, StopsAt, exercise_verdict, made_files, made_level, made_wads}
-use Rattle.doom_run.specs.Renders.{ready_views}
-use Rattle.doom_run.specs.Layers.{seen_views}
-use Rattle.doom_run.specs.Views.{ViewsValue, limits_of_settings, views_of, views_verdict}
+use Rattle.doom_run.specs.Exercises.{made_files, made_level, made_wads}
 
 -- both steps of a table were passed
 then_ok : {A B : Type 0} (first : Result A CsvRefusal) (next : A → Result B CsvRefusal) (value : B) → then_checked first next ≡ Ok value → (found : A) × (first ≡ Ok found) × (next found ≡ Ok value)
@@ -179,44 +167,17 @@ module _ (n zone : ℕ) where
   unfolding load_in
   made_found = both_held _ _ files_held (λ values. none_asked (from_below of_audit (audited_in (wad_bytes made_wads (made_files n) values.lumps) (made_level zone) values)))
 
-  -- what a fault of loading over the made files says of the verdict
-  pub made_stops : (format : Format) (steady : Bool) (below : Fault Refusal) → IsTrue steady → FaultFitsOrAbsent steady (load_in (made_level zone) made_wads (made_files n)) (itself below) → StopsAt n format (exercise_verdict n zone) (status_of below)
-  made_stops format steady (fault.Refused reason) s h = rw h refl
-  made_stops format steady fault.ReadFault s h = made_found (h s)
-  made_stops format steady (fault.ZoneFull wanted widest) s h = tt
-  made_stops format steady fault.OutOfMemory s h = tt
-
 -- the name of the made level
 pub map_named : name_of (77 ∷ 65 ∷ 80 ∷ 48 ∷ 49 ∷ 0 ∷ 0 ∷ 0 ∷ []) ≡ 77 ∷ 65 ∷ 80 ∷ 48 ∷ 49 ∷ 0 ∷ 0 ∷ 0 ∷ []
 unfolding filled
 map_named = refl
 
--- a ready scene has the views of its job, with the limits of the job
-within_limits : (bytes : ℕ → List ℕ) (settings : Settings) (ready : ReadyViews) → ready.shop.limits ≡ limits_of_settings settings → views_of bytes settings (loaded_value ready.loaded) ≡ ready_views bytes ready
-unfolding views_of ready_views
-within_limits bytes settings ready l =
-    let made : Limits → ViewsValue = λ limits. record {
-      scene = scene_of bytes ready.loaded.scene.scene;
-      views = seen_views (loaded_value ready.loaded);
-      limits = limits;
-      palette = ready.loaded.scene.scene.base.palette;
-      sizes = loaded_sizes (loaded_value ready.loaded);
-    } in
-    ap made (sym l)
-
--- the verdict of a job whose scene is ready
-pub ready_is : (level : LevelJobValue) (wads : List (List ℕ)) (files : List File) (contents : List (List ℕ)) (ready : ReadyViews) →
-    load_in level wads files ≡ Ok (loaded_value ready.loaded) → ready.shop.limits ≡ limits_of_settings level.settings → files_named wads files ≡ Some contents →
-    views_verdict level wads files ≡ Ok (ready_views (lump_bytes contents ready.loaded.files.dir.lumps) ready)
-ready_is level wads files contents ready e l named =
-    ap (λ (loading : Result LoadedValue (Stop Refusal)). and_then loading (λ loaded. Ok (views_of (wad_bytes wads files loaded.files.lumps) level.settings loaded))) e
-    ∙ ap (λ (found : Option (List (List ℕ))). Ok (views_of (lump_bytes (unwrap_or found []) ready.loaded.files.dir.lumps) level.settings (loaded_value ready.loaded))) named
-    ∙ ap Ok (within_limits (lump_bytes contents ready.loaded.files.dir.lumps) level.settings ready l)
-
--- what a ready scene of the made level comes to is what the verdict says
-pub ready_exercise : (n zone : ℕ) (format : Format) (ready : ReadyViews) (result : Result Summary Status) →
-    load_in (made_level zone) made_wads (made_files n) ≡ Ok (loaded_value ready.loaded) → ready.shop.limits ≡ limits_of_settings (made_level zone).settings →
-    ExercisesAt n format (Ok (ready_views (lump_bytes (made_file (Wad n) ∷ []) ready.loaded.files.dir.lumps) ready)) result → ExercisesAt n format (exercise_verdict n zone) result
-ready_exercise n zone format ready result e limits exercised =
-    subst (λ (verdict : Result ViewsValue (Stop Refusal)). ExercisesAt n format verdict result)
-    (sym (ready_is (made_level zone) made_wads (made_files n) (made_file (Wad n) ∷ []) ready e limits (wads_held n))) exercised
+-- the numbers of the made level are in their ranges
+pub settings_made : (zone : ℕ) → IsZoneSize zone → AreSettings (made_level zone).settings
+settings_made zone is = record {
+  zone = record { least = is.0; most = is.1; step = is.2 };
+  skill = record { least = omega arith; most = omega arith };
+  size = record { least = omega arith; most = omega arith };
+  planes = record { least = omega arith; most = omega arith };
+  openings = record { least = omega arith; most = omega arith };
+}

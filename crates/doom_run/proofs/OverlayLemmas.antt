@@ -40,7 +40,7 @@ use Rattle.weapon_overlay.proofs.InViewLemmas.{layers_dots-in}
 use Rattle.weapon_overlay.proofs.LayerLemmas.{layer-none}
 use Rattle.weapon_overlay.proofs.StepLemmas.{layers-same, layers-wider}
 use Rattle.doom_run.specs.Drawn.{DrawsLayered, DrawsLayers, KeepsLoaded, layered_dots, layers_dots, loaded_scene}
-use Rattle.doom_run.specs.Layers.{layers_by, layers_of, light_at}
+use Rattle.doom_run.specs.Layers.{layers_by, layers_of, layer_light}
 use Rattle.doom_run.specs.Renders.{IsLayerLump}
 use Rattle.doom_run.proofs.RowLemmas.{rows_dots}
 
@@ -64,14 +64,14 @@ module _ {mark : Painter → ℕ → ℕ} (k : ℕ) (eye : Eye) (old new : Loade
 
 -- they are those of the rows of its table
 rows_layers : (loaded : LoadedScene) (k : ℕ) (eye : Eye) (rows : List WeaponRow) (book : List Frame) (v : ViewValue) (light : ℤ) (art : Art) → loaded.files.weapons ≡ Some rows → loaded.weapons ≡ Some book →
-    v ≡ view_of loaded.files.tables eye → light ≡ light_at loaded.scene.scene eye → rows_dots v book light k 1 rows art ≡ view_layers loaded k eye art
+    v ≡ view_of loaded.files.tables eye → light ≡ layer_light loaded.scene.scene eye → rows_dots v book light k 1 rows art ≡ view_layers loaded k eye art
 unfolding layers_of
 rows_layers loaded k eye rows book v light art some own same lit =
     let w = view_of loaded.files.tables eye in
     ap (λ (u : ViewValue). rows_dots u book light k 1 rows art) same
     ∙ ap (λ (z : ℤ). rows_dots w book z k 1 rows art) lit
-    ∙ ap (λ (b : Option (List Frame)). joined_lists (weapon_dots w art) (layers_by (Some rows) b (light_at loaded.scene.scene eye) k)) (sym own)
-    ∙ ap (λ (t : Option (List WeaponRow)). joined_lists (weapon_dots w art) (layers_by t loaded.weapons (light_at loaded.scene.scene eye) k)) (sym some)
+    ∙ ap (λ (b : Option (List Frame)). joined_lists (weapon_dots w art) (layers_by (Some rows) b (layer_light loaded.scene.scene eye) k)) (sym own)
+    ∙ ap (λ (t : Option (List WeaponRow)). joined_lists (weapon_dots w art) (layers_by t loaded.weapons (layer_light loaded.scene.scene eye) k)) (sym some)
 
 book_lump : (loaded : LoadedScene) (book : List Frame) → loaded.weapons ≡ Some book → (lump : ℕ) → Contains (book_lumps book) lump → IsLayerLump loaded lump
 book_lump loaded book own lump has = subst (λ (b : Option (List Frame)). Contains (weapon_lumps b) lump) (sym own) has
@@ -79,7 +79,7 @@ book_lump loaded book own lump has = subst (λ (b : Option (List Frame)). Contai
 -- so a call that painted these drew the layers of the view
 pub rows-drawn : {mark : Painter → ℕ → ℕ} (k : ℕ) (eye : Eye) (old new : LoadedScene) {view after : ShelfView} {before now : CanvasView} {result : Result (Unit {0}) CacheFault}
     (rows table : List WeaponRow) (book : List Frame) (v : ViewValue) (light lit : ℤ) (colormap : ℕ) → rows ≡ table → old.files.weapons ≡ Some table → old.weapons ≡ Some book →
-    v ≡ view_of old.files.tables eye → lit ≡ light → light ≡ light_at old.scene.scene eye → colormap ≡ old.scene.scene.base.colormap → KeepsLoaded old new →
+    v ≡ view_of old.files.tables eye → lit ≡ light → light ≡ layer_light old.scene.scene eye → colormap ≡ old.scene.scene.base.colormap → KeepsLoaded old new →
     PaintsLayer mark (layer_tools old.files.dir colormap) (Contains (book_lumps book)) (rows_dots v book lit k 1 rows) (layer_state view old.cache before) (layer_state after new.cache now) result →
     DrawsLayers mark k eye view after old new before now result
 rows-drawn {mark} k eye old new {view} {after} {before} {now} {result} rows table book v light lit colormap all some own same at here map keeps one =
@@ -90,7 +90,7 @@ rows-drawn {mark} k eye old new {view} {after} {before} {now} {result} rows tabl
 -- a view without a table of layers, or without their pictures, has none
 no_table : (loaded : LoadedValue) (k : ℕ) (eye : Eye) → loaded.files.weapons ≡ None → layers_of loaded k eye ≡ []
 unfolding layers_of
-no_table loaded k eye none = ap (λ (t : Option (List WeaponRow)). layers_by t loaded.weapons (light_at loaded.scene eye) k) none
+no_table loaded k eye none = ap (λ (t : Option (List WeaponRow)). layers_by t loaded.weapons (layer_light loaded.scene eye) k) none
 
 no_book : (table : Option (List WeaponRow)) (light : ℤ) (k : ℕ) → layers_by table None light k ≡ []
 no_book None light k = refl
@@ -99,7 +99,7 @@ no_book (Some rows) light k = refl
 no_pictures : (loaded : LoadedValue) (k : ℕ) (eye : Eye) → loaded.weapons ≡ None → layers_of loaded k eye ≡ []
 unfolding layers_of
 no_pictures loaded k eye none =
-    ap (λ (b : Option (List Frame)). layers_by loaded.files.weapons b (light_at loaded.scene eye) k) none ∙ no_book loaded.files.weapons (light_at loaded.scene eye) k
+    ap (λ (b : Option (List Frame)). layers_by loaded.files.weapons b (layer_light loaded.scene eye) k) none ∙ no_book loaded.files.weapons (layer_light loaded.scene eye) k
 
 no_dots : (loaded : LoadedScene) (k : ℕ) (eye : Eye) (art : Art) → layers_of (loaded_value loaded) k eye ≡ [] → view_layers loaded k eye art ≡ []
 unfolding joined_lists

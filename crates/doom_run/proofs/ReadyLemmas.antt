@@ -19,7 +19,7 @@ use Rattle.sound_scene.specs.Sound.{SoundValue, textures_view}
 use Rattle.job_files.specs.declared.read.SceneFiles.{SceneFiles}
 use Rattle.job_files.specs.Files.{value_of}
 use Rattle.level_audit.specs.Weapons.{AreThere}
-use Rattle.level_audit.specs.scene_load.Loads.{loaded_sizes, loaded_value, weapon_lumps}
+use Rattle.level_audit.specs.scene_load.Loads.{loaded_value, weapon_lumps}
 use Rattle.frame_core.specs.Scenes.{scene_of}
 use Rattle.frame_core.specs.declared.fault.ViewFault.{ViewFault}
 use Rattle.frame_core.specs.declared.fault.ViewFault.TheVariants as fault
@@ -72,7 +72,6 @@ views_with bytes files scene weapons limits = record {
   views = seen_views (record { files = value_of files; scene = scene.scene; weapons = weapons });
   limits = limits;
   palette = scene.scene.base.palette;
-  sizes = loaded_sizes (record { files = value_of files; scene = scene.scene; weapons = weapons });
 }
 
 views_for : (bytes : ℕ → List ℕ) (files files' : SceneFiles) (scene scene' : SoundValue) (weapons weapons' : Option (List Frame)) (limits limits' : Limits) →

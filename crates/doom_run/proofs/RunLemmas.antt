@@ -8,35 +8,35 @@ use Rattle.job_files.specs.declared.status.Status.{Status}
 use Rattle.job_files.specs.declared.status.Status.TheVariants.{Done, Usage, Refused, ReadFault, WriteFault, Limit, ZoneFull, OutOfMemory}
 use Rattle.doom_run.specs.Ends.{EndsAt, EndsWith, IsEnd, IsUnwritten, StopsWith}
 use Rattle.doom_run.specs.Steps.{RunStop, usage, absent, refused}
-use Rattle.doom_run.specs.Verdict.{Accepted, end_of, output}
+use Rattle.doom_run.specs.Verdict.{Accepted}
 
 same_accepted : (verdict : Result Accepted RunStop) (p q : Accepted) → verdict ≡ Ok p → verdict ≡ Ok q → p ≡ q
 same_accepted verdict p q a b = cc
 
 -- after an end a prefix of the output was written, since all of it was
 whole_at_end : (verdict : Result Accepted RunStop) (old new : List ℕ → Type 0) (status : Status) (accepted : Accepted) →
-    EndsWith verdict old new status → verdict ≡ Ok accepted → GrewByPrefix old new (output accepted)
+    EndsWith verdict old new status → verdict ≡ Ok accepted → GrewByPrefix old new accepted.output
 whole_at_end verdict old new status accepted ends e =
-    subst (λ (a : Accepted). GrewByPrefix old new (output a)) (same_accepted verdict ends.accepted accepted ends.is e) (grew_whole ends.written)
+    subst (λ (a : Accepted). GrewByPrefix old new a.output) (same_accepted verdict ends.accepted accepted ends.is e) (grew_whole ends.written)
 
 -- where a run stops, a prefix of the output was written, or nothing where the verdict stops
-stops_prefix : (verdict : Result Accepted RunStop) (old new : List ℕ → Type 0) (accepted : Accepted) → StopsWith verdict old new → verdict ≡ Ok accepted → GrewByPrefix old new (output accepted)
+stops_prefix : (verdict : Result Accepted RunStop) (old new : List ℕ → Type 0) (accepted : Accepted) → StopsWith verdict old new → verdict ≡ Ok accepted → GrewByPrefix old new accepted.output
 stops_prefix verdict old new accepted stops e =
-    subst (λ (v : Result Accepted RunStop). MatchResult v (λ a. GrewByPrefix old new (output a)) (λ stop. Grew old new [])) e stops.written
+    subst (λ (v : Result Accepted RunStop). MatchResult v (λ a. GrewByPrefix old new a.output) (λ stop. Grew old new [])) e stops.written
 
 stops_none : (verdict : Result Accepted RunStop) (old new : List ℕ → Type 0) (stop : RunStop) → StopsWith verdict old new → verdict ≡ Err stop → Grew old new []
 stops_none verdict old new stop stops e =
-    subst (λ (v : Result Accepted RunStop). MatchResult v (λ a. GrewByPrefix old new (output a)) (λ stop. Grew old new [])) e stops.written
+    subst (λ (v : Result Accepted RunStop). MatchResult v (λ a. GrewByPrefix old new a.output) (λ stop. Grew old new [])) e stops.written
 
 -- whatever the status, a prefix of the output was written
 pub prefix_at_end : (steady : Bool) (verdict : Result Accepted RunStop) (old new : List ℕ → Type 0) (status : Status) (accepted : Accepted) →
-    EndsAt steady verdict old new status → (IsUnwritten status → Grew old new []) → verdict ≡ Ok accepted → GrewByPrefix old new (output accepted)
+    EndsAt steady verdict old new status → (IsUnwritten status → Grew old new []) → verdict ≡ Ok accepted → GrewByPrefix old new accepted.output
 prefix_at_end steady verdict old new Done accepted ends unwritten e = whole_at_end verdict old new Done accepted ends e
 prefix_at_end steady verdict old new Usage accepted ends unwritten e = prefix_of_none _ (unwritten tt)
 prefix_at_end steady verdict old new (Refused refusal) accepted ends unwritten e = prefix_of_none _ (unwritten tt)
 prefix_at_end steady verdict old new ReadFault accepted ends unwritten e = stops_prefix verdict old new accepted ends.1 e
 prefix_at_end steady verdict old new WriteFault accepted ends unwritten e =
-    subst (λ (a : Accepted). GrewByPrefix old new (output a)) (same_accepted verdict ends.accepted accepted ends.is e) ends.written
+    subst (λ (a : Accepted). GrewByPrefix old new a.output) (same_accepted verdict ends.accepted accepted ends.is e) ends.written
 prefix_at_end steady verdict old new (Limit view kind count) accepted ends unwritten e = whole_at_end verdict old new (Limit view kind count) accepted ends e
 prefix_at_end steady verdict old new (ZoneFull wanted widest) accepted ends unwritten e = stops_prefix verdict old new accepted ends e
 prefix_at_end steady verdict old new OutOfMemory accepted ends unwritten e = prefix_of_none _ (unwritten tt)
@@ -107,13 +107,13 @@ absent_at steady verdict old new (ZoneFull wanted widest) ends e full = absurd (
 absent_at steady verdict old new OutOfMemory ends e full = inr refl
 
 due_end : (verdict : Result Accepted RunStop) (old new : List ℕ → Type 0) (status : Status) (accepted : Accepted) →
-    EndsWith verdict old new status → verdict ≡ Ok accepted → status ≡ end_of accepted
-due_end verdict old new status accepted ends e = sym ends.due ∙ ap (λ (a : Accepted). end_of a) (same_accepted verdict ends.accepted accepted ends.is e)
+    EndsWith verdict old new status → verdict ≡ Ok accepted → status ≡ accepted.end
+due_end verdict old new status accepted ends e = sym ends.due ∙ ap (λ (a : Accepted). a.end) (same_accepted verdict ends.accepted accepted ends.is e)
 
 -- an accepted run in which no fault stands and no zone is full comes to its end
 pub complete_at : (steady : Bool) (verdict : Result Accepted RunStop) (old new : List ℕ → Type 0) (status : Status) (accepted : Accepted) →
     EndsAt steady verdict old new status → verdict ≡ Ok accepted → (status ≡ ReadFault → ⊥) → (status ≡ WriteFault → ⊥) → ((wanted widest : ℕ) → status ≡ ZoneFull wanted widest → ⊥) →
-    (status ≡ end_of accepted) ⊎ (status ≡ OutOfMemory)
+    (status ≡ accepted.end) ⊎ (status ≡ OutOfMemory)
 complete_at steady verdict old new Done accepted ends e read write full = inl (due_end verdict old new Done accepted ends e)
 complete_at steady verdict old new Usage accepted ends e read write full = absurd (accepts_or_stops verdict accepted usage e ends)
 complete_at steady verdict old new (Refused refusal) accepted ends e read write full = absurd (accepts_or_stops verdict accepted (refused refusal) e ends)

@@ -1,10 +1,9 @@
 -- The bytes of frames, counted.
-use Rattle.std.proofs.Common.{◌≡◌, ℕ, ◌+◌, ◌*◌, ◌%◌, ◌^◌, ◌++◌, Bool, true, IsTrue, List, [], ◌∷◌, length, Option, Some, None, Result, Ok, Err, refl, ap, sym, ◌∙◌, arith, subst}
-use Rattle.std.specs.Prelude.{codes, is_some, sum}
+use Rattle.std.proofs.Common.{◌≡◌, ◌≤◌, ℕ, ◌+◌, ◌*◌, ◌/◌, ◌%◌, ◌^◌, ◌++◌, true, List, [], ◌∷◌, length, Option, Some, None, refl, ap, sym, ◌∙◌, arith}
+use Rattle.std.specs.Prelude.{codes, is_some}
 use Rattle.std.specs.List.{flat_map}
 use Rattle.std.proofs.Math.Seq.{take-length}
 use Rattle.std.proofs.lemmas.List.{length-append, length-map}
-use Rattle.outside.specs.Causes.{FaultsRose}
 use Rattle.outside.specs.Sink.{Grew}
 use Rattle.outside.specs.TallySink.{IsTallyOf, Tally}
 use Rattle.word_rules.specs.Listed.{joined_lists}
@@ -12,21 +11,18 @@ use Rattle.word_rules.proofs.LeastLemmas.{least-is}
 use Rattle.word_rules.proofs.ListedLemmas.{length-listed}
 use Rattle.doom_run.specs.declared.canvas.ViewForm.TheVariants.{Frame}
 use Rattle.doom_run.specs.Layers.{SeenView}
+use Rattle.csv_tables.specs.declared.path.TheConstants.{MAX_VIEWS}
 use Rattle.pixel_rules.specs.declared.TheConstants.{FRAME_CELLS}
 use Rattle.frame_writer.specs.Ppm.{colour, ppm, ppm_header}
 use Rattle.picture_rules.specs.declared.LimitKind.{LimitKind}
 use Rattle.picture_rules.specs.declared.OverLimit.{OverLimit}
 use Rattle.picture_rules.specs.Picture.{frame_dots, frame_of, overlaid_picture}
 use Rattle.picture_rules.specs.Scene.{Scene}
-use Rattle.command_line.specs.declared.command.Format.{Format}
-use Rattle.command_line.specs.declared.command.Format.TheVariants.{Index, Ppm}
+use Rattle.job_rules.specs.declared.command.Format.{Format}
+use Rattle.job_rules.specs.declared.command.Format.TheVariants.{Index, Ppm}
 use Rattle.refusals.specs.Lines.{labelled}
-use Rattle.job_files.specs.declared.status.Status.{Status}
-use Rattle.job_files.specs.declared.status.Status.TheVariants.{Done, Usage, Refused, ReadFault, WriteFault, Limit, ZoneFull, OutOfMemory}
-use Rattle.doom_run.specs.declared.exercise.Summary.{Summary}
-use Rattle.doom_run.specs.Ends.{RendersAt}
-use Rattle.doom_run.specs.Exercises.{IsExercised, StopsAt, exercise_line, frame_size, line_unless, summary_line}
-use Rattle.doom_run.specs.Verdict.{rendered}
+use Rattle.job_files.specs.declared.status.Status.TheVariants.{Done, Limit}
+use Rattle.doom_run.specs.Exercises.{exercise_line, exercised_bytes, frame_size, line_unless, summary_line}
 use Rattle.doom_run.specs.Views.{ViewsValue, due_views, end_at, first_over, frame_bytes, frames_of, limit_at, over_at, rendered_bytes, rendered_end}
 
 -- a picture has a byte for each cell
@@ -98,51 +94,47 @@ tally_of {new} {bytes} e grew =
     let first : Grew (IsTallyOf (record { count = 0; sum = 0 })) (IsTallyOf new) bytes = rw e at grew in
     first.each [] (record { count = refl; sum = refl })
 
--- the line of frames that were all rendered
-line_of_frames : (n frames : ℕ) (format : Format) (r : ViewsValue) (tally : Tally) → frames ≡ length r.views → first_over r ≡ None → IsTallyOf tally (rendered_bytes (Frame format) r) →
-    exercise_line n (length (due_views r)) (rendered_bytes (Frame format) r)
-    ≡ summary_line (record { sectors = 4 * n * n; views = 3 * n; frames = frames; bytes = frames * frame_size format; sum = tally.sum })
-unfolding exercise_line
-line_of_frames n frames format r tally count none counted =
-    let line : ℕ → ℕ → ℕ → List ℕ = λ f b s.
-    labelled (codes "sectors ") (4 * n * n)
-    ++ (labelled (codes " views ") (3 * n)
-    ++ (labelled (codes " frames ") f
-    ++ (labelled (codes " bytes ") b
-    ++ (labelled (codes " sum ") s ++ codes "\n")))) in
-    let due : length (due_views r) ≡ frames = ap (λ (vs : List SeenView). length vs) (due_all r none) ∙ sym count in
-    let size : length (rendered_bytes (Frame format) r) ≡ frames * frame_size format = length_frames format r (due_views r) ∙ ap (λ k. k * frame_size format) due in
-    ap (λ f. line f (length (rendered_bytes (Frame format) r)) (sum (rendered_bytes (Frame format) r) % 2 ^ 64)) due
-    ∙ ap (λ b. line frames b (sum (rendered_bytes (Frame format) r) % 2 ^ 64)) size
-    ∙ ap (λ s. line frames (frames * frame_size format) s) counted.sum
+-- a number of frames of that size, counted by their bytes
+whole_frames : (format : Format) (frames : ℕ) → frames * frame_size format / frame_size format ≡ frames
+whole_frames Index frames = omega arith
+whole_frames Ppm frames = omega arith
 
--- all frames were rendered, and this is the summary
-done_exercise : (n frames : ℕ) (format : Format) (r : ViewsValue) (tally : Tally) → frames ≡ length r.views → rendered_end r ≡ Done → IsTallyOf tally (rendered_bytes (Frame format) r) →
-    IsExercised n format (Ok r) (summary_line (record { sectors = 4 * n * n; views = 3 * n; frames = frames; bytes = frames * frame_size format; sum = tally.sum })) Done
-done_exercise n frames format r tally count done counted =
-    let none : first_over r ≡ None = none_over r (first_over r) refl done in
-    record { views = r; is = refl; due = done; line = ap (line_unless n format r) none ∙ line_of_frames n frames format r tally count none counted }
+few_bytes : (format : Format) (frames : ℕ) → frames ≤ MAX_VIEWS → frames * frame_size format % 2 ^ 64 ≡ frames * frame_size format
+few_bytes Index frames few = omega (arith, few)
+few_bytes Ppm frames few = omega (arith, few)
 
--- the same of a summary that is told field by field
-pub finished_exercise : (n frames : ℕ) (format : Format) (r : ViewsValue) (tally : Tally) (summary : Summary) →
-    summary ≡ record { sectors = 4 * n * n; views = 3 * n; frames = frames; bytes = frames * frame_size format; sum = tally.sum } →
-    frames ≡ length r.views → rendered_end r ≡ Done → IsTallyOf tally (rendered_bytes (Frame format) r) → IsExercised n format (Ok r) (summary_line summary) Done
-finished_exercise n frames format r tally summary e count done counted =
-    subst (λ (s : Summary). IsExercised n format (Ok r) (summary_line s) Done) (sym e) (done_exercise n frames format r tally count done counted)
+-- all frames of views that are not too many were rendered, and this is the summary
+module _ (n : ℕ) (format : Format) (r : ViewsValue) (tally : Tally) (few : length r.views ≤ MAX_VIEWS) (end : rendered_end r ≡ Done) (counted : IsTallyOf tally (rendered_bytes (Frame format) r)) where
+  none_is_over : first_over r ≡ None
+  none_is_over = none_over r (first_over r) refl end
 
--- a status that was answered
-pub same_status : (a b : Status) → ◌≡◌ {A = Result Summary Status} (Err a) (Err b) → a ≡ b
-same_status a b e = cc
+  frames_due : length (due_views r) ≡ length r.views
+  frames_due = ap (λ (vs : List SeenView). length vs) (due_all r none_is_over)
 
--- a rendering into a tally over a steady shelf ends with the last view, at a limit, or with a full zone
-pub stopped_exercise : (n : ℕ) (format : Format) (r : ViewsValue) (steady : Bool) (old new : List ℕ → Type 0) (status : Status) → (status ≡ Done → ⊥) → IsTrue steady →
-    RendersAt steady (rendered (Frame format) r) old new status → (status ≡ WriteFault → FaultsRose 0 0) → StopsAt n format (Ok r) status
-stopped_exercise n format r steady old new Done on s h w = on refl
-stopped_exercise n format r steady old new Usage on s h w = absurd h
-stopped_exercise n format r steady old new (Refused reason) on s h w = absurd h
-stopped_exercise n format r steady old new ReadFault on s h w = h.0 s
-stopped_exercise n format r steady old new WriteFault on s h w = let rose : FaultsRose 0 0 = w refl in omega (arith, rose)
-stopped_exercise n format r steady old new (Limit view kind count) on s h w =
-    record { views = r; is = refl; due = h.0; line = none_written_over n format r (first_over r) view kind count h.0 }
-stopped_exercise n format r steady old new (ZoneFull wanted widest) on s h w = tt
-stopped_exercise n format r steady old new OutOfMemory on s h w = absurd h
+  bytes_due : length (rendered_bytes (Frame format) r) ≡ length r.views * frame_size format
+  bytes_due = length_frames format r (due_views r) ∙ ap (λ k. k * frame_size format) frames_due
+
+  count_is : tally.count ≡ length r.views * frame_size format
+  count_is = sym counted.count ∙ ap (λ k. k % 2 ^ 64) bytes_due ∙ few_bytes format (length r.views) few
+
+  frames_are : tally.count / frame_size format ≡ length r.views
+  frames_are = ap (λ k. k / frame_size format) count_is ∙ whole_frames format (length r.views)
+
+  -- the line is that of the rule
+  pub tallied_line : summary_line (record { sectors = 4 * n * n; views = 3 * n; frames = tally.count / frame_size format; bytes = tally.count; sum = tally.sum }) ≡ exercised_bytes n format r
+  unfolding exercise_line
+  tallied_line =
+      let line : ℕ → ℕ → ℕ → List ℕ = λ f b s.
+      labelled (codes "sectors ") (4 * n * n)
+      ++ (labelled (codes " views ") (3 * n)
+      ++ (labelled (codes " frames ") f
+      ++ (labelled (codes " bytes ") b
+      ++ (labelled (codes " sum ") s ++ codes "\n")))) in
+      ap (λ f. line f tally.count tally.sum) (frames_are ∙ sym frames_due)
+      ∙ ap (λ b. line (length (due_views r)) b tally.sum) (count_is ∙ sym bytes_due)
+      ∙ ap (λ s. line (length (due_views r)) (length (rendered_bytes (Frame format) r)) s) (sym counted.sum)
+      ∙ sym (ap (line_unless n format r) none_is_over)
+
+-- nothing is written where a view is over a limit
+pub over_unwritten : (n : ℕ) (format : Format) (r : ViewsValue) (view : ℕ) (kind : LimitKind) (count : ℕ) → rendered_end r ≡ Limit view kind count → exercised_bytes n format r ≡ []
+over_unwritten n format r view kind count e = none_written_over n format r (first_over r) view kind count e

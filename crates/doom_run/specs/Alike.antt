@@ -1,11 +1,13 @@
 -- What a trimmed file is for: rendering it comes to the same as rendering the WADs that it was made of.
 use Rattle.std.specs.Prelude.{◌≡◌, ℕ, List, [], ◌∷◌, Some, Result, Ok}
 use Rattle.outside.specs.Shelf.{File, file_named}
-use Rattle.command_line.specs.LevelJobs.{FileNames, LevelJobValue}
-use Rattle.command_line.specs.declared.command.Format.{Format}
-use Rattle.command_line.specs.declared.command.LevelTask.TheVariants.{Render}
+use Rattle.job_rules.specs.Commands.{level_job}
+use Rattle.job_rules.specs.LevelJobs.{FileNames, LevelJobValue}
+use Rattle.job_rules.specs.declared.command.Format.{Format}
+use Rattle.job_rules.specs.declared.command.LevelTask.TheVariants.{Render}
 use Rattle.doom_run.specs.Steps.{RunStop}
-use Rattle.doom_run.specs.Verdict.{Accepted, end_of, level_verdict, output}
+use Rattle.doom_run.specs.Jobs.{job_of}
+use Rattle.doom_run.specs.Verdict.{Accepted, job_verdict}
 
 -- Other files, of which the first of a name has these bytes. The files beside the WADs are the same.
 pub record StandsForWads (names : FileNames) (bytes name : List ℕ) (files others : List File) : Type 0 where
@@ -21,10 +23,14 @@ pub record EndAlike (one other : Result Accepted RunStop) : Type 0 where
   pub second : Accepted
   pub is : one ≡ Ok first
   pub is_too : other ≡ Ok second
-  pub end : end_of second ≡ end_of first
-  pub written : output second ≡ output first
+  pub end : second.end ≡ first.end
+  pub written : second.output ≡ first.output
+
+-- what rendering the level of these WADs determines
+abbrev pub render_verdict : Format → LevelJobValue → List (List ℕ) → List File → Result Accepted RunStop
+render_verdict format level wads files = job_verdict (job_of (level_job (Render format) level wads)) files
 
 pub record RendersAlike (level : LevelJobValue) (wads : List (List ℕ)) (files : List File) (bytes : List ℕ) : Type 0 where
   pub alike : (format : Format) (others : List File) (name : List ℕ) →
       StandsForWads level.files bytes name files others →
-      EndAlike (level_verdict (Render format) level wads files) (level_verdict (Render format) level (name ∷ []) others)
+      EndAlike (render_verdict format level wads files) (render_verdict format level (name ∷ []) others)

@@ -1,19 +1,15 @@
 -- The made files of a number, rendered and counted.
-use Rattle.std.specs.Prelude.{◌≡◌, ℕ, ◌++◌, ◌∷◌, ◌*◌, ◌%◌, ◌^◌, List, [], length, sum, codes, Option, Some, None, Result, Ok, Err}
+use Rattle.std.specs.Prelude.{ℕ, ◌++◌, ◌∷◌, ◌*◌, ◌%◌, ◌^◌, List, [], length, sum, codes, Option, Some, None}
 use Rattle.outside.specs.Shelf.{File}
-use Rattle.outside.specs.Stops.{Stop, stopped}
-use Rattle.command_line.specs.declared.command.Format.{Format}
-use Rattle.command_line.specs.declared.command.Format.TheVariants.{Index, Ppm}
-use Rattle.command_line.specs.declared.command.MakeJob.TheVariants.{Wad, Path, Tables, Things}
-use Rattle.command_line.specs.LevelJobs.{LevelJobValue}
-use Rattle.refusals.specs.declared.refusal.Refusal.{Refusal}
+use Rattle.job_rules.specs.declared.command.Format.{Format}
+use Rattle.job_rules.specs.declared.command.Format.TheVariants.{Index, Ppm}
+use Rattle.job_rules.specs.declared.command.MakeJob.TheVariants.{Wad, Path, Tables, Things}
+use Rattle.job_rules.specs.LevelJobs.{LevelJobValue}
 use Rattle.refusals.specs.Lines.{labelled}
-use Rattle.job_files.specs.declared.status.Status.{Status}
-use Rattle.job_files.specs.declared.status.Status.TheVariants.{Done, Usage, Refused, ReadFault, WriteFault, Limit, ZoneFull, OutOfMemory}
 use Rattle.job_files.specs.Made.{made_file}
 use Rattle.doom_run.specs.declared.canvas.ViewForm.TheVariants.{Frame}
 use Rattle.doom_run.specs.declared.exercise.Summary.{Summary}
-use Rattle.doom_run.specs.Views.{ViewsValue, due_views, first_over, rendered_bytes, rendered_end, views_verdict}
+use Rattle.doom_run.specs.Views.{ViewsValue, due_views, first_over, rendered_bytes}
 
 -- the made files of a number, by name
 unfoldable pub made_files : ℕ → List File
@@ -33,9 +29,6 @@ made_level zone = record {
   files = record { tables = codes "tables"; things = codes "things"; path = codes "path"; weapon = None };
   settings = record { zone = zone; skill = 3; size = 11; planes = 128; openings = 20480 };
 }
-
-abbrev pub exercise_verdict : ℕ → ℕ → Result ViewsValue (Stop Refusal)
-exercise_verdict n zone = views_verdict (made_level zone) made_wads (made_files n)
 
 -- the line of an exercise: sectors, views, frames, and the number and the sum of the frames' bytes
 unfoldable pub exercise_line : ℕ → ℕ → List ℕ → List ℕ
@@ -67,25 +60,3 @@ exercised_bytes n format r = line_unless n format r (first_over r)
 abbrev pub frame_size : Format → ℕ
 frame_size Index = 64000
 frame_size Ppm = 192015
-
--- The verdict accepts views whose rendering ends with this status, and this is to be written of them.
-pub record IsExercised (n : ℕ) (format : Format) (verdict : Result ViewsValue (Stop Refusal)) (written : List ℕ) (end : Status) : Type 0 where
-  pub views : ViewsValue
-  pub is : verdict ≡ Ok views
-  pub due : rendered_end views ≡ end
-  pub line : exercised_bytes n format views ≡ written
-
--- what the verdict is, and what is to be written, by what an exercise comes to
-abbrev pub StopsAt : ℕ → Format → Result ViewsValue (Stop Refusal) → Status → Type 0
-StopsAt n format verdict Done = ⊥
-StopsAt n format verdict Usage = ⊥
-StopsAt n format verdict (Refused refusal) = verdict ≡ Err (stopped refusal)
-StopsAt n format verdict ReadFault = ⊥
-StopsAt n format verdict WriteFault = ⊥
-StopsAt n format verdict (Limit view kind count) = IsExercised n format verdict [] (Limit view kind count)
-StopsAt n format verdict (ZoneFull wanted widest) = Unit {0}
-StopsAt n format verdict OutOfMemory = Unit {0}
-
-abbrev pub ExercisesAt : ℕ → Format → Result ViewsValue (Stop Refusal) → Result Summary Status → Type 0
-ExercisesAt n format verdict (Ok summary) = IsExercised n format verdict (summary_line summary) Done
-ExercisesAt n format verdict (Err status) = StopsAt n format verdict status

@@ -13,7 +13,7 @@ use Rattle.texture_build.specs.Draws.{KeepsArt}
 use Rattle.sound_scene.specs.Sound.{textures_view}
 use Rattle.frame_writer.specs.Ppm.{ppm}
 use Rattle.pixel_trace.specs.Traces.{cells_bytes}
-use Rattle.command_line.specs.declared.command.Format.TheVariants.{Index, Ppm}
+use Rattle.job_rules.specs.declared.command.Format.TheVariants.{Index, Ppm}
 use Rattle.frame_core.specs.Views.{placed_for}
 use Rattle.frame_core.specs.declared.fault.ViewFault.{ViewFault}
 use Rattle.frame_core.specs.declared.fault.ViewFault.TheVariants as fault

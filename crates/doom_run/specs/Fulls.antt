@@ -1,20 +1,19 @@
 -- When a run ends with a full zone.
-use Rattle.std.specs.Prelude.{◌≡◌, ◌≢◌, ◌≤◌, ◌<◌, ◌+◌, ◌*◌, ◌⊎◌, ℕ, true, List, length, Option, Some, Ok, Contains}
+use Rattle.std.specs.Prelude.{◌≡◌, ◌≢◌, ◌≤◌, ◌<◌, ◌+◌, ◌*◌, ◌⊎◌, ℕ, true, IsTrue, IfSome, List, length, Option, Some, Ok, Contains}
 use Rattle.outside.specs.Shelf.{File}
 use Rattle.zone_rules.specs.declared.TheConstants.{MIN_FRAGMENT}
 use Rattle.art_rules.specs.declared.PlacedPatch.{PlacedPatch}
 use Rattle.art_rules.specs.Wanted.{PreparedTexture}
-use Rattle.command_line.specs.Commands.{CommandValue, level_job, exercise, command_of}
-use Rattle.command_line.specs.LevelJobs.{LevelJobValue}
-use Rattle.command_line.specs.declared.command.Format.{Format}
-use Rattle.command_line.specs.declared.command.LevelTask.{LevelTask}
-use Rattle.command_line.specs.declared.command.LevelTask.TheVariants.{Render, Trim, Trace}
+use Rattle.job_rules.specs.Commands.{CommandValue}
+use Rattle.job_rules.specs.LevelJobs.{LevelJobValue}
+use Rattle.command_line.specs.Commands.{command_of}
 use Rattle.scene_rules.specs.Sizes.{composite_block, is_needed, lump_block}
 use Rattle.sound_scene.specs.Sound.{art_with}
 use Rattle.level_audit.specs.scene_load.Fulls.{IsFullLoad}
 use Rattle.level_audit.specs.scene_load.Loads.{LoadedValue, load_in, loaded_pictures, loaded_sizes}
-use Rattle.doom_run.specs.Exercises.{made_files, made_level, made_wads}
-use Rattle.doom_run.specs.Verdict.{Accepted, enough_for}
+use Rattle.doom_run.specs.Jobs.{Task, job_of, over, plain}
+use Rattle.doom_run.specs.Leasts.{zone_of}
+use Rattle.doom_run.specs.Verdict.{Accepted}
 
 -- A block that drawing or trimming asks for: that of a lump of the directory that the scene needs, or of a prepared
 -- texture's composite.
@@ -44,30 +43,18 @@ pub record IsFullDraw (level : LevelJobValue) (wads : List (List ℕ)) (files : 
       ⊎ IsPatchBeside loaded level.settings.zone wanted
   pub enough : level.settings.zone < (loaded_sizes loaded).enough
 
--- a command that has a zone, with the level, the WADs and the files that it reads
-abbrev pub IsOver : CommandValue → List File → LevelJobValue → List (List ℕ) → List File → Type 0
-IsOver command files level wads own_files =
-    (((task : LevelTask) × (command ≡ level_job task level wads)) × (own_files ≡ files))
-    ⊎ ((n : ℕ) × (format : Format) × (command ≡ exercise n level.settings.zone format) × (level ≡ made_level level.settings.zone) × (wads ≡ made_wads) × (own_files ≡ made_files n))
+-- The files of a task with a zone are in order, and the zone is small: for what loading reads, or for what is
+-- drawn or copied.
+abbrev pub IsFullTask : Task → List File → ℕ → ℕ → Type 0
+IsFullTask (plain writes) files wanted widest = ⊥
+IsFullTask (over work) files wanted widest =
+    IsFullLoad work.level work.wads (work.files files) wanted widest
+    ⊎ (IsTrue work.delivery.reads × IsFullDraw work.level work.wads (work.files files) wanted widest)
 
--- a job that reads lumps once it has loaded: one that draws, and one that trims
-abbrev pub ReadsMore : CommandValue → Type 0
-ReadsMore command =
-    ((format : Format) × (level : LevelJobValue) × (wads : List (List ℕ)) × (command ≡ level_job (Render format) level wads))
-    ⊎ ((level : LevelJobValue) × (wads : List (List ℕ)) × (command ≡ level_job Trace level wads))
-    ⊎ ((level : LevelJobValue) × (wads : List (List ℕ)) × (command ≡ level_job Trim level wads))
-    ⊎ ((n : ℕ) × (zone : ℕ) × (format : Format) × (command ≡ exercise n zone format))
-
--- The words are a command with a zone, whose files are in order, and the zone is small: for what loading
--- reads, or for what is drawn or copied.
-pub record IsFullRun (command : CommandValue) (files : List File) (wanted widest' : ℕ) : Type 0 where
-  pub level : LevelJobValue
-  pub wads : List (List ℕ)
-  pub own_files : List File
-  pub is : IsOver command files level wads own_files
-  pub full : IsFullLoad level wads own_files wanted widest' ⊎ (ReadsMore command × IsFullDraw level wads own_files wanted widest')
+-- the same of a command
+abbrev pub IsFullRun : CommandValue → List File → ℕ → ℕ → Type 0
+IsFullRun command files wanted widest = IsFullTask (job_of command).task files wanted widest
 
 -- the zone of a command is large enough for what it accepts
-pub record HasRoom (words : List (List ℕ)) (accepted : Accepted) : Type 0 where
-  pub enough : (task : LevelTask) (level : LevelJobValue) (wads : List (List ℕ)) → command_of words ≡ Some (level_job task level wads) → enough_for accepted ≤ level.settings.zone
-  pub made : (n zone : ℕ) (format : Format) → command_of words ≡ Some (exercise n zone format) → enough_for accepted ≤ zone
+abbrev pub HasRoom : List (List ℕ) → Accepted → Type 0
+HasRoom words accepted = IfSome (command_of words) (λ command. accepted.enough ≤ zone_of (job_of command).task)

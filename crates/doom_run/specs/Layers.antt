@@ -32,8 +32,8 @@ eye_of row = record {
 }
 
 -- the light of the sector where the viewpoint stands
-unfoldable pub light_at : SceneValue → Eye → ℤ
-light_at scene eye = (surface_at (lists_of scene) (sector_at scene.base.level eye.x eye.y)).light
+unfoldable pub layer_light : SceneValue → Eye → ℤ
+layer_light scene eye = (surface_at (lists_of scene) (sector_at scene.base.level eye.x eye.y)).light
 
 -- a row of the weapon table as a layer, with its picture of rotation 0
 unfoldable pub layer_with : ℤ → ℕ → WeaponRow → Shape → WeaponLayer
@@ -64,7 +64,7 @@ layers_by (Some rows) (Some book) light k = layers_from book light k 1 rows
 
 -- the layers of view number k, seen from that viewpoint
 unfoldable pub layers_of : LoadedValue → ℕ → Eye → List WeaponLayer
-layers_of loaded k eye = layers_by loaded.files.weapons loaded.weapons (light_at loaded.scene eye) k
+layers_of loaded k eye = layers_by loaded.files.weapons loaded.weapons (layer_light loaded.scene eye) k
 
 -- view number k of a path, with its layers
 unfoldable pub seen_view : LoadedValue → ℕ → PathRow → SeenView

@@ -1,6 +1,6 @@
 -- How many bytes a zone has at least in which a job over a level comes to its end: no smaller one holds,
 -- beside COLORMAP, each lump that is read and each that is painted from.
-use Rattle.std.specs.Prelude.{ℕ, ◌+◌, ◌==◌, ◌||◌, Bool, cond, max, List, [], length, Result, Ok, Err}
+use Rattle.std.specs.Prelude.{ℕ, ◌+◌, ◌==◌, ◌||◌, Bool, cond, max, List, length, Result, Ok, Err}
 use Rattle.std.specs.List.{range_with_len}
 use Rattle.outside.specs.Shelf.{File}
 use Rattle.outside.specs.Stops.{Stop}
@@ -13,18 +13,16 @@ use Rattle.picture_rules.specs.Paints.{overlaid_paints}
 use Rattle.picture_rules.specs.Scene.{Scene}
 use Rattle.texture_build.specs.Asked.{size_of}
 use Rattle.texture_build.specs.Views.{TexturesView, prepared_texture}
-use Rattle.command_line.specs.Commands.{CommandValue, exercise, flat, level_job, make}
-use Rattle.command_line.specs.LevelJobs.{LevelJobValue}
-use Rattle.command_line.specs.declared.command.LevelTask.{LevelTask}
-use Rattle.command_line.specs.declared.command.LevelTask.TheVariants.{Render, Audit, Limits, Trim, Trace}
+use Rattle.job_rules.specs.Commands.{CommandValue}
+use Rattle.job_rules.specs.LevelJobs.{LevelJobValue}
 use Rattle.refusals.specs.declared.refusal.Refusal.{Refusal}
 use Rattle.scene_rules.specs.Scenes.{LevelBase}
 use Rattle.scene_rules.specs.Sizes.{greatest_by, is_list, is_map_lump, lump_block}
 use Rattle.sound_scene.specs.Sound.{textures_view}
 use Rattle.level_audit.specs.scene_load.Loads.{LoadedValue, load_in, wad_bytes}
-use Rattle.doom_run.specs.Exercises.{made_files, made_level, made_wads}
+use Rattle.doom_run.specs.Jobs.{Delivery, Task, Work, job_of, over, plain}
 use Rattle.doom_run.specs.Layers.{SeenView}
-use Rattle.doom_run.specs.Views.{ViewsValue, due_views, views_of}
+use Rattle.doom_run.specs.Views.{views_of}
 
 -- PLAYPAL, a lump of the map, or a list of textures
 unfoldable pub is_base_lump : List Lump → LevelBase → ℕ → Bool
@@ -57,36 +55,33 @@ least_over loaded scene views =
     + max (base_block loaded.files.lumps loaded.scene.base)
     (greatest_by (painted_block loaded.files.lumps (textures_view loaded.scene) loaded.scene.base.colormap scene) views)
 
--- the views that a job draws
-abbrev pub drawn_views : LevelTask → ViewsValue → List SeenView
-drawn_views (Render format) r = due_views r
-drawn_views Audit r = []
-drawn_views Limits r = []
-drawn_views Trim r = []
-drawn_views Trace r = due_views r
+-- the least for what is done with a level that is loaded, whose lumps have these bytes
+unfoldable pub delivery_least : LevelJobValue → Delivery → (ℕ → List ℕ) → LoadedValue → ℕ
+delivery_least level delivery bytes loaded =
+    let views = views_of bytes level.settings loaded in
+    least_over loaded views.scene (delivery.drawn views)
 
--- the least of a job over what was loaded
-unfoldable pub least_views : LevelTask → LoadedValue → ViewsValue → ℕ
-least_views task loaded r = least_over loaded r.scene (drawn_views task r)
+-- the same, by what loading comes to: nothing is said where it stops
+abbrev pub least_loading : Work → List File → Result LoadedValue (Stop Refusal) → ℕ
+least_loading work files (Ok loaded) = delivery_least work.level work.delivery (wad_bytes work.wads files loaded.files.lumps) loaded
+least_loading work files (Err stop) = 0
 
--- the same, by what loading comes to
-abbrev pub least_loading : LevelTask → LevelJobValue → (List Lump → ℕ → List ℕ) → Result LoadedValue (Stop Refusal) → ℕ
-least_loading task level bytes (Ok loaded) = least_views task loaded (views_of (bytes loaded.files.lumps) level.settings loaded)
-least_loading task level bytes (Err stop) = 0
+unfoldable pub work_least : Work → List File → ℕ
+work_least work files = least_loading work files (load_in work.level work.wads files)
 
-unfoldable pub level_least : LevelTask → LevelJobValue → List (List ℕ) → List File → ℕ
-level_least task level wads files = least_loading task level (wad_bytes wads files) (load_in level wads files)
+-- the least of a task, 0 where it has no zone
+abbrev pub task_least : Task → List File → ℕ
+task_least (plain writes) files = 0
+task_least (over work) files = work_least work (work.files files)
 
--- the least of a command, 0 where it has no zone
+-- how many bytes the zone of a task has
+abbrev pub zone_of : Task → ℕ
+zone_of (plain writes) = 0
+zone_of (over work) = work.level.settings.zone
+
+-- the same of a command
 abbrev pub command_least : CommandValue → List File → ℕ
-command_least (flat name file) files = 0
-command_least (level_job task level wads) files = level_least task level wads files
-command_least (make job) files = 0
-command_least (exercise n zone format) files = level_least (Render format) (made_level zone) made_wads (made_files n)
+command_least command files = task_least (job_of command).task files
 
--- how many bytes the zone of a command has
 abbrev pub command_zone : CommandValue → ℕ
-command_zone (flat name file) = 0
-command_zone (level_job task level wads) = level.settings.zone
-command_zone (make job) = 0
-command_zone (exercise n zone format) = zone
+command_zone command = zone_of (job_of command).task

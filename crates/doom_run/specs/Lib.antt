@@ -1,10 +1,11 @@
 pub mod Alike
-pub mod Audits
 pub mod Ends
 pub mod Exercises
 pub mod Frames
 pub mod Fulls
+pub mod Jobs
 pub mod Leasts
+pub mod Performs
 pub mod Renders
 pub mod Steps
 pub mod Takes

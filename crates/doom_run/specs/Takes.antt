@@ -1,16 +1,13 @@
 -- How many bytes of files a job over a level reads at most, where its zone has room for all that the level
 -- needs: each needed lump counts once.
-use Rattle.std.specs.Prelude.{◌≡◌, ◌≤◌, ◌+◌, ℕ, List, MatchResult, Result, Ok, ⊤}
+use Rattle.std.specs.Prelude.{◌≡◌, ◌≤◌, ◌+◌, ℕ, List, Ok, ⊤}
 use Rattle.outside.specs.Shelf.{File}
-use Rattle.outside.specs.declared.fault.Fault.{Fault}
-use Rattle.zone_rules.specs.Zones.{Heap}
-use Rattle.lump_cache.specs.Calls.{InOrderAt}
-use Rattle.command_line.specs.Commands.{CommandValue, exercise, flat, level_job, make}
-use Rattle.command_line.specs.LevelJobs.{LevelJobValue}
+use Rattle.job_rules.specs.Commands.{CommandValue}
+use Rattle.job_rules.specs.LevelJobs.{LevelJobValue}
 use Rattle.level_audit.specs.scene_load.Loads.{LoadedValue, load_in, loaded_sizes}
 use Rattle.job_files.specs.Sizes.{files_size}
-use Rattle.level_audit.specs.scene_load.Orders.{IsLoadedInOrder, lumps_size}
-use Rattle.refusals.specs.declared.refusal.Refusal.{Refusal}
+use Rattle.level_audit.specs.scene_load.Orders.{lumps_size}
+use Rattle.doom_run.specs.Jobs.{Task, job_of, over, plain}
 use Rattle.job_files.specs.declared.status.Status.{Status}
 use Rattle.job_files.specs.declared.status.Status.TheVariants.{Done, Usage, Refused, ReadFault, WriteFault, Limit, ZoneFull, OutOfMemory}
 
@@ -21,19 +18,14 @@ TakesOnce level wads files before after =
     (loaded : LoadedValue) → load_in level wads files ≡ Ok loaded → (loaded_sizes loaded).roomy ≤ level.settings.zone →
     after ≤ before + (files_size level.files wads files + lumps_size loaded)
 
--- the same of a command; nothing is said of one without a level
-abbrev pub CommandTakes : CommandValue → List File → ℕ → ℕ → Type 0
-CommandTakes (flat name file) files before after = ⊤
-CommandTakes (level_job task level wads) files before after = TakesOnce level wads files before after
-CommandTakes (make job) files before after = ⊤
-CommandTakes (exercise n zone format) files before after = ⊤
+-- the same of a task; nothing is said of one without a level
+abbrev pub TaskTakes : Task → List File → ℕ → ℕ → Type 0
+TaskTakes (plain writes) files before after = ⊤
+TaskTakes (over work) files before after = TakesOnce work.level work.wads (work.files files) before after
 
--- Loading in a roomy zone: a cache that stands in order, or a fault, which is no full zone; and, unless a read
--- failed, no more was read than the files and each needed lump once.
-abbrev pub LoadsOnce : {A : Type 0} → (A → Heap) → LevelJobValue → List (List ℕ) → List File → LoadedValue → ℕ → ℕ → Result A (Fault Refusal) → Type 0
-LoadsOnce cache level wads files expected before after result =
-    MatchResult result (λ loaded. IsLoadedInOrder level wads files expected before after (cache loaded))
-    (λ fault. InOrderAt fault (after ≤ before + (files_size level.files wads files + lumps_size expected)))
+-- the same of a command
+abbrev pub CommandTakes : CommandValue → List File → ℕ → ℕ → Type 0
+CommandTakes command files before after = TaskTakes (job_of command).task files before after
 
 -- what is said of a zone in order once a status ended the frames: it was not full, and where a read failed
 -- nothing is said

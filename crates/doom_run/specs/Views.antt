@@ -1,16 +1,11 @@
 -- The views of a path over a level: their frames and counts, and the first that is over a limit.
-use Rattle.std.specs.Prelude.{ℕ, ◌++◌, List, [], length, take, codes, Option, Some, None, is_some, unwrap_or, slice_get, option_and_then, Result, Ok}
-use Rattle.outside.specs.Shelf.{File}
-use Rattle.outside.specs.Faults.{and_then}
-use Rattle.outside.specs.Stops.{Stop}
+use Rattle.std.specs.Prelude.{ℕ, ◌++◌, List, [], length, take, codes, Option, Some, None, is_some, unwrap_or, slice_get, option_and_then}
 use Rattle.word_rules.specs.Least.{least}
 use Rattle.word_rules.specs.Listed.{listed, joined_lists}
 use Rattle.frame_writer.specs.Ppm.{ppm}
-use Rattle.command_line.specs.declared.command.Format.{Format}
-use Rattle.command_line.specs.declared.command.Format.TheVariants.{Index, Ppm}
-use Rattle.command_line.specs.declared.command.Settings.{Settings}
-use Rattle.command_line.specs.LevelJobs.{LevelJobValue}
-use Rattle.refusals.specs.declared.refusal.Refusal.{Refusal}
+use Rattle.job_rules.specs.declared.command.Format.{Format}
+use Rattle.job_rules.specs.declared.command.Format.TheVariants.{Index, Ppm}
+use Rattle.job_rules.specs.declared.command.Settings.{Settings}
 use Rattle.refusals.specs.Lines.{labelled}
 use Rattle.picture_rules.specs.declared.Limits.{Limits}
 use Rattle.picture_rules.specs.declared.Counts.{Counts}
@@ -18,8 +13,7 @@ use Rattle.picture_rules.specs.declared.OverLimit.{OverLimit}
 use Rattle.picture_rules.specs.Scene.{Scene}
 use Rattle.picture_rules.specs.Picture.{overlaid_picture, overlaid_trace}
 use Rattle.picture_rules.specs.Counts.{view_counts, view_over}
-use Rattle.scene_rules.specs.declared.ZoneSizes.{ZoneSizes}
-use Rattle.level_audit.specs.scene_load.Loads.{LoadedValue, load_in, loaded_sizes, wad_bytes}
+use Rattle.level_audit.specs.scene_load.Loads.{LoadedValue}
 use Rattle.frame_core.specs.Scenes.{scene_of}
 use Rattle.pixel_trace.specs.Traces.{trace_bytes}
 use Rattle.doom_run.specs.declared.canvas.ViewForm.{ViewForm}
@@ -29,14 +23,12 @@ use Rattle.job_files.specs.declared.status.Status.{Status}
 use Rattle.job_files.specs.declared.status.Status.TheVariants.{Done, Limit}
 use Rattle.job_files.specs.Lines.{limit_label}
 
--- what is seen: a scene, the views of a path with their layers, how much a view may have, the palette, and
--- how large a zone has to be
+-- what is seen: a scene, the views of a path with their layers, how much a view may have, and the palette
 pub record ViewsValue : Type 0 where
   pub scene : Scene
   pub views : List SeenView
   pub limits : Limits
   pub palette : List ℕ
-  pub sizes : ZoneSizes
 
 abbrev pub limits_of_settings : Settings → Limits
 limits_of_settings settings = record { planes = settings.planes; openings = settings.openings }
@@ -48,14 +40,7 @@ views_of bytes settings loaded = record {
   views = seen_views loaded;
   limits = limits_of_settings settings;
   palette = loaded.scene.base.palette;
-  sizes = loaded_sizes loaded;
 }
-
--- the views of a job, or the first step that stops
-abbrev pub views_verdict : LevelJobValue → List (List ℕ) → List File → Result ViewsValue (Stop Refusal)
-views_verdict level wads files =
-    and_then (load_in level wads files) (λ loaded.
-    Ok (views_of (wad_bytes wads files loaded.files.lumps) level.settings loaded))
 
 -- the first count of view number k that passes its limit, if any
 unfoldable pub over_at : ViewsValue → ℕ → Option OverLimit

@@ -6,8 +6,8 @@ ghost use Rattle.frame_writer.specs.declared.TheConstants.{PALETTE_BYTES};
 ghost use Rattle.outside.specs.Sink.{Writes};
 ghost use Rattle.std.specs.Prelude.{◌≡◌, length, IfOk};
 
-use command_line::Format;
 use frame_writer::{put_index, put_ppm};
+use job_rules::Format;
 use outside::{Failed, Sink};
 use pixel_strips::Frame;
 use pixel_trace::{TraceFrame, put_trace};

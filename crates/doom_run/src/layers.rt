@@ -5,7 +5,7 @@
 ghost use Rattle.art_rules.specs.Books.{book_lumps};
 ghost use Rattle.csv_tables.specs.declared.weapons.TheConstants.{MAX_WEAPONS};
 ghost use Rattle.doom_run.specs.Drawn.{DrawsLayered, DrawsLayers};
-ghost use Rattle.doom_run.specs.Layers.{layer_of, layers_from, light_at};
+ghost use Rattle.doom_run.specs.Layers.{layer_of, layers_from, layer_light};
 ghost use Rattle.frame_core.specs.Ends.{EndsOver, EndsWithin};
 ghost use Rattle.frame_core.specs.Views.{CanDrawView};
 ghost use Rattle.level_audit.specs.Weapons.{AreThere};
@@ -73,9 +73,9 @@ pub fn draw_layered<S: Shelf, C: Canvas>(
 }
 
 // The light of the sector where the viewpoint stands.
-fn light_at(scene: &SoundScene, eye: Eye) -> i16
+fn layer_light(scene: &SoundScene, eye: Eye) -> i16
     requires { length scene.now.scene.faces.flats ≡ length scene.now.scene.base.level.sectors }
-    ensures { result ≡ light_at scene.now.scene eye }
+    ensures { result ≡ layer_light scene.now.scene eye }
 {
     let sector = scene.sector_at(eye.x, eye.y);
     scene.surfaces()[sector as usize].light
@@ -119,7 +119,7 @@ fn draw_layers<S: Shelf, C: Canvas>(
         return Ok(());
     };
     let view = View::new(&loaded.files.tables, eye);
-    let light = light_at(&loaded.scene, eye);
+    let light = layer_light(&loaded.scene, eye);
     let scene = LayerScene {
         view: &view,
         book,

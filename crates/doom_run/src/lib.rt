@@ -1,19 +1,21 @@
 //! A run of the program, from the words of its command line to its status.
 //!
-//! A run has a command, which its words give (`command_line`). Each job has two halves:
-//! `prepare_..` reads and checks all that it needs and takes all memory, `deliver_..` writes. So
-//! nothing is written before the last step that can refuse has passed. `render`, `trace` and `trim`
-//! alone read on while they write: each view goes out as it is drawn, each lump as it is read. The
-//! jobs `flat` and `make`, the statuses and their lines are in `job_files`.
+//! A run has a command, which its words give (`command_line`). What each command determines is said
+//! once, in one table (`specs/Jobs`). A job over a level loads its scene, and then does with it
+//! what its task says. All memory is taken, and all that can be refused is refused, before the
+//! first byte is written: `render`, `trace` and `trim` alone read on while they write, each view as
+//! it is drawn, each lump as it is copied. The jobs `flat` and `make`, the statuses and their lines
+//! are in `job_files`.
 //!
-//! Rules: specs, Words (whether the words ask for files), Audits (how large a zone has to be for a
-//! level), Views (the frames and the counts of a path, and the first view over a limit), Exercises
-//! (the made files, rendered), Trims (the trimmed file), Steps (where a run stops), Verdict (what a
-//! run determines, and its output), Alike (what a trimmed file is for), Ends (what a status says of
-//! a run), Fulls (when a zone is full), Leasts (the smallest zone in which a run ends), Takes (how
-//! many bytes are read). Proved: what `run` writes, each status and its cause, the line for each
-//! status, and that a trimmed file renders as its WADs do. Tested only: that memory is found. The
-//! original: none; `D_DoomMain`, d_main.c, stands in its place there.
+//! Rules: specs, Jobs (the table of jobs), Verdict (what a run determines), Performs (what a status
+//! says of a run), Ends (what was written by then), Fulls (when a zone is full), Leasts (the
+//! smallest zone in which a run ends), Takes (how many bytes are read), Words (what the words ask
+//! for), Steps (where a run stops), Views (the frames and the counts of a path, and the first view
+//! over a limit), Layers (weapons), Exercises (the made files, rendered), Trims (the parts of a
+//! trimmed file), Alike (what a trimmed file is for). Proved: what `run` writes, each status and
+//! its cause, the line for each status, and that a trimmed file renders as its WADs do. Tested
+//! only: that memory is found. The original: none; `D_DoomMain`, d_main.c, stands in its place
+//! there.
 #![tactic(auto)]
 
 mod audit;
@@ -22,6 +24,7 @@ mod exercise;
 #[cfg(test)]
 mod hostile_tests;
 mod layers;
+mod level;
 mod limits;
 mod render;
 #[cfg(test)]
@@ -30,7 +33,6 @@ mod top;
 mod trim;
 #[cfg(test)]
 mod trim_tests;
-mod view_jobs;
 #[cfg(test)]
 mod view_tests;
 #[cfg(test)]

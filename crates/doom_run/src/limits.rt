@@ -1,18 +1,27 @@
 // The job `limits`: the counts of the views of a path.
 ghost use Rattle.std.specs.Prelude.{◌≡◌, ◌<◌, ℕ, List, length, slice_get};
 ghost use Rattle.outside.specs.Causes.{FaultsRose};
+ghost use Rattle.outside.specs.Shelf.{ShelfView};
 ghost use Rattle.outside.specs.Sink.{Writes};
 ghost use Rattle.frame_core.specs.Views.{CanCount};
+ghost use Rattle.job_rules.specs.LevelJobs.{level_job_value};
+ghost use Rattle.job_rules.specs.Ranges.{AreSettings};
+ghost use Rattle.job_rules.specs.declared.command.LevelTask.TheVariants.{Limits};
+ghost use Rattle.level_audit.specs.scene_load.Calls.{IsLoadedScene};
 ghost use Rattle.doom_run.specs.Ends.{DeliversAt};
+ghost use Rattle.doom_run.specs.Jobs.{counted_views, delivery_of};
+ghost use Rattle.doom_run.specs.Performs.{Delivers};
 ghost use Rattle.doom_run.specs.Renders.{ready_views};
-ghost use Rattle.doom_run.specs.Verdict.{counted};
 ghost use Rattle.doom_run.specs.Views.{counts_line, view_line_at, over_line};
 
-use crate::render::{ReadyViews, eye_of};
+use crate::render::{ReadyViews, eye_at, prepare_views, view_count};
 use frame_core::{Counts, OverLimit, count_view};
 use job_files::{Status, put_limit_count};
+use job_rules::LevelJob;
+use level_audit::LoadedScene;
 use outside::{Failed, Sink};
 use refusals::put_labelled;
+use std::alloc::Global;
 
 // Appends the line of a view's counts.
 fn put_counts<K: Sink>(out: &mut K, view: u64, counts: &Counts) -> Result<(), Failed>
@@ -39,7 +48,7 @@ fn put_over<K: Sink>(out: &mut K, view: u64, over: &OverLimit) -> Result<(), Fai
 }
 
 // Appends the line of view number `number`.
-fn put_view<K: Sink>(ready: &mut ReadyViews, number: usize, out: &mut K) -> Result<(), Failed>
+fn put_view<K: Sink>(ready: &mut ReadyViews, number: u32, out: &mut K) -> Result<(), Failed>
     requires number { number < length ready.old.loaded.files.path }
     requires scene { CanCount ready.old.loaded.scene.scene }
     ensures writes { (bytes : ℕ → List ℕ) → Writes (K.written out.old) (K.written out.new)
@@ -49,7 +58,7 @@ fn put_view<K: Sink>(ready: &mut ReadyViews, number: usize, out: &mut K) -> Resu
     ensures limits { ready.new.shop.limits ≡ ready.old.shop.limits }
 {
     let loaded = &ready.loaded;
-    let eye = eye_of(&loaded.files.path.views()[number]);
+    let eye = eye_at(&loaded.files.path, number);
     match count_view(&loaded.scene, &loaded.files.tables, &mut ready.shop, eye) {
         Ok(counts) => put_counts(out, number as u64, &counts),
         Err(over) => put_over(out, number as u64, &over),
@@ -58,14 +67,14 @@ fn put_view<K: Sink>(ready: &mut ReadyViews, number: usize, out: &mut K) -> Resu
 
 // Writes the line of each view; a view over a limit has its own, and the next comes after it. Takes
 // no memory.
-pub fn deliver_limits<K: Sink>(ready: &mut ReadyViews, out: &mut K) -> Status
+fn put_views<K: Sink>(ready: &mut ReadyViews, out: &mut K) -> Status
     requires { CanCount ready.old.loaded.scene.scene }
-    ensures ends { (bytes : ℕ → List ℕ) → DeliversAt (counted (ready_views bytes ready.old))
+    ensures ends { (bytes : ℕ → List ℕ) → DeliversAt (counted_views (ready_views bytes ready.old))
         (K.written out.old) (K.written out.new) result }
     ensures write_fault { result ≡ Status.WriteFault →
         FaultsRose (K.faults out.old) (K.faults out.new) }
 {
-    let count = ready.loaded.files.path.views().len();
+    let count = view_count(&ready.loaded.files.path);
     for number in 0..count {
         match put_view(ready, number, out) {
             Ok(()) => {}
@@ -73,4 +82,23 @@ pub fn deliver_limits<K: Sink>(ready: &mut ReadyViews, out: &mut K) -> Status
         }
     }
     Status::Done
+}
+
+// The job `limits` over a level that is loaded.
+pub fn perform_limits<K: Sink>(
+    alloc: Global,
+    level: &LevelJob<'_>,
+    loaded: LoadedScene,
+    out: &mut K,
+) -> Status
+    requires settings { AreSettings level.now.settings }
+    requires loaded { IsLoadedScene (level_job_value level.now) loaded }
+    ensures { (view : ShelfView) → Delivers (level_job_value level.now)
+        (delivery_of Limits (level_job_value level.now)) view view loaded
+        (K.written out.old) (K.written out.new) (K.faults out.old) (K.faults out.new) result }
+{
+    match prepare_views(alloc, &level.settings, loaded) {
+        Ok(mut ready) => put_views(&mut ready, out),
+        Err(_) => Status::OutOfMemory,
+    }
 }

@@ -1,42 +1,30 @@
 // The job `render`: the frames of the views of a path, each written as it is drawn.
-ghost use Rattle.command_line.specs.Choices.{AreSettings};
-ghost use Rattle.command_line.specs.LevelJobs.{level_job_value};
 ghost use Rattle.doom_run.specs.Ends.{IsEnd, RendersAt};
 ghost use Rattle.doom_run.specs.Frames.{HasView, IsDrawnAt, KeepsReady, ViewEnds, form_of, status_of_view};
-ghost use Rattle.doom_run.specs.Renders.{FitDue, FitsAt, HasReadyAsked, IsDelivered, IsFullView, IsLayerLump, IsReady, ready_views};
-ghost use Rattle.doom_run.specs.Takes.{InOrderAfter, LoadsOnce};
-ghost use Rattle.doom_run.specs.Verdict.{rendered};
+ghost use Rattle.doom_run.specs.Jobs.{drawing, rendered};
+ghost use Rattle.doom_run.specs.Performs.{Delivers};
+ghost use Rattle.doom_run.specs.Renders.{DrawsReady, FitDue, FitsAt, HasLayers, HasReadyAsked, HoldsReady, IsDelivered, IsDrawable, IsFullView, TellsLimit, ready_bytes, ready_views};
+ghost use Rattle.doom_run.specs.Takes.{InOrderAfter};
 ghost use Rattle.doom_run.specs.Layers.{eye_of};
-ghost use Rattle.doom_run.specs.Views.{over_at};
-ghost use Rattle.frame_core.specs.Faults.{limit_of_view, view_fault};
-ghost use Rattle.frame_core.specs.Views.{CanDrawView, IsViewLump, IsViewTexture};
-ghost use Rattle.job_files.specs.Files.{files_named};
-ghost use Rattle.level_audit.specs.Weapons.{AreThere};
-ghost use Rattle.level_audit.specs.scene_load.Fulls.{IsBaseWithin, IsFullLoad};
-ghost use Rattle.level_audit.specs.scene_load.Loads.{LoadedValue, load_in, loaded_sizes, loaded_value};
-ghost use Rattle.lump_cache.specs.Calls.{IfFull};
-ghost use Rattle.lump_rules.specs.Contents.{lump_bytes};
-ghost use Rattle.lump_rules.specs.Lookups.{lump_at};
+ghost use Rattle.doom_run.specs.Views.{limits_of_settings, over_at};
+ghost use Rattle.job_rules.specs.LevelJobs.{level_job_value};
+ghost use Rattle.job_rules.specs.Ranges.{AreSettings};
+ghost use Rattle.level_audit.specs.scene_load.Calls.{IsLoadedScene};
 ghost use Rattle.outside.specs.Causes.{FaultsRose};
-ghost use Rattle.outside.specs.Faults.{HasCauses, itself};
-ghost use Rattle.outside.specs.Shelf.{File, IsLaterShelf, Holds};
-ghost use Rattle.outside.specs.Sink.{Writes};
-ghost use Rattle.outside.specs.Stops.{ResultIsOrAbsent};
-ghost use Rattle.sound_scene.specs.Sound.{textures_view};
-ghost use Rattle.std.specs.Prelude.{◌≡◌, ◌<◌, ◌≤◌, ◌⊎◌, ℕ, List, length, map, option_map, slice_get, None, Some, Ok, IfErr, IfOk, IfSome, MatchResult, OnOk};
-ghost use Rattle.texture_build.specs.Draws.{DrawsWith, HoldsArt};
+ghost use Rattle.outside.specs.Shelf.{IsLaterShelf};
+ghost use Rattle.std.specs.Prelude.{◌≡◌, ◌<◌, ◌≤◌, ℕ, List, length, option_map, slice_get, None, Some, IfOk, IfErr, MatchResult, OnOk};
 ghost use Rattle.zone_rules.specs.Orders.{Item, IsInOrder, KeepsOrder};
 
-use crate::canvas::ViewCanvas;
+use crate::canvas::{ViewCanvas, ViewForm};
 use crate::layers::draw_layered;
-use command_line::LevelJob;
 use csv_tables::{PathRow, PathTable};
 use frame_core::{Limits, ViewFault, Workshop};
-use job_files::{LoadFault, Status};
-use level_audit::{LoadedScene, load_scene};
-use outside::{Fault, Shelf, Sink};
+use job_files::Status;
+use job_rules::{LevelJob, Settings};
+use level_audit::LoadedScene;
+use outside::{Shelf, Sink};
 use pixel_strips::Canvas;
-use std::alloc::Global;
+use std::alloc::{AllocError, Global};
 use view_rules::Eye;
 
 // A scene that is ready to be drawn, with all the memory of drawing.
@@ -46,52 +34,23 @@ pub struct ReadyViews {
     pub shop: Workshop,
 }
 
-// The scene of a job over a level in these WADs, and the memory to draw it. Takes all memory of the
-// job.
-pub fn prepare_views<S: Shelf>(
+// A loaded scene with the memory to draw it, which is all that a job then takes.
+pub fn prepare_views(
     alloc: Global,
-    level: &LevelJob<'_>,
-    wads: &[&str],
-    shelf: &mut S,
-) -> Result<ReadyViews, LoadFault>
-    requires { AreSettings level.now.settings }
-    ensures answers { (files : List File) → Holds (S.view shelf.old) files →
-        ResultIsOrAbsent itself (S.view shelf.old).steady (λ ready. loaded_value ready.loaded)
-        (load_in (level_job_value level.now) (map (λ wad. wad.now) wads.now) files) result }
-    ensures ready { IfOk result (IsReady (level_job_value level.now)) }
-    ensures art { (files : List File) (contents : List (List ℕ)) →
-        Holds (S.view shelf.old) files →
-        files_named (map (λ wad. wad.now) wads.now) files ≡ Some contents →
-        IfOk result (λ ready. HoldsArt (S.view shelf.new) ready.loaded.files.dir
-        (textures_view ready.loaded.scene.scene) contents
-        ready.loaded.scene.scene.base.colormap
-        (lump_at ready.loaded.files.dir.lumps ready.loaded.scene.scene.base.colormap).size
-        ready.loaded.cache) }
-    ensures full { (files : List File) → Holds (S.view shelf.old) files →
-        IfErr result (λ fault. IfFull (itself fault)
-        (IsFullLoad (level_job_value level.now) (map (λ wad. wad.now) wads.now) files)) }
-    ensures fits { IfOk result (λ ready. IsBaseWithin ready.loaded.files.dir.lumps
-        (level_job_value level.now) ready.loaded.scene.scene.base.colormap) }
-    ensures order { (files : List File) (contents : List (List ℕ)) (expected : LoadedValue) →
-        Holds (S.view shelf.old) files →
-        files_named (map (λ wad. wad.now) wads.now) files ≡ Some contents →
-        load_in (level_job_value level.now) (map (λ wad. wad.now) wads.now) files ≡ Ok expected →
-        (loaded_sizes expected).roomy ≤ level.now.settings.zone →
-        LoadsOnce (λ ready. ready.loaded.cache) (level_job_value level.now)
-        (map (λ wad. wad.now) wads.now) files expected
-        (S.view shelf.old).taken (S.view shelf.new).taken result }
-    ensures follows { IsLaterShelf (S.view shelf.old) (S.view shelf.new) }
-    ensures causes { HasCauses itself
-        (S.view shelf.old).faults (S.view shelf.new).faults result }
+    settings: &Settings,
+    loaded: LoadedScene,
+) -> Result<ReadyViews, AllocError>
+    requires { AreSettings settings.now }
+    ensures loaded { IfOk result (λ ready. ready.loaded ≡ loaded) }
+    ensures limits { IfOk result (λ ready. ready.shop.limits ≡ limits_of_settings settings.now) }
 {
-    let loaded = load_scene(alloc, level, wads, shelf)?;
     let limits = Limits {
-        planes: level.settings.planes,
-        openings: level.settings.openings,
+        planes: settings.planes,
+        openings: settings.openings,
     };
     match Workshop::new(alloc, limits) {
         Ok(shop) => Ok(ReadyViews { loaded, shop }),
-        Err(_) => Err(Fault::OutOfMemory),
+        Err(fault) => Err(fault),
     }
 }
 
@@ -142,34 +101,18 @@ fn draw_on<S: Shelf, C: Canvas>(
     shelf: &mut S,
     canvas: &mut C,
 ) -> Result<(), ViewFault>
-    requires drawable { CanDrawView ready.old.loaded.files.dir.lumps
-        ready.old.loaded.scene.scene ready.old.loaded.cache }
-    requires layers { AreThere ready.old.loaded.files.dir.lumps ready.old.loaded.weapons }
+    requires drawable { IsDrawable ready.old }
+    requires layers { HasLayers ready.old }
     requires there { number < length ready.old.loaded.files.path }
-    ensures seen { (contents : List (List ℕ)) (count : ℕ) →
-        HoldsArt (S.view shelf.old) ready.old.loaded.files.dir
-        (textures_view ready.old.loaded.scene.scene) contents
-        ready.old.loaded.scene.scene.base.colormap count ready.old.loaded.cache →
-        OnOk result (HasView C.mark (ready_views
-        (lump_bytes contents ready.old.loaded.files.dir.lumps) ready.old) number
-        (C.view canvas.old) (C.view canvas.new)) }
-    ensures within { (bytes : ℕ → List ℕ) →
-        OnOk result (over_at (ready_views bytes ready.old) number ≡ None) }
-    ensures over { (bytes : ℕ → List ℕ) → IfErr result (λ fault.
-        IfSome (limit_of_view fault) (λ over.
-        over_at (ready_views bytes ready.old) number ≡ Some over)) }
-    ensures fits { (contents : List (List ℕ)) (count : ℕ) →
-        HoldsArt (S.view shelf.old) ready.old.loaded.files.dir
-        (textures_view ready.old.loaded.scene.scene) contents
-        ready.old.loaded.scene.scene.base.colormap count ready.old.loaded.cache →
-        OnOk result (FitsAt (lump_bytes contents ready.old.loaded.files.dir.lumps) count
-        ready.old number) }
-    ensures draws { DrawsWith view_fault (IsViewTexture ready.old.loaded.scene.scene)
-        (λ lump. IsViewLump ready.old.loaded.files.dir.lumps ready.old.loaded.scene.scene lump
-        ⊎ IsLayerLump ready.old.loaded lump)
-        (S.view shelf.old) (S.view shelf.new) ready.old.loaded.files.dir
-        (textures_view ready.old.loaded.scene.scene) ready.old.loaded.cache
-        ready.new.loaded.cache result }
+    ensures seen { (contents : List (List ℕ)) (count : ℕ) → HoldsReady (S.view shelf.old) ready.old
+        contents count → OnOk result (HasView C.mark (ready_views (ready_bytes contents ready.old)
+        ready.old) number (C.view canvas.old) (C.view canvas.new)) }
+    ensures within { (bytes : ℕ → List ℕ) → OnOk result (over_at (ready_views bytes ready.old)
+        number ≡ None) }
+    ensures over { (bytes : ℕ → List ℕ) → TellsLimit (ready_views bytes ready.old) number result }
+    ensures fits { (contents : List (List ℕ)) (count : ℕ) → HoldsReady (S.view shelf.old) ready.old
+        contents count → OnOk result (FitsAt (ready_bytes contents ready.old) count ready.old number) }
+    ensures draws { DrawsReady (S.view shelf.old) (S.view shelf.new) ready.old ready.new result }
     ensures keeps { KeepsReady (S.view shelf.old) (S.view shelf.new) ready.old ready.new }
 {
     let loaded = &mut ready.loaded;
@@ -184,33 +127,18 @@ fn draw_at<S: Shelf>(
     shelf: &mut S,
     canvas: &mut ViewCanvas,
 ) -> Result<(), ViewFault>
-    requires drawable { CanDrawView ready.old.loaded.files.dir.lumps
-        ready.old.loaded.scene.scene ready.old.loaded.cache }
-    requires layers { AreThere ready.old.loaded.files.dir.lumps ready.old.loaded.weapons }
+    requires drawable { IsDrawable ready.old }
+    requires layers { HasLayers ready.old }
     requires there { number < length ready.old.loaded.files.path }
-    ensures drawn { (contents : List (List ℕ)) (count : ℕ) →
-        HoldsArt (S.view shelf.old) ready.old.loaded.files.dir
-        (textures_view ready.old.loaded.scene.scene) contents
-        ready.old.loaded.scene.scene.base.colormap count ready.old.loaded.cache →
-        OnOk result (IsDrawnAt (ready_views
-        (lump_bytes contents ready.old.loaded.files.dir.lumps) ready.old) number canvas.new) }
-    ensures within { (bytes : ℕ → List ℕ) →
-        OnOk result (over_at (ready_views bytes ready.old) number ≡ None) }
-    ensures over { (bytes : ℕ → List ℕ) → IfErr result (λ fault.
-        IfSome (limit_of_view fault) (λ over.
-        over_at (ready_views bytes ready.old) number ≡ Some over)) }
-    ensures fits { (contents : List (List ℕ)) (count : ℕ) →
-        HoldsArt (S.view shelf.old) ready.old.loaded.files.dir
-        (textures_view ready.old.loaded.scene.scene) contents
-        ready.old.loaded.scene.scene.base.colormap count ready.old.loaded.cache →
-        OnOk result (FitsAt (lump_bytes contents ready.old.loaded.files.dir.lumps) count
-        ready.old number) }
-    ensures draws { DrawsWith view_fault (IsViewTexture ready.old.loaded.scene.scene)
-        (λ lump. IsViewLump ready.old.loaded.files.dir.lumps ready.old.loaded.scene.scene lump
-        ⊎ IsLayerLump ready.old.loaded lump)
-        (S.view shelf.old) (S.view shelf.new) ready.old.loaded.files.dir
-        (textures_view ready.old.loaded.scene.scene) ready.old.loaded.cache
-        ready.new.loaded.cache result }
+    ensures drawn { (contents : List (List ℕ)) (count : ℕ) → HoldsReady (S.view shelf.old) ready.old
+        contents count → OnOk result (IsDrawnAt (ready_views (ready_bytes contents ready.old)
+        ready.old) number canvas.new) }
+    ensures within { (bytes : ℕ → List ℕ) → OnOk result (over_at (ready_views bytes ready.old)
+        number ≡ None) }
+    ensures over { (bytes : ℕ → List ℕ) → TellsLimit (ready_views bytes ready.old) number result }
+    ensures fits { (contents : List (List ℕ)) (count : ℕ) → HoldsReady (S.view shelf.old) ready.old
+        contents count → OnOk result (FitsAt (ready_bytes contents ready.old) count ready.old number) }
+    ensures draws { DrawsReady (S.view shelf.old) (S.view shelf.new) ready.old ready.new result }
     ensures keeps { KeepsReady (S.view shelf.old) (S.view shelf.new) ready.old ready.new }
     ensures form { form_of canvas.new ≡ form_of canvas.old }
 {
@@ -238,35 +166,26 @@ fn render_view<S: Shelf, K: Sink>(
     shelf: &mut S,
     out: &mut K,
 ) -> Result<(), Status>
-    requires drawable { CanDrawView ready.old.loaded.files.dir.lumps
-        ready.old.loaded.scene.scene ready.old.loaded.cache }
-    requires layers { AreThere ready.old.loaded.files.dir.lumps ready.old.loaded.weapons }
+    requires drawable { IsDrawable ready.old }
+    requires layers { HasLayers ready.old }
     requires there { number < length ready.old.loaded.files.path }
-    ensures ends { (contents : List (List ℕ)) (count : ℕ) →
-        HoldsArt (S.view shelf.old) ready.old.loaded.files.dir
-        (textures_view ready.old.loaded.scene.scene) contents
-        ready.old.loaded.scene.scene.base.colormap count ready.old.loaded.cache →
-        ViewEnds (S.view shelf.old).steady (form_of canvas.old)
-        (ready_views (lump_bytes contents ready.old.loaded.files.dir.lumps) ready.old) number
-        (K.written out.old) (K.written out.new) result }
-    ensures fits { (contents : List (List ℕ)) (count : ℕ) →
-        HoldsArt (S.view shelf.old) ready.old.loaded.files.dir
-        (textures_view ready.old.loaded.scene.scene) contents
-        ready.old.loaded.scene.scene.base.colormap count ready.old.loaded.cache →
-        OnOk result (FitsAt (lump_bytes contents ready.old.loaded.files.dir.lumps) count
-        ready.old number) }
-    ensures order { (items : List Item) → HasReadyAsked items ready.old →
-        IsInOrder items ready.old.loaded.cache →
-        MatchResult result (λ _. KeepsOrder items ready.old.loaded.cache ready.new.loaded.cache
-        (S.view shelf.old).taken (S.view shelf.new).taken) (λ status. InOrderAfter status
-        (KeepsOrder items ready.old.loaded.cache ready.new.loaded.cache
-        (S.view shelf.old).taken (S.view shelf.new).taken)) }
-    ensures read_fault { IfErr result (λ status. status ≡ Status.ReadFault →
-        FaultsRose (S.view shelf.old).faults (S.view shelf.new).faults) }
-    ensures write_fault { IfErr result (λ status. status ≡ Status.WriteFault →
-        FaultsRose (K.faults out.old) (K.faults out.new)) }
-    ensures zone_full { IfErr result (λ status. (wanted widest : ℕ) →
-        status ≡ Status.ZoneFull wanted widest → IsFullView ready.old wanted widest) }
+    ensures ends { (contents : List (List ℕ)) (count : ℕ) → HoldsReady (S.view shelf.old) ready.old
+        contents count → ViewEnds (S.view shelf.old).steady (form_of canvas.old) (ready_views
+        (ready_bytes contents ready.old) ready.old) number (K.written out.old) (K.written out.new)
+        result }
+    ensures fits { (contents : List (List ℕ)) (count : ℕ) → HoldsReady (S.view shelf.old) ready.old
+        contents count → OnOk result (FitsAt (ready_bytes contents ready.old) count ready.old number) }
+    ensures order { (items : List Item) → HasReadyAsked items ready.old → IsInOrder items
+        ready.old.loaded.cache → MatchResult result (λ _. KeepsOrder items ready.old.loaded.cache
+        ready.new.loaded.cache (S.view shelf.old).taken (S.view shelf.new).taken) (λ status.
+        InOrderAfter status (KeepsOrder items ready.old.loaded.cache ready.new.loaded.cache (S.view
+        shelf.old).taken (S.view shelf.new).taken)) }
+    ensures read_fault { IfErr result (λ status. status ≡ Status.ReadFault → FaultsRose (S.view
+        shelf.old).faults (S.view shelf.new).faults) }
+    ensures write_fault { IfErr result (λ status. status ≡ Status.WriteFault → FaultsRose (K.faults
+        out.old) (K.faults out.new)) }
+    ensures zone_full { IfErr result (λ status. (wanted widest : ℕ) → status ≡ Status.ZoneFull
+        wanted widest → IsFullView ready.old wanted widest) }
     ensures answers { IfErr result IsDelivered }
     ensures keeps { KeepsReady (S.view shelf.old) (S.view shelf.new) ready.old ready.new }
     ensures later { K.faults out.old ≤ K.faults out.new }
@@ -290,32 +209,23 @@ pub fn deliver_render<S: Shelf, K: Sink>(
     shelf: &mut S,
     out: &mut K,
 ) -> Status
-    requires drawable { CanDrawView ready.old.loaded.files.dir.lumps ready.old.loaded.scene.scene
-        ready.old.loaded.cache }
-    requires layers { AreThere ready.old.loaded.files.dir.lumps ready.old.loaded.weapons }
-    ensures ends { (contents : List (List ℕ)) (count : ℕ) →
-        HoldsArt (S.view shelf.old) ready.old.loaded.files.dir
-        (textures_view ready.old.loaded.scene.scene) contents
-        ready.old.loaded.scene.scene.base.colormap count ready.old.loaded.cache →
-        RendersAt (S.view shelf.old).steady (rendered (form_of canvas.old) (ready_views
-        (lump_bytes contents ready.old.loaded.files.dir.lumps) ready.old))
-        (K.written out.old) (K.written out.new) result }
-    ensures fits { (contents : List (List ℕ)) (count : ℕ) →
-        HoldsArt (S.view shelf.old) ready.old.loaded.files.dir
-        (textures_view ready.old.loaded.scene.scene) contents
-        ready.old.loaded.scene.scene.base.colormap count ready.old.loaded.cache →
-        IsEnd result →
-        FitDue (lump_bytes contents ready.old.loaded.files.dir.lumps) count ready.old }
-    ensures order { (items : List Item) → HasReadyAsked items ready.old →
-        IsInOrder items ready.old.loaded.cache →
-        InOrderAfter result (KeepsOrder items ready.old.loaded.cache ready.new.loaded.cache
-        (S.view shelf.old).taken (S.view shelf.new).taken) }
-    ensures read_fault { result ≡ Status.ReadFault →
-        FaultsRose (S.view shelf.old).faults (S.view shelf.new).faults }
-    ensures write_fault { result ≡ Status.WriteFault →
-        FaultsRose (K.faults out.old) (K.faults out.new) }
-    ensures zone_full { (wanted widest : ℕ) → result ≡ Status.ZoneFull wanted widest →
-        IsFullView ready.old wanted widest }
+    requires drawable { IsDrawable ready.old }
+    requires layers { HasLayers ready.old }
+    ensures ends { (contents : List (List ℕ)) (count : ℕ) → HoldsReady (S.view shelf.old) ready.old
+        contents count → RendersAt (S.view shelf.old).steady (rendered (form_of canvas.old)
+        (ready_views (ready_bytes contents ready.old) ready.old)) (K.written out.old) (K.written
+        out.new) result }
+    ensures fits { (contents : List (List ℕ)) (count : ℕ) → HoldsReady (S.view shelf.old) ready.old
+        contents count → IsEnd result → FitDue (ready_bytes contents ready.old) count ready.old }
+    ensures order { (items : List Item) → HasReadyAsked items ready.old → IsInOrder items
+        ready.old.loaded.cache → InOrderAfter result (KeepsOrder items ready.old.loaded.cache
+        ready.new.loaded.cache (S.view shelf.old).taken (S.view shelf.new).taken) }
+    ensures read_fault { result ≡ Status.ReadFault → FaultsRose (S.view shelf.old).faults (S.view
+        shelf.new).faults }
+    ensures write_fault { result ≡ Status.WriteFault → FaultsRose (K.faults out.old) (K.faults
+        out.new) }
+    ensures zone_full { (wanted widest : ℕ) → result ≡ Status.ZoneFull wanted widest → IsFullView
+        ready.old wanted widest }
     ensures answers { IsDelivered result }
     ensures loaded { ready.new.loaded.files ≡ ready.old.loaded.files }
     ensures scene { ready.new.loaded.scene ≡ ready.old.loaded.scene }
@@ -329,4 +239,29 @@ pub fn deliver_render<S: Shelf, K: Sink>(
         }
     }
     Status::Done
+}
+
+// The jobs `render` and `trace` over a level that is loaded: the frames or the traces of the views
+// of a path.
+pub fn perform_views<S: Shelf, K: Sink>(
+    alloc: Global,
+    form: ViewForm,
+    level: &LevelJob<'_>,
+    loaded: LoadedScene,
+    shelf: &mut S,
+    out: &mut K,
+) -> Status
+    requires settings { AreSettings level.now.settings }
+    requires loaded { IsLoadedScene (level_job_value level.now) loaded }
+    ensures { Delivers (level_job_value level.now) (drawing (level_job_value level.now) (rendered
+        form)) (S.view shelf.old) (S.view shelf.new) loaded (K.written out.old) (K.written out.new)
+        (K.faults out.old) (K.faults out.new) result }
+{
+    match prepare_views(alloc, &level.settings, loaded) {
+        Ok(mut ready) => match ViewCanvas::new(alloc, form) {
+            Ok(mut canvas) => deliver_render(&mut ready, &mut canvas, shelf, out),
+            Err(_) => Status::OutOfMemory,
+        },
+        Err(_) => Status::OutOfMemory,
+    }
 }

@@ -1,29 +1,30 @@
 // A run, from its words to its status.
-ghost use Rattle.std.specs.Prelude.{◌≡◌, ◌≤◌, ◌⊎◌, ℕ, Bool, false, List, [], map, Some, Ok, Err, IsTrue, IfSome};
+ghost use Rattle.std.specs.Prelude.{◌≡◌, ◌≤◌, ◌⊎◌, ℕ, false, List, [], map, Some, Ok, Err, IsTrue, IfSome};
 ghost use Rattle.outside.specs.Causes.{FaultsRose};
-ghost use Rattle.outside.specs.Shelf.{File, Holds};
+ghost use Rattle.outside.specs.Shelf.{File, Holds, ShelfView};
 ghost use Rattle.outside.specs.Sink.{Grew, GrewByPrefix};
-ghost use Rattle.command_line.specs.Commands.{IsCounted, IsCountedMake, command_of, command_value, flat, level_job, make};
-ghost use Rattle.command_line.specs.LevelJobs.{IsLevelJob, LevelJobValue, level_job_value};
-ghost use Rattle.command_line.specs.declared.command.LevelTask.TheVariants.{Audit, Trim};
-ghost use Rattle.level_audit.specs.scene_load.Fulls.{IsFullLoad};
+ghost use Rattle.command_line.specs.Commands.{command_of};
+ghost use Rattle.job_rules.specs.Commands.{IsCounted, IsCountedMake, command_value, flat, level_job, make};
+ghost use Rattle.job_rules.specs.LevelJobs.{LevelJobValue};
+ghost use Rattle.job_rules.specs.declared.command.LevelTask.TheVariants.{Trim};
 ghost use Rattle.job_files.specs.Lines.{line_of};
 ghost use Rattle.doom_run.specs.Alike.{RendersAlike};
 ghost use Rattle.doom_run.specs.Ends.{EndsAt, EndsWith, IsEnd, IsReadOrFull, IsUnwritten};
 ghost use Rattle.doom_run.specs.Fulls.{HasRoom, IsFullRun};
-ghost use Rattle.doom_run.specs.Leasts.{command_least, command_zone, level_least};
+ghost use Rattle.doom_run.specs.Jobs.{job_of};
+ghost use Rattle.doom_run.specs.Leasts.{command_least, command_zone};
+ghost use Rattle.doom_run.specs.Performs.{Performs, RunsAs};
 ghost use Rattle.doom_run.specs.Steps.{RunStop, usage, absent, refused};
-ghost use Rattle.doom_run.specs.Takes.{CommandTakes, TakesOnce};
-ghost use Rattle.doom_run.specs.Verdict.{Accepted, job_verdict, level_verdict, verdict, end_of, output};
-ghost use Rattle.doom_run.specs.Words.{WhereAsked, ask_for_files, asks_for_files, has_zone, have_zone, read_on, reads_on, texts};
+ghost use Rattle.doom_run.specs.Takes.{CommandTakes};
+ghost use Rattle.doom_run.specs.Verdict.{Accepted, verdict};
+ghost use Rattle.doom_run.specs.Words.{WhereAsked, ask_for_files, have_zone, read_on, texts};
 
 use crate::Refusal;
-use crate::audit::{deliver_audit, prepare_audit};
-use crate::canvas::ViewForm;
-use crate::trim::perform_trim;
-use crate::view_jobs::{perform_exercise, perform_limits, perform_views};
-use command_line::{Command, CommandFault, LevelJob, LevelTask, MakeJob, command_of};
+use crate::exercise::perform_exercise;
+use crate::level::perform_level;
+use command_line::{CommandFault, command_of};
 use job_files::{Status, deliver_flat, deliver_make, prepare_flat, prepare_make, put_note};
+use job_rules::{Command, MakeJob};
 use outside::{Shelf, Sink};
 use std::alloc::Global;
 use wad_dir::Name8;
@@ -55,7 +56,7 @@ pub fn run<S: Shelf, K: Sink, N: Sink>(
     ensures prefix { (files : List File) (accepted : Accepted) →
         WhereAsked (texts words.now) (Holds (S.view shelf.old) files) →
         verdict (texts words.now) files ≡ Ok accepted →
-        GrewByPrefix (K.written out.old) (K.written out.new) (output accepted) }
+        GrewByPrefix (K.written out.old) (K.written out.new) accepted.output }
     ensures unwritten { IsUnwritten result → Grew (K.written out.old) (K.written out.new) [] }
     ensures before { read_on (texts words.now) ≡ false → IsReadOrFull result →
         Grew (K.written out.old) (K.written out.new) [] }
@@ -130,14 +131,14 @@ pub fn run<S: Shelf, K: Sink, N: Sink>(
         WhereAsked (texts words.now)
         (FaultsRose (S.view shelf.old).faults (S.view shelf.new).faults → ⊥) →
         (FaultsRose (K.faults out.old) (K.faults out.new) → ⊥) →
-        (result ≡ end_of accepted) ⊎ (result ≡ Status.OutOfMemory) }
+        (result ≡ accepted.end) ⊎ (result ≡ Status.OutOfMemory) }
     ensures complete_steady { (files : List File) (accepted : Accepted) →
         WhereAsked (texts words.now) (Holds (S.view shelf.old) files) →
         verdict (texts words.now) files ≡ Ok accepted →
         HasRoom (texts words.now) accepted →
         WhereAsked (texts words.now) (IsTrue (S.view shelf.old).steady) →
         (FaultsRose (K.faults out.old) (K.faults out.new) → ⊥) →
-        (result ≡ end_of accepted) ⊎ (result ≡ Status.OutOfMemory) }
+        (result ≡ accepted.end) ⊎ (result ≡ Status.OutOfMemory) }
 
     // A trimmed file renders as the WADs do that it was made of.
     ensures trimmed { (files : List File) (level : LevelJobValue) (wads : List (List ℕ))
@@ -145,7 +146,7 @@ pub fn run<S: Shelf, K: Sink, N: Sink>(
         WhereAsked (texts words.now) (Holds (S.view shelf.old) files) →
         command_of (texts words.now) ≡ Some (level_job Trim level wads) →
         verdict (texts words.now) files ≡ Ok accepted →
-        RendersAlike level wads files (output accepted) }
+        RendersAlike level wads files accepted.output }
 
     // The line of the status is noted, unless the notes fail.
     ensures noted { (FaultsRose (N.faults notes.old) (N.faults notes.new) → ⊥) →
@@ -160,37 +161,8 @@ pub fn run<S: Shelf, K: Sink, N: Sink>(
 
 // The run without its line.
 fn perform<S: Shelf, K: Sink>(alloc: Global, words: &[String], shelf: &mut S, out: &mut K) -> Status
-    ensures ends { (files : List File) →
-        WhereAsked (texts words.now) (Holds (S.view shelf.old) files) →
-        EndsAt (S.view shelf.old).steady (verdict (texts words.now) files)
-        (K.written out.old) (K.written out.new) result }
-    ensures unwritten { IsUnwritten result → Grew (K.written out.old) (K.written out.new) [] }
-    ensures before { read_on (texts words.now) ≡ false → IsReadOrFull result →
-        Grew (K.written out.old) (K.written out.new) [] }
-    ensures usage { (files : List File) → result ≡ Status.Usage →
-        verdict (texts words.now) files ≡ Err usage }
-    ensures wrong_words { (files : List File) → verdict (texts words.now) files ≡ Err usage →
-        (result ≡ Status.Usage) ⊎ (result ≡ Status.OutOfMemory) }
-    ensures read_fault { result ≡ Status.ReadFault →
-        FaultsRose (S.view shelf.old).faults (S.view shelf.new).faults }
-    ensures write_fault { result ≡ Status.WriteFault →
-        FaultsRose (K.faults out.old) (K.faults out.new) }
-    ensures zone_full { (files : List File) (wanted widest : ℕ) →
-        result ≡ Status.ZoneFull wanted widest →
-        WhereAsked (texts words.now) (Holds (S.view shelf.old) files) →
-        IfSome (command_of (texts words.now)) (λ command. IsFullRun command files wanted widest) }
-    ensures zoned { (wanted widest : ℕ) → result ≡ Status.ZoneFull wanted widest →
-        IsTrue (have_zone (texts words.now)) }
-    ensures least { (files : List File) → IsEnd result →
-        WhereAsked (texts words.now) (Holds (S.view shelf.old) files) →
-        IfSome (command_of (texts words.now)) (λ command.
-        command_least command files ≤ command_zone command) }
-    ensures taken { (files : List File) →
-        WhereAsked (texts words.now) (Holds (S.view shelf.old) files) →
-        (FaultsRose (S.view shelf.old).faults (S.view shelf.new).faults → ⊥) →
-        IfSome (command_of (texts words.now)) (λ command. CommandTakes command files
-        (S.view shelf.old).taken (S.view shelf.new).taken) }
-    ensures asked { result ≡ Status.ReadFault → IsTrue (ask_for_files (texts words.now)) }
+    ensures runs { RunsAs (command_of (texts words.now)) (S.view shelf.old) (S.view shelf.new)
+        (K.written out.old) (K.written out.new) (K.faults out.old) (K.faults out.new) result }
     ensures untouched { ask_for_files (texts words.now) ≡ false → shelf.new ≡ shelf.old }
 {
     match command_of(alloc, words) {
@@ -207,36 +179,11 @@ fn perform_job<S: Shelf, K: Sink>(
     out: &mut K,
 ) -> Status
     requires { IsCounted (command_value command.now) }
-    ensures ends { (files : List File) →
-        (IsTrue (asks_for_files (command_value command.now)) → Holds (S.view shelf.old) files) →
-        EndsAt (S.view shelf.old).steady (job_verdict (command_value command.now) files)
-        (K.written out.old) (K.written out.new) result }
-    ensures unwritten { IsUnwritten result → Grew (K.written out.old) (K.written out.new) [] }
-    ensures before { reads_on (command_value command.now) ≡ false → IsReadOrFull result →
-        Grew (K.written out.old) (K.written out.new) [] }
-    ensures not_usage { result ≡ Status.Usage → ⊥ }
-    ensures read_fault { result ≡ Status.ReadFault →
-        FaultsRose (S.view shelf.old).faults (S.view shelf.new).faults }
-    ensures write_fault { result ≡ Status.WriteFault →
-        FaultsRose (K.faults out.old) (K.faults out.new) }
-    ensures zone_full { (files : List File) (wanted widest : ℕ) →
-        result ≡ Status.ZoneFull wanted widest →
-        (IsTrue (asks_for_files (command_value command.now)) → Holds (S.view shelf.old) files) →
-        IsFullRun (command_value command.now) files wanted widest }
-    ensures zoned { (wanted widest : ℕ) → result ≡ Status.ZoneFull wanted widest →
-        IsTrue (has_zone (command_value command.now)) }
-    ensures least { (files : List File) → IsEnd result →
-        (IsTrue (asks_for_files (command_value command.now)) → Holds (S.view shelf.old) files) →
-        command_least (command_value command.now) files
-        ≤ command_zone (command_value command.now) }
-    ensures taken { (files : List File) →
-        (IsTrue (asks_for_files (command_value command.now)) → Holds (S.view shelf.old) files) →
-        (FaultsRose (S.view shelf.old).faults (S.view shelf.new).faults → ⊥) →
-        CommandTakes (command_value command.now) files
-        (S.view shelf.old).taken (S.view shelf.new).taken }
-    ensures asked { result ≡ Status.ReadFault →
-        IsTrue (asks_for_files (command_value command.now)) }
-    ensures untouched { asks_for_files (command_value command.now) ≡ false → shelf.new ≡ shelf.old }
+    ensures performs { Performs (job_of (command_value command.now))
+        (S.view shelf.old) (S.view shelf.new)
+        (K.written out.old) (K.written out.new) (K.faults out.old) (K.faults out.new) result }
+    ensures untouched { (job_of (command_value command.now)).asks ≡ false →
+        shelf.new ≡ shelf.old }
 {
     match command {
         Command::Flat { name, file } => perform_flat(alloc, name, file, shelf, out),
@@ -252,91 +199,6 @@ fn perform_job<S: Shelf, K: Sink>(
     }
 }
 
-fn perform_level<S: Shelf, K: Sink>(
-    alloc: Global,
-    job: LevelTask,
-    level: &LevelJob<'_>,
-    wads: &[&str],
-    shelf: &mut S,
-    out: &mut K,
-) -> Status
-    requires { IsLevelJob (level_job_value level.now) (map (λ wad. wad.now) wads.now) }
-    ensures ends { (files : List File) →
-        Holds (S.view shelf.old) files →
-        EndsAt (S.view shelf.old).steady
-        (level_verdict job (level_job_value level.now) (map (λ wad. wad.now) wads.now) files)
-        (K.written out.old) (K.written out.new) result }
-    ensures unwritten { IsUnwritten result → Grew (K.written out.old) (K.written out.new) [] }
-    ensures before { reads_on (level_job job (level_job_value level.now)
-        (map (λ wad. wad.now) wads.now)) ≡ false →
-        IsReadOrFull result → Grew (K.written out.old) (K.written out.new) [] }
-    ensures not_usage { result ≡ Status.Usage → ⊥ }
-    ensures read_fault { result ≡ Status.ReadFault →
-        FaultsRose (S.view shelf.old).faults (S.view shelf.new).faults }
-    ensures write_fault { result ≡ Status.WriteFault →
-        FaultsRose (K.faults out.old) (K.faults out.new) }
-    ensures zone_full { (files : List File) (wanted widest : ℕ) →
-        result ≡ Status.ZoneFull wanted widest →
-        Holds (S.view shelf.old) files →
-        IsFullRun (level_job job (level_job_value level.now) (map (λ wad. wad.now) wads.now)) files
-        wanted widest }
-    ensures least { (files : List File) → IsEnd result →
-        Holds (S.view shelf.old) files →
-        level_least job (level_job_value level.now) (map (λ wad. wad.now) wads.now) files
-        ≤ level.now.settings.zone }
-    ensures taken { (files : List File) →
-        Holds (S.view shelf.old) files →
-        (FaultsRose (S.view shelf.old).faults (S.view shelf.new).faults → ⊥) →
-        TakesOnce (level_job_value level.now) (map (λ wad. wad.now) wads.now) files
-        (S.view shelf.old).taken (S.view shelf.new).taken }
-{
-    match job {
-        LevelTask::Render(format) => {
-            perform_views(alloc, ViewForm::Frame(format), level, wads, shelf, out)
-        }
-        LevelTask::Audit => perform_audit(alloc, level, wads, shelf, out),
-        LevelTask::Limits => perform_limits(alloc, level, wads, shelf, out),
-        LevelTask::Trim => perform_trim(alloc, level, wads, shelf, out),
-        LevelTask::Trace => perform_views(alloc, ViewForm::Trace, level, wads, shelf, out),
-    }
-}
-
-fn perform_audit<S: Shelf, K: Sink>(
-    alloc: Global,
-    level: &LevelJob<'_>,
-    wads: &[&str],
-    shelf: &mut S,
-    out: &mut K,
-) -> Status
-    requires { IsLevelJob (level_job_value level.now) (map (λ wad. wad.now) wads.now) }
-    ensures ends { (files : List File) → Holds (S.view shelf.old) files →
-        EndsAt (S.view shelf.old).steady
-        (level_verdict Audit (level_job_value level.now) (map (λ wad. wad.now) wads.now) files)
-        (K.written out.old) (K.written out.new) result }
-    ensures unwritten { IsUnwritten result → Grew (K.written out.old) (K.written out.new) [] }
-    ensures before { IsReadOrFull result → Grew (K.written out.old) (K.written out.new) [] }
-    ensures not_usage { result ≡ Status.Usage → ⊥ }
-    ensures read_fault { result ≡ Status.ReadFault →
-        FaultsRose (S.view shelf.old).faults (S.view shelf.new).faults }
-    ensures write_fault { result ≡ Status.WriteFault →
-        FaultsRose (K.faults out.old) (K.faults out.new) }
-    ensures zone_full { (files : List File) (wanted widest : ℕ) →
-        result ≡ Status.ZoneFull wanted widest → Holds (S.view shelf.old) files →
-        IsFullLoad (level_job_value level.now) (map (λ wad. wad.now) wads.now) files wanted widest }
-    ensures least { (files : List File) → IsEnd result → Holds (S.view shelf.old) files →
-        level_least Audit (level_job_value level.now) (map (λ wad. wad.now) wads.now) files
-        ≤ level.now.settings.zone }
-    ensures taken { (files : List File) → Holds (S.view shelf.old) files →
-        (FaultsRose (S.view shelf.old).faults (S.view shelf.new).faults → ⊥) →
-        TakesOnce (level_job_value level.now) (map (λ wad. wad.now) wads.now) files
-        (S.view shelf.old).taken (S.view shelf.new).taken }
-{
-    match prepare_audit(alloc, level, wads, shelf) {
-        Ok(sizes) => deliver_audit(sizes, out),
-        Err(fault) => Status::of(fault),
-    }
-}
-
 fn perform_flat<S: Shelf, K: Sink>(
     alloc: Global,
     name: &Name8,
@@ -344,17 +206,8 @@ fn perform_flat<S: Shelf, K: Sink>(
     shelf: &mut S,
     out: &mut K,
 ) -> Status
-    ensures ends { (files : List File) → Holds (S.view shelf.old) files →
-        EndsAt (S.view shelf.old).steady (job_verdict (flat name.now file.now) files)
-        (K.written out.old) (K.written out.new) result }
-    ensures unwritten { IsUnwritten result → Grew (K.written out.old) (K.written out.new) [] }
-    ensures before { IsReadOrFull result → Grew (K.written out.old) (K.written out.new) [] }
-    ensures not_usage { result ≡ Status.Usage → ⊥ }
-    ensures read_fault { result ≡ Status.ReadFault →
-        FaultsRose (S.view shelf.old).faults (S.view shelf.new).faults }
-    ensures write_fault { result ≡ Status.WriteFault →
-        FaultsRose (K.faults out.old) (K.faults out.new) }
-    ensures zone_full { (wanted widest : ℕ) → result ≡ Status.ZoneFull wanted widest → ⊥ }
+    ensures { Performs (job_of (flat name.now file.now)) (S.view shelf.old) (S.view shelf.new)
+        (K.written out.old) (K.written out.new) (K.faults out.old) (K.faults out.new) result }
 {
     match prepare_flat(alloc, shelf, name, file) {
         Ok(picture) => deliver_flat(&picture, out),
@@ -364,16 +217,8 @@ fn perform_flat<S: Shelf, K: Sink>(
 
 fn perform_make<K: Sink>(alloc: Global, job: MakeJob, out: &mut K) -> Status
     requires { IsCountedMake job }
-    ensures ends { (steady : Bool) (files : List File) →
-        EndsAt steady (job_verdict (make job) files)
-        (K.written out.old) (K.written out.new) result }
-    ensures unwritten { IsUnwritten result → Grew (K.written out.old) (K.written out.new) [] }
-    ensures before { IsReadOrFull result → Grew (K.written out.old) (K.written out.new) [] }
-    ensures not_usage { result ≡ Status.Usage → ⊥ }
-    ensures not_read { result ≡ Status.ReadFault → ⊥ }
-    ensures write_fault { result ≡ Status.WriteFault →
-        FaultsRose (K.faults out.old) (K.faults out.new) }
-    ensures zone_full { (wanted widest : ℕ) → result ≡ Status.ZoneFull wanted widest → ⊥ }
+    ensures { (view : ShelfView) → Performs (job_of (make job)) view view
+        (K.written out.old) (K.written out.new) (K.faults out.old) (K.faults out.new) result }
 {
     match prepare_make(alloc, job) {
         Ok(bytes) => deliver_make(&bytes, out),

@@ -1,8 +1,6 @@
 // The tests by crates, and the files that several of them read.
 mod angle_tables_tests;
-mod command_line_tests;
 mod composite_tests;
-mod csv_tables_tests;
 mod files;
 mod flats_tests;
 mod frame_writer_tests;

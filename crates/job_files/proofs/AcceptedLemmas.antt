@@ -5,7 +5,7 @@ use Rattle.outside.specs.Faults.{and_then, from_below}
 use Rattle.lump_rules.specs.declared.wad.Lump.{Lump}
 use Rattle.lump_rules.specs.declared.wad.DirRefusal.{DirRefusal}
 use Rattle.lump_rules.specs.Wads.{directory}
-use Rattle.command_line.specs.LevelJobs.{FileNames}
+use Rattle.job_rules.specs.LevelJobs.{FileNames}
 use Rattle.refusals.specs.declared.refusal.Refusal.{Refusal}
 use Rattle.refusals.specs.declared.refusal.Refusal.TheVariants.{Wad}
 use Rattle.job_files.specs.Files.{FilesValue, tables_file, in_file, texts_in, files_named, lumps_in, files_in}

@@ -17,11 +17,11 @@ use Rattle.csv_tables.specs.Records.{csv_records, table_records}
 use Rattle.csv_tables.specs.Things.{lines_of_records, things_in_table}
 use Rattle.csv_tables.specs.Paths.{path_of_records, path_in}
 use Rattle.csv_tables.specs.Weapons.{weapons_of_records, weapons_in}
-use Rattle.job_files.specs.declared.named.FileKind.TheVariants as kind
+use Rattle.job_files.specs.declared.whole_files.FileKind.TheVariants as kind
 use Rattle.refusals.specs.declared.refusal.Refusal.{Refusal}
 use Rattle.refusals.specs.declared.refusal.Refusal.TheVariants.{Tables, Things, Path, Weapons}
 use Rattle.outside.specs.declared.fault.Fault.{Fault}
-use Rattle.job_files.specs.Files.{unless_refused, in_file, tables_in, tables_file, things_file, path_file, weapons_file}
+use Rattle.job_files.specs.Files.{value_unless, in_file, tables_in, tables_file, things_file, path_file, weapons_file}
 use Rattle.job_files.specs.Lengths.{tables_length_refusal, text_length_refusal, length_refusal, bytes_in}
 use Rattle.outside.specs.Stops.{else_absent, no_file, ResultIsOrAbsent}
 use Rattle.outside.proofs.StopLemmas.{step_stops, unread_agrees}
@@ -29,7 +29,7 @@ use Rattle.outside.proofs.StopLemmas.{step_stops, unread_agrees}
 -- what is read of text that is not too long
 text_length : {A X : Type 0} (long : Bool) (above : CsvRefusal → Refusal) (refusal : CsvRefusal) (records : X) (rows : X → Result A CsvRefusal) (bytes : List ℕ) (read : List ℕ → Result A Refusal) →
     read bytes ≡ from_below above (csv.then_checked (cond long (Err refusal) (Ok records)) rows) →
-    read bytes ≡ and_then (unless_refused (option_map above (cond long (Some refusal) None)) bytes) read
+    read bytes ≡ and_then (value_unless (option_map above (cond long (Some refusal) None)) bytes) read
 text_length true above refusal records rows bytes read e = e
 text_length false above refusal records rows bytes read e = refl
 
@@ -50,8 +50,8 @@ weapons_length bytes =
 
 -- what is read of tables of the right length
 whole_length : (whole : Bool) (refusal : TablesRefusal) (others : Option TablesRefusal) (tables : TablesValue) (bytes : List ℕ) (read : List ℕ → Result TablesValue Refusal) →
-    read bytes ≡ from_below Tables (unless_refused (cond whole others (Some refusal)) tables) →
-    read bytes ≡ and_then (unless_refused (option_map Tables (cond whole None (Some refusal))) bytes) read
+    read bytes ≡ from_below Tables (value_unless (cond whole others (Some refusal)) tables) →
+    read bytes ≡ and_then (value_unless (option_map Tables (cond whole None (Some refusal))) bytes) read
 whole_length true refusal others tables bytes read e = refl
 whole_length false refusal others tables bytes read e = e
 

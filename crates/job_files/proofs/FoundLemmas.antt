@@ -63,7 +63,7 @@ stand_more view (first ∷ numbers) (file ∷ contents) number bytes stand stand
 -- no name yet
 pub none_found : (view : ShelfView) (numbers : List FileNo) (files : List File) → numbers ≡ [] → AllStandForNamed view numbers [] files
 unfolding files_named
-none_found view numbers files e = rw e (record { contents = []; named = refl; stand = tt })
+none_found view numbers files e = rw e (record { contents = []; lookup = refl; stand = tt })
 
 held_bytes : (file : Option (List ℕ)) → IsSome file → (bytes : List ℕ) × (file ≡ Some bytes)
 held_bytes None there = absurd (cc)
@@ -77,6 +77,6 @@ found_more old new numbers more number before all name files found pushed longer
     let held = held_bytes (file_named name files) found.is_held in
     rw (pushed, longer) (record {
       contents = so_far.contents ++ held.0 ∷ [];
-      named = named_more before name files so_far.contents held.0 so_far.named held.1;
+      lookup = named_more before name files so_far.contents held.0 so_far.lookup held.1;
       stand = stand_more new numbers so_far.contents number held.0 (all_stand_later old new numbers so_far.contents follows so_far.stand) (found.stands ∙ held.1);
     })

@@ -1,31 +1,31 @@
 -- A file's length and its bytes.
 use Rattle.std.proofs.Common.{◌≡◌, ℕ, List, length, Option, Some, None, Ok, Err, refl, sym, ap}
-use Rattle.job_files.specs.declared.named.FileKind.{FileKind}
+use Rattle.job_files.specs.declared.whole_files.FileKind.{FileKind}
 use Rattle.refusals.specs.declared.refusal.Refusal.{Refusal}
-use Rattle.job_files.specs.Files.{unless_refused}
+use Rattle.job_files.specs.Files.{value_unless}
 use Rattle.job_files.specs.Lengths.{length_refusal, bytes_in}
 
 -- a value was refused, and so is another
-refused_too : {A B R : Type 0} (refusal : Option R) (value : A) (other : B) (reason : R) → unless_refused refusal value ≡ Err reason → unless_refused refusal other ≡ Err reason
+refused_too : {A B R : Type 0} (refusal : Option R) (value : A) (other : B) (reason : R) → value_unless refusal value ≡ Err reason → value_unless refusal other ≡ Err reason
 refused_too None value other reason e = absurd (cc)
 refused_too (Some first) value other reason e = let same : first ≡ reason = cc in ap Err same
 
 -- a value was not refused
-pub not_refused : {A R : Type 0} (refusal : Option R) (value found : A) → unless_refused refusal value ≡ Ok found → (refusal ≡ None) × (found ≡ value)
+pub not_refused : {A R : Type 0} (refusal : Option R) (value found : A) → value_unless refusal value ≡ Ok found → (refusal ≡ None) × (found ≡ value)
 not_refused None value found e = let same : value ≡ found = cc in (refl, sym same)
 not_refused (Some first) value found e = absurd (cc)
 
 -- a file whose length is refused
 pub bytes_refused : (kind : FileKind) (size : ℕ) (bytes : List ℕ) (reason : Refusal) → size ≡ length bytes →
-    unless_refused (length_refusal kind size) size ≡ Err reason → bytes_in kind bytes ≡ Err reason
+    value_unless (length_refusal kind size) size ≡ Err reason → bytes_in kind bytes ≡ Err reason
 unfolding bytes_in
 bytes_refused kind size bytes reason e h = refused_too (length_refusal kind (length bytes)) (length bytes) bytes reason (rw e at h)
 
 -- a file whose length is not refused
 pub bytes_whole : (kind : FileKind) (size count : ℕ) (bytes : List ℕ) → size ≡ length bytes →
-    unless_refused (length_refusal kind size) size ≡ Ok count → (bytes_in kind bytes ≡ Ok bytes) × (length bytes ≡ count)
+    value_unless (length_refusal kind size) size ≡ Ok count → (bytes_in kind bytes ≡ Ok bytes) × (length bytes ≡ count)
 unfolding bytes_in
 bytes_whole kind size count bytes e h =
-    let k : unless_refused (length_refusal kind (length bytes)) (length bytes) ≡ Ok count = rw e at h in
+    let k : value_unless (length_refusal kind (length bytes)) (length bytes) ≡ Ok count = rw e at h in
     let fine = not_refused (length_refusal kind (length bytes)) (length bytes) count k in
     (rw fine.0 refl, sym fine.1)

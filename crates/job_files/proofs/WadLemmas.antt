@@ -37,7 +37,7 @@ same_found found one other e f = cc
 pub stand_named : (view : ShelfView) (numbers given : List FileNo) (names : List (List ℕ)) (files : List File) (contents : List (List ℕ)) →
     AllStandForNamed view numbers names files → given ≡ numbers → files_named names files ≡ Some contents → NameFiles view given contents
 stand_named view numbers given names files contents found same named =
-    let these : found.contents ≡ contents = same_found (files_named names files) found.contents contents found.named named in
+    let these : found.contents ≡ contents = same_found (files_named names files) found.contents contents found.lookup named in
     rw (same, ← these) found.stand
 
 -- a directory of the files of these numbers

@@ -16,7 +16,7 @@ use Rattle.csv_tables.specs.declared.weapons.WeaponRow.{WeaponRow}
 use Rattle.csv_tables.specs.Things.{things_in_table}
 use Rattle.csv_tables.specs.Paths.{path_in}
 use Rattle.csv_tables.specs.Weapons.{weapons_in}
-use Rattle.command_line.specs.LevelJobs.{FileNames}
+use Rattle.job_rules.specs.LevelJobs.{FileNames}
 use Rattle.refusals.specs.declared.refusal.Refusal.{Refusal}
 use Rattle.refusals.specs.declared.refusal.Refusal.TheVariants.{Tables, Things, Path, Weapons, Wad}
 use Rattle.job_files.specs.declared.read.SceneFiles.{SceneFiles}
@@ -45,13 +45,13 @@ abbrev pub IsNeverFull : {B R : Type 0} → Result B (Fault R) → Type 0
 IsNeverFull result = IfErr result (λ fault. IfFull fault (λ wanted widest'. ⊥))
 
 -- the value, unless there is a refusal
-abbrev pub unless_refused : {A R : Type 0} → Option R → A → Result A R
-unless_refused None value = Ok value
-unless_refused (Some refusal) value = Err refusal
+abbrev pub value_unless : {A R : Type 0} → Option R → A → Result A R
+value_unless None value = Ok value
+value_unless (Some refusal) value = Err refusal
 
 -- the tables of angles in a file, for views of a size
 unfoldable pub tables_in : ℕ → List ℕ → Result TablesValue TablesRefusal
-tables_in size bytes = unless_refused (tables_refusal bytes size) (record { angles = angles_in bytes; size = size })
+tables_in size bytes = value_unless (tables_refusal bytes size) (record { angles = angles_in bytes; size = size })
 
 -- what the bytes of each kind of file give
 abbrev pub tables_file : ℕ → List ℕ → Result TablesValue Refusal

@@ -7,5 +7,5 @@ use Rattle.job_files.specs.Files.{files_named}
 -- each number stands for the first file of the name at its place
 pub record AllStandForNamed (view : ShelfView) (numbers : List FileNo) (names : List (List ℕ)) (files : List File) : Type 0 where
   pub contents : List (List ℕ)
-  pub named : files_named names files ≡ Some contents
+  pub lookup : files_named names files ≡ Some contents
   pub stand : NameFiles view numbers contents

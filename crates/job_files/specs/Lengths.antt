@@ -6,11 +6,11 @@ use Rattle.view_rules.specs.declared.TablesRefusal.TheVariants.{Length}
 use Rattle.csv_tables.specs.declared.records.TheConstants.{MAX_TABLE_BYTES}
 use Rattle.csv_tables.specs.declared.fault.CsvRefusal.{CsvRefusal}
 use Rattle.csv_tables.specs.declared.fault.CsvRefusal.TheVariants.{TooLong}
-use Rattle.job_files.specs.declared.named.FileKind.{FileKind}
-use Rattle.job_files.specs.declared.named.FileKind.TheVariants as kind
+use Rattle.job_files.specs.declared.whole_files.FileKind.{FileKind}
+use Rattle.job_files.specs.declared.whole_files.FileKind.TheVariants as kind
 use Rattle.refusals.specs.declared.refusal.Refusal.{Refusal}
 use Rattle.refusals.specs.declared.refusal.Refusal.TheVariants.{Tables, Things, Path, Weapons}
-use Rattle.job_files.specs.Files.{unless_refused}
+use Rattle.job_files.specs.Files.{value_unless}
 
 -- a file of tables of angles has one length
 unfoldable pub tables_length_refusal : ℕ → Option TablesRefusal
@@ -29,7 +29,7 @@ length_refusal kind.Weapons size = option_map Weapons (text_length_refusal size)
 
 -- the bytes of a file, unless its length is refused
 unfoldable pub bytes_in : FileKind → List ℕ → Result (List ℕ) Refusal
-bytes_in kind bytes = unless_refused (length_refusal kind (length bytes)) bytes
+bytes_in kind bytes = value_unless (length_refusal kind (length bytes)) bytes
 
 -- how many bytes a file has at most that is not refused for its length
 abbrev pub most_bytes : FileKind → ℕ

@@ -1,7 +1,7 @@
 -- The bytes that a made file has.
 use Rattle.std.specs.Prelude.{ℕ, List}
-use Rattle.command_line.specs.declared.command.MakeJob.{MakeJob}
-use Rattle.command_line.specs.declared.command.MakeJob.TheVariants.{Wad, Path, Tables, Things}
+use Rattle.job_rules.specs.declared.command.MakeJob.{MakeJob}
+use Rattle.job_rules.specs.declared.command.MakeJob.TheVariants.{Wad, Path, Tables, Things}
 use Rattle.made_rules.specs.Tables.{made_tables}
 use Rattle.made_rules.specs.Texts.{made_path, made_things}
 use Rattle.made_rules.specs.Wads.{made_wad}

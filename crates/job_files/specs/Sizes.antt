@@ -3,7 +3,7 @@ use Rattle.std.specs.Prelude.{ℕ, ◌+◌, List, [], length, unwrap_or, Option,
 use Rattle.std.specs.Option.{option_map_or}
 use Rattle.outside.specs.Shelf.{File, file_named}
 use Rattle.lump_rules.specs.Wads.{listing_sizes}
-use Rattle.command_line.specs.LevelJobs.{FileNames}
+use Rattle.job_rules.specs.LevelJobs.{FileNames}
 use Rattle.job_files.specs.Files.{files_named}
 
 -- the bytes of the WADs of these names

@@ -19,7 +19,6 @@ mod fault;
 mod flat;
 mod lumps;
 mod make;
-mod named;
 mod notes;
 mod picture;
 mod read;
@@ -28,6 +27,7 @@ mod tables;
 mod texts;
 mod tiling;
 mod wads;
+mod whole_files;
 
 pub use colours::{find_colormap, find_playpal};
 pub use fault::LoadFault;

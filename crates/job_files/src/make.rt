@@ -1,12 +1,12 @@
 // The job `make`: the bytes of a made file, told by a number alone.
 ghost use Rattle.std.specs.Prelude.{◌≡◌, IfOk};
 ghost use Rattle.outside.specs.Causes.{FaultsRose};
-ghost use Rattle.command_line.specs.Commands.{IsCountedMake};
+ghost use Rattle.job_rules.specs.Commands.{IsCountedMake};
 ghost use Rattle.job_files.specs.Made.{made_file};
 ghost use Rattle.job_files.specs.Statuses.{DeliversBytes};
 
 use crate::status::Status;
-use command_line::MakeJob;
+use job_rules::MakeJob;
 use level_maker::{make_path, make_tables, make_things, make_wad};
 use outside::{OutOfMemory, Sink};
 use std::alloc::Global;

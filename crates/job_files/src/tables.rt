@@ -8,7 +8,7 @@ ghost use Rattle.job_files.specs.Sizes.{named_size};
 ghost use Rattle.outside.specs.Stops.{ResultIsOrAbsent};
 
 use crate::fault::LoadFault;
-use crate::named::{FileKind, read_named};
+use crate::whole_files::{FileKind, read_named};
 use angle_tables::{Tables, TablesFault};
 use outside::{Fault, Shelf};
 use refusals::Refusal;

@@ -3,15 +3,15 @@
 ghost use Rattle.std.specs.Prelude.{◌≤◌, ◌+◌, ◌*◌, ℕ, List, true, option_map};
 ghost use Rattle.outside.specs.Shelf.{File, IsLaterShelf, Holds};
 ghost use Rattle.outside.specs.Faults.{ResultIs, HasCauses, itself};
-ghost use Rattle.command_line.specs.LevelJobs.{file_names};
+ghost use Rattle.job_rules.specs.LevelJobs.{file_names};
 ghost use Rattle.job_files.specs.Files.{IsNeverFull, in_file, in_optional_file, things_file, path_file, weapons_file, texts_in};
 ghost use Rattle.job_files.specs.Sizes.{named_size, optional_size, texts_size};
 ghost use Rattle.outside.specs.Stops.{ResultIsOrAbsent};
 
 use crate::fault::LoadFault;
-use crate::named::{FileKind, read_named};
-use command_line::Files;
+use crate::whole_files::{FileKind, read_named};
 use csv_tables::{CsvFault, MAX_TABLE_BYTES, PathTable, ThingTable, WeaponTable};
+use job_rules::Files;
 use outside::{Fault, Shelf};
 use refusals::Refusal;
 use std::alloc::Global;

@@ -1,3 +1,4 @@
 pub mod Fulls
 pub mod Loads
 pub mod Orders
+pub mod Calls

@@ -2,6 +2,7 @@
 //
 // Rules: `scene_rules`, Scenes; `specs/Reads`. The original: `P_SetupLevel`, p_setup.c,
 // `R_InitData`, r_data.c.
+ghost use Rattle.job_rules.specs.Ranges.{IsSkill};
 ghost use Rattle.std.specs.Prelude.{◌≡◌, ◌≢◌, ◌<◌, ◌≤◌, ◌+◌, ℕ, List, length, true, Some, Ok, IfOk, IfErr, IfSome, IsOk};
 ghost use Rattle.outside.specs.Shelf.{NameFiles, IsLaterShelf};
 ghost use Rattle.outside.specs.Faults.{ResultIs, HasCauses, itself};
@@ -65,7 +66,7 @@ pub fn audit<S: Shelf>(
     skill: u8,
 ) -> Result<SoundScene, AuditFault>
     requires slots { length dir.now.lumps ≤ cache.old.lumps }
-    requires skill { (1 ≤ skill) × (skill ≤ 5) }
+    requires skill { IsSkill skill }
     ensures answers { (contents : List (List ℕ)) →
         HoldContents (S.view shelf.old) dir.now cache.old contents →
         ResultIs itself (S.view shelf.old).steady (λ sound.
@@ -144,7 +145,7 @@ fn audit_rest<S: Shelf>(
     shelf: &mut S,
 ) -> Result<SoundScene, AuditFault>
     requires slots { length dir.now.lumps ≤ cache.old.lumps }
-    requires skill { (1 ≤ request.now.skill) × (request.now.skill ≤ 5) }
+    requires skill { IsSkill request.now.skill }
     requires colormap { colormap_of dir.now.lumps ≡ Ok colormap.0 }
     ensures tells { ReadsLumps itself (S.view shelf.old) (S.view shelf.new) dir.now cache.old
         cache.new (IsReadLater (S.view shelf.old) dir.now cache.old request.now.things.now

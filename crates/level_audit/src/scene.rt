@@ -2,6 +2,7 @@
 //
 // Rules: `scene_rules`, Scenes (`scene_on`); `specs/Scenes`. The original: `P_SetupLevel`,
 // p_setup.c, `R_PrecacheLevel`, r_data.c.
+ghost use Rattle.job_rules.specs.Ranges.{IsSkill};
 ghost use Rattle.outside.specs.Faults.{itself};
 ghost use Rattle.std.specs.Prelude.{◌≡◌, ◌<◌, ◌≤◌, ◌⊎◌, All, length, map, IfOk, IfSome, OnOk};
 ghost use Rattle.lump_cache.specs.Calls.{ReadsLumps};
@@ -63,7 +64,7 @@ pub fn read_scene<S: Shelf>(
     shelf: &mut S,
 ) -> Result<ReadScene, AuditFault>
     requires slots { length dir.now.lumps ≤ cache.old.lumps }
-    requires skill { (1 ≤ request.now.skill) × (request.now.skill ≤ 5) }
+    requires skill { IsSkill request.now.skill }
     ensures tells { ReadsLumps itself (S.view shelf.old) (S.view shelf.new) dir.now cache.old
         cache.new (IsOfScene dir.now.lumps request.now.things.now request.now.skill
         request.now.name.now (base_of base)) scene_value
@@ -94,7 +95,7 @@ fn read_art<S: Shelf>(
     shelf: &mut S,
 ) -> Result<ReadScene, AuditFault>
     requires slots { length dir.now.lumps ≤ cache.old.lumps }
-    requires skill { (1 ≤ request.now.skill) × (request.now.skill ≤ 5) }
+    requires skill { IsSkill request.now.skill }
     requires sides { length faces.sides.items ≡ length base.level.sides }
     requires below { All (AreBelow (length base.textures.lists.textures)) faces.sides.items }
     requires sky { IfSome faces.sky (λ tex. tex.0 < length base.textures.lists.textures) }

@@ -16,8 +16,8 @@ use Rattle.scene_rules.specs.declared.refusal.SceneRefusal.{SceneRefusal}
 use Rattle.scene_rules.specs.declared.refusal.SceneRefusal.TheVariants as scene
 use Rattle.scene_rules.specs.declared.refusal.WeaponRefusal.{WeaponRefusal}
 use Rattle.scene_rules.specs.declared.refusal.WeaponRefusal.TheVariants as weapon
-use Rattle.trim_rules.specs.declared.refusal.TrimRefusal.{TrimRefusal}
-use Rattle.trim_rules.specs.declared.refusal.TrimRefusal.TheVariants as trim
+use Rattle.job_rules.specs.declared.trim.TrimRefusal.{TrimRefusal}
+use Rattle.job_rules.specs.declared.trim.TrimRefusal.TheVariants as trim
 use Rattle.csv_tables.specs.declared.fault.CsvRefusal.{CsvRefusal}
 use Rattle.csv_tables.specs.declared.fault.CsvRefusal.TheVariants as csv
 use Rattle.refusals.specs.declared.codes.TheConstants.{CODE_TABLES_LENGTH, CODE_SINE, CODE_TANGENT, CODE_ANGLE, CODE_FIELD_OF_VIEW, CODE_NOT_WAD, CODE_SHORT, CODE_ENTRY, CODE_TOO_MANY, CODE_COLORMAP, CODE_PLAYPAL, CODE_NO_MAP, CODE_MAP_SIZE, CODE_NO_LEAF, CODE_INDEX, CODE_EMPTY_LEAF, CODE_NODE_TWICE, CODE_TOO_DEEP, CODE_PNAMES, CODE_TEXTURE_LUMP, CODE_TEXTURE_ENTRY, CODE_MISSING_PATCH, CODE_TOO_BIG, CODE_NO_FRAME, CODE_MISSING_ROTATION, CODE_BAD_PATCH, CODE_SIDE_TEXTURE, CODE_SKY_TEXTURE, CODE_SECTOR_FLAT, CODE_SHADOW, CODE_MIDDLE, CODE_FLAT_NAME, CODE_MARK_NAME, CODE_TRIM_TOO_MANY, CODE_TRIM_TOO_LARGE, CODE_WEAPON_NO_FRAME, CODE_WEAPON_ROTATION, CODE_WEAPON_PATCH, GROUP_PATH, GROUP_THINGS, GROUP_WEAPONS}

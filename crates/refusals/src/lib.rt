@@ -11,10 +11,10 @@ mod refusal;
 
 pub use art_rules::{SpriteRefusal, TexRefusal};
 pub use csv_tables::CsvRefusal;
+pub use job_rules::TrimRefusal;
 pub use level_rules::MapRefusal;
 pub use lines::{put_labelled, put_numbers_of};
 pub use lump_rules::DirRefusal;
 pub use refusal::Refusal;
 pub use scene_rules::{ArtRefusal, SceneRefusal, WeaponRefusal};
-pub use trim_rules::TrimRefusal;
 pub use view_rules::TablesRefusal;

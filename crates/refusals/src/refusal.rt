@@ -4,11 +4,11 @@ ghost use Rattle.refusals.specs.Groups.{of_audit};
 
 use art_rules::{SpriteRefusal, TexRefusal};
 use csv_tables::CsvRefusal;
+use job_rules::TrimRefusal;
 use level_rules::MapRefusal;
 use lump_rules::DirRefusal;
 use scene_rules::{ArtRefusal, AuditRefusal, SceneRefusal, WeaponRefusal};
 use thiserror::Error;
-use trim_rules::TrimRefusal;
 use view_rules::TablesRefusal;
 
 /// Why a run is refused: a group for each kind of file or check.

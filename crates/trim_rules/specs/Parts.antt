@@ -15,9 +15,9 @@ use Rattle.scene_rules.specs.declared.SectorFlats.{SectorFlats}
 use Rattle.scene_rules.specs.Sizes.{SceneArt, has_flat}
 use Rattle.trim_rules.specs.declared.part.TrimPart.{TrimPart}
 use Rattle.trim_rules.specs.declared.part.TrimPart.TheVariants.{Mark, Label, Copy}
-use Rattle.trim_rules.specs.declared.refusal.TrimRefusal.{TrimRefusal}
-use Rattle.trim_rules.specs.declared.refusal.TrimRefusal.TheVariants.{MarkName, TrimTooMany, TrimTooLarge}
-use Rattle.trim_rules.specs.declared.TheConstants.{MAX_FILE_BYTES}
+use Rattle.job_rules.specs.declared.trim.TrimRefusal.{TrimRefusal}
+use Rattle.job_rules.specs.declared.trim.TrimRefusal.TheVariants.{MarkName, TrimTooMany, TrimTooLarge}
+use Rattle.job_rules.specs.declared.trim.TheConstants.{MAX_FILE_BYTES}
 
 -- the label of the map, and any lump that is copied
 abbrev pub label_part : ℕ → TrimPart

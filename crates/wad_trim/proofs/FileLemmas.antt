@@ -20,7 +20,7 @@ use Rattle.trim_rules.specs.declared.part.TrimPart.{TrimPart}
 use Rattle.trim_rules.specs.declared.part.TrimPart.TheVariants.{Mark, Label, Copy}
 use Rattle.trim_rules.specs.Files.{part_bytes, part_lump, trimmed_file}
 use Rattle.trim_rules.specs.Parts.{file_size, part_name, part_size, parts_size}
-use Rattle.trim_rules.specs.declared.TheConstants.{MAX_FILE_BYTES}
+use Rattle.job_rules.specs.declared.trim.TheConstants.{MAX_FILE_BYTES}
 use Rattle.wad_trim.specs.Plans.{FitsFile, entries_from}
 use Rattle.wad_trim.specs.Writes.{IsCopied, IsPartThere}
 

@@ -3,7 +3,7 @@ use Rattle.std.proofs.Common.{◌≡◌, ℕ, List, Some, None, Ok, Err, ap, sym
 use Rattle.lump_rules.specs.declared.wad.Lump.{Lump}
 use Rattle.scene_rules.specs.Sizes.{SceneArt}
 use Rattle.trim_rules.specs.declared.part.TrimPart.{TrimPart}
-use Rattle.trim_rules.specs.declared.refusal.TrimRefusal.{TrimRefusal}
+use Rattle.job_rules.specs.declared.trim.TrimRefusal.{TrimRefusal}
 use Rattle.trim_rules.specs.Parts.{trim_parts, trim_plan, trim_refusal, unless_trim_refused}
 use Rattle.trim_rules.proofs.PlanLemmas.{plan-accepted}
 use Rattle.wad_trim.specs.Plans.{FitsFile}

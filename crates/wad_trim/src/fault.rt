@@ -4,10 +4,10 @@ ghost use Rattle.wad_trim.specs.declared.fault.TrimFault.TheVariants as fault;
 ghost use Rattle.wad_trim.specs.declared.fault.TrimWrite.TheVariants.{WriteFault};
 ghost use Rattle.wad_trim.specs.Faults.{write_of_cache};
 
+use job_rules::TrimRefusal;
 use lump_cache::CacheFault;
 use outside::{Failed, OutOfMemory};
 use thiserror::Error;
-use trim_rules::TrimRefusal;
 
 /// Why there is no plan of a trimmed file. This project's own.
 #[derive(Clone, Copy, Debug, PartialEq, Eq, Drop, Error)]

@@ -13,5 +13,6 @@ mod refuse;
 mod write;
 
 pub use fault::{TrimFault, TrimWrite};
+pub use job_rules::TrimRefusal;
 pub use plan::TrimPlan;
-pub use trim_rules::{TrimPart, TrimRefusal};
+pub use trim_rules::TrimPart;

@@ -12,7 +12,7 @@ ghost use Rattle.scene_rules.specs.SectorFlats.{flat_number};
 ghost use Rattle.scene_rules.specs.Sizes.{has_flat};
 ghost use Rattle.sound_scene.specs.Views.{AddsMarks, lump_numbers};
 ghost use Rattle.trim_rules.specs.Parts.{called_lumps, copy_part, fixed_lumps, flat_lumps, group_parts, label_or_copy, listed_last, map_parts, picture_lumps, trim_parts};
-ghost use Rattle.wad_trim.specs.Plans.{scene_art, weapon_lumps};
+ghost use Rattle.wad_trim.specs.Plans.{trim_art, layer_lumps};
 ghost use Rattle.wad_trim.specs.Writes.{IsPartThere};
 
 use art_rules::{PNAMES, TEXTURE1, TEXTURE2};
@@ -35,7 +35,7 @@ pub(crate) fn list_parts(
     map: &Name8,
 ) -> Result<Vec<TrimPart>, OutOfMemory>
     ensures parts { IfOk result (λ parts. parts.items ≡ trim_parts dir.now.lumps
-        (scene_art scene.now.scene (weapon_lumps (option_copied weapons.entry))) map.now) }
+        (trim_art scene.now.scene (layer_lumps (option_copied weapons.entry))) map.now) }
     ensures there { IfOk result (λ parts.
         All (IsPartThere (length dir.now.lumps)) parts.items) }
     ensures few { IfOk result (λ parts. length parts.items ≤ 2 ^ 18) }
@@ -111,7 +111,7 @@ fn picture_lumps(
     weapons: Option<&SpriteBook>,
 ) -> Result<Vec<LumpNo>, OutOfMemory>
     ensures { IfOk result (λ lumps. lump_numbers lumps.items ≡ picture_lumps dir.now.lumps
-        (book_lumps sprites.now ++ weapon_lumps (option_copied weapons.entry))) }
+        (book_lumps sprites.now ++ layer_lumps (option_copied weapons.entry))) }
 {
     let mut marks = Marks::none(alloc, dir.count() as usize)?;
     mark_pictures(&mut marks, sprites);
@@ -123,7 +123,7 @@ fn picture_lumps(
 fn mark_layers(marks: &mut Marks, weapons: Option<&SpriteBook>)
     ensures count { length marks.new ≡ length marks.old }
     ensures marked { AddsMarks marks.old marks.new (λ number.
-        list_any (λ lump. lump == number) (weapon_lumps (option_copied weapons.entry))) }
+        list_any (λ lump. lump == number) (layer_lumps (option_copied weapons.entry))) }
 {
     if let Some(book) = weapons {
         mark_pictures(marks, book);

@@ -1,10 +1,10 @@
 // The plan of a trimmed file.
 ghost use Rattle.std.specs.Prelude.{◌≡◌, ◌≤◌, length, All, Ok, Err, IfOk};
 ghost use Rattle.std.specs.Option.{option_copied};
-ghost use Rattle.trim_rules.specs.declared.refusal.TrimRefusal.{TrimRefusal};
+ghost use Rattle.job_rules.specs.declared.trim.TrimRefusal.{TrimRefusal};
 ghost use Rattle.trim_rules.specs.Files.{trimmed_file};
 ghost use Rattle.trim_rules.specs.Parts.{trim_plan};
-ghost use Rattle.wad_trim.specs.Plans.{FitsFile, scene_art, weapon_lumps};
+ghost use Rattle.wad_trim.specs.Plans.{FitsFile, trim_art, layer_lumps};
 ghost use Rattle.wad_trim.specs.Writes.{IsCopied, IsPartThere, WritesLumps};
 
 use crate::fault::{TrimFault, TrimWrite};
@@ -53,11 +53,11 @@ impl TrimPlan {
         map: &Name8,
     ) -> Result<TrimPlan, TrimFault>
         ensures ok { IfOk result (λ plan. trim_plan dir.now.lumps
-            (scene_art scene.now.scene (weapon_lumps (option_copied weapons.entry))) map.now
+            (trim_art scene.now.scene (layer_lumps (option_copied weapons.entry))) map.now
             ≡ Ok plan) }
         ensures refused { (refusal : TrimRefusal) → result ≡ Err (TrimFault.Refused refusal) →
             trim_plan dir.now.lumps
-            (scene_art scene.now.scene (weapon_lumps (option_copied weapons.entry))) map.now
+            (trim_art scene.now.scene (layer_lumps (option_copied weapons.entry))) map.now
             ≡ Err refusal }
         ensures there { IfOk result (All (IsPartThere (length dir.now.lumps))) }
         ensures fits { IfOk result (FitsFile dir.now.lumps) }

@@ -9,11 +9,12 @@ ghost use Rattle.trim_rules.specs.Parts.{file_size, is_lump_part, is_mark, marke
 ghost use Rattle.wad_trim.specs.Lessers.{lesser};
 ghost use Rattle.wad_trim.specs.Writes.{IsPartThere};
 
+use job_rules::{MAX_FILE_BYTES, TrimRefusal};
 use lump_rules::{
     ENTRY_SIZE, F_END, F_START, FF_END, FF_START, HEADER_SIZE, MAX_LUMPS, NAME_SIZE, S_END,
     S_START, SS_END, SS_START,
 };
-use trim_rules::{MAX_FILE_BYTES, TrimPart, TrimRefusal};
+use trim_rules::TrimPart;
 use wad_dir::{Directory, LumpNo};
 
 // In order: a lump with the name of a mark, too many entries, too many bytes.

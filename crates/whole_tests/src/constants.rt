@@ -10,7 +10,7 @@ use lump_rules::MAX_LUMPS;
 use picture_rules::{
     MAX_OPENINGS, MAX_VISPLANES, MAX_VISSPRITES, MOST_OPENINGS, MOST_VISPLANES, SIL_BOTTOM, SIL_TOP,
 };
-use pixel_rules::FRAME_CELLS;
+use pixel_rules::{FLAT_SIDE, FRAME_CELLS, MAP_COLOURS};
 use scene_rules::COLORMAP_SIZE;
 use view_rules::{FRAME_HEIGHT, FRAME_WIDTH, MAX_SIZE, MIN_SIZE, TABLES_BYTES};
 use zone_rules::{HEADER_SIZE, MAX_ZONE_SIZE, MIN_FRAGMENT, MIN_ZONE_SIZE};
@@ -22,6 +22,11 @@ fn a_frame_is_320_by_200(rt: HostRuntime) {
     assert_eq!(rt; writer, (320, 200));
     assert_eq!(rt; (FRAME_BYTES, FRAME_CELLS), (64000, 64000));
     assert_eq!(rt; (MIN_SIZE, MAX_SIZE), (3, 11));
+}
+
+#[test]
+fn a_flat_is_64_by_64_and_a_colormap_has_256_colours(rt: HostRuntime) {
+    assert_eq!(rt; (FLAT_SIDE, MAP_COLOURS), (64, 256));
 }
 
 #[test]

@@ -13,8 +13,6 @@ mod made_lumps;
 #[cfg(test)]
 mod masked_draw_tests;
 #[cfg(test)]
-mod messages;
-#[cfg(test)]
 mod pixel_strips_tests;
 #[cfg(test)]
 mod pixel_trace_tests;

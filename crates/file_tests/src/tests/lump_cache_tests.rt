@@ -86,14 +86,6 @@ fn a_lump_is_read_where_it_has_bytes_and_room(rt: HostRuntime) -> Result<(), Fai
     Ok(())
 }
 
-#[test]
-fn a_full_zone_says_what_was_wanted(rt: HostRuntime) -> Result<(), Fail> {
-    let message = format!(in rt.alloc(); "{FULL}")?;
-    let wanted = "the zone is full: a block of 72 bytes was wanted, the widest gap has 64";
-    assert!(rt; message.as_str() == wanted);
-    Ok(())
-}
-
 fn copy(from: &[u8], to: &mut [u8]) {
     if from.len() == to.len() {
         to.copy_from_slice(from);

@@ -2,9 +2,9 @@
 // found.
 ghost use Rattle.std.specs.Prelude.{◌≤◌, ◌+◌, length};
 
-use command_line::Files;
 use csv_tables::CsvRefusal;
 use job_files::{LoadFault, SceneFiles, read_files};
+use job_rules::Files;
 use outside::{Fault, MemoryFile, MemoryShelf};
 use refusals::Refusal;
 use std::alloc::{AllocError, Global};

@@ -3,8 +3,8 @@ ghost use Rattle.std.specs.Prelude.{◌≡◌};
 ghost use Rattle.zone_rules.specs.Zones.{IsZoneSize};
 
 use crate::tests::files::file_of;
-use command_line::{Files, LevelJob, Settings};
 use job_files::LoadFault;
+use job_rules::{Files, LevelJob, Settings};
 use level_audit::{ZoneSizes, load_scene};
 use level_maker::{make_path, make_tables, make_things, make_wad};
 use lump_rules::Name8;

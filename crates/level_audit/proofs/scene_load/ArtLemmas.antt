@@ -14,7 +14,7 @@ use Rattle.art_rules.specs.Wanted.{PreparedTexture}
 use Rattle.texture_build.specs.Composites.{AreComposites, composite_of}
 use Rattle.texture_build.specs.Draws.{HoldsArt}
 use Rattle.texture_build.specs.Views.{TexturesView, AreTexturesOf, prepared_at}
-use Rattle.command_line.specs.LevelJobs.{LevelJobValue}
+use Rattle.job_rules.specs.LevelJobs.{LevelJobValue}
 use Rattle.refusals.specs.Groups.{of_audit}
 use Rattle.scene_rules.specs.declared.refusal.AuditRefusal.TheVariants.{Art, Map, Texture}
 use Rattle.scene_rules.specs.Scenes.{LevelBase, SceneValue, base_in, base_over, colormap_of, level_in, lists_in, playpal_of, scene_in}

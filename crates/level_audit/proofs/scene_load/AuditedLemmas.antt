@@ -1,7 +1,7 @@
 -- What is told of an audit of the scene, and then of the weapon layers.
 use Rattle.scene_rules.specs.declared.refusal.AuditRefusal.{AuditRefusal}
 use Rattle.std.proofs.Common.{◌≡◌, ℕ, Bool, List, Option, Some, None, Result, Ok, Err, refl, sym, ap, subst, ◌∙◌, ◌≤◌, IsErrAnd}
-use Rattle.std.specs.Prelude.{IfErr}
+use Rattle.std.specs.Prelude.{IfErr, IfOk}
 use Rattle.std.proofs.lemmas.Result.{err_from_is_err_and}
 use Rattle.outside.specs.declared.fault.Fault.{Fault}
 use Rattle.outside.specs.declared.fault.Fault.TheVariants.{Refused, ReadFault, ZoneFull, OutOfMemory}
@@ -10,7 +10,7 @@ use Rattle.outside.proofs.StepLemmas.{step}
 use Rattle.lump_rules.specs.declared.wad.Lump.{Lump}
 use Rattle.lump_cache.proofs.CallLemmas.{cause_later}
 use Rattle.art_rules.specs.declared.shapes.Frame.{Frame}
-use Rattle.command_line.specs.LevelJobs.{LevelJobValue}
+use Rattle.job_rules.specs.LevelJobs.{LevelJobValue}
 use Rattle.job_files.specs.Files.{FilesValue}
 use Rattle.scene_rules.specs.Scenes.{SceneValue, scene_in}
 use Rattle.sound_scene.specs.Sound.{SoundValue, with_book}
@@ -62,11 +62,16 @@ audited_by P bytes level found loaded e each =
     subst P made (each a.0 b.0 a.1 b.1)
 
 -- a read that failed later has made the count rise
-pub causes_after : {B D : Type 0} {before between now : ℕ} (r : Result D (Fault AuditRefusal)) (fault : (Fault AuditRefusal)) (result : Result B (Fault AuditRefusal)) → before ≤ between → HasCauses itself between now r → r ≡ Err fault → IsErrAnd result (λ e. e ≡ fault) → HasCauses itself before now result
-causes_after {B} {D} {before} {between} {now} r fault result later causes was is =
+pub causes_after : {B D R : Type 0} {before between now : ℕ} (r : Result D (Fault R)) (fault : Fault R) (result : Result B (Fault R)) → before ≤ between → HasCauses itself between now r → r ≡ Err fault → IsErrAnd result (λ e. e ≡ fault) → HasCauses itself before now result
+causes_after {B} {D} {R} {before} {between} {now} r fault result later causes was is =
     let s = err_from_is_err_and result is in
-    let k : HasCauseAt between now (itself fault) = subst (λ (y : Result D (Fault AuditRefusal)). IfErr y (λ f. HasCauseAt between now (itself f))) was causes.err in
-    record { err = subst (λ (y : Result B (Fault AuditRefusal)). IfErr y (λ f. HasCauseAt before now (itself f))) (sym (s.1 ∙ ap Err s.2)) (cause_later before between now (itself fault) later k) }
+    let k : HasCauseAt between now (itself fault) = subst (λ (y : Result D (Fault R)). IfErr y (λ f. HasCauseAt between now (itself f))) was causes.err in
+    record { err = subst (λ (y : Result B (Fault R)). IfErr y (λ f. HasCauseAt before now (itself f))) (sym (s.1 ∙ ap Err s.2)) (cause_later before between now (itself fault) later k) }
+
+-- a call that stopped gives no value of which anything has to hold
+pub none_given : {B E : Type 0} (P : B → Type 0) (fault : E) (result : Result B E) → IsErrAnd result (λ e. e ≡ fault) → IfOk result P
+none_given P fault (Ok value) is = absurd is
+none_given P fault (Err found) is = tt
 
 -- the layers leave the scene as it is
 pub scene_kept : (lumps : List Lump) (weapons : Option (List Frame)) (sound : SoundValue) → (with_layers lumps weapons sound).scene ≡ sound.scene

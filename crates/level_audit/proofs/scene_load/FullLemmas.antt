@@ -13,7 +13,7 @@ use Rattle.zone_rules.specs.Zones.{Heap, block_size}
 use Rattle.lump_cache.specs.Caches.{IsAtRest, IsEmpty}
 use Rattle.lump_cache.specs.Calls.{IfFull, IsFullFor, HoldContents}
 use Rattle.art_rules.specs.declared.shapes.Frame.{Frame}
-use Rattle.command_line.specs.LevelJobs.{LevelJobValue}
+use Rattle.job_rules.specs.LevelJobs.{LevelJobValue}
 use Rattle.job_files.specs.declared.read.SceneFiles.{SceneFiles}
 use Rattle.job_files.specs.Files.{FilesValue, IsNeverFull, files_in, value_of}
 use Rattle.scene_rules.specs.Scenes.{SceneValue, colormap_of, scene_in, sizes_of}

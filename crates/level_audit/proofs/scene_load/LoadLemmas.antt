@@ -4,13 +4,13 @@ use Rattle.std.specs.Prelude.{IfErr}
 use Rattle.std.proofs.lemmas.Result.{err_from_is_err_and}
 use Rattle.outside.specs.Shelf.{NameFiles, File, ShelfView}
 use Rattle.outside.specs.declared.fault.Fault.TheVariants.{OutOfMemory}
-use Rattle.outside.specs.Faults.{FaultFits, ResultIs, from_below, itself}
+use Rattle.outside.specs.Faults.{FaultFits, HasCauseAt, HasCauses, ResultIs, from_below, itself}
 use Rattle.lump_rules.specs.Contents.{AllWithin}
 use Rattle.zone_rules.specs.Zones.{Heap}
 use Rattle.wad_dir.specs.DirectoryView.{DirectoryView}
 use Rattle.lump_cache.specs.Caches.{IsFaithful}
 use Rattle.lump_cache.specs.Calls.{IfFull, HoldContents}
-use Rattle.command_line.specs.LevelJobs.{LevelJobValue}
+use Rattle.job_rules.specs.LevelJobs.{LevelJobValue}
 use Rattle.outside.specs.declared.fault.Fault.{Fault}
 use Rattle.job_files.specs.Files.{FilesValue, files_in, files_named}
 use Rattle.outside.specs.Stops.{Stop, ResultIsOrAbsent, FaultFitsOrAbsent, no_file}
@@ -35,6 +35,13 @@ memory_full P fault result tells is =
     let s = err_from_is_err_and result is in
     let k : IfFull (itself s.0) P = rw (s.2, tells) tt in
     rw s.1 k
+
+-- memory ran out, which is no read that failed
+pub memory_causes : {B : Type 0} {before now : ℕ} (fault : Fault Refusal) (result : Result B (Fault Refusal)) → itself fault ≡ OutOfMemory → IsErrAnd result (λ e. e ≡ fault) → HasCauses itself before now result
+memory_causes {before} {now} fault result tells is =
+    let s = err_from_is_err_and result is in
+    let k : HasCauseAt before now (itself s.0) = rw (s.2, tells) tt in
+    rw s.1 (record { err = k })
 
 -- what no refusal of the lumps has stopped is audited
 unstopped : {A : Type 0} (expected : Result A AuditRefusal) (value : A) → stops_of_audit expected ≡ Ok value → expected ≡ Ok value

@@ -21,7 +21,7 @@ use Rattle.art_rules.specs.declared.shapes.Need.{Need}
 use Rattle.art_rules.specs.Books.{book_lumps}
 use Rattle.sprite_book.specs.Calls.{IsWanted}
 use Rattle.sprite_book.proofs.FrameLemmas.{pictures_there}
-use Rattle.command_line.specs.LevelJobs.{LevelJobValue}
+use Rattle.job_rules.specs.LevelJobs.{LevelJobValue}
 use Rattle.scene_rules.specs.declared.TheConstants.{PLAYPAL, PALETTE_SIZE}
 use Rattle.scene_rules.specs.declared.refusal.ArtRefusal.TheVariants.{Playpal}
 use Rattle.scene_rules.specs.Scenes.{SceneValue, art_of, if_long, label_of, long_lump, playpal_of, scene_in}

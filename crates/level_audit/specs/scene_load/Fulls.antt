@@ -7,7 +7,7 @@ use Rattle.zone_rules.specs.declared.TheConstants.{MIN_FRAGMENT}
 use Rattle.zone_rules.specs.Zones.{block_size}
 use Rattle.csv_tables.specs.declared.weapons.WeaponRow.{WeaponRow}
 use Rattle.sprite_book.specs.Calls.{IsWanted}
-use Rattle.command_line.specs.LevelJobs.{LevelJobValue}
+use Rattle.job_rules.specs.LevelJobs.{LevelJobValue}
 use Rattle.job_files.specs.Files.{FilesValue, files_in}
 use Rattle.scene_rules.specs.Scenes.{colormap_of}
 use Rattle.level_audit.specs.Asked.{IsOfBase}

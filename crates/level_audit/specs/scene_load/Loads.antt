@@ -8,7 +8,7 @@ use Rattle.lump_rules.specs.Contents.{lump_bytes}
 use Rattle.csv_tables.specs.declared.weapons.WeaponRow.{WeaponRow}
 use Rattle.art_rules.specs.declared.shapes.Frame.{Frame}
 use Rattle.art_rules.specs.Books.{book_lumps}
-use Rattle.command_line.specs.LevelJobs.{LevelJobValue}
+use Rattle.job_rules.specs.LevelJobs.{LevelJobValue}
 use Rattle.refusals.specs.declared.refusal.Refusal.{Refusal}
 use Rattle.job_files.specs.Files.{FilesValue, files_in, value_of}
 use Rattle.job_files.specs.Sizes.{wad_contents}

@@ -9,7 +9,7 @@ use Rattle.zone_rules.specs.Orders.{Item, IsInOrder, live_sum, lump_size}
 use Rattle.lump_cache.specs.Caches.{composite_owner, lump_owner}
 use Rattle.art_rules.specs.Wanted.{PreparedTexture}
 use Rattle.texture_build.specs.Asked.{size_of}
-use Rattle.command_line.specs.LevelJobs.{LevelJobValue}
+use Rattle.job_rules.specs.LevelJobs.{LevelJobValue}
 use Rattle.job_files.specs.Sizes.{files_size}
 use Rattle.level_audit.specs.scene_load.Loads.{LoadedValue, loaded_lumps}
 

@@ -1,11 +1,12 @@
-use Rattle.doom_run.proofs.LimitLemmas.{line_of_counts, line_of_over, same_bytes, view_at}
+use Rattle.doom_run.proofs.FrameLemmas.{view_get}
+use Rattle.doom_run.proofs.LimitLemmas.{line_of_counts, line_of_over, same_bytes}
 use Rattle.doom_run.proofs.limits.put_view.Goals as goal
 
 pub returns-in-Ok-clause-writes : goal.returns-in-Ok-clause-writes
 returns-in-Ok-clause-writes g c bytes =
     same_bytes
     (line_of_counts bytes c.args.ready.now c.args.number _ c.in-Ok.counts
-    (view_at bytes c.args.ready.now c.args.number c.eye_of-eye.result _ c.views.result.now c.requires.number c.views.ensures.value c.eye_of-eye.ensures)
+    (view_get bytes c.args.ready.now c.args.number c.eye_at-eye.result c.eye_at-eye.ensures)
     (c.in-Ok.ensures.counts bytes) (c.in-Ok.ensures.within bytes))
     c.put_counts.ensures
 
@@ -13,6 +14,6 @@ pub returns-in-Err-clause-writes : goal.returns-in-Err-clause-writes
 returns-in-Err-clause-writes g c bytes =
     same_bytes
     (line_of_over bytes c.args.ready.now c.args.number _ c.in-Err.over
-    (view_at bytes c.args.ready.now c.args.number c.eye_of-eye.result _ c.views.result.now c.requires.number c.views.ensures.value c.eye_of-eye.ensures)
+    (view_get bytes c.args.ready.now c.args.number c.eye_at-eye.result c.eye_at-eye.ensures)
     (c.in-Err.ensures.over bytes))
     c.put_over.ensures

@@ -14,7 +14,7 @@ pub returns-clause-answers : goal.returns-clause-answers
 returns-clause-answers g c files holds =
     let found = c.in_ok-numbers.ensures.found files holds in
     let stand : NameFiles (g.S.Shelf.view c.find_all.new.shelf) c.deref.result.now found.contents = rw c.deref.ensures.value found.stand in
-    rw (lumps_found _ files found.contents found.named, ← c.find_all.ensures.follows.steady)
+    rw (lumps_found _ files found.contents found.lookup, ← c.find_all.ensures.follows.steady)
     (no_file_agrees (wad_files found.contents) c.load_dir.result (c.load_dir.ensures.answers found.contents stand))
 
 pub returns-clause-contents : goal.returns-clause-contents

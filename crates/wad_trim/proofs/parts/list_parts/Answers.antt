@@ -4,15 +4,15 @@ use Rattle.std.specs.Prelude.{◌++◌}
 use Rattle.art_rules.specs.Books.{book_lumps}
 use Rattle.sound_scene.specs.Views.{lump_numbers}
 use Rattle.trim_rules.specs.Parts.{called_lumps, flat_lumps, picture_lumps}
-use Rattle.wad_trim.specs.Plans.{scene_art, weapon_lumps}
+use Rattle.wad_trim.specs.Plans.{trim_art, layer_lumps}
 use Rattle.wad_trim.proofs.PartLemmas.{all-there, listed-few, parts-are}
 use Rattle.wad_trim.proofs.parts.list_parts.Goals as goal
 
 pub returns : goal.returns
 returns c =
     let lumps = c.args.dir.now.lumps in
-    let layers = weapon_lumps (option_copied c.args.weapons) in
-    let art = scene_art c.args.scene.now.scene layers in
+    let layers = layer_lumps (option_copied c.args.weapons) in
+    let art = trim_art c.args.scene.now.scene layers in
     let flats = ap lump_numbers c.deref.ensures.value ∙ c.in_ok-flats.ensures.lumps ∙ ap (flat_lumps lumps) c.flats.ensures in
     let pictures = ap lump_numbers c.deref-2.ensures.value ∙ c.in_ok-pictures.ensures ∙ ap (λ book. picture_lumps lumps (book_lumps book ++ layers)) c.sprites.ensures in
     let called = c.in_ok-called.ensures.lumps ∙ ap (λ view. called_lumps lumps view.prepared) c.textures.ensures in

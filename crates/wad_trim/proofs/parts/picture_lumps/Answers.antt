@@ -4,7 +4,7 @@ use Rattle.std.specs.List.{list_any}
 use Rattle.std.specs.Option.{option_copied}
 use Rattle.std.proofs.lemmas.Result.{IfOk-weaker}
 use Rattle.art_rules.specs.Books.{book_lumps}
-use Rattle.wad_trim.specs.Plans.{weapon_lumps}
+use Rattle.wad_trim.specs.Plans.{layer_lumps}
 use Rattle.wad_trim.proofs.ListLemmas.{either-picture, pictures-marked}
 use Rattle.wad_trim.proofs.parts.picture_lumps.Goals as goal
 
@@ -12,7 +12,7 @@ pub returns : goal.returns
 returns c =
     let lumps = c.args.dir.now.lumps in
     let own = book_lumps c.args.sprites.now in
-    let layers = weapon_lumps (option_copied c.args.weapons) in
+    let layers = layer_lumps (option_copied c.args.weapons) in
     let count = c.in_ok-marks.ensures.count ∙ c.count.ensures.count in
     IfOk-weaker c.lumps.result _ _
     (λ found e. e ∙ pictures-marked lumps (own ++ layers) c.mark_layers.new.marks (c.mark_layers.ensures.count ∙ c.mark_pictures.ensures.count ∙ count)

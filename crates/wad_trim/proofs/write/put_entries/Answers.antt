@@ -4,7 +4,7 @@ use Rattle.outside.specs.Sink.{Writes}
 use Rattle.outside.specs.declared.shelf.Failed.{Failed}
 use Rattle.lump_rules.specs.declared.wad.TheConstants.{HEADER_SIZE}
 use Rattle.trim_rules.specs.Parts.{part_name, part_size, parts_size}
-use Rattle.trim_rules.specs.declared.TheConstants.{MAX_FILE_BYTES}
+use Rattle.job_rules.specs.declared.trim.TheConstants.{MAX_FILE_BYTES}
 use Rattle.wad_trim.specs.Plans.{entries_from}
 use Rattle.wad_trim.proofs.FileLemmas.{entries-left, entries-more, entries-none, entries_behind, entry-is, fits-size, size-more, size-none, size-within}
 use Rattle.wad_trim.proofs.write.put_entries.Goals as goal

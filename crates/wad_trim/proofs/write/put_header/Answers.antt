@@ -3,7 +3,7 @@ use Rattle.outside.proofs.WriteLemmas.{writes_stop, writes_stopped, writes_then}
 use Rattle.lump_rules.specs.declared.wad.TheConstants.{HEADER_SIZE}
 use Rattle.made_rules.specs.Bytes.{word_bytes}
 use Rattle.trim_rules.specs.Parts.{parts_size}
-use Rattle.trim_rules.specs.declared.TheConstants.{MAX_FILE_BYTES}
+use Rattle.job_rules.specs.declared.trim.TheConstants.{MAX_FILE_BYTES}
 use Rattle.wad_trim.proofs.FileLemmas.{fits-size}
 use Rattle.wad_trim.proofs.write.put_header.Goals as goal
 

@@ -1,7 +1,8 @@
 use Rattle.outside.specs.Faults.{itself}
+use Rattle.outside.proofs.ThroughLemmas.{ok_through}
 use Rattle.lump_rules.specs.Contents.{lump_bytes}
 use Rattle.zone_rules.specs.Orders.{KeepsOrder}
-use Rattle.command_line.specs.LevelJobs.{level_job_value}
+use Rattle.job_rules.specs.LevelJobs.{level_job_value}
 use Rattle.refusals.specs.Groups.{of_audit}
 use Rattle.job_files.specs.Files.{value_of}
 use Rattle.level_audit.specs.scene_load.Fulls.{IsFullOver}
@@ -10,18 +11,25 @@ use Rattle.level_audit.specs.scene_load.Orders.{loaded_items}
 use Rattle.job_files.proofs.AboveLemmas.{answers_above, causes_above, fulls_above, orders_above}
 use Rattle.level_audit.proofs.scene_load.load.audit_level.Goals as goal
 
-pub returns-clause-answers : goal.returns-clause-answers
-returns-clause-answers g c contents told =
-    answers_above itself of_audit (audited_in (lump_bytes contents c.args.files.now.dir.lumps) (level_job_value c.args.level.now) (value_of c.args.files.now)) c.audit_files.result c.map_err.result c.map_err.ensures.cases (c.audit_files.ensures.answers contents told)
-
-pub returns-clause-full : goal.returns-clause-full
-returns-clause-full g c contents told =
-    fulls_above itself of_audit (IsFullOver (lump_bytes contents c.args.files.now.dir.lumps) (level_job_value c.args.level.now) (value_of c.args.files.now)) c.audit_files.result c.map_err.result c.map_err.ensures.cases (c.audit_files.ensures.full contents told)
-
-pub returns-clause-causes : goal.returns-clause-causes
-returns-clause-causes g c = causes_above itself of_audit c.audit_files.result c.map_err.result c.map_err.ensures.cases c.audit_files.ensures.causes
-
-pub returns-clause-order : goal.returns-clause-order
-returns-clause-order g c contents expected told accepted order =
-    orders_above itself of_audit (KeepsOrder (loaded_items expected) c.args.cache.now c.audit_files.new.cache (g.S.Shelf.view c.args.shelf.now).taken (g.S.Shelf.view c.audit_files.new.shelf).taken)
-    c.audit_files.result c.map_err.result c.map_err.ensures.cases (c.audit_files.ensures.order contents expected told accepted order)
+pub returns : goal.returns
+returns g c =
+    let e = c.audit_files.ensures in
+    let level = level_job_value c.args.level.now in
+    let lumps = c.args.files.now.dir.lumps in
+    let found = value_of c.args.files.now in
+    let one = c.audit_files.result in
+    let result = c.map_err.result in
+    let cases = c.map_err.ensures.cases in
+    record {
+      answers = λ contents told. answers_above itself of_audit (audited_in (lump_bytes contents lumps) level found) one result cases (e.answers contents told);
+      full = λ contents told. fulls_above itself of_audit (IsFullOver (lump_bytes contents lumps) level found) one result cases (e.full contents told);
+      audited = ok_through _ _ one result cases e.audited;
+      fresh = ok_through _ _ one result cases e.fresh;
+      counts = e.counts;
+      faithful = e.faithful;
+      order = λ contents expected told accepted order.
+          orders_above itself of_audit (KeepsOrder (loaded_items expected) c.args.cache.now c.audit_files.new.cache (g.S.Shelf.view c.args.shelf.now).taken (g.S.Shelf.view c.audit_files.new.shelf).taken)
+          one result cases (e.order contents expected told accepted order);
+      follows = e.follows;
+      causes = causes_above itself of_audit one result cases e.causes;
+    }

@@ -1,5 +1,0 @@
-pub mod ArtLemmas
-pub mod SceneOfLemmas
-pub mod TrimmedLemmas
-pub mod StepLemmas
-pub mod LoadLemmas

@@ -1,0 +1,7 @@
+pub mod ArtLemmas
+pub mod LoadLemmas
+pub mod RenderLemmas
+pub mod RunLemmas
+pub mod SceneOfLemmas
+pub mod StepLemmas
+pub mod TrimmedLemmas
