@@ -1,7 +1,7 @@
 // The columns of fine angles and the angles of columns: rules `column_of_angle`, `angle_of_column`,
 // `y_slope`, `dist_scale`. The original: `R_InitTextureMapping`, r_main.c.
 
-ghost use Rattle.std.specs.Prelude.{◌≡◌, ℕ, ◌+◌, ◌-◌, ◌*◌, ◌^◌, ◌<◌, ◌≤◌, ℤ, pos, ◌≤ℤ◌, false, length, slice_index, slice_index_or, IfOk};
+ghost use Rattle.std.specs.Prelude.{◌≡◌, ℕ, ◌+◌, ◌-◌, ◌*◌, ◌^◌, ◌<◌, ◌≤◌, pos, false, length, slice_index, slice_index_or, IfOk};
 ghost use Rattle.view_rules.specs.Tables.{projection, focal_length, seen_column, raw_column, within_view, column_of_angle, is_seen_by, first_seen_by, fine_of_column, angle_of_column, y_slope, angle_dist_scale, dist_scale};
 ghost use Rattle.word_rules.specs.Words.{turn_back, ang90};
 ghost use Rattle.view_rules.specs.declared.TheConstants.{TANGENTS};

@@ -1,7 +1,7 @@
 // The colormaps of lights by scale and by distance: rules `scale_light`, `distance_light`. The
 // original: `R_InitLightTables`, r_main.c, and `R_ExecuteSetViewSize`.
 
-ghost use Rattle.std.specs.Prelude.{◌≡◌, ℕ, ◌+◌, ◌-◌, ◌*◌, ◌/◌, ◌%◌, ◌<◌, ◌≤◌, min, length, slice_index, IfOk};
+ghost use Rattle.std.specs.Prelude.{◌≡◌, ℕ, ◌+◌, ◌-◌, ◌*◌, ◌/◌, ◌%◌, ◌<◌, min, length, slice_index, IfOk};
 ghost use Rattle.view_rules.specs.Tables.{start_map, scale_light, near_light, distance_light};
 ghost use Rattle.view_rules.specs.declared.TheConstants.{LIGHT_LEVELS, SCALE_STEPS, DISTANCE_STEPS, COLORMAPS};
 

@@ -1,9 +1,8 @@
 // What is wrong with tables: rule `angles_refusal`, the first wrong entry of each table in turn.
 // This project's own: the original trusts the tables it is built with.
 
-ghost use Rattle.std.specs.Prelude.{◌≡◌, ℕ, ◌<◌, ◌≤◌, Option, length, pos, slice_index_or};
+ghost use Rattle.std.specs.Prelude.{◌≡◌, ◌<◌, Option, length};
 ghost use Rattle.word_rules.specs.Least.{least};
-ghost use Rattle.view_rules.specs.Angles.{Angles};
 ghost use Rattle.view_rules.specs.Refusals.{is_wrong_sine, is_wrong_tangent, is_wrong_angle, is_wrong_edge, is_wrong_left, is_wrong_view, refused_at, view_refusal, angles_refusal};
 ghost use Rattle.angle_tables.specs.Lists.{is_wrong_in, length_in, refusal_in};
 

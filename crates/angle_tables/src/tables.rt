@@ -1,7 +1,6 @@
 // The tables of a view of a size: filled by `from_bytes`, read in constant time.
 
-ghost use Rattle.std.specs.Prelude.{◌≡◌, ℕ, ◌+◌, ◌<◌, ◌≤◌, pos, Option, Some, None, IfOk};
-ghost use Rattle.word_rules.specs.Words.{ang90};
+ghost use Rattle.std.specs.Prelude.{◌≡◌, ◌+◌, ◌<◌, ◌≤◌, pos, Some, None, IfOk};
 ghost use Rattle.view_rules.specs.Angles.{sine_at, cosine_at, tangent_at, angle_at};
 ghost use Rattle.view_rules.specs.Shape.{shape_of_size};
 ghost use Rattle.view_rules.specs.Tables.{column_of_angle, angle_of_column, clip_angle, y_slope, dist_scale, scale_light, distance_light};

@@ -26,7 +26,7 @@ mention_at lump name offset flip =
     } ∷ [])
     []
 
--- a name mentions one frame and rotation, or a second one, whose picture is flipped
+-- a name mentions one frame and rotation, and perhaps a second one, whose picture is flipped
 unfoldable pub name_mentions : ℕ → List ℕ → List Mention
 name_mentions lump name =
     mention_at lump name SPRITE_LETTERS false

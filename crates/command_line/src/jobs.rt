@@ -1,6 +1,6 @@
 // The job of the words, by its name and the words after it.
 
-ghost use Rattle.std.specs.Prelude.{◌≡◌, ◌≢◌, ◌==◌, true, false, [], Err, IfOk, IfErr, IfSome, Some, None, map, option_map, codes, string_bytes};
+ghost use Rattle.std.specs.Prelude.{◌≡◌, ◌==◌, Err, IfOk, IfSome, Some, None, map, string_bytes};
 ghost use Rattle.clap.specs.Words.{found_of, rows_of};
 ghost use Rattle.job_rules.specs.Commands.{IsCount, IsCounted, IsCountedMake, IsExercise, command_value};
 ghost use Rattle.command_line.specs.Commands.{IsCommandOf, IsDecidedBy, command_in, command_of, count_of, exercise_command, flat_command, job_named, make_job_of, make_command, numbered_make, plain_make, level_command, level_with, exercise_numbers};

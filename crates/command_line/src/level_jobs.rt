@@ -1,6 +1,6 @@
 // The jobs over a level: the level's name, the files, the numbers and the WADs.
 
-ghost use Rattle.std.specs.Prelude.{◌≡◌, IsTrue, [], length, Err, IfOk, IfSome, Some, None, map, option_map};
+ghost use Rattle.std.specs.Prelude.{◌≡◌, IsTrue, length, IfOk, IfSome, Some, None, map, option_map};
 ghost use Rattle.clap.specs.Words.{found_of, rows_of};
 ghost use Rattle.job_rules.specs.Ranges.{AreSettings, IsWithin};
 ghost use Rattle.job_rules.specs.LevelJobs.{file_names, level_job_value};

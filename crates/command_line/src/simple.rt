@@ -1,8 +1,8 @@
 // The simple command as `clap` reads it: a job, options with one value each, and the rest.
 
 ghost use Rattle.std.specs.Prelude.{◌≡◌, ◌≢◌, true, false, [], IfOk, option_map, map, codes, string_bytes};
-ghost use Rattle.clap.specs.Words.{all_of, app_of, fault_of, first_of, found_of, kind_of, matches_of, new_rule, rows_of, rule_of};
-ghost use Rattle.command_line.specs.Simple.{bare_command, option_rule, rest_rule, simple_command, with_files, with_limits, with_option, with_settings, with_three};
+ghost use Rattle.clap.specs.Words.{all_of, app_of, fault_of, first_of, found_of, kind_of, matches_of, rows_of, rule_of};
+ghost use Rattle.command_line.specs.Simple.{bare_command, option_rule, simple_command, with_files, with_limits, with_option, with_settings, with_three};
 
 use crate::fault::CommandFault;
 use clap::error::ErrorKind;

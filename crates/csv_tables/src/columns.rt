@@ -1,6 +1,6 @@
 // The values of a row's columns: numbers within a range, flags, sprite names, frame letters.
 
-ghost use Rattle.std.specs.Prelude.{◌≡◌, ◌<◌, ◌≤◌, ◌≤ℤ◌, ◌&&◌, nat_le, true, false, length, map, IfErr, IfOk, None, Some, slice_index};
+ghost use Rattle.std.specs.Prelude.{◌≡◌, ◌<◌, ◌≤◌, ◌≤ℤ◌, ◌&&◌, nat_le, true, length, map, IfErr, IfOk, None, Some};
 ghost use Rattle.std.specs.List.{list_all};
 ghost use Rattle.std.specs.Char.{to_ascii_uppercase};
 ghost use Rattle.csv.specs.Records.{fields_of, field_at};

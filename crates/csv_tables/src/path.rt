@@ -1,6 +1,6 @@
 // The views of a path.
 
-ghost use Rattle.std.specs.Prelude.{◌≡◌, ◌≤◌, ◌+◌, ℕ, List, [], true, false, length, IfOk, map, Result, Ok, Err, All};
+ghost use Rattle.std.specs.Prelude.{◌≡◌, ◌≤◌, ◌+◌, List, length, IfOk, map, Result, Ok, Err, All};
 ghost use Rattle.csv.specs.Records.{fields_of};
 ghost use Rattle.csv_tables.specs.Records.{IsRefusedAs};
 ghost use Rattle.csv_tables.specs.declared.path.PathRow.{PathRow};

@@ -1,8 +1,8 @@
 // How the things of each type look.
 #![tactic(auto, unfolding(crate::specs::Things::things_in_table))]
 
-ghost use Rattle.std.specs.Prelude.{◌≡◌, ◌<◌, ◌≤◌, ◌+◌, ℕ, List, [], true, false, length, IfOk, IfSome, map, Option, Some, None, Result, Ok, Err, All, get_or, replicate};
-ghost use Rattle.csv.specs.Records.{fields_of, field_at};
+ghost use Rattle.std.specs.Prelude.{◌≡◌, ◌<◌, ◌≤◌, ◌+◌, List, IfOk, IfSome, map, Option, Some, None, Result, Ok, Err, All, get_or, replicate};
+ghost use Rattle.csv.specs.Records.{fields_of};
 ghost use Rattle.csv_tables.specs.Records.{IsRefusedAs};
 ghost use Rattle.csv_tables.specs.Things.{IsLineInRange, IsThingInRange, thing_header, line_of_fields, lines_of_records, not_repeated, read_line, thing_line, thing_lines, things_in_table};
 ghost use Rattle.level_rules.specs.Types.{row_of};

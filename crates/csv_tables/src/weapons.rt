@@ -1,7 +1,7 @@
 // The weapon layers of the views of a path.
 
-ghost use Rattle.std.specs.Prelude.{◌≡◌, ◌≤◌, ◌+◌, ℕ, List, [], true, false, length, IfOk, map, Result, Ok, Err, All};
-ghost use Rattle.csv.specs.Records.{fields_of, field_at};
+ghost use Rattle.std.specs.Prelude.{◌≡◌, ◌≤◌, ◌+◌, List, length, IfOk, map, Result, Ok, Err, All};
+ghost use Rattle.csv.specs.Records.{fields_of};
 ghost use Rattle.csv_tables.specs.Records.{IsRefusedAs};
 ghost use Rattle.csv_tables.specs.declared.weapons.TheConstants.{MAX_WEAPONS};
 ghost use Rattle.csv_tables.specs.Weapons.{IsWeaponInRange, weapon_row, weapon_rows, weapons_in, weapons_of_records, weapon_header};

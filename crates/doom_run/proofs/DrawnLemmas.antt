@@ -3,7 +3,7 @@ use Rattle.std.proofs.Common.{◌≡◌, ◌+◌, ◌<◌, ℕ, List, Some, Ok, 
 use Rattle.std.specs.Prelude.{◌⊎◌}
 use Rattle.outside.specs.Shelf.{File}
 use Rattle.lump_rules.specs.Lookups.{lump_at}
-use Rattle.zone_rules.specs.declared.TheConstants.{MIN_FRAGMENT}
+use Rattle.lump_cache.specs.Sizes.{IsGapBeside}
 use Rattle.texture_build.specs.Views.{AreTexturesOf}
 use Rattle.job_rules.specs.LevelJobs.{LevelJobValue}
 use Rattle.scene_rules.specs.Sizes.{SceneArt, lump_block, zone_sizes}
@@ -20,7 +20,7 @@ use Rattle.level_audit.proofs.scene_load.ArtLemmas.{scene_textures}
 use Rattle.level_audit.proofs.scene_load.AuditedLemmas.{audited_by}
 use Rattle.level_audit.proofs.scene_load.LoadLemmas.{audited_of}
 use Rattle.doom_run.specs.declared.render.ReadyViews.{ReadyViews}
-use Rattle.doom_run.specs.Fulls.{IsDrawnBlock, IsFullDraw, IsPatchBeside}
+use Rattle.doom_run.specs.Fulls.{IsBlockBeside, IsDrawnBlock, IsFullDraw, IsPatchBeside}
 use Rattle.doom_run.specs.Renders.{IsFullView, IsReady}
 use Rattle.doom_run.proofs.PictureLemmas.{layer_needed, layer_there}
 
@@ -46,19 +46,22 @@ drawable level loaded stands = record {
 }
 
 -- what a zone that was full for what was loaded had no room for
-module _ (loaded : LoadedValue) (zone wanted : ℕ) where
+module _ (loaded : LoadedValue) (zone wanted widest' : ℕ) where
   abbrev art_in : SceneArt
   art_in = art_with loaded.scene (loaded_pictures loaded)
 
-  full_block : IsArtFull loaded.files.lumps art_in zone wanted → IsDrawnBlock loaded wanted
+  full_block : IsArtFull loaded.files.lumps art_in zone wanted widest' → IsDrawnBlock loaded wanted
   full_block (inl f) = record { is = inl (f.lump, f.there, f.needed, f.is) }
   full_block (inr (inl f)) = record { is = inr (Some f.texture, f.prepared, f.is, f.some) }
   full_block (inr (inr f)) = record { is = inl (f.patch.lump, f.there, f.needed, f.is) }
 
-  full_room : IsArtFull loaded.files.lumps art_in zone wanted → (zone < lump_block loaded.files.lumps loaded.scene.base.colormap + wanted + MIN_FRAGMENT) ⊎ IsPatchBeside loaded zone wanted
-  full_room (inl f) = inl f.small
-  full_room (inr (inl f)) = inl f.small
-  full_room (inr (inr f)) = inr (record { texture = f.texture; prepared = f.prepared; patch = f.patch; among = f.among; is = f.is; built = f.built; small = f.small })
+  gap_beside : widest' < wanted → IsGapBeside zone (lump_block loaded.files.lumps loaded.scene.base.colormap) widest' → IsBlockBeside loaded zone wanted widest'
+  gap_beside narrow gap = record { small = omega (arith, narrow, gap.1); gap = gap }
+
+  full_beside : widest' < wanted → IsArtFull loaded.files.lumps art_in zone wanted widest' → IsBlockBeside loaded zone wanted widest' ⊎ IsPatchBeside loaded zone wanted widest'
+  full_beside narrow (inl f) = inl (gap_beside narrow f.gap)
+  full_beside narrow (inr (inl f)) = inl (gap_beside narrow f.gap)
+  full_beside narrow (inr (inr f)) = inr (record { texture = f.texture; prepared = f.prepared; patch = f.patch; among = f.among; is = f.is; built = f.built; small = omega (arith, narrow, f.gap.1); gap = f.gap })
 
 -- no gap is as wide as what was wanted
 narrow_of : (ready : ReadyViews) (wanted widest' : ℕ) → IsFullView ready wanted widest' → widest' < wanted
@@ -68,7 +71,7 @@ narrow_of ready wanted widest' (inr (inr layer)) = layer.narrow
 
 -- what was full for a texture, a lump of a view or a layer was full for what is needed
 drawn_full : (level : LevelJobValue) (wads : List (List ℕ)) (files : List File) (ready : ReadyViews) → IsReady level ready → load_in level wads files ≡ Ok (loaded_value ready.loaded) → (wanted widest' : ℕ) →
-    IsFullView ready wanted widest' → IsArtFull ready.loaded.files.dir.lumps (art_with ready.loaded.scene.scene (loaded_pictures (loaded_value ready.loaded))) ready.loaded.cache.size wanted
+    IsFullView ready wanted widest' → IsArtFull ready.loaded.files.dir.lumps (art_with ready.loaded.scene.scene (loaded_pictures (loaded_value ready.loaded))) ready.loaded.cache.size wanted widest'
 unfolding lump_block
 drawn_full level wads files ready stands is wanted widest' (inl texture) =
     view_full (wad_contents wads files) ready.loaded.files.dir ready.loaded.scene.scene (weapon_lumps ready.loaded.weapons) ready.loaded.cache (drawable level ready.loaded stands.loaded) (loaded_textures level wads files (loaded_value ready.loaded) is) stands.loaded.audited.rest wanted widest' (inl texture)
@@ -82,20 +85,20 @@ drawn_full level wads files ready stands is wanted widest' (inr (inr layer)) =
       there = layer_there lumps ready.loaded.weapons layer.lump stands.loaded.audited.layers layer.asked;
       needed = layer_needed lumps scene (weapon_lumps ready.loaded.weapons) layer.lump layer.asked;
       is = layer.wanted_is;
-      small = layer.room scene.base.colormap (lump_at lumps scene.base.colormap).size stands.loaded.audited.rest;
+      gap = layer.gap scene.base.colormap (lump_at lumps scene.base.colormap).size stands.loaded.audited.rest;
     })
 
 -- no room for what is needed
 pub art_draw : (level : LevelJobValue) (wads : List (List ℕ)) (files : List File) (loaded : LoadedValue) → load_in level wads files ≡ Ok loaded → (wanted widest' : ℕ) → widest' < wanted →
-    IsArtFull loaded.files.lumps (art_with loaded.scene (loaded_pictures loaded)) level.settings.zone wanted → IsFullDraw level wads files wanted widest'
+    IsArtFull loaded.files.lumps (art_with loaded.scene (loaded_pictures loaded)) level.settings.zone wanted widest' → IsFullDraw level wads files wanted widest'
 unfolding loaded_sizes zone_sizes
 art_draw level wads files loaded is wanted widest' narrow full = record {
   loaded = loaded;
   is = is;
-  block = full_block loaded level.settings.zone wanted full;
+  block = full_block loaded level.settings.zone wanted widest' full;
   narrow = narrow;
-  small = full_room loaded level.settings.zone wanted full;
-  enough = full-small loaded.files.lumps (art_with loaded.scene (loaded_pictures loaded)) level.settings.zone wanted full;
+  beside = full_beside loaded level.settings.zone wanted widest' narrow full;
+  enough = full-small loaded.files.lumps (art_with loaded.scene (loaded_pictures loaded)) level.settings.zone wanted widest' narrow full;
 }
 
 -- no room for a texture or a lump of a view
@@ -104,7 +107,7 @@ pub view_draw : (level : LevelJobValue) (wads : List (List ℕ)) (files : List F
 view_draw level wads files ready stands is wanted widest' full =
     let loaded : LoadedValue = loaded_value ready.loaded in
     let art : SceneArt = art_with loaded.scene (loaded_pictures loaded) in
-    let drawn : IsArtFull loaded.files.lumps art level.settings.zone wanted =
-    subst (λ n. IsArtFull loaded.files.lumps art n wanted) stands.loaded.zone
+    let drawn : IsArtFull loaded.files.lumps art level.settings.zone wanted widest' =
+    subst (λ n. IsArtFull loaded.files.lumps art n wanted widest') stands.loaded.zone
     (drawn_full level wads files ready stands is wanted widest' full) in
     art_draw level wads files loaded is wanted widest' (narrow_of ready wanted widest' full) drawn

@@ -2,7 +2,7 @@
 use Rattle.std.proofs.Common.{◌≡◌, ◌⊎◌, ℕ, Bool, List, Option, Result, Err, IfErr, length, refl, ap, sym, ◌∙◌, subst, inl, inr}
 use Rattle.std.specs.Prelude.{Contains}
 use Rattle.outside.specs.Shelf.{ShelfView}
-use Rattle.zone_rules.specs.Zones.{Heap}
+use Rattle.zone_rules.specs.Zones.{Heap, block_size}
 use Rattle.art_rules.specs.declared.shapes.Frame.{Frame}
 use Rattle.picture_rules.specs.declared.Limits.{Limits}
 use Rattle.lump_rules.specs.declared.wad.Lump.{Lump}
@@ -10,7 +10,8 @@ use Rattle.lump_rules.specs.Contents.{lump_bytes}
 use Rattle.wad_dir.specs.DirectoryView.{DirectoryView}
 use Rattle.lump_cache.specs.Caches.{KeepsCounts}
 use Rattle.lump_cache.specs.Calls.{IfFull, IsFullFor}
-use Rattle.texture_build.specs.Asked.{IsPatch, IsSmall, IsSmallBeside, size_of}
+use Rattle.lump_cache.specs.Sizes.{IsGapBeside}
+use Rattle.texture_build.specs.Asked.{IsGapBesideComposite, IsPatch, size_of}
 use Rattle.texture_build.specs.Sources.{IsComposedColumn, column_in}
 use Rattle.texture_build.specs.Views.{TexturesView, prepared_texture}
 use Rattle.texture_build.specs.Draws.{HoldsArt, IsFullForTexture, KeepsArt}
@@ -106,12 +107,12 @@ full_texture-first {dir = dir} {textures} wanted widest keeps full = record {
     asked = full.full.asked;
     wanted_is = full.full.wanted_is;
     narrow = full.full.narrow;
-    room = λ colormap count rest. subst
-        (λ (n : ℕ). IsSmall n count wanted
+    gap = λ colormap count rest. subst
+        (λ (n : ℕ). IsGapBeside n (block_size count) widest
         ⊎ (IsComposedColumn (column_in (prepared_texture textures full.number) full.column)
         × IsPatch dir.lumps (prepared_texture textures full.number) full.full.owner full.full.size
-        × IsSmallBeside n count (size_of (prepared_texture textures full.number)) wanted))
-        keeps.counts.0 (full.full.room colormap count (keeps.rest colormap count rest));
+        × IsGapBesideComposite n count (size_of (prepared_texture textures full.number)) widest))
+        keeps.counts.0 (full.full.gap colormap count (keeps.rest colormap count rest));
   };
 }
 
@@ -122,7 +123,7 @@ full_lump-first wanted widest keeps full = record {
   asked = full.asked;
   wanted_is = full.wanted_is;
   narrow = full.narrow;
-  room = λ colormap count rest. subst (λ (n : ℕ). IsSmall n count wanted) keeps.counts.0 (full.room colormap count (keeps.rest colormap count rest));
+  gap = λ colormap count rest. subst (λ (n : ℕ). IsGapBeside n (block_size count) widest) keeps.counts.0 (full.gap colormap count (keeps.rest colormap count rest));
 }
 
 full_view-first : {a b : ShelfView} {y z : Heap} (files files' : SceneFiles) (scene scene' : SoundValue) (weapons weapons' : Option (List Frame)) (wanted widest : ℕ) → files' ≡ files → scene' ≡ scene → weapons' ≡ weapons → KeepsArt a b files.dir (textures_view scene.scene) y z →
@@ -146,8 +147,8 @@ layers-later {x = x} {y} keeps there = layers_for x.loaded.files y.loaded.files 
 
 -- a zone that was full for a lump of either kind
 full_by : {dir : DirectoryView} {z : Heap} {wanted widest' : ℕ} (P Q : ℕ → Type 0) (full : IsFullFor (λ lump. P lump ⊎ Q lump) dir z wanted widest') → P full.lump ⊎ Q full.lump → IsFullFor P dir z wanted widest' ⊎ IsFullFor Q dir z wanted widest'
-full_by P Q full (inl asked) = inl (record { lump = full.lump; asked = asked; wanted_is = full.wanted_is; narrow = full.narrow; room = full.room })
-full_by P Q full (inr asked) = inr (record { lump = full.lump; asked = asked; wanted_is = full.wanted_is; narrow = full.narrow; room = full.room })
+full_by P Q full (inl asked) = inl (record { lump = full.lump; asked = asked; wanted_is = full.wanted_is; narrow = full.narrow; gap = full.gap })
+full_by P Q full (inr asked) = inr (record { lump = full.lump; asked = asked; wanted_is = full.wanted_is; narrow = full.narrow; gap = full.gap })
 
 -- the zone in which a view found no gap, or one of its layers
 abbrev FullEither : ReadyViews → ℕ → ℕ → Type 0

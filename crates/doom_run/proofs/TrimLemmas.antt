@@ -139,11 +139,11 @@ module _ (level : LevelJobValue) (wads : List (List ℕ)) (files : List File) (l
   trim_draw wanted widest' full =
       let scene = loaded.scene.scene in
       let value : LoadedValue = loaded_value loaded in
-      let copied : IsArtFull lumps (loaded_art value) loaded.cache.size wanted = inl (record {
+      let copied : IsArtFull lumps (loaded_art value) loaded.cache.size wanted widest' = inl (record {
         lump = full.lump;
         there = copied_there full.lump full.asked;
         needed = copied_needed full.lump full.asked;
         is = full.wanted_is;
-        small = full.room scene.base.colormap (lump_at lumps scene.base.colormap).size stands.audited.rest;
+        gap = full.gap scene.base.colormap (lump_at lumps scene.base.colormap).size stands.audited.rest;
       }) in
-      art_draw level wads files value is wanted widest' full.narrow (subst (λ n. IsArtFull lumps (loaded_art value) n wanted) stands.zone copied)
+      art_draw level wads files value is wanted widest' full.narrow (subst (λ n. IsArtFull lumps (loaded_art value) n wanted widest') stands.zone copied)

@@ -2,6 +2,7 @@
 use Rattle.std.specs.Prelude.{◌≡◌, ◌≢◌, ◌≤◌, ◌<◌, ◌+◌, ◌*◌, ◌⊎◌, ℕ, true, IsTrue, IfSome, List, length, Option, Some, Ok, Contains}
 use Rattle.outside.specs.Shelf.{File}
 use Rattle.zone_rules.specs.declared.TheConstants.{MIN_FRAGMENT}
+use Rattle.lump_cache.specs.Sizes.{IsGapBeside, IsGapBesideTwo}
 use Rattle.art_rules.specs.declared.PlacedPatch.{PlacedPatch}
 use Rattle.art_rules.specs.Wanted.{PreparedTexture}
 use Rattle.job_rules.specs.Commands.{CommandValue}
@@ -21,8 +22,13 @@ pub record IsDrawnBlock (loaded : LoadedValue) (wanted : ℕ) : Type 0 where
   pub is : ((lump : ℕ) × (lump < length loaded.files.lumps) × (is_needed loaded.files.lumps (art_with loaded.scene (loaded_pictures loaded)) lump ≡ true) × (wanted ≡ lump_block loaded.files.lumps lump))
       ⊎ ((t : Option PreparedTexture) × (Contains loaded.scene.prepared t) × (wanted ≡ composite_block t) × (wanted ≢ 0))
 
+-- The zone does not hold it beside COLORMAP: the widest gap is all that is left there.
+pub record IsBlockBeside (loaded : LoadedValue) (zone wanted widest' : ℕ) : Type 0 where
+  pub small : zone < lump_block loaded.files.lumps loaded.scene.base.colormap + wanted + MIN_FRAGMENT
+  pub gap : IsGapBeside zone (lump_block loaded.files.lumps loaded.scene.base.colormap) widest'
+
 -- a patch of a texture whose composite is built, which has to stand beside it and COLORMAP
-pub record IsPatchBeside (loaded : LoadedValue) (zone wanted : ℕ) : Type 0 where
+pub record IsPatchBeside (loaded : LoadedValue) (zone wanted widest' : ℕ) : Type 0 where
   pub texture : PreparedTexture
   pub prepared : Contains loaded.scene.prepared (Some texture)
   pub patch : PlacedPatch
@@ -31,16 +37,19 @@ pub record IsPatchBeside (loaded : LoadedValue) (zone wanted : ℕ) : Type 0 whe
   pub built : composite_block (Some texture) ≢ 0
   pub small : zone < lump_block loaded.files.lumps loaded.scene.base.colormap
       + composite_block (Some texture) + 2 * wanted + 2 * MIN_FRAGMENT
+  pub gap : IsGapBesideTwo zone (lump_block loaded.files.lumps loaded.scene.base.colormap
+      + composite_block (Some texture)) widest'
 
 -- No gap held a block that drawing asks for, or the block of a lump of a trimmed file. The zone does not hold
 -- it beside COLORMAP, or it is a patch of a composite that is built; and the zone is smaller than enough.
+-- The widest gap is what is left beside these.
 pub record IsFullDraw (level : LevelJobValue) (wads : List (List ℕ)) (files : List File) (wanted widest' : ℕ) : Type 0 where
   pub loaded : LoadedValue
   pub is : load_in level wads files ≡ Ok loaded
   pub block : IsDrawnBlock loaded wanted
   pub narrow : widest' < wanted
-  pub small : (level.settings.zone < lump_block loaded.files.lumps loaded.scene.base.colormap + wanted + MIN_FRAGMENT)
-      ⊎ IsPatchBeside loaded level.settings.zone wanted
+  pub beside : IsBlockBeside loaded level.settings.zone wanted widest'
+      ⊎ IsPatchBeside loaded level.settings.zone wanted widest'
   pub enough : level.settings.zone < (loaded_sizes loaded).enough
 
 -- The files of a task with a zone are in order, and the zone is small: for what loading reads, or for what is

@@ -2,7 +2,7 @@
 //
 // Rules: `specs/Jobs` (the table), `specs/Performs`.
 ghost use Rattle.std.specs.Prelude.{map};
-ghost use Rattle.job_rules.specs.LevelJobs.{IsLevelJob, level_job_value};
+ghost use Rattle.job_rules.specs.LevelJobs.{level_job_value};
 ghost use Rattle.job_rules.specs.Ranges.{AreSettings};
 ghost use Rattle.level_audit.specs.scene_load.Calls.{IsLoadedScene};
 ghost use Rattle.doom_run.specs.Jobs.{delivery_of, job_over};

@@ -1,5 +1,5 @@
 // A run, from its words to its status.
-ghost use Rattle.std.specs.Prelude.{◌≡◌, ◌≤◌, ◌⊎◌, ℕ, false, List, [], map, Some, Ok, Err, IsTrue, IfSome};
+ghost use Rattle.std.specs.Prelude.{◌≡◌, ◌≤◌, ◌⊎◌, ℕ, false, List, [], Some, Ok, Err, IsTrue, IfSome};
 ghost use Rattle.outside.specs.Causes.{FaultsRose};
 ghost use Rattle.outside.specs.Shelf.{File, Holds, ShelfView};
 ghost use Rattle.outside.specs.Sink.{Grew, GrewByPrefix};
@@ -9,7 +9,7 @@ ghost use Rattle.job_rules.specs.LevelJobs.{LevelJobValue};
 ghost use Rattle.job_rules.specs.declared.command.LevelTask.TheVariants.{Trim};
 ghost use Rattle.job_files.specs.Lines.{line_of};
 ghost use Rattle.doom_run.specs.Alike.{RendersAlike};
-ghost use Rattle.doom_run.specs.Ends.{EndsAt, EndsWith, IsEnd, IsReadOrFull, IsUnwritten};
+ghost use Rattle.doom_run.specs.Ends.{EndsWith, IsEnd, IsReadOrFull, IsUnwritten};
 ghost use Rattle.doom_run.specs.Fulls.{HasRoom, IsFullRun};
 ghost use Rattle.doom_run.specs.Jobs.{job_of};
 ghost use Rattle.doom_run.specs.Leasts.{command_least, command_zone};

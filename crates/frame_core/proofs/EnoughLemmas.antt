@@ -13,11 +13,11 @@ use Rattle.outside.specs.Shelf.{ShelfView}
 use Rattle.lump_rules.specs.declared.wad.Lump.{Lump}
 use Rattle.lump_rules.specs.Contents.{lump_bytes}
 use Rattle.lump_rules.specs.Lookups.{lump_at}
-use Rattle.zone_rules.specs.declared.TheConstants.{MIN_FRAGMENT}
 use Rattle.zone_rules.specs.Zones.{Heap, Owner, block_size}
 use Rattle.wad_dir.specs.DirectoryView.{DirectoryView}
 use Rattle.lump_cache.specs.Caches.{IsAtRest, composite_owner, lump_owner}
 use Rattle.lump_cache.specs.Calls.{IfFull, IsFullFor}
+use Rattle.lump_cache.specs.Sizes.{IsGapBeside, IsGapBesideTwo}
 use Rattle.lump_cache.proofs.CallLemmas.{full_at}
 use Rattle.art_rules.specs.declared.ColumnLookup.{ColumnLookup}
 use Rattle.art_rules.specs.declared.ColumnLookup.TheVariants.{Empty}
@@ -29,10 +29,10 @@ use Rattle.art_rules.specs.Wanted.{PreparedTexture, is_patch_of, is_patch_of_any
 use Rattle.art_rules.proofs.LookupLemmas.{column_lookups-read}
 use Rattle.scene_rules.specs.Scenes.{SceneValue, art_of}
 use Rattle.scene_rules.specs.Sizes.{SceneArt, block_or_none, composite_block, enough, greatest_by, has_flat, is_needed, lump_block}
-use Rattle.texture_build.specs.Asked.{IsAskedByColumn, IsPatch, IsSmall, IsSmallBeside, size_of}
+use Rattle.texture_build.specs.Asked.{IsAskedByColumn, IsGapBesideComposite, IsPatch, size_of}
 use Rattle.texture_build.specs.Draws.{DrawsWith, HoldsArt, IsFullForTexture}
 use Rattle.texture_build.specs.Sources.{IsComposedColumn, column_index, own_lookup}
-use Rattle.texture_build.specs.Views.{AllThere, ArePatchesThere, AreTexturesOf, IsPrepared, prepared_at, prepared_texture, unprepared}
+use Rattle.texture_build.specs.Views.{TexturesView, AllThere, ArePatchesThere, AreTexturesOf, IsPrepared, prepared_at, prepared_texture, unprepared}
 use Rattle.texture_build.proofs.TexelLemmas.{prepared_is}
 use Rattle.texture_build.proofs.ViewLemmas.{HasColumns, textures_columns}
 use Rattle.sound_scene.specs.Sound.{art_with, textures_view}
@@ -164,23 +164,23 @@ patch_there lumps scene t patch all prepared among =
     All-contains (λ (p : PlacedPatch). p.lump < length lumps) t.patches patch (All-contains (λ (o : Option PreparedTexture). IfSome o (ArePatchesThere lumps)) scene.prepared (Some t) all prepared) among
 
 -- A zone is full for a lump that is needed: it does not hold it beside COLORMAP.
-pub record IsLumpFull (lumps : List Lump) (art : SceneArt) (zone wanted : ℕ) : Type 0 where
+pub record IsLumpFull (lumps : List Lump) (art : SceneArt) (zone wanted widest' : ℕ) : Type 0 where
   pub lump : ℕ
   pub there : lump < length lumps
   pub needed : is_needed lumps art lump ≡ true
   pub is : wanted ≡ lump_block lumps lump
-  pub small : zone < lump_block lumps art.colormap + wanted + MIN_FRAGMENT
+  pub gap : IsGapBeside zone (lump_block lumps art.colormap) widest'
 
 -- for the composite of a texture
-pub record IsCompositeFull (lumps : List Lump) (art : SceneArt) (zone wanted : ℕ) : Type 0 where
+pub record IsCompositeFull (lumps : List Lump) (art : SceneArt) (zone wanted widest' : ℕ) : Type 0 where
   pub texture : PreparedTexture
   pub prepared : Contains art.prepared (Some texture)
   pub is : wanted ≡ composite_block (Some texture)
   pub some : wanted ≢ 0
-  pub small : zone < lump_block lumps art.colormap + wanted + MIN_FRAGMENT
+  pub gap : IsGapBeside zone (lump_block lumps art.colormap) widest'
 
 -- for a patch of a texture whose composite is built, which has to stand beside it and COLORMAP
-pub record IsPatchFull (lumps : List Lump) (art : SceneArt) (zone wanted : ℕ) : Type 0 where
+pub record IsPatchFull (lumps : List Lump) (art : SceneArt) (zone wanted widest' : ℕ) : Type 0 where
   pub texture : PreparedTexture
   pub prepared : Contains art.prepared (Some texture)
   pub patch : PlacedPatch
@@ -189,21 +189,23 @@ pub record IsPatchFull (lumps : List Lump) (art : SceneArt) (zone wanted : ℕ) 
   pub needed : is_needed lumps art patch.lump ≡ true
   pub is : wanted ≡ lump_block lumps patch.lump
   pub built : composite_block (Some texture) ≢ 0
-  pub small : zone < lump_block lumps art.colormap + composite_block (Some texture) + 2 * wanted + 2 * MIN_FRAGMENT
+  pub gap : IsGapBesideTwo zone (lump_block lumps art.colormap + composite_block (Some texture)) widest'
 
-abbrev pub IsArtFull : List Lump → SceneArt → ℕ → ℕ → Type 0
-IsArtFull lumps art zone wanted =
-    IsLumpFull lumps art zone wanted ⊎ (IsCompositeFull lumps art zone wanted ⊎ IsPatchFull lumps art zone wanted)
+abbrev pub IsArtFull : List Lump → SceneArt → ℕ → ℕ → ℕ → Type 0
+IsArtFull lumps art zone wanted widest' =
+    IsLumpFull lumps art zone wanted widest'
+    ⊎ (IsCompositeFull lumps art zone wanted widest' ⊎ IsPatchFull lumps art zone wanted widest')
 
 -- it is smaller than enough
-pub full-small : (lumps : List Lump) (art : SceneArt) (zone wanted : ℕ) → IsArtFull lumps art zone wanted → zone < enough lumps art
+pub full-small : (lumps : List Lump) (art : SceneArt) (zone wanted widest' : ℕ) → widest' < wanted → IsArtFull lumps art zone wanted widest' → zone < enough lumps art
 unfolding enough
-full-small lumps art zone wanted (inl f) = omega (arith, f.small, f.is, needed_there lumps art f.lump f.needed f.there)
-full-small lumps art zone wanted (inr (inl f)) =
-    omega (arith, f.small, f.is, contained_greatest composite_block art.prepared (Some f.texture) f.prepared)
-full-small lumps art zone wanted (inr (inr f)) = omega (
+full-small lumps art zone wanted widest' narrow (inl f) = omega (arith, narrow, f.gap.1, f.is, needed_there lumps art f.lump f.needed f.there)
+full-small lumps art zone wanted widest' narrow (inr (inl f)) =
+    omega (arith, narrow, f.gap.1, f.is, contained_greatest composite_block art.prepared (Some f.texture) f.prepared)
+full-small lumps art zone wanted widest' narrow (inr (inr f)) = omega (
   arith,
-  f.small,
+  narrow,
+  f.gap.1,
   f.is,
   contained_greatest composite_block art.prepared (Some f.texture) f.prepared,
   needed_there lumps art f.patch.lump f.needed f.there,
@@ -218,7 +220,7 @@ among_prepared prepared number some = elim (cases_lt number (length prepared)) [
 
 -- a cache at rest, in which a scene is drawn that needs the pictures of its book and others
 module _ (contents : List (List ℕ)) (dir : DirectoryView) (scene : SceneValue) (more : List ℕ) (z : Heap) (can : CanDrawView dir.lumps scene z) (textures : AreTexturesOf contents dir.lumps (textures_view scene))
-    (rest : IsAtRest scene.base.colormap (lump_at dir.lumps scene.base.colormap).size z) (wanted : ℕ) where
+    (rest : IsAtRest scene.base.colormap (lump_at dir.lumps scene.base.colormap).size z) (wanted widest : ℕ) where
   abbrev art : SceneArt
   art = art_with scene (book_lumps scene.book ++ more)
 
@@ -227,27 +229,27 @@ module _ (contents : List (List ℕ)) (dir : DirectoryView) (scene : SceneValue)
 
   module _ (t : PreparedTexture) (prepared : Contains scene.prepared (Some t)) (size : ℕ) (wanted_is : wanted ≡ block_size size) where
     -- no room for a patch or a composite
-    alone_full : {number : ℕ} {owner : Owner} → IsOfTexture dir.lumps number t owner size → IsSmall z.size count wanted → IsArtFull dir.lumps art z.size wanted
+    alone_full : {number : ℕ} {owner : Owner} → IsOfTexture dir.lumps number t owner size → IsGapBeside z.size (block_size count) widest → IsArtFull dir.lumps art z.size wanted widest
     unfolding lump_block
-    alone_full (inl patch) small = inl (record {
+    alone_full (inl patch) gap = inl (record {
       lump = patch.0.lump;
       there = patch_there dir.lumps scene t patch.0 can.whole.art.patches prepared patch.1;
       needed = needed_patch dir.lumps art t patch.0 prepared patch.1;
       is = wanted_is ∙ ap (λ n. block_size n) patch.3;
-      small = small;
+      gap = gap;
     })
-    alone_full (inr composite) small = inr (inl (record {
+    alone_full (inr composite) gap = inr (inl (record {
       texture = t;
       prepared = prepared;
       is = wanted_is ∙ ap (λ n. block_size n) composite.1 ∙ sym (block_of t composite.2);
       some = subst (λ n. n ≢ 0) (sym wanted_is) (block_some size);
-      small = small;
+      gap = gap;
     }))
 
     -- none for a patch beside the composite
-    beside_full : (patch : PlacedPatch) → Contains t.patches patch → size ≡ (lump_at dir.lumps patch.lump).size → 0 < size_of t → IsSmallBeside z.size count (size_of t) wanted → IsArtFull dir.lumps art z.size wanted
+    beside_full : (patch : PlacedPatch) → Contains t.patches patch → size ≡ (lump_at dir.lumps patch.lump).size → 0 < size_of t → IsGapBesideComposite z.size count (size_of t) widest → IsArtFull dir.lumps art z.size wanted widest
     unfolding lump_block
-    beside_full patch among same some small =
+    beside_full patch among same some gap =
         let built : composite_block (Some t) ≡ block_size (size_of t) = block_of t some in
         inr (inr (record {
           texture = t;
@@ -258,7 +260,7 @@ module _ (contents : List (List ℕ)) (dir : DirectoryView) (scene : SceneValue)
           needed = needed_patch dir.lumps art t patch prepared among;
           is = wanted_is ∙ ap (λ n. block_size n) same;
           built = subst (λ n. n ≢ 0) (sym built) (block_some (size_of t));
-          small = subst (λ n. z.size < block_size count + n + 2 * wanted + 2 * MIN_FRAGMENT) (sym built) small;
+          gap = subst (λ n. IsGapBesideTwo z.size (block_size count + n) widest) (sym built) gap;
         }))
 
   -- none for what a column asks for
@@ -276,41 +278,45 @@ module _ (contents : List (List ℕ)) (dir : DirectoryView) (scene : SceneValue)
     its_rows = textures_rows contents dir.lumps (textures_view scene) number t textures prepared_as
 
     column_full : IsAskedByColumn dir.lumps number t (own_lookup t x) owner size →
-        IsSmall z.size count wanted ⊎ (IsComposedColumn (own_lookup t x) × IsPatch dir.lumps t owner size × IsSmallBeside z.size count (size_of t) wanted) → IsArtFull dir.lumps art z.size wanted
-    column_full asked (inl small) =
+        IsGapBeside z.size (block_size count) widest ⊎ (IsComposedColumn (own_lookup t x) × IsPatch dir.lumps t owner size × IsGapBesideComposite z.size count (size_of t) widest) → IsArtFull dir.lumps art z.size wanted widest
+    column_full asked (inl gap) =
         alone_full t (among_prepared scene.prepared number some) size wanted_is
-        (column_asked dir.lumps number t owner size (lump_bytes contents dir.lumps) its_columns its_rows x asked) small
+        (column_asked dir.lumps number t owner size (lump_bytes contents dir.lumps) its_columns its_rows x asked) gap
     column_full asked (inr beside) =
         beside_full t (among_prepared scene.prepared number some) size wanted_is beside.1.0 beside.1.1 beside.1.3
         (column_composed dir.lumps number t owner size (lump_bytes contents dir.lumps) its_columns its_rows x beside.0) beside.2
 
-  module _ (widest : ℕ) where
-    texture_full : IsFullForTexture (IsViewTexture scene) dir.lumps (textures_view scene) z wanted widest → IsArtFull dir.lumps art z.size wanted
-    texture_full k =
-        let full = k.full in
-        column_full k.number (column_index (prepared_texture (textures_view scene) k.number) k.column) k.is full.owner full.size full.wanted_is full.asked (full.room scene.base.colormap count rest)
+  texture_full : IsFullForTexture (IsViewTexture scene) dir.lumps (textures_view scene) z wanted widest → IsArtFull dir.lumps art z.size wanted widest
+  texture_full k =
+      let full = k.full in
+      column_full k.number (column_index (prepared_texture (textures_view scene) k.number) k.column) k.is full.owner full.size full.wanted_is full.asked (full.gap scene.base.colormap count rest)
 
-    -- none for a flat or a picture
-    lump_full : IsFullFor (IsViewLump dir.lumps scene) dir z wanted widest → IsArtFull dir.lumps art z.size wanted
-    unfolding lump_block
-    lump_full full = inl (record {
-      lump = full.lump;
-      there = full.asked.there;
-      needed = needed_drawn dir.lumps scene more full.lump full.asked;
-      is = full.wanted_is;
-      small = full.room scene.base.colormap count rest;
-    })
+  -- none for a flat or a picture
+  lump_full : IsFullFor (IsViewLump dir.lumps scene) dir z wanted widest → IsArtFull dir.lumps art z.size wanted widest
+  unfolding lump_block
+  lump_full full = inl (record {
+    lump = full.lump;
+    there = full.asked.there;
+    needed = needed_drawn dir.lumps scene more full.lump full.asked;
+    is = full.wanted_is;
+    gap = full.gap scene.base.colormap count rest;
+  })
 
-    -- a zone that was full for a texture or a lump of a view
-    pub view_full : IsFullForTexture (IsViewTexture scene) dir.lumps (textures_view scene) z wanted widest ⊎ IsFullFor (IsViewLump dir.lumps scene) dir z wanted widest → IsArtFull dir.lumps art z.size wanted
-    view_full (inl texture) = texture_full texture
-    view_full (inr lump) = lump_full lump
+  -- a zone that was full for a texture or a lump of a view
+  pub view_full : IsFullForTexture (IsViewTexture scene) dir.lumps (textures_view scene) z wanted widest ⊎ IsFullFor (IsViewLump dir.lumps scene) dir z wanted widest → IsArtFull dir.lumps art z.size wanted widest
+  view_full (inl texture) = texture_full texture
+  view_full (inr lump) = lump_full lump
 
 -- a fault that is no full zone, where no read failed, tells a limit
 complete_at : (before now : ℕ) (fault : ViewFault) → IfFull (view_fault fault) (λ wanted widest. ⊥) → HasCauseAt before now (view_fault fault) → (FaultsRose before now → ⊥) → IsSome (limit_of_view fault)
 complete_at before now (Limit kind number) full cause none = refl
 complete_at before now (ZoneFull wanted widest) full cause none = absurd full
 complete_at before now ReadFault full cause none = absurd (none cause)
+
+-- no gap is as wide as what was wanted
+full_narrow : {among lumps : ℕ → Type 0} {dir : DirectoryView} {textures : TexturesView} {z : Heap} (wanted widest : ℕ) → IsFullForTexture among dir.lumps textures z wanted widest ⊎ IsFullFor lumps dir z wanted widest → widest < wanted
+full_narrow wanted widest (inl texture) = texture.full.narrow
+full_narrow wanted widest (inr lump) = lump.narrow
 
 -- So a zone that is enough for a scene is never full for a view of it.
 module _ {v : ShelfView} {dir : DirectoryView} {scene : SceneValue} {x : Heap} (can : CanDrawView dir.lumps scene x) (contents : List (List ℕ)) (count : ℕ) (hold : HoldsArt v dir (textures_view scene) contents scene.base.colormap count x)
@@ -319,7 +325,7 @@ module _ {v : ShelfView} {dir : DirectoryView} {scene : SceneValue} {x : Heap} (
   unfolding art_of
   never_full wanted widest full =
       let rest : IsAtRest scene.base.colormap (lump_at dir.lumps scene.base.colormap).size x = subst (λ n. IsAtRest scene.base.colormap n x) (sym is) hold.rest in
-      let small = full-small dir.lumps (art_with scene (book_lumps scene.book ++ [])) x.size wanted (view_full contents dir scene [] x can hold.prepared rest wanted widest full) in
+      let small = full-small dir.lumps (art_with scene (book_lumps scene.book ++ [])) x.size wanted widest (full_narrow wanted widest full) (view_full contents dir scene [] x can hold.prepared rest wanted widest full) in
       let less : x.size < enough dir.lumps (art_with scene (book_lumps scene.book)) = subst (λ pictures. x.size < enough dir.lumps (art_with scene pictures)) (append-nil (book_lumps scene.book)) small in
       let held : enough dir.lumps (art_with scene (book_lumps scene.book)) ≤ x.size = room in
       omega (arith, less, held)

@@ -1,5 +1,5 @@
 -- The picture of a flat, which is laid over the frame again and again.
-use Rattle.std.specs.Prelude.{ℕ, ◌+◌, ◌*◌, ◌/◌, ◌%◌, List, [], ◌∷◌, take, slice_index, Option, Some, None, Result, Ok, Err}
+use Rattle.std.specs.Prelude.{ℕ, ◌/◌, ◌%◌, List, [], ◌∷◌, take, Option, Some, None, Result, Ok, Err}
 use Rattle.word_rules.specs.Listed.{listed}
 use Rattle.outside.specs.Shelf.{File, file_named}
 use Rattle.outside.specs.Faults.{and_then, from_below}
@@ -8,7 +8,8 @@ use Rattle.lump_rules.specs.Wads.{directory}
 use Rattle.lump_rules.specs.Lookups.{flat_of}
 use Rattle.lump_rules.specs.Contents.{lump_bytes}
 use Rattle.frame_writer.specs.declared.TheConstants.{FRAME_WIDTH, FRAME_BYTES, PALETTE_BYTES}
-use Rattle.job_files.specs.declared.tiling.TheConstants.{FLAT_SIDE}
+use Rattle.pixel_rules.specs.declared.TheConstants.{FLAT_SIDE}
+use Rattle.art_rules.specs.Flats.{flat_byte}
 use Rattle.refusals.specs.declared.refusal.Refusal.{Refusal}
 use Rattle.refusals.specs.declared.refusal.Refusal.TheVariants.{Wad, Art, Scene}
 use Rattle.scene_rules.specs.declared.refusal.SceneRefusal.TheVariants.{FlatName}
@@ -19,10 +20,6 @@ use Rattle.outside.specs.Stops.{Stop, else_absent, no_file}
 pub record PictureValue : Type 0 where
   pub frame : List ℕ
   pub palette : List ℕ
-
--- the byte of a flat at a column and a row, 0 past the flat's end
-abbrev pub flat_byte : List ℕ → ℕ → ℕ → ℕ
-flat_byte flat x y = slice_index flat (FLAT_SIDE * y + x)
 
 -- the index at a place of the frame, counted row by row
 abbrev pub tiled_index : List ℕ → ℕ → ℕ

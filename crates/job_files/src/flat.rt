@@ -1,5 +1,5 @@
 // The job `flat`: one PPM of a flat that is tiled over the frame.
-ghost use Rattle.std.specs.Prelude.{◌≡◌, ◌<◌, ◌∷◌, [], ℕ, List, length, IfOk};
+ghost use Rattle.std.specs.Prelude.{◌≡◌, ◌<◌, ◌≤◌, ◌+◌, ◌∷◌, [], ℕ, List, length, IfOk};
 ghost use Rattle.outside.specs.Causes.{FaultsRose};
 ghost use Rattle.outside.specs.Shelf.{NameFiles, File, IsLaterShelf, Holds, Stands};
 ghost use Rattle.outside.specs.Faults.{ResultIs, HasCauses, itself};
@@ -9,6 +9,7 @@ ghost use Rattle.job_files.specs.Flats.{palette_in, flat_in, picture_in, flat_pi
 ghost use Rattle.job_files.specs.Statuses.{DeliversBytes};
 ghost use Rattle.outside.specs.Stops.{ResultIsOrAbsent};
 ghost use Rattle.job_files.specs.Files.{IsNeverFull};
+ghost use Rattle.job_files.specs.Sizes.{flat_reads, flat_size, flat_sizes};
 
 use crate::colours::find_playpal;
 use crate::fault::LoadFault;
@@ -23,7 +24,8 @@ use refusals::{Refusal, SceneRefusal};
 use std::alloc::Global;
 use wad_dir::{Directory, Name8};
 
-/// The picture of a flat in the first file of that name. Takes all memory of the job.
+/// The picture of a flat in the first file of that name. Takes all memory of the job. Reads at most
+/// the header and the directory of the file, its first palette and the flat, each once (`taken`).
 ///
 /// Errors: `Refused` with the first refusal of the file's bytes, of its palette and of the flat;
 /// `ReadFault` where no file has that name, or where the shelf counted a fault; `OutOfMemory`.
@@ -42,6 +44,9 @@ pub fn prepare_flat<S: Shelf>(
     ensures follows { IsLaterShelf (S.view shelf.old) (S.view shelf.new) }
     ensures causes { HasCauses itself
         (S.view shelf.old).faults (S.view shelf.new).faults result }
+    ensures taken { (files : List File) → Holds (S.view shelf.old) files →
+        (S.view shelf.new).taken ≤ (S.view shelf.old).taken
+        + flat_reads name.now file.now files }
 {
     let number = shelf.find(file)?;
     load_flat(alloc, shelf, name, number)
@@ -78,6 +83,8 @@ fn load_flat<S: Shelf>(
     ensures follows { IsLaterShelf (S.view shelf.old) (S.view shelf.new) }
     ensures causes { HasCauses itself
         (S.view shelf.old).faults (S.view shelf.new).faults result }
+    ensures taken { (bytes : List ℕ) → Stands (S.view shelf.old) number.0 bytes →
+        (S.view shelf.new).taken ≤ (S.view shelf.old).taken + flat_sizes name.now bytes }
 {
     let dir = load_dir(alloc, shelf, &[number])?;
     draw_flat(alloc, shelf, &dir, name)
@@ -98,6 +105,8 @@ fn draw_flat<S: Shelf>(
     ensures follows { IsLaterShelf (S.view shelf.old) (S.view shelf.new) }
     ensures causes { HasCauses itself
         (S.view shelf.old).faults (S.view shelf.new).faults result }
+    ensures taken { (S.view shelf.new).taken
+        ≤ (S.view shelf.old).taken + (PALETTE_BYTES + flat_size dir.now.lumps name.now) }
 {
     let playpal = read_palette(alloc, shelf, dir)?;
     let flat = read_flat(alloc, shelf, dir, name)?;
@@ -119,6 +128,7 @@ fn read_palette<S: Shelf>(
     ensures follows { IsLaterShelf (S.view shelf.old) (S.view shelf.new) }
     ensures causes { HasCauses itself
         (S.view shelf.old).faults (S.view shelf.new).faults result }
+    ensures taken { (S.view shelf.new).taken ≤ (S.view shelf.old).taken + PALETTE_BYTES }
 {
     match find_playpal(dir) {
         Ok(lump) => read_front(alloc, shelf, dir, lump, PALETTE_BYTES),
@@ -141,6 +151,8 @@ fn read_flat<S: Shelf>(
     ensures follows { IsLaterShelf (S.view shelf.old) (S.view shelf.new) }
     ensures causes { HasCauses itself
         (S.view shelf.old).faults (S.view shelf.new).faults result }
+    ensures taken { (S.view shelf.new).taken
+        ≤ (S.view shelf.old).taken + flat_size dir.now.lumps name.now }
 {
     match dir.flat(name) {
         Some(lump) => read_lump(alloc, shelf, dir, lump),

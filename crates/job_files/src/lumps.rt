@@ -1,5 +1,5 @@
 // Lumps that are read straight from the shelf, without a zone.
-ghost use Rattle.std.specs.Prelude.{◌≡◌, ◌<◌, ◌≤◌, ℕ, List, length, take, Ok, IsTrue, IsOk, IfOk, OnOk, OnErr};
+ghost use Rattle.std.specs.Prelude.{◌≡◌, ◌<◌, ◌≤◌, ◌+◌, ℕ, List, length, take, Ok, IsTrue, IsOk, IfOk, OnOk, OnErr};
 ghost use Rattle.outside.specs.Causes.{FaultsRose};
 ghost use Rattle.outside.specs.Shelf.{NameFiles, IsLaterShelf};
 ghost use Rattle.outside.specs.Faults.{ResultIs, HasCauses, itself};
@@ -26,6 +26,7 @@ fn fill_front<S: Shelf>(
         OnOk result (piece.new ≡ take (length piece.old)
         (lump_bytes contents dir.now.lumps lump.0)) }
     ensures follows { IsLaterShelf (S.view shelf.old) (S.view shelf.new) }
+    ensures taken { (S.view shelf.new).taken ≤ (S.view shelf.old).taken + length piece.old }
     ensures failed { OnErr result (FaultsRose (S.view shelf.old).faults (S.view shelf.new).faults) }
     ensures steady { (contents : List (List ℕ)) →
         NameFiles (S.view shelf.old) dir.now.files contents → AllWithin contents dir.now.lumps →
@@ -56,6 +57,7 @@ pub fn read_front<S: Shelf>(
     ensures follows { IsLaterShelf (S.view shelf.old) (S.view shelf.new) }
     ensures causes { HasCauses itself
         (S.view shelf.old).faults (S.view shelf.new).faults result }
+    ensures taken { (S.view shelf.new).taken ≤ (S.view shelf.old).taken + size }
 {
     let mut piece = vec![in alloc; 0; size]?;
     fill_front(shelf, dir, lump, &mut piece)?;
@@ -78,6 +80,8 @@ pub fn read_lump<S: Shelf>(
     ensures follows { IsLaterShelf (S.view shelf.old) (S.view shelf.new) }
     ensures causes { HasCauses itself
         (S.view shelf.old).faults (S.view shelf.new).faults result }
+    ensures taken { (S.view shelf.new).taken
+        ≤ (S.view shelf.old).taken + (lump_at dir.now.lumps lump.0).size }
 {
     let size = dir.size(lump) as usize;
     read_front(alloc, shelf, dir, lump, size)

@@ -17,7 +17,7 @@ use Rattle.level_rules.specs.declared.ThingLine.{ThingLine}
 use Rattle.lump_cache.specs.Caches.{IsAtRest}
 use Rattle.lump_cache.specs.Calls.{IfFull, IsFullFor, HoldContents}
 use Rattle.lump_cache.specs.Named.{IsLast}
-use Rattle.lump_cache.proofs.CallLemmas.{full_at}
+use Rattle.lump_cache.proofs.CallLemmas.{full_at, full_room}
 use Rattle.art_rules.specs.declared.TheConstants.{PNAMES, TEXTURE1, TEXTURE2}
 use Rattle.texture_lists.specs.Asked.{IsListLump}
 use Rattle.outside.specs.declared.fault.Fault.{Fault}
@@ -129,4 +129,4 @@ enough_after dir a b contents lines name skill scene colormap (Ok sound) is acce
 enough_after dir a b contents lines name skill scene colormap (Err fault) is accepted told rest size full =
     full_at (itself fault) (λ wanted widest' k.
     small_later (lump_bytes contents dir.lumps) dir.lumps lines name skill scene accepted colormap is a.size wanted k.lump (k.asked contents told) k.wanted_is
-    (subst (λ n. n < block_size (lump_at dir.lumps colormap).size + wanted + MIN_FRAGMENT) size (k.room colormap (lump_at dir.lumps colormap).size rest))) full
+    (subst (λ n. n < block_size (lump_at dir.lumps colormap).size + wanted + MIN_FRAGMENT) size (full_room k colormap (lump_at dir.lumps colormap).size rest))) full

@@ -1,6 +1,6 @@
 -- What is told of an audit after its first fetch, that of COLORMAP, by what is told of the rest.
-use Rattle.std.proofs.Common.{◌≡◌, ◌≢◌, ◌≤◌, ◌<◌, ◌+◌, ℕ, Bool, List, Result, Ok, Err, sym, ap, subst, ◌∙◌, arith, inl, inr, IsErrAnd, MatchResult}
-use Rattle.std.specs.Prelude.{IfErr, IfOk}
+use Rattle.std.proofs.Common.{◌≡◌, ◌≢◌, ◌≤◌, ◌<◌, ◌+◌, ℕ, Bool, true, List, Option, None, Some, Result, Ok, Err, option_map, sym, ap, subst, ◌∙◌, arith, inl, inr, IsErrAnd, MatchResult}
+use Rattle.std.specs.Prelude.{IfErr, IfOk, OnOk, option_and_then}
 use Rattle.std.proofs.lemmas.Result.{err_from_is_err_and}
 use Rattle.outside.specs.Shelf.{NameFiles, IsLaterShelf, ShelfView}
 use Rattle.outside.specs.declared.fault.Fault.{Fault}
@@ -10,17 +10,19 @@ use Rattle.lump_rules.specs.Contents.{lump_bytes}
 use Rattle.lump_rules.specs.Lookups.{lump_at}
 use Rattle.zone_rules.specs.Orders.{Item, KeepsOrder}
 use Rattle.zone_rules.specs.declared.TheConstants.{MIN_FRAGMENT}
-use Rattle.zone_rules.specs.Zones.{Heap, block_size}
+use Rattle.zone_rules.specs.declared.Tag.TheVariants.{Static}
+use Rattle.zone_rules.specs.Requests.{gaps}
+use Rattle.zone_rules.specs.Zones.{Owner, Block, Heap, Holding, block_size, holding_of, owned_block}
 use Rattle.zone_rules.proofs.GapLemmas.{small_all}
 use Rattle.zone_rules.proofs.OrderLemmas.{order_then}
 use Rattle.wad_dir.specs.DirectoryView.{DirectoryView}
 use Rattle.lump_cache.specs.declared.fault.CacheFault.{CacheFault}
 use Rattle.lump_cache.specs.declared.fault.CacheFault.TheVariants.{ZoneFull, ReadFault}
-use Rattle.lump_cache.specs.Caches.{IsAtRest, IsFaithful, NoRoom, WhereFull, from_cache}
+use Rattle.lump_cache.specs.Caches.{HasStatic, IsAtRest, IsFaithful, NoRoom, WhereFull, from_cache, holds_static, is_static_tag, lump_owner}
 use Rattle.level_rules.specs.declared.ThingLine.{ThingLine}
 use Rattle.lump_cache.specs.Calls.{IfFull, InOrderAt, IsFullFor, HoldContents}
-use Rattle.lump_cache.specs.Sizes.{HasSizes, StandsBeside}
-use Rattle.lump_cache.proofs.CallLemmas.{full_at, order_at}
+use Rattle.lump_cache.specs.Sizes.{HasSizes, IsGapAround, IsGapBeside, StandsBeside}
+use Rattle.lump_cache.proofs.CallLemmas.{full_at, full_room, order_at}
 use Rattle.outside.specs.declared.fault.Fault.TheVariants.{Refused}
 use Rattle.scene_rules.specs.declared.refusal.AuditRefusal.{AuditRefusal}
 use Rattle.scene_rules.specs.Scenes.{SceneValue, colormap_of}
@@ -51,12 +53,6 @@ full_above P Q fetched fault result was is then_ full =
       go ReadFault k = tt
       go (ZoneFull wanted widest') k = then_ wanted widest' k
 
--- both are said of it
-pub full_both : (P Q : ℕ → ℕ → Type 0) (fetched : Result (Unit {0}) CacheFault) → WhereFull fetched P → WhereFull fetched Q → WhereFull fetched (λ wanted widest'. P wanted widest' × Q wanted widest')
-full_both P Q (Ok done) one other = tt
-full_both P Q (Err ReadFault) one other = tt
-full_both P Q (Err (ZoneFull wanted widest')) one other = (one, other)
-
 -- no room for COLORMAP itself
 pub full_first : (v : ShelfView) (dir : DirectoryView) (a : Heap) (lines : List ThingLine) (name : List ℕ) (skill colormap wanted widest' : ℕ) → colormap_of dir.lumps ≡ Ok colormap → NoRoom (lump_at dir.lumps colormap).size a wanted widest' → IsFullAudit v dir a lines name skill wanted widest'
 full_first v dir a lines name skill colormap wanted widest' is full = record {
@@ -77,6 +73,14 @@ module _ {v w : ShelfView} {dir : DirectoryView} {a b : Heap} (later : (contents
   full_after lines name skill (Err fault) full =
       full_at (itself fault) (λ wanted widest' k. record { lump = k.lump; asked = λ contents t. inr (k.asked contents (later contents t)); wanted_is = k.wanted_is; narrow = k.narrow }) full
 
+-- COLORMAP itself has no room in an empty zone
+pub room_first : (size : ℕ) (a : Heap) (fetched : Result (Unit {0}) CacheFault) → WhereFull fetched (NoRoom size a) → WhereFull fetched (λ wanted widest'. widest' ≡ a.size) → WhereFull fetched (λ wanted widest'. (a.size < wanted) × ((wanted ≡ block_size size) × (widest' ≡ a.size)))
+room_first size a (Ok done) none gap = tt
+room_first size a (Err ReadFault) none gap = tt
+room_first size a (Err (ZoneFull wanted widest')) none gap =
+    let narrow = small_all (block_size size) (gaps a.blocks) (omega arith) none.none in
+    (omega (arith, gap, narrow, none.wanted_is, none.widest_is), (none.wanted_is, gap))
+
 -- no room for a later lump: the zone does not hold it beside the colormap
 pub room_after : (wants : ℕ → Type 0) (dir : DirectoryView) (a b : Heap) (colormap other : ℕ) (result : Result SoundValue (Fault AuditRefusal)) → colormap ≡ other → IsAtRest colormap (lump_at dir.lumps colormap).size b → b.size ≡ a.size →
     IfErr result (λ f. IfFull (itself f) (IsFullFor wants dir b)) → IfErr result (λ f. IfFull (itself f) (λ wanted widest'. a.size < block_size (lump_at dir.lumps other).size + wanted + MIN_FRAGMENT))
@@ -84,7 +88,16 @@ room_after wants dir a b colormap other (Ok sound) same rest size full = tt
 room_after wants dir a b colormap other (Err fault) same rest size full =
     full_at fault (λ wanted widest' k.
     subst (λ n. n < block_size (lump_at dir.lumps other).size + wanted + MIN_FRAGMENT) size
-    (subst (λ n. b.size < block_size (lump_at dir.lumps n).size + wanted + MIN_FRAGMENT) same (k.room colormap (lump_at dir.lumps colormap).size rest))) full
+    (subst (λ n. b.size < block_size (lump_at dir.lumps n).size + wanted + MIN_FRAGMENT) same (full_room k colormap (lump_at dir.lumps colormap).size rest))) full
+
+-- the widest gap is what is left there
+pub gap_after : (wants : ℕ → Type 0) (dir : DirectoryView) (a b : Heap) (colormap other : ℕ) (result : Result SoundValue (Fault AuditRefusal)) → colormap ≡ other → IsAtRest colormap (lump_at dir.lumps colormap).size b → b.size ≡ a.size →
+    IfErr result (λ f. IfFull (itself f) (IsFullFor wants dir b)) → IfErr result (λ f. IfFull (itself f) (λ wanted widest'. IsGapAround a.size (block_size (lump_at dir.lumps other).size) wanted widest'))
+gap_after wants dir a b colormap other (Ok sound) same rest size full = tt
+gap_after wants dir a b colormap other (Err fault) same rest size full =
+    full_at fault (λ wanted widest' k. inr
+    (subst (λ n. IsGapBeside n (block_size (lump_at dir.lumps other).size) widest') size
+    (subst (λ n. IsGapBeside b.size (block_size (lump_at dir.lumps n).size) widest') same (k.gap colormap (lump_at dir.lumps colormap).size rest)))) full
 
 -- a cache that was in order stays so through both
 pub order_after : {R E A : Type 0} {items : List Item} {a b : Heap} {i j : ℕ} (told : E → Fault R) (c : Heap) (k : ℕ) (result : Result A E) → KeepsOrder items a b i j → MatchResult result (λ _. KeepsOrder items b c j k) (λ f. InOrderAt (told f) (KeepsOrder items b c j k)) →
@@ -100,13 +113,33 @@ module _ (dir : DirectoryView) (a b : Heap) (colormap : ℕ) (result : Result So
     go (Ok sound) is = subst (λ n. IsAtRest n (lump_at dir.lumps n).size c) (sym is) (keeps colormap (lump_at dir.lumps colormap).size rest)
     go (Err fault) is = tt
 
+  -- it is pinned for the whole run after any call that keeps such a block
+  pub pinned_after : (c : Heap) → option_map (λ (h : Holding). h.tag) (holding_of (lump_owner colormap) b.blocks) ≡ Some Static → ((o : Owner) → holds_static (holding_of o b.blocks) ≡ true → owned_block o c.blocks ≡ owned_block o b.blocks) → IfOk result (λ sound. holds_static (holding_of (lump_owner sound.scene.base.colormap) c.blocks) ≡ true)
+  pinned_after c tag stays = go result same where
+    held : (h : Option Holding) → option_map (λ (x : Holding). x.tag) h ≡ Some Static → holds_static h ≡ true
+    held None e = cc
+    held (Some h) e = let is : h.tag ≡ Static = cc in ap is_static_tag is
+
+    before : holds_static (holding_of (lump_owner colormap) b.blocks) ≡ true
+    before = held (holding_of (lump_owner colormap) b.blocks) tag
+
+    after : holds_static (holding_of (lump_owner colormap) c.blocks) ≡ true
+    after = ap (λ (x : Option Block). holds_static (option_and_then (λ (y : Block). y.holding) x)) (stays (lump_owner colormap) before) ∙ before
+
+    go : (r : Result SoundValue (Fault AuditRefusal)) → IfOk r (λ sound. sound.scene.base.colormap ≡ colormap) → IfOk r (λ sound. holds_static (holding_of (lump_owner sound.scene.base.colormap) c.blocks) ≡ true)
+    go (Ok sound) is = subst (λ n. holds_static (holding_of (lump_owner n) c.blocks) ≡ true) (sym is) after
+    go (Err fault) is = tt
+
   -- each lump of the base stands beside it
-  pub fits_after : (name : List ℕ) → IsAtRest colormap (lump_at dir.lumps colormap).size b → HasSizes dir.lumps b → b.size ≡ a.size → IfOk result (λ sound. (lump : ℕ) → IsOfBase dir.lumps name lump → StandsBeside dir.lumps b lump) →
+  pub fits_after : {A : Type 0} (fetched : Result A CacheFault) (done : A) (name : List ℕ) → fetched ≡ Ok done → OnOk fetched (HasStatic (lump_at dir.lumps colormap).size (owned_block (lump_owner colormap) b.blocks)) → HasSizes dir.lumps b → b.size ≡ a.size → IfOk result (λ sound. (lump : ℕ) → IsOfBase dir.lumps name lump → StandsBeside dir.lumps b lump) →
       IfOk result (λ sound. (lump : ℕ) → IsOfBase dir.lumps name lump → lump ≢ sound.scene.base.colormap → block_size (lump_at dir.lumps sound.scene.base.colormap).size + block_size (lump_at dir.lumps lump).size ≤ a.size)
-  fits_after name rest has size fits = go result same fits where
+  fits_after fetched done name was static has size fits = go result same fits where
+    pinned : HasStatic (lump_at dir.lumps colormap).size (owned_block (lump_owner colormap) b.blocks)
+    pinned = subst (λ r. OnOk r (HasStatic (lump_at dir.lumps colormap).size (owned_block (lump_owner colormap) b.blocks))) was static
+
     go : (r : Result SoundValue (Fault AuditRefusal)) → IfOk r (λ sound. sound.scene.base.colormap ≡ colormap) → IfOk r (λ sound. (lump : ℕ) → IsOfBase dir.lumps name lump → StandsBeside dir.lumps b lump) →
         IfOk r (λ sound. (lump : ℕ) → IsOfBase dir.lumps name lump → lump ≢ sound.scene.base.colormap → block_size (lump_at dir.lumps sound.scene.base.colormap).size + block_size (lump_at dir.lumps lump).size ≤ a.size)
     go (Ok sound) is beside = λ lump asked.
         subst (λ n. lump ≢ n → block_size (lump_at dir.lumps n).size + block_size (lump_at dir.lumps lump).size ≤ a.size) (sym is)
-        (λ other. subst (λ n. block_size (lump_at dir.lumps colormap).size + block_size (lump_at dir.lumps lump).size ≤ n) size (beside lump asked colormap (lump_at dir.lumps colormap).size rest has other))
+        (λ other. subst (λ n. block_size (lump_at dir.lumps colormap).size + block_size (lump_at dir.lumps lump).size ≤ n) size (beside lump asked colormap (lump_at dir.lumps colormap).size pinned has other))
     go (Err fault) is beside = tt

@@ -9,11 +9,11 @@ ghost use Rattle.outside.specs.Faults.{ResultIs, HasCauses, itself};
 ghost use Rattle.lump_rules.specs.Contents.{lump_bytes};
 ghost use Rattle.lump_rules.specs.Lookups.{lump_at};
 ghost use Rattle.zone_rules.specs.declared.TheConstants.{MIN_FRAGMENT};
-ghost use Rattle.zone_rules.specs.Zones.{block_size, bytes_of};
+ghost use Rattle.zone_rules.specs.Zones.{block_size, bytes_of, holding_of};
 ghost use Rattle.zone_rules.specs.Orders.{Item, has_item, IsInOrder};
-ghost use Rattle.lump_cache.specs.Caches.{IsAtRest, IsEmpty, IsFaithful, KeepsCounts, composite_owner, lump_owner};
+ghost use Rattle.lump_cache.specs.Caches.{IsAtRest, IsEmpty, IsFaithful, KeepsCounts, composite_owner, holds_static, lump_owner};
 ghost use Rattle.lump_cache.specs.Calls.{IfFull, LeavesInOrder, HoldContents, ReadsLumps};
-ghost use Rattle.lump_cache.specs.Sizes.{StandsBeside};
+ghost use Rattle.lump_cache.specs.Sizes.{HasSizes, IsGapAround, StandsBeside};
 ghost use Rattle.scene_rules.specs.Scenes.{SceneValue, art_of, colormap_of, scene_in, sizes_of};
 ghost use Rattle.scene_rules.specs.Sizes.{needed_lumps};
 ghost use Rattle.level_audit.specs.Asked.{IsOfBase};
@@ -46,10 +46,12 @@ use zone_heap::Tag;
 /// `ZoneFull` only once COLORMAP is found (`found`), where no gap of the zone held the block of one
 /// of these lumps; from a cache without a live slot only in a zone smaller than the block of
 /// COLORMAP, that block and `MIN_FRAGMENT` (`room`), and, where nothing refuses, smaller than the
-/// scene's `enough` (`enough`). `OutOfMemory`.
+/// scene's `enough` (`enough`); the widest gap is then the whole zone, if COLORMAP itself had no room,
+/// and else all that is left beside it (`gap`). `OutOfMemory`.
 ///
-/// From a cache without a live slot, after Ok, COLORMAP is pinned for the whole run at place 0, and
-/// no other block is pinned (`rest`); its block and that of each of the other lumps of colours, of
+/// After Ok COLORMAP is live and pinned for the whole run, whatever was live before (`pinned`). From a
+/// cache without a live slot it stands at place 0, and no other block is pinned (`rest`). Where each
+/// live lump had the directory's size, its block and that of each of the other lumps of colours, of
 /// the map, and of the lists are together no larger than the zone (`fits`).
 ///
 /// After Ok over any shelf, the scene has all that drawing asks of it (`whole`).
@@ -87,6 +89,10 @@ pub fn audit<S: Shelf>(
         IfErr result (λ fault. IfFull (itself fault) (λ wanted widest'.
         cache.old.size < block_size (lump_at dir.now.lumps colormap).size + wanted +
         MIN_FRAGMENT)) }
+    ensures gap { (colormap : ℕ) → colormap_of dir.now.lumps ≡ Ok colormap → IsEmpty cache.old →
+        IfErr result (λ fault. IfFull (itself fault) (λ wanted widest'.
+        IsGapAround cache.old.size (block_size (lump_at dir.now.lumps colormap).size) wanted
+        widest')) }
     ensures enough { (contents : List (List ℕ)) (scene : SceneValue) →
         HoldContents (S.view shelf.old) dir.now cache.old contents →
         scene_in (lump_bytes contents dir.now.lumps) dir.now.lumps things.now map.now skill ≡ Ok
@@ -96,7 +102,9 @@ pub fn audit<S: Shelf>(
     ensures rest { IsEmpty cache.old →
         IfOk result (λ sound. IsAtRest sound.scene.base.colormap
         (lump_at dir.now.lumps sound.scene.base.colormap).size cache.new) }
-    ensures fits { IsEmpty cache.old →
+    ensures pinned { IfOk result (λ sound. holds_static
+        (holding_of (lump_owner sound.scene.base.colormap) cache.new.blocks) ≡ true) }
+    ensures fits { HasSizes dir.now.lumps cache.old →
         IfOk result (λ sound. (lump : ℕ) → IsOfBase dir.now.lumps map.now lump →
         lump ≢ sound.scene.base.colormap →
         block_size (lump_at dir.now.lumps sound.scene.base.colormap).size + block_size (lump_at

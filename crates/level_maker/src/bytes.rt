@@ -1,5 +1,5 @@
 // Numbers put behind the bytes that are there, the low byte first.
-ghost use Rattle.std.specs.Prelude.{◌≡◌, ◌++◌, ◌+◌, ◌<◌, ◌^◌, OnOk};
+ghost use Rattle.std.specs.Prelude.{◌≡◌, ◌++◌, ◌+◌, ◌<◌, OnOk};
 ghost use Rattle.made_rules.specs.Bytes.{half, halves, word_bytes};
 
 use std::alloc::AllocError;

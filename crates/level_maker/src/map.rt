@@ -1,5 +1,5 @@
 // The records of a made level.
-ghost use Rattle.std.specs.Prelude.{◌≡◌, ◌<◌, ◌≤◌, ◌++◌, ◌*◌, ◌+◌, ◌^◌, IfOk, OnOk};
+ghost use Rattle.std.specs.Prelude.{◌≡◌, ◌<◌, ◌++◌, ◌*◌, ◌+◌, ◌^◌, IfOk, OnOk};
 ghost use Rattle.made_rules.specs.Bytes.{records};
 ghost use Rattle.made_rules.specs.Cells.{corner, next_edge};
 ghost use Rattle.made_rules.specs.Maps.{thing_bytes, line_flags, line_bytes, side_bytes, middle_name, inner_name, has_grate, wall_name, vertex_bytes, seg_bytes, leaf_bytes};

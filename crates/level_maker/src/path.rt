@@ -1,5 +1,5 @@
 // Paths through the made levels.
-ghost use Rattle.std.specs.Prelude.{◌≡◌, ◌<◌, ◌≤◌, ◌++◌, ◌*◌, ◌^◌, ℕ, IfOk, OnOk, decimal};
+ghost use Rattle.std.specs.Prelude.{◌≡◌, ◌<◌, ◌≤◌, ◌++◌, ◌*◌, ◌^◌, IfOk, OnOk, decimal};
 ghost use Rattle.made_rules.specs.Bytes.{records};
 ghost use Rattle.made_rules.specs.Texts.{path_place, path_angle, made_path_row, made_path};
 

@@ -1,7 +1,5 @@
 // Palette, light maps and flats.
-ghost use Rattle.std.specs.Prelude.{◌≡◌, ◌<◌, ◌≤◌, ◌++◌, ◌*◌, ◌^◌, IfOk, OnOk};
-ghost use Rattle.word_rules.specs.Listed.{listed};
-ghost use Rattle.made_rules.specs.Bytes.{records};
+ghost use Rattle.std.specs.Prelude.{◌≡◌, ◌<◌, ◌++◌, ◌*◌, ◌^◌, IfOk, OnOk};
 ghost use Rattle.made_rules.specs.Pictures.{colour_bytes, colormap_byte, made_flat_byte, made_palette, made_colormaps, made_flat};
 
 use made_rules::{COLORMAPS, COLOURS, FLAT_SIZE};

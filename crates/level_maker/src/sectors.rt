@@ -1,5 +1,5 @@
 // The sectors of a made level.
-ghost use Rattle.std.specs.Prelude.{◌≡◌, ◌<◌, ◌≤◌, ◌++◌, ◌*◌, ◌+◌, ◌^◌, bit_xor, OnOk};
+ghost use Rattle.std.specs.Prelude.{◌≡◌, ◌<◌, ◌++◌, ◌*◌, ◌+◌, ◌^◌, bit_xor, OnOk};
 ghost use Rattle.made_rules.specs.Maps.{sector_bytes, floor_height, ceiling_height, sector_light, floor_flat, has_made_sky, ceiling_name, flat_name};
 
 use crate::bytes::put_halves;

@@ -1,8 +1,7 @@
 // The angle tables by formula.
 ghost use Rattle.std.specs.Prelude.{◌≡◌, ◌<◌, ◌≤◌, ◌++◌, ◌*◌, ◌+◌, ◌^◌, IfOk, OnOk, count_by, nat_lt, length};
 ghost use Rattle.word_rules.specs.Listed.{listed};
-ghost use Rattle.word_rules.specs.Words.{bits_of};
-ghost use Rattle.made_rules.specs.Bytes.{records, word_bytes};
+ghost use Rattle.made_rules.specs.Bytes.{records};
 ghost use Rattle.view_rules.specs.Formulas.{sine_product, half_sine, made_sine, upper_tangent, made_tangent};
 ghost use Rattle.made_rules.specs.Tables.{made_angle, angle_bytes, made_tables};
 ghost use Rattle.level_maker.specs.Curves.{curve_bytes, curve_length};

@@ -1,5 +1,5 @@
 // The names of patches, and the wall textures.
-ghost use Rattle.std.specs.Prelude.{◌≡◌, ◌<◌, ◌≤◌, ◌++◌, ◌*◌, ◌+◌, ◌^◌, [], ◌∷◌, length, IfOk, OnOk};
+ghost use Rattle.std.specs.Prelude.{◌≡◌, ◌<◌, ◌++◌, ◌*◌, ◌+◌, ◌^◌, [], ◌∷◌, length, IfOk, OnOk};
 ghost use Rattle.std.specs.List.{flat_map};
 ghost use Rattle.made_rules.specs.Bytes.{words};
 ghost use Rattle.made_rules.specs.Textures.{made_patch_names, made_textures, texture, wall_textures, other_textures, texture_bytes, patch_place_bytes};

@@ -1,5 +1,5 @@
 // The made WAD file.
-ghost use Rattle.std.specs.Prelude.{◌≡◌, ◌<◌, ◌≤◌, ◌++◌, ◌*◌, ◌+◌, ◌^◌, [], ◌∷◌, IfOk, OnOk};
+ghost use Rattle.std.specs.Prelude.{◌≡◌, ◌<◌, ◌≤◌, ◌*◌, ◌+◌, [], ◌∷◌, IfOk, OnOk};
 ghost use Rattle.word_rules.specs.Listed.{listed};
 ghost use Rattle.made_rules.specs.Wads.{WadParts, parts_of, no_lumps, lump_of, with_lumps, table_lumps, patch_lumps, made_flat_lump, flat_lumps, sprite_lumps, thing_lumps, wall_lumps, tree_lumps, art_lumps, level_lumps, file_of, made_wad};
 

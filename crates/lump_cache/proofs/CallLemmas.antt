@@ -1,5 +1,5 @@
 -- One call after another, each by what it reads.
-use Rattle.std.proofs.Common.{◌≡◌, ℕ, ◌+◌, ◌<◌, ◌≤◌, Bool, List, Option, Some, None, Result, Ok, Err, refl, sym, subst, ap, ◌∙◌, arith, IsErrAnd, MatchResult}
+use Rattle.std.proofs.Common.{◌≡◌, ℕ, ◌+◌, ◌<◌, ◌≤◌, Bool, true, List, Option, Some, None, Result, Ok, Err, refl, sym, subst, ap, ◌∙◌, arith, IsErrAnd, MatchResult}
 use Rattle.std.specs.Prelude.{IfErr, IfOk, IfSome}
 use Rattle.std.proofs.lemmas.Result.{err_from_is_err_and}
 use Rattle.outside.specs.Causes.{FaultsRose}
@@ -9,13 +9,15 @@ use Rattle.outside.specs.declared.fault.Fault.TheVariants.{Refused, ReadFault, Z
 use Rattle.outside.specs.Faults.{fault_above, from_below, FaultFits, ResultIs, HasCauseAt}
 use Rattle.outside.proofs.ShelfLemmas.{follows_none, follows_then, all_stand_later}
 use Rattle.zone_rules.specs.declared.TheConstants.{MIN_FRAGMENT}
-use Rattle.zone_rules.specs.Zones.{Heap, block_size, bytes_of}
+use Rattle.zone_rules.specs.Zones.{Owner, Heap, block_size, bytes_of, holding_of, owned_block}
 use Rattle.zone_rules.specs.Orders.{KeepsOrder}
 use Rattle.zone_rules.proofs.OrderLemmas.{order_none, order_then}
 use Rattle.lump_rules.specs.Contents.{lump_bytes}
 use Rattle.wad_dir.specs.DirectoryView.{DirectoryView}
-use Rattle.lump_cache.specs.Caches.{composite_owner}
+use Rattle.lump_cache.specs.Caches.{IsAtRest, HasStatic, composite_owner, holds_static}
 use Rattle.lump_cache.specs.Calls.{ReadsLumps, PreservesCache, HoldContents, IsFullFor, IfFull, InOrderAt}
+use Rattle.lump_cache.specs.Sizes.{IsGapBeside}
+use Rattle.lump_cache.proofs.StaticLemmas.{has_static_held, stays_then}
 
 -- bytes that are there are the same
 pub bytes_stay : (x : Option (List ℕ)) → IfSome x (λ bytes. x ≡ Some bytes)
@@ -31,6 +33,7 @@ keeps_none view dir z = record {
   follows = follows_none view;
   counts = (refl, refl, refl);
   rest = λ colormap count r. r;
+  static = λ o held. refl;
   faithful = λ contents stand f. f;
   sizes = λ has. has;
   composites = λ number. bytes_stay (bytes_of (composite_owner number) z.blocks);
@@ -41,6 +44,7 @@ keeps_then {a} {b} {dir} {x} {y} {z} first next = record {
   follows = follows_then first.follows next.follows;
   counts = (next.counts.0 ∙ first.counts.0, next.counts.1 ∙ first.counts.1, next.counts.2 ∙ first.counts.2);
   rest = λ colormap count r. next.rest colormap count (first.rest colormap count r);
+  static = stays_then x y z first.static next.static;
   faithful = λ contents stand f. next.faithful contents (all_stand_later a b dir.files contents first.follows stand) (first.faithful contents stand f);
   sizes = λ has. next.sizes (first.sizes has);
   composites = λ number. bytes_then (bytes_of (composite_owner number) x.blocks) (bytes_of (composite_owner number) y.blocks) (bytes_of (composite_owner number) z.blocks) (first.composites number) (next.composites number);
@@ -54,6 +58,14 @@ told_later {a} {b} {dir} {contents} keeps hold = record {
   faithful = keeps.faithful contents hold.stand hold.faithful;
 }
 
+-- a block that is pinned for the whole run is so later too
+pub static_later : {a b : ShelfView} {dir : DirectoryView} {x y : Heap} (o : Owner) (size : ℕ) → PreservesCache a b dir x y → HasStatic size (owned_block o x.blocks) → HasStatic size (owned_block o y.blocks)
+static_later {x} o size keeps has = subst (HasStatic size) (sym (keeps.static o (has_static_held size (owned_block o x.blocks) has))) has
+
+-- a zone at rest that was full does not hold the block beside the colormap
+pub full_room : {wants : ℕ → Type 0} {dir : DirectoryView} {z : Heap} {wanted widest' : ℕ} → IsFullFor wants dir z wanted widest' → (colormap count : ℕ) → IsAtRest colormap count z → z.size < block_size count + wanted + MIN_FRAGMENT
+full_room full colormap count rest = let gap = full.gap colormap count rest in omega (arith, gap.1, full.narrow)
+
 -- a zone that was full later was so from the beginning
 pub full_for_earlier : {a b : ShelfView} {dir : DirectoryView} {x y : Heap} {some wants : ℕ → Type 0} → ((lump : ℕ) → some lump → wants lump) → PreservesCache a b dir x y → (wanted widest' : ℕ) → IsFullFor some dir y wanted widest' → IsFullFor wants dir x wanted widest'
 full_for_earlier among keeps wanted widest' full = record {
@@ -61,7 +73,7 @@ full_for_earlier among keeps wanted widest' full = record {
   asked = among full.lump full.asked;
   wanted_is = full.wanted_is;
   narrow = full.narrow;
-  room = λ colormap count rest. subst (λ (n : ℕ). n < block_size count + wanted + MIN_FRAGMENT) keeps.counts.0 (full.room colormap count (keeps.rest colormap count rest));
+  gap = λ colormap count rest. subst (λ (n : ℕ). IsGapBeside n (block_size count) widest') keeps.counts.0 (full.gap colormap count (keeps.rest colormap count rest));
 }
 
 rose_later : (a b c : ℕ) → a ≤ b → FaultsRose b c → FaultsRose a c

@@ -1,26 +1,26 @@
 -- What follows of the fetch of a lump.
-use Rattle.std.proofs.Common.{◌≡◌, ℕ, ◌+◌, ◌*◌, ◌<◌, ◌≤◌, true, false, List, [], ◌∷◌, length, Option, Some, None, Result, Ok, Err, refl, sym, subst, ap, ◌∙◌, arith, inl, inr, ◌⊎◌, option_map, MatchResult}
+use Rattle.std.proofs.Common.{◌≡◌, ℕ, ◌+◌, ◌<◌, ◌≤◌, Bool, true, false, List, [], ◌∷◌, length, Option, Some, None, Result, Ok, Err, refl, sym, subst, ap, ◌∙◌, arith, inl, inr, ◌⊎◌, option_map, MatchResult}
 use Rattle.std.specs.Prelude.{IfErr, IfSome, IsSome, IsNone, OnOk, ⊤}
-use Rattle.std.proofs.lemmas.Bool.{cases_lt}
+use Rattle.std.proofs.lemmas.Bool.{cases_lt, cond-true, false≢true}
 use Rattle.outside.specs.Shelf.{ShelfView, NameFiles, counted}
 use Rattle.zone_rules.specs.declared.Tag.{Tag}
 use Rattle.zone_rules.specs.declared.Tag.TheVariants.{Static, Cache}
-use Rattle.zone_rules.specs.declared.TheConstants.{MIN_FRAGMENT}
 use Rattle.zone_rules.specs.Zones.{Owner, Holding, Block, Heap, IsLive, holding_of, owned_block, bytes_of, block_size, same_owner}
 use Rattle.zone_rules.specs.Requests.{TakesBlock, without_room}
 use Rattle.zone_rules.specs.Frees.{without_block}
 use Rattle.zone_rules.specs.Orders.{Item, has_item, IsInOrder, KeepsOrder}
 use Rattle.zone_rules.proofs.GapLemmas.{small_all}
 use Rattle.zone_rules.proofs.OrderLemmas.{order_has_room, order_taken}
+use Rattle.zone_rules.proofs.OwnerLemmas.{owner_eq}
 use Rattle.lump_rules.specs.Lookups.{lump_at}
 use Rattle.lump_rules.specs.Contents.{lump_bytes}
 use Rattle.wad_dir.specs.DirectoryView.{DirectoryView}
 use Rattle.lump_cache.specs.declared.fault.CacheFault.{CacheFault}
 use Rattle.lump_cache.specs.declared.fault.CacheFault.TheVariants.{ZoneFull, ReadFault}
-use Rattle.lump_cache.specs.Caches.{IsFaithful, IsAtRest, IsAtRestExcept, IsEmpty, IsPinned, IsUnpinned, KeepsCounts, MatchAnswer, WhereFull, NoRoom, GivesBack, HasAsked, HasBlock, KeptOrPurged, cache_fault, composite_owner, is_static_tag, lump_owner, with_tag_unless_static}
+use Rattle.lump_cache.specs.Caches.{IsFaithful, IsAtRest, IsAtRestExcept, IsEmpty, IsPinned, IsUnpinned, KeepsCounts, MatchAnswer, WhereFull, NoRoom, GivesBack, HasAsked, HasBlock, HasStatic, KeptOrPurged, cache_fault, composite_owner, holds_static, is_static_tag, lump_owner, with_tag_unless_static}
 use Rattle.lump_cache.specs.Calls.{IsFullFor, IfFull, InOrderAt, ReadsLumps}
 use Rattle.lump_cache.specs.Fetches.{FetchesLump}
-use Rattle.lump_cache.specs.Sizes.{HasSizes}
+use Rattle.lump_cache.specs.Sizes.{HasSizes, IsGapBeside, IsGapBesideTwo}
 use Rattle.lump_cache.proofs.AnswerLemmas.{answer_all, answer_at, answer_both, answer_map, answer_ok, none_is, where_full}
 use Rattle.lump_cache.proofs.FaithLemmas.{bytes_in, faithful_by, faithful_retag}
 use Rattle.lump_cache.proofs.FillLemmas.{on_ok, takes_use, use_live}
@@ -28,9 +28,10 @@ use Rattle.lump_cache.proofs.FirstLemmas.{first_at_rest}
 use Rattle.lump_cache.proofs.OrderLemmas.{counted_least, live_unless_static, order_unless_static}
 use Rattle.lump_cache.proofs.RestButLemmas.{not_colormap, passing_after, rest_but_more, rest_but_retag}
 use Rattle.lump_cache.proofs.RestLemmas.{kept_pinned, kept_unpinned, rest_retag, rest_taken, unpinned_after}
-use Rattle.lump_cache.proofs.RoomButLemmas.{room_except}
-use Rattle.lump_cache.proofs.RoomLemmas.{room_at_rest, room_empty}
+use Rattle.lump_cache.proofs.RoomButLemmas.{gap_of_except}
+use Rattle.lump_cache.proofs.RoomLemmas.{gap_of_empty, gap_of_rest}
 use Rattle.lump_cache.proofs.SizeLemmas.{sizes_fetched}
+use Rattle.lump_cache.proofs.StaticLemmas.{has_static_held, held_pinned, static_retagged, static_sized, static_taken}
 use Rattle.lump_cache.proofs.TagLemmas.{counts_unless_static, static_unless_static}
 
 -- a slot that a call does not name has its bytes, or none
@@ -84,18 +85,18 @@ module _ {dir : DirectoryView} {lump : ℕ} {tag : Tag} {view after : ShelfView}
   pub fetch_left : MatchAnswer result ⊤ (λ wanted widest'. new ≡ without_room (block_size size) old) (GivesBack old new owner size tag)
   fetch_left = by_slot (λ live. answer_at (λ wanted widest'. new ≡ without_room (block_size size) old) (GivesBack old new owner size tag) result (f.hit live).0 tt) (λ none. answer_map result (λ t. tt) (λ wanted widest' k. k.1) (λ t. t) (f.miss none))
 
-  -- a zone at rest that was full is small
-  pub fetch_room : (colormap count : ℕ) → IsAtRest colormap count old → WhereFull result (λ wanted widest'. old.size < block_size count + wanted + MIN_FRAGMENT)
-  fetch_room colormap count rest = where_full result (λ wanted widest' k. room_at_rest size old wanted widest' f.sound k colormap count rest) fetch_no_room
+  -- the widest gap of a zone at rest that was full
+  pub fetch_gap : (colormap count : ℕ) → IsAtRest colormap count old → WhereFull result (λ wanted widest'. IsGapBeside old.size (block_size count) widest')
+  fetch_gap colormap count rest = where_full result (λ wanted widest' k. gap_of_rest size old wanted widest' f.sound k colormap count rest) fetch_no_room
 
   -- the same where one more block is pinned
-  pub fetch_room_except : (colormap count : ℕ) (o : Owner) (asked : ℕ) → IsAtRestExcept colormap count (o ∷ []) old → same_owner (lump_owner colormap) o ≡ false → HasAsked asked (owned_block o old.blocks) →
-      WhereFull result (λ wanted widest'. old.size < block_size count + block_size asked + 2 * wanted + 2 * MIN_FRAGMENT)
-  fetch_room_except colormap count o asked rest apart has = where_full result (λ wanted widest' k. room_except size old wanted widest' f.sound k colormap count o asked rest apart has) fetch_no_room
+  pub fetch_gap_except : (colormap count : ℕ) (o : Owner) (asked : ℕ) → IsAtRestExcept colormap count (o ∷ []) old → same_owner (lump_owner colormap) o ≡ false → HasAsked asked (owned_block o old.blocks) → IsPinned (owned_block o old.blocks) →
+      WhereFull result (λ wanted widest'. IsGapBesideTwo old.size (block_size count + block_size asked) widest')
+  fetch_gap_except colormap count o asked rest apart has pinned = where_full result (λ wanted widest' k. gap_of_except size old wanted widest' f.sound k colormap count o asked rest apart has pinned) fetch_no_room
 
   -- the same where no slot was live
-  pub fetch_room_first : IsEmpty old → WhereFull result (λ wanted widest'. old.size < wanted)
-  fetch_room_first none = where_full result (λ wanted widest' k. room_empty size old wanted widest' f.sound k none) fetch_no_room
+  pub fetch_gap_first : IsEmpty old → WhereFull result (λ wanted widest'. widest' ≡ old.size)
+  fetch_gap_first none = where_full result (λ wanted widest' k. gap_of_empty size old wanted widest' f.sound k none) fetch_no_room
 
   -- the zone keeps its size and its slots
   pub fetch_counts : KeepsCounts old new
@@ -122,6 +123,18 @@ module _ {dir : DirectoryView} {lump : ℕ} {tag : Tag} {view after : ShelfView}
   -- a pinned block of another owner stands
   pub fetch_pinned : (o : Owner) → same_owner owner o ≡ false → IsPinned (owned_block o old.blocks) → owned_block o new.blocks ≡ owned_block o old.blocks
   fetch_pinned o apart pinned = kept_pinned (owned_block o old.blocks) (owned_block o new.blocks) (f.others o apart) pinned
+
+  -- and one that is pinned for the whole run, also if it is the lump's
+  pub fetch_stays : (o : Owner) → holds_static (holding_of o old.blocks) ≡ true → owned_block o new.blocks ≡ owned_block o old.blocks
+  fetch_stays o static = go (same_owner owner o) refl where
+    go : (t : Bool) → same_owner owner o ≡ t → owned_block o new.blocks ≡ owned_block o old.blocks
+    go false apart = fetch_pinned o apart (held_pinned (owned_block o old.blocks) static)
+    go true same =
+        let is : owner ≡ o = owner_eq owner o same in
+        let here : holds_static (holding_of owner old.blocks) ≡ true = subst (λ (p : Owner). holds_static (holding_of p old.blocks) ≡ true) (sym is) static in
+        by_slot
+        (λ live. at_hit (λ (z : Heap). owned_block o z.blocks ≡ owned_block o old.blocks) live (ap (λ (z : Heap). owned_block o z.blocks) (cond-true _ _ _ here)))
+        (λ none. absurd (false≢true (sym (ap holds_static (none_is (holding_of owner old.blocks) none)) ∙ here)))
 
   -- each live lump keeps the bytes that its files have
   pub fetch_faithful : (contents : List (List ℕ)) → NameFiles view dir.files contents → IsFaithful contents dir.lumps old → IsFaithful contents dir.lumps new
@@ -162,6 +175,14 @@ module _ {dir : DirectoryView} {lump : ℕ} {tag : Tag} {view after : ShelfView}
         tag_of : TakesBlock old new owner size tag → option_map (λ (h : Holding). h.tag) (holding_of owner new.blocks) ≡ Some Static
         tag_of t = rw t.block (ap Some static)
 
+  -- and its block has the lump's size, in a cache with the directory's sizes
+  pub fetch_has_static : tag ≡ Static → lump < length dir.lumps → HasSizes dir.lumps old → OnOk result (HasStatic size (owned_block owner new.blocks))
+  fetch_has_static static inside has =
+      by_slot
+      (λ live. on_ok result (λ takes. at_hit (λ (z : Heap). HasStatic size (owned_block owner z.blocks)) live
+      (subst (λ t. HasStatic size (owned_block owner (with_tag_unless_static owner t old).blocks)) (sym static) (static_retagged owner size old (static_sized owner size old f.sound live (has.at lump inside))))) fetch_takes)
+      (λ none. on_ok result (λ block. static_taken size (owned_block owner new.blocks) (subst (λ t. HasBlock t size (owned_block owner new.blocks)) static (block none))) fetch_block)
+
   -- no more bytes are read than the lump has
   taken_least : OnOk result (IsNone (holding_of owner old.blocks) → after.taken ≤ view.taken + size)
   taken_least = on_ok result (λ taken none. go taken none (cases_lt 0 size)) f.taken where
@@ -187,7 +208,7 @@ module _ {dir : DirectoryView} {lump : ℕ} {tag : Tag} {view after : ShelfView}
       asked = refl;
       wanted_is = k.wanted_is;
       narrow = omega (arith, k.wanted_is, k.widest_is, small_all (block_size size) _ (omega arith) k.none);
-      room = λ colormap count rest. room_at_rest size old wanted widest' f.sound k colormap count rest;
+      gap = λ colormap count rest. gap_of_rest size old wanted widest' f.sound k colormap count rest;
     }
 
     go : (r : Result (Unit {0}) CacheFault) → WhereFull r (IsFullFor (λ number. number ≡ lump) dir old) → IfErr r (λ fault. IfFull (cache_fault fault) (IsFullFor (λ number. number ≡ lump) dir old))
@@ -209,6 +230,7 @@ fetch_reads {dir} {lump} {view} {after} {old} {new} {result} f inside = record {
     follows = f.follows;
     counts = fetch_counts f;
     rest = λ colormap count r. fetch_rest f colormap count refl r;
+    static = fetch_stays f;
     faithful = fetch_faithful f;
     sizes = fetch_sizes f inside;
     composites = λ number. others_keep (owned_block (composite_owner number) old.blocks) (owned_block (composite_owner number) new.blocks) (f.others (composite_owner number) refl);

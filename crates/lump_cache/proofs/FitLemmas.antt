@@ -7,9 +7,9 @@ use Rattle.zone_rules.specs.Zones.{Owner, Holding, Block, Heap, IsSound, FitsHol
 use Rattle.zone_rules.specs.Requests.{total}
 use Rattle.zone_rules.proofs.GapLemmas.{total-cons}
 use Rattle.zone_rules.proofs.PurgeLemmas.{tiles_end}
-use Rattle.lump_cache.specs.Caches.{IsAtRest, IsStatic, lump_owner}
+use Rattle.lump_cache.specs.Caches.{HasStatic, IsStatic, lump_owner}
 use Rattle.lump_cache.proofs.FaithLemmas.{bytes_in}
-use Rattle.lump_cache.proofs.RoomLemmas.{held_once}
+use Rattle.lump_cache.proofs.RoomLemmas.{asked_least, held_once, static_asked}
 use Rattle.lump_cache.proofs.RoomButLemmas.{owned_fits}
 
 -- the block that an owner holds is the first of a list, or of those behind it
@@ -58,32 +58,31 @@ module _ (o p : Owner) (apart : same_owner o p ≡ false) where
         omega (arith, few, sum)
 
 -- a block has the size for what was asked for, and for the bytes that it has
-static_least : (lumps composites size n : ℕ) (h : Option Holding) → IsStatic n h → FitsHolding lumps composites size h → block_size n ≤ size
-static_least lumps composites size n None s f = absurd s
-static_least lumps composites size n (Some h) s f = subst (λ (m : ℕ). block_size m ≤ size) s.1 f.0
-
 bytes_least : (lumps composites size : ℕ) (h : Option Holding) (xs : List ℕ) → FitsHolding lumps composites size h → option_map (λ (x : Holding). x.bytes) h ≡ Some xs → block_size (length xs) ≤ size
 bytes_least lumps composites size None xs f e = cc
 bytes_least lumps composites size (Some h) xs f e =
     let same : h.bytes ≡ xs = cc in
     subst (λ (m : ℕ). block_size m ≤ size) (sym f.2 ∙ ap length same) f.0
 
--- a zone at rest holds a block for the colormap and one for the bytes of another owner
+-- a zone where the colormap is pinned for the whole run holds its block and one for the bytes of another
+-- owner
 module _ (z : Heap) (sound : IsSound z) (o : Owner) where
-  beside : (colormap count : ℕ) → IsAtRest colormap count z → same_owner (lump_owner colormap) o ≡ false → (b : Block) → owned_block o z.blocks ≡ Some b → (xs : List ℕ) → bytes_in (Some b) ≡ Some xs → block_size count + block_size (length xs) ≤ z.size
-  beside colormap count rest apart b e xs k =
-      let l = lump_owner colormap in
-      let r = rest.block in
-      let first = static_least z.lumps z.composites r.size count r.holding rest.pinned (owned_fits l r z.lumps z.composites z.blocks sound.fits rest.is) in
-      let lent = bytes_least z.lumps z.composites b.size b.holding xs (owned_fits o b z.lumps z.composites z.blocks sound.fits e) k in
-      let both = two_fit l o apart z.blocks r b rest.is e in
-      let ends = tiles_end 0 z.size z.blocks sound.tiles in
-      omega (arith, first, lent, both, ends)
+  beside : (colormap count : ℕ) → HasStatic count (owned_block (lump_owner colormap) z.blocks) → same_owner (lump_owner colormap) o ≡ false → (b : Block) → owned_block o z.blocks ≡ Some b → (xs : List ℕ) → bytes_in (Some b) ≡ Some xs → block_size count + block_size (length xs) ≤ z.size
+  beside colormap count static apart b e xs k = go (owned_block (lump_owner colormap) z.blocks) refl static where
+    go : (x : Option Block) → owned_block (lump_owner colormap) z.blocks ≡ x → HasStatic count x → block_size count + block_size (length xs) ≤ z.size
+    go None is has = absurd has
+    go (Some r) is has =
+        let l = lump_owner colormap in
+        let first = asked_least z.lumps z.composites r.size count r.holding (static_asked count r.holding has) (owned_fits l r z.lumps z.composites z.blocks sound.fits is) in
+        let lent = bytes_least z.lumps z.composites b.size b.holding xs (owned_fits o b z.lumps z.composites z.blocks sound.fits e) k in
+        let both = two_fit l o apart z.blocks r b is e in
+        let ends = tiles_end 0 z.size z.blocks sound.tiles in
+        omega (arith, first, lent, both, ends)
 
   -- the same of a call that lends these bytes
-  pub lent_fits : (lent : Option (List ℕ)) → lent ≡ bytes_of o z.blocks → (colormap count : ℕ) → IsAtRest colormap count z → same_owner (lump_owner colormap) o ≡ false → IfSome lent (λ bytes. block_size count + block_size (length bytes) ≤ z.size)
-  lent_fits lent is colormap count rest apart = go lent (owned_block o z.blocks) refl (sym is) where
+  pub lent_fits : (lent : Option (List ℕ)) → lent ≡ bytes_of o z.blocks → (colormap count : ℕ) → HasStatic count (owned_block (lump_owner colormap) z.blocks) → same_owner (lump_owner colormap) o ≡ false → IfSome lent (λ bytes. block_size count + block_size (length bytes) ≤ z.size)
+  lent_fits lent is colormap count static apart = go lent (owned_block o z.blocks) refl (sym is) where
     go : (y : Option (List ℕ)) (x : Option Block) → owned_block o z.blocks ≡ x → bytes_in x ≡ y → IfSome y (λ bytes. block_size count + block_size (length bytes) ≤ z.size)
     go None x e k = tt
     go (Some xs) None e k = cc
-    go (Some xs) (Some b) e k = beside colormap count rest apart b e xs k
+    go (Some xs) (Some b) e k = beside colormap count static apart b e xs k

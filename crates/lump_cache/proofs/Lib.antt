@@ -14,6 +14,7 @@ pub mod RestLemmas
 pub mod RoomButLemmas
 pub mod RoomLemmas
 pub mod SizeLemmas
+pub mod StaticLemmas
 pub mod TagLemmas
 pub mod TakeLemmas
 pub mod WriteLemmas

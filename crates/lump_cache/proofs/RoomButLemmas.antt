@@ -1,14 +1,15 @@
--- The room of a zone where one block beside the colormap's is pinned: what no gap of it holds has
--- no place before that block, and none behind it.
-use Rattle.std.proofs.Common.{◌≡◌, ℕ, ◌+◌, ◌*◌, ◌<◌, Bool, true, false, not, List, [], ◌∷◌, ◌++◌, Option, Some, None, refl, sym, subst, ap, ◌∙◌, arith}
+-- The room of a zone where one block beside the colormap's is pinned: it has a gap before that block and
+-- one behind it, at most.
+use Rattle.std.proofs.Common.{◌≡◌, ℕ, ◌+◌, ◌*◌, ◌<◌, ◌≤◌, Bool, true, false, not, List, [], ◌∷◌, ◌++◌, Option, Some, None, refl, sym, subst, ap, ◌∙◌, arith}
 use Rattle.std.proofs.lemmas.Bool.{cond-true, cond-false, or_from}
 use Rattle.std.proofs.lemmas.List.Sums.{sum_by-append}
 use Rattle.zone_rules.specs.Zones.{Owner, Block, Heap, IsSound, Unique, OwnsOnce, Lacks, AllFit, FitsHolding, is_pinned, is_held_by, same_owner, owned_block, block_size}
-use Rattle.zone_rules.specs.Requests.{gaps, total}
-use Rattle.zone_rules.proofs.GapLemmas.{total-cons}
+use Rattle.zone_rules.specs.Requests.{gaps, total, widest}
+use Rattle.zone_rules.proofs.GapLemmas.{all_small, total-cons}
 use Rattle.zone_rules.proofs.OwnerLemmas.{owner_eq, none_owned, lacks_held}
-use Rattle.lump_cache.specs.Caches.{IsAtRestExcept, HasAsked, IsUnpinned, NoRoom, lump_owner}
-use Rattle.lump_cache.proofs.RoomLemmas.{AllSmall, AllOpen, OthersOpen, Behind, first_small, open_small, gaps_behind, owner_turned, others_behind, front_open, all_open, asked_size, behind}
+use Rattle.lump_cache.specs.Caches.{IsAtRestExcept, HasAsked, IsPinned, IsUnpinned, NoRoom, lump_owner}
+use Rattle.lump_cache.specs.Sizes.{IsGapBesideTwo}
+use Rattle.lump_cache.proofs.RoomLemmas.{AllSmall, AllOpen, OthersOpen, Behind, first_small, open_small, gaps_behind, owner_turned, others_behind, front_open, all_open, asked_least, asked_size, behind, widest_more, widest_within}
 
 open-append : (xs ys : List Block) → AllOpen xs → AllOpen ys → AllOpen (xs ++ ys)
 open-append [] ys a k = k
@@ -50,7 +51,7 @@ module _ (o : Owner) (b : Block) where
     go false h later = later (sym (cond-false (is_held_by o c) (Some c) (owned_block o bs) h) ∙ e)
 
 -- at most two gaps
-two_gaps : (w : ℕ) (b : Block) (bs : List Block) → 0 < w → Around b bs → AllSmall w (gaps bs) → total bs < b.size + 2 * w
+two_gaps : (w : ℕ) (b : Block) (bs : List Block) → 0 < w → Around b bs → AllSmall w (gaps bs) → total bs + 2 ≤ b.size + 2 * w
 two_gaps w b bs some r k = go (is_pinned b) refl where
   small : AllSmall w (gaps (r.front ++ (b ∷ r.back)))
   small = subst (λ xs. AllSmall w (gaps xs)) r.is k
@@ -58,7 +59,7 @@ two_gaps w b bs some r k = go (is_pinned b) refl where
   sum : total bs ≡ total r.front + (b.size + total r.back)
   sum = ap total r.is ∙ sum_by-append (λ (c : Block). c.size) r.front (b ∷ r.back) ∙ ap (λ n. total r.front + n) (total-cons b r.back)
 
-  go : (t : Bool) → is_pinned b ≡ t → total bs < b.size + 2 * w
+  go : (t : Bool) → is_pinned b ≡ t → total bs + 2 ≤ b.size + 2 * w
   go true p =
       let f = first_small w r.front (b ∷ r.back) some r.open_front (ap not p) small in
       let s = open_small w r.back some r.open_back (subst (AllSmall w) (gaps_behind b r.back p) f.1) in
@@ -66,7 +67,26 @@ two_gaps w b bs some r k = go (is_pinned b) refl where
   go false p =
       let s = open_small w (r.front ++ (b ∷ r.back)) some (open-append r.front (b ∷ r.back) r.open_front (p, r.open_back)) small in
       let e = ap total r.is in
-      omega (arith, s, e)
+      omega (arith, s, e, some)
+
+-- where that block is pinned, they have what the others have
+around_within : (b : Block) (front back : List Block) → is_pinned b ≡ true → widest (gaps (front ++ (b ∷ back))) ≤ total front + total back
+around_within b [] back p =
+    let same = ap widest (gaps_behind b back p) in
+    let k = widest_within back in
+    omega (arith, same, k)
+around_within b (c ∷ front) back p =
+    let k = around_within b front back p in
+    let l = widest_more c (front ++ (b ∷ back)) in
+    let e = total-cons c front in
+    omega (arith, k, l, e)
+
+around_most : (b : Block) (bs : List Block) → is_pinned b ≡ true → Around b bs → widest (gaps bs) + b.size ≤ total bs
+around_most b bs p r =
+    let same = ap (λ xs. widest (gaps xs)) r.is in
+    let k = around_within b r.front r.back p in
+    let sum : total bs ≡ total r.front + (b.size + total r.back) = ap total r.is ∙ sum_by-append (λ (c : Block). c.size) r.front (b ∷ r.back) ∙ ap (λ n. total r.front + n) (total-cons b r.back) in
+    omega (arith, same, k, sum)
 
 -- a zone at rest but for a block of so many bytes
 module _ (colormap size : ℕ) (o : Owner) (asked : ℕ) (z : Heap) (rest : IsAtRestExcept colormap size (o ∷ []) z) (apart : same_owner (lump_owner colormap) o ≡ false) where
@@ -77,21 +97,24 @@ module _ (colormap size : ℕ) (o : Owner) (asked : ℕ) (z : Heap) (rest : IsAt
     go true e = subst IsUnpinned (sym (none_owned q r.rest (subst (λ (p : Owner). Lacks p r.rest) (owner_eq (lump_owner colormap) q e) r.lacks))) tt
     go false e = subst IsUnpinned (r.owned q e) (rest.others q e (or_from (same_owner q o) false (owner_turned o q h) refl))
 
-  -- where no gap of it holds a block, the zone is smaller than both pinned blocks, that block
-  -- twice, and the most that both may have too much
-  pub rest_but_room : (w : ℕ) → 0 < w → HasAsked asked (owned_block o z.blocks) → IsSound z → AllSmall w (gaps z.blocks) → z.size < block_size size + block_size asked + 2 * w + 128
-  rest_but_room w some has sound small =
+  -- its widest gap
+  pub gap_except : HasAsked asked (owned_block o z.blocks) → IsPinned (owned_block o z.blocks) → IsSound z → IsGapBesideTwo z.size (block_size size + block_size asked) (widest (gaps z.blocks))
+  gap_except has pinned sound =
       let r = behind (lump_owner colormap) size z rest.block rest.place rest.static sound rest.is in
-      go r (owned_block o r.rest) refl (subst (HasAsked asked) (r.owned o apart) has) where
-        go : (r : Behind (lump_owner colormap) size z) (x : Option Block) → owned_block o r.rest ≡ x → HasAsked asked x → z.size < block_size size + block_size asked + 2 * w + 128
-        go r None e h = absurd h
-        go r (Some b) e h =
-            let few = two_gaps w b r.rest some (around o b r.rest r.unique (others_open r) e) (subst (AllSmall w) r.gaps_are small) in
-            let large = asked_size z.lumps z.composites b.size asked b.holding h (owned_fits o b z.lumps z.composites r.rest r.fits e) in
-            omega (arith, few, large, r.sum)
+      go r (owned_block o r.rest) refl (subst (HasAsked asked) (r.owned o apart) has) (subst IsPinned (r.owned o apart) pinned) where
+        go : (r : Behind (lump_owner colormap) size z) (x : Option Block) → owned_block o r.rest ≡ x → HasAsked asked x → IsPinned x → IsGapBesideTwo z.size (block_size size + block_size asked) (widest (gaps z.blocks))
+        go r None e h p = absurd h
+        go r (Some b) e h p =
+            let w : ℕ = widest (gaps r.rest) in
+            let around' = around o b r.rest r.unique (others_open r) e in
+            let few = two_gaps (w + 1) b r.rest (omega arith) around' (all_small (w + 1) (gaps r.rest) (omega arith)) in
+            let most = around_most b r.rest p around' in
+            let fits = owned_fits o b z.lumps z.composites r.rest r.fits e in
+            let large = asked_size z.lumps z.composites b.size asked b.holding h fits in
+            let least = asked_least z.lumps z.composites b.size asked b.holding h fits in
+            subst (IsGapBesideTwo z.size (block_size size + block_size asked)) (sym (ap widest r.gaps_are)) (omega (arith, most, least, r.least), omega (arith, few, large, r.sum))
 
 -- the same by what a call without room reports
-pub room_except : (n : ℕ) (z : Heap) (wanted widest' : ℕ) → IsSound z → NoRoom n z wanted widest' → (colormap size : ℕ) (o : Owner) (asked : ℕ) → IsAtRestExcept colormap size (o ∷ []) z → same_owner (lump_owner colormap) o ≡ false → HasAsked asked (owned_block o z.blocks) → z.size < block_size size + block_size asked + 2 * wanted + 128
-room_except n z wanted widest' sound full colormap size o asked rest apart has =
-    let small = rest_but_room colormap size o asked z rest apart (block_size n) (omega arith) has sound full.none in
-    subst (λ (w : ℕ). z.size < block_size size + block_size asked + 2 * w + 128) (sym full.wanted_is) small
+pub gap_of_except : (n : ℕ) (z : Heap) (wanted widest' : ℕ) → IsSound z → NoRoom n z wanted widest' → (colormap size : ℕ) (o : Owner) (asked : ℕ) → IsAtRestExcept colormap size (o ∷ []) z → same_owner (lump_owner colormap) o ≡ false → HasAsked asked (owned_block o z.blocks) → IsPinned (owned_block o z.blocks) → IsGapBesideTwo z.size (block_size size + block_size asked) widest'
+gap_of_except n z wanted widest' sound full colormap size o asked rest apart has pinned =
+    subst (IsGapBesideTwo z.size (block_size size + block_size asked)) (sym full.widest_is) (gap_except colormap size o asked z rest apart has pinned sound)

@@ -1,15 +1,16 @@
--- The room of a zone at rest: what no gap of it holds does not stand beside the colormap.
-use Rattle.std.proofs.Common.{◌≡◌, ℕ, ◌+◌, ◌<◌, ◌≤◌, Bool, true, false, List, [], ◌∷◌, ◌++◌, Option, Some, None, refl, sym, subst, ap, ◌∙◌, arith, append-nil}
+-- The room of a zone at rest: its widest gap is all that is left beside the colormap.
+use Rattle.std.proofs.Common.{◌≡◌, ℕ, ◌+◌, ◌<◌, ◌≤◌, Bool, true, false, List, [], ◌∷◌, ◌++◌, Option, Some, None, refl, sym, subst, ap, ◌∙◌, arith, append-nil, max, cond}
 use Rattle.std.specs.Prelude.{All, ⊤}
 use Rattle.std.proofs.lemmas.Bool.{cond-true, cond-false, and_from, eq-eqb, false≢true}
 use Rattle.std.proofs.lemmas.List.Elements.{All-head, All-tail}
 use Rattle.zone_rules.specs.Zones.{Owner, Holding, Block, Heap, IsSound, Tiles, Unique, OwnsOnce, Lacks, AllFit, FitsHolding, free_block, is_pinned, pins, is_held_by, holds_for, same_owner, owned_block, block_size}
-use Rattle.zone_rules.specs.Requests.{gaps, total, in_front, opens}
+use Rattle.zone_rules.specs.Requests.{gaps, total, in_front, opens, widest}
 use Rattle.zone_rules.proofs.EmptyLemmas.{empty_is, sound_size}
-use Rattle.zone_rules.proofs.GapLemmas.{total-cons}
+use Rattle.zone_rules.proofs.GapLemmas.{all_small, total-cons}
 use Rattle.zone_rules.proofs.PurgeLemmas.{tiles_end, tiles_within, Within}
 use Rattle.zone_rules.proofs.OwnerLemmas.{owner_eq, none_owned, lacks_held}
 use Rattle.lump_cache.specs.Caches.{IsAtRest, IsEmpty, IsStatic, IsAsked, IsUnpinned, NoRoom, lump_owner}
+use Rattle.lump_cache.specs.Sizes.{IsGapBeside}
 
 -- no gap holds so many bytes
 abbrev pub AllSmall : ℕ → List (List Block) → Type 0
@@ -34,6 +35,23 @@ first_small w (b ∷ bs) rest some a e k =
 
 pub open_small : (w : ℕ) (bs : List Block) → 0 < w → AllOpen bs → AllSmall w (gaps bs) → total bs < w
 open_small w bs some a k = (first_small w bs [] some a refl (subst (λ xs. AllSmall w (gaps xs)) (sym (append-nil bs)) k)).0
+
+-- a block makes the widest gap behind it wider by no more than itself
+in_front_most : (b : Block) (o : Bool) (gs : List (List Block)) → widest (in_front b o gs) ≤ b.size + widest gs
+in_front_most b false gs = let e = total-cons b [] in omega arith
+in_front_most b true [] = let e = total-cons b [] in omega arith
+in_front_most b true (g ∷ gs) = let e = total-cons b g in omega arith
+
+pub widest_more : (b : Block) (bs : List Block) → widest (gaps (b ∷ bs)) ≤ b.size + widest (gaps bs)
+widest_more b bs = go (is_pinned b) where
+  go : (t : Bool) → widest (cond t (gaps bs) (in_front b (opens bs) (gaps bs))) ≤ b.size + widest (gaps bs)
+  go true = omega arith
+  go false = in_front_most b (opens bs) (gaps bs)
+
+-- so no gap is wider than all blocks together
+pub widest_within : (bs : List Block) → widest (gaps bs) ≤ total bs
+widest_within [] = omega arith
+widest_within (b ∷ bs) = let e = total-cons b bs in let k = widest_more b bs in let l = widest_within bs in omega arith
 
 -- a pinned block is of no gap
 pub gaps_behind : (b : Block) (bs : List Block) → is_pinned b ≡ true → gaps (b ∷ bs) ≡ gaps bs
@@ -85,7 +103,12 @@ pub asked_size : (lumps composites size n : ℕ) (h : Option Holding) → IsAske
 asked_size lumps composites size n None s f = absurd s
 asked_size lumps composites size n (Some h) s f = subst (λ (m : ℕ). size ≤ block_size m + 64) s f.1
 
-static_asked : (n : ℕ) (h : Option Holding) → IsStatic n h → IsAsked n h
+-- and at least as many
+pub asked_least : (lumps composites size n : ℕ) (h : Option Holding) → IsAsked n h → FitsHolding lumps composites size h → block_size n ≤ size
+asked_least lumps composites size n None s f = absurd s
+asked_least lumps composites size n (Some h) s f = subst (λ (m : ℕ). block_size m ≤ size) s f.0
+
+pub static_asked : (n : ℕ) (h : Option Holding) → IsStatic n h → IsAsked n h
 static_asked n None s = s
 static_asked n (Some h) s = s.1
 
@@ -106,6 +129,7 @@ pub record Behind (o : Owner) (size : ℕ) (z : Heap) : Type 0 where
   pub fits : AllFit z.lumps z.composites rest
   pub gaps_are : gaps z.blocks ≡ gaps rest
   pub sum : z.size ≤ block_size size + 64 + total rest
+  pub least : block_size size + total rest ≤ z.size
   pub owned : (q : Owner) → same_owner o q ≡ false → owned_block q z.blocks ≡ owned_block q rest
 
 module _ (o : Owner) (size : ℕ) (z : Heap) (block : Block) (place : block.place ≡ 0) (static : IsStatic size block.holding) where
@@ -130,6 +154,7 @@ module _ (o : Owner) (size : ℕ) (z : Heap) (block : Block) (place : block.plac
       let h = first_is b bs t e in
       let s = first_static b bs h e in
       let large = asked_size z.lumps z.composites b.size size b.holding (static_asked size b.holding s) f.0 in
+      let small = asked_least z.lumps z.composites b.size size b.holding (static_asked size b.holding s) f.0 in
       let ends = tiles_end (0 + b.size) z.size bs t.2 in
       record {
         rest = bs;
@@ -138,38 +163,36 @@ module _ (o : Owner) (size : ℕ) (z : Heap) (block : Block) (place : block.plac
         fits = f.1;
         gaps_are = ap gaps is ∙ gaps_behind b bs (static_pinned size b.holding s);
         sum = omega (arith, large, ends);
+        least = omega (arith, small, ends);
         owned = λ q apart. ap (owned_block q) is ∙ cond-false (is_held_by q b) (Some b) (owned_block q bs) (held_once o q b.holding h apart);
       }
 
   pub behind : IsSound z → owned_block o z.blocks ≡ Some block → Behind o size z
   behind sound e = behind_of z.blocks refl sound.tiles sound.unique sound.fits e
 
--- a zone at rest of which no gap holds a block is smaller than the colormap's block, that block,
--- and the most that a block may have too much
-pub rest_room : (colormap size w : ℕ) (z : Heap) → IsAtRest colormap size z → 0 < w → IsSound z → AllSmall w (gaps z.blocks) → z.size < block_size size + w + 64
-rest_room colormap size w z rest some sound small =
+-- the widest gap of a zone at rest
+pub gap_at_rest : (z : Heap) → IsSound z → (colormap size : ℕ) → IsAtRest colormap size z → IsGapBeside z.size (block_size size) (widest (gaps z.blocks))
+gap_at_rest z sound colormap size rest =
     let o = lump_owner colormap in
     let r = behind o size z rest.block rest.place rest.pinned sound rest.is in
     let open' = all_open o r.rest r.unique r.lacks (λ q apart. subst IsUnpinned (r.owned q apart) (rest.others q apart)) in
-    let few = open_small w r.rest some open' (subst (AllSmall w) r.gaps_are small) in
-    omega (arith, few, r.sum)
+    let w : ℕ = widest (gaps r.rest) in
+    let few = open_small (w + 1) r.rest (omega arith) open' (all_small (w + 1) (gaps r.rest) (omega arith)) in
+    let most = widest_within r.rest in
+    subst (IsGapBeside z.size (block_size size)) (sym (ap widest r.gaps_are)) (omega (arith, most, r.least), omega (arith, few, r.sum))
 
 -- the same by what a call without room reports
-pub room_at_rest : (n : ℕ) (z : Heap) (wanted widest' : ℕ) → IsSound z → NoRoom n z wanted widest' → (colormap size : ℕ) → IsAtRest colormap size z → z.size < block_size size + wanted + 64
-room_at_rest n z wanted widest' sound full colormap size rest =
-    let small = rest_room colormap size (block_size n) z rest (omega arith) sound full.none in
-    subst (λ (w : ℕ). z.size < block_size size + w + 64) (sym full.wanted_is) small
+pub gap_of_rest : (n : ℕ) (z : Heap) (wanted widest' : ℕ) → IsSound z → NoRoom n z wanted widest' → (colormap size : ℕ) → IsAtRest colormap size z → IsGapBeside z.size (block_size size) widest'
+gap_of_rest n z wanted widest' sound full colormap size rest =
+    subst (IsGapBeside z.size (block_size size)) (sym full.widest_is) (gap_at_rest z sound colormap size rest)
 
--- a zone without a live block, of which no gap holds a block, is smaller than that block
-pub empty_room : (w : ℕ) (z : Heap) → IsEmpty z → IsSound z → AllSmall w (gaps z.blocks) → z.size < w
-empty_room w z none sound small =
+-- a zone without a live block is one gap
+empty_gap : (z : Heap) → IsEmpty z → IsSound z → widest (gaps z.blocks) ≡ z.size
+empty_gap z none sound =
     let is = empty_is z.size z.blocks sound.tiles sound.apart none (sound_size z sound) in
-    let all = subst (λ bs. AllSmall w (gaps bs)) is small in
-    let first = All-head (λ g. total g < w) (free_block 0 z.size ∷ []) [] all in
+    let same = ap (λ bs. widest (gaps bs)) is in
     let sum = total-cons (free_block 0 z.size) [] in
-    omega (arith, first, sum)
+    omega (arith, same, sum)
 
-pub room_empty : (n : ℕ) (z : Heap) (wanted widest' : ℕ) → IsSound z → NoRoom n z wanted widest' → IsEmpty z → z.size < wanted
-room_empty n z wanted widest' sound full none =
-    let small = empty_room (block_size n) z none sound full.none in
-    subst (λ (w : ℕ). z.size < w) (sym full.wanted_is) small
+pub gap_of_empty : (n : ℕ) (z : Heap) (wanted widest' : ℕ) → IsSound z → NoRoom n z wanted widest' → IsEmpty z → widest' ≡ z.size
+gap_of_empty n z wanted widest' sound full none = full.widest_is ∙ empty_gap z none sound

@@ -13,11 +13,12 @@ use Rattle.zone_rules.specs.Zones.{Owner, Holding, Block, Heap, IsLive, owned_bl
 use Rattle.wad_dir.specs.DirectoryView.{DirectoryView}
 use Rattle.lump_rules.specs.declared.wad.LumpNo.{LumpNo}
 use Rattle.lump_cache.specs.declared.fault.CacheFault.{CacheFault}
-use Rattle.lump_cache.specs.Caches.{IsAtRest, IsEmpty, HasBlock, HasUse, KeptOrPurged, lump_owner, with_tag_unless_static}
+use Rattle.lump_cache.specs.Caches.{HasStatic, IsEmpty, HasBlock, HasUse, KeptOrPurged, lump_owner, with_tag_unless_static}
 use Rattle.lump_cache.proofs.FaithLemmas.{bytes_in, kept_bytes, none_bytes, unless_static_bytes}
 use Rattle.lump_cache.specs.Calls.{PreservesCache, HoldContents}
 use Rattle.lump_cache.specs.Named.{IsLast, live_bytes}
 use Rattle.lump_cache.specs.Sizes.{HasSizes, StandsBeside}
+use Rattle.lump_cache.proofs.StaticLemmas.{has_static_held}
 
 -- an empty cache has no other sizes, and neither has one that tells contents
 pub sizes_empty : (lumps : List Lump) (z : Heap) → IsEmpty z → HasSizes lumps z
@@ -64,8 +65,9 @@ sizes_fetched lumps lump tag old new r inside hit block empty others has = recor
 
 -- a lump that stands beside the colormap later did so before
 pub beside_earlier : {v w : ShelfView} {dir : DirectoryView} {a b : Heap} (lump : ℕ) → PreservesCache v w dir a b → StandsBeside dir.lumps b lump → StandsBeside dir.lumps a lump
-beside_earlier {dir} lump keeps beside = λ colormap count rest has other.
-    subst (λ n. block_size count + block_size (lump_at dir.lumps lump).size ≤ n) keeps.counts.0 (beside colormap count (keeps.rest colormap count rest) (keeps.sizes has) other)
+beside_earlier {dir} {a} lump keeps beside = λ colormap count static has other.
+    let later = subst (HasStatic count) (sym (keeps.static (lump_owner colormap) (has_static_held count (owned_block (lump_owner colormap) a.blocks) static))) static in
+    subst (λ n. block_size count + block_size (lump_at dir.lumps lump).size ≤ n) keeps.counts.0 (beside colormap count later (keeps.sizes has) other)
 
 -- lumps of an earlier and of a later call
 pub either_beside : {v w : ShelfView} {dir : DirectoryView} {a b : Heap} {early late : ℕ → Type 0} → PreservesCache v w dir a b → ((lump : ℕ) → early lump → StandsBeside dir.lumps a lump) → ((lump : ℕ) → late lump → StandsBeside dir.lumps b lump) → (lump : ℕ) → early lump ⊎ late lump → StandsBeside dir.lumps a lump
@@ -74,14 +76,14 @@ either_beside keeps first next lump (inr asked) = beside_earlier lump keeps (nex
 
 -- a live lump of those sizes, lent as so many bytes
 pub beside_lent : (lumps : List Lump) (z : Heap) (lump : ℕ) (bytes : List ℕ) → lump < length lumps → bytes_of (lump_owner lump) z.blocks ≡ Some bytes →
-    ((colormap count : ℕ) → IsAtRest colormap count z → same_owner (lump_owner colormap) (lump_owner lump) ≡ false → block_size count + block_size (length bytes) ≤ z.size) → StandsBeside lumps z lump
-beside_lent lumps z lump bytes there is fits = λ colormap count rest has other.
+    ((colormap count : ℕ) → HasStatic count (owned_block (lump_owner colormap) z.blocks) → same_owner (lump_owner colormap) (lump_owner lump) ≡ false → block_size count + block_size (length bytes) ≤ z.size) → StandsBeside lumps z lump
+beside_lent lumps z lump bytes there is fits = λ colormap count static has other.
     let size : length bytes ≡ (lump_at lumps lump).size = subst (λ x. IfSome x (λ b. length b ≡ (lump_at lumps lump).size)) is (has.at lump there) in
-    subst (λ n. block_size count + block_size n ≤ z.size) size (fits colormap count rest (ne_eqb colormap lump (λ e. other (sym e))))
+    subst (λ n. block_size count + block_size n ≤ z.size) size (fits colormap count static (ne_eqb colormap lump (λ e. other (sym e))))
 
 -- the last lump of a name, made live and then lent
 pub beside_named : (lumps : List Lump) (name : List ℕ) (z : Heap) (lump : Option LumpNo) (lent : Option (List ℕ)) → option_map (λ (l : LumpNo). l.0) lump ≡ last_of lumps name → IfSome lump (λ l. l.0 < length lumps) → IfSome lump (λ l. IsLive z (lump_owner l.0)) → lent ≡ live_bytes lump z →
-    ((colormap count : ℕ) → IsAtRest colormap count z → IfSome lump (λ l. same_owner (lump_owner colormap) (lump_owner l.0) ≡ false) → IfSome lent (λ bytes. block_size count + block_size (length bytes) ≤ z.size)) → (number : ℕ) → IsLast lumps name number → StandsBeside lumps z number
+    ((colormap count : ℕ) → HasStatic count (owned_block (lump_owner colormap) z.blocks) → IfSome lump (λ l. same_owner (lump_owner colormap) (lump_owner l.0) ≡ false) → IfSome lent (λ bytes. block_size count + block_size (length bytes) ≤ z.size)) → (number : ℕ) → IsLast lumps name number → StandsBeside lumps z number
 beside_named lumps name z None lent found there live is fits number last = cc
 beside_named lumps name z (Some l) lent found there live is fits number last =
     let same : l.0 ≡ number = cc in
@@ -90,4 +92,4 @@ beside_named lumps name z (Some l) lent found there live is fits number last =
       go None e k = let none : ⊥ = cc in absurd none
       go (Some h) e k =
           let bytes : bytes_of (lump_owner l.0) z.blocks ≡ Some h.bytes = rw e refl in
-          beside_lent lumps z l.0 h.bytes there bytes (λ colormap count rest apart. subst (λ x. IfSome x (λ b. block_size count + block_size (length b) ≤ z.size)) (is ∙ bytes) (fits colormap count rest apart))
+          beside_lent lumps z l.0 h.bytes there bytes (λ colormap count static apart. subst (λ x. IfSome x (λ b. block_size count + block_size (length b) ≤ z.size)) (is ∙ bytes) (fits colormap count static apart))

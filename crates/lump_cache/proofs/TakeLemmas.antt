@@ -1,21 +1,20 @@
 -- What follows of a request for a block.
-use Rattle.std.proofs.Common.{◌≡◌, ℕ, ◌+◌, ◌*◌, ◌<◌, false, true, List, [], ◌∷◌, Result, Ok, Err, refl, sym, subst, arith}
+use Rattle.std.proofs.Common.{◌≡◌, ℕ, ◌<◌, false, true, List, [], ◌∷◌, Result, Ok, Err, refl, sym, subst, arith}
 use Rattle.std.specs.Prelude.{IfErr, IsOk, OnOk, OnErr}
 use Rattle.lump_rules.specs.declared.wad.Lump.{Lump}
 use Rattle.zone_rules.specs.declared.Tag.{Tag}
-use Rattle.zone_rules.specs.declared.TheConstants.{MIN_FRAGMENT}
 use Rattle.zone_rules.specs.Zones.{Owner, Heap, IsLive, owned_block, block_size, same_owner}
 use Rattle.zone_rules.specs.Requests.{TakesBlock, without_room, block_left, passed_blocks, stretches}
 use Rattle.zone_rules.specs.Orders.{Item, has_item, IsInOrder, KeepsOrder}
 use Rattle.zone_heap.specs.declared.zone.ZoneFull.{ZoneFull}
-use Rattle.lump_cache.specs.Caches.{IsFaithful, IsAtRest, IsAtRestExcept, IsEmpty, IsPinned, IsUnpinned, KeepsCounts, KeptOrPurged, HasAsked, HasBlock, is_static_tag, lump_owner}
+use Rattle.lump_cache.specs.Caches.{IsFaithful, IsAtRest, IsAtRestExcept, IsPinned, IsUnpinned, KeepsCounts, KeptOrPurged, HasBlock, is_static_tag, lump_owner}
 use Rattle.lump_cache.specs.Fetches.{RequestsBlock}
+use Rattle.lump_cache.specs.Sizes.{IsGapBeside}
 use Rattle.lump_cache.proofs.FillLemmas.{kept_along, left_kept, on_err, on_ok, takes_use, use_live}
 use Rattle.lump_cache.proofs.OrderLemmas.{order_answer}
 use Rattle.lump_cache.proofs.RestButLemmas.{passing_after, rest_but_more, rest_but_none, rest_but_same, rest_of_none}
 use Rattle.lump_cache.proofs.RestLemmas.{kept_pinned}
-use Rattle.lump_cache.proofs.RoomButLemmas.{room_except}
-use Rattle.lump_cache.proofs.RoomLemmas.{room_at_rest, room_empty}
+use Rattle.lump_cache.proofs.RoomLemmas.{gap_of_rest}
 use Rattle.lump_cache.proofs.WriteLemmas.{faithful_kept}
 
 where_err : {E : Type 0} {P Q : E → Type 0} (r : Result (Unit {0}) E) → ((e : E) → P e → Q e) → IfErr r P → IfErr r Q
@@ -53,18 +52,9 @@ module _ {o : Owner} {size : ℕ} {tag : Tag} {old new : Heap} {result : Result 
     full : new ≡ without_room (block_size size) old → KeepsCounts old new
     full e = subst (KeepsCounts old) (sym e) (refl, refl, refl)
 
-  -- a zone at rest that was full is small
-  pub take_room : (colormap count : ℕ) → IsAtRest colormap count old → IfErr result (λ e. old.size < block_size count + e.wanted + MIN_FRAGMENT)
-  take_room colormap count rest = where_err result (λ e k. room_at_rest size old e.wanted e.widest f.sound k colormap count rest) f.report
-
-  -- the same where one more block is pinned
-  pub take_room_except : (colormap count : ℕ) (p : Owner) (asked : ℕ) → IsAtRestExcept colormap count (p ∷ []) old → same_owner (lump_owner colormap) p ≡ false → HasAsked asked (owned_block p old.blocks) →
-      IfErr result (λ e. old.size < block_size count + block_size asked + 2 * e.wanted + 2 * MIN_FRAGMENT)
-  take_room_except colormap count p asked rest apart has = where_err result (λ e k. room_except size old e.wanted e.widest f.sound k colormap count p asked rest apart has) f.report
-
-  -- the same where no slot was live
-  pub take_room_first : IsEmpty old → IfErr result (λ e. old.size < e.wanted)
-  take_room_first none = where_err result (λ e k. room_empty size old e.wanted e.widest f.sound k none) f.report
+  -- the widest gap of a zone at rest that was full
+  pub take_gap : (colormap count : ℕ) → IsAtRest colormap count old → IfErr result (λ e. IsGapBeside old.size (block_size count) e.widest)
+  take_gap colormap count rest = where_err result (λ e k. gap_of_rest size old e.wanted e.widest f.sound k colormap count rest) f.report
 
   -- a cache in order for a list that has the item has room for it, and stays in order
   pub take_order : (items : List Item) (taken : ℕ) → has_item items o size ≡ true → IsInOrder items old → IsOk result × KeepsOrder items old new taken taken

@@ -41,6 +41,11 @@ abbrev pub IsStatic : ℕ → Option Holding → Type 0
 IsStatic size None = ⊥
 IsStatic size (Some h) = (h.tag ≡ Static) × (h.asked ≡ size)
 
+-- an owner has such a block
+abbrev pub HasStatic : ℕ → Option Block → Type 0
+HasStatic size None = ⊥
+HasStatic size (Some b) = IsStatic size b.holding
+
 abbrev pub IsUnpinned : Option Block → Type 0
 IsUnpinned None = ⊤
 IsUnpinned (Some b) = is_pinned b ≡ false

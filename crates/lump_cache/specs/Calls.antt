@@ -1,28 +1,29 @@
 -- A call that reads lumps through the cache: what it answers by the bytes of lumps, and what it
 -- keeps of the cache and of the shelf.
-use Rattle.std.specs.Prelude.{◌≡◌, ℕ, ◌+◌, ◌<◌, true, List, Some, IfSome, IfErr, MatchResult, Result, ⊤}
+use Rattle.std.specs.Prelude.{◌≡◌, ℕ, ◌<◌, true, List, Some, IfSome, IfErr, MatchResult, Result, ⊤}
 use Rattle.outside.specs.Shelf.{ShelfView, IsLaterShelf, NameFiles}
 use Rattle.outside.specs.declared.fault.Fault.{Fault}
 use Rattle.outside.specs.declared.fault.Fault.TheVariants.{Refused, ReadFault, ZoneFull, OutOfMemory}
 use Rattle.outside.specs.Faults.{ResultIs, HasCauses}
 use Rattle.lump_rules.specs.Lookups.{lump_at}
 use Rattle.lump_rules.specs.Contents.{lump_bytes, AllWithin}
-use Rattle.zone_rules.specs.declared.TheConstants.{MIN_FRAGMENT}
-use Rattle.zone_rules.specs.Zones.{Heap, block_size, bytes_of}
+use Rattle.zone_rules.specs.Zones.{Owner, Heap, block_size, bytes_of, holding_of, owned_block}
 use Rattle.zone_rules.specs.Orders.{Item, has_item, IsInOrder, KeepsOrder}
 use Rattle.wad_dir.specs.DirectoryView.{DirectoryView}
-use Rattle.lump_cache.specs.Caches.{IsFaithful, IsAtRest, KeepsCounts, lump_owner, composite_owner}
-use Rattle.lump_cache.specs.Sizes.{HasSizes}
+use Rattle.lump_cache.specs.Caches.{IsFaithful, IsAtRest, KeepsCounts, lump_owner, composite_owner, holds_static}
+use Rattle.lump_cache.specs.Sizes.{HasSizes, IsGapBeside}
 
 -- What is kept, whatever is answered: the shelf stands for what it stood for, the zone has as many
--- bytes and slots, a cache at rest is at rest, one that was faithful to the lumps of these files is
--- faithful, one whose live lumps have the directory's sizes has such, and no composite is made:
--- each has its bytes, or is not live.
+-- bytes and slots, a cache at rest is at rest, a block that is pinned for the whole run stands as it
+-- is, a cache that was faithful to the lumps of these files is faithful, one whose live lumps have the
+-- directory's sizes has such, and no composite is made: each has its bytes, or is not live.
 pub record PreservesCache (view after : ShelfView) (dir : DirectoryView)
     (old new : Heap) : Type 0 where
   pub follows : IsLaterShelf view after
   pub counts : KeepsCounts old new
   pub rest : (colormap count : ℕ) → IsAtRest colormap count old → IsAtRest colormap count new
+  pub static : (o : Owner) → holds_static (holding_of o old.blocks) ≡ true →
+      owned_block o new.blocks ≡ owned_block o old.blocks
   pub faithful : (contents : List (List ℕ)) → NameFiles view dir.files contents →
       IsFaithful contents dir.lumps old → IsFaithful contents dir.lumps new
   pub sizes : HasSizes dir.lumps old → HasSizes dir.lumps new
@@ -37,16 +38,16 @@ IfFull ReadFault P = ⊤
 IfFull (ZoneFull wanted widest') P = P wanted widest'
 IfFull OutOfMemory P = ⊤
 
--- No gap held the block of a lump that may be asked for. From a cache at rest the zone does not
--- hold it beside the colormap.
+-- No gap held the block of a lump that may be asked for. From a cache at rest the widest gap is all
+-- that is left beside the colormap, so the zone does not hold the block there.
 pub record IsFullFor (wants : ℕ → Type 0) (dir : DirectoryView) (z : Heap)
     (wanted widest' : ℕ) : Type 0 where
   pub lump : ℕ
   pub asked : wants lump
   pub wanted_is : wanted ≡ block_size (lump_at dir.lumps lump).size
   pub narrow : widest' < wanted
-  pub room : (colormap count : ℕ) → IsAtRest colormap count z →
-      z.size < block_size count + wanted + MIN_FRAGMENT
+  pub gap : (colormap count : ℕ) → IsAtRest colormap count z →
+      IsGapBeside z.size (block_size count) widest'
 
 -- a zone that is in order for all that may be asked for is not full, and stays so unless a read
 -- fails

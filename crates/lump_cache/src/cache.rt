@@ -3,18 +3,18 @@
 // Rules: `specs/Caches` and `specs/Fetches`, over `zone_rules`. The laws that follow from the
 // clauses of a call are in `proofs`: FetchLemmas, TakeLemmas, ReleaseLemmas, WriteLemmas and
 // DropLemmas. The original: w_wad.c.
-ghost use Rattle.std.specs.Prelude.{◌≡◌, ◌<◌, ◌≤◌, ◌+◌, ◌↔◌, ℕ, List, length, true, false, Err, Some, None, All, IfOk, IfSome, IsErr, OnOk, IsNone, ⊤};
+ghost use Rattle.std.specs.Prelude.{◌≡◌, ◌<◌, ◌≤◌, ◌+◌, ◌↔◌, ℕ, List, length, true, false, Err, None, All, IfOk, IfSome, IsErr, OnOk, IsNone, ⊤};
 ghost use Rattle.std.specs.Option.{option_copied};
 ghost use Rattle.zone_heap.specs.Calls.{BytesChanged, PairCalled};
 ghost use Rattle.zone_rules.specs.declared.Tag.TheVariants.{Level, Cache};
 ghost use Rattle.outside.specs.Shelf.{NameFiles};
 ghost use Rattle.lump_rules.specs.Lookups.{lump_at};
 ghost use Rattle.lump_rules.specs.declared.wad.Lump.{Lump};
-ghost use Rattle.zone_rules.specs.Zones.{Owner, slot_count, Heap, IsLive, IsSound, IsZoneSize, fresh_heap, bytes_of, block_size, holding_of, owned_block, same_owner};
+ghost use Rattle.zone_rules.specs.Zones.{Owner, Heap, IsLive, IsSound, IsZoneSize, fresh_heap, bytes_of, block_size, holding_of, owned_block, same_owner};
 ghost use Rattle.zone_rules.specs.Requests.{gaps, total};
 ghost use Rattle.zone_rules.specs.Frees.{without_block};
 ghost use Rattle.zone_rules.specs.Orders.{Item, has_item, AreRoomy, IsInOrder, KeepsOrder};
-ghost use Rattle.lump_cache.specs.Caches.{lump_owner, composite_owner, release_heap, MatchAnswer, IsFaithful, IsAtRest, IsEmpty, IsPinned, KeepsCounts};
+ghost use Rattle.lump_cache.specs.Caches.{lump_owner, composite_owner, release_heap, MatchAnswer, IsFaithful, IsAtRest, IsEmpty, IsPinned, KeepsCounts, HasStatic};
 ghost use Rattle.lump_cache.specs.Fetches.{FetchesLump, RequestsBlock};
 
 use crate::fault::CacheFault;
@@ -42,7 +42,7 @@ pub struct LumpCache {
 }
 
 impl Model for LumpCache {
-    ghost use Rattle.zone_rules.specs.Zones.{Owner, owner_at, slot_count, Heap, IsSound};
+    ghost use Rattle.zone_rules.specs.Zones.{Owner, Heap, IsSound};
 
     ghost Value = { Heap };
 
@@ -88,13 +88,14 @@ impl LumpCache {
 
     /// The bytes of a lump, or None exactly where it is not live.
     ///
-    /// A zone at rest is large enough for a block of the colormap's size and one for the bytes that
-    /// are lent, unless the lump is the colormap.
+    /// A zone in which the colormap is pinned for the whole run is large enough for its block and one
+    /// for the bytes that are lent, unless the lump is the colormap.
     #[inline(always)]
     pub fn bytes(&self, lump: LumpNo) -> Option<&[u8]>
         requires { lump.0 < self.now.lumps }
         ensures value { option_copied result ≡ bytes_of (lump_owner lump.0) self.now.blocks }
-        ensures fits { (colormap count : ℕ) → IsAtRest colormap count self.now →
+        ensures fits { (colormap count : ℕ) →
+            HasStatic count (owned_block (lump_owner colormap) self.now.blocks) →
             same_owner (lump_owner colormap) (lump_owner lump.0) ≡ false →
             IfSome (option_copied result) (λ bytes.
             block_size count + block_size (length bytes) ≤ self.now.size) }
@@ -111,10 +112,10 @@ impl LumpCache {
     /// that the directory was loaded from. After either error the slot is empty, and every pinned
     /// block stands.
     ///
-    /// A zone that was full is small. If no slot was live, it has fewer bytes than the wanted
-    /// block. If it was at rest, it has fewer than a block for the colormap, the wanted block and
-    /// `MIN_FRAGMENT`. If one more block may have been pinned, as that of a composite, it has fewer
-    /// than a block for each of the two, twice the wanted block and twice `MIN_FRAGMENT`.
+    /// A zone that was full is small, for its widest gap, which is reported, is narrower than the
+    /// wanted block. If no slot was live, that gap is the whole zone. If it was at rest, it is all
+    /// that is left beside the colormap's block, which has up to `MIN_FRAGMENT` bytes more than were
+    /// asked for. If one more block was pinned, as that of a composite, it is the wider of two gaps.
     ///
     /// If the cache is in order for a list that has the lump, the zone is not full, no slot is
     /// emptied, and the cache is in order after Ok.
@@ -171,8 +172,8 @@ impl LumpCache {
     /// Takes a pinned block of `size` bytes for an empty composite.
     ///
     /// Errors: `ZoneFull` exactly where no gap holds the block. It does not come where the cache is
-    /// in order for a list that has the composite with that size. A zone that was at rest and full
-    /// has fewer bytes than a block for the colormap, the wanted block and `MIN_FRAGMENT`.
+    /// in order for a list that has the composite with that size. The widest gap of a zone that was
+    /// at rest and full is all that is left beside the colormap.
     ///
     /// What follows: the laws named `take_..` in `proofs/TakeLemmas`.
     pub fn take_composite(&mut self, number: u32, size: u32) -> Result<(), ZoneFull>

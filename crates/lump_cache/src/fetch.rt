@@ -6,8 +6,8 @@ ghost use Rattle.std.specs.Option.{option_copied};
 ghost use Rattle.outside.specs.Faults.{itself};
 ghost use Rattle.lump_rules.specs.Contents.{lump_bytes, named_bytes};
 ghost use Rattle.lump_rules.specs.Lookups.{last_of};
-ghost use Rattle.zone_rules.specs.Zones.{IsLive, bytes_of, block_size, same_owner};
-ghost use Rattle.lump_cache.specs.Caches.{IsAtRest, cache_fault, lump_owner};
+ghost use Rattle.zone_rules.specs.Zones.{IsLive, bytes_of, block_size, owned_block, same_owner};
+ghost use Rattle.lump_cache.specs.Caches.{HasStatic, cache_fault, lump_owner};
 ghost use Rattle.lump_cache.specs.Calls.{HoldContents, ReadsLumps};
 ghost use Rattle.lump_cache.specs.Lives.{GivesBytes};
 ghost use Rattle.lump_cache.specs.Named.{IsLast, live_bytes};
@@ -101,13 +101,14 @@ pub fn fetch_named<S: Shelf>(
 
 /// The bytes of a live lump.
 ///
-/// A zone at rest is large enough for a block of the colormap's size and one for the bytes that are
-/// lent, unless the lump is the colormap.
+/// A zone in which the colormap is pinned for the whole run is large enough for its block and one for
+/// the bytes that are lent, unless the lump is the colormap.
 pub fn live_lump(cache: &LumpCache, lump: LumpNo) -> &[u8]
     requires in_range { lump.0 < cache.now.lumps }
     requires live { IsLive cache.now (lump_owner lump.0) }
     ensures value { bytes_of (lump_owner lump.0) cache.now.blocks ≡ Some result.now }
-    ensures fits { (colormap count : ℕ) → IsAtRest colormap count cache.now →
+    ensures fits { (colormap count : ℕ) →
+        HasStatic count (owned_block (lump_owner colormap) cache.now.blocks) →
         same_owner (lump_owner colormap) (lump_owner lump.0) ≡ false →
         block_size count + block_size (length result.now) ≤ cache.now.size }
 {
@@ -116,12 +117,13 @@ pub fn live_lump(cache: &LumpCache, lump: LumpNo) -> &[u8]
 
 /// The bytes of a lump, or `None` exactly where there is no lump or it is not live.
 ///
-/// A zone at rest is large enough for a block of the colormap's size and one for the bytes that are
-/// lent, unless the lump is the colormap.
+/// A zone in which the colormap is pinned for the whole run is large enough for its block and one for
+/// the bytes that are lent, unless the lump is the colormap.
 pub fn live_bytes(cache: &LumpCache, lump: Option<LumpNo>) -> Option<&[u8]>
     requires { IfSome lump (λ l. l.0 < cache.now.lumps) }
     ensures value { option_copied result ≡ live_bytes lump cache.now }
-    ensures fits { (colormap count : ℕ) → IsAtRest colormap count cache.now →
+    ensures fits { (colormap count : ℕ) →
+        HasStatic count (owned_block (lump_owner colormap) cache.now.blocks) →
         IfSome lump (λ l. same_owner (lump_owner colormap) (lump_owner l.0) ≡ false) →
         IfSome (option_copied result) (λ bytes.
         block_size count + block_size (length bytes) ≤ cache.now.size) }

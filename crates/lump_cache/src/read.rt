@@ -1,9 +1,8 @@
 // Bytes of a file, read into the block of a lump.
-ghost use Rattle.std.specs.Prelude.{◌≡◌, ◌<◌, ◌≤◌, ◌+◌, ℕ, List, length, Some, IfSome, OnOk, OnErr, IsTrue, IsOk};
+ghost use Rattle.std.specs.Prelude.{◌≡◌, ◌<◌, ◌≤◌, ◌+◌, length, IfSome, OnOk, OnErr, IsTrue, IsOk};
 ghost use Rattle.outside.specs.Causes.{FaultsRose};
 ghost use Rattle.outside.specs.Shelf.{IsLaterShelf, IsPieceAt, counted};
-ghost use Rattle.zone_rules.specs.Zones.{Heap, IsLive, bytes_of};
-ghost use Rattle.zone_rules.specs.Frees.{with_bytes};
+ghost use Rattle.zone_rules.specs.Zones.{IsLive, bytes_of};
 ghost use Rattle.lump_cache.specs.Caches.{lump_owner, IsFilled};
 
 use outside::{Failed, FileNo, Shelf};

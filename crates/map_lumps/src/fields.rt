@@ -1,5 +1,5 @@
 // The fields of a record, read from its bytes. Rules: `level_rules/maps`, Fields.
-ghost use Rattle.std.specs.Prelude.{◌≡◌, ◌≤◌, ◌+◌, ℕ, length};
+ghost use Rattle.std.specs.Prelude.{◌≡◌, ◌≤◌, ◌+◌, length};
 ghost use Rattle.word_rules.specs.Words.{fixed};
 ghost use Rattle.level_rules.specs.maps.Fields.{angle_field, fixed_at, name_field, signed_half_at, half_at};
 

@@ -1,5 +1,5 @@
 // The first number of a map that names nothing that is there. Rules: `level_rules/maps`, Ranges.
-ghost use Rattle.std.specs.Prelude.{◌≡◌, ◌≤◌, ◌+◌, ◌<◌, ℕ, List, length, Option, Some, None};
+ghost use Rattle.std.specs.Prelude.{◌≡◌, ◌+◌, ◌<◌, ℕ, List, Option, Some, None};
 ghost use Rattle.level_rules.specs.declared.maps.records.MapLine.{MapLine};
 ghost use Rattle.level_rules.specs.declared.maps.refusal.MapRefusal.{MapRefusal};
 ghost use Rattle.level_rules.specs.maps.Firsts.{first_refusal};

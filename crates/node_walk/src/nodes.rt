@@ -53,7 +53,7 @@ pub fn walk<V: Visitor>(
 }
 
 // Walks a child under which nodes are at most `depth` deep: of a node the near child, and the far
-// one where its box passes over what is covered by then.
+// one only if some column of its box is still open then.
 fn walk_child<V: Visitor>(
     lists: &Lists<'_>,
     view: &View<'_>,

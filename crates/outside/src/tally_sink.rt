@@ -2,7 +2,7 @@
 //!
 //! Rules: `specs/TallySink`. Proved: it stands for every list whose length and sum it has counted,
 //! and never fails.
-ghost use Rattle.std.specs.Prelude.{◌≡◌, ◌+◌, ◌%◌, ◌^◌, sum, take, length, IsOk};
+ghost use Rattle.std.specs.Prelude.{◌≡◌, ◌+◌, ◌%◌, ◌^◌, sum, length, IsOk};
 ghost use Rattle.outside.specs.Sink.{Writes};
 ghost use Rattle.outside.specs.TallySink.{Tally, IsTallyOf, tally_with};
 

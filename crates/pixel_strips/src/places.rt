@@ -22,7 +22,7 @@ pub const FLAT_LIFT: u32 = 10;
 /// The bits of a place below its texel of a flat.
 pub const FLAT_SHIFT: u32 = FRACTION_BITS + FLAT_LIFT;
 
-/// The carries out of x that would reach the fraction of y: fewer do no harm.
+/// So many carries out of x reach the fraction of y; fewer do no harm.
 pub const CARRIES: u64 = 1 << FLAT_LIFT;
 
 /// A product that brings both texels of a place together, that of y above that of x, in the highest

@@ -1,7 +1,7 @@
 -- What each call that draws planes may take from what it asks.
-use Rattle.std.proofs.Common.{◌≡◌, ◌<◌, ◌≤◌, ℕ, true, false, List, Option, Some, length, refl, sym, ap, subst, ◌∙◌, arith}
-use Rattle.std.specs.Prelude.{nat_le, IfSome}
-use Rattle.std.proofs.lemmas.Bool.{and_from, le-leb}
+use Rattle.std.proofs.Common.{◌≡◌, ◌<◌, ◌≤◌, ℕ, zero, suc, Bool, true, false, List, [], ◌∷◌, Option, Some, None, length, refl, sym, ap, subst, ◌∙◌, arith, inl, inr, ◌⊎◌}
+use Rattle.std.specs.Prelude.{◌↔◌, nat_le, slice_index_or, IfSome, IsSome}
+use Rattle.std.proofs.lemmas.Bool.{and_from, false≢true, le-leb}
 use Rattle.std.proofs.lemmas.List.Elements.{All-get_or, Contains-get_or}
 use Rattle.view_rules.specs.declared.ViewShape.{ViewShape}
 use Rattle.picture_rules.specs.declared.plane.Flat4.{Flat4}
@@ -14,7 +14,7 @@ use Rattle.visplanes.specs.Spans.{IsSeen}
 use Rattle.texture_lists.specs.declared.number.TexNo.{TexNo}
 use Rattle.texture_build.specs.Draws.{CanDraw}
 use Rattle.plane_draw.specs.declared.scene.PlaneScene.{PlaneScene}
-use Rattle.plane_draw.specs.Planes.{CanDrawPlane, HasFlat, IsFlatOf, IsSky}
+use Rattle.plane_draw.specs.Planes.{CanDrawPlane, HasFlat, IsFlatOf, IsMarked, IsSky}
 use Rattle.plane_draw.specs.Scenes.{CanDrawPlanes, PlaneState}
 
 -- a plane of the scene
@@ -28,14 +28,44 @@ pub flat-there : {s : PlaneScene} {st : PlaneState} → CanDrawPlanes s st → (
     (plane_at s.planes.now.planes n).key.flat ≡ flat.Lump lump → lump < length s.dir.now.lumps
 flat-there {s} can n lump inside is = subst (HasFlat (length s.dir.now.lumps) s.sky) is (plane-can can n inside).flat
 
--- and is the flat of one of the planes
-pub flat-among : (planes : List Plane) (n lump : ℕ) → n < length planes →
+-- and is the flat of one of the planes, which is marked
+pub flat-among : (planes : List Plane) (n lump : ℕ) → n < length planes → IsMarked (plane_at planes n) →
     (plane_at planes n).key.flat ≡ flat.Lump lump → (k : ℕ) → k ≡ lump → IsFlatOf planes k
-flat-among planes n lump inside is k same = record {
+flat-among planes n lump inside marked is k same = record {
   plane = plane_at planes n;
   among = Contains-get_or planes n no_plane inside;
+  marked = marked;
   is = is ∙ ap (λ (m : ℕ). flat.Lump m) (sym same);
 }
+
+-- a plane is marked, or has no run at any column
+abbrev run_at : List (Option (ℕ × ℕ)) → ℕ → Option (ℕ × ℕ)
+run_at runs x = slice_index_or runs x None
+
+none_at : (x : ℕ) → run_at [] x ≡ None
+none_at zero = refl
+none_at (suc x) = refl
+
+none_behind : (runs : List (Option (ℕ × ℕ))) → ((x : ℕ) → run_at runs x ≡ None) → (x : ℕ) → run_at (None ∷ runs) x ≡ None
+none_behind runs all zero = refl
+none_behind runs all (suc x) = all x
+
+marked_behind : (runs : List (Option (ℕ × ℕ))) → ((x : ℕ) × IsSome (run_at runs x)) ⊎ ((x : ℕ) → run_at runs x ≡ None) → ((x : ℕ) × IsSome (run_at (None ∷ runs) x)) ⊎ ((x : ℕ) → run_at (None ∷ runs) x ≡ None)
+marked_behind runs (inl found) = inl (suc found.0, found.1)
+marked_behind runs (inr all) = inr (none_behind runs all)
+
+marked_or_none : (runs : List (Option (ℕ × ℕ))) → ((x : ℕ) × IsSome (run_at runs x)) ⊎ ((x : ℕ) → run_at runs x ≡ None)
+marked_or_none [] = inr none_at
+marked_or_none (Some run ∷ runs) = inl (0, refl)
+marked_or_none (None ∷ runs) = marked_behind runs (marked_or_none runs)
+
+-- so one that is not empty is marked
+pub marked-some : (p : Plane) (empty : Bool) → ((empty ≡ true) ↔ ((x : ℕ) → column p x ≡ None)) → empty ≡ false → IsMarked p
+unfolding column
+marked-some p empty says is = go (marked_or_none p.runs) where
+  go : ((x : ℕ) × IsSome (run_at p.runs x)) ⊎ ((x : ℕ) → run_at p.runs x ≡ None) → IsMarked p
+  go (inl found) = found
+  go (inr none) = absurd (false≢true (sym is ∙ says.1 none))
 
 -- which is not sky
 pub floor-key : (p : Plane) (lump : ℕ) → p.key.flat ≡ flat.Lump lump → is_sky_key p.key ≡ false

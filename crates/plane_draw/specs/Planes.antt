@@ -3,7 +3,7 @@ use Rattle.std.specs.Prelude.{◌≡◌, ◌<◌, ℕ, List, Contains, Option, I
 use Rattle.view_rules.specs.declared.ViewShape.{ViewShape}
 use Rattle.picture_rules.specs.declared.plane.Flat4.{Flat4}
 use Rattle.picture_rules.specs.declared.plane.Flat4.TheVariants as flat
-use Rattle.picture_rules.specs.plane.Planes.{Plane}
+use Rattle.picture_rules.specs.plane.Planes.{Plane, column}
 use Rattle.visplanes.specs.Spans.{IsSeen}
 use Rattle.texture_lists.specs.declared.number.TexNo.{TexNo}
 
@@ -21,8 +21,13 @@ pub record CanDrawPlane (shape : ViewShape) (left top lumps : ℕ) (sky : Option
 abbrev pub IsSky : Option TexNo → ℕ → Type 0
 IsSky sky number = IfSome sky (λ tex. number ≡ tex.0) × IsSome sky
 
--- a lump is the flat of one of the planes
+-- a plane has a run of rows at some column
+abbrev pub IsMarked : Plane → Type 0
+IsMarked p = (x : ℕ) × IsSome (column p x)
+
+-- a lump is the flat of one of the planes that are marked
 pub record IsFlatOf (planes : List Plane) (lump : ℕ) : Type 0 where
   pub plane : Plane
   pub among : Contains planes plane
+  pub marked : IsMarked plane
   pub is : plane.key.flat ≡ flat.Lump lump

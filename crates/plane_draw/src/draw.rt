@@ -26,7 +26,7 @@ use visplanes::{PlaneNo, Planes};
 use wad_dir::LumpNo;
 
 /// Paints all planes, in order of making: a floor or a ceiling by its flat, and the sky by its
-/// texture, column by column. Takes no memory.
+/// texture, column by column. A plane without a marked column asks for nothing. Takes no memory.
 ///
 /// The flats of the planes are lumps of the directory, and if one is sky there is a texture of the
 /// sky, which is prepared; their rows lie in the view. The canvas stands where the view lies in

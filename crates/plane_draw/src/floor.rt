@@ -10,6 +10,7 @@ ghost use Rattle.picture_rules.specs.declared.plane.Flat4.TheVariants.{Lump};
 ghost use Rattle.picture_rules.specs.plane.Skies.{plane_dots};
 ghost use Rattle.visplanes.specs.Planes.{plane_at};
 ghost use Rattle.texture_build.specs.Draws.{HoldsArt, FitBeside};
+ghost use Rattle.plane_draw.specs.Planes.{IsMarked};
 ghost use Rattle.plane_draw.specs.Scenes.{AreSamePlaneHands, CanDrawAt, PaintsPlanes, plane_hands, plane_art};
 
 use crate::scene::{PlaneHands, PlaneScene};
@@ -20,7 +21,7 @@ use visplanes::{PlaneNo, draw_plane};
 use wad_dir::LumpNo;
 use zone_heap::Tag;
 
-/// Paints a plane that is not sky, by its flat.
+/// Paints a plane that is not sky and has a run, by its flat.
 pub fn draw_floor<S: Shelf, C: Canvas>(
     scene: &PlaneScene<'_>,
     hands: &mut PlaneHands<'_, S, C>,
@@ -28,6 +29,7 @@ pub fn draw_floor<S: Shelf, C: Canvas>(
     lump: LumpNo,
 ) -> Result<(), CacheFault>
     requires ready { CanDrawAt scene.now plane.0 (plane_hands S.view C.view hands.old) }
+    requires marked { IsMarked (plane_at scene.now.planes.now.planes plane.0) }
     requires flat { (plane_at scene.now.planes.now.planes plane.0).key.flat ≡ Lump lump.0 }
     ensures same { AreSamePlaneHands hands.old hands.new }
     ensures paints { PaintsPlanes C.mark scene.now

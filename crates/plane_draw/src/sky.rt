@@ -5,7 +5,6 @@ ghost use Rattle.std.specs.Prelude.{◌≡◌, ◌<◌, ◌≤◌, ℕ, List, So
 ghost use Rattle.outside.specs.Shelf.{ShelfView};
 ghost use Rattle.art_rules.specs.declared.ColumnLookup.{ColumnLookup};
 ghost use Rattle.pixel_rules.specs.declared.TheConstants.{SKY};
-ghost use Rattle.pixel_rules.specs.Art.{painter_of};
 ghost use Rattle.pixel_rules.specs.Strips.{row_fraction};
 ghost use Rattle.pixel_strips.specs.Dotted.{HasDots, PlacedAlike};
 ghost use Rattle.picture_rules.specs.declared.plane.Flat4.TheVariants.{Sky};
@@ -13,8 +12,7 @@ ghost use Rattle.picture_rules.specs.declared.plane.TheConstants.{SKY_MAP, SKY_M
 ghost use Rattle.picture_rules.specs.plane.Planes.{column};
 ghost use Rattle.picture_rules.specs.plane.Skies.{plane_dots, sky_column};
 ghost use Rattle.visplanes.specs.Planes.{plane_at};
-ghost use Rattle.texture_build.specs.Arts.{lookup_source};
-ghost use Rattle.texture_build.specs.Sources.{IsColumnLive, IsColumnThere, column_in, source_of};
+ghost use Rattle.texture_build.specs.Sources.{IsColumnLive, IsColumnThere, column_in};
 ghost use Rattle.texture_build.specs.Views.{prepared_texture};
 ghost use Rattle.texture_build.specs.Draws.{HoldsArt, FitBeside};
 ghost use Rattle.plane_draw.specs.Scenes.{AreSamePlaneHands, CanDrawAt, CanDrawPlanes, PaintsPlanes, plane_hands, plane_art, sky_run};
@@ -25,9 +23,9 @@ use fx_words::{minus, plus, times, turn};
 use lump_cache::CacheFault;
 use outside::Shelf;
 use picture_rules::{SKY_MAP, SKY_MID, SKY_SHIFT};
-use pixel_rules::{COMPOSITE, LUMP, NO_SOURCE, Painter, SKY};
+use pixel_rules::SKY;
 use pixel_strips::{Canvas, ColumnStrip, paint_column};
-use texture_build::{Column, ColumnSource, TexNo};
+use texture_build::{Column, TexNo};
 use view_frame::View;
 use visplanes::PlaneNo;
 
@@ -40,25 +38,6 @@ struct SkyRows {
     x: u16,
     first: u8,
     last: u8,
-}
-
-// Who paints a column of sky plane `number` from that source.
-#[tactic(auto, unfolding(texture_build::specs::Sources::source_of, pixel_rules::specs::Art::painter_of))]
-fn sky_painter(number: u16, source: ColumnSource) -> Painter
-    ensures { (tex : ℕ) (lookup : ColumnLookup) → source ≡ source_of tex lookup →
-        result ≡ painter_of SKY number (lookup_source tex lookup) }
-{
-    let (source_kind, source) = match source {
-        ColumnSource::Empty => (NO_SOURCE, 0),
-        ColumnSource::Lump(lump) => (LUMP, lump.0),
-        ColumnSource::Composite(tex) => (COMPOSITE, tex.0),
-    };
-    Painter {
-        kind: SKY,
-        number,
-        source_kind,
-        source,
-    }
 }
 
 // The column of the sky's texture at column `x`.
@@ -229,8 +208,10 @@ fn paint_sky<S: Shelf, C: Canvas>(
         rows.now.number rows.now.tex.0 rows.now.x (Some (rows.now.first, rows.now.last))) }
     ensures place { PlacedAlike (C.view hands.old.canvas.now) (C.view hands.new.canvas.now) }
 {
-    let source = scene.textures.source_at(rows.tex, lookup);
-    hands.canvas.begin(sky_painter(rows.number, source));
+    let painter = scene
+        .textures
+        .painter_at(SKY, rows.number, rows.tex, lookup);
+    hands.canvas.begin(painter);
     let cache = &*hands.cache;
     if let Some(colormap) = cache.bytes(scene.colormap)
         && let Some(texels) = scene.textures.column_at(cache, rows.tex, lookup)

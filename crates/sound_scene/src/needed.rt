@@ -1,7 +1,7 @@
 // The lumps that a scene needs.
 //
 // Rules: `scene_rules`, Sizes. The original: `R_PrecacheLevel`, r_data.c.
-ghost use Rattle.std.specs.Prelude.{◌≡◌, ◌≤◌, ◌==◌, ◌||◌, length, IfOk};
+ghost use Rattle.std.specs.Prelude.{◌≡◌, ◌≤◌, ◌==◌, length, IfOk};
 ghost use Rattle.std.specs.List.{list_any};
 ghost use Rattle.lump_rules.specs.declared.wad.TheConstants.{MAX_LUMPS};
 ghost use Rattle.level_rules.specs.declared.TheConstants.{SKY_FLAT};
@@ -130,8 +130,10 @@ fn mark_patches(marks: &mut Marks, textures: &Textures)
     mark_lumps(marks, textures.patches());
 }
 
-// Marks these lumps.
-fn mark_lumps(marks: &mut Marks, lumps: &[LumpNo])
+/// Marks these lumps. A number past the count of marks is let be.
+///
+/// The original: `R_PrecacheLevel`, r_data.c, which marks flats, textures and sprites.
+pub fn mark_lumps(marks: &mut Marks, lumps: &[LumpNo])
     ensures count { length marks.new ≡ length marks.old }
     ensures marked { AddsMarks marks.old marks.new (λ number.
         list_any (λ n. n == number) (lump_numbers lumps.now)) }
@@ -141,8 +143,10 @@ fn mark_lumps(marks: &mut Marks, lumps: &[LumpNo])
     }
 }
 
-// Marks the flats of all sectors.
-fn mark_flats(marks: &mut Marks, flats: &[SectorFlats])
+/// Marks the lumps that are flats of these sectors; sky and the absence of a flat are no lumps.
+///
+/// The original: `flatpresent`, `R_PrecacheLevel`, r_data.c.
+pub fn mark_flats(marks: &mut Marks, flats: &[SectorFlats])
     requires { length marks.old ≤ SKY_FLAT }
     ensures count { length marks.new ≡ length marks.old }
     ensures marked { AddsMarks marks.old marks.new (λ number.

@@ -1,6 +1,6 @@
 -- The steps by which a composite is built, one after another.
 use Rattle.std.proofs.Common.{◌≡◌, ℕ, ◌+◌, ◌<◌, ◌≤◌, false, List, [], ◌∷◌, Result, Ok, Err, refl, sym, subst, ap, ◌∙◌, arith, MatchResult, IsErrAnd}
-use Rattle.std.specs.Prelude.{IfErr, Contains, ◌*◌}
+use Rattle.std.specs.Prelude.{IfErr, Contains}
 use Rattle.std.proofs.lemmas.Result.{err_from_is_err_and}
 use Rattle.outside.specs.Causes.{FaultsRose}
 use Rattle.outside.specs.Shelf.{ShelfView}
@@ -8,7 +8,6 @@ use Rattle.outside.specs.Faults.{ResultIs, HasCauses}
 use Rattle.outside.proofs.ShelfLemmas.{follows_none, follows_then, all_stand_later}
 use Rattle.lump_rules.specs.declared.wad.Lump.{Lump}
 use Rattle.lump_rules.specs.Lookups.{lump_at}
-use Rattle.zone_rules.specs.declared.TheConstants.{MIN_FRAGMENT}
 use Rattle.zone_rules.specs.Zones.{Owner, Heap, owned_block, block_size, same_owner}
 use Rattle.zone_rules.specs.Orders.{Item, KeepsOrder}
 use Rattle.zone_rules.proofs.GapLemmas.{small_all}
@@ -16,11 +15,12 @@ use Rattle.zone_rules.proofs.OrderLemmas.{order_none, order_then}
 use Rattle.wad_dir.specs.DirectoryView.{DirectoryView}
 use Rattle.lump_cache.specs.declared.fault.CacheFault.{CacheFault}
 use Rattle.lump_cache.specs.declared.fault.CacheFault.TheVariants.{ZoneFull, ReadFault}
-use Rattle.lump_cache.specs.Caches.{HasAsked, IsAtRestExcept, KeepsCounts, NoRoom, WhereFull, cache_fault, composite_owner, lump_owner}
+use Rattle.lump_cache.specs.Caches.{HasAsked, IsAtRestExcept, IsPinned, KeepsCounts, NoRoom, WhereFull, cache_fault, composite_owner, lump_owner}
 use Rattle.lump_cache.specs.Calls.{IfFull, InOrderAt, HoldContents}
+use Rattle.lump_cache.specs.Sizes.{IsGapBesideTwo}
 use Rattle.art_rules.specs.declared.PlacedPatch.{PlacedPatch}
 use Rattle.art_rules.specs.Wanted.{PreparedTexture}
-use Rattle.texture_build.specs.Asked.{IsSmallBeside, size_of}
+use Rattle.texture_build.specs.Asked.{IsGapBesideComposite, size_of}
 use Rattle.texture_build.specs.Builds.{KeepsBuild, IsFullForPatch, PutsPatches}
 use Rattle.texture_build.proofs.FillLemmas.{others_none, others_then}
 
@@ -83,7 +83,7 @@ module _ {number : ℕ} (t : PreparedTexture) {u v : ShelfView} {dir : Directory
     asked = full.asked;
     wanted_is = full.wanted_is;
     narrow = full.narrow;
-    room = λ colormap count rest building. subst (λ (n : ℕ). IsSmallBeside n count (size_of t) wanted) keeps.counts.0 (full.room colormap count (keeps.rest colormap count rest) (keeps.building (size_of t) building));
+    gap = λ colormap count rest building. subst (λ (n : ℕ). IsGapBesideComposite n count (size_of t) widest') keeps.counts.0 (full.gap colormap count (keeps.rest colormap count rest) (keeps.building (size_of t) building));
   }
 
   full_earlier : (result : Result (Unit {0}) CacheFault) → IfErr result (λ fault. IfFull (cache_fault fault) (IsFullForPatch dir.lumps number t y)) → IfErr result (λ fault. IfFull (cache_fault fault) (IsFullForPatch dir.lumps number t x))
@@ -97,17 +97,17 @@ narrow_where size z wanted widest' full = omega (arith, full.wanted_is, full.wid
 
 -- the zone was full for a patch of the texture
 pub patch_full : (lumps : List Lump) (number : ℕ) (t : PreparedTexture) (patch : PlacedPatch) (z : Heap) (r : Result (Unit {0}) CacheFault) → Contains t.patches patch → WhereFull r (NoRoom (lump_at lumps patch.lump).size z) →
-    ((colormap count : ℕ) (o : Owner) (asked : ℕ) → IsAtRestExcept colormap count (o ∷ []) z → same_owner (lump_owner colormap) o ≡ false → HasAsked asked (owned_block o z.blocks) → WhereFull r (λ wanted widest'. z.size < block_size count + block_size asked + 2 * wanted + 2 * MIN_FRAGMENT)) →
+    ((colormap count : ℕ) (o : Owner) (asked : ℕ) → IsAtRestExcept colormap count (o ∷ []) z → same_owner (lump_owner colormap) o ≡ false → HasAsked asked (owned_block o z.blocks) → IsPinned (owned_block o z.blocks) → WhereFull r (λ wanted widest'. IsGapBesideTwo z.size (block_size count + block_size asked) widest')) →
     IfErr r (λ fault. IfFull (cache_fault fault) (IsFullForPatch lumps number t z))
-patch_full lumps number t patch z (Ok done) among full room = tt
-patch_full lumps number t patch z (Err ReadFault) among full room = tt
-patch_full lumps number t patch z (Err (ZoneFull wanted widest')) among full room = record {
+patch_full lumps number t patch z (Ok done) among full gap = tt
+patch_full lumps number t patch z (Err ReadFault) among full gap = tt
+patch_full lumps number t patch z (Err (ZoneFull wanted widest')) among full gap = record {
   owner = lump_owner patch.lump;
   size = (lump_at lumps patch.lump).size;
   asked = (patch, among, refl, refl);
   wanted_is = full.wanted_is;
   narrow = narrow_where (lump_at lumps patch.lump).size z wanted widest' full;
-  room = λ colormap count rest building. room colormap count (composite_owner number) (size_of t) rest refl building.asked;
+  gap = λ colormap count rest building. gap colormap count (composite_owner number) (size_of t) rest refl building.asked building.pinned;
 }
 
 -- no patch is put, and some after others

@@ -7,13 +7,14 @@ use Rattle.outside.specs.declared.fault.Fault.{Fault}
 use Rattle.outside.specs.declared.fault.Fault.TheVariants.{Refused, ReadFault, ZoneFull, OutOfMemory}
 use Rattle.outside.specs.Faults.{fault_above, HasCauseAt}
 use Rattle.outside.proofs.ShelfLemmas.{follows_none, follows_then, all_stand_later}
-use Rattle.zone_rules.specs.Zones.{Heap}
+use Rattle.zone_rules.specs.Zones.{Heap, block_size}
 use Rattle.zone_rules.specs.Orders.{Item, KeepsOrder}
 use Rattle.zone_rules.proofs.OrderLemmas.{order_none, order_then}
 use Rattle.wad_dir.specs.DirectoryView.{DirectoryView}
 use Rattle.lump_cache.specs.Calls.{HoldContents, IfFull, InOrderAt, IsFullFor}
 use Rattle.lump_cache.proofs.CallLemmas.{cause_later, full_at, order_at, result_above}
-use Rattle.texture_build.specs.Asked.{IsSmall, IsSmallBeside, IsPatch, size_of}
+use Rattle.lump_cache.specs.Sizes.{IsGapBeside}
+use Rattle.texture_build.specs.Asked.{IsGapBesideComposite, IsPatch, size_of}
 use Rattle.texture_build.specs.Sources.{IsComposedColumn, column_in}
 use Rattle.texture_build.specs.Views.{TexturesView, prepared_texture}
 use Rattle.texture_build.specs.Draws.{KeepsArt, HoldsArt, IsNoReadFault, IsFullForTexture, DrawsWith}
@@ -82,12 +83,12 @@ full_column-earlier {dir = dir} {textures} {x} {y} keeps wider wanted widest k =
         asked = full.asked;
         wanted_is = full.wanted_is;
         narrow = full.narrow;
-        room = λ colormap count rest. subst
-            (λ (n : ℕ). IsSmall n count wanted
+        gap = λ colormap count rest. subst
+            (λ (n : ℕ). IsGapBeside n (block_size count) widest
             ⊎ (IsComposedColumn (column_in (prepared_texture textures k.number) k.column)
             × IsPatch dir.lumps (prepared_texture textures k.number) full.owner full.size
-            × IsSmallBeside n count (size_of (prepared_texture textures k.number)) wanted))
-            keeps.counts.0 (full.room colormap count (keeps.rest colormap count rest));
+            × IsGapBesideComposite n count (size_of (prepared_texture textures k.number)) widest))
+            keeps.counts.0 (full.gap colormap count (keeps.rest colormap count rest));
       };
     }
 
@@ -101,8 +102,8 @@ full_lump-earlier keeps wider wanted widest full = record {
   asked = wider full.lump full.asked;
   wanted_is = full.wanted_is;
   narrow = full.narrow;
-  room = λ colormap count rest. subst (λ (n : ℕ). IsSmall n count wanted) keeps.counts.0
-      (full.room colormap count (keeps.rest colormap count rest));
+  gap = λ colormap count rest. subst (λ (n : ℕ). IsGapBeside n (block_size count) widest) keeps.counts.0
+      (full.gap colormap count (keeps.rest colormap count rest));
 }
 
 full-earlier : {a b : ShelfView} {dir : DirectoryView} {textures : TexturesView} {x y : Heap}

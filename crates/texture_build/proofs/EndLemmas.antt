@@ -15,7 +15,7 @@ use Rattle.lump_cache.specs.Calls.{IfFull, InOrderAt}
 use Rattle.art_rules.specs.declared.ColumnLookup.TheVariants.{Composed}
 use Rattle.art_rules.specs.Wanted.{PreparedTexture}
 use Rattle.art_rules.proofs.LookupLemmas.{composite_of_first-none, composite_of_first-all}
-use Rattle.texture_build.specs.Asked.{IsSmallBeside, IsFullForColumn, size_of}
+use Rattle.texture_build.specs.Asked.{IsGapBesideComposite, IsFullForColumn, size_of}
 use Rattle.texture_build.specs.Builds.{StartsComposite, FailsToBegin, IsFullForPatch, HasBuilt}
 use Rattle.texture_build.specs.Composites.{composite_of}
 
@@ -66,7 +66,7 @@ module _ (lumps : List Lump) (number : ℕ) (t : PreparedTexture) (place : ℕ) 
     asked = inl (refl, refl);
     wanted_is = full.wanted_is;
     narrow = full.narrow;
-    room = λ colormap count rest. inl (full.room colormap count rest);
+    gap = λ colormap count rest. inl (full.gap colormap count rest);
   }
 
   -- a patch found none while the composite was pinned
@@ -77,7 +77,7 @@ module _ (lumps : List Lump) (number : ℕ) (t : PreparedTexture) (place : ℕ) 
     asked = inr full.asked;
     wanted_is = full.wanted_is;
     narrow = full.narrow;
-    room = λ colormap count rest. inr (tt, full.asked, subst (λ (n : ℕ). IsSmallBeside n count (size_of t) wanted) begins.counts.0 (full.room colormap count (begins.rest colormap count rest) begins.building));
+    gap = λ colormap count rest. inr (tt, full.asked, subst (λ (n : ℕ). IsGapBesideComposite n count (size_of t) widest') begins.counts.0 (full.gap colormap count (begins.rest colormap count rest) begins.building));
   }
 
   pub ends_full : (begun : Heap) (built : Result (Unit {0}) CacheFault) → StartsComposite number (size_of t) old begun → IfErr built (λ fault. IfFull (cache_fault fault) (IsFullForPatch lumps number t begun)) → IfErr built (λ fault. IfFull (cache_fault fault) (IsFullForColumn lumps number t (Composed place) old))

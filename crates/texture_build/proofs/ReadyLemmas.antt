@@ -7,7 +7,6 @@ use Rattle.outside.proofs.ShelfLemmas.{follows_none}
 use Rattle.lump_rules.specs.declared.wad.Lump.{Lump}
 use Rattle.lump_rules.specs.Contents.{lump_bytes}
 use Rattle.lump_rules.specs.Lookups.{lump_at}
-use Rattle.zone_rules.specs.declared.TheConstants.{MIN_FRAGMENT}
 use Rattle.zone_rules.specs.Zones.{Block, Heap, IsLive, block_size, bytes_of, owned_block}
 use Rattle.zone_rules.proofs.OrderLemmas.{order_none}
 use Rattle.wad_dir.specs.DirectoryView.{DirectoryView}
@@ -17,7 +16,8 @@ use Rattle.lump_cache.specs.Caches.{IsAtRest, KeptOrPurged, NoRoom, WhereFull, c
 use Rattle.lump_cache.proofs.FaithLemmas.{bytes_in, kept_bytes}
 use Rattle.lump_cache.specs.Calls.{IfFull}
 use Rattle.lump_cache.specs.Fetches.{FetchesLump}
-use Rattle.lump_cache.proofs.FetchLemmas.{fetch_no_room, fetch_reads, fetch_room}
+use Rattle.lump_cache.specs.Sizes.{IsGapBeside}
+use Rattle.lump_cache.proofs.FetchLemmas.{fetch_gap, fetch_no_room, fetch_reads}
 use Rattle.zone_rules.specs.declared.Tag.TheVariants.{Cache}
 use Rattle.zone_rules.specs.Orders.{has_item}
 use Rattle.art_rules.specs.declared.ColumnLookup.{ColumnLookup}
@@ -50,16 +50,16 @@ readies_nothing number t lookup view dir z live = record {
 
 -- the zone was full for the lump of a column
 pub single_full : (lumps : List Lump) (number : ℕ) (t : PreparedTexture) (lump place : ℕ) (z : Heap) (r : Result (Unit {0}) CacheFault) → WhereFull r (NoRoom (lump_at lumps lump).size z) →
-    ((colormap size : ℕ) → IsAtRest colormap size z → WhereFull r (λ wanted widest'. z.size < block_size size + wanted + MIN_FRAGMENT)) → IfErr r (λ fault. IfFull (cache_fault fault) (IsFullForColumn lumps number t (Single lump place) z))
-single_full lumps number t lump place z (Ok done) full room = tt
-single_full lumps number t lump place z (Err ReadFault) full room = tt
-single_full lumps number t lump place z (Err (ZoneFull wanted widest')) full room = record {
+    ((colormap size : ℕ) → IsAtRest colormap size z → WhereFull r (λ wanted widest'. IsGapBeside z.size (block_size size) widest')) → IfErr r (λ fault. IfFull (cache_fault fault) (IsFullForColumn lumps number t (Single lump place) z))
+single_full lumps number t lump place z (Ok done) full gap = tt
+single_full lumps number t lump place z (Err ReadFault) full gap = tt
+single_full lumps number t lump place z (Err (ZoneFull wanted widest')) full gap = record {
   owner = lump_owner lump;
   size = (lump_at lumps lump).size;
   asked = (refl, refl);
   wanted_is = full.wanted_is;
   narrow = narrow_where (lump_at lumps lump).size z wanted widest' full;
-  room = λ colormap count rest. inl (room colormap count rest);
+  gap = λ colormap count rest. inl (gap colormap count rest);
 }
 
 -- composites that were kept or purged
@@ -102,7 +102,7 @@ readies_single {dir} {view} {after} {old} {new} {result} number t lump place the
       faithful = reads.keeps.faithful;
       composites = λ contents textures is hold k. composites_kept (lump_bytes contents dir.lumps) textures old new (λ n. f.others (composite_owner n) refl) k;
       empty = not_composed result (owned_block (composite_owner number) new.blocks ≡ None);
-      full = single_full dir.lumps number t lump place old result (fetch_no_room f) (fetch_room f);
+      full = single_full dir.lumps number t lump place old result (fetch_no_room f) (fetch_gap f);
       order = λ items all k. reads.order items (λ n is. subst (λ m. has_item items (lump_owner m) (lump_at dir.lumps m).size ≡ true) (sym is) (all (lump_owner lump) (lump_at dir.lumps lump).size (refl, refl))) k;
     } where
       not_composed : (r : Result (Unit {0}) CacheFault) (P : Type 0) → OnErr r (⊥ → P)

@@ -1,11 +1,11 @@
 -- What may be asked of the zone, and how small a zone is that had no room.
-use Rattle.std.specs.Prelude.{◌≡◌, ℕ, ◌+◌, ◌*◌, ◌<◌, Bool, true, List, Contains, Option, Some, length, option_and_then, slice_get, ◌⊎◌}
+use Rattle.std.specs.Prelude.{◌≡◌, ℕ, ◌+◌, ◌<◌, Bool, true, List, Contains, Option, Some, length, option_and_then, slice_get, ◌⊎◌}
 use Rattle.lump_rules.specs.declared.wad.Lump.{Lump}
 use Rattle.lump_rules.specs.Lookups.{last_of, lump_at}
-use Rattle.zone_rules.specs.declared.TheConstants.{MIN_FRAGMENT}
 use Rattle.zone_rules.specs.Zones.{Owner, Heap, block_size}
 use Rattle.zone_rules.specs.Orders.{Item, has_item}
 use Rattle.lump_cache.specs.Caches.{IsAtRest, lump_owner, composite_owner}
+use Rattle.lump_cache.specs.Sizes.{IsGapBeside, IsGapBesideTwo}
 use Rattle.art_rules.specs.declared.PlacedPatch.{PlacedPatch}
 use Rattle.art_rules.specs.declared.TextureEntry.{TextureEntry}
 use Rattle.art_rules.specs.declared.ColumnLookup.{ColumnLookup}
@@ -50,17 +50,13 @@ IsAskedByColumn lumps number t (Single lump place) o size = (o ≡ lump_owner lu
 IsAskedByColumn lumps number t (Composed place) o size = IsComposite number t o size ⊎
     IsPatch lumps t o size
 
--- the zone does not hold a block of `wanted` bytes beside the colormap
-abbrev pub IsSmall : ℕ → ℕ → ℕ → Type 0
-IsSmall zone colormap wanted = zone < block_size colormap + wanted + MIN_FRAGMENT
+-- the widest gap of a zone in which the colormap and a composite are pinned
+abbrev pub IsGapBesideComposite : ℕ → ℕ → ℕ → ℕ → Type 0
+IsGapBesideComposite zone colormap composite widest' =
+    IsGapBesideTwo zone (block_size colormap + block_size composite) widest'
 
--- the zone does not hold two such blocks beside the colormap and a composite
-abbrev pub IsSmallBeside : ℕ → ℕ → ℕ → ℕ → Type 0
-IsSmallBeside zone colormap composite wanted = zone < block_size colormap + block_size composite
-    + 2 * wanted + 2 * MIN_FRAGMENT
-
--- No gap held what a column asked for. Where the cache was at rest, the zone is that small; a patch of a
--- composed column has to stand beside the composite.
+-- No gap held what a column asked for. Where the cache was at rest, the widest gap is all that is left
+-- beside the colormap; a patch of a composed column has to stand beside the composite too.
 pub record IsFullForColumn (lumps : List Lump) (number : ℕ) (t : PreparedTexture)
     (lookup : ColumnLookup) (z : Heap) (wanted widest' : ℕ) : Type 0 where
   pub owner : Owner
@@ -68,9 +64,10 @@ pub record IsFullForColumn (lumps : List Lump) (number : ℕ) (t : PreparedTextu
   pub asked : IsAskedByColumn lumps number t lookup owner size
   pub wanted_is : wanted ≡ block_size size
   pub narrow : widest' < wanted
-  pub room : (colormap count : ℕ) → IsAtRest colormap count z →
-      IsSmall z.size count wanted ⊎
-      (IsComposedColumn lookup × IsPatch lumps t owner size × IsSmallBeside z.size count (size_of t) wanted)
+  pub gap : (colormap count : ℕ) → IsAtRest colormap count z →
+      IsGapBeside z.size (block_size count) widest' ⊎
+      (IsComposedColumn lookup × IsPatch lumps t owner size
+      × IsGapBesideComposite z.size count (size_of t) widest')
 
 -- a list has all that a column asks for
 abbrev pub HasColumnAsked : List Item → List Lump → ℕ → PreparedTexture → ColumnLookup → Type 0

@@ -10,10 +10,11 @@ use Rattle.wad_dir.specs.DirectoryView.{DirectoryView}
 use Rattle.lump_cache.specs.declared.fault.CacheFault.{CacheFault}
 use Rattle.lump_cache.specs.Caches.{HasAsked, IsAtRest, IsAtRestExcept, IsFaithful, IsPinned, KeepsCounts, cache_fault, composite_owner, lump_owner, release_heap}
 use Rattle.lump_cache.specs.Calls.{IfFull, LeavesInOrder, HoldContents}
+use Rattle.lump_cache.specs.Sizes.{IsGapBeside}
 use Rattle.art_rules.specs.declared.PlacedPatch.{PlacedPatch}
 use Rattle.art_rules.specs.Lookups.{composite_of_first}
 use Rattle.art_rules.specs.Wanted.{PreparedTexture}
-use Rattle.texture_build.specs.Asked.{IsPatch, IsSmall, IsSmallBeside, size_of}
+use Rattle.texture_build.specs.Asked.{IsPatch, IsGapBesideComposite, size_of}
 
 -- the composite's block is pinned, and has `size` bytes
 pub record IsBuilding (number size : ℕ) (z : Heap) : Type 0 where
@@ -41,7 +42,7 @@ pub record KeepsBuild (number : ℕ) (view after : ShelfView) (dir : DirectoryVi
   pub building : (size : ℕ) → IsBuilding number size old → IsBuilding number size new
 
 -- No gap held the block of a patch. Where no block but the composite's and the colormap's was
--- pinned, the zone does not hold two such blocks beside these.
+-- pinned, the widest gap is the wider of the two that are left.
 pub record IsFullForPatch (lumps : List Lump) (number : ℕ) (t : PreparedTexture) (z : Heap)
     (wanted widest' : ℕ) : Type 0 where
   pub owner : Owner
@@ -49,8 +50,8 @@ pub record IsFullForPatch (lumps : List Lump) (number : ℕ) (t : PreparedTextur
   pub asked : IsPatch lumps t owner size
   pub wanted_is : wanted ≡ block_size size
   pub narrow : widest' < wanted
-  pub room : (colormap count : ℕ) → IsAtRestExcept colormap count (composite_owner number ∷ []) z →
-      IsBuilding number (size_of t) z → IsSmallBeside z.size count (size_of t) wanted
+  pub gap : (colormap count : ℕ) → IsAtRestExcept colormap count (composite_owner number ∷ []) z →
+      IsBuilding number (size_of t) z → IsGapBesideComposite z.size count (size_of t) widest'
 
 -- the list has each patch of the texture
 abbrev pub HasPatches : List Item → List Lump → PreparedTexture → Type 0
@@ -112,7 +113,8 @@ pub record FailsToBegin (number size : ℕ) (old new : Heap) (wanted widest' : �
   pub empty : owned_block (composite_owner number) new.blocks ≡ None
   pub wanted_is : wanted ≡ block_size size
   pub narrow : widest' < wanted
-  pub room : (colormap count : ℕ) → IsAtRest colormap count old → IsSmall old.size count wanted
+  pub gap : (colormap count : ℕ) → IsAtRest colormap count old →
+      IsGapBeside old.size (block_size count) widest'
   pub order : (items : List Item) → has_item items (composite_owner number) size ≡ true →
       IsInOrder items old → ⊥
 

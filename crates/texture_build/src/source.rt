@@ -3,9 +3,12 @@
 // Rules: `specs/Sources`. The original: `texturecolumnlump`, r_data.c.
 ghost use Rattle.std.specs.Prelude.{◌≡◌, IsSome, Some};
 ghost use Rattle.art_rules.specs.Lookups.{single_place};
+ghost use Rattle.pixel_rules.specs.Art.{painter_of};
+ghost use Rattle.texture_build.specs.Arts.{lookup_source};
 ghost use Rattle.texture_build.specs.Sources.{source_of};
 
 use art_rules::ColumnLookup;
+use pixel_rules::{COMPOSITE, LUMP, NO_SOURCE, Painter};
 use texture_lists::TexNo;
 use wad_dir::LumpNo;
 
@@ -27,6 +30,25 @@ pub(crate) fn source_of(tex: TexNo, lookup: ColumnLookup) -> ColumnSource
         ColumnLookup::Empty => ColumnSource::Empty,
         ColumnLookup::Single { lump, place: _ } => ColumnSource::Lump(LumpNo(lump)),
         ColumnLookup::Composed { place: _ } => ColumnSource::Composite(tex),
+    }
+}
+
+// Who paints with a column's bytes, as a painter of that kind and number.
+#[inline(always)]
+#[tactic(auto, unfolding(pixel_rules::specs::Art::painter_of))]
+pub(crate) fn painter_of(kind: u8, number: u16, tex: TexNo, lookup: ColumnLookup) -> Painter
+    ensures { result ≡ painter_of kind number (lookup_source tex.0 lookup) }
+{
+    let (source_kind, source) = match lookup {
+        ColumnLookup::Empty => (NO_SOURCE, 0),
+        ColumnLookup::Single { lump, place: _ } => (LUMP, lump),
+        ColumnLookup::Composed { place: _ } => (COMPOSITE, tex.0),
+    };
+    Painter {
+        kind,
+        number,
+        source_kind,
+        source,
     }
 }
 

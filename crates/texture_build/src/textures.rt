@@ -13,6 +13,8 @@ ghost use Rattle.lump_rules.specs.Lookups.{last_of};
 ghost use Rattle.lump_rules.specs.declared.wad.Lump.{Lump};
 ghost use Rattle.outside.specs.Faults.{itself};
 ghost use Rattle.std.specs.Prelude.{◌≡◌, ◌<◌, ◌≤◌, ℕ, [], List, All, length, is_some, map, option_map, IfOk, IfSome, IsSome, Ok, OnErr, OnOk, Some};
+ghost use Rattle.pixel_rules.specs.Art.{painter_of};
+ghost use Rattle.texture_build.specs.Arts.{lookup_source};
 ghost use Rattle.texture_build.specs.Asked.{IsWantedPatch, size_of};
 ghost use Rattle.texture_build.specs.Sources.{IsColumnThere, column_in, own_lookup, source_of};
 ghost use Rattle.texture_build.specs.Views.{AllTexturesListed, AllThere, ArePatchesThere, IsPrepared, is_wanted, prepared_at, prepared_texture};
@@ -22,11 +24,12 @@ mod columns;
 
 use crate::prepare::prepare_wanted;
 use crate::prepared_list::PreparedList;
-use crate::source::{ColumnSource, posts_place, source_of};
+use crate::source::{ColumnSource, painter_of, posts_place, source_of};
 use art_rules::{ColumnLookup, MAX_COMPOSITE, MAX_TEXTURES, PNAMES, TEXTURE1, TEXTURE2};
 use lump_cache::LumpCache;
 use lump_rules::{MAX_LUMPS, Name8};
 use outside::Shelf;
+use pixel_rules::Painter;
 use std::alloc::Global;
 use std::marker::Model;
 use texture_lists::{ListedTextures, TexFault, TexNo};
@@ -234,7 +237,7 @@ impl Textures {
     /// mask count.
     ///
     /// A caller that asks several calls of one column asks for its lookup once, and gives it to
-    /// `source_at`, `ready_at` and `column_at`.
+    /// `painter_at`, `ready_at` and `column_at`.
     ///
     /// The original: `R_GetColumn`, r_data.c, where it reads `texturecolumnlump` and
     /// `texturecolumnofs`.
@@ -260,17 +263,19 @@ impl Textures {
             ArePatchesThere lumps (prepared_texture self.now tex.0) →
             IsColumnThere lumps (column_in (prepared_texture self.now tex.0) col) }
     {
-        self.source_at(tex, self.lookup(tex, col))
+        source_of(tex, self.lookup(tex, col))
     }
 
-    /// Whose bytes a texture column has, by what it is read from.
+    /// The painter of that kind and number that paints with a texture column, by what the column is
+    /// read from.
     ///
-    /// The original: `R_GetColumn`, r_data.c, where it reads `texturecolumnlump`.
+    /// The original: `R_GetColumn`, r_data.c, where it reads `texturecolumnlump`. This project's own:
+    /// painters.
     #[inline(always)]
-    pub fn source_at(&self, tex: TexNo, lookup: ColumnLookup) -> ColumnSource
-        ensures { result ≡ source_of tex.0 lookup }
+    pub fn painter_at(&self, kind: u8, number: u16, tex: TexNo, lookup: ColumnLookup) -> Painter
+        ensures { result ≡ painter_of kind number (lookup_source tex.0 lookup) }
     {
-        source_of(tex, lookup)
+        painter_of(kind, number, tex, lookup)
     }
 
     /// The bytes of the composite of a prepared texture, at most 65536.

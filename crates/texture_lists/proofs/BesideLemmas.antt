@@ -3,10 +3,10 @@ use Rattle.std.proofs.Common.{◌≡◌, ◌<◌, ◌≤◌, ◌+◌, ℕ, false
 use Rattle.std.specs.Prelude.{IfSome, OnOk, option_map}
 use Rattle.outside.specs.Shelf.{ShelfView}
 use Rattle.lump_rules.specs.Lookups.{last_of}
-use Rattle.zone_rules.specs.Zones.{Heap, IsLive, block_size, same_owner}
+use Rattle.zone_rules.specs.Zones.{Heap, IsLive, block_size, owned_block, same_owner}
 use Rattle.wad_dir.specs.DirectoryView.{DirectoryView}
 use Rattle.lump_rules.specs.declared.wad.LumpNo.{LumpNo}
-use Rattle.lump_cache.specs.Caches.{IsAtRest, lump_owner}
+use Rattle.lump_cache.specs.Caches.{HasStatic, lump_owner}
 use Rattle.lump_cache.specs.Calls.{PreservesCache}
 use Rattle.lump_cache.specs.Named.{IsLast, live_bytes}
 use Rattle.lump_cache.specs.Sizes.{StandsBeside}
@@ -20,7 +20,7 @@ on_ok (Err fault) p = tt
 -- the last lump of a name was made live and lent
 pub list_beside : {A E : Type 0} {v w : ShelfView} {dir : DirectoryView} {a b : Heap} {name key : List ℕ} → name ≡ key → (lump : Option LumpNo) (lent : Option (List ℕ)) (result : Result A E) → PreservesCache v w dir a b →
     option_map (λ (l : LumpNo). l.0) lump ≡ last_of dir.lumps name → IfSome lump (λ l. l.0 < length dir.lumps) → IfSome lump (λ l. IsLive b (lump_owner l.0)) → lent ≡ live_bytes lump b →
-    ((colormap count : ℕ) → IsAtRest colormap count b → IfSome lump (λ l. same_owner (lump_owner colormap) (lump_owner l.0) ≡ false) → IfSome lent (λ bytes. block_size count + block_size (length bytes) ≤ b.size)) →
+    ((colormap count : ℕ) → HasStatic count (owned_block (lump_owner colormap) b.blocks) → IfSome lump (λ l. same_owner (lump_owner colormap) (lump_owner l.0) ≡ false) → IfSome lent (λ bytes. block_size count + block_size (length bytes) ≤ b.size)) →
     OnOk result ((number : ℕ) → IsLast dir.lumps key number → StandsBeside dir.lumps a number)
 list_beside {dir} {b} {name} same lump lent result keeps found there live is fits =
     on_ok result (λ number last. beside_earlier number keeps (beside_named dir.lumps name b lump lent found there live is fits number (ap (last_of dir.lumps) same ∙ last)))

@@ -1,6 +1,6 @@
 // A view: the tables, and the viewpoint that sees by them.
 
-ghost use Rattle.std.specs.Prelude.{◌≡◌, ℕ, ◌+◌, ◌<◌, ◌≤◌, ◌^◌, ◌-◌, min, ◌≤ℤ◌, pos, Option, Some, None};
+ghost use Rattle.std.specs.Prelude.{◌≡◌, ℕ, ◌+◌, ◌<◌, ◌≤◌, ◌^◌, ◌-◌, min, ◌≤ℤ◌, pos, Option, Some};
 ghost use Rattle.word_rules.specs.Words.{turn, turn_back, ang90, fine_angle, bits_of, shr_word};
 ghost use Rattle.view_rules.specs.View.{ViewValue, view_of};
 ghost use Rattle.view_rules.specs.Bearings.{point_angle, point_dist, scale_numerator, scale_denominator, scale_at};

@@ -5,7 +5,6 @@ ghost use Rattle.pixel_rules.specs.declared.TheConstants.{PLANE};
 ghost use Rattle.pixel_rules.specs.Art.{Art, lump_source, painter_of};
 ghost use Rattle.picture_rules.specs.declared.plane.Flat4.{Flat4};
 ghost use Rattle.picture_rules.specs.plane.Keys.{is_sky_key};
-ghost use Rattle.picture_rules.specs.plane.Spans.{holds, span_start};
 ghost use Rattle.picture_rules.specs.plane.Skies.{plane_dots};
 ghost use Rattle.pixel_strips.specs.Canvases.{with_painter, with_dots};
 ghost use Rattle.visplanes.specs.Planes.{plane_at, flat_lump};

@@ -141,7 +141,7 @@ fn row_distance(view: &View<'_>, height: i32, y: u16) -> i32
     mul(off, view.tables().y_slope(y as usize))
 }
 
-// How far along column `x0` a row at that distance is.
+// The distance along column `x0`'s ray to the floor at a row of that distance.
 #[tactic(auto, unfolding(picture_rules::specs::plane::Floors::span_length))]
 fn span_length(view: &View<'_>, distance: i32, x0: u16) -> i32
     requires { x0 < view.now.shape.width }

@@ -1,5 +1,5 @@
 // The indexes of a directory: the last lump and the last flat of each name, and the sprite lumps.
-ghost use Rattle.std.specs.Prelude.{◌≡◌, ℕ, List, ◌<◌, ◌^◌, ◌==◌, ◌&&◌, ◌||◌, true, not, if◌then◌else◌, length, map, filter, replicate, get_or, false, IfOk, IfSome, Some, None};
+ghost use Rattle.std.specs.Prelude.{◌≡◌, ℕ, List, ◌<◌, ◌^◌, ◌==◌, ◌&&◌, ◌||◌, true, not, if◌then◌else◌, length, map, filter, replicate, get_or, false, IfOk, Some, None};
 ghost use Rattle.std.specs.List.{range_with_len};
 ghost use Rattle.std.specs.Option.{option_map};
 ghost use Rattle.std.specs.Str.{bytes_eq};

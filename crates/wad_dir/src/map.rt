@@ -1,7 +1,7 @@
 // The label of a map.
 ghost use Rattle.std.specs.Prelude.{◌≡◌, ◌<◌, ◌+◌, ◌^◌, length, IfSome};
 ghost use Rattle.std.specs.Option.{option_map};
-ghost use Rattle.lump_rules.specs.Lookups.{is_label, if_label, is_named_in, are_named, lump_at};
+ghost use Rattle.lump_rules.specs.Lookups.{is_label, if_label, is_named_in, are_named};
 
 use crate::LumpNo;
 use lump_rules::{BEHAVIOR, BEHAVIOR_AFTER, Lump, MAP_LUMPS, NAME_SIZE};

@@ -6,10 +6,7 @@ ghost use Rattle.std.specs.List.{list_any};
 ghost use Rattle.std.specs.Option.{option_copied};
 ghost use Rattle.lump_rules.specs.Lookups.{has_name, map_of};
 ghost use Rattle.art_rules.specs.Books.{book_lumps};
-ghost use Rattle.level_rules.specs.declared.TheConstants.{SKY_FLAT};
 ghost use Rattle.lump_rules.specs.Names.{name_of};
-ghost use Rattle.scene_rules.specs.SectorFlats.{flat_number};
-ghost use Rattle.scene_rules.specs.Sizes.{has_flat};
 ghost use Rattle.sound_scene.specs.Views.{AddsMarks, lump_numbers};
 ghost use Rattle.trim_rules.specs.Parts.{called_lumps, copy_part, fixed_lumps, flat_lumps, group_parts, label_or_copy, listed_last, map_parts, picture_lumps, trim_parts};
 ghost use Rattle.wad_trim.specs.Plans.{trim_art, layer_lumps};
@@ -18,8 +15,8 @@ ghost use Rattle.wad_trim.specs.Writes.{IsPartThere};
 use art_rules::{PNAMES, TEXTURE1, TEXTURE2};
 use lump_rules::{F_END, F_START, MAP_LUMP_COUNT, NAME_SIZE, Name8, S_END, S_START};
 use outside::OutOfMemory;
-use scene_rules::{COLORMAP, Flat, PLAYPAL, SectorFlats};
-use sound_scene::{Marks, SoundScene};
+use scene_rules::{COLORMAP, PLAYPAL, SectorFlats};
+use sound_scene::{Marks, SoundScene, mark_flats, mark_lumps};
 use sprite_book::SpriteBook;
 use std::alloc::Global;
 use texture_build::Textures;
@@ -67,41 +64,6 @@ fn flat_lumps(
     marks.lumps(alloc)
 }
 
-// Marks the flats of all sectors.
-fn mark_flats(marks: &mut Marks, flats: &[SectorFlats])
-    requires { length marks.old ≤ SKY_FLAT }
-    ensures count { length marks.new ≡ length marks.old }
-    ensures marked { AddsMarks marks.old marks.new (λ number.
-        list_any (has_flat number) flats.now) }
-{
-    for both in flats {
-        mark_both(marks, both);
-    }
-}
-
-// Marks both flats of a sector.
-#[tactic(auto, unfolding(scene_rules::specs::Sizes::has_flat))]
-fn mark_both(marks: &mut Marks, flats: &SectorFlats)
-    requires { length marks.old ≤ SKY_FLAT }
-    ensures count { length marks.new ≡ length marks.old }
-    ensures marked { AddsMarks marks.old marks.new (λ number. has_flat number flats.now) }
-{
-    mark_flat(marks, flats.floor);
-    mark_flat(marks, flats.ceiling);
-}
-
-// Marks a flat, if it is a lump.
-#[tactic(auto, unfolding(scene_rules::specs::SectorFlats::flat_number))]
-fn mark_flat(marks: &mut Marks, flat: Flat)
-    requires { length marks.old ≤ SKY_FLAT }
-    ensures count { length marks.new ≡ length marks.old }
-    ensures marked { AddsMarks marks.old marks.new (λ number. flat_number flat == number) }
-{
-    if let Flat::Lump(lump) = flat {
-        marks.set(lump.0 as usize);
-    }
-}
-
 // The lumps of the pictures of a scene and of its weapon layers, ascending and each once.
 #[tactic(auto, unfolding(trim_rules::specs::Parts::picture_lumps))]
 fn picture_lumps(
@@ -137,17 +99,6 @@ fn mark_pictures(marks: &mut Marks, book: &SpriteBook)
         list_any (λ lump. lump == number) (book_lumps book.now)) }
 {
     mark_lumps(marks, book.pictures());
-}
-
-// Marks these lumps.
-fn mark_lumps(marks: &mut Marks, lumps: &[LumpNo])
-    ensures count { length marks.new ≡ length marks.old }
-    ensures marked { AddsMarks marks.old marks.new (λ number.
-        list_any (λ lump. lump == number) (lump_numbers lumps.now)) }
-{
-    for lump in lumps {
-        marks.set(lump.0 as usize);
-    }
 }
 
 // All lumps that are found by their names: those of colours, the lists of textures, and the patches

@@ -1,8 +1,7 @@
 // What a fragment is drawn among: the windows, the openings, and the planes of the leaf.
 //
 // Rules: this crate's Columns, Leaves and Saved.
-ghost use Rattle.std.specs.Prelude.{◌≡◌, ◌≢◌, ◌<◌, ◌≤◌, ◌+◌, ◌-◌, ℕ, [], None, Some, IfOk, IfErr, IsErr, OnOk, OnErr, length, take};
-ghost use Rattle.view_rules.specs.View.{ViewValue};
+ghost use Rattle.std.specs.Prelude.{◌≡◌, ◌≢◌, ◌<◌, ◌≤◌, ◌+◌, ◌-◌, ℕ, [], None, Some, IfOk, IfErr, OnOk, length, take};
 ghost use Rattle.view_rules.specs.declared.TheConstants.{FRAME_WIDTH, FRAME_HEIGHT};
 ghost use Rattle.picture_rules.specs.declared.wall.TheConstants.{MOST_OPENINGS};
 ghost use Rattle.picture_rules.specs.declared.wall.WallFacts.{WallFacts};

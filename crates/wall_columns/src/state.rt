@@ -1,7 +1,7 @@
 // The walls of a view as far as they are drawn.
 //
 // Rules: `specs/Walls`, `specs/Built`. The original: r_segs.c, and `R_Subsector` of r_bsp.c.
-ghost use Rattle.std.specs.Prelude.{◌≡◌, ◌<◌, ◌≤◌, ◌+◌, ◌↔◌, ℕ, [], List, None, Some, Ok, IfOk, IfErr, OnOk, IsTrue, length};
+ghost use Rattle.std.specs.Prelude.{◌≡◌, ◌<◌, ◌≤◌, ◌+◌, ◌↔◌, ℕ, [], List, None, Ok, IfOk, IfErr, OnOk, IsTrue, length};
 ghost use Rattle.view_rules.specs.declared.TheConstants.{FRAME_WIDTH, FRAME_HEIGHT};
 ghost use Rattle.view_rules.specs.View.{ViewValue};
 ghost use Rattle.level_rules.specs.declared.walk.TheConstants.{MAX_DRAWSEGS};
@@ -158,7 +158,7 @@ impl WallState {
 
     /// Draws the fragment of a seg in columns `first` to `last` of the view: takes its openings,
     /// checks the planes that it marks, first the ceiling, then marks and paints its columns from
-    /// left to right and saves their clips, and notes it. Past 256 notes it does nothing.
+    /// left to right and saves their clips, and notes it. With 256 notes it does nothing.
     ///
     /// The view is the one that `start_view` was called for. Each texture of the facts that is not
     /// number 0 is prepared. The canvas stands where the view lies in the frame.

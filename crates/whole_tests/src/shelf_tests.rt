@@ -1,6 +1,6 @@
 // Values from outside: the sums of two views of the made path of 1 over the made WAD of 1, and of
 // the first over that WAD with other art. A sum is the FNV-1a of the frame's 64,000 bytes.
-ghost use Rattle.std.specs.Prelude.{◌≡◌, IfOk};
+ghost use Rattle.std.specs.Prelude.{IfOk};
 ghost use Rattle.frame_core.specs.Views.{CanDrawView};
 
 use crate::made::{

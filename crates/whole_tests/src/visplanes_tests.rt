@@ -1,5 +1,5 @@
 // Planes by hand, and the floor of a room of 512 by 512 units with a ceiling of 128.
-ghost use Rattle.std.specs.Prelude.{◌≡◌, ◌<◌, ◌≤◌};
+ghost use Rattle.std.specs.Prelude.{◌<◌};
 ghost use Rattle.view_rules.specs.declared.TheConstants.{FRAME_WIDTH, FRAME_HEIGHT};
 
 use angle_tables::Tables;

@@ -1,5 +1,5 @@
 // The header of a block, as it stands in the region: six little-endian words.
-ghost use Rattle.std.specs.Prelude.{◌≡◌, ◌≤◌, ◌<◌, ◌+◌, ◌*◌, ◌^◌, ℕ, List, length, drop, ◌==◌, ◌&&◌, ◌||◌, nat_le};
+ghost use Rattle.std.specs.Prelude.{◌≡◌, ◌≤◌, ◌<◌, ◌+◌, ◌*◌, ◌^◌, length, drop, ◌==◌, ◌&&◌, ◌||◌, nat_le};
 ghost use Rattle.zone_heap.specs.Headers.{word_at, with_word, header_in, with_use, code_tag, tag_code, owner_word, is_free_header, is_pinned_header, is_purgeable_header};
 
 use byteorder::{ByteOrder, LittleEndian};

@@ -1,5 +1,5 @@
 // A slot's block, looked up at the slot's home.
-ghost use Rattle.std.specs.Prelude.{◌≡◌, ◌<◌, ◌≤◌, ◌+◌, ◌-◌, ◌==◌, ℕ, length, slice_index, slice_range, map, Some, IsSome, IfSome, option_map};
+ghost use Rattle.std.specs.Prelude.{◌≡◌, ◌<◌, ◌≤◌, ◌+◌, ◌-◌, ◌==◌, length, slice_index, slice_range, map, Some, IsSome, IfSome, option_map};
 ghost use Rattle.zone_heap.specs.Headers.{word_at};
 ghost use Rattle.zone_heap.specs.Homes.{home_index, IsHomed};
 ghost use Rattle.zone_heap.specs.Regions.{blocks_in, IsLaid, IsRing};

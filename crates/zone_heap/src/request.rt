@@ -1,5 +1,5 @@
 // A request for a block, and a block given back.
-ghost use Rattle.std.specs.Prelude.{◌≡◌, ◌<◌, ◌≤◌, ◌-◌, ◌^◌, ◌==◌, ℕ, length, IsSome, IsNone, IfSome, false};
+ghost use Rattle.std.specs.Prelude.{◌≡◌, ◌<◌, ◌≤◌, ◌-◌, ◌^◌, ◌==◌, length, IsSome, IsNone, IfSome, false};
 ghost use Rattle.zone_rules.specs.Zones.{IsSound, Lacks, block_size, owner_at, owned_block};
 ghost use Rattle.zone_rules.specs.Requests.{first_room, stretches, passed_blocks, count_among, after_search, place_around, join_free};
 ghost use Rattle.zone_rules.specs.Frees.{free_owner};

@@ -1,5 +1,5 @@
 // Where a request finds room, and which blocks it purges.
-ghost use Rattle.std.specs.Prelude.{◌≡◌, ◌<◌, ◌≤◌, ◌+◌, ◌++◌, ◌^◌, ℕ, List, length, IfSome, option_map, drop, take, map, count_by, true};
+ghost use Rattle.std.specs.Prelude.{◌≡◌, ◌<◌, ◌+◌, ◌++◌, ◌^◌, length, IfSome, option_map, drop, take, map, count_by};
 ghost use Rattle.zone_rules.specs.Zones.{is_purgeable};
 ghost use Rattle.zone_rules.specs.Requests.{purge_block, join_free, first_room, stretches, passed_blocks, purge_among, count_among};
 ghost use Rattle.zone_heap.specs.Homes.{AreHome};

@@ -1,7 +1,7 @@
 // The zone and its calls.
 //
 // Rules: `zone_rules`, Zones, Requests and Frees. The original: z_zone.c.
-ghost use Rattle.std.specs.Prelude.{false, ◌≡◌, ◌<◌, ◌≤◌, ◌+◌, ◌*◌, ◌%◌, ◌^◌, ◌↔◌, ◌⊎◌, ℕ, List, [], ◌∷◌, length, All, IsOk, IsErr, IfOk, OnOk, OnErr, IfErr, IsSome, IsNone, IfSome, slice_range, IsTrue, MatchOption, MatchResult, option_map, vec_len, slice_index, None};
+ghost use Rattle.std.specs.Prelude.{false, ◌≡◌, ◌<◌, ◌≤◌, ◌+◌, ◌*◌, ◌%◌, ◌↔◌, ℕ, [], ◌∷◌, length, All, IsErr, IfOk, OnOk, OnErr, IfErr, IsNone, IfSome, slice_range, IsTrue, option_map, vec_len, slice_index, None};
 ghost use Rattle.std.specs.Option.{option_copied};
 ghost use Rattle.zone_heap.specs.Calls.{PairCalled, BytesChanged, BytesChangedWith};
 ghost use Rattle.zone_heap.specs.Regions.{blocks_in, IsRing};

@@ -12,6 +12,8 @@ use Rattle.zone_rules.specs.declared.TheConstants.{MIN_FRAGMENT}
 use Rattle.zone_rules.specs.Zones.{Heap, block_size}
 use Rattle.lump_cache.specs.Caches.{IsAtRest, IsEmpty}
 use Rattle.lump_cache.specs.Calls.{IfFull, IsFullFor, HoldContents}
+use Rattle.lump_cache.specs.Sizes.{IsGapAround, IsGapBeside}
+use Rattle.lump_cache.proofs.CallLemmas.{full_room}
 use Rattle.art_rules.specs.declared.shapes.Frame.{Frame}
 use Rattle.job_rules.specs.LevelJobs.{LevelJobValue}
 use Rattle.job_files.specs.declared.read.SceneFiles.{SceneFiles}
@@ -46,13 +48,14 @@ module _ (contents : List (List ℕ)) (level : LevelJobValue) (files : SceneFile
       IfErr r (λ f. IfFull (itself f) (IsFullAudit v files.dir z files.things level.map_name level.settings.skill)) →
       IfErr r (λ f. IfFull (itself f) (λ wanted widest'. IsOk (colormap_of files.dir.lumps))) →
       ((colormap : ℕ) → colormap_of files.dir.lumps ≡ Ok colormap → IsEmpty z → IfErr r (λ f. IfFull (itself f) (λ wanted widest'. z.size < block_size (lump_at files.dir.lumps colormap).size + wanted + MIN_FRAGMENT))) →
+      ((colormap : ℕ) → colormap_of files.dir.lumps ≡ Ok colormap → IsEmpty z → IfErr r (λ f. IfFull (itself f) (λ wanted widest'. IsGapAround z.size (block_size (lump_at files.dir.lumps colormap).size) wanted widest'))) →
       ((contents : List (List ℕ)) (scene : SceneValue) → HoldContents v files.dir z contents → scene_in (lump_bytes contents files.dir.lumps) files.dir.lumps files.things level.map_name level.settings.skill ≡ Ok scene → IsEmpty z → IfErr r (λ f. IfFull (itself f) (λ wanted widest'. z.size < (sizes_of files.dir.lumps scene).enough))) →
       IfErr r (λ f. IfFull (itself f) (IsFullOver (lump_bytes contents files.dir.lumps) level (value_of files)))
-  audit_full (Ok sound) told empty size full found room enough = tt
-  audit_full (Err (Refused refusal)) told empty size full found room enough = tt
-  audit_full (Err ReadFault) told empty size full found room enough = tt
-  audit_full (Err OutOfMemory) told empty size full found room enough = tt
-  audit_full (Err (ZoneFull wanted widest')) told empty size full found room enough =
+  audit_full (Ok sound) told empty size full found room gap enough = tt
+  audit_full (Err (Refused refusal)) told empty size full found room gap enough = tt
+  audit_full (Err ReadFault) told empty size full found room gap enough = tt
+  audit_full (Err OutOfMemory) told empty size full found room gap enough = tt
+  audit_full (Err (ZoneFull wanted widest')) told empty size full found room gap enough =
       let colormap = ok_value (colormap_of files.dir.lumps) found in
       record {
         block = record {
@@ -63,6 +66,7 @@ module _ (contents : List (List ℕ)) (level : LevelJobValue) (files : SceneFile
           colormap = colormap.0;
           colormap_is = colormap.1;
           small = subst (λ n. n < block_size (lump_at files.dir.lumps colormap.0).size + wanted + MIN_FRAGMENT) size (room colormap.0 colormap.1 empty);
+          gap = subst (λ n. IsGapAround n (block_size (lump_at files.dir.lumps colormap.0).size) wanted widest') size (gap colormap.0 colormap.1 empty);
         };
         enough = λ loaded e. audited_by (λ l. level.settings.zone < (loaded_sizes l).enough) (lump_bytes contents files.dir.lumps) level (value_of files) loaded e
             (λ scene weapons accepted layers. omega (arith, size, enough contents scene told accepted empty, enough_loaded (record { files = value_of files; scene = scene; weapons = weapons })));
@@ -78,7 +82,7 @@ module _ (contents : List (List ℕ)) (level : LevelJobValue) (files : SceneFile
   layers_full scene (Err OutOfMemory) accepted is rest size full = tt
   layers_full scene (Err (ZoneFull wanted widest')) accepted is rest size full =
       let small : level.settings.zone < block_size (lump_at files.dir.lumps scene.base.colormap).size + wanted + MIN_FRAGMENT =
-      subst (λ n. n < block_size (lump_at files.dir.lumps scene.base.colormap).size + wanted + MIN_FRAGMENT) size (full.room scene.base.colormap (lump_at files.dir.lumps scene.base.colormap).size rest) in
+      subst (λ n. n < block_size (lump_at files.dir.lumps scene.base.colormap).size + wanted + MIN_FRAGMENT) size (full_room full scene.base.colormap (lump_at files.dir.lumps scene.base.colormap).size rest) in
       record {
         block = record {
           lump = full.lump;
@@ -88,6 +92,7 @@ module _ (contents : List (List ℕ)) (level : LevelJobValue) (files : SceneFile
           colormap = scene.base.colormap;
           colormap_is = is;
           small = small;
+          gap = inr (subst (λ n. IsGapBeside n (block_size (lump_at files.dir.lumps scene.base.colormap).size) widest') size (full.gap scene.base.colormap (lump_at files.dir.lumps scene.base.colormap).size rest));
         };
         enough = λ loaded e. audited_by (λ l. level.settings.zone < (loaded_sizes l).enough) (lump_bytes contents files.dir.lumps) level (value_of files) loaded e
             (λ other weapons known layers.

@@ -5,6 +5,7 @@ use Rattle.lump_rules.specs.declared.wad.Lump.{Lump}
 use Rattle.lump_rules.specs.Lookups.{lump_at}
 use Rattle.zone_rules.specs.declared.TheConstants.{MIN_FRAGMENT}
 use Rattle.zone_rules.specs.Zones.{block_size}
+use Rattle.lump_cache.specs.Sizes.{IsGapAround}
 use Rattle.csv_tables.specs.declared.weapons.WeaponRow.{WeaponRow}
 use Rattle.sprite_book.specs.Calls.{IsWanted}
 use Rattle.job_rules.specs.LevelJobs.{LevelJobValue}
@@ -32,7 +33,7 @@ IsReadFor bytes level values lump =
     IsReadBy bytes values.lumps values.things level.map_name level.settings.skill lump ⊎ IsOfLayers values.lumps values.weapons lump
 
 -- No gap held the block of a lump that is read, whose bytes are these, and the zone does not hold it
--- beside COLORMAP.
+-- beside COLORMAP. The widest gap is the whole zone, if the lump is COLORMAP, and else what is left there.
 pub record IsBlockOver (bytes : ℕ → List ℕ) (level : LevelJobValue) (values : FilesValue) (wanted widest' : ℕ) : Type 0 where
   pub lump : ℕ
   pub asked : IsReadFor bytes level values lump
@@ -41,6 +42,7 @@ pub record IsBlockOver (bytes : ℕ → List ℕ) (level : LevelJobValue) (value
   pub colormap : ℕ
   pub colormap_is : colormap_of values.lumps ≡ Ok colormap
   pub small : level.settings.zone < block_size (lump_at values.lumps colormap).size + wanted + MIN_FRAGMENT
+  pub gap : IsGapAround level.settings.zone (block_size (lump_at values.lumps colormap).size) wanted widest'
 
 -- There is such a block; and where nothing refuses, the zone is smaller than enough.
 pub record IsFullOver (bytes : ℕ → List ℕ) (level : LevelJobValue) (values : FilesValue) (wanted widest' : ℕ) : Type 0 where

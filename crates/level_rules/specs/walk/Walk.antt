@@ -62,7 +62,7 @@ at_leaf_of v level n leaf w = at_segs v level (surface_at level leaf.sector) lea
 unfoldable pub at_leaf : ViewValue → LevelLists → ℕ → WalkState → WalkState
 at_leaf v level n w = at_leaf_of v level n (leaf_at level n) w
 
--- the far child is walked where its box passes over what is covered by then
+-- the far child is walked only if some column of its box is still open
 unfoldable pub at_far : ViewValue → (Child → WalkState → WalkState) → Node → WalkState → WalkState
 at_far v walk node w = cond (box_passes v w.covered (far_box v node)) (walk (far_child v node) w) w
 

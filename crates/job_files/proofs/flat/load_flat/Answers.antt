@@ -1,10 +1,13 @@
-use Rattle.std.proofs.Common.{◌∷◌, [], refl}
+use Rattle.std.proofs.Common.{◌∷◌, [], arith, refl}
 use Rattle.outside.specs.Shelf.{NameFiles}
 use Rattle.outside.proofs.ShelfLemmas.{all_stand_later, follows_then}
 use Rattle.outside.proofs.StepLemmas.{step}
 use Rattle.job_files.specs.Files.{wad_files}
 use Rattle.job_files.specs.Flats.{picture_in}
+use Rattle.job_files.specs.Sizes.{flat_sizes}
+use Rattle.lump_rules.specs.Wads.{directory}
 use Rattle.job_files.proofs.StepLemmas.{stop_same}
+use Rattle.job_files.proofs.TakenLemmas.{art_known}
 use Rattle.job_files.proofs.flat.load_flat.Goals as goal
 
 pub returns-in_err-dir-clause-answers : goal.returns-in_err-dir-clause-answers
@@ -22,3 +25,17 @@ returns-clause-answers g c bytes stands =
 
 pub returns-clause-follows : goal.returns-clause-follows
 returns-clause-follows g c = follows_then c.load_dir.ensures.follows c.draw_flat.ensures.follows
+
+pub returns-in_err-dir-clause-taken : goal.returns-in_err-dir-clause-taken
+unfolding flat_sizes
+returns-in_err-dir-clause-taken g c bytes stands = omega (arith, c.load_dir.ensures.taken (bytes ∷ []) (stands, tt))
+
+pub returns-clause-taken : goal.returns-clause-taken
+unfolding flat_sizes
+returns-clause-taken g c bytes stands =
+    omega (
+      arith,
+      c.load_dir.ensures.taken (bytes ∷ []) (stands, tt),
+      c.draw_flat.ensures.taken,
+      art_known c.args.name.now (directory (bytes ∷ [])) c.in_ok-dir.dir.lumps (c.in_ok-dir.ensures.answers (bytes ∷ []) (stands, tt)).ok,
+    )

@@ -1,7 +1,8 @@
-use Rattle.std.proofs.Common.{◌∷◌, [], ◌∙◌}
+use Rattle.std.proofs.Common.{◌∷◌, [], ◌∙◌, arith}
 use Rattle.outside.specs.Shelf.{StandsForNamed, file_named}
 use Rattle.job_files.specs.Flats.{flat_picture}
 use Rattle.outside.proofs.StopLemmas.{file_agrees}
+use Rattle.job_files.proofs.TakenLemmas.{flat_taken}
 use Rattle.job_files.proofs.flat.prepare_flat.Goals as goal
 
 pub returns-clause-answers : goal.returns-clause-answers
@@ -9,3 +10,9 @@ returns-clause-answers g c files holds =
     let found : StandsForNamed (g.S.Shelf.view c.find.new.self) c.in_ok-number.number.0 c.args.file.now files = rw holds at c.in_ok-number.ensures.found in
     file_agrees (file_named c.args.file.now files) (λ bytes. flat_picture c.args.name.now (bytes ∷ [])) c.load_flat.result
     found.is_held c.find.ensures.follows.steady (λ bytes is. c.load_flat.ensures.answers bytes (found.stands ∙ is))
+
+pub returns-clause-taken : goal.returns-clause-taken
+returns-clause-taken g c files holds =
+    let found : StandsForNamed (g.S.Shelf.view c.find.new.self) c.in_ok-number.number.0 c.args.file.now files = rw holds at c.in_ok-number.ensures.found in
+    flat_taken c.args.name.now c.args.file.now files (g.S.Shelf.view c.args.shelf.now).taken (g.S.Shelf.view c.load_flat.new.shelf).taken found.is_held
+    (λ bytes is. omega (arith, c.find.ensures.untaken, c.load_flat.ensures.taken bytes (found.stands ∙ is)))

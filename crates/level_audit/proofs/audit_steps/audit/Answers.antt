@@ -1,17 +1,17 @@
 use Rattle.outside.specs.Faults.{itself}
-use Rattle.std.proofs.Common.{◌<◌, ◌+◌, Err, refl, inl, inr, arith}
+use Rattle.std.proofs.Common.{◌≡◌, ◌<◌, ◌+◌, ◌∙◌, Err, refl, ap, inl, inr, arith}
 use Rattle.outside.proofs.ShelfLemmas.{follows_then, all_stand_later}
 use Rattle.lump_rules.specs.Contents.{lump_bytes}
 use Rattle.lump_rules.specs.Lookups.{lump_at}
 use Rattle.zone_rules.specs.Zones.{block_size}
 use Rattle.zone_rules.specs.declared.TheConstants.{MIN_FRAGMENT}
 use Rattle.lump_cache.specs.Caches.{NoRoom}
-use Rattle.lump_cache.proofs.FetchLemmas.{fetch_first, fetch_no_room, fetch_room_first, fetch_sizes}
-use Rattle.lump_cache.proofs.SizeLemmas.{sizes_empty}
+use Rattle.lump_cache.specs.Sizes.{IsGapAround}
+use Rattle.lump_cache.proofs.FetchLemmas.{fetch_first, fetch_gap_first, fetch_has_static, fetch_no_room, fetch_sizes, fetch_static}
 use Rattle.scene_rules.specs.declared.refusal.AuditRefusal.TheVariants.{Art}
 use Rattle.scene_rules.specs.Scenes.{scene_in, sizes_of}
 use Rattle.level_audit.specs.Reads.{IsFullAudit}
-use Rattle.level_audit.proofs.FetchLemmas.{answers_after, answers_none, fits_after, full_above, full_after, full_both, full_first, order_after, rest_after, room_after, told_after}
+use Rattle.level_audit.proofs.FetchLemmas.{answers_after, answers_none, fits_after, full_above, full_after, full_first, gap_after, order_after, pinned_after, rest_after, room_after, room_first, told_after}
 use Rattle.level_audit.proofs.AskedLemmas.{enough_after, small_first}
 use Rattle.sound_scene.proofs.SceneLemmas.{same_value, scene_in-none}
 use Rattle.level_audit.proofs.audit_steps.audit.Goals as goal
@@ -31,18 +31,28 @@ returns-in-Err-fetch-clause-full g c =
 pub returns-in-Err-fetch-clause-room : goal.returns-in-Err-fetch-clause-room
 returns-in-Err-fetch-clause-room g c = λ colormap is empty.
     let cache = c.args.cache.now in
-    full_above (λ wanted widest'. cache.size < wanted) (λ wanted widest'. cache.size < block_size (lump_at c.args.dir.now.lumps colormap).size + wanted + MIN_FRAGMENT) c.fetch.result c.in-Err-fetch.fault (Err c.above.result) c.in-Err-fetch.is c.above.ensures
-    (λ wanted widest' small. omega (arith, small)) (fetch_room_first c.fetch.ensures.fetches empty)
+    let size = (lump_at c.args.dir.now.lumps c.in-Ok.colormap.0).size in
+    full_above (λ wanted widest'. (cache.size < wanted) × ((wanted ≡ block_size size) × (widest' ≡ cache.size))) (λ wanted widest'. cache.size < block_size (lump_at c.args.dir.now.lumps colormap).size + wanted + MIN_FRAGMENT) c.fetch.result c.in-Err-fetch.fault (Err c.above.result) c.in-Err-fetch.is c.above.ensures
+    (λ wanted widest' k. omega (arith, k.0)) (room_first size cache c.fetch.result (fetch_no_room c.fetch.ensures.fetches) (fetch_gap_first c.fetch.ensures.fetches empty))
+
+pub returns-in-Err-fetch-clause-gap : goal.returns-in-Err-fetch-clause-gap
+returns-in-Err-fetch-clause-gap g c = λ colormap is empty.
+    let cache = c.args.cache.now in
+    let lumps = c.args.dir.now.lumps in
+    let size = (lump_at lumps c.in-Ok.colormap.0).size in
+    full_above (λ wanted widest'. (cache.size < wanted) × ((wanted ≡ block_size size) × (widest' ≡ cache.size))) (λ wanted widest'. IsGapAround cache.size (block_size (lump_at lumps colormap).size) wanted widest') c.fetch.result c.in-Err-fetch.fault (Err c.above.result) c.in-Err-fetch.is c.above.ensures
+    (λ wanted widest' k. inl (k.1.0 ∙ ap (λ n. block_size (lump_at lumps n).size) (same_value c.in-Ok.colormap.0 colormap c.in-Ok.ensures.lump is), k.1.1))
+    (room_first size cache c.fetch.result (fetch_no_room c.fetch.ensures.fetches) (fetch_gap_first c.fetch.ensures.fetches empty))
 
 pub returns-in-Err-fetch-clause-enough : goal.returns-in-Err-fetch-clause-enough
 returns-in-Err-fetch-clause-enough g c = λ contents scene told accepted empty.
     let dir = c.args.dir.now in
     let cache = c.args.cache.now in
     let colormap = c.in-Ok.colormap.0 in
-    let none = NoRoom (lump_at dir.lumps colormap).size cache in
-    full_above (λ wanted widest'. none wanted widest' × (cache.size < wanted)) (λ wanted widest'. cache.size < (sizes_of dir.lumps scene).enough) c.fetch.result c.in-Err-fetch.fault (Err c.above.result) c.in-Err-fetch.is c.above.ensures
-    (λ wanted widest' k. small_first (lump_bytes contents dir.lumps) dir.lumps c.args.things.now c.args.map.now c.args.skill scene accepted colormap c.in-Ok.ensures.lump cache.size wanted k.0.wanted_is k.1)
-    (full_both none (λ wanted widest'. cache.size < wanted) c.fetch.result (fetch_no_room c.fetch.ensures.fetches) (fetch_room_first c.fetch.ensures.fetches empty))
+    let size = (lump_at dir.lumps colormap).size in
+    full_above (λ wanted widest'. (cache.size < wanted) × ((wanted ≡ block_size size) × (widest' ≡ cache.size))) (λ wanted widest'. cache.size < (sizes_of dir.lumps scene).enough) c.fetch.result c.in-Err-fetch.fault (Err c.above.result) c.in-Err-fetch.is c.above.ensures
+    (λ wanted widest' k. small_first (lump_bytes contents dir.lumps) dir.lumps c.args.things.now c.args.map.now c.args.skill scene accepted colormap c.in-Ok.ensures.lump cache.size wanted k.1.0 k.0)
+    (room_first size cache c.fetch.result (fetch_no_room c.fetch.ensures.fetches) (fetch_gap_first c.fetch.ensures.fetches empty))
 
 pub returns-in-Ok-fetch-clause-answers : goal.returns-in-Ok-fetch-clause-answers
 returns-in-Ok-fetch-clause-answers g c = λ contents told.
@@ -60,6 +70,16 @@ returns-in-Ok-fetch-clause-room g c = λ colormap is empty.
     room_after _ c.args.dir.now c.args.cache.now c.fetch.new.self c.in-Ok.colormap.0 colormap c.audit_rest.result (same_value c.in-Ok.colormap.0 colormap c.in-Ok.ensures.lump is)
     (fetch_first e.fetches refl empty) e.counts.0 c.audit_rest.ensures.tells.full
 
+pub returns-in-Ok-fetch-clause-gap : goal.returns-in-Ok-fetch-clause-gap
+returns-in-Ok-fetch-clause-gap g c = λ colormap is empty.
+    let e = c.in-Ok-fetch.ensures in
+    gap_after _ c.args.dir.now c.args.cache.now c.fetch.new.self c.in-Ok.colormap.0 colormap c.audit_rest.result (same_value c.in-Ok.colormap.0 colormap c.in-Ok.ensures.lump is)
+    (fetch_first e.fetches refl empty) e.counts.0 c.audit_rest.ensures.tells.full
+
+pub returns-in-Ok-fetch-clause-pinned : goal.returns-in-Ok-fetch-clause-pinned
+returns-in-Ok-fetch-clause-pinned g c =
+    pinned_after c.args.dir.now c.args.cache.now c.fetch.new.self c.in-Ok.colormap.0 c.audit_rest.result c.audit_rest.ensures.colormap c.audit_rest.new.cache (fetch_static c.in-Ok-fetch.ensures.fetches refl) c.audit_rest.ensures.tells.keeps.static
+
 pub returns-in-Ok-fetch-clause-enough : goal.returns-in-Ok-fetch-clause-enough
 returns-in-Ok-fetch-clause-enough g c = λ contents scene told accepted empty.
     let e = c.in-Ok-fetch.ensures in
@@ -71,12 +91,12 @@ returns-in-Ok-fetch-clause-rest g c = λ empty.
     rest_after c.args.dir.now c.args.cache.now c.fetch.new.self c.in-Ok.colormap.0 c.audit_rest.result c.audit_rest.ensures.colormap c.audit_rest.new.cache (fetch_first c.in-Ok-fetch.ensures.fetches refl empty) c.audit_rest.ensures.tells.keeps.rest
 
 pub returns-in-Ok-fetch-clause-fits : goal.returns-in-Ok-fetch-clause-fits
-returns-in-Ok-fetch-clause-fits g c = λ empty.
+returns-in-Ok-fetch-clause-fits g c = λ has.
     let e = c.in-Ok-fetch.ensures in
     let dir = c.args.dir.now in
     let colormap = c.in-Ok.colormap.0 in
-    fits_after dir c.args.cache.now c.fetch.new.self colormap c.audit_rest.result c.audit_rest.ensures.colormap c.args.map.now (fetch_first e.fetches refl empty)
-    (fetch_sizes c.fetch.ensures.fetches c.in-Ok.ensures.there (sizes_empty dir.lumps c.args.cache.now empty))
+    fits_after dir c.args.cache.now c.fetch.new.self colormap c.audit_rest.result c.audit_rest.ensures.colormap c.fetch.result _ c.args.map.now c.in-Ok-fetch.is
+    (fetch_has_static c.fetch.ensures.fetches refl c.in-Ok.ensures.there has) (fetch_sizes c.fetch.ensures.fetches c.in-Ok.ensures.there has)
     e.counts.0 c.audit_rest.ensures.fits
 
 pub returns-in-Ok-fetch-clause-follows : goal.returns-in-Ok-fetch-clause-follows

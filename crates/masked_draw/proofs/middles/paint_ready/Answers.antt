@@ -2,6 +2,7 @@ use Rattle.std.proofs.Common.{◌≡◌, ◌<◌, ℕ, w32, sym, subst, ◌∙�
 use Rattle.std.proofs.lemmas.Int.{to_z-of_z}
 use Rattle.view_rules.specs.declared.TheConstants.{LIGHT_LEVELS}
 use Rattle.lump_rules.specs.Contents.{lump_bytes}
+use Rattle.lump_cache.proofs.StaticLemmas.{rest_static}
 use Rattle.view_rules.specs.Lights.{scale_map}
 use Rattle.pixel_rules.specs.declared.TheConstants.{MIDDLE}
 use Rattle.texture_build.proofs.LentLemmas.{fits-lump}
@@ -61,7 +62,7 @@ returns-in-Some-clause-fits g c = λ view contents count hold.
     c.posts_place-place.result.1 read.from
     (fits-lump hold MIDDLE c.args.middle.number c.posts_place-place.result.0.0
     c.in-Some.art.bytes.now read.there (sym c.in-Some.ensures.bytes)
-    (c.in-Some.ensures.fits s.colormap.0 count hold.rest))
+    (c.in-Some.ensures.fits s.colormap.0 count (rest_static hold.rest)))
 
 pub returns-in_default : goal.returns-in_default
 returns-in_default g c =

@@ -2,6 +2,7 @@
 use Rattle.std.proofs.Common.{sym}
 use Rattle.lump_rules.specs.Contents.{lump_bytes}
 use Rattle.lump_cache.proofs.FetchLemmas.{live_faithful}
+use Rattle.lump_cache.proofs.StaticLemmas.{rest_static}
 use Rattle.pixel_rules.specs.declared.TheConstants.{SPRITE}
 use Rattle.pixel_rules.specs.Art.{lump_source}
 use Rattle.texture_build.proofs.LentLemmas.{colormap_lent, fits-lump}
@@ -23,4 +24,4 @@ returns-in-Some-bytes-clause-fits g c = λ view contents count hold.
     let s = c.args.scene.now in
     let e = c.args.entry.now in
     fit-columns s.dir.now.lumps s.textures.now s.colormap.0 count c.args.hands.now.cache.now.size s.view.now (lump_bytes contents s.dir.now.lumps) c.args.clips.now e c.args.first c.args.last c.requires.begins c.requires.ends c.requires.ordered
-    (fits-lump hold SPRITE e.number e.lump c.in-Some.bytes.now c.requires.lump (sym c.in-Some.ensures.value) (λ apart. c.in-Some.ensures.fits s.colormap.0 count hold.rest apart))
+    (fits-lump hold SPRITE e.number e.lump c.in-Some.bytes.now c.requires.lump (sym c.in-Some.ensures.value) (λ apart. c.in-Some.ensures.fits s.colormap.0 count (rest_static hold.rest) apart))

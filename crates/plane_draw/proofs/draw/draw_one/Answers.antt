@@ -1,5 +1,6 @@
 -- A plane without a run has no dots.
 use Rattle.visplanes.specs.Planes.{plane_at}
+use Rattle.plane_draw.proofs.CanLemmas.{marked-some}
 use Rattle.plane_draw.proofs.PlaneLemmas.{plane-empty}
 use Rattle.plane_draw.proofs.StepLemmas.{paints-none, paints-same}
 use Rattle.plane_draw.proofs.draw.draw_one.Goals as goal
@@ -8,3 +9,7 @@ pub returns-then-is_empty-clause-paints : goal.returns-then-is_empty-clause-pain
 returns-then-is_empty-clause-paints g c =
     let s = c.args.scene.now in
     paints-same _ (λ art sky is. plane-empty s.view.now art sky c.args.plane.0 (plane_at s.planes.now.planes c.args.plane.0) (c.is_empty.ensures.0 c.if-is_empty.true)) (paints-none _ _)
+
+pub draw_floor-requires-clause-marked : goal.draw_floor-requires-clause-marked
+draw_floor-requires-clause-marked g c =
+    marked-some (plane_at c.args.scene.now.planes.now.planes c.args.plane.0) c.is_empty.result c.is_empty.ensures c.if-is_empty.false

@@ -2,6 +2,7 @@
 use Rattle.std.proofs.Common.{◌≡◌, List, ℕ, Option, Some, sym}
 use Rattle.lump_rules.specs.Contents.{lump_bytes}
 use Rattle.lump_cache.proofs.FetchLemmas.{live_faithful}
+use Rattle.lump_cache.proofs.StaticLemmas.{rest_static}
 use Rattle.pixel_rules.specs.declared.TheConstants.{PLANE}
 use Rattle.pixel_rules.specs.Art.{lump_source}
 use Rattle.visplanes.specs.Planes.{plane_at}
@@ -33,7 +34,7 @@ returns-in-Some-bytes-clause-fits g c = λ view contents count sky hold.
     let s = c.args.scene.now in
     fit-floor s.dir.now.lumps s.textures.now s.colormap.0 count c.args.hands.now.cache.now.size s.view.now (plane_art contents s) sky c.args.plane.0 c.args.lump.0 (plane_at s.planes.now.planes c.args.plane.0)
     c.requires.flat
-    (fits-lump hold PLANE c.args.plane.0 c.args.lump.0 c.in-Some.flat.now c.requires.lump (sym c.in-Some.ensures.value) (λ apart. c.in-Some.ensures.fits s.colormap.0 count hold.rest apart))
+    (fits-lump hold PLANE c.args.plane.0 c.args.lump.0 c.in-Some.flat.now c.requires.lump (sym c.in-Some.ensures.value) (λ apart. c.in-Some.ensures.fits s.colormap.0 count (rest_static hold.rest) apart))
 
 pub returns-in-Some-bytes-clause-place : goal.returns-in-Some-bytes-clause-place
 returns-in-Some-bytes-clause-place g c =

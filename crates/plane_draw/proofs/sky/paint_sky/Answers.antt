@@ -26,9 +26,9 @@ returns-in-Some-column_at-clause-painted g c = λ view contents count hold.
     let can = sky-can c.requires.ready rows.tex c.requires.sky in
     let strip = c.sky_strip-strip in
     sky-painted s.view.now (lump_bytes contents s.dir.now.lumps) s.textures.now s.colormap.0 rows.number rows.tex.0 rows.x rows.first rows.last
-    (g.C.Canvas.view c.args.hands.now.canvas.now) (g.C.Canvas.view c.begin.new.self) (g.C.Canvas.view c.paint_column.new.canvas) c.sky_painter.result
+    (g.C.Canvas.view c.args.hands.now.canvas.now) (g.C.Canvas.view c.begin.new.self) (g.C.Canvas.view c.paint_column.new.canvas) c.painter_at-painter.result
     strip.result.x strip.result.first strip.result.last strip.result.map strip.result.source.now strip.result.colormap.now strip.result.base strip.result.fraction strip.result.step c.args.lookup
-    c.begin.ensures c.paint_column.ensures (c.sky_painter.ensures rows.tex.0 c.args.lookup c.source_at-source.ensures) c.requires.lookup
+    c.begin.ensures c.paint_column.ensures c.painter_at-painter.ensures c.requires.lookup
     strip.ensures.x strip.ensures.first strip.ensures.last strip.ensures.map strip.ensures.step strip.ensures.fraction
     (strip.ensures.colormap ∙ same_bytes c.in-Some.colormap.now _ _ c.in-Some.ensures.value (colormap_lent hold c.requires.ready.colormap))
     (λ r. ap (λ (xs : List ℕ). byte_at xs (strip.result.base + r)) strip.ensures.source

@@ -4,7 +4,7 @@ use Rattle.zone_rules.specs.Zones.{owned_block}
 use Rattle.zone_rules.proofs.OrderLemmas.{order_then}
 use Rattle.lump_cache.specs.Caches.{composite_owner}
 use Rattle.lump_cache.proofs.RestButLemmas.{rest_but_none}
-use Rattle.lump_cache.proofs.TakeLemmas.{take_block, take_faithful, take_order, take_others, take_rest, take_rest_except, take_room}
+use Rattle.lump_cache.proofs.TakeLemmas.{take_block, take_faithful, take_order, take_others, take_gap, take_rest, take_rest_except}
 use Rattle.texture_build.specs.Builds.{StartsComposite, FailsToBegin}
 use Rattle.texture_build.proofs.FillLemmas.{building_taken, taken_length, others_kept, others_then, filled_counts, filled_rest, filled_faithful, filled_same, filled_building, filled_order, filled_bytes}
 use Rattle.texture_build.proofs.BuildLemmas.{same_error, counts_then, narrow_where}
@@ -24,7 +24,7 @@ returns-in_err-take_composite c =
       empty = r.empty;
       wanted_is = r.report.wanted_is;
       narrow = narrow_where c.args.size old _ _ r.report;
-      room = take_room r;
+      gap = take_gap r;
       order = λ items all k. absurd (false≢true (take_order r items 0 all k).0);
     })
 

@@ -5,7 +5,7 @@ use Rattle.zone_rules.proofs.OrderLemmas.{order_then}
 use Rattle.lump_cache.specs.Caches.{IsUnpinned, composite_owner, lump_owner}
 use Rattle.lump_cache.proofs.FaithLemmas.{bytes_in}
 use Rattle.lump_cache.proofs.RestButLemmas.{rest_but_fewer}
-use Rattle.lump_cache.proofs.FetchLemmas.{fetch_no_room, fetch_rest_except, fetch_room_except, live_faithful, order_of_answer}
+use Rattle.lump_cache.proofs.FetchLemmas.{fetch_gap_except, fetch_no_room, fetch_rest_except, live_faithful, order_of_answer}
 use Rattle.lump_cache.proofs.ReleaseLemmas.{release_faithful, release_order, release_others, release_rest_except}
 use Rattle.texture_build.specs.Builds.{PutsPatches}
 use Rattle.texture_build.proofs.FillLemmas.{building_same, others_kept, others_then, filled_counts, filled_rest, filled_faithful, filled_same, filled_building, filled_order, filled_bytes}
@@ -29,7 +29,7 @@ returns-in_err-fetch g c = λ n at.
       };
       answers = f.answers;
       causes = f.causes;
-      full = patch_full c.args.dir.now.lumps c.args.number c.args.texture.now c.args.patch.now c.args.cache.now (Err c.in_err-fetch.field-0.0) c.requires.among (fetch_no_room f) (fetch_room_except f);
+      full = patch_full c.args.dir.now.lumps c.args.number c.args.texture.now c.args.patch.now c.args.cache.now (Err c.in_err-fetch.field-0.0) c.requires.among (fetch_no_room f) (fetch_gap_except f);
       order = λ items all k. order_of_answer (KeepsOrder items c.args.cache.now c.fetch.new.self (g.S.Shelf.view c.args.shelf.now).taken (g.S.Shelf.view c.fetch.new.shelf).taken) (Err c.in_err-fetch.field-0.0) (e.order items (all _ _ (c.args.patch.now, c.requires.among, refl, refl)) k);
       put = λ contents told has. tt;
     })

@@ -3,6 +3,7 @@ use Rattle.std.specs.Prelude.{IfSome}
 use Rattle.std.specs.Option.{option_copied}
 use Rattle.zone_rules.specs.Zones.{block_size, same_owner}
 use Rattle.lump_cache.specs.Caches.{lump_owner}
+use Rattle.lump_cache.proofs.StaticLemmas.{rest_static}
 use Rattle.art_rules.specs.declared.ColumnLookup.{ColumnLookup}
 use Rattle.art_rules.specs.declared.ColumnLookup.TheVariants.{Single}
 use Rattle.texture_build.specs.Sources.{ColumnView, IsLentBeside, column_from}
@@ -29,7 +30,7 @@ pub returns-in-Single-clause-fits : goal.returns-in-Single-clause-fits
 returns-in-Single-clause-fits c = λ colormap count rest.
     beside (option_copied c.bytes.result) c.args.cache.now.size colormap count _ c.in-Single.is
     (single (option_copied c.bytes.result) c.args.cache.now.size colormap count c.in-Single.lump
-    c.in-Single.place (c.bytes.ensures.fits colormap count rest))
+    c.in-Single.place (c.bytes.ensures.fits colormap count (rest_static rest)))
     c.column_from-in-Single.ensures.column
 
 pub returns-in-Composed-clause-fits : goal.returns-in-Composed-clause-fits

@@ -28,12 +28,12 @@ returns-in-Some-column_at-clause-painted g c = λ view contents count there hold
     (lump_bytes contents c.args.tools.now.dir.now.lumps) c.args.tools.now.textures.now
     c.args.tools.now.colormap.0 c.args.look.now c.args.part c.args.rows
     (g.C.Canvas.view c.args.tools.now.canvas.now) (g.C.Canvas.view c.begin.new.self)
-    (g.C.Canvas.view c.paint_column.new.canvas) c.wall_painter-painter.result
+    (g.C.Canvas.view c.paint_column.new.canvas) c.painter_at-painter.result
     c.strip_at-strip.result.x c.strip_at-strip.result.source.now c.strip_at-strip.result.base
     c.strip_at-strip.result.colormap.now c.strip_at-strip.result.map
     c.strip_at-strip.result.fraction c.strip_at-strip.result.step c.strip_at-strip.result.first
     c.strip_at-strip.result.last c.args.lookup c.begin.ensures c.paint_column.ensures
-    (c.wall_painter-painter.ensures c.args.part.number c.args.lookup c.source_at.ensures)
+    c.painter_at-painter.ensures
     c.requires.lookup c.strip_at-strip.ensures.x c.strip_at-strip.ensures.map
     c.strip_at-strip.ensures.step
     (c.strip_at-strip.ensures.fraction

@@ -6,6 +6,7 @@ use Rattle.lump_rules.specs.Lookups.{lump_at}
 use Rattle.zone_rules.specs.Orders.{KeepsOrder}
 use Rattle.zone_rules.proofs.OrderLemmas.{order_then}
 use Rattle.lump_cache.specs.Caches.{IsAtRest}
+use Rattle.lump_cache.proofs.SizeLemmas.{sizes_empty}
 use Rattle.job_rules.specs.LevelJobs.{level_job_value}
 use Rattle.job_files.specs.Files.{value_of}
 use Rattle.scene_rules.specs.Scenes.{SceneValue}
@@ -41,7 +42,7 @@ returns-in_err-scene g c =
       answers = λ contents told. scene_stopped _ level found fault result (e.answers contents told) was is;
       full = λ contents told.
           same_full (IsFullOver (lump_bytes contents files.dir.lumps) level found) c.audit.result fault result
-          (audit_full contents level files c.audit.result told c.requires.empty c.requires.size e.full e.found e.room e.enough) was is;
+          (audit_full contents level files c.audit.result told c.requires.empty c.requires.size e.full e.found e.room e.gap e.enough) was is;
       audited = none_given _ fault result is;
       fresh = none_given _ fault result is;
       counts = e.counts;
@@ -117,7 +118,7 @@ returns g c =
             (tells.keeps.rest colormap (lump_at lumps colormap).size (e.rest c.requires.empty));
         whole = subst (IsWholeScene lumps files.things level.map_name level.settings.skill) (sym same) e.whole;
         fits = subst (λ (s : SceneValue). IsBaseWithin lumps level s.base.colormap) (sym same)
-            (λ lump asked other. rw (← c.requires.size) (e.fits c.requires.empty lump asked other));
+            (λ lump asked other. rw (← c.requires.size) (e.fits (sizes_empty lumps c.args.cache.now c.requires.empty) lump asked other));
         colormap = subst (λ (s : SceneValue). s.base.colormap < length lumps) (sym same) (colormap_there lumps colormap e.colormap);
         layers = c.in_ok-weapons.ensures.there;
       };

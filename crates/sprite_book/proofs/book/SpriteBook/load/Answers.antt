@@ -1,4 +1,5 @@
 use Rattle.art_rules.specs.Books.{book_of, outlines_of}
+use Rattle.lump_cache.proofs.CallLemmas.{full_room}
 use Rattle.sprite_book.proofs.CallLemmas.{full_weaker}
 use Rattle.std.proofs.lemmas.Result.{IfOk-weaker}
 use Rattle.art_rules.specs.Books.{first_needs}
@@ -17,7 +18,7 @@ pub returns-clause-full : goal.returns-clause-full
 returns-clause-full g c = full_weaker c.make_book.result (λ wanted widest' k. (k.lump, k.asked, k.wanted_is, k.narrow)) c.make_book.ensures.tells.full
 
 pub returns-clause-room : goal.returns-clause-room
-returns-clause-room g c = λ colormap size rest. full_weaker c.make_book.result (λ wanted widest' k. k.room colormap size rest) c.make_book.ensures.tells.full
+returns-clause-room g c = λ colormap size rest. full_weaker c.make_book.result (λ wanted widest' k. full_room k colormap size rest) c.make_book.ensures.tells.full
 
 pub returns-clause-there : goal.returns-clause-there
 returns-clause-there g c = IfOk-weaker c.make_book.result _ _ (λ book e. book_there c.args.dir.now.lumps (first_needs c.args.needed.now) book e) c.make_book.ensures.outlines
