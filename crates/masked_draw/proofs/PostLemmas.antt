@@ -5,9 +5,11 @@ use Rattle.std.specs.Int.{w32}
 use Rattle.std.proofs.lemmas.Bool.{cases_lt}
 use Rattle.std.proofs.lemmas.Int.{ints, clamps, int_wrap_fits}
 use Rattle.std.proofs.lemmas.List.{get_or_past}
-use Rattle.word_rules.specs.Words.{plus, minus, fixed, greater_word, lesser_word, minus_one}
+use Rattle.word_rules.specs.declared.TheConstants.{FRACTION_BITS}
+use Rattle.word_rules.specs.Words.{plus, minus, fixed, shr_word, greater_word, lesser_word, minus_one}
 use Rattle.word_rules.specs.Listed.{listed_from, joined_lists}
 use Rattle.word_rules.proofs.ListedLemmas.{joined_lists-cons}
+use Rattle.view_rules.specs.declared.TheConstants.{MAX_FRACTION}
 use Rattle.view_rules.specs.declared.ViewShape.{ViewShape}
 use Rattle.art_rules.specs.Bytes.{byte_at}
 use Rattle.art_rules.specs.Patches.{is_post, next_place, post_at, post_in, posts}
@@ -24,6 +26,7 @@ use Rattle.pixel_strips.specs.Strips.{column_strip_dots, strip_colour}
 use Rattle.pixel_strips.proofs.CanvasLemmas.{dots_none}
 use Rattle.pixel_strips.proofs.RowLemmas.{row_shade, rows-between, strip-rows}
 use Rattle.picture_rules.specs.Noted.{least_clip, greatest_clip}
+use Rattle.masked_draw.specs.Clipped.{HasClipsIn}
 
 -- what lies between two words is a word
 fits_between : (z : ℤ) → negsuc 2147483647 ≤ℤ z → z ≤ℤ pos 2147483647 → FitsSigned w32 z
@@ -70,6 +73,32 @@ pub post-none : (shape : ViewShape) (painter : Painter) (x : ℕ) (c : MaskedCol
     [] ≡ post_dots shape painter x c byte shade_of post
 unfolding post_dots post_rows rows_between column_dots
 post-none shape painter x c byte shade_of post top is none = rw (← is) (rw none refl)
+
+-- nor where the clips leave no row
+minus_one-word : (clip : ℤ) (height : ℕ) → height < 2 ^ 16 → least_clip ≤ℤ clip → clip ≤ℤ pos height →
+    minus clip (pos 1) ≡ clip -ℤ pos 1
+unfolding minus least_clip
+minus_one-word clip height few l h = int_wrap_fits w32 (clip -ℤ pos 1)
+    (fits_between _ (omega (arith, ints)) (omega (arith, ints)))
+
+over : (first last : ℤ) → last <ℤ first → int_lt last first ≡ true
+over first last h = grind (arith, ints)
+
+shut-post : (shape : ViewShape) (painter : Painter) (x : ℕ) (c : MaskedColumn)
+    (byte shade_of : ℕ → ℕ) (post : Post) → minus c.bottom_clip (pos 1) ≡ c.bottom_clip -ℤ pos 1 →
+    c.bottom_clip ≤ℤ plus c.top_clip (pos 1) → post_dots shape painter x c byte shade_of post ≡ []
+unfolding post_first post_last
+shut-post shape painter x c byte shade_of post is shut =
+    let top : ℤ = post_top (picture_top shape c.mid c.scale) c.scale post.topdelta in
+    let from = greater-first (plus c.top_clip (pos 1)) (shr_word (plus top MAX_FRACTION) FRACTION_BITS) in
+    let to = lesser-first (minus c.bottom_clip (pos 1))
+    (shr_word (minus (post_bottom top c.scale post.length) (pos 1)) FRACTION_BITS) in
+    let before : (c.bottom_clip -ℤ pos 1) <ℤ c.bottom_clip = omega (arith, ints) in
+    sym (post-none shape painter x c byte shade_of post top refl
+    (over _ _ (lower _ _ _ _ _ to is before shut from))) where
+      lower : (last least bottom first greatest : ℤ) → last ≤ℤ least → least ≡ bottom -ℤ pos 1 →
+          (bottom -ℤ pos 1) <ℤ bottom → bottom ≤ℤ greatest → greatest ≤ℤ first → last <ℤ first
+      lower last least bottom first greatest a e b d f = omega (arith, ints, a, e, b, d, f)
 
 -- past the end of the bytes each one is 0
 past_end : (bytes : List ℕ) (place r : ℕ) →
@@ -138,6 +167,27 @@ posts-nil : (shape : ViewShape) (painter : Painter) (x : ℕ) (c : MaskedColumn)
     (byte shade_of : ℕ → ℕ) → posts_dots shape painter x c byte shade_of [] ≡ []
 unfolding posts_dots joined_lists
 posts-nil shape painter x c byte shade_of = refl
+
+-- no post has a dot where the clips leave no row
+posts-shut : (shape : ViewShape) (painter : Painter) (x : ℕ) (c : MaskedColumn)
+    (byte shade_of : ℕ → ℕ) (ps : List Post) → minus c.bottom_clip (pos 1) ≡ c.bottom_clip -ℤ pos 1 →
+    c.bottom_clip ≤ℤ plus c.top_clip (pos 1) → posts_dots shape painter x c byte shade_of ps ≡ []
+posts-shut shape painter x c byte shade_of [] is shut = posts-nil shape painter x c byte shade_of
+posts-shut shape painter x c byte shade_of (p ∷ ps) is shut =
+    posts-cons shape painter x c byte shade_of p ps
+    ∙ ap (λ (dots : List Dot). dots ++ posts_dots shape painter x c byte shade_of ps)
+    (shut-post shape painter x c byte shade_of p is shut)
+    ∙ posts-shut shape painter x c byte shade_of ps is shut
+
+pub shut-dots : (mark : Painter → ℕ → ℕ) (shape : ViewShape) (x : ℕ) (c : MaskedColumn)
+    (byte shade_of : ℕ → ℕ) (ps : List Post) (canvas : CanvasView) → shape.height < 2 ^ 16 →
+    HasClipsIn shape.height c → c.bottom_clip ≤ℤ plus c.top_clip (pos 1) →
+    canvas ≡ with_dots mark (posts_dots shape canvas.painter x c byte shade_of ps) canvas
+shut-dots mark shape x c byte shade_of ps canvas few clips shut =
+    dots_none mark canvas
+    ∙ ap (λ (dots : List Dot). with_dots mark dots canvas)
+    (sym (posts-shut shape canvas.painter x c byte shade_of ps
+    (minus_one-word c.bottom_clip shape.height few clips.least_bottom clips.greatest_bottom) shut))
 
 -- a post that begins at a place, and none
 pub record IsPostAt (bytes : List ℕ) (place : ℕ) (post : Post) : Type 0 where

@@ -1,6 +1,7 @@
 -- Laws of the dots of planes: one by one, by their flats, and by the art of a scene.
-use Rattle.std.proofs.Common.{◌≡◌, ◌+◌, ◌<◌, ℕ, suc, List, [], ◌∷◌, ◌++◌, length, map, Option, Some, None, refl, sym, ap, ◌∙◌, arith}
+use Rattle.std.proofs.Common.{◌≡◌, ◌+◌, ◌-◌, ◌<◌, ◌≤◌, ℕ, zero, suc, List, [], ◌∷◌, ◌++◌, length, map, Option, Some, None, refl, sym, ap, ◌∙◌, arith, inl, inr}
 use Rattle.std.specs.List.{range_with_len}
+use Rattle.std.proofs.lemmas.Bool.{cases_lt}
 use Rattle.std.proofs.lemmas.List.{append-nil}
 use Rattle.word_rules.specs.Listed.{joined_lists, listed}
 use Rattle.word_rules.proofs.ListedLemmas.{joined_lists-append, listed-more, listed_from-none}
@@ -138,6 +139,29 @@ sky-none v art n sky x first last none =
 pub sky-no_run : (v : ViewValue) (art : Art) (n sky x : ℕ) (run : Option (ℕ × ℕ)) → run ≡ None → [] ≡ sky_run v art n sky x run
 unfolding sky_run
 sky-no_run v art n sky x run is = sym (run_none (painter_of SKY n (art.texture_source sky (sky_column v x))) x (sky_colour v art sky x) run is)
+
+-- columns without a run, from the one to the other
+columns_on : (v : ViewValue) (art : Art) (n sky : ℕ) (p : Plane) (a k : ℕ) → ((x : ℕ) → a ≤ x → x < a + k → column p x ≡ None) →
+    first_columns v art n sky p a ≡ first_columns v art n sky p (a + k)
+columns_on v art n sky p a zero none = let same : a ≡ a + 0 = omega arith in ap (first_columns v art n sky p) same
+columns_on v art n sky p a (suc k) none =
+    let one : a + k + 1 ≡ a + suc k = omega arith in
+    columns_on v art n sky p a k (λ x from to. none x from (omega arith))
+    ∙ sym (append-nil (first_columns v art n sky p (a + k)))
+    ∙ ap (λ (xs : List Dot). first_columns v art n sky p (a + k) ++ xs) (sky-no_run v art n sky (a + k) (column p (a + k)) (none (a + k) (omega arith) (omega arith)))
+    ∙ columns-more v art n sky p (a + k)
+    ∙ ap (first_columns v art n sky p) one
+
+pub columns-past : (v : ViewValue) (art : Art) (n sky : ℕ) (p : Plane) (a b : ℕ) →
+    ((x : ℕ) → a ≤ x → x < b → column p x ≡ None) → ((x : ℕ) → b ≤ x → x < a → column p x ≡ None) →
+    first_columns v art n sky p a ≡ first_columns v art n sky p b
+columns-past v art n sky p a b up down =
+    elim (cases_lt a b) [
+      | inl l ↦ (let is : a + (b - a) ≡ b = omega (arith, l) in
+          columns_on v art n sky p a (b - a) (λ x from to. up x from (omega (arith, is, to))) ∙ ap (first_columns v art n sky p) is)
+      | inr l ↦ (let is : b + (a - b) ≡ a = omega (arith, l) in
+          sym (columns_on v art n sky p b (a - b) (λ x from to. down x from (omega (arith, is, to))) ∙ ap (first_columns v art n sky p) is))
+    ]
 
 -- the bytes of planes fit beside the colormap, where those of their painters do
 module _ (lumps : List Lump) (textures : TexturesView) (colormap count zone : ℕ) where

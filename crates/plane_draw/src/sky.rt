@@ -93,7 +93,7 @@ fn sky_strip<'c>(
     }
 }
 
-/// Paints a sky plane, column by column; nothing without a texture of the sky.
+/// Paints a sky plane, from its first to its last marked column; nothing without a texture of the sky.
 pub fn draw_sky<S: Shelf, C: Canvas>(
     scene: &PlaneScene<'_>,
     hands: &mut PlaneHands<'_, S, C>,
@@ -110,7 +110,8 @@ pub fn draw_sky<S: Shelf, C: Canvas>(
     let Some(tex) = scene.sky else {
         return Ok(());
     };
-    for x in 0..scene.view.shape().width {
+    let (first, last) = scene.planes.marked(plane);
+    for x in first..scene.view.shape().width.min(last + 1) {
         draw_sky_column(scene, hands, plane, tex, x)?;
     }
     Ok(())

@@ -46,22 +46,30 @@ pub holds-none : (p : Plane) (y x : ℕ) → column p x ≡ None → holds p y x
 unfolding holds holds_row
 holds-none p y x e = rw e refl
 
--- a column that holds a row is one of the marked ones
-marked_from : (key : PlaneKey) (tops bottoms : List ℕ) (first last x y : ℕ) → IsKept tops bottoms first last → holds (plane_of key tops bottoms) y x ≡ true → x < FRAME_WIDTH → (first ≤ x) × (x ≤ last)
-marked_from key tops bottoms first last x y k h l =
-    elim (cases_lt x first) [
-      | inl a ↦ (let n = holds-none (plane_of key tops bottoms) y x (column-kept key tops bottoms x l ∙ run_at-none tops bottoms x (k.before x l a)) in absurd (cc))
-      | inr a ↦ elim (cases_lt last x) [
-        | inl b ↦ (let n = holds-none (plane_of key tops bottoms) y x (column-kept key tops bottoms x l ∙ run_at-none tops bottoms x (k.after x l b)) in absurd (cc))
-        | inr b ↦ (a, b)
-      ]
+-- outside the marked columns there is no run
+pub kept-before : (key : PlaneKey) (tops bottoms : List ℕ) (first last x : ℕ) → IsKept tops bottoms first last → x < first → column (plane_of key tops bottoms) x ≡ None
+kept-before key tops bottoms first last x k before =
+    elim (cases_lt x FRAME_WIDTH) [
+      | inl l ↦ column-kept key tops bottoms x l ∙ run_at-none tops bottoms x (k.before x l before)
+      | inr l ↦ column-past key tops bottoms x l
     ]
 
+pub kept-behind : (key : PlaneKey) (tops bottoms : List ℕ) (first last x : ℕ) → IsKept tops bottoms first last → last < x → column (plane_of key tops bottoms) x ≡ None
+kept-behind key tops bottoms first last x k behind =
+    elim (cases_lt x FRAME_WIDTH) [
+      | inl l ↦ column-kept key tops bottoms x l ∙ run_at-none tops bottoms x (k.after x l behind)
+      | inr l ↦ column-past key tops bottoms x l
+    ]
+
+-- so a column that holds a row is one of them
 pub kept-marked : (key : PlaneKey) (tops bottoms : List ℕ) (first last x y : ℕ) → IsKept tops bottoms first last → holds (plane_of key tops bottoms) y x ≡ true → (first ≤ x) × (x ≤ last)
 kept-marked key tops bottoms first last x y k h =
-    elim (cases_lt x FRAME_WIDTH) [
-      | inl l ↦ marked_from key tops bottoms first last x y k h l
-      | inr l ↦ (let n = holds-none (plane_of key tops bottoms) y x (column-past key tops bottoms x l) in absurd (cc))
+    elim (cases_lt x first) [
+      | inl a ↦ (let n = holds-none (plane_of key tops bottoms) y x (kept-before key tops bottoms first last x k a) in absurd (cc))
+      | inr a ↦ elim (cases_lt last x) [
+        | inl b ↦ (let n = holds-none (plane_of key tops bottoms) y x (kept-behind key tops bottoms first last x k b) in absurd (cc))
+        | inr b ↦ (a, b)
+      ]
     ]
 
 -- and it is in a frame, as the row is

@@ -119,6 +119,8 @@ impl Visplane {
 
     /// The least and the greatest marked column; the first is the greater where none is marked.
     pub fn marked(&self) -> (u16, u16)
+        ensures before { (x : ℕ) → x < result.0 → column self.now x ≡ None }
+        ensures behind { (x : ℕ) → result.1 < x → column self.now x ≡ None }
         ensures pixels { (x y : ℕ) → holds self.now y x ≡ true → (result.0 ≤ x) × (x ≤ result.1) }
         ensures first { result.0 ≤ FRAME_WIDTH }
         ensures last { result.1 < FRAME_WIDTH }

@@ -196,6 +196,22 @@ impl Planes {
         self.visplane(plane).is_empty()
     }
 
+    /// The least and the greatest column of a plane that has a run; the first is the greater where
+    /// none has one. Columns are 0 to 319.
+    ///
+    /// The original: `minx` and `maxx` of `visplane_t`, r_defs.h.
+    pub fn marked(&self, plane: PlaneNo) -> (u16, u16)
+        requires { plane.0 < length self.now.planes }
+        ensures before { (x : ℕ) → x < result.0 →
+            column (plane_at self.now.planes plane.0) x ≡ None }
+        ensures behind { (x : ℕ) → result.1 < x →
+            column (plane_at self.now.planes plane.0) x ≡ None }
+        ensures first { result.0 ≤ FRAME_WIDTH }
+        ensures last { result.1 < FRAME_WIDTH }
+    {
+        self.visplane(plane).marked()
+    }
+
     /// The key of a plane. All that its runs hold lies in a frame.
     pub fn key(&self, plane: PlaneNo) -> PlaneKey
         requires { plane.0 < length self.now.planes }

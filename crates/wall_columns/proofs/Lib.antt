@@ -1,4 +1,5 @@
 pub mod PaintedLemmas
+pub mod FirstLemmas
 pub mod PlannedLemmas
 pub mod ClipLemmas
 pub mod PartLemmas

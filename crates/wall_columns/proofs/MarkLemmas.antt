@@ -1,5 +1,5 @@
 -- Laws of the columns of a fragment as they are drawn one by one: none, and one more.
-use Rattle.std.proofs.Common.{◌≡◌, ◌≢◌, ℕ, suc, ◌+◌, ◌-◌, ◌<◌, ◌==◌, Bool, true, false, cond, ℤ, List, Option, length, refl, ap, sym, ◌∙◌, subst, arith}
+use Rattle.std.proofs.Common.{◌≡◌, ◌≢◌, ℕ, suc, ◌+◌, ◌-◌, ◌<◌, ◌==◌, Bool, true, false, cond, ℤ, List, Option, Some, None, length, refl, ap, sym, ◌∙◌, subst, arith}
 use Rattle.std.specs.Prelude.{nat_le, nat_lt, ◌&&◌}
 use Rattle.std.proofs.lemmas.Bool.Decides.{nat_tests}
 use Rattle.view_rules.specs.View.{ViewValue}
@@ -7,6 +7,7 @@ use Rattle.view_rules.specs.declared.TheConstants.{FRAME_WIDTH}
 use Rattle.picture_rules.specs.declared.wall.ColumnClip.{ColumnClip}
 use Rattle.picture_rules.specs.declared.wall.Edges.{Edges}
 use Rattle.picture_rules.specs.declared.wall.FragmentNumbers.{FragmentNumbers}
+use Rattle.picture_rules.specs.declared.wall.RowRange.{RowRange}
 use Rattle.picture_rules.specs.declared.wall.WallFacts.{WallFacts}
 use Rattle.picture_rules.specs.wall.Clips.{clip_after, ceiling_rows, floor_rows}
 use Rattle.picture_rules.specs.wall.Columns.{texture_column}
@@ -16,14 +17,45 @@ use Rattle.picture_rules.specs.plane.Planes.{Plane}
 use Rattle.picture_rules.specs.plane.Built.{set_run, column_marked, columns_marked}
 use Rattle.picture_rules.proofs.plane.BuiltLemmas.{columns_marked-none, columns_marked-more}
 use Rattle.visplanes.specs.Planes.{PlanesView, with_planes}
+use Rattle.visplanes.specs.declared.planes.PlaneNo.{PlaneNo}
 use Rattle.wall_edges.specs.Fragments.{FragmentValue, fragment_of}
 use Rattle.wall_columns.specs.declared.clips.ColumnPlan.{ColumnPlan}
+use Rattle.wall_columns.specs.declared.columns.MarkedPlanes.{MarkedPlanes}
 use Rattle.wall_columns.specs.declared.notes.SavePlaces.{SavePlaces}
 use Rattle.wall_columns.specs.declared.column_state.ColumnState.{ColumnState}
 use Rattle.wall_columns.specs.Windows.{WindowsView, window_at, with_window}
 use Rattle.wall_columns.specs.Plans.{plan_of}
 use Rattle.wall_columns.specs.Saved.{OpeningsView, column_saved, columns_saved}
-use Rattle.wall_columns.specs.Columns.{plane_number, column_edges, column_after, clip_along, marks_along, HasMarked, HasSaved}
+use Rattle.wall_columns.specs.Columns.{plane_number, marked_plane, marked_planes, column_edges, column_after, clip_along, marks_along, HasMarked, HasSaved}
+
+-- a plane that is taken only where the fragment marks it gets the rows that are marked
+marked_as : (marks : Bool) (leaf plane : Option PlaneNo) (planes : List Plane) (x : ℕ) (rows : RowRange) → plane ≡ marked_plane marks leaf →
+    set_run planes (plane_number plane) x (marked_rows true rows) ≡ set_run planes (plane_number leaf) x (marked_rows marks rows)
+unfolding set_run marked_rows
+marked_as marks leaf plane planes x rows is =
+    ap (λ (p : Option PlaneNo). set_run planes (plane_number p) x (marked_rows true rows)) is ∙ by marks leaf where
+      by : (marks : Bool) (leaf : Option PlaneNo) → set_run planes (plane_number (marked_plane marks leaf)) x (marked_rows true rows)
+          ≡ set_run planes (plane_number leaf) x (marked_rows marks rows)
+      by true leaf = refl
+      by false None = refl
+      by false (Some p) = refl
+
+-- the ceiling's plane, and then the floor's
+pub marked-planes : (n : FragmentNumbers) (ceiling floor : Option PlaneNo) (marked : MarkedPlanes) (x : ℕ) (above below ceilings floors : RowRange) (old middle new : PlanesView) →
+    marked ≡ marked_planes n ceiling floor → above ≡ ceilings → below ≡ floors →
+    middle ≡ with_planes (set_run old.planes (plane_number marked.ceiling) x (marked_rows true above)) old →
+    new ≡ with_planes (set_run middle.planes (plane_number marked.floor) x (marked_rows true below)) middle →
+    new ≡ with_planes (set_run (set_run old.planes (plane_number ceiling) x (marked_rows n.ceiling_mark ceilings)) (plane_number floor) x (marked_rows n.floor_mark floors)) old
+marked-planes n ceiling floor marked x above below ceilings floors old middle new is is_above is_below first second =
+    let one : set_run old.planes (plane_number marked.ceiling) x (marked_rows true above) ≡ set_run old.planes (plane_number ceiling) x (marked_rows n.ceiling_mark ceilings) =
+    marked_as n.ceiling_mark ceiling marked.ceiling old.planes x above (ap (λ (m : MarkedPlanes). m.ceiling) is)
+    ∙ ap (λ (rows : RowRange). set_run old.planes (plane_number ceiling) x (marked_rows n.ceiling_mark rows)) is_above in
+    second
+    ∙ ap (λ (v : PlanesView). with_planes (set_run v.planes (plane_number marked.floor) x (marked_rows true below)) v) first
+    ∙ ap (λ (ps : List Plane). with_planes (set_run ps (plane_number marked.floor) x (marked_rows true below)) old) one
+    ∙ ap (λ (ps : List Plane). with_planes ps old)
+    (marked_as n.floor_mark floor marked.floor _ x below (ap (λ (m : MarkedPlanes). m.floor) is)
+    ∙ ap (λ (rows : RowRange). set_run (set_run old.planes (plane_number ceiling) x (marked_rows n.ceiling_mark ceilings)) (plane_number floor) x (marked_rows n.floor_mark rows)) is_below)
 
 -- no column of a fragment stands before its first
 none_before : (first x : ℕ) → (nat_le first x && nat_lt x (first + 0)) ≡ false

@@ -1,9 +1,10 @@
 -- The columns of a fragment as they are drawn one by one: clips, planes and openings.
-use Rattle.std.specs.Prelude.{◌≡◌, ◌<◌, ◌≤◌, ◌+◌, ◌-◌, ◌&&◌, ℕ, nat_le, nat_lt, cond, Option, option_map, IfSome, length}
+use Rattle.std.specs.Prelude.{◌≡◌, ◌<◌, ◌≤◌, ◌+◌, ◌-◌, ◌&&◌, ℕ, Bool, nat_le, nat_lt, cond, Option, None, option_map, IfSome, length}
 use Rattle.view_rules.specs.View.{ViewValue}
 use Rattle.view_rules.specs.declared.TheConstants.{FRAME_WIDTH}
 use Rattle.picture_rules.specs.declared.wall.ColumnClip.{ColumnClip}
 use Rattle.picture_rules.specs.declared.wall.Edges.{Edges}
+use Rattle.picture_rules.specs.declared.wall.FragmentNumbers.{FragmentNumbers}
 use Rattle.picture_rules.specs.declared.wall.WallFacts.{WallFacts}
 use Rattle.picture_rules.specs.wall.Clips.{clip_after, ceiling_rows, floor_rows}
 use Rattle.picture_rules.specs.wall.Columns.{texture_column}
@@ -13,6 +14,7 @@ use Rattle.picture_rules.specs.plane.Built.{PlaneWall, columns_marked}
 use Rattle.visplanes.specs.Planes.{PlanesView, with_planes}
 use Rattle.visplanes.specs.declared.planes.PlaneNo.{PlaneNo}
 use Rattle.wall_edges.specs.Fragments.{FragmentValue, fragment_of}
+use Rattle.wall_columns.specs.declared.columns.MarkedPlanes.{MarkedPlanes}
 use Rattle.wall_columns.specs.declared.notes.SavePlaces.{SavePlaces}
 use Rattle.wall_columns.specs.declared.column_state.ColumnState.{ColumnState}
 use Rattle.wall_columns.specs.Windows.{window_at}
@@ -21,6 +23,17 @@ use Rattle.wall_columns.specs.Saved.{OpeningsView, columns_saved}
 -- the number of a plane, where there is one
 abbrev pub plane_number : Option PlaneNo → Option ℕ
 plane_number o = option_map (λ (plane : PlaneNo). plane.0) o
+
+-- the plane of the leaf, where the fragment marks it
+abbrev pub marked_plane : Bool → Option PlaneNo → Option PlaneNo
+marked_plane marks plane = cond marks plane None
+
+-- the ceiling's and the floor's
+abbrev pub marked_planes : FragmentNumbers → Option PlaneNo → Option PlaneNo → MarkedPlanes
+marked_planes n ceiling floor = record {
+  ceiling = marked_plane n.ceiling_mark ceiling;
+  floor = marked_plane n.floor_mark floor;
+}
 
 -- how many columns a fragment has
 abbrev pub columns_of : FragmentValue → ℕ

@@ -1,5 +1,5 @@
 -- What a fragment does in one of its columns: its plan, and the strips that a plan has.
-use Rattle.std.specs.Prelude.{◌≡◌, ◌⊎◌, ◌≤ℤ◌, ◌<ℤ◌, ◌||◌, ℕ, pos, Bool, cond, List, [], ◌∷◌, FitsSigned}
+use Rattle.std.specs.Prelude.{◌≡◌, ◌⊎◌, ◌≤ℤ◌, ◌<ℤ◌, ◌||◌, ◌&&◌, ℕ, pos, Bool, true, false, not, int_lt, cond, List, [], ◌∷◌, FitsSigned}
 use Rattle.std.specs.Int.{w32}
 use Rattle.word_rules.specs.Words.{minus_one}
 use Rattle.picture_rules.specs.declared.wall.ColumnClip.{ColumnClip}
@@ -41,6 +41,24 @@ strips_by n plan =
     record { part = n.middle_part; rows = plan.middle }
     ∷ (record { part = n.top_part; rows = plan.top }
     ∷ (record { part = n.bottom_part; rows = plan.bottom } ∷ []))
+
+-- A part without a texture has no rows, nor have the two walls where there is a middle.
+pub record HasRowsOf (n : FragmentNumbers) (plan : ColumnPlan) : Type 0 where
+  pub middle : has_texture n.middle_part ≡ false → int_lt plan.middle.last plan.middle.first ≡ true
+  pub top : has_texture n.top_part ≡ false → int_lt plan.top.last plan.top.first ≡ true
+  pub beside_top : has_texture n.middle_part ≡ true → int_lt plan.top.last plan.top.first ≡ true
+  pub beside_bottom : has_texture n.middle_part ≡ true → int_lt plan.bottom.last plan.bottom.first ≡ true
+
+-- the one that is painted first: the middle, or the upper wall, or else the lower one
+unfoldable pub first_strip : FragmentNumbers → ColumnPlan → WallStrip
+first_strip n plan = cond (has_texture n.middle_part) (record { part = n.middle_part; rows = plan.middle })
+    (cond (has_texture n.top_part) (record { part = n.top_part; rows = plan.top })
+    (record { part = n.bottom_part; rows = plan.bottom }))
+
+-- whether the lower wall is painted below an upper one
+unfoldable pub has_second : FragmentNumbers → ColumnPlan → Bool
+has_second n plan = (not (has_texture n.middle_part) && has_texture n.top_part)
+    && not (int_lt plan.bottom.last plan.bottom.first)
 
 -- the strip has rows
 abbrev pub HasRows : WallStrip → Type 0

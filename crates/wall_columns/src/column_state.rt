@@ -16,11 +16,11 @@ ghost use Rattle.wall_columns.specs.Windows.{window_at, with_window, IsClipIn};
 ghost use Rattle.wall_columns.specs.Plans.{plan_of, AreEdgeWords};
 ghost use Rattle.wall_columns.specs.Saved.{column_saved};
 ghost use Rattle.wall_columns.specs.Places.{places_of};
-ghost use Rattle.wall_columns.specs.Columns.{plane_number, columns_of, HasMarked, HasSaved, ArePlacesIn};
+ghost use Rattle.wall_columns.specs.Columns.{marked_planes, plane_number, columns_of, HasMarked, HasSaved, ArePlacesIn};
 ghost use Rattle.wall_columns.specs.Leaves.{now_of, ceiling_check, floor_check, openings_over, leaf_over, checks_over};
 
 use crate::clips::{ColumnPlan, column_plan};
-use crate::columns::mark_rows;
+use crate::columns::{MarkedPlanes, mark_rows, marked_plane};
 use crate::fault::DrawFault;
 use crate::leaf::{LeafPlanes, check_plane, find_plane};
 use crate::notes::{SavePlaces, save_places};
@@ -206,6 +206,16 @@ impl ColumnState {
         Ok(places)
     }
 
+    /// The planes of the leaf that a fragment marks.
+    pub fn marked_planes(&self, numbers: &FragmentNumbers) -> MarkedPlanes
+        ensures { result ≡ marked_planes numbers.now self.now.ceiling self.now.floor }
+    {
+        MarkedPlanes {
+            ceiling: marked_plane(numbers.ceiling_mark, self.ceiling),
+            floor: marked_plane(numbers.floor_mark, self.floor),
+        }
+    }
+
     /// Marks the planes in a column of a fragment, and narrows its window.
     #[inline(always)]
     #[tactic(auto, using(crate::proofs::ClipLemmas::column_rows), unfolding(crate::specs::Plans::plan_of))]
@@ -213,9 +223,11 @@ impl ColumnState {
         &mut self,
         planes: &mut Planes,
         numbers: &FragmentNumbers,
+        marked: MarkedPlanes,
         x: u16,
         edges: &Edges,
     ) -> ColumnPlan
+        requires marked { marked ≡ marked_planes numbers.now self.old.ceiling self.old.floor }
         requires column { x < FRAME_WIDTH }
         requires edges { AreEdgeWords edges.now }
         requires floor { IsAmongPlanes planes.old.planes (plane_number self.old.floor) }
@@ -240,8 +252,8 @@ impl ColumnState {
     {
         let clip = self.windows.clip(x);
         let plan = column_plan(self.windows.height(), numbers, clip, edges);
-        mark_rows(planes, self.ceiling, numbers.ceiling_mark, x, plan.ceiling);
-        mark_rows(planes, self.floor, numbers.floor_mark, x, plan.floor);
+        mark_rows(planes, marked.ceiling, x, plan.ceiling);
+        mark_rows(planes, marked.floor, x, plan.floor);
         self.windows.narrow(x, plan.after);
         plan
     }
@@ -267,6 +279,7 @@ impl ColumnState {
         ensures saved { HasSaved view.now fragment.now places (columns_of fragment.now)
             self.old self.new.openings }
     {
+        let marked = self.marked_planes(numbers);
         let mut stepper = Stepper::new(fragment);
         let mut k: u32 = 0;
         loop {
@@ -274,7 +287,7 @@ impl ColumnState {
             let Some(edges) = stepper.next() else {
                 break;
             };
-            let plan = self.pass_column(planes, numbers, x, &edges);
+            let plan = self.pass_column(planes, numbers, marked, x, &edges);
             save_column(&mut self.openings, view, fragment, x, k, places, plan.after);
             k += 1;
         }

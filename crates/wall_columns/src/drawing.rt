@@ -107,6 +107,7 @@ impl ColumnState {
         ensures room { self.new.openings.room ≡ self.old.openings.room }
         ensures planes_room { tools.new.planes.now.room ≡ tools.old.planes.now.room }
     {
+        let marked = self.marked_planes(numbers);
         let mut stepper = Stepper::new(fragment);
         let mut k: u32 = 0;
         loop {
@@ -114,7 +115,7 @@ impl ColumnState {
             let Some(edges) = stepper.next() else {
                 break;
             };
-            let plan = self.pass_column(tools.planes, numbers, x, &edges);
+            let plan = self.pass_column(tools.planes, numbers, marked, x, &edges);
             paint_plan(tools, fragment, numbers, number, x, &edges, &plan)?;
             save_column(
                 &mut self.openings,

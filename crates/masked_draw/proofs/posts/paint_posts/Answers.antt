@@ -1,41 +1,12 @@
-use Rattle.std.proofs.Common.{◌≤◌, ◌<◌, length, sym, refl, ◌∙◌, arith}
-use Rattle.art_rules.specs.Patches.{next_place}
-use Rattle.masked_draw.proofs.PostLemmas.{is_post-past, left-end, left-more, next_place-from, post_at-none, post_at-some}
+use Rattle.std.proofs.Common.{arith}
+use Rattle.art_rules.specs.Bytes.{byte_at}
+use Rattle.art_rules.specs.Patches.{posts}
+use Rattle.pixel_rules.specs.Strips.{shade}
+use Rattle.masked_draw.proofs.PostLemmas.{shut-dots}
 use Rattle.masked_draw.proofs.posts.paint_posts.Goals as goal
 
-pub returns-in_default : goal.returns-in_default
-returns-in_default g c =
-    left-end c.loop-place.place (g.C.Canvas.view c.loop-place.canvas) c.loop-place.invariant
-    (post_at-none c.args.art.now.bytes.now c.loop-place.place (sym c.in_default.is ∙ c.post_at.ensures))
-
-pub returns-then-end-post : goal.returns-then-end-post
-returns-then-end-post g c =
-    let at = post_at-some c.args.art.now.bytes.now c.loop-place.place c.in-Some.post c.in-Some.ensures in
-    let from = next_place-from c.in-Some.post in
-    let past : length c.args.art.now.bytes.now ≤ next_place c.in-Some.post = omega arith in
-    left-end (next_place c.in-Some.post) (g.C.Canvas.view c.paint_one.new.canvas)
-    (left-more c.loop-place.place (next_place c.in-Some.post) (g.C.Canvas.view c.loop-place.canvas)
-    (g.C.Canvas.view c.paint_one.new.canvas) c.in-Some.post c.loop-place.invariant at refl
-    c.paint_one.ensures)
-    (is_post-past c.args.art.now.bytes.now (next_place c.in-Some.post) past)
-
-pub loop-place-smaller : goal.loop-place-smaller
-loop-place-smaller g c =
-    let at = post_at-some c.args.art.now.bytes.now c.loop-place.place c.in-Some.post c.in-Some.ensures in
-    let begins = at.first in
-    let from = next_place-from c.in-Some.post in
-    let is = c.next_place-place.ensures in
-    let within : c.loop-place.place < length c.args.art.now.bytes.now = omega arith in
-    omega arith
-
-pub loop-place-preserved : goal.loop-place-preserved
-loop-place-preserved g c =
-    left-more c.loop-place.place c.next_place-place.result (g.C.Canvas.view c.loop-place.canvas)
-    (g.C.Canvas.view c.paint_one.new.canvas) c.in-Some.post c.loop-place.invariant
-    (post_at-some c.args.art.now.bytes.now c.loop-place.place c.in-Some.post c.in-Some.ensures)
-    c.next_place-place.ensures c.paint_one.ensures
-
-pub returns : goal.returns
-returns g c =
-    left-end c.loop-place.place (g.C.Canvas.view c.loop-place.canvas) c.loop-place.invariant
-    (is_post-past c.args.art.now.bytes.now c.loop-place.place (omega arith))
+pub returns-else-is_open : goal.returns-else-is_open
+returns-else-is_open g c =
+    shut-dots g.C.Canvas.mark c.args.shape c.args.x c.args.column.now (byte_at c.args.art.now.bytes.now)
+    (shade c.args.art.now.colormap.now c.args.art.now.map) (posts c.args.art.now.bytes.now c.args.place)
+    (g.C.Canvas.view c.args.canvas.now) (omega arith) c.requires.clips (c.is_open.ensures c.if-is_open.false)

@@ -1,9 +1,19 @@
 use Rattle.std.proofs.Common.{ap, sym, ◌∙◌}
 use Rattle.std.proofs.Common.{length}
-use Rattle.picture_rules.specs.plane.Planes.{Plane}
+use Rattle.picture_rules.specs.plane.Planes.{Plane, column}
 use Rattle.picture_rules.specs.plane.Spans.{holds}
-use Rattle.visplanes.proofs.ColumnLemmas.{kept-marked, length-runs_of}
+use Rattle.visplanes.proofs.ColumnLemmas.{kept-before, kept-behind, kept-marked, length-runs_of}
 use Rattle.visplanes.proofs.columns.Visplane.marked.Goals as goal
+
+pub returns-clause-before : goal.returns-clause-before
+returns-clause-before c = λ x l.
+    let i = c.self.inside in
+    ap (λ (p : Plane). column p x) (sym c.self.view_is) ∙ kept-before i.key i.tops i.bottoms i.first i.last x c.self.invariant l
+
+pub returns-clause-behind : goal.returns-clause-behind
+returns-clause-behind c = λ x l.
+    let i = c.self.inside in
+    ap (λ (p : Plane). column p x) (sym c.self.view_is) ∙ kept-behind i.key i.tops i.bottoms i.first i.last x c.self.invariant l
 
 pub returns-clause-pixels : goal.returns-clause-pixels
 returns-clause-pixels c = λ x y h.

@@ -15,6 +15,7 @@ use Rattle.wall_columns.specs.Saved.{OpeningsView, column_saved}
 use Rattle.wall_columns.specs.Windows.{window_at}
 use Rattle.wall_columns.proofs.ClipLemmas.{edges_at-words}
 use Rattle.wall_columns.proofs.DrawnLemmas.{can_paint-later, can_paint-over, paints_columns-none, paints_columns-more, paints_columns-stop, paints_columns-count, paints-column, paints_column-over, strips-in, strips-drawn}
+use Rattle.wall_columns.proofs.FirstLemmas.{rows-of}
 use Rattle.wall_columns.proofs.MarkLemmas.{has_marked-none, has_marked-more, has_saved-none, has_saved-more, passes-column, passes-as, column-after, window_is, edges_are, height_of}
 use Rattle.wall_columns.proofs.column_state.ColumnState.draw_each.Goals as goal
 
@@ -46,6 +47,11 @@ paint_plan-requires-clause-strips g c =
           (window_at c.loop-edges.self.windows c.loop-edges.stepper.x) c.in-Some.edges c.pass_column-plan.result p.plan c.requires.numbers
           (can_paint-over now.cache.now (g.C.Canvas.view now.canvas.now) f (sym (ap (λ r. r.now) i.same.0)) (sym (ap (λ r. r.now) i.same.1.1.0)) (sym (ap (λ r. r.now) i.same.1.0)) (sym (ap (λ r. r.0) i.same.1.1.1.0)) later),
     )
+
+pub paint_plan-requires-clause-rows : goal.paint_plan-requires-clause-rows
+paint_plan-requires-clause-rows g c =
+    rows-of c.loop-edges.self.windows.height c.args.numbers.now (window_at c.loop-edges.self.windows c.loop-edges.stepper.x) c.in-Some.edges c.pass_column-plan.result
+    c.pass_column-plan.ensures.plan
 
 pub returns-in_err-paint_plan-clause-paints : goal.returns-in_err-paint_plan-clause-paints
 returns-in_err-paint_plan-clause-paints g c =
