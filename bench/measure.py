@@ -5,10 +5,11 @@ usage: measure.py [WAD..] [--programs PROGRAM..] [--maps NAMES] [--rounds N] [--
 
 With WADs: of each map 21 places at which one can stand, chosen by examples/places from a fixed seed. A view is what a
 run over the places REPEAT times takes more than a run over them once, so that the reading of the level does not count;
-clearing and writing the frame do. Times are processor time in microseconds, the least of ROUNDS; in each round all
-programs run in turn, since a machine that others use changes its pace from second to second. Where
-examples/original/build has made `still`, R_RenderPlayerView of the original is measured beside, and the ratios are to
-it; else they are to the first program.
+clearing and writing the frame do. Frames go to /dev/null. Times are processor time in microseconds, the least of
+ROUNDS; in each round all programs run in turn, since a machine that others use changes its pace from second to second:
+there many short runs (--rounds 60 --repeat 10) tell more than a few long ones. Where examples/original/build has made
+`still`, R_RenderPlayerView of the original is measured beside, and the ratios are to it; else they are to the first
+program.
 
 Without WADs: `exercise` of 1, 4, 16 and 32, with all else that the job does.
 
@@ -40,10 +41,10 @@ ROUNDS, REPEAT = 5, 60
 COUNTED_REPEAT = 3  # under valgrind, some 50 times slower
 
 
-def run(words, folder):
+def run(words, folder, output=subprocess.PIPE):
     """What a program prints, on either stream."""
     try:
-        done = subprocess.run(words, cwd=folder, stdout=subprocess.PIPE, stderr=subprocess.PIPE)
+        done = subprocess.run(words, cwd=folder, stdout=output, stderr=subprocess.PIPE)
     except OSError as error:
         sys.exit(f'measure: cannot run {words[0]}: {error.strerror}')
     if done.returncode:
@@ -53,7 +54,7 @@ def run(words, folder):
 
 def seconds(words, folder):
     before = resource.getrusage(resource.RUSAGE_CHILDREN)
-    run(words, folder)
+    run(words, folder, subprocess.DEVNULL)
     after = resource.getrusage(resource.RUSAGE_CHILDREN)
     return after.ru_utime + after.ru_stime - before.ru_utime - before.ru_stime
 
