@@ -124,6 +124,11 @@ pub kept-run : (key : PlaneKey) (tops bottoms : List ℕ) (first last : ℕ) →
     column (plane_of key tops bottoms) first ≡ Some (slice_index tops first, slice_index bottoms first)
 kept-run key tops bottoms first last k l = column-kept key tops bottoms first l ∙ run_at-some tops bottoms first (k.least l)
 
+-- and so has the last of them
+pub kept-last : (key : PlaneKey) (tops bottoms : List ℕ) (first last : ℕ) → IsKept tops bottoms first last → first < FRAME_WIDTH →
+    column (plane_of key tops bottoms) last ≡ Some (slice_index tops last, slice_index bottoms last)
+kept-last key tops bottoms first last k l = column-kept key tops bottoms last k.within ∙ run_at-some tops bottoms last (k.greatest l)
+
 pub plane_of-empty : (key : PlaneKey) (tops bottoms : List ℕ) → ((x : ℕ) → x < FRAME_WIDTH → slice_index tops x ≡ NO_RUN) → plane_of key tops bottoms ≡ empty_plane key
 unfolding empty_plane runs_of
 plane_of-empty key tops bottoms t =

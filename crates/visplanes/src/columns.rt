@@ -1,5 +1,5 @@
 // The columns of a plane.
-ghost use Rattle.std.specs.Prelude.{◌≡◌, ℕ, ◌+◌, ◌<◌, ◌≤◌, ◌↔◌, IfSome, None, true, false, length, slice_index};
+ghost use Rattle.std.specs.Prelude.{◌≡◌, ℕ, ◌+◌, ◌<◌, ◌≤◌, ◌↔◌, IfSome, IsSome, None, true, false, length, slice_index};
 ghost use Rattle.view_rules.specs.declared.TheConstants.{FRAME_WIDTH, FRAME_HEIGHT};
 ghost use Rattle.picture_rules.specs.plane.Planes.{empty_plane, is_free, with_run, column};
 ghost use Rattle.picture_rules.specs.plane.Spans.{holds};
@@ -117,8 +117,11 @@ impl Visplane {
         Some((top, self.bottoms[x as usize]))
     }
 
-    /// The least and the greatest marked column; the first is the greater where none is marked.
+    /// The least and the greatest marked column, 320 and 0 where none is marked.
     pub fn marked(&self) -> (u16, u16)
+        ensures least { result.0 < FRAME_WIDTH → IsSome (column self.now result.0) }
+        ensures greatest { result.0 < FRAME_WIDTH → IsSome (column self.now result.1) }
+        ensures none { result.0 ≡ FRAME_WIDTH → result.1 ≡ 0 }
         ensures before { (x : ℕ) → x < result.0 → column self.now x ≡ None }
         ensures behind { (x : ℕ) → result.1 < x → column self.now x ≡ None }
         ensures pixels { (x y : ℕ) → holds self.now y x ≡ true → (result.0 ≤ x) × (x ≤ result.1) }

@@ -1,5 +1,5 @@
 // The planes of a view.
-ghost use Rattle.std.specs.Prelude.{◌≡◌, ℕ, ◌+◌, ◌<◌, ◌≤◌, ◌↔◌, true, Some, [], None, length, position, IfOk, IfErr, IfSome, IsErr, OnOk, OnErr};
+ghost use Rattle.std.specs.Prelude.{◌≡◌, ℕ, ◌+◌, ◌<◌, ◌≤◌, ◌↔◌, true, Some, [], None, length, position, IfOk, IfErr, IfSome, IsSome, IsErr, OnOk, OnErr};
 ghost use Rattle.view_rules.specs.declared.TheConstants.{FRAME_WIDTH, FRAME_HEIGHT};
 ghost use Rattle.picture_rules.specs.declared.plane.TheConstants.{MOST_VISPLANES};
 ghost use Rattle.picture_rules.specs.plane.Keys.{same_key};
@@ -196,12 +196,17 @@ impl Planes {
         self.visplane(plane).is_empty()
     }
 
-    /// The least and the greatest column of a plane that has a run; the first is the greater where
-    /// none has one. Columns are 0 to 319.
+    /// The least and the greatest column of a plane that has a run, 0 to 319; 320 and 0 where none
+    /// has one.
     ///
     /// The original: `minx` and `maxx` of `visplane_t`, r_defs.h.
     pub fn marked(&self, plane: PlaneNo) -> (u16, u16)
         requires { plane.0 < length self.now.planes }
+        ensures least { result.0 < FRAME_WIDTH →
+            IsSome (column (plane_at self.now.planes plane.0) result.0) }
+        ensures greatest { result.0 < FRAME_WIDTH →
+            IsSome (column (plane_at self.now.planes plane.0) result.1) }
+        ensures none { result.0 ≡ FRAME_WIDTH → result.1 ≡ 0 }
         ensures before { (x : ℕ) → x < result.0 →
             column (plane_at self.now.planes plane.0) x ≡ None }
         ensures behind { (x : ℕ) → result.1 < x →

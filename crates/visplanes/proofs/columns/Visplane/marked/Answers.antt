@@ -1,9 +1,22 @@
-use Rattle.std.proofs.Common.{ap, sym, ◌∙◌}
+use Rattle.std.proofs.Common.{ap, refl, subst, sym, ◌∙◌}
+use Rattle.std.specs.Prelude.{IsSome}
 use Rattle.std.proofs.Common.{length}
 use Rattle.picture_rules.specs.plane.Planes.{Plane, column}
 use Rattle.picture_rules.specs.plane.Spans.{holds}
-use Rattle.visplanes.proofs.ColumnLemmas.{kept-before, kept-behind, kept-marked, length-runs_of}
+use Rattle.visplanes.proofs.ColumnLemmas.{kept-before, kept-behind, kept-last, kept-marked, kept-run, length-runs_of}
 use Rattle.visplanes.proofs.columns.Visplane.marked.Goals as goal
+
+pub returns-clause-least : goal.returns-clause-least
+returns-clause-least c = λ some.
+    let i = c.self.inside in
+    subst (λ (p : Plane). IsSome (column p i.first)) c.self.view_is
+    (subst IsSome (sym (kept-run i.key i.tops i.bottoms i.first i.last c.self.invariant some)) refl)
+
+pub returns-clause-greatest : goal.returns-clause-greatest
+returns-clause-greatest c = λ some.
+    let i = c.self.inside in
+    subst (λ (p : Plane). IsSome (column p i.last)) c.self.view_is
+    (subst IsSome (sym (kept-last i.key i.tops i.bottoms i.first i.last c.self.invariant some)) refl)
 
 pub returns-clause-before : goal.returns-clause-before
 returns-clause-before c = λ x l.
