@@ -73,6 +73,12 @@ abbrev word : ℤ → ℤ
 word z = to_z w32 (of_z w32 z)
 
 -- the same where the fractions are words, as the code has them
+pub cut_strip_from_words : (texels shades : List ℕ) (fraction step : ℤ) (first k : ℕ) → FitsSigned w32 fraction → FitsSigned w32 step →
+    cut_colour texels shades (step_at (word fraction) (word step) k) ≡ cut_strip_colour texels shades fraction step first (first + k)
+cut_strip_from_words texels shades fraction step first k f g =
+    ap₂ (λ (a b : ℤ). cut_colour texels shades (step_at a b k)) (to_z-of_z w32 fraction f) (to_z-of_z w32 step g)
+    ∙ cut_strip_from texels shades fraction step first k
+
 pub cut_strip_words : (source colormap texels shades : List ℕ) (base map : ℕ) (fraction step : ℤ) (first : ℕ) → FitsSigned w32 fraction → FitsSigned w32 step →
     IsWindow source base TEXEL_ROWS texels → IsWindow colormap (MAP_COLOURS * map) MAP_COLOURS shades → ((k : ℕ) → slice_index texels k < MAP_COLOURS) →
     cut_strip_colour texels shades (word fraction) (word step) first ≡ strip_colour source base colormap map fraction step first

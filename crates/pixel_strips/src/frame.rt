@@ -110,7 +110,10 @@ impl Canvas for Frame {
         let row = first as usize + self.top as usize;
         let column = x as usize + self.left as usize;
         let start = FRAME_WIDTH as usize * row + column;
-        fill_column(&mut self.cells, start, (last - first) as usize + 1, cut);
+        let count = (last - first) as usize + 1;
+        let (texels, shades) = (cut.texels, cut.shades);
+        let cells = &mut self.cells;
+        fill_column(cells, start, count, texels, shades, cut.fraction, cut.step);
     }
 
     fn span(&mut self, y: u16, first: u16, last: u16, cut: &CutSpan<'_>) {
@@ -121,18 +124,31 @@ impl Canvas for Frame {
     }
 }
 
-// Sets `count` cells below one another, the first at `start`. `cut` is copied: behind each write to a
-// cell its fields would be read again. Not inlined, so that the loops are the same in every caller.
+// Sets `count` cells below one another, the first at `start`. What is cut out is given part by part,
+// in registers, and no write to a cell can change it. Not inlined, so that the loops are the same in
+// every caller.
 #[inline(never)]
-fn fill_column(cells: &mut [u8], start: usize, count: usize, cut: &CutColumn<'_>)
+fn fill_column(
+    cells: &mut [u8],
+    start: usize,
+    count: usize,
+    texels: &[u8],
+    shades: &[u8],
+    fraction: i32,
+    step: i32,
+)
     requires size { length cells.old ≡ FRAME_CELLS }
     requires within { start + FRAME_WIDTH * count < FRAME_CELLS + FRAME_WIDTH }
-    requires texels { length cut.now.texels.now ≡ TEXEL_ROWS }
-    requires shades { length cut.now.shades.now ≡ MAP_COLOURS }
-    ensures { ColumnFilled cut.now.texels.now cut.now.shades.now cut.now.fraction cut.now.step
-        start count cells.old cells.new }
+    requires texels { length texels.now ≡ TEXEL_ROWS }
+    requires shades { length shades.now ≡ MAP_COLOURS }
+    ensures { ColumnFilled texels.now shades.now fraction step start count cells.old cells.new }
 {
-    let cut = *cut;
+    let cut = CutColumn {
+        texels,
+        shades,
+        fraction,
+        step,
+    };
     if count < 4 {
         fill_few(cells, start, count, &cut);
     } else {
@@ -224,7 +240,8 @@ fn fill_row(cells: &mut [u8], cell: usize, place: u32, cut: &CutColumn<'_>)
     cells[cell] = cut.shades[cut.texels[row_at(place)] as usize];
 }
 
-// Sets `count` cells side by side, the first at `start`, likewise.
+// Sets `count` cells side by side, the first at `start`. `cut` is copied: behind each write to a cell
+// its fields would be read again. Not inlined either.
 #[inline(never)]
 fn fill_span(cells: &mut [u8], start: usize, count: usize, cut: &CutSpan<'_>)
     requires size { length cells.old ≡ FRAME_CELLS }
