@@ -6,10 +6,9 @@ usage: measure.py [WAD..] [--programs PROGRAM..] [--maps NAMES] [--rounds N] [--
 With WADs: of each map 21 places at which one can stand, chosen by examples/places from a fixed seed. A view is what a
 run over the places REPEAT times takes more than a run over them once, so that the reading of the level does not count;
 clearing and writing the frame do. Frames go to /dev/null. Times are processor time in microseconds, the least of
-ROUNDS; in each round all programs run in turn, since a machine that others use changes its pace from second to second:
-there many short runs (--rounds 60 --repeat 10) tell more than a few long ones. Where examples/original/build has made
-`still`, R_RenderPlayerView of the original is measured beside, and the ratios are to it; else they are to the first
-program.
+ROUNDS; in each round all programs run in turn, and runs are short and many, since a machine that others use changes
+its pace from second to second. Where examples/original/build has made `still`, R_RenderPlayerView of the original is
+measured beside, the least of its passes over the places, and the ratios are to it; else they are to the first program.
 
 Without WADs: `exercise` of 1, 4, 16 and 32, with all else that the job does.
 
@@ -37,7 +36,7 @@ PLACES, SEED = 20, 7
 NUMBERS = (1, 4, 16, 32)
 VIEWS_PER_NUMBER = 3
 RENDERER = 'R_RenderPlayerView'
-ROUNDS, REPEAT = 5, 60
+ROUNDS, REPEAT = 40, 10
 COUNTED_REPEAT = 3  # under valgrind, some 50 times slower
 
 
