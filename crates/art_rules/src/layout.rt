@@ -2,7 +2,7 @@
 // first.
 
 /// The bytes of a name.
-pub const NAME_SIZE: usize = 8;
+pub const NAME_SIZE: usize = lump_rules::NAME_SIZE;
 
 /// The bytes of the count that a list begins with.
 pub const COUNT_SIZE: usize = 4;

@@ -21,13 +21,13 @@ pub const DEFAULT_ZONE: u32 = 6_291_456;
 pub const DEFAULT_SKILL: u32 = 3;
 
 /// The size of the view where none is asked for.
-pub const DEFAULT_SIZE: u32 = 11;
+pub const DEFAULT_SIZE: u32 = MAX_SIZE;
 
 /// The most planes of a view where no number is asked for.
-pub const DEFAULT_PLANES: u32 = 128;
+pub const DEFAULT_PLANES: u32 = MIN_PLANES;
 
 /// The most openings of a view where no number is asked for.
-pub const DEFAULT_OPENINGS: u32 = 20_480;
+pub const DEFAULT_OPENINGS: u32 = MIN_OPENINGS;
 
 // The number that a word writes, where it is from `low` to `high`.
 #[tactic(auto, unfolding(crate::specs::Choices::number_within))]

@@ -13,5 +13,6 @@ mod jobs;
 mod level_jobs;
 mod simple;
 
+pub use choices::{DEFAULT_OPENINGS, DEFAULT_PLANES, DEFAULT_SIZE, DEFAULT_SKILL, DEFAULT_ZONE};
 pub use fault::CommandFault;
 pub use jobs::command_of;

@@ -1,6 +1,8 @@
 -- The made files of a number, rendered and counted.
 use Rattle.std.specs.Prelude.{ℕ, ◌++◌, ◌∷◌, ◌*◌, ◌%◌, ◌^◌, List, [], length, sum, codes, Option, Some, None}
 use Rattle.outside.specs.Shelf.{File}
+use Rattle.command_line.specs.declared.choices.TheConstants.{DEFAULT_OPENINGS, DEFAULT_PLANES, DEFAULT_SIZE, DEFAULT_SKILL}
+use Rattle.frame_writer.specs.declared.TheConstants.{FRAME_BYTES, PPM_BYTES}
 use Rattle.job_rules.specs.declared.command.Format.{Format}
 use Rattle.job_rules.specs.declared.command.Format.TheVariants.{Index, Ppm}
 use Rattle.job_rules.specs.declared.command.MakeJob.TheVariants.{Wad, Path, Tables, Things}
@@ -27,7 +29,7 @@ abbrev pub made_level : ℕ → LevelJobValue
 made_level zone = record {
   map_name = 77 ∷ 65 ∷ 80 ∷ 48 ∷ 49 ∷ 0 ∷ 0 ∷ 0 ∷ [];
   files = record { tables = codes "tables"; things = codes "things"; path = codes "path"; weapon = None };
-  settings = record { zone = zone; skill = 3; size = 11; planes = 128; openings = 20480 };
+  settings = record { zone = zone; skill = DEFAULT_SKILL; size = DEFAULT_SIZE; planes = DEFAULT_PLANES; openings = DEFAULT_OPENINGS };
 }
 
 -- the line of an exercise: sectors, views, frames, and the number and the sum of the frames' bytes
@@ -58,5 +60,5 @@ exercised_bytes n format r = line_unless n format r (first_over r)
 
 -- the bytes of a frame as it is written
 abbrev pub frame_size : Format → ℕ
-frame_size Index = 64000
-frame_size Ppm = 192015
+frame_size Index = FRAME_BYTES
+frame_size Ppm = PPM_BYTES

@@ -12,7 +12,8 @@ ghost use Rattle.doom_run.specs.Jobs.{job_of};
 ghost use Rattle.doom_run.specs.Performs.{Performs};
 
 use crate::level::perform_level;
-use frame_writer::FRAME_BYTES;
+use command_line::{DEFAULT_OPENINGS, DEFAULT_PLANES, DEFAULT_SIZE, DEFAULT_SKILL};
+use frame_writer::{FRAME_BYTES, PPM_BYTES};
 use job_files::Status;
 use job_rules::{Files, Format, LevelJob, LevelTask, Settings};
 use level_maker::{make_path, make_tables, make_things, make_wad};
@@ -30,9 +31,6 @@ pub struct Summary {
     pub bytes: u64,
     pub sum: u64,
 }
-
-// The bytes of a PPM frame.
-const PPM_BYTES: u64 = 192015;
 
 // The made files of a number, by name.
 #[tactic(auto, unfolding(crate::specs::Exercises::made_files))]
@@ -80,10 +78,10 @@ fn made_level(zone: u32) -> LevelJob<'static>
         },
         settings: Settings {
             zone,
-            skill: 3,
-            size: 11,
-            planes: 128,
-            openings: 20480,
+            skill: DEFAULT_SKILL,
+            size: DEFAULT_SIZE,
+            planes: DEFAULT_PLANES,
+            openings: DEFAULT_OPENINGS,
         },
     }
 }
@@ -139,7 +137,7 @@ fn frame_size(format: Format) -> u64
 {
     match format {
         Format::Index => FRAME_BYTES as u64,
-        Format::Ppm => PPM_BYTES,
+        Format::Ppm => PPM_BYTES as u64,
     }
 }
 

@@ -8,19 +8,25 @@
 mod index;
 mod ppm;
 
+use art_rules::PALETTE_SIZE;
 pub use index::put_index;
+use pixel_rules::FRAME_CELLS;
 pub use ppm::put_ppm;
-
-/// The columns of a frame.
-pub const FRAME_WIDTH: usize = 320;
-
-/// The rows of a frame.
-pub const FRAME_HEIGHT: usize = 200;
+use view_rules::{FRAME_HEIGHT, FRAME_WIDTH};
 
 /// The bytes of a frame, one for each pixel.
-pub const FRAME_BYTES: usize = 64000;
+pub const FRAME_BYTES: usize = FRAME_CELLS;
 
 /// The bytes of a palette: red, green and blue of 256 colours.
-pub const PALETTE_BYTES: usize = 768;
+pub const PALETTE_BYTES: usize = PALETTE_SIZE;
 
-const _: () = prove!(FRAME_BYTES == FRAME_WIDTH * FRAME_HEIGHT);
+/// The bytes of a frame as a PPM file.
+pub const PPM_BYTES: usize = HEADER_BYTES + COLOUR_BYTES * FRAME_BYTES;
+
+/// The bytes of a PPM file before its pixels.
+const HEADER_BYTES: usize = 15;
+
+/// The bytes of a colour: red, green and blue.
+const COLOUR_BYTES: usize = 3;
+
+const _: () = prove!(FRAME_BYTES == FRAME_WIDTH as usize * FRAME_HEIGHT as usize);

@@ -5,18 +5,16 @@ ghost use Rattle.outside.specs.Sink.{Writes};
 ghost use Rattle.frame_writer.specs.Ppm.{ppm, colour};
 ghost use Rattle.frame_writer.specs.Words.{word_colour};
 
-use crate::{FRAME_BYTES, PALETTE_BYTES};
+use crate::{COLOUR_BYTES, FRAME_BYTES, HEADER_BYTES, PALETTE_BYTES};
 use outside::{Failed, Sink};
 
 // P6, the width, the height and the greatest value of a colour.
-const HEADER: &[u8; 15] = b"P6\n320 200\n255\n";
+const HEADER: &[u8; HEADER_BYTES] = b"P6\n320 200\n255\n";
 
 // A frame goes out in five bands of 40 rows.
 const BANDS: usize = 5;
 
 const BAND_BYTES: usize = 12800;
-
-const COLOUR_BYTES: usize = 3;
 
 // A colour's red, green and blue, and a byte that does not count.
 const WORD_BYTES: usize = 4;

@@ -6,7 +6,7 @@
 
 ghost use Rattle.std.specs.Prelude.{◌≡◌, ◌<◌, ◌≤◌, ◌≤ℤ◌};
 ghost use Rattle.word_rules.specs.declared.TheConstants.{FINE_ANGLES};
-ghost use Rattle.word_rules.specs.Words.{word, mul, div, slope_div, abs_word, clamp_word, plus, minus, times, neg_word, shl_word, shr_word, fixed, greater_word, lesser_word, signs_differ, is_zero, same_word, inverse_word, natural, signed_of, turn, turn_back, fine_angle};
+ghost use Rattle.word_rules.specs.Words.{word, mul, div, slope_div, abs_word, clamp_word, plus, minus, times, neg_word, shl_word, shr_word, fixed, greater_word, lesser_word, signs_differ, same_word, inverse_word, signed_of, turn, turn_back, fine_angle};
 
 use word_rules::{
     FINE_SHIFT, FRACTION_BITS, FRACTION_UNIT, MIN_SLOPE_DIVISOR, QUOTIENT_BITS,
@@ -168,13 +168,6 @@ pub fn signs_differ(a: i32, b: i32) -> bool
     (a < 0) != (b < 0)
 }
 
-/// Whether `a` is 0.
-pub fn is_zero(a: i32) -> bool
-    ensures { result ≡ is_zero a }
-{
-    a == 0
-}
-
 /// Whether `a` and `b` are equal.
 #[tactic(auto, unfolding(word_rules::specs::Words::same_word))]
 pub fn same_word(a: i32, b: i32) -> bool
@@ -195,17 +188,6 @@ pub fn inverse_word(scale: i32) -> i32
         return 0;
     }
     (u32::MAX / bits).cast_signed()
-}
-
-/// The whole number, 0 for what is below it.
-#[tactic(auto, unfolding(word_rules::specs::Words::natural))]
-pub fn natural(a: i32) -> u32
-    ensures { result ≡ natural a }
-{
-    if a < 0 {
-        return 0;
-    }
-    a as u32
 }
 
 /// The bits of `n`, read with a sign.

@@ -7,7 +7,8 @@ use Rattle.lump_rules.specs.declared.wad.Lump.{Lump}
 use Rattle.lump_rules.specs.Wads.{directory}
 use Rattle.lump_rules.specs.Lookups.{flat_of}
 use Rattle.lump_rules.specs.Contents.{lump_bytes}
-use Rattle.frame_writer.specs.declared.TheConstants.{FRAME_WIDTH, FRAME_BYTES, PALETTE_BYTES}
+use Rattle.frame_writer.specs.declared.TheConstants.{FRAME_BYTES, PALETTE_BYTES}
+use Rattle.view_rules.specs.declared.TheConstants.{FRAME_WIDTH}
 use Rattle.pixel_rules.specs.declared.TheConstants.{FLAT_SIDE}
 use Rattle.art_rules.specs.Flats.{flat_byte}
 use Rattle.refusals.specs.declared.refusal.Refusal.{Refusal}

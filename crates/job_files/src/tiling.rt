@@ -3,11 +3,11 @@ ghost use Rattle.std.specs.Prelude.{◌≡◌, length, IfOk};
 ghost use Rattle.word_rules.specs.Listed.{listed};
 ghost use Rattle.job_files.specs.Flats.{tiled_index};
 
-use frame_writer::FRAME_WIDTH;
 use outside::OutOfMemory;
 use patch_columns::flat_byte;
 use pixel_rules::FLAT_SIDE;
 use std::alloc::Global;
+use view_rules::FRAME_WIDTH;
 
 // So many indices of a frame that the flat is laid over, row by row.
 pub fn tile(alloc: Global, flat: &[u8], count: usize) -> Result<Vec<u8>, OutOfMemory>
@@ -16,8 +16,8 @@ pub fn tile(alloc: Global, flat: &[u8], count: usize) -> Result<Vec<u8>, OutOfMe
 {
     let mut frame = vec![in alloc; 0; count]?;
     for (i, pixel) in frame.iter_mut().enumerate() {
-        let x = i % FRAME_WIDTH % FLAT_SIDE as usize;
-        let y = i / FRAME_WIDTH % FLAT_SIDE as usize;
+        let x = i % FRAME_WIDTH as usize % FLAT_SIDE as usize;
+        let y = i / FRAME_WIDTH as usize % FLAT_SIDE as usize;
         *pixel = flat_byte(flat, x as u32, y as u32);
     }
     Ok(frame)

@@ -19,19 +19,19 @@ pub const CELL_SIZE: u32 = 128;
 pub const EDGES: u32 = 4;
 
 /// The bytes of a node.
-pub const NODE_SIZE: u32 = 28;
+pub const NODE_SIZE: u32 = level_rules::maps::layout::NODE_SIZE as u32;
 
 /// The mark of a leaf in a node's child.
-pub const LEAF_MARK: u32 = 32768;
+pub const LEAF_MARK: u32 = level_rules::maps::LEAF_BIT as u32;
 
 /// The mark of a line without a second side.
-pub const NO_SIDE: u32 = 65535;
+pub const NO_SIDE: u32 = level_rules::maps::NO_SIDE as u32;
 
 /// The flags of a line with one side: it blocks.
 pub const ONE_SIDED: u32 = 1;
 
 /// The flags of a line with two sides.
-pub const TWO_SIDED: u32 = 4;
+pub const TWO_SIDED: u32 = level_rules::TWO_SIDED as u32;
 
 /// The type of the things.
 pub const LEVEL_THING: u32 = 2035;

@@ -12,15 +12,15 @@ pub mod plane;
 pub mod sprite;
 pub mod wall;
 
-pub use plane::{Flat4, MAX_VISPLANES, MOST_VISPLANES, PlaneKey, SKY_MAP, SKY_MID, SKY_SHIFT};
+pub use plane::{Flat4, MOST_VISPLANES, PlaneKey, SKY_MAP, SKY_MID, SKY_SHIFT};
 pub use sprite::{
     MAX_VISSPRITES, MIN_DEPTH, Placed, ROTATION_SHIFT, ROTATION_TURN, SIDE_SHIFT, Seen, Shape5,
     SpriteEntry, WEAPON_CENTRE, WEAPON_MID,
 };
 pub use wall::{
     Clip, ColumnClip, EDGE_BITS, Edges, FragmentNote, FragmentNumbers, HEIGHT_SHIFT,
-    MAX_EDGE_FRACTION, MAX_OPENINGS, MOST_OPENINGS, Part, RowRange, SIL_BOTTOM, SIL_TOP,
-    Silhouette, WallFacts, WallTexture,
+    MAX_EDGE_FRACTION, MOST_OPENINGS, Part, RowRange, SIL_BOTTOM, SIL_TOP, Silhouette, WallFacts,
+    WallTexture,
 };
 
 /// How many planes and openings a view may have.

@@ -5,9 +5,6 @@
 //! them (Built), the spans of a row (Spans), and the pixels of floors and skies (Floors, Skies).
 //! A plane is the field's visplane, a span's first column its spanstart. The original: r_plane.c.
 
-/// The most planes of a view, where no option raises it.
-pub const MAX_VISPLANES: u32 = 128;
-
 /// The most planes to which an option may raise that limit.
 ///
 /// This project's own.

@@ -96,9 +96,6 @@ pub struct RowRange {
     pub last: i32,
 }
 
-/// The most openings of a view, where no option raises it. The original: `MAXOPENINGS`, r_plane.c.
-pub const MAX_OPENINGS: u32 = 20480;
-
 /// The numbers of a fragment.
 ///
 /// Scales and step are 16.16; the four heights are above the viewpoint, map units 16.16; marks,

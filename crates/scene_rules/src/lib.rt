@@ -15,7 +15,7 @@ use lump_rules::LumpNo;
 pub use refusal::{ArtRefusal, AuditRefusal, SceneRefusal, WeaponRefusal};
 
 /// The bytes of a name of a lump or a texture.
-pub const NAME_SIZE: usize = 8;
+pub const NAME_SIZE: usize = lump_rules::NAME_SIZE;
 
 /// The names of the lumps of colours.
 pub const COLORMAP: [u8; NAME_SIZE] = *b"COLORMAP";
@@ -26,7 +26,7 @@ pub const PLAYPAL: [u8; NAME_SIZE] = *b"PLAYPAL\0";
 pub const COLORMAP_SIZE: u32 = 8192;
 
 /// The bytes of the first palette.
-pub const PALETTE_SIZE: u32 = 768;
+pub const PALETTE_SIZE: u32 = art_rules::PALETTE_SIZE as u32;
 
 /// The flat that is the sky.
 pub const SKY_NAME: [u8; NAME_SIZE] = *b"F_SKY1\0\0";

@@ -5,7 +5,7 @@
 pub const WORD_SIZE: usize = 2;
 
 /// The bytes of a name.
-pub const NAME_SIZE: usize = 8;
+pub const NAME_SIZE: usize = lump_rules::NAME_SIZE;
 
 /// A record of THINGS: point, angle, type, options.
 pub const THING_SIZE: usize = 10;
