@@ -1,269 +1,195 @@
-// Each refusal with its code and its numbers, as they are written.
+// Each refusal as it is told: its code and its numbers as they are written, and its sentence as the
+// person who mends the file reads it.
 
-use outside::MemorySink;
+use outside::{MemorySink, Sink};
 use refusals::{
-    ArtRefusal, CsvRefusal, DirRefusal, MapRefusal, Refusal, SceneRefusal, SpriteRefusal,
-    TablesRefusal, TexRefusal, TrimRefusal, WeaponRefusal, put_numbers_of,
+    ArtRefusal, CsvRefusal, DirRefusal, Line, MapRefusal, Refusal, SceneRefusal, SpriteRefusal,
+    TablesRefusal, TexRefusal, TrimRefusal, WeaponRefusal, add_refusal,
 };
+use std::alloc::Global;
 use std::process::Abort;
 use std::test::Fail;
 
-// More bytes than a refusal's code and numbers take.
-const ROOM: usize = 64;
+// More bytes than the lines of some refusals take.
+const ROOM: usize = 4096;
 
-// Compares what is written of each refusal.
-fn are_told<R: Abort + AllocGlobal>(rt: &R, cases: &[(Refusal, &str)]) -> Result<(), Fail> {
-    for (refusal, told) in cases {
-        let mut notes = MemorySink::new(rt.alloc(), ROOM, Vec::new(rt.alloc()))?;
-        assert_eq!(rt; put_numbers_of(&mut notes, *refusal), Ok(()));
-        assert_eq!(rt; notes.bytes(), told.as_bytes());
-    }
+// Writes a line of a refusal.
+fn put_line(alloc: Global, lines: &mut MemorySink, refusal: Refusal) -> Result<(), Fail> {
+    let sentence = format!(in alloc; ": {refusal}\n")?;
+    let mut line = Line::new();
+    add_refusal(&mut line, refusal);
+    line.put(lines)?;
+    lines.put(sentence.as_bytes())?;
     Ok(())
 }
 
-#[test]
-fn tables_of_angles_have_the_codes_101_to_105(rt: HostRuntime) -> Result<(), Fail> {
-    are_told(
-        &rt,
-        &[
-            (
-                Refusal::Tables(TablesRefusal::Length { found: 65539 }),
-                " 101 65539",
-            ),
-            (Refusal::Tables(TablesRefusal::Sine { index: 7 }), " 102 7"),
-            (
-                Refusal::Tables(TablesRefusal::Tangent { index: 8 }),
-                " 103 8",
-            ),
-            (Refusal::Tables(TablesRefusal::Angle { index: 9 }), " 104 9"),
-            (Refusal::Tables(TablesRefusal::FieldOfView), " 105"),
-        ],
-    )
+// Compares the lines of refusals.
+fn are_told(rt: &impl Abort, alloc: Global, refusals: &[Refusal], told: &str) -> Result<(), Fail> {
+    let mut lines = MemorySink::new(alloc, ROOM, Vec::new(alloc))?;
+    for refusal in refusals {
+        put_line(alloc, &mut lines, *refusal)?;
+    }
+    assert_eq!(rt; lines.bytes(), told.as_bytes());
+    Ok(())
 }
 
-#[test]
-fn the_thing_table_has_the_codes_201_to_207(rt: HostRuntime) -> Result<(), Fail> {
-    are_told(
-        &rt,
-        &[
-            (
-                Refusal::Things(CsvRefusal::TooLong { bytes: 1048577 }),
-                " 201 1048577",
-            ),
-            (Refusal::Things(CsvRefusal::Header), " 202"),
-            (Refusal::Things(CsvRefusal::Fields { row: 1 }), " 203 1"),
-            (
-                Refusal::Things(CsvRefusal::Number { row: 1, column: 2 }),
-                " 204 1 2",
-            ),
-            (
-                Refusal::Things(CsvRefusal::Range { row: 3, column: 4 }),
-                " 205 3 4",
-            ),
-            (Refusal::Things(CsvRefusal::Repeat { row: 2 }), " 206 2"),
-            (Refusal::Things(CsvRefusal::TooMany), " 207"),
-        ],
-    )
+fn of_tables() -> &'static [Refusal] {
+    &[
+        Refusal::Tables(TablesRefusal::Length { found: 65539 }),
+        Refusal::Tables(TablesRefusal::Sine { index: 7 }),
+        Refusal::Tables(TablesRefusal::Tangent { index: 8 }),
+        Refusal::Tables(TablesRefusal::Angle { index: 9 }),
+        Refusal::Tables(TablesRefusal::FieldOfView),
+        Refusal::Things(CsvRefusal::TooLong { bytes: 1048577 }),
+        Refusal::Things(CsvRefusal::Header),
+        Refusal::Things(CsvRefusal::Fields { row: 1 }),
+        Refusal::Things(CsvRefusal::Number { row: 1, column: 2 }),
+        Refusal::Things(CsvRefusal::Range { row: 3, column: 4 }),
+        Refusal::Things(CsvRefusal::Repeat { row: 2 }),
+        Refusal::Things(CsvRefusal::TooMany),
+        Refusal::Path(CsvRefusal::TooLong { bytes: 1048577 }),
+        Refusal::Path(CsvRefusal::Number { row: 1, column: 2 }),
+        Refusal::Path(CsvRefusal::TooMany),
+        Refusal::Weapons(CsvRefusal::Header),
+        Refusal::Weapons(CsvRefusal::Range { row: 1, column: 3 }),
+        Refusal::Weapons(CsvRefusal::TooMany),
+    ]
 }
 
-#[test]
-fn the_path_has_the_codes_301_to_305_and_307(rt: HostRuntime) -> Result<(), Fail> {
-    are_told(
-        &rt,
-        &[
-            (
-                Refusal::Path(CsvRefusal::TooLong { bytes: 1048577 }),
-                " 301 1048577",
-            ),
-            (Refusal::Path(CsvRefusal::Header), " 302"),
-            (Refusal::Path(CsvRefusal::Fields { row: 1 }), " 303 1"),
-            (
-                Refusal::Path(CsvRefusal::Number { row: 1, column: 2 }),
-                " 304 1 2",
-            ),
-            (
-                Refusal::Path(CsvRefusal::Range { row: 1, column: 5 }),
-                " 305 1 5",
-            ),
-            (Refusal::Path(CsvRefusal::TooMany), " 307"),
-        ],
-    )
-}
+const TABLES: &str =
+    " 101 65539: the file of angle tables has 65539 bytes, but the tables take 65540
+ 102 7: sine 7 of the angle tables is past one
+ 103 8: tangent 8 of the angle tables is below the one before it
+ 104 9: angle 9 of the angle tables is past an eighth of a turn, or below the one before it
+ 105: the tangents of the angle tables give a view that is too wide or too narrow
+ 201 1048577: things: the table has 1048577 bytes, but may have at most 1048576
+ 202: things: the first line of the table is not its header
+ 203 1: things: row 1 of the table has another number of fields than the header
+ 204 1 2: things: row 1 of the table, column 2: the field is not a number
+ 205 3 4: things: row 3 of the table, column 4: the field is out of its range
+ 206 2: things: row 2 of the table has the thing type of an earlier row
+ 207: things: the table has too many rows
+ 301 1048577: path: the table has 1048577 bytes, but may have at most 1048576
+ 304 1 2: path: row 1 of the table, column 2: the field is not a number
+ 307: path: the table has too many rows
+ 1002: weapon layers: the first line of the table is not its header
+ 1005 1 3: weapon layers: row 1 of the table, column 3: the field is out of its range
+ 1007: weapon layers: the table has too many rows
+";
 
 #[test]
-fn weapon_layers_have_the_codes_1001_to_1005_and_1007(rt: HostRuntime) -> Result<(), Fail> {
-    are_told(
-        &rt,
-        &[
-            (
-                Refusal::Weapons(CsvRefusal::TooLong { bytes: 1048577 }),
-                " 1001 1048577",
-            ),
-            (Refusal::Weapons(CsvRefusal::Header), " 1002"),
-            (Refusal::Weapons(CsvRefusal::Fields { row: 6 }), " 1003 6"),
-            (
-                Refusal::Weapons(CsvRefusal::Number { row: 6, column: 4 }),
-                " 1004 6 4",
-            ),
-            (
-                Refusal::Weapons(CsvRefusal::Range { row: 1, column: 3 }),
-                " 1005 1 3",
-            ),
-            (Refusal::Weapons(CsvRefusal::TooMany), " 1007"),
-        ],
-    )
+fn tables_have_the_codes_101_to_307_and_1001_to_1007(rt: HostRuntime) -> Result<(), Fail> {
+    are_told(&rt, rt.alloc(), of_tables(), TABLES)
 }
 
-#[test]
-fn wads_have_the_codes_401_to_404(rt: HostRuntime) -> Result<(), Fail> {
-    are_told(
-        &rt,
-        &[
-            (Refusal::Wad(DirRefusal::NotWad { file: 0 }), " 401 0"),
-            (Refusal::Wad(DirRefusal::Short { file: 1 }), " 402 1"),
-            (
-                Refusal::Wad(DirRefusal::Entry { file: 0, index: 4 }),
-                " 403 0 4",
-            ),
-            (Refusal::Wad(DirRefusal::TooMany), " 404"),
-        ],
-    )
+fn of_wads() -> &'static [Refusal] {
+    &[
+        Refusal::Wad(DirRefusal::NotWad { file: 0 }),
+        Refusal::Wad(DirRefusal::Short { file: 1 }),
+        Refusal::Wad(DirRefusal::Entry { file: 2, index: 17 }),
+        Refusal::Wad(DirRefusal::TooMany),
+        Refusal::Art(ArtRefusal::Colormap),
+        Refusal::Art(ArtRefusal::Playpal),
+        Refusal::Map(MapRefusal::NoMap),
+        Refusal::Map(MapRefusal::Size { lump: 0 }),
+        Refusal::Map(MapRefusal::Size { lump: 1 }),
+        Refusal::Map(MapRefusal::Size { lump: 2 }),
+        Refusal::Map(MapRefusal::Size { lump: 3 }),
+        Refusal::Map(MapRefusal::Size { lump: 5 }),
+        Refusal::Map(MapRefusal::Size { lump: 6 }),
+        Refusal::Map(MapRefusal::Size { lump: 7 }),
+        Refusal::Map(MapRefusal::NoLeaf),
+        Refusal::Map(MapRefusal::Index {
+            lump: 4,
+            record_no: 731,
+            field: 3,
+        }),
+        Refusal::Map(MapRefusal::EmptyLeaf { leaf: 45 }),
+        Refusal::Map(MapRefusal::NodeTwice { node: 235 }),
+        Refusal::Map(MapRefusal::TooDeep { node: 1025 }),
+    ]
 }
 
-#[test]
-fn lumps_of_colours_have_the_codes_501_and_502(rt: HostRuntime) -> Result<(), Fail> {
-    are_told(
-        &rt,
-        &[
-            (Refusal::Art(ArtRefusal::Colormap), " 501"),
-            (Refusal::Art(ArtRefusal::Playpal), " 502"),
-        ],
-    )
-}
+const WADS: &str = " 401 0: WAD 0 does not begin with IWAD or PWAD
+ 402 1: WAD 1 ends before its header or its directory does
+ 403 2 17: WAD 2 ends before the lump of directory entry 17 does
+ 404: the WADs list more than 65535 lumps
+ 501: COLORMAP is absent, or has fewer than 8192 bytes
+ 502: PLAYPAL is absent, or has fewer than 768 bytes
+ 601: no WAD has the map's label with the eight lumps THINGS to SECTORS behind it
+ 602 0: THINGS has more than 65535 records
+ 602 1: LINEDEFS has more than 65535 records
+ 602 2: SIDEDEFS has more than 65535 records
+ 602 3: VERTEXES has more than 65535 records
+ 602 5: SSECTORS has more than 65535 records
+ 602 6: NODES has more than 65535 records
+ 602 7: SECTORS has more than 65535 records
+ 603: SSECTORS has no record
+ 604 4 731 3: SEGS record 731: field 3 names nothing that is there
+ 605 45: SSECTORS record 45 has no seg
+ 606 235: NODES record 235 is reached a second time from the root
+ 607 1025: NODES record 1025 is more than 1024 deep
+";
 
 #[test]
-fn maps_have_the_codes_601_to_607(rt: HostRuntime) -> Result<(), Fail> {
-    let index = MapRefusal::Index {
-        lump: 4,
-        record_no: 731,
-        field: 3,
-    };
-    are_told(
-        &rt,
-        &[
-            (Refusal::Map(MapRefusal::NoMap), " 601"),
-            (Refusal::Map(MapRefusal::Size { lump: 5 }), " 602 5"),
-            (Refusal::Map(MapRefusal::NoLeaf), " 603"),
-            (Refusal::Map(index), " 604 4 731 3"),
-            (Refusal::Map(MapRefusal::EmptyLeaf { leaf: 45 }), " 605 45"),
-            (Refusal::Map(MapRefusal::NodeTwice { node: 2 }), " 606 2"),
-            (
-                Refusal::Map(MapRefusal::TooDeep { node: 1025 }),
-                " 607 1025",
-            ),
-        ],
-    )
+fn wads_and_maps_have_the_codes_401_to_607(rt: HostRuntime) -> Result<(), Fail> {
+    are_told(&rt, rt.alloc(), of_wads(), WADS)
 }
 
-#[test]
-fn textures_have_the_codes_701_to_705(rt: HostRuntime) -> Result<(), Fail> {
-    are_told(
-        &rt,
-        &[
-            (Refusal::Texture(TexRefusal::Pnames), " 701"),
-            (Refusal::Texture(TexRefusal::Lump { which: 1 }), " 702 1"),
-            (Refusal::Texture(TexRefusal::Entry { number: 0 }), " 703 0"),
-            (
-                Refusal::Texture(TexRefusal::MissingPatch { texture: 2 }),
-                " 704 2",
-            ),
-            (
-                Refusal::Texture(TexRefusal::TooBig { texture: 83 }),
-                " 705 83",
-            ),
-        ],
-    )
+fn of_art() -> &'static [Refusal] {
+    &[
+        Refusal::Texture(TexRefusal::Pnames),
+        Refusal::Texture(TexRefusal::Lump { which: 1 }),
+        Refusal::Texture(TexRefusal::Entry { number: 0 }),
+        Refusal::Texture(TexRefusal::MissingPatch { texture: 2 }),
+        Refusal::Texture(TexRefusal::TooBig { texture: 83 }),
+        Refusal::Sprite(SpriteRefusal::NoFrame { thing: 52 }),
+        Refusal::Sprite(SpriteRefusal::MissingRotation {
+            thing: 7,
+            rotation: 3,
+        }),
+        Refusal::Sprite(SpriteRefusal::BadPatch { lump: 1204 }),
+        Refusal::Scene(SceneRefusal::SideTexture { side: 648 }),
+        Refusal::Scene(SceneRefusal::SkyTexture),
+        Refusal::Scene(SceneRefusal::SectorFlat { sector: 87 }),
+        Refusal::Scene(SceneRefusal::Shadow { thing: 0 }),
+        Refusal::Scene(SceneRefusal::Middle { side: 11 }),
+        Refusal::Scene(SceneRefusal::FlatName),
+        Refusal::Trim(TrimRefusal::MarkName { lump: 26 }),
+        Refusal::Trim(TrimRefusal::TrimTooMany { count: 65540 }),
+        Refusal::Trim(TrimRefusal::TrimTooLarge { bytes: 4294967300 }),
+        Refusal::WeaponArt(WeaponRefusal::NoFrame { row: 1 }),
+        Refusal::WeaponArt(WeaponRefusal::MissingRotation {
+            row: 9,
+            rotation: 1,
+        }),
+        Refusal::WeaponArt(WeaponRefusal::BadPatch { lump: 1204 }),
+    ]
 }
 
-#[test]
-fn pictures_of_things_have_the_codes_801_to_803(rt: HostRuntime) -> Result<(), Fail> {
-    let rotation = SpriteRefusal::MissingRotation {
-        thing: 7,
-        rotation: 3,
-    };
-    are_told(
-        &rt,
-        &[
-            (
-                Refusal::Sprite(SpriteRefusal::NoFrame { thing: 52 }),
-                " 801 52",
-            ),
-            (Refusal::Sprite(rotation), " 802 7 3"),
-            (
-                Refusal::Sprite(SpriteRefusal::BadPatch { lump: 1204 }),
-                " 803 1204",
-            ),
-        ],
-    )
-}
+const ART: &str = " 701: PNAMES is absent, or shorter than its count of names needs
+ 702 1: TEXTURE1 is absent or short, or textures pass 32767
+ 703 0: texture 0 passes the end of its lump, or has a width or height below 1
+ 704 2: texture 2 has a patch that PNAMES or the WADs lack, or that is not a patch
+ 705 83: texture 83: its composed columns pass 65536 bytes
+ 801 52: thing 52: no lump shows the sprite frame that it needs
+ 802 7 3: thing 7: no lump shows its sprite frame from rotation 3
+ 803 1204: lump 1204 has the name of a sprite, but is not a patch
+ 901 648: SIDEDEFS record 648 names a texture that is in neither TEXTURE1 nor TEXTURE2
+ 902: the map's sky texture is in neither TEXTURE1 nor TEXTURE2
+ 903 87: SECTORS record 87 names a flat that no WAD has
+ 904 0: THINGS record 0 would be drawn as a shadow, which is left out here
+ 905 11: SIDEDEFS record 11: a column of its masked mid texture has not exactly one patch
+ 906: no WAD has a flat of that name
+ 907 26: lump 26 has the name of a mark, so it cannot stand in a trimmed file
+ 908 65540: the trimmed file would have 65540 entries, but may have at most 65535
+ 909 4294967300: the trimmed file would have 4294967300 bytes, but may have at most 4294967295
+ 1011 1: weapon layer 1: no sprite lump has its frame
+ 1012 9 1: weapon layer 9: no sprite lump has rotation 1 of its frame
+ 1013 1204: lump 1204 is a weapon's picture, but no patch
+";
 
 #[test]
-fn scenes_have_the_codes_901_to_906(rt: HostRuntime) -> Result<(), Fail> {
-    are_told(
-        &rt,
-        &[
-            (
-                Refusal::Scene(SceneRefusal::SideTexture { side: 648 }),
-                " 901 648",
-            ),
-            (Refusal::Scene(SceneRefusal::SkyTexture), " 902"),
-            (
-                Refusal::Scene(SceneRefusal::SectorFlat { sector: 87 }),
-                " 903 87",
-            ),
-            (Refusal::Scene(SceneRefusal::Shadow { thing: 0 }), " 904 0"),
-            (Refusal::Scene(SceneRefusal::Middle { side: 11 }), " 905 11"),
-            (Refusal::Scene(SceneRefusal::FlatName), " 906"),
-        ],
-    )
-}
-
-#[test]
-fn trimmed_files_have_the_codes_907_to_909(rt: HostRuntime) -> Result<(), Fail> {
-    are_told(
-        &rt,
-        &[
-            (Refusal::Trim(TrimRefusal::MarkName { lump: 26 }), " 907 26"),
-            (
-                Refusal::Trim(TrimRefusal::TrimTooMany { count: 65540 }),
-                " 908 65540",
-            ),
-            (
-                Refusal::Trim(TrimRefusal::TrimTooLarge { bytes: 4294967300 }),
-                " 909 4294967300",
-            ),
-        ],
-    )
-}
-
-#[test]
-fn pictures_of_weapon_layers_have_the_codes_1011_to_1013(rt: HostRuntime) -> Result<(), Fail> {
-    let rotation = WeaponRefusal::MissingRotation {
-        row: 9,
-        rotation: 1,
-    };
-    are_told(
-        &rt,
-        &[
-            (
-                Refusal::WeaponArt(WeaponRefusal::NoFrame { row: 1 }),
-                " 1011 1",
-            ),
-            (Refusal::WeaponArt(rotation), " 1012 9 1"),
-            (
-                Refusal::WeaponArt(WeaponRefusal::BadPatch { lump: 1204 }),
-                " 1013 1204",
-            ),
-        ],
-    )
+fn art_and_scenes_have_the_codes_701_to_909_and_1011_to_1013(rt: HostRuntime) -> Result<(), Fail> {
+    are_told(&rt, rt.alloc(), of_art(), ART)
 }
