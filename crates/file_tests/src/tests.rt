@@ -1,20 +1,14 @@
 // The tests by crates, and the files that several of them read.
 mod angle_tables_tests;
-mod composite_tests;
 mod files;
-mod flats_tests;
 mod frame_writer_tests;
-mod level_audit_tests;
-mod level_maker_tests;
 mod level_tests;
+mod levels;
 mod lump_cache_tests;
-mod lump_fetch_tests;
-mod map_lumps_tests;
 mod outside_tests;
 mod patch_columns_tests;
 mod placed_things_tests;
 mod scene_files_tests;
-mod scene_load_tests;
 mod side_textures_tests;
 mod sprite_book_tests;
 mod texture_build_tests;

@@ -1,44 +1,29 @@
-// What several tests read: a shelf of one file and its directory, and bytes that are put together;
-// and a refusal that several compare.
+// What several tests read: a shelf of one file, its directory, and a file with other bytes.
 ghost use Rattle.std.specs.Prelude.{◌<◌, ◌^◌, IfOk, length};
 
-use level_rules::MapRefusal;
-use outside::{MemoryFile, MemoryShelf, Shelf};
+use outside::{MemoryShelf, Shelf};
 use std::alloc::{AllocError, Global};
 use std::test::Fail;
+use test_files::{file_of, put_over};
 use wad_dir::Directory;
 
 // The call of a shelf that fails where none does: calls are numbered from 1.
 pub(crate) const NO_CALL: u64 = 0;
 
-// A file with some bytes changed, each by its offset.
-pub(crate) fn changed_bytes(
+// Other bytes of a file, each from its offset on.
+pub(crate) type Changes<'a> = &'a [(usize, &'a [u8])];
+
+// A file with other bytes.
+pub(crate) fn changed(
     alloc: Global,
     file: &[u8],
-    changes: &[(usize, u8)],
+    changes: Changes<'_>,
 ) -> Result<Vec<u8>, AllocError> {
     let mut bytes = file.to_vec(alloc)?;
     for (offset, new) in changes {
-        if let Some(old) = bytes.get_mut(*offset) {
-            *old = *new;
-        }
+        put_over(&mut bytes, *offset, new);
     }
     Ok(bytes)
-}
-
-// The bytes of a lump of numbers of 16 bits.
-pub(crate) fn bytes_of(alloc: Global, words: &[i16]) -> Result<Vec<u8>, AllocError> {
-    let mut bytes = Vec::new(alloc);
-    for word in words {
-        bytes.extend_from_slice(&word.to_le_bytes())?;
-    }
-    Ok(bytes)
-}
-
-// A file of that name.
-pub(crate) fn file_of(alloc: Global, name: &str, bytes: Vec<u8>) -> Result<MemoryFile, AllocError> {
-    let name = name.to_string(alloc)?;
-    Ok(MemoryFile { name, bytes })
 }
 
 // A shelf of a file of these bytes, whose call of that number fails.
@@ -54,17 +39,8 @@ pub(crate) fn shelf_of(
 
 // The directory of that file, which takes the first four calls.
 pub(crate) fn load_directory(alloc: Global, shelf: &mut MemoryShelf) -> Result<Directory, Fail>
-    ensures { IfOk result (λ dir. length dir.lumps < 2 ^ 16) }
+    ensures { IfOk result (λ dir. length dir.now.lumps < 2 ^ 16) }
 {
     let number = shelf.find("file.wad")?;
     Ok(Directory::load(alloc, shelf, &[number])?)
-}
-
-// A field of a record names nothing that is there.
-pub(crate) fn index(lump: u64, record_no: u64, field: u64) -> MapRefusal {
-    MapRefusal::Index {
-        lump,
-        record_no,
-        field,
-    }
 }

@@ -2,20 +2,22 @@
 ghost use Rattle.std.specs.Prelude.{◌<◌, IfSome, length};
 
 use crate::tests::files::{NO_CALL, load_directory, shelf_of};
-use lump_cache::{CacheFault, LumpCache};
+use lump_cache::{CacheFault, LumpCache, fetch_named, live_bytes};
+use outside::MemoryShelf;
 use std::alloc::Global;
 use std::test::Fail;
 use wad_dir::{Directory, LumpNo, Name8};
-use zone_heap::{CompositeKind, LumpKind, Slot, Tag, ZoneFigures};
+use zone_heap::{CompositeKind, LumpKind, Slot, Tag};
 
-// The lump FIVE with the bytes 1 to 5 at 12, the empty lump NONE, LONG of 45 bytes at 17, and the
-// directory at 62.
-fn wad() -> &'static [u8; 110] {
-    b"PWAD\x03\0\0\0\x3e\0\0\0\x01\x02\x03\x04\x05\
+// A lump FIVE with the bytes 1 to 5 at 12, LONG of 45 bytes at 19, the empty lump NONE, a later FIVE
+// with 6 and 7 at 17, and the directory at 64.
+fn wad() -> &'static [u8; 128] {
+    b"PWAD\x04\0\0\0\x40\0\0\0\x01\x02\x03\x04\x05\x06\x07\
 \0\0\0\0\0\0\0\0\0\0\0\0\0\0\0\0\0\0\0\0\0\0\0\0\0\0\0\0\0\0\0\0\0\0\0\0\0\0\0\0\0\0\0\0\0\
 \x0c\0\0\0\x05\0\0\0FIVE\0\0\0\0\
-\x11\0\0\0\0\0\0\0NONE\0\0\0\0\
-\x11\0\0\0\x2d\0\0\0LONG\0\0\0\0"
+\x13\0\0\0\x2d\0\0\0LONG\0\0\0\0\
+\x13\0\0\0\0\0\0\0NONE\0\0\0\0\
+\x11\0\0\0\x02\0\0\0five\0\0\0\0"
 }
 
 // What a zone of 64 bytes says of LONG.
@@ -24,22 +26,12 @@ const FULL: CacheFault = CacheFault::ZoneFull {
     widest: 64,
 };
 
-fn lump(dir: &Directory, name: &str) -> Option<LumpNo>
-    ensures { IfSome result (λ lump. lump.0 < length dir.now.lumps) }
-{
-    let name = Name8::from_text(name)?;
-    dir.last(&name)
-}
+// What a lump asked for by name comes to, whether it then has these bytes, and the bytes of the zone
+// that are free.
+type Answer = (Result<Option<LumpNo>, CacheFault>, bool, u32);
 
-// What a first request comes to, whether the lump then has these bytes, and the figures.
-#[derive(Drop)]
-struct Answer {
-    fault: Option<CacheFault>,
-    is_wanted: bool,
-    figures: ZoneFigures,
-}
-
-fn fetched(
+// What comes of the name in a zone of that size, where that call of the shelf fails.
+fn asked(
     alloc: Global,
     failing: u64,
     size: u32,
@@ -48,42 +40,55 @@ fn fetched(
 ) -> Result<Answer, Fail> {
     let mut shelf = shelf_of(alloc, wad().to_vec(alloc)?, failing)?;
     let dir = load_directory(alloc, &mut shelf)?;
-    let lump = lump(&dir, name).ok_or("a lump")?;
-    let mut cache = LumpCache::new(alloc, &dir, size, 1)?;
-    let fault = cache.fetch(&mut shelf, &dir, lump, Tag::Static).err();
-    Ok(Answer {
-        fault,
-        is_wanted: cache.bytes(lump) == wanted,
-        figures: cache.zone().figures(),
-    })
+    asked_over(alloc, &dir, &mut shelf, size, name, wanted)
 }
 
-fn figures(used: u32, free: u32) -> ZoneFigures {
-    ZoneFigures {
-        used,
-        purgeable: 0,
-        free,
-        purges: 0,
-    }
+// The same, with the lumps of this directory.
+fn asked_over(
+    alloc: Global,
+    dir: &Directory,
+    shelf: &mut MemoryShelf,
+    size: u32,
+    name: &str,
+    wanted: Option<&[u8]>,
+) -> Result<Answer, Fail>
+    requires { length dir.now.lumps < 65536 }
+{
+    let mut cache = LumpCache::new(alloc, dir, size, 0)?;
+    let name = Name8::from_text(name).ok_or("a name")?;
+    let lump = fetch_named(&mut cache, dir, shelf, &name);
+    let is_wanted = match lump {
+        Ok(lump) => live_bytes(&cache, lump) == wanted,
+        Err(_) => wanted.is_none(),
+    };
+    Ok((lump, is_wanted, cache.zone().figures().free))
 }
 
 #[test]
-fn a_lump_is_read_where_it_has_bytes_and_room(rt: HostRuntime) -> Result<(), Fail> {
-    let read_fault = Some(CacheFault::ReadFault);
-    let five: &[u8] = &[1, 2, 3, 4, 5];
-    let none: &[u8] = &[];
-    for (failing, size, name, fault, wanted, after) in [
-        (NO_CALL, 4096, "five", None, Some(five), figures(32, 4064)),
-        (5, 4096, "five", read_fault, None, figures(0, 4096)),
-        (5, 4096, "none", None, Some(none), figures(24, 4072)),
-        (NO_CALL, 64, "long", Some(FULL), None, figures(0, 64)),
+fn the_last_lump_of_a_name_is_read_where_it_has_bytes_and_room(
+    rt: HostRuntime,
+) -> Result<(), Fail> {
+    let read_fault = Err(CacheFault::ReadFault);
+    let later = Some([6, 7].as_slice());
+    let empty = Some([].as_slice());
+    for (failing, size, name, lump, bytes, free) in [
+        (NO_CALL, 4096, "five", Ok(Some(LumpNo(3))), later, 4068),
+        (5, 4096, "five", read_fault, None, 4096),
+        (5, 4096, "none", Ok(Some(LumpNo(2))), empty, 4072),
+        (NO_CALL, 4096, "six", Ok(None), None, 4096),
+        (NO_CALL, 64, "long", Err(FULL), None, 64),
     ] {
-        let answer = fetched(rt.alloc(), failing, size, name, wanted)?;
-        assert_eq!(rt; answer.fault, fault);
-        assert!(rt; answer.is_wanted, "at {name}");
-        assert_eq!(rt; answer.figures, after);
+        let answer = asked(rt.alloc(), failing, size, name, bytes)?;
+        assert_eq!(rt; answer, (lump, true, free), "{name}");
     }
     Ok(())
+}
+
+fn lump(dir: &Directory, name: &str) -> Option<LumpNo>
+    ensures { IfSome result (λ lump. lump.0 < length dir.now.lumps) }
+{
+    let name = Name8::from_text(name)?;
+    dir.last(&name)
 }
 
 fn copy(from: &[u8], to: &mut [u8]) {
@@ -102,11 +107,11 @@ fn a_composite_is_built_and_dropped(rt: HostRuntime) -> Result<(), Fail> {
     let target: Slot<CompositeKind> = Slot::new(0);
     let mut cache = LumpCache::new(alloc, &dir, 4096, 1)?;
     assert!(rt; !cache.zone().is_live(target));
-    cache.take_composite(0, 5)?;
+    cache.take_composite(0, 2)?;
     cache.fetch(&mut shelf, &dir, five, Tag::Level)?;
     assert!(rt; cache.zone().is_live(source) && cache.zone().is_live(target));
     cache.lump_and_composite(five, 0, copy);
-    assert!(rt; cache.composite(0) == Some([1, 2, 3, 4, 5].as_slice()));
+    assert!(rt; cache.composite(0) == Some([6, 7].as_slice()));
     cache.drop_composite(0);
     assert!(rt; cache.composite(0).is_none());
     Ok(())

@@ -5,14 +5,9 @@ use lump_rules::Name8;
 use std::test::Fail;
 use texture_lists::TexNo;
 
-// The sky of the map that these eight bytes name.
-fn sky_of(map: &[u8; 8]) -> [u8; 8] {
-    sky_name(&Name8::from_bytes(*map)).bytes()
-}
-
 #[test]
-fn the_skies_of_maps(rt: HostRuntime) -> Result<(), Fail> {
-    let rows = [
+fn maps_have_their_skies(rt: HostRuntime) {
+    for (map, sky) in [
         (b"E1M1\0\0\0\0", b"SKY1\0\0\0\0"),
         (b"e4m8\0\0\0\0", b"SKY4\0\0\0\0"),
         (b"E5M1\0\0\0\0", b"SKY1\0\0\0\0"),
@@ -22,11 +17,9 @@ fn the_skies_of_maps(rt: HostRuntime) -> Result<(), Fail> {
         (b"MAP20\0\0\0", b"SKY2\0\0\0\0"),
         (b"MAP21\0\0\0", b"SKY3\0\0\0\0"),
         (b"ARENA\0\0\0", b"SKY1\0\0\0\0"),
-    ];
-    for (map, sky) in rows {
-        assert_eq!(rt; sky_of(map), *sky);
+    ] {
+        assert_eq!(rt; sky_name(&Name8::from_bytes(*map)).bytes(), *sky);
     }
-    Ok(())
 }
 
 fn side(top: u16, bottom: u16, middle: u16) -> SideTextures {

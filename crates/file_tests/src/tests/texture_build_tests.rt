@@ -3,7 +3,7 @@ ghost use Rattle.std.specs.Prelude.{◌≡◌, ◌<◌, ◌≤◌, ◌^◌, All,
 ghost use Rattle.art_rules.specs.Textures.{texture_at};
 ghost use Rattle.texture_build.specs.Views.{ArePatchesThere, IsPrepared, prepared_texture};
 
-use crate::tests::files::{NO_CALL, changed_bytes, load_directory, shelf_of};
+use crate::tests::files::{Changes, NO_CALL, changed, load_directory, shelf_of};
 use lump_cache::LumpCache;
 use outside::MemoryShelf;
 use std::alloc::{AllocError, Global};
@@ -35,9 +35,6 @@ MISS\0\0\0\0\0\0\0\0\x02\0\x01\0\0\0\0\0\x01\0\
 \xda\0\0\0\x16\0\0\0PATCHB\0\0"
 }
 
-// Two changes that change nothing.
-const UNCHANGED: [(usize, u8); 2] = [(0, b'P'); 2];
-
 const GOOD: TexNo = TexNo(0);
 
 // What is read from a shelf. Each part is in a box, which a function drops by one call.
@@ -48,9 +45,9 @@ struct Loaded {
     textures: Box<Textures>,
 }
 
-// A shelf of the file with two bytes changed.
-fn changed_shelf(alloc: Global, changes: [(usize, u8); 2]) -> Result<Box<MemoryShelf>, AllocError> {
-    let bytes = changed_bytes(alloc, wad(), &changes)?;
+// A shelf of the file with other bytes.
+fn changed_shelf(alloc: Global, changes: Changes<'_>) -> Result<Box<MemoryShelf>, AllocError> {
+    let bytes = changed(alloc, wad(), changes)?;
     Ok(Box::new(alloc, shelf_of(alloc, bytes, NO_CALL)?)?)
 }
 
@@ -119,42 +116,6 @@ fn prepare_one(
     Ok(())
 }
 
-// Looks at what GOOD is made of, once it is prepared.
-fn look_at_good(
-    rt: &impl Abort,
-    alloc: Global,
-    l: &mut Loaded,
-    shelf: &mut MemoryShelf,
-) -> Result<(), Fail>
-    requires slots { length l.old.dir.value.lumps ≤ l.old.cache.value.lumps }
-    requires count { length l.old.textures.value.lists.textures ≡ 3 }
-{
-    prepare_one(alloc, GOOD, l, shelf)?;
-    look_at_sources(rt, &l.textures, GOOD);
-    look_at_columns(rt, &l.textures, GOOD);
-    Ok(())
-}
-
-// Looks at a texture as a whole, and whose bytes its columns have.
-fn look_at_sources(rt: &impl Abort, textures: &Textures, good: TexNo)
-    requires below { good.0 < length textures.now.lists.textures }
-    requires prepared { IsPrepared textures.now good.0 }
-{
-    assert_eq!(rt; sizes_of(textures, good), (5, 3, 3, 3));
-    assert_eq!(rt;
-        patches_of(textures),
-        [Some(LumpNo(2)), Some(LumpNo(3)), None]
-    );
-    let sources = [
-        ColumnSource::Lump(LumpNo(2)),
-        ColumnSource::Composite(good),
-        ColumnSource::Lump(LumpNo(3)),
-        ColumnSource::Lump(LumpNo(2)),
-        ColumnSource::Lump(LumpNo(3)),
-    ];
-    assert_eq!(rt; sources_of(textures, good), sources);
-}
-
 // The width, the height, the mask and the bytes of the composite of a texture.
 fn sizes_of(textures: &Textures, tex: TexNo) -> (u16, u16, u16, u32)
     requires below { tex.0 < length textures.now.lists.textures }
@@ -166,16 +127,6 @@ fn sizes_of(textures: &Textures, tex: TexNo) -> (u16, u16, u16, u32)
         textures.mask(tex),
         textures.composite_size(tex),
     )
-}
-
-// The first patches of all prepared textures, and where there are fewer, none.
-fn patches_of(textures: &Textures) -> [Option<LumpNo>; 3] {
-    let patches = textures.patches();
-    [
-        patches.first().copied(),
-        patches.get(1).copied(),
-        patches.get(2).copied(),
-    ]
 }
 
 // Whose bytes the columns 0, 2, 3, 4 and -1 of a texture have.
@@ -191,51 +142,41 @@ fn sources_of(textures: &Textures, tex: TexNo) -> [ColumnSource; 5]
     ]
 }
 
-// Looks at which columns of a texture of five have one patch.
-fn look_at_columns(rt: &impl Abort, textures: &Textures, good: TexNo)
-    requires below { good.0 < length textures.now.lists.textures }
-    requires prepared { IsPrepared textures.now good.0 }
-    requires listed { length (prepared_texture textures.now good.0).columns
-        ≡ (texture_at textures.now.lists.textures good.0).width }
-{
-    assert_eq!(rt; textures.width(good), 5);
-    let singles = [
-        textures.single(good, 0),
-        textures.single(good, 2),
-        textures.single(good, 3),
-        textures.single(good, 4),
-    ];
-    assert_eq!(rt; singles, [true, false, true, false]);
-}
-
-#[test]
-fn each_column_has_its_source(rt: HostRuntime) -> Result<(), Fail> {
-    let alloc = rt.alloc();
-    let mut shelf = changed_shelf(alloc, UNCHANGED)?;
-    let mut l = load(alloc, &mut shelf)?;
-    look_at_good(&rt, alloc, &mut l, &mut shelf)
-}
-
-// The first texels of a column of GOOD.
-fn texels(alloc: Global, col: i32) -> Result<[u8; 3], Fail> {
-    let mut shelf = changed_shelf(alloc, UNCHANGED)?;
-    let mut l = load(alloc, &mut shelf)?;
-    texels_in(alloc, col, &mut l, &mut shelf)
-}
-
-// The same, once GOOD is prepared.
-fn texels_in(
+// Looks at what GOOD is made of, once it is prepared.
+fn look_at_good(
+    rt: &impl Abort,
     alloc: Global,
-    col: i32,
     l: &mut Loaded,
     shelf: &mut MemoryShelf,
-) -> Result<[u8; 3], Fail>
+) -> Result<(), Fail>
     requires slots { length l.old.dir.value.lumps ≤ l.old.cache.value.lumps }
     requires composites { l.old.cache.value.composites ≡ 3 }
     requires count { length l.old.textures.value.lists.textures ≡ 3 }
 {
     prepare_one(alloc, GOOD, l, shelf)?;
-    texels_of(&l.textures, GOOD, col, &l.dir, &mut l.cache, shelf)
+    assert_eq!(rt; sizes_of(&l.textures, GOOD), (5, 3, 3, 3));
+    assert_eq!(rt; l.textures.patches(), [LumpNo(2), LumpNo(3)].as_slice());
+    let sources = [
+        ColumnSource::Lump(LumpNo(2)),
+        ColumnSource::Composite(GOOD),
+        ColumnSource::Lump(LumpNo(3)),
+        ColumnSource::Lump(LumpNo(2)),
+        ColumnSource::Lump(LumpNo(3)),
+    ];
+    assert_eq!(rt; sources_of(&l.textures, GOOD), sources);
+    for (col, texels) in [(0, [7, 0, 255]), (2, [9, 0, 0]), (3, [9, 0, 255])] {
+        let found = texels_of(&l.textures, GOOD, col, &l.dir, &mut l.cache, shelf)?;
+        assert_eq!(rt; found, texels);
+    }
+    Ok(())
+}
+
+#[test]
+fn each_column_has_its_source_and_texels(rt: HostRuntime) -> Result<(), Fail> {
+    let alloc = rt.alloc();
+    let mut shelf = changed_shelf(alloc, &[])?;
+    let mut l = load(alloc, &mut shelf)?;
+    look_at_good(&rt, alloc, &mut l, &mut shelf)
 }
 
 // The first texels of a column of a prepared texture, once it is live.
@@ -257,28 +198,8 @@ fn texels_of(
     Ok([column.texel(0), column.texel(1), column.texel(2)])
 }
 
-#[test]
-fn a_column_is_lent(rt: HostRuntime) -> Result<(), Fail> {
-    for (col, first) in [(0, [7, 0, 255]), (2, [9, 0, 0]), (3, [9, 0, 255])] {
-        assert_eq!(rt; texels(rt.alloc(), col)?, first);
-    }
-    Ok(())
-}
-
-fn composite_size(
-    alloc: Global,
-    changes: [(usize, u8); 2],
-    wanted: [TexNo; 2],
-) -> Result<Result<u32, TexFault>, Fail>
-    requires { All (λ tex. tex.0 < 3) wanted }
-{
-    let mut shelf = changed_shelf(alloc, changes)?;
-    let mut l = load(alloc, &mut shelf)?;
-    Ok(composite_size_in(alloc, wanted, &mut l, &mut shelf))
-}
-
 // The bytes of the composite of the first of two wanted textures, or what stops them.
-fn composite_size_in(
+fn composite_size(
     alloc: Global,
     wanted: [TexNo; 2],
     l: &mut Loaded,
@@ -293,77 +214,38 @@ fn composite_size_in(
     Ok(l.textures.composite_size(wanted[0]))
 }
 
-// Compares the bytes of the composite of the first of two wanted textures, or what stops them.
-fn compare_size(
-    rt: &impl Abort,
+// The same, of the file with other bytes.
+fn size_of(
     alloc: Global,
-    changes: [(usize, u8); 2],
+    changes: Changes<'_>,
     wanted: [TexNo; 2],
-    size: Result<u32, TexFault>,
-) -> Result<(), Fail>
+) -> Result<Result<u32, TexFault>, Fail>
     requires { All (λ tex. tex.0 < 3) wanted }
 {
-    let found = composite_size(alloc, changes, wanted)?;
-    assert_eq!(rt; found, size);
-    Ok(())
+    let mut shelf = changed_shelf(alloc, changes)?;
+    let mut l = load(alloc, &mut shelf)?;
+    Ok(composite_size(alloc, wanted, &mut l, &mut shelf))
 }
 
+// LIMIT has as many bytes as a texture may have; with a row more it is too big. Of MISS the number of
+// its patch or the patch is none, and of two textures the one of the least number is told.
 #[test]
 fn the_least_refusal_stands(rt: HostRuntime) -> Result<(), Fail> {
     let alloc = rt.alloc();
-    let limit = TexNo(1);
-    let miss = TexNo(2);
-    let same = (0, b'P');
-    let missing = TexFault::Refused(TexRefusal::MissingPatch { texture: 2 });
-    let big = TexFault::Refused(TexRefusal::TooBig { texture: 1 });
-    for (changes, wanted, size) in [
-        ([same, same], [limit, limit], Ok(65536)),
-        ([(112, 1), same], [limit, limit], Err(big)),
-        ([same, same], [miss, limit], Err(missing)),
-        ([(186, 9), same], [miss, miss], Err(missing)),
-        ([(186, 1), (218, 0)], [miss, miss], Err(missing)),
-        ([(112, 1), same], [miss, limit], Err(big)),
-        ([(112, 1), same], [limit, miss], Err(big)),
-    ] {
-        compare_size(&rt, alloc, changes, wanted, size)?;
-    }
-    Ok(())
-}
-
-// Whether the texture of a number is prepared, and the patches after that.
-fn patches_after(
-    alloc: Global,
-    tex: TexNo,
-    l: &mut Loaded,
-    shelf: &mut MemoryShelf,
-) -> (bool, [Option<LumpNo>; 3])
-    requires slots { length l.old.dir.value.lumps ≤ l.old.cache.value.lumps }
-    requires below { tex.0 < length l.old.textures.value.lists.textures }
-    ensures slots { length l.new.dir.value.lumps ≤ l.new.cache.value.lumps }
-    ensures lists { l.new.textures.value.lists ≡ l.old.textures.value.lists }
-{
-    let prepared = prepare_one(alloc, tex, l, shelf).is_ok();
-    (prepared, patches_of(&l.textures))
-}
-
-// Prepares LIMIT, MISS and then GOOD, and looks at their patches.
-fn prepare_by_turns(rt: &impl Abort, alloc: Global, l: &mut Loaded, shelf: &mut MemoryShelf)
-    requires slots { length l.old.dir.value.lumps ≤ l.old.cache.value.lumps }
-    requires count { length l.old.textures.value.lists.textures ≡ 3 }
-{
-    let limit = patches_after(alloc, TexNo(1), l, shelf);
-    let miss = patches_after(alloc, TexNo(2), l, shelf);
-    let good = patches_after(alloc, GOOD, l, shelf);
-    assert_eq!(rt; limit, (true, [Some(LumpNo(3)), None, None]));
-    assert_eq!(rt; miss, (false, [None; 3]));
-    assert_eq!(rt; good, (true, [Some(LumpNo(2)), Some(LumpNo(3)), None]));
-}
-
-#[test]
-fn textures_are_prepared_again(rt: HostRuntime) -> Result<(), Fail> {
-    let alloc = rt.alloc();
-    let mut shelf = changed_shelf(alloc, UNCHANGED)?;
-    let mut l = load(alloc, &mut shelf)?;
-    prepare_by_turns(&rt, alloc, &mut l, &mut shelf);
+    let (limit, miss) = (TexNo(1), TexNo(2));
+    let missing = Err(TexFault::Refused(TexRefusal::MissingPatch { texture: 2 }));
+    let big = Err(TexFault::Refused(TexRefusal::TooBig { texture: 1 }));
+    let taller: (usize, &[u8]) = (112, b"\x01");
+    let number: (usize, &[u8]) = (186, b"\x09");
+    let no_patch: (usize, &[u8]) = (218, b"\0");
+    assert_eq!(rt; size_of(alloc, &[], [limit, limit])?, Ok(65536));
+    assert_eq!(rt; size_of(alloc, &[taller], [miss, limit])?, big);
+    assert_eq!(rt; size_of(alloc, &[taller], [limit, miss])?, big);
+    assert_eq!(rt; size_of(alloc, &[], [miss, limit])?, missing);
+    assert_eq!(rt; size_of(alloc, &[number], [miss, miss])?, missing);
+    assert_eq!(rt;
+        size_of(alloc, &[(186, b"\x01"), no_patch], [miss, miss])?,
+        missing
+    );
     Ok(())
 }

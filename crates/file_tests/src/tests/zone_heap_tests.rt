@@ -4,18 +4,16 @@ use zone_heap::*;
 
 #[test]
 fn a_zone_has_a_size_in_range_and_of_whole_words(rt: HostRuntime) {
-    assert!(rt; matches!(Zone::new(rt.alloc(), 60, 2, 2), Err(ZoneMake::BadSize)));
-    assert!(rt; matches!(Zone::new(rt.alloc(), 4098, 2, 2), Err(ZoneMake::BadSize)));
-    let Ok(zone) = Zone::new(rt.alloc(), 4096, 2, 2) else {
-        panic!(rt; "no memory");
-    };
-    let figures = zone.figures();
-    assert!(rt; figures.free == 4096 && figures.used == 0 && figures.purges == 0);
+    for (size, is_bad) in [(60, true), (64, false), (4098, true), (4096, false)] {
+        let made = Zone::new(rt.alloc(), size, 2, 2);
+        assert_eq!(rt; matches!(made, Err(ZoneMake::BadSize)), is_bad, "{size}");
+        assert_eq!(rt; made.is_ok(), !is_bad, "{size}");
+    }
 }
 
 /// What a zone answers, once blocks for 100 and for 3900 bytes were taken, to a request: the
 /// two numbers where it is full, which of the two blocks stand, and the figures.
-#[derive(Drop)]
+#[derive(Clone, Copy, Debug, PartialEq, Eq)]
 struct Answer {
     full: Option<(u64, u64)>,
     stand: (bool, bool),
@@ -26,13 +24,9 @@ fn asked(alloc: Global, first: Tag, second: Tag, size: u32) -> Option<Answer> {
     let one: Slot<LumpKind> = Slot::new(0);
     let two: Slot<LumpKind> = Slot::new(1);
     let third: Slot<CompositeKind> = Slot::new(0);
-    let Ok(mut zone) = Zone::new(alloc, 4096, 2, 2) else {
-        return None;
-    };
-    if zone.malloc(one, 100, first).is_err() || zone.is_live(two) {
-        return None;
-    }
-    if zone.malloc(two, 3900, second).is_err() || zone.is_live(third) {
+    let mut zone = Zone::new(alloc, 4096, 2, 2).ok()?;
+    zone.malloc(one, 100, first).ok()?;
+    if zone.is_live(two) || zone.malloc(two, 3900, second).is_err() || zone.is_live(third) {
         return None;
     }
     let full = match zone.malloc(third, size, Tag::Static) {
@@ -69,23 +63,23 @@ fn a_request_purges_what_it_passes_and_no_more(rt: HostRuntime) {
         (cache, cache, 200, None, (false, false), [224, 0, 3872, 2]),
         (cache, cache, 5000, one_gap, (false, false), [0, 0, 4096, 2]),
     ] {
-        let Some(answer) = asked(rt.alloc(), first, second, size) else {
-            panic!(rt; "no memory");
+        let answer = Answer {
+            full,
+            stand,
+            figures: figures(counts),
         };
-        assert_eq!(rt; answer.full, full);
-        assert_eq!(rt; answer.stand, stand);
-        assert_eq!(rt; answer.figures, figures(counts));
+        assert_eq!(rt; asked(rt.alloc(), first, second, size), Some(answer));
     }
-}
-
-fn fill_seven(bytes: &mut [u8]) {
-    bytes.fill(7);
 }
 
 // Sets each byte to 7, and the count to their number.
 fn fill_and_count(bytes: &mut [u8], count: &mut usize) {
     bytes.fill(7);
     *count = bytes.len();
+}
+
+fn fill_eight(bytes: &mut [u8]) {
+    bytes.fill(8);
 }
 
 fn copy(from: &[u8], to: &mut [u8]) {
@@ -95,7 +89,7 @@ fn copy(from: &[u8], to: &mut [u8]) {
 }
 
 #[test]
-fn bytes_are_written_and_read(rt: HostRuntime) {
+fn bytes_are_written_read_and_copied(rt: HostRuntime) {
     let lump: Slot<LumpKind> = Slot::new(1);
     let composite: Slot<CompositeKind> = Slot::new(1);
     let Ok(mut zone) = Zone::new(rt.alloc(), 4096, 2, 2) else {
@@ -105,23 +99,15 @@ fn bytes_are_written_and_read(rt: HostRuntime) {
     assert!(rt; !zone.is_live(composite));
     assert!(rt; zone.malloc(composite, 3, Tag::Cache).is_ok());
     assert!(rt; zone.is_live(lump) && zone.is_live(composite));
-    zone.bytes_mut(lump, fill_seven);
-    assert!(rt; zone.is_live(lump) && zone.is_live(composite));
-    zone.pair(lump, composite, copy);
-    assert!(rt; zone.bytes(lump) == Some(&[7, 7, 7]));
-    assert!(rt; zone.bytes(composite) == Some(&[7, 7, 7]));
-}
-
-#[test]
-fn bytes_are_written_beside_a_context(rt: HostRuntime) {
-    let lump: Slot<LumpKind> = Slot::new(0);
-    let Ok(mut zone) = Zone::new(rt.alloc(), 4096, 1, 1) else {
-        panic!(rt; "no memory");
-    };
-    assert!(rt; zone.malloc(lump, 3, Tag::Cache).is_ok());
-    assert!(rt; zone.is_live(lump));
     let mut count = 0;
     zone.bytes_mut_with(lump, &mut count, fill_and_count);
-    assert!(rt; count == 3);
-    assert!(rt; zone.bytes(lump) == Some(&[7, 7, 7]));
+    assert!(rt; zone.is_live(lump) && zone.is_live(composite));
+    zone.bytes_mut(composite, fill_eight);
+    assert_eq!(rt;
+        (count, zone.bytes(composite)),
+        (3, Some([8; 3].as_slice()))
+    );
+    assert!(rt; zone.is_live(lump) && zone.is_live(composite));
+    zone.pair(lump, composite, copy);
+    assert_eq!(rt; zone.bytes(composite), Some([7; 3].as_slice()));
 }
