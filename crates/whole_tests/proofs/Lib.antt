@@ -1,7 +1,5 @@
 pub mod PictureRows
 pub mod PlaneRows
-mod PreparedLemmas
-pub mod RecorderLemmas
 pub mod SpriteRows
 pub mod ViewRows
 pub mod WalkRows

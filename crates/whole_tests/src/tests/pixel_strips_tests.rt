@@ -1,3 +1,4 @@
+// Strips in a view that stands at column 10, row 1 of the frame.
 ghost use Rattle.std.specs.Prelude.{◌≡◌};
 
 use pixel_strips::{Canvas, ColumnStrip, Frame, SpanStrip, paint_column, paint_post, paint_span};
@@ -16,10 +17,13 @@ fn brighter(alloc: Global) -> Result<Vec<u8>, AllocError> {
     Ok(colormap)
 }
 
-// The pixel of a view that stands at column 10, row 1 of the frame.
-fn pixel(frame: &Frame, x: u8, y: u8) -> Option<u8> {
-    let cell = 320 * (y as usize + 1) + x as usize + 10;
-    frame.bytes().get(cell).copied()
+// The pixels of seven columns from `x` on of row `y` of the view, or of rows from `y` on of column `x`.
+fn pixels(frame: &Frame, x: usize, y: usize, step: usize) -> [Option<u8>; 7] {
+    let first = 320usize.wrapping_mul(y).wrapping_add(x).wrapping_add(330);
+    [0, 1, 2, 3, 4, 5, 6].map(|n| {
+        let cell = step.wrapping_mul(n).wrapping_add(first);
+        frame.bytes().get(cell).copied()
+    })
 }
 
 fn column<'a>(last: u16, base: u64, colormap: &'a [u8], map: u8) -> ColumnStrip<'a>
@@ -44,15 +48,13 @@ fn columns_are_painted_at_half_a_texel_a_row(rt: HostRuntime) -> Result<(), Fail
     let mut frame = Frame::new(rt.alloc())?;
     frame.place(10, 1);
     paint_column(&mut frame, &column(6, 0, &colormap, 0));
-    for (y, colour) in [(1, 0), (2, 8), (3, 8), (4, 10), (5, 10), (6, 12), (7, 0)] {
-        assert_eq!(rt; pixel(&frame, 3, y), Some(colour));
-    }
+    let whole = [0, 8, 8, 10, 10, 12, 0].map(|colour| Some(colour));
+    assert_eq!(rt; pixels(&frame, 3, 1, 320), whole);
     paint_post(&mut frame, &column(5, 2, &colormap, 1));
-    for (y, colour) in [(2, 0), (5, 0), (6, 12)] {
-        assert_eq!(rt; pixel(&frame, 3, y), Some(colour));
-    }
+    let past = [0, 0, 0, 0, 0, 12, 0].map(|colour| Some(colour));
+    assert_eq!(rt; pixels(&frame, 3, 1, 320), past);
     frame.clear();
-    assert_eq!(rt; pixel(&frame, 3, 6), Some(0));
+    assert_eq!(rt; pixels(&frame, 3, 1, 320), [Some(0); 7]);
     Ok(())
 }
 
@@ -74,8 +76,7 @@ fn spans_are_painted_at_half_a_texel_a_column(rt: HostRuntime) -> Result<(), Fai
         map: 0,
     };
     paint_span(&mut frame, &span);
-    for (x, colour) in [(3, 0), (4, 10), (5, 10), (6, 12), (7, 12), (8, 1), (9, 0)] {
-        assert_eq!(rt; pixel(&frame, x, 9), Some(colour));
-    }
+    let colours = [0, 10, 10, 12, 12, 1, 0].map(|colour| Some(colour));
+    assert_eq!(rt; pixels(&frame, 3, 9, 1), colours);
     Ok(())
 }

@@ -2,7 +2,7 @@
 
 ghost use Rattle.std.specs.Prelude.{◌≡◌};
 
-use crate::made::{FIRST, made_angles};
+use crate::tests::made::{FIRST, made_angles};
 use std::process::Abort;
 use std::test::Fail;
 use view_frame::View;
@@ -31,33 +31,6 @@ fn thing(x: i32, y: i32, z: i32, angle: u32) -> Placed
     }
 }
 
-// Adds it where it is seen.
-fn put(sprites: &mut Sprites, view: &View<'_>, x: i32, y: i32, z: i32) {
-    let thing = thing(x, y, z, 0);
-    if let Some(seen) = project(view, &thing) {
-        sprites.add(view, &thing, seen, TREE);
-    }
-}
-
-// The numbers and the columns of the next five.
-fn sorted_columns(sorted: &mut SortedSprites<'_>) -> [Option<(u16, i32, i32)>; 5] {
-    [
-        columns(sorted),
-        columns(sorted),
-        columns(sorted),
-        columns(sorted),
-        columns(sorted),
-    ]
-}
-
-// The number and the columns of the next one.
-fn columns(sorted: &mut SortedSprites<'_>) -> Option<(u16, i32, i32)> {
-    match sorted.next() {
-        None => None,
-        Some(entry) => Some((entry.number, entry.first, entry.last)),
-    }
-}
-
 // Looks at things before the eye, beside it and behind.
 fn look_ahead(rt: &impl Abort, view: &View<'_>) {
     let near = Seen {
@@ -80,13 +53,27 @@ fn look_ahead(rt: &impl Abort, view: &View<'_>) {
 
 #[test]
 fn things_are_seen_ahead_alone(rt: HostRuntime) -> Result<(), Fail> {
-    let tables = made_angles(rt.alloc(), 11)?;
+    let tables = made_angles(rt.alloc())?;
     look_ahead(&rt, &View::new(&tables, FIRST));
     Ok(())
 }
 
+// Adds a thing where it is seen.
+fn put(sprites: &mut Sprites, view: &View<'_>, x: i32, y: i32, z: i32) {
+    let thing = thing(x, y, z, 0);
+    if let Some(seen) = project(view, &thing) {
+        sprites.add(view, &thing, seen, TREE);
+    }
+}
+
+// The number and the columns of the next entry.
+fn columns(sorted: &mut SortedSprites<'_>) -> Option<(u16, i32, i32)> {
+    let entry = sorted.next()?;
+    Some((entry.number, entry.first, entry.last))
+}
+
 // The entry of a thing at 192, 64.
-const NEAR: SpriteEntry = SpriteEntry {
+const ENTRY: SpriteEntry = SpriteEntry {
     number: 0,
     first: 117,
     last: 150,
@@ -106,14 +93,16 @@ const NEAR: SpriteEntry = SpriteEntry {
 
 // Looks at a thing alone, then at it with three more, and at none after these are cleared.
 fn look_at_order(rt: &impl Abort, view: &View<'_>, sprites: &mut Sprites) {
-    assert_eq!(rt; sprites.count(), 0);
     put(sprites, view, 192, 64, 8);
-    assert_eq!(rt; sprites.count(), 1);
-    assert_eq!(rt; sprites.sorted().next(), Some(NEAR));
+    assert_eq!(rt;
+        (sprites.count(), sprites.sorted().next()),
+        (1, Some(ENTRY))
+    );
     put(sprites, view, 64, 64, 0);
     put(sprites, view, 192, 192, 24);
     put(sprites, view, 192, 192, 24);
-    let entries = sorted_columns(&mut sprites.sorted());
+    let mut sorted = sprites.sorted();
+    let entries = [0; 5].map(|_| columns(&mut sorted));
     let expected = [
         Some((2, 0, 15)),
         Some((3, 0, 15)),
@@ -128,7 +117,7 @@ fn look_at_order(rt: &impl Abort, view: &View<'_>, sprites: &mut Sprites) {
 
 #[test]
 fn smaller_things_are_drawn_first(rt: HostRuntime) -> Result<(), Fail> {
-    let tables = made_angles(rt.alloc(), 11)?;
+    let tables = made_angles(rt.alloc())?;
     let mut sprites = Box::new(rt.alloc(), Sprites::new(rt.alloc())?)?;
     look_at_order(&rt, &View::new(&tables, FIRST), &mut sprites);
     Ok(())
