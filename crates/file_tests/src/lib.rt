@@ -1,10 +1,8 @@
-//! Tests of the crates that read files, keep a zone of their art and read levels. It has no code of
-//! its own.
+//! Tests of the crates that read files and keep a zone of their art. It has no code of its own.
 //!
-//! Those of crate X are in `tests/X_tests`; of `level_scene` in `level_tests`, `placed_things_tests`
-//! and `side_textures_tests`, of `map_lumps` in `level_tests`, of `job_files` in `scene_files_tests`.
-//! Proved: nothing but that the tests are safe. Tested only: what the tests compare, with values from
-//! outside the definitions.
+//! Those of crate X are in `tests/X_tests`; of `level_scene` in `level_tests` and
+//! `placed_things_tests`, of `map_lumps` in `level_tests`. Proved: nothing but that the tests are
+//! safe. Tested only: what the tests compare, with values from outside the definitions.
 #![tactic(auto)]
 
 #[cfg(test)]

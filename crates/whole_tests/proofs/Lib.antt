@@ -1,6 +1,2 @@
-pub mod PictureRows
 pub mod PlaneRows
 pub mod SpriteRows
-pub mod ViewRows
-pub mod WalkRows
-pub mod WallRows

@@ -1,17 +1,25 @@
-// Whole files: the made one, and one for each refusal.
+// The made tables of angles, with the numbers of their file, and those of two sizes of the view.
+ghost use Rattle.std.specs.Prelude.{◌≤◌};
+ghost use Rattle.view_rules.specs.declared.TheConstants.{MIN_SIZE, MAX_SIZE};
 
-use angle_tables::{Tables, TablesFault, TablesRefusal};
+use angle_tables::Tables;
 use level_maker::make_tables;
 use std::alloc::Global;
 use std::process::Abort;
 use std::test::Fail;
-use view_rules::{MAX_SIZE, TABLES_BYTES};
+use view_rules::MAX_SIZE;
 
-// Looks at the numbers that the file has, and at those that a view of full size makes of them.
-fn look_at_tables(rt: &impl Abort, tables: &Tables) {
+fn made(alloc: Global, size: u8) -> Result<Box<Tables>, Fail>
+    requires { (MIN_SIZE ≤ size) × (size ≤ MAX_SIZE) }
+{
+    let bytes = make_tables(alloc)?;
+    Ok(Box::new(alloc, Tables::from_bytes(alloc, &bytes, size)?)?)
+}
+
+// Looks at the numbers of a view as wide and as high as the frame.
+fn look_at(rt: &impl Abort, tables: &Tables) {
     let shape = tables.shape();
-    assert!(rt; shape.width == 320);
-    assert!(rt; shape.height == 200);
+    assert!(rt; shape.width == 320 && shape.height == 200);
     let numbers = [
         tables.sine(2047),
         tables.tangent(3072),
@@ -38,55 +46,24 @@ fn look_at_tables(rt: &impl Abort, tables: &Tables) {
     assert_eq!(rt; lights, [23, 31, 23, 0, 31]);
 }
 
-#[test]
-fn the_made_tables_are_accepted(rt: HostRuntime) -> Result<(), Fail> {
-    let bytes = make_tables(rt.alloc())?;
-    assert_eq!(rt; (bytes.len(), bytes.get(0)), (65540, Some(&25)));
-    let tables = Tables::from_bytes(rt.alloc(), &bytes, MAX_SIZE)?;
-    look_at_tables(&rt, &tables);
-    Ok(())
-}
-
-// Looks at the tables of a smaller view.
+// Looks at those of a view half as wide.
 fn look_at_smaller(rt: &impl Abort, tables: &Tables) {
     let shape = tables.shape();
-    assert!(rt; shape.width == 160);
-    assert!(rt; shape.height == 80);
+    assert!(rt; shape.width == 160 && shape.height == 80);
     assert_eq!(rt; (shape.left, shape.top, tables.size()), (80, 44, 5));
-    let slopes = [tables.y_slope(39), tables.y_slope(40)];
-    assert_eq!(rt; slopes, [10485760, 10485760]);
-    assert_eq!(rt; tables.light_scale(8, 10), 18);
+    let slopes = (
+        tables.y_slope(39),
+        tables.y_slope(40),
+        tables.light_scale(8, 10),
+    );
+    assert_eq!(rt; slopes, (10485760, 10485760, 18));
 }
 
 #[test]
-fn a_smaller_view_has_its_own_tables(rt: HostRuntime) -> Result<(), Fail> {
-    let bytes = make_tables(rt.alloc())?;
-    let tables = Tables::from_bytes(rt.alloc(), &bytes, 5)?;
-    look_at_smaller(&rt, &tables);
+fn each_size_of_the_view_has_its_numbers(rt: HostRuntime) -> Result<(), Fail> {
+    let tables = made(rt.alloc(), MAX_SIZE)?;
+    look_at(&rt, &tables);
+    let smaller = made(rt.alloc(), 5)?;
+    look_at_smaller(&rt, &smaller);
     Ok(())
-}
-
-// What is refused of tables that are 0 but for a byte.
-fn refusal_but(alloc: Global, length: usize, place: usize, byte: u8) -> Option<TablesRefusal> {
-    let mut bytes = vec![in alloc; 0; length].ok()?;
-    if let Some(old) = bytes.get_mut(place) {
-        *old = byte;
-    }
-    match Tables::from_bytes(alloc, &bytes, MAX_SIZE) {
-        Err(TablesFault::Refused(refusal)) => Some(refusal),
-        _ => None,
-    }
-}
-
-#[test]
-fn each_refusal_comes(rt: HostRuntime) {
-    for (length, place, byte, want) in [
-        (3, 0, 0, TablesRefusal::Length { found: 3 }),
-        (TABLES_BYTES, 22, 2, TablesRefusal::Sine { index: 5 }),
-        (TABLES_BYTES, 40990, 1, TablesRefusal::Tangent { index: 8 }),
-        (TABLES_BYTES, 57359, 64, TablesRefusal::Angle { index: 3 }),
-        (TABLES_BYTES, 0, 0, TablesRefusal::FieldOfView),
-    ] {
-        assert_eq!(rt; refusal_but(rt.alloc(), length, place, byte), Some(want));
-    }
 }

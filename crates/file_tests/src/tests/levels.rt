@@ -3,10 +3,10 @@
 //
 // Each function makes a value or two and lends them to the next, and the level is in a box, which a
 // function drops by one call: one that owns many values where it may return takes minutes to prove.
-ghost use Rattle.std.specs.Prelude.{◌<◌, ◌≤◌, ◌^◌, length};
+ghost use Rattle.std.specs.Prelude.{◌<◌, ◌^◌, length};
 
-use crate::tests::files::load_directory;
-use level_scene::{Level, LevelFault, read_level};
+use crate::tests::files::{NO_CALL, load_directory, shelf_of};
+use level_scene::{Level, read_level};
 use lump_cache::LumpCache;
 use lump_rules::Name8;
 use outside::MemoryShelf;
@@ -54,7 +54,7 @@ fn directory() -> &'static [u8; 144] {
 }
 
 // The file.
-pub(crate) fn level_wad(alloc: Global) -> Result<Vec<u8>, AllocError> {
+fn level_wad(alloc: Global) -> Result<Vec<u8>, AllocError> {
     let mut wad = b"PWAD\x09\0\0\0\0\x01\0\0".to_vec(alloc)?;
     put_halves(&mut wad, &THINGS)?;
     put_halves(&mut wad, &LINE)?;
@@ -74,42 +74,19 @@ pub(crate) fn level_wad(alloc: Global) -> Result<Vec<u8>, AllocError> {
     Ok(wad)
 }
 
-// What is read of the map of that name of the file on this shelf, through a zone of that size.
-pub(crate) fn read_map(
-    alloc: Global,
-    shelf: &mut MemoryShelf,
-    name: &str,
-    size: u32,
-) -> Result<Result<Box<Level>, LevelFault>, Fail> {
-    let dir = load_directory(alloc, shelf)?;
-    read_over(alloc, &dir, shelf, name, size)
+// What is read of it.
+pub(crate) fn read_map(alloc: Global) -> Result<Box<Level>, Fail> {
+    let mut shelf = shelf_of(alloc, level_wad(alloc)?, NO_CALL)?;
+    let dir = load_directory(alloc, &mut shelf)?;
+    read_over(alloc, &dir, &mut shelf)
 }
 
 // The same, with the lumps of this directory.
-fn read_over(
-    alloc: Global,
-    dir: &Directory,
-    shelf: &mut MemoryShelf,
-    name: &str,
-    size: u32,
-) -> Result<Result<Box<Level>, LevelFault>, Fail>
+fn read_over(alloc: Global, dir: &Directory, shelf: &mut MemoryShelf) -> Result<Box<Level>, Fail>
     requires { length dir.now.lumps < 2 ^ 16 }
 {
-    let name = Name8::from_text(name).ok_or("a name")?;
-    let mut cache = LumpCache::new(alloc, dir, size, 0)?;
-    Ok(read_in(alloc, &name, dir, &mut cache, shelf))
-}
-
-// The same, in this cache.
-fn read_in(
-    alloc: Global,
-    name: &Name8,
-    dir: &Directory,
-    cache: &mut LumpCache,
-    shelf: &mut MemoryShelf,
-) -> Result<Box<Level>, LevelFault>
-    requires { length dir.now.lumps ≤ cache.old.lumps }
-{
-    let (_, level) = read_level(alloc, name, dir, cache, shelf)?;
+    let mut cache = LumpCache::new(alloc, dir, 256, 0)?;
+    let name = Name8::from_bytes(*b"map01\0\0\0");
+    let (_, level) = read_level(alloc, &name, dir, &mut cache, shelf)?;
     Ok(Box::new(alloc, level)?)
 }

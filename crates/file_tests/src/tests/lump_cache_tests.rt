@@ -1,5 +1,5 @@
 // A cache over a shelf in memory, from its making to its bytes.
-ghost use Rattle.std.specs.Prelude.{◌<◌, IfSome, length};
+ghost use Rattle.std.specs.Prelude.{◌<◌, length};
 
 use crate::tests::files::{NO_CALL, load_directory, shelf_of};
 use lump_cache::{CacheFault, LumpCache, fetch_named, live_bytes};
@@ -7,7 +7,6 @@ use outside::MemoryShelf;
 use std::alloc::Global;
 use std::test::Fail;
 use wad_dir::{Directory, LumpNo, Name8};
-use zone_heap::{CompositeKind, LumpKind, Slot, Tag};
 
 // A lump FIVE with the bytes 1 to 5 at 12, LONG of 45 bytes at 19, the empty lump NONE, a later FIVE
 // with 6 and 7 at 17, and the directory at 64.
@@ -81,38 +80,5 @@ fn the_last_lump_of_a_name_is_read_where_it_has_bytes_and_room(
         let answer = asked(rt.alloc(), failing, size, name, bytes)?;
         assert_eq!(rt; answer, (lump, true, free), "{name}");
     }
-    Ok(())
-}
-
-fn lump(dir: &Directory, name: &str) -> Option<LumpNo>
-    ensures { IfSome result (λ lump. lump.0 < length dir.now.lumps) }
-{
-    let name = Name8::from_text(name)?;
-    dir.last(&name)
-}
-
-fn copy(from: &[u8], to: &mut [u8]) {
-    if from.len() == to.len() {
-        to.copy_from_slice(from);
-    }
-}
-
-#[test]
-fn a_composite_is_built_and_dropped(rt: HostRuntime) -> Result<(), Fail> {
-    let alloc = rt.alloc();
-    let mut shelf = shelf_of(alloc, wad().to_vec(alloc)?, NO_CALL)?;
-    let dir = load_directory(alloc, &mut shelf)?;
-    let five = lump(&dir, "five").ok_or("a lump")?;
-    let source: Slot<LumpKind> = Slot::new(u32::from(five.0));
-    let target: Slot<CompositeKind> = Slot::new(0);
-    let mut cache = LumpCache::new(alloc, &dir, 4096, 1)?;
-    assert!(rt; !cache.zone().is_live(target));
-    cache.take_composite(0, 2)?;
-    cache.fetch(&mut shelf, &dir, five, Tag::Level)?;
-    assert!(rt; cache.zone().is_live(source) && cache.zone().is_live(target));
-    cache.lump_and_composite(five, 0, copy);
-    assert!(rt; cache.composite(0) == Some([6, 7].as_slice()));
-    cache.drop_composite(0);
-    assert!(rt; cache.composite(0).is_none());
     Ok(())
 }

@@ -1,8 +1,5 @@
-// The things of a level of two sectors, in each skill, with values from outside the definitions.
-ghost use Rattle.std.specs.Prelude.{◌≤◌};
-
-use crate::tests::files::{NO_CALL, shelf_of};
-use crate::tests::levels::{level_wad, read_map};
+// The things of a level of two sectors, with values from outside the definitions.
+use crate::tests::levels::read_map;
 use art_rules::Need;
 use csv_tables::ThingTable;
 use level_rules::PlacedThing;
@@ -18,62 +15,11 @@ fn table() -> &'static [u8] {
     b"type,sprite,frame,bright,hang,shadow\n2035,BAR1,A,0,0,0\n63,GOR1,C,1,68,1\n"
 }
 
-fn level(alloc: Global) -> Result<Box<Level>, Fail> {
-    let mut shelf = shelf_of(alloc, level_wad(alloc)?, NO_CALL)?;
-    Ok(read_map(alloc, &mut shelf, "MAP01", 256)??)
-}
-
-// The things of a level in a skill.
-fn placed(alloc: Global, level: &Level, skill: u8) -> Result<Box<PlacedThings>, Fail>
-    requires { (1 ≤ skill) × (skill ≤ 5) }
-{
+// The things of a level in skill 3.
+fn placed(alloc: Global, level: &Level) -> Result<Box<PlacedThings>, Fail> {
     let table = ThingTable::read(alloc, table())?;
-    placed_by(alloc, level, &table, skill)
-}
-
-// The same, with the looks of this table.
-fn placed_by(
-    alloc: Global,
-    level: &Level,
-    table: &ThingTable,
-    skill: u8,
-) -> Result<Box<PlacedThings>, Fail>
-    requires { (1 ≤ skill) × (skill ≤ 5) }
-{
-    let placed = place_things(alloc, level, table, skill)?;
+    let placed = place_things(alloc, level, &table, 3)?;
     Ok(Box::new(alloc, placed)?)
-}
-
-// The numbers of things.
-fn numbers(alloc: Global, things: &[PlacedThing]) -> Result<Vec<u16>, AllocError> {
-    things.iter().map(|thing| thing.thing).collect(alloc)
-}
-
-// Compares the numbers of the things in sectors 0 and 1 in a skill.
-fn compare_numbers(
-    rt: &impl Abort,
-    alloc: Global,
-    placed: &PlacedThings,
-    expected: [&[u16]; 2],
-) -> Result<(), AllocError> {
-    let front = numbers(alloc, placed.of(0))?;
-    let behind = numbers(alloc, placed.of(1))?;
-    assert_eq!(rt; [front.as_slice(), behind.as_slice()], expected);
-    assert_eq!(rt; placed.of(2).len(), 0);
-    Ok(())
-}
-
-#[test]
-fn things_are_placed_by_skill_and_drawn_last_first(rt: HostRuntime) -> Result<(), Fail> {
-    let alloc = rt.alloc();
-    let level = level(alloc)?;
-    let easy: [&[u16]; 2] = [&[2, 0], &[1]];
-    let hard: [&[u16]; 2] = [&[4, 2, 0], &[]];
-    for (skill, expected) in [(1, easy), (2, easy), (3, easy), (4, hard), (5, hard)] {
-        let placed = placed(alloc, &level, skill)?;
-        compare_numbers(&rt, alloc, &placed, expected)?;
-    }
-    Ok(())
 }
 
 // The first thing of sector 0, and the first of sector 1.
@@ -99,13 +45,12 @@ const STANDING_THING: PlacedThing = PlacedThing {
     bright: false,
 };
 
-// Looks at the first thing of each sector, at the angle of the first of all, at what frames things
-// need, and which is a shadow.
+// Looks at where things stand, in their order, at what frames they need and which is a shadow.
 fn look_at(rt: &impl Abort, alloc: Global, placed: &PlacedThings) -> Result<(), AllocError> {
     let first = [placed.of(0).first(), placed.of(1).first()];
     assert_eq!(rt; first, [Some(&HANGING_THING), Some(&STANDING_THING)]);
-    let angle = placed.all().first().map(|placed| placed.thing.angle);
-    assert_eq!(rt; angle, Some(0x2000_0000));
+    let counts = [placed.of(0).len(), placed.of(1).len(), placed.of(2).len()];
+    assert_eq!(rt; counts, [2, 1, 0]);
     let needs = placed.needs(alloc)?;
     let need = Need {
         thing: 2,
@@ -119,12 +64,12 @@ fn look_at(rt: &impl Abort, alloc: Global, placed: &PlacedThings) -> Result<(), 
 
 #[test]
 fn things_stand_hang_and_are_turned(rt: HostRuntime) -> Result<(), Fail> {
-    let level = level(rt.alloc())?;
+    let level = read_map(rt.alloc())?;
     let sectors = [
         sector_at(&level, 100 * UNIT, 0),
         sector_at(&level, 64 * UNIT, 0),
     ];
     assert_eq!(rt; sectors, [0, 1]);
-    let placed = placed(rt.alloc(), &level, 3)?;
+    let placed = placed(rt.alloc(), &level)?;
     Ok(look_at(&rt, rt.alloc(), &placed)?)
 }

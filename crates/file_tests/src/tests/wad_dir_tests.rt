@@ -1,13 +1,10 @@
-// Values from outside: what is found in two small files, and what stops the loading of one.
-use crate::tests::files::{NO_CALL, shelf_of};
+// Values from outside: what is found in two small files.
 use outside::{FileNo, MemoryShelf, Shelf};
 use std::alloc::{AllocError, Global};
 use std::process::Abort;
 use std::test::Fail;
 use test_files::file_of;
-use wad_dir::{DirFault, DirRefusal, Directory, LumpNo, Name8};
-
-const TINY_BYTES: usize = 854;
+use wad_dir::{Directory, LumpNo, Name8};
 
 // PLAYPAL of 768 bytes at 12 and the flat TILE of ten bytes at 780: 854 bytes.
 fn tiny_wad(alloc: Global) -> Result<Vec<u8>, AllocError> {
@@ -36,79 +33,63 @@ fn level_wad() -> &'static [u8; 204] {
 }
 
 // A shelf of both.
-fn both_shelf(alloc: Global) -> Result<MemoryShelf, AllocError> {
+fn both_shelf(alloc: Global) -> Result<Box<MemoryShelf>, AllocError> {
     let mut files = Vec::with_capacity(alloc, 2)?;
     files.push(file_of(alloc, "tiny.wad", tiny_wad(alloc)?)?)?;
     files.push(file_of(alloc, "level.wad", level_wad().to_vec(alloc)?)?)?;
-    Ok(MemoryShelf::new(files, Vec::new(alloc)))
+    Box::new(alloc, MemoryShelf::new(files, Vec::new(alloc)))
 }
 
-// The directory of the tiny file, the level, and the tiny file again; and the level's number.
-fn load_both(alloc: Global, shelf: &mut MemoryShelf) -> Result<(Directory, FileNo), Fail> {
+// The directory of the tiny file, the level, and the tiny file again; and the tiny file's number.
+fn load_both(alloc: Global, shelf: &mut MemoryShelf) -> Result<(Box<Directory>, FileNo), Fail> {
     let tiny = shelf.find("tiny.wad")?;
     let level = shelf.find("level.wad")?;
     let dir = Directory::load(alloc, shelf, &[tiny, level, tiny])?;
-    Ok((dir, level))
+    Ok((Box::new(alloc, dir)?, tiny))
 }
 
-// Looks for lumps by name.
-fn look_for_names(rt: &impl Abort, dir: &Directory) -> Result<(), Fail> {
-    let tile = Name8::from_text("tile").ok_or("a name")?;
-    let map = Name8::from_text("MAP01").ok_or("a name")?;
-    let found = [dir.last(&tile), dir.flat(&tile), dir.map(&map)];
-    assert_eq!(rt;
-        found,
-        [Some(LumpNo(18)), Some(LumpNo(18)), Some(LumpNo(4))]
-    );
-    assert_eq!(rt; [dir.flat(&map), dir.map(&tile)], [None, None]);
-    assert_eq!(rt; dir.sprite_lumps(), [LumpNo(14)].as_slice());
-    Ok(())
+// The name, the offset, the size and the file of a lump that is there.
+fn entry(dir: &Directory, lump: LumpNo) -> Option<(Name8, u32, u32, FileNo)> {
+    if lump.0 as u32 >= dir.count() {
+        return None;
+    }
+    Some((
+        dir.name(lump),
+        dir.place(lump),
+        dir.size(lump),
+        dir.file(lump),
+    ))
 }
 
-// Looks at lumps by number.
-fn look_at_lumps(rt: &impl Abort, dir: &Directory, level: FileNo) {
-    assert_eq!(rt; dir.count(), 20);
-    let (tile, label) = (LumpNo(2), LumpNo(4));
-    let name = Name8::from_bytes(*b"TILE\0\0\0\0");
-    let entry = (dir.name(tile), dir.place(tile), dir.size(tile));
-    assert_eq!(rt; (entry, dir.file(label)), ((name, 780, 10), level));
+// Looks for lumps by name and by number.
+fn look_at(rt: &impl Abort, dir: &Directory, tiny: FileNo) {
+    let tile = Name8::from_bytes(*b"TILE\0\0\0\0");
+    let map = Name8::from_bytes(*b"MAP01\0\0\0");
+    let found = [
+        dir.last(&tile),
+        dir.flat(&tile),
+        dir.map(&map),
+        dir.flat(&map),
+        dir.map(&tile),
+        dir.sprite_lumps().first().copied(),
+    ];
+    let expected = [
+        Some(LumpNo(18)),
+        Some(LumpNo(18)),
+        Some(LumpNo(4)),
+        None,
+        None,
+        Some(LumpNo(14)),
+    ];
+    assert_eq!(rt; found, expected);
+    let entries = (entry(dir, LumpNo(2)), entry(dir, LumpNo(20)));
+    assert_eq!(rt; entries, (Some((tile, 780, 10, tiny)), None));
 }
 
 #[test]
 fn a_name_finds_the_last_lump_of_all_files(rt: HostRuntime) -> Result<(), Fail> {
     let mut shelf = both_shelf(rt.alloc())?;
-    let (dir, level) = load_both(rt.alloc(), &mut shelf)?;
-    look_at_lumps(&rt, &dir, level);
-    look_for_names(&rt, &dir)
-}
-
-// The directory of the file on a shelf.
-fn load(alloc: Global, shelf: &mut MemoryShelf) -> Result<Directory, DirFault> {
-    let number = shelf.find("file.wad")?;
-    Directory::load(alloc, shelf, &[number])
-}
-
-// What stops the loading of so many of the tiny file's bytes, where that call fails.
-fn fault_of(alloc: Global, size: usize, failing: u64) -> Result<Option<DirFault>, Fail> {
-    let mut wad = tiny_wad(alloc)?;
-    wad.truncate(size);
-    let mut shelf = shelf_of(alloc, wad, failing)?;
-    Ok(load(alloc, &mut shelf).err())
-}
-
-#[test]
-fn a_short_file_is_refused(rt: HostRuntime) -> Result<(), Fail> {
-    let short = Some(DirFault::Refused(DirRefusal::Short { file: 0 }));
-    let absent = Some(DirFault::ReadFault);
-    for (size, call, fault) in [
-        (TINY_BYTES, NO_CALL, None),
-        (853, NO_CALL, short),
-        (11, NO_CALL, short),
-        (TINY_BYTES, 2, absent),
-        (TINY_BYTES, 3, absent),
-        (TINY_BYTES, 4, absent),
-    ] {
-        assert_eq!(rt; fault_of(rt.alloc(), size, call)?, fault);
-    }
+    let (dir, tiny) = load_both(rt.alloc(), &mut shelf)?;
+    look_at(&rt, &dir, tiny);
     Ok(())
 }
