@@ -1,11 +1,10 @@
-"""Writes a WAD of one small level, MAP01, to standard output: what picture draws where no WAD is named.
-
-usage: make_room.py > room.wad
+"""A WAD of one small level, MAP01: what `doomview picture` draws where no WAD is named.
 
 Level and art are made here, so nothing of a game is in it. A letter of PLAN is a square of 64 map units of the
 floor and ceiling that SQUARES has for it; a # is solid. Each square is a leaf, and lines stand between squares."""
 import struct
-import sys
+
+from .wads import packed
 
 PLAN = ['################',
         '######kkkk######',
@@ -229,34 +228,12 @@ class Level:
                 ('NODES', b''.join(self.nodes)), ('SECTORS', self.sectors())]
 
 
-def wad(lumps):
-    bodies = b''.join(data for _, data in lumps)
-    entries, at = b'', 12
-    for label, data in lumps:
-        entries += struct.pack('<II8s', at, len(data), name(label))
-        at += len(data)
-    return b'IWAD' + struct.pack('<II', len(lumps), 12 + len(bodies)) + bodies + entries
-
-
 def room():
+    """The bytes of the WAD."""
     patches = [('BRICKS', patch(64, 128, 0, 0, bricks)), ('PANELS', patch(64, 128, 0, 0, panels)),
                ('BARS', patch(64, 128, 0, 0, bars)), ('SKY1', patch(256, 128, 0, 0, sky))]
     flats = [('TILES', flat(tiles(GREY, 32, 12))), ('BOARDS', flat(tiles(WOOD, 16, 14))),
              ('MOSS', flat(tiles(LEAF, 8, 14)))]
-    return wad([('PLAYPAL', palette()), ('COLORMAP', colormap()), *Level().lumps(), *textures(patches), *patches,
+    return packed([('PLAYPAL', palette()), ('COLORMAP', colormap()), *Level().lumps(), *textures(patches), *patches,
                 ('F_START', b''), *flats, ('F_END', b''),
                 ('S_START', b''), ('COLUA0', patch(32, 64, 16, 64, lamp)), ('S_END', b'')])
-
-
-def main():
-    if len(sys.argv) != 1:
-        sys.exit('usage: make_room.py > room.wad')
-    try:
-        with open(1, 'wb', closefd=False) as out:  # sys.stdout.buffer may be cut short where PYTHONUNBUFFERED is set
-            out.write(room())
-    except OSError as error:
-        sys.exit(f'make_room: cannot write the WAD: {error.strerror}')
-
-
-if __name__ == '__main__':
-    main()
