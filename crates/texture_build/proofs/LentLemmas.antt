@@ -34,33 +34,34 @@ static_live o z block count is pinned = rw is (go block.holding pinned) where
   go None k = absurd k
   go (Some h) k = refl
 
--- a cache that holds the files' bytes, whatever the textures
-module _ {view : ShelfView} {dir : DirectoryView} {textures : TexturesView}
-    {contents : List (List ℕ)} {colormap count : ℕ} {z : Heap}
-    (files : HoldContents view dir z contents) where
-  apart : (lump : ℕ) → lump ≢ colormap → same_owner (lump_owner colormap) (lump_owner lump) ≡ false
-  apart lump other = ne_eqb colormap lump (λ e. other (sym e))
+apart : (colormap lump : ℕ) → lump ≢ colormap →
+    same_owner (lump_owner colormap) (lump_owner lump) ≡ false
+apart colormap lump other = ne_eqb colormap lump (λ e. other (sym e))
 
-  lump_size : (lump : ℕ) (bytes : List ℕ) → lump < length dir.lumps →
-      bytes_of (lump_owner lump) z.blocks ≡ Some bytes →
-      length bytes ≡ (lump_at dir.lumps lump).size
-  lump_size lump bytes there is =
-      subst (λ (x : Option (List ℕ)). IfSome x (λ xs. length xs ≡ (lump_at dir.lumps lump).size)) is
-      ((sizes_told view dir z contents files).at lump there)
+-- a cache that holds the files' bytes lends as many as the directory says
+lump_size : (view : ShelfView) (dir : DirectoryView) (contents : List (List ℕ)) (z : Heap) →
+    HoldContents view dir z contents → (lump : ℕ) (bytes : List ℕ) → lump < length dir.lumps →
+    bytes_of (lump_owner lump) z.blocks ≡ Some bytes →
+    length bytes ≡ (lump_at dir.lumps lump).size
+lump_size view dir contents z files lump bytes there is =
+    subst (λ (x : Option (List ℕ)). IfSome x (λ xs. length xs ≡ (lump_at dir.lumps lump).size)) is
+    ((sizes_told view dir z contents files).at lump there)
 
-  -- a lump that is lent, as a painter's source
-  pub lent_lump-fits : (kind number lump : ℕ) (bytes : List ℕ) → lump < length dir.lumps →
-      bytes_of (lump_owner lump) z.blocks ≡ Some bytes →
-      (same_owner (lump_owner colormap) (lump_owner lump) ≡ false →
-      block_size count + block_size (length bytes) ≤ z.size) →
-      FitsBeside dir.lumps textures colormap count z.size
-      (painter_of kind number (record { kind = LUMP; number = lump }))
-  unfolding painter_of
-  lent_lump-fits kind number lump bytes there is fits = record {
-    lump = λ source other. subst (λ (n : ℕ). block_size count + block_size n ≤ z.size)
-        (lump_size lump bytes there is) (fits (apart lump other));
-    composite = λ source. cc;
-  }
+-- a lump that is lent, as a painter's source, whatever the textures
+pub lent_lump-fits : {view : ShelfView} {dir : DirectoryView} {textures : TexturesView}
+    {contents : List (List ℕ)} {colormap count : ℕ} {z : Heap} → HoldContents view dir z contents →
+    (kind number lump : ℕ) (bytes : List ℕ) → lump < length dir.lumps →
+    bytes_of (lump_owner lump) z.blocks ≡ Some bytes →
+    (same_owner (lump_owner colormap) (lump_owner lump) ≡ false →
+    block_size count + block_size (length bytes) ≤ z.size) →
+    FitsBeside dir.lumps textures colormap count z.size
+    (painter_of kind number (record { kind = LUMP; number = lump }))
+unfolding painter_of
+lent_lump-fits {view} {dir} {contents = contents} {colormap} {count} {z} files kind number lump bytes there is fits = record {
+  lump = λ source other. subst (λ (n : ℕ). block_size count + block_size n ≤ z.size)
+      (lump_size view dir contents z files lump bytes there is) (fits (apart colormap lump other));
+  composite = λ source. cc;
+}
 
 module _ {view : ShelfView} {dir : DirectoryView} {textures : TexturesView}
     {contents : List (List ℕ)} {colormap count : ℕ} {z : Heap}
