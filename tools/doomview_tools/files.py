@@ -40,9 +40,10 @@ class WholeFile:
         self.path = os.path.realpath(path)
 
     def __enter__(self):
-        handle, name = tempfile.mkstemp(prefix='.' + os.path.basename(self.path) + '.', dir=os.path.dirname(self.path))
-        self.part = open(handle, 'wb')
-        self.part_path = name
+        folder, name = os.path.split(self.path)
+        handle, self.part_path = tempfile.mkstemp(prefix=f'.{name}.', dir=folder)
+        os.close(handle)
+        self.part = open(self.part_path, 'wb')
         return self.part
 
     def __exit__(self, kind, *_):

@@ -11,9 +11,9 @@ import subprocess
 import tempfile
 
 from . import home, tables
-from .files import write_whole
-from .jobs import LEVEL_JOBS, Words
-from .trouble import Trouble
+from .files import WholeFile, is_terminal, write_whole
+from .jobs import LEVEL_JOBS, USAGE, WRITE_FAULT, Words, wrong_words
+from .trouble import Ended, Trouble
 
 NO_PROGRAM = 70  # the status where there is no run
 SECONDS = 300  # that a run of the sources without proofs may take
@@ -125,8 +125,10 @@ def completed(words):
     if given.job not in LEVEL_JOBS:
         return given.with_wads_found()
     own = [('--tables', tables_file), ('--things', things_file)]
-    front = [part for name, file in own if name not in given.given for part in (name, file())]
-    return front + given.with_wads_found()
+    more = [part for name, file in own if name not in given.given for part in (name, file())]
+    words = given.with_wads_found()
+    at = 1 if words[0] == given.job else 0  # where they are options, whatever stands behind
+    return words[:at] + more + words[at:]
 
 
 def ended(status, output, said):
@@ -142,6 +144,31 @@ def run(words, output=None, unproved=False):
     if unproved and not is_built():
         return run_sources(words, output)
     return ended(*call([ready(), *words], output))
+
+
+def check_terminal(given):
+    """A Trouble where a job would write to a terminal what is no text."""
+    if given.writes_bytes and not given.output and is_terminal() and not wrong_words(given):
+        raise Trouble(f'what {given.job} writes is no text, and the output is a terminal; name a file by -o FILE', USAGE)
+
+
+def run_whole(words):
+    """Runs the program with its output in the file that `-o` names, whole or not there, or else as it comes on the
+    standard output."""
+    given = Words(words)
+    if not given.output:
+        check_terminal(given)
+        return run(words, 1)
+    try:
+        with WholeFile(given.output) as part:
+            done = run(words, part)
+            if done.status:
+                raise Ended(done.status)
+    except Ended:
+        pass
+    except OSError as error:
+        raise Trouble(f'cannot write {given.output}: {error.strerror}', WRITE_FAULT)
+    return done
 
 
 def call(command, output, folder=None):

@@ -50,10 +50,10 @@ def find(name):
     return found
 
 
-def find_all(names, base=None):
-    """The WADs of the names, before them the one that a PWAD stands on: `base`, or else that of the variable IWAD."""
+def with_base(name, base=None):
+    """The WAD of a name, and before it the one that it stands on: `base`, or else that of the variable IWAD."""
     base = base or os.environ.get('IWAD')
-    return [find(name) for name in ([base] if base else []) + list(names)]
+    return [find(it) for it in ([base] if base else []) + [name]]
 
 
 def clean(name):
