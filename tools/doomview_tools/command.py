@@ -48,17 +48,11 @@ def version():
 
 def run_job(words):
     """Runs a job, or hands words to the program that are none of this command's."""
-    try:
-        given = jobs.Words(words)
-        if given.output:
-            done = program.run_whole(words)
-            sys.stderr.write(done.said)
-            return done.status
-        program.check_terminal(given)
+    if not jobs.Words(words).output:
         return program.replace(words)
-    except Trouble as error:
-        print(f'doomview: {error}', file=sys.stderr)
-        return error.status
+    done = program.run_whole(words)
+    sys.stderr.write(done.said)
+    return done.status
 
 
 def build():
@@ -80,6 +74,9 @@ def main(words):
         signal.signal(number, stop)
     try:
         return answer(words)
+    except Trouble as error:
+        print(f'doomview: {error}', file=sys.stderr)
+        return error.status
     except KeyboardInterrupt:
         return 128 + signal.SIGINT
     except BrokenPipeError:

@@ -6,7 +6,7 @@ import re
 import stat
 import sys
 
-from . import program
+from . import program, wads
 from .jobs import LEVEL_JOBS, Words, wrong_words
 from .refusals import Scene, head_of, refused
 from .trouble import Ended
@@ -24,10 +24,6 @@ def read_error(path):
         with open(path, 'rb') as file:
             while file.read(CHUNK):
                 pass
-    except PermissionError:
-        return 'is there, but you may not read it'
-    except FileNotFoundError:
-        return 'is not there' if '/' in path else 'is not there, nor where ports look for WADs'
     except OSError as error:
         return f'cannot be read: {error.strerror}'
     return None
@@ -35,7 +31,12 @@ def read_error(path):
 
 def unreadable(words):
     """A sentence on each file of a call that cannot be read."""
-    return [f'{path} {wrong}.' for path, wrong in ((path, read_error(path)) for path in words.files) if wrong]
+    for path in words.files:
+        wrong = read_error(path)
+        if wrong and path in words.wads and '/' not in path and not os.path.lexists(path):
+            yield f'{wads.not_found(path)}.'
+        elif wrong:
+            yield f'{path} {wrong}.'
 
 
 def on_usage(words):
@@ -43,7 +44,7 @@ def on_usage(words):
 
 
 def on_read_fault(words):
-    return unreadable(words) or ['a file could not be read to its end; look at the disk that has it: '
+    return list(unreadable(words)) or ['a file could not be read to its end; look at the disk that has it: '
                                  + ', '.join(words.files) + '.']
 
 

@@ -120,11 +120,14 @@ def options():
 
     try:
         with open(path, newline='', encoding='utf-8') as file:
-            return {row['option']: Option(row['option'], row['value'], row['jobs'].split(), row['needed'] == 'yes',
-                                          number(row['least']), number(row['greatest']), number(row['step']),
-                                          row['default'], row['meaning']) for row in csv.DictReader(file)}
-    except (OSError, KeyError, ValueError):
+            found = {row['option']: Option(row['option'], row['value'], row['jobs'].split(), row['needed'] == 'yes',
+                                           number(row['least']), number(row['greatest']), number(row['step']),
+                                           row['default'], row['meaning']) for row in csv.DictReader(file)}
+    except (OSError, KeyError, ValueError, AttributeError):
+        found = {}
+    if not found:
         raise Trouble(f'{path} is missing or damaged; take the whole folder of doomview anew')
+    return found
 
 
 def options_of(job):
@@ -247,7 +250,7 @@ def wrong_level(words):
     job, count = words.job, len(words.plain)
     missing = [name for name in needed() if name not in words.given]
     tests = [(missing, f'{job} needs {" and ".join(missing)} too'),
-             (count < 3, f'{job} needs a map and a WAD: {job} MAP01 game.wad ..'),
+             (count < 3, f'{job} needs a map and a WAD, as in {job} MAP01 game.wad'),
              (count - 2 > MOST_WADS, f'{job} takes at most {MOST_WADS} WADs'),
              (count > 1 and not 1 <= len(words.plain[1].encode()) <= MOST_LETTERS,
               f'the name of a map has 1 to {MOST_LETTERS} letters, and {words.map_name!r} has not')]

@@ -4,6 +4,7 @@ DOOMVIEW names another program to run in its place. `run(words)` takes the words
 are found as ports find them, and where `--tables` or `--things` is not named the tools' own are."""
 import atexit
 import collections
+import contextlib
 import os
 import shutil
 import signal
@@ -146,28 +147,28 @@ def run(words, output=None, unproved=False):
     return ended(*call([ready(), *words], output))
 
 
-def check_terminal(given):
-    """A Trouble where a job would write to a terminal what is no text."""
-    if given.writes_bytes and not given.output and is_terminal() and not wrong_words(given):
+def guard_terminal(words):
+    """A Trouble where a job would write to a terminal what is no text. Where its words are wrong it may run, since it
+    writes nothing then."""
+    given = Words(words)
+    if not given.writes_bytes or not is_terminal():
+        return
+    if not wrong_words(given):
         raise Trouble(f'what {given.job} writes is no text, and the output is a terminal; name a file by -o FILE', USAGE)
+    os.dup2(os.open(os.devnull, os.O_WRONLY), 1)
 
 
 def run_whole(words):
     """Runs the program with its output in the file that `-o` names, whole or not there, or else as it comes on the
     standard output."""
-    given = Words(words)
-    if not given.output:
-        check_terminal(given)
+    path = Words(words).output
+    if not path:
+        guard_terminal(completed(words))
         return run(words, 1)
-    try:
-        with WholeFile(given.output) as part:
-            done = run(words, part)
-            if done.status:
-                raise Ended(done.status)
-    except Ended:
-        pass
-    except OSError as error:
-        raise Trouble(f'cannot write {given.output}: {error.strerror}', WRITE_FAULT)
+    with contextlib.suppress(Ended), WholeFile(path, WRITE_FAULT) as part:
+        done = run(words, part)
+        if done.status:
+            raise Ended(done.status)
     return done
 
 
@@ -193,6 +194,7 @@ def replace(words):
     """Puts a run of the program in the place of this process; or runs it to its end where it needs what this process
     holds. Gives its status."""
     words = completed(words)
+    guard_terminal(words)
     program = ready()
     for number in IGNORED:
         signal.signal(number, signal.SIG_DFL)

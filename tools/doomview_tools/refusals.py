@@ -1,14 +1,13 @@
 """Refusals in words: what the numbers behind a code mean, by names from the files of the call.
 
 What is wrong and how to mend it stands in docs/FILES.md, code by code."""
-import collections
 import csv
 import os
 import re
 import struct
 
 from . import home, levels, traces, wads
-from .trouble import Trouble, WadError
+from .trouble import WadError
 
 FIELDS = [['x', 'y', 'angle', 'type', 'options'],
           ['vertex 1', 'vertex 2', 'flags', 'special', 'tag', 'side 0', 'side 1'],
@@ -30,6 +29,7 @@ COLUMNS = {2: [('type', '0 to 65535'), ('sprite', SPRITE), ('frame', FRAME), ('b
 OF_ROWS, OF_COLUMNS = (3, 4, 5, 6, 11, 12), (4, 5)  # codes of a group whose numbers are a row, and a column
 PACKED = (b'PK', b'\x1f\x8b', b'7z')
 MOST_DEPTH = 1024
+NO_MAP = 601
 SHOWN_LINES = 12
 
 
@@ -209,10 +209,6 @@ def packed_file(scene, numbers):
             yield f'{wad} is a packed file.'
 
 
-def no_map(scene, numbers):
-    yield f'{levels.no_map(scene.wads or ["the WAD"], scene.map_name, scene.lumps)}.'
-
-
 def odd_nodes(scene, numbers):
     extended = scene.level.extended_nodes()
     if extended:
@@ -284,7 +280,7 @@ def medusa(scene, numbers):
         yield f'lines of two sides with {name}: {shown}.'
 
 
-HINTS = {401: packed_file, 601: no_map, **dict.fromkeys((603, 604, 605, 606), odd_nodes), 607: deep_nodes,
+HINTS = {401: packed_file, **dict.fromkeys((603, 604, 605, 606), odd_nodes), 607: deep_nodes,
          901: no_texture, 903: no_flat, 905: medusa}
 
 
@@ -317,6 +313,9 @@ def odd_text(path):
 def refused(code, numbers, words):
     """Sentences on a refusal of a call."""
     scene = Scene(words)
+    if code == NO_MAP and scene.lumps and scene.label is None:
+        yield f'{code}: {levels.no_map(scene.wads, scene.map_name, scene.lumps)}.'
+        return
     wrong, mend = codes().get(code, ('docs/FILES.md has no such code', ''))
     at, table = names(scene, code, numbers), words.value(TABLES.get(code // 100))
     if table and code % 100 != 1:

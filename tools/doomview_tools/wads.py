@@ -40,12 +40,15 @@ def find_or_none(name):
     return None
 
 
+def not_found(name):
+    return f'there is no WAD {name} here, in DOOMWADDIR, in DOOMWADPATH or in /usr/share/games/doom; name its path'
+
+
 def find(name):
     """The WAD of a name; a Trouble where there is none."""
     found = find_or_none(name)
     if found is None and '/' not in name:
-        raise Trouble(f'there is no WAD {name} here, in DOOMWADDIR, in DOOMWADPATH or in /usr/share/games/doom; '
-                      'name its path')
+        raise Trouble(not_found(name))
     check_source(found or name)
     return found
 
