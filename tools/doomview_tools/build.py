@@ -1,4 +1,4 @@
-"""Builds doomview by the command rt, and then runs it with the words given: the script doomview calls it.
+"""Builds the proved program by the command rt.
 
 Crates are proved side by side, each in one of some copies of the sources, since rt lets one command at a
 time into a checkout. The library of a crate that is proved is put into the folder out/ of that crate in the
@@ -7,8 +7,8 @@ above them go first; where fewer can go on than there are processors, each gets 
 which stand on all others, are built in the repository itself. The program gets its place, out/doomview, as
 the last step, so no half-built one is ever run; a build that is interrupted goes on where it was.
 
-Without words it only builds. Ends with 70 if the build fails, with 128 and the signal's number if a signal
-stops it, else with the program's status."""
+A build that fails ends this process with 70, one that a signal stops with 128 and the signal's number."""
+import contextlib
 import errno
 import fcntl
 import os
@@ -20,22 +20,23 @@ import sys
 import threading
 import time
 
-TOP = os.path.dirname(os.path.abspath(__file__))
+from . import home, plan, program
+from .trouble import Trouble
+
+TOP = home.TOP
 PROGRAM = 'doomview'
-BUILT = os.path.join(TOP, 'out', PROGRAM)
+BUILT = home.PROGRAM
 # Of the sources. Beside the repository's own files `rt ci` would refuse them after an interrupted build.
 COPIES = os.path.join(TOP, '.git' if os.path.isdir(os.path.join(TOP, '.git')) else 'out', 'doomview-copies')
+SECONDS_FILE = os.path.join(TOP, 'out', 'seconds.csv')
 SOURCES = ('HANDLES', 'crates.txt')  # and crates/
-BUILD_FAILED = 70
+BUILD_FAILED = program.NO_PROGRAM
 CRATE_MEMORY = 2 << 30  # bytes, about what the proof of a crate takes
 BUILD_DISK = 6 << 30  # bytes, about what a whole build takes
 FULL_DISK = 64 << 20  # free bytes, below which a failure is put down to the disk
-WORK_MINUTES, LEAST_MINUTES = 106, 30  # of a whole build: on one processor, and on as many as help
 SHOWN_LINES, SHOWN_COLUMNS = 60, 300  # of what rt said of a crate that failed
 TELL_SECONDS = 20  # after which the build says how far it is, if it has not
-DEAR = ('command_line', 'level_audit', 'doom_run')  # whose proof takes twice as long a line as others'
 STOPS = (signal.SIGINT, signal.SIGTERM, signal.SIGHUP)
-IGNORED = (signal.SIGPIPE, signal.SIGXFSZ)  # by Python, and not by the program
 
 
 def say(text):
@@ -93,27 +94,32 @@ def count_jobs():
 
 
 def count_lines(crate):
-    """How much there is to prove: the lines of its code, tests left out, and twice as many of a dear one."""
+    """The lines of a crate's code, tests left out."""
     found = 0
     for folder, _, files in os.walk(os.path.join(TOP, 'crates', crate, 'src')):
         for name in files:
             if not name.endswith('tests.rt'):
                 with open(os.path.join(folder, name), 'rb') as file:
                     found += file.read().count(b'\n')
-    return 2 * found if crate in DEAR else found
+    return found
 
 
-def lines_above(crates):
-    """The lines of the longest chain of crates that begins with each."""
-    above = {}
-    for crate in reversed(list(crates)):
-        above[crate] = count_lines(crate) + max((above[it] for it in crates if crate in crates[it]), default=0)
-    return above
+def planned_seconds(crates):
+    """The seconds that each crate takes, as far as that is known."""
+    kept, weights = plan.read_numbers(SECONDS_FILE), plan.read_numbers(home.data('weights.csv'))
+    return plan.seconds_of(crates, kept, weights, {crate: count_lines(crate) for crate in crates})
 
 
-def minutes_for(jobs):
-    """About how long a whole build takes on so many processors that do nothing else."""
-    return max(LEAST_MINUTES, round(WORK_MINUTES / jobs))
+def library(top, crate):
+    return os.path.join(top, 'crates', crate, 'out', 'rlib')
+
+
+def is_proved_since(top, crate, began):
+    """Whether rt made the library of a crate, and did not find it made."""
+    try:
+        return os.path.getmtime(os.path.join(library(top, crate), 'stamp')) >= began
+    except OSError:
+        return True
 
 
 def link(source, target):
@@ -128,13 +134,12 @@ def link(source, target):
 
 def share(crate, made, others):
     """Puts the library that rt built of a crate into other checkouts of the same text."""
-    library = os.path.join('crates', crate, 'out', 'rlib')
     for top in others:
-        there = os.path.join(top, library)
+        there = library(top, crate)
         if top != made and os.path.isdir(os.path.dirname(os.path.dirname(there))):
             for old in (there, there + '.part'):
                 shutil.rmtree(old, ignore_errors=True)
-            shutil.copytree(os.path.join(made, library), there + '.part', copy_function=link)
+            shutil.copytree(library(made, crate), there + '.part', copy_function=link)
             os.replace(there + '.part', there)
 
 
@@ -181,18 +186,19 @@ class Build:
     def __init__(self, crates):
         self.crates, self.jobs = crates, count_jobs()
         self.copies = [os.path.join(COPIES, str(number)) for number in range(self.jobs)]
-        self.lines = {crate: count_lines(crate) for crate in crates}
-        self.begun, self.done, self.failure = set(), [], None
+        self.planned = planned_seconds(crates)
+        self.begun, self.done, self.failure = {}, [], None  # begun: when
+        self.took = {}  # by each crate that was proved and not found proved
         self.workers, self.runs = [], []
         self.turn, self.ended = threading.Lock(), threading.Event()
-        self.started = self.told = time.monotonic()
+        self.told = time.monotonic()
 
     def rt(self, top, crate, *words):
         """Starts rt in a crate's folder, unless the build has ended."""
         with self.turn:
             if self.ended.is_set():
                 return None
-            self.begun.add(crate)
+            self.begun[crate] = time.time()
             Signals.hold(True)
             run = subprocess.Popen(['rt', *words], cwd=os.path.join(top, 'crates', crate), errors='replace',
                                    stdin=subprocess.DEVNULL, stdout=subprocess.PIPE, stderr=subprocess.STDOUT)
@@ -204,20 +210,34 @@ class Build:
         self.told = time.monotonic()
         say(text)
 
-    def finish(self, crate):
+    def finish(self, crate, top):
+        """Notes that a crate is built, and what it took."""
         self.done.append(crate)
+        if is_proved_since(top, crate, self.begun[crate]):
+            self.took[crate] = time.time() - self.begun[crate]
+            with contextlib.suppress(OSError, Trouble):  # a build goes on without its notes
+                plan.keep_seconds(SECONDS_FILE, {crate: self.took[crate]})
         self.say(f'crate {len(self.done)} of {len(self.crates)}: {crate}')
+
+    def seconds_left(self):
+        """About how long the build still takes."""
+        pace, now = plan.pace(self.took, self.planned), time.time()
+        left = {crate: max(0, pace * self.planned[crate] - (now - self.begun[crate] if crate in self.begun else 0))
+                for crate in self.crates if crate not in self.done}
+        return plan.seconds_left(self.crates, left, self.jobs)
+
+    def progress(self):
+        """How far the build is, as a sentence."""
+        now = ', '.join(it for it in self.crates if it in self.begun and it not in self.done)
+        return (f'{len(self.done)} of {len(self.crates)} crates, {plan.rounded(self.seconds_left())} left; now '
+                f'{now or "none"}')
 
     def tell(self):
         """Says now and then how far the build is, as long as it goes on."""
-        whole = max(1, sum(self.lines.values()))
         while not self.ended.wait(1):
             with self.turn:
                 if time.monotonic() - self.told > TELL_SECONDS:
-                    percent = 100 * sum(self.lines[it] for it in self.done) // whole
-                    now = ', '.join(it for it in self.crates if it in self.begun and it not in self.done)
-                    self.say(f'{len(self.done)} of {len(self.crates)} crates, {percent} % of the work, after '
-                             f'{(self.told - self.started) / 60:.1f} minutes; now {now}')
+                    self.say(self.progress())
 
     def fail(self, text, said=()):
         """Ends the build, unless it has ended."""
@@ -241,7 +261,7 @@ class Build:
             share(crate, top, [TOP, *self.copies])
         with self.turn:
             if is_made:
-                self.finish(crate)
+                self.finish(crate, top)
             else:
                 self.fail(f'the build of {crate} failed', said)
 
@@ -252,8 +272,8 @@ class Build:
                      and all(it in self.done for it in self.crates[crate])]
             if not ready:
                 return None
-            running = len(self.begun - {*self.done})
-            self.begun.add(ready[0])
+            running = len(self.begun.keys() - {*self.done})
+            self.begun[ready[0]] = time.time()
             return ready[0], max(1, self.jobs // (running + len(ready)))
 
     def work(self, top, order):
@@ -271,12 +291,12 @@ class Build:
                 self.fail(f'the build failed: {error}')
 
     def side_by_side(self, last):
-        above = lines_above(self.crates)
+        above = plan.seconds_above(self.crates, self.planned)
         order = sorted((it for it in self.crates if it not in last), key=lambda it: -above[it])
         for top in self.copies:
             copy_sources(top)
         for crate in order:
-            if os.path.exists(os.path.join(TOP, 'crates', crate, 'out', 'rlib')):
+            if os.path.exists(library(TOP, crate)):
                 share(crate, TOP, self.copies)  # of an earlier build: rt sees whether it is of this text
         for top in self.copies:
             self.workers.append(threading.Thread(target=self.work, args=(top, order)))
@@ -311,12 +331,12 @@ def put_in_place(began):
     os.replace(part, BUILT)
 
 
-def build():
+def build_all():
+    """Builds the program, or ends this process."""
     began = time.time()
-    crates = crates_below(PROGRAM)
-    work = Build(crates)
-    say(f'building: {len(crates)} crates are proved, side by side. From nothing that takes about '
-        f'{minutes_for(work.jobs)} minutes on {work.jobs} processors that do nothing else')
+    work = Build(crates_below(PROGRAM))
+    say(f'building: {len(work.crates)} crates are proved, side by side. From nothing that takes about half an hour on '
+        'four processors')
     free = shutil.disk_usage(TOP).free
     if free < BUILD_DISK and not os.path.exists(COPIES):
         say(f'the disk has {free / 1e9:.1f} GB free, and a whole build takes about {BUILD_DISK / 1e9:.0f} GB')
@@ -335,11 +355,8 @@ def build():
     shutil.rmtree(COPIES, ignore_errors=True)
 
 
-def main():
-    for number in STOPS:
-        signal.signal(number, Signals.stop)
-    if not shutil.which('rt'):
-        fail('the build needs the command rt, which is the Rattle kit\'s')
+def build_alone():
+    """Builds the program, unless another build does: then waits for that one to end, and builds what it left."""
     os.makedirs(os.path.dirname(BUILT), exist_ok=True)
     with open(BUILT + '.lock', 'w') as lock:
         try:
@@ -347,16 +364,20 @@ def main():
         except BlockingIOError:
             say('waiting for another build to end')
             fcntl.flock(lock, fcntl.LOCK_EX)
-            os.execv(os.path.join(TOP, PROGRAM), [PROGRAM, *(sys.argv[1:] or ['--build'])])
-        build()
-    for number in (*STOPS, *IGNORED):
-        signal.signal(number, signal.SIG_DFL)
-    if sys.argv[1:]:
-        os.execv(BUILT, [BUILT, *sys.argv[1:]])
+            if program.is_built():
+                return
+        build_all()
 
 
-if __name__ == '__main__':
+def build():
+    """Builds the program; returns only where it is built."""
+    before = {number: signal.signal(number, Signals.stop) for number in STOPS}
     try:
-        main()
+        if not shutil.which('rt'):
+            fail('the build needs the command rt, which is the Rattle kit\'s')
+        build_alone()
     except OSError as error:
         fail(f'the build failed: {error}')
+    finally:
+        for number, handler in before.items():
+            signal.signal(number, handler)

@@ -3,18 +3,28 @@
 A tool is a module of `commands` with a PAGE, a function `add_words(parser)` and a function `run(options)`, which gives
 the status of the tool, or None for 0."""
 import argparse
-import collections
-import os
 import shutil
 import sys
+import textwrap
+import typing
 
 from . import jobs, wads
 from .trouble import TROUBLE, Trouble
 
 MOST_COLUMNS = 100
-INTERRUPTED, BROKEN_PIPE = 130, 141
+JOB_OPTION = 'job '  # before the names of options that are handed on
 
-Page = collections.namedtuple('Page', 'name summary text examples needs usage', defaults=('', '', 'Python alone', None))
+
+class Page(typing.NamedTuple):
+    """The parts of a help page. `usage` has the plain words as they are shown, where they depend on each other."""
+
+    name: str
+    summary: str
+    text: str
+    examples: str
+    needs: str = 'Python alone'
+    ends: str = ''
+    usage: str = ''
 
 
 def columns():
@@ -28,22 +38,49 @@ class Formatter(argparse.RawDescriptionHelpFormatter):
 
 
 class Parser(argparse.ArgumentParser):
-    """The words of a tool. All help pages have the same parts in the same order."""
+    """The words of a tool or a job. All help pages have the same parts in the same order."""
 
     def __init__(self, page):
-        super().__init__(prog=f'doomview {page.name}', usage=page.usage and f'doomview {page.name} {page.usage}',
-                         description=page.text.strip(), epilog=endnote(page.examples, page.needs), add_help=False,
-                         allow_abbrev=False, formatter_class=Formatter)
+        super().__init__(prog=f'doomview {page.name}', description=filled(page.text), epilog=last_parts(page),
+                         add_help=False, allow_abbrev=False, formatter_class=Formatter)
+        self.page = page
         self._positionals.title, self._optionals.title = 'Words', 'Options'
 
     def error(self, message):
-        raise Trouble(f'{message}; {self.prog} --help shows its words')
+        raise Trouble(f'{message.replace("argument ", "")}; {self.prog} --help shows its words')
+
+    def format_usage(self):
+        """All words, the positional ones first."""
+        plain = [form_of(action) for action in self._actions if not action.option_strings]
+        options = [form_of(action) for action in self._actions if action.option_strings and action.dest != 'help']
+        words = [self.page.usage] if self.page.usage else plain
+        return textwrap.fill(' '.join(['usage:', self.prog, *words, *options]), columns(), subsequent_indent=' ' * 9,
+                             break_on_hyphens=False) + '\n'
+
+    def format_help(self):
+        self.usage = argparse.SUPPRESS
+        return f'{self.format_usage()}\n{super().format_help()}'
 
 
-def endnote(examples, needs):
-    """The last parts of a help page."""
-    lines = [f'  {line}' for line in examples.strip().splitlines()]
-    return '\n'.join(['Examples:', *lines, '', f'Needs: {needs}.'])
+def form_of(action):
+    """How a word or an option is written."""
+    many = '..' if action.nargs in ('*', '+') else ''
+    if action.option_strings:
+        form = ' '.join(filter(None, [action.option_strings[0], action.metavar])) + many
+        return form if action.required else f'[{form}]'
+    return f'[{action.metavar}{many}]' if action.nargs in ('*', '?') else action.metavar + many
+
+
+def filled(text):
+    """Paragraphs, each filled up to the width of the page."""
+    return '\n\n'.join(textwrap.fill(' '.join(part.split()), columns(), break_on_hyphens=False)
+                       for part in text.strip().split('\n\n'))
+
+
+def last_parts(page):
+    """The examples of a page, how it ends, and what it needs."""
+    parts = [('Examples', page.examples), ('Ends with', page.ends), ('Needs', page.needs + '.')]
+    return '\n\n'.join(f'{title}:\n' + textwrap.indent(text.strip('\n'), '  ') for title, text in parts if text)
 
 
 def add_output(parser, what):
@@ -65,7 +102,7 @@ def add_level(parser):
 
 def wads_of(options):
     """The WADs of a tool over one WAD, in their order."""
-    return wads.find_all([options.wad], options.iwad)
+    return wads.with_base(options.wad, options.iwad)
 
 
 def number(least, greatest):
@@ -81,22 +118,49 @@ def add_job_options(parser, job, without=()):
     """The options of a job that a tool hands on to it."""
     for option in jobs.options_of(job):
         if option.name not in without:
-            default = f'; else {option.default}' if option.default else ''
-            parser.add_argument(option.name, metavar=option.value, help=option.meaning + default)
+            parser.add_argument(option.name, metavar=option.value, dest=JOB_OPTION + option.name,
+                                help=meaning_of(option))
 
 
-def job_words(options, job):
-    """The words of the options that a tool hands on."""
-    found = vars(options)
-    return [part for option in jobs.options_of(job) if found.get(option.name[2:]) is not None
-            for part in (option.name, found[option.name[2:]])]
+def job_words(options):
+    """The words of the options that a tool hands on to a job."""
+    found = {name[len(JOB_OPTION):]: value for name, value in vars(options).items() if name.startswith(JOB_OPTION)}
+    return [part for name, value in found.items() if value is not None for part in (name, value)]
 
 
 def parser_of(tool):
+    """The parser of a tool, which also prints its help page."""
     parser = Parser(tool.PAGE)
     tool.add_words(parser)
-    parser.add_argument('-h', '--help', action='help', help='prints this page')
+    parser.add_argument('--help', '-h', action='help', help='prints this page')
     return parser
+
+
+def job_page(job):
+    """The help page of a job, by the table of options."""
+    ends = '\n'.join(f'{status:2}  {meaning}' for status, meaning in jobs.STATUSES.items())
+    parser = Parser(Page(job.name, job.summary, job.text, job.examples, 'the program; it is built at the first call',
+                         ends))
+    for metavar, meaning in job.words:
+        parser.add_argument(metavar, metavar=metavar, help=meaning)
+    for option in jobs.options_of(job.name):
+        parser.add_argument(option.name, metavar=option.value, help=meaning_of(option),
+                            required=option.is_needed and not option.default)
+    add_output(parser, 'the output')
+    parser.add_argument('--help', '-h', action='help', help='prints this page')
+    return parser.format_help()
+
+
+def meaning_of(option):
+    """What an option means, its range, and what it is where it is not named."""
+    parts = [option.meaning]
+    if option.least is not None:
+        parts.append(f'{option.least} to {option.greatest}')
+    if option.default:
+        parts.append(f'else {option.default}')
+    elif option.is_needed:
+        parts.append('needed')
+    return '; '.join(parts)
 
 
 def run(tool, words):
@@ -104,10 +168,8 @@ def run(tool, words):
     try:
         return tool.run(parser_of(tool).parse_args(words)) or 0
     except BrokenPipeError:
-        os.dup2(os.open(os.devnull, os.O_WRONLY), 1)  # nobody reads what is left
-        return BROKEN_PIPE
-    except KeyboardInterrupt:
-        return INTERRUPTED
+        raise
     except (Trouble, OSError) as error:
-        print(f'doomview {tool.PAGE.name}: {error}', file=sys.stderr)
+        if str(error):
+            print(f'doomview {tool.PAGE.name}: {error}', file=sys.stderr)
         return getattr(error, 'status', TROUBLE)

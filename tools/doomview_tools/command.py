@@ -1,16 +1,14 @@
 """The command doomview: the jobs of the proved program, and the tools beside it."""
 import importlib
 import os
-import subprocess
+import signal
 import sys
 
 from . import cli, home, jobs, program
-from .files import WholeFile, is_terminal
 from .trouble import Trouble
 
 TOOLS = ['picture', 'places', 'turn', 'compare', 'pixel', 'explain', 'video', 'audit-all', 'draw-all', 'maps', 'tables',
          'room']
-USAGE, WRITE_FAULT = 1, 4  # statuses of the program
 
 
 def tool(name):
@@ -20,7 +18,7 @@ def tool(name):
 
 def overview():
     """What `doomview --help` prints."""
-    job_lines = [(f'{job.name} {job.words}', job.summary) for job in jobs.JOBS.values()]
+    job_lines = [(' '.join([job.name, *(word for word, _ in job.words)]), job.summary) for job in jobs.JOBS.values()]
     tool_lines = [(name, tool(name).PAGE.summary) for name in TOOLS]
 
     def table(lines):
@@ -48,41 +46,13 @@ def version():
     return f'doomview {known["version"]}\nlogic {known["logic"]}'
 
 
-def take_output(words):
-    """The words of a job without `-o FILE`, and FILE or None."""
-    end = words.index('--') if '--' in words else len(words)
-    at = [place for place, word in enumerate(words[:end]) if word == '-o']
-    if not at:
-        return words, None
-    if len(at) > 1 or at[0] + 1 == end:
-        raise Trouble('-o stands once, with the name of a file behind it', USAGE)
-    return words[:at[0]] + words[at[0] + 2:], words[at[0] + 1]
-
-
-def run_into(words, path):
-    """Runs a job with its output in a file, which is whole or not there."""
-    try:
-        with WholeFile(path) as part:
-            done = program.start(words, stdout=part)
-            status = done.wait()
-            if status:
-                raise subprocess.CalledProcessError(status, 'doomview')
-    except subprocess.CalledProcessError as error:
-        return error.returncode if error.returncode >= 0 else 128 - error.returncode
-    except OSError as error:
-        raise Trouble(f'cannot write {path}: {error.strerror}', WRITE_FAULT)
-    return 0
-
-
 def run_job(words):
     """Runs a job, or hands words to the program that are none of this command's."""
-    words, path = take_output(words)
-    if path:
-        return run_into(words, path)
-    job = jobs.JOBS.get(jobs.Words(words).job)
-    if job and job.is_binary and is_terminal():
-        raise Trouble(f'what {job.name} writes is no text, and the output is a terminal; name a file by -o FILE', USAGE)
-    return program.replace(words)
+    if not jobs.Words(words).output:
+        return program.replace(words)
+    done = program.run_whole(words)
+    sys.stderr.write(done.said)
+    return done.status
 
 
 def build():
@@ -93,11 +63,32 @@ def build():
     return 0
 
 
+def stop(number, _):
+    """Ends this process by a signal; what it holds is cleared up on the way."""
+    raise SystemExit(128 + number)
+
+
 def main(words):
     """Runs the command; its status."""
+    for number in (signal.SIGTERM, signal.SIGHUP):
+        signal.signal(number, stop)
+    try:
+        return answer(words)
+    except Trouble as error:
+        print(f'doomview: {error}', file=sys.stderr)
+        return error.status
+    except KeyboardInterrupt:
+        return 128 + signal.SIGINT
+    except BrokenPipeError:
+        os.dup2(os.open(os.devnull, os.O_WRONLY), 1)  # nobody reads what is left
+        return 128 + signal.SIGPIPE
+
+
+def answer(words):
+    """What the command does with its words; its status."""
     if not words:
         print('doomview: usage', overview(), sep='\n', file=sys.stderr)
-        return USAGE
+        return jobs.USAGE
     if words in (['--help'], ['-h'], ['--version']):
         print(version() if words == ['--version'] else overview())
         return 0
@@ -107,12 +98,7 @@ def main(words):
         return build()
     if words[0] in TOOLS:
         return cli.run(tool(words[0]), words[1:])
-    try:
-        return run_job(words)
-    except Trouble as error:
-        print(f'doomview: {error}', file=sys.stderr)
-        return error.status
-
-
-if __name__ == '__main__':
-    sys.exit(main(sys.argv[1:]))
+    if words[0] in jobs.JOBS and {'--help', '-h'} & {*words}:
+        print(cli.job_page(jobs.JOBS[words[0]]), end='')
+        return 0
+    return run_job(words)

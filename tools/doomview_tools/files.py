@@ -1,10 +1,10 @@
 """Files that are written whole or not at all."""
+import contextlib
 import os
-import stat
 import sys
 import tempfile
 
-from .trouble import Trouble
+from .trouble import TROUBLE, Trouble
 
 
 def check_source(path):
@@ -33,38 +33,52 @@ def check_target(path):
 class WholeFile:
     """A file that takes its place as the last step: `with WholeFile(path) as part: ..` writes into the file `part`.
 
-    What is there and no plain file stays, and so does what is there where the block ends with an exception."""
+    What is there and no plain file stays, and so does what is there where the block ends with an exception. A file that
+    cannot be written is a Trouble with the status."""
 
-    def __init__(self, path):
-        check_target(path)
-        self.path = os.path.realpath(path)
+    def __init__(self, path, status=TROUBLE):
+        self.named, self.status = path, status
+        with self.troubles():
+            check_target(path)
+            self.path = os.path.realpath(path)
+            folder, name = os.path.split(self.path)
+            handle, self.part_path = tempfile.mkstemp(prefix=f'.{name}.', dir=folder)
+            os.close(handle)
+            self.part = open(self.part_path, 'wb')
+
+    @contextlib.contextmanager
+    def troubles(self):
+        """Makes Troubles with the status of what goes wrong."""
+        try:
+            yield
+        except Trouble as error:
+            raise Trouble(str(error), self.status)
+        except OSError as error:
+            raise Trouble(f'cannot write {self.named}: {error.strerror}', self.status)
 
     def __enter__(self):
-        handle, name = tempfile.mkstemp(prefix='.' + os.path.basename(self.path) + '.', dir=os.path.dirname(self.path))
-        self.part = open(handle, 'wb')
-        self.part_path = name
         return self.part
 
-    def __exit__(self, kind, *_):
+    def __exit__(self, kind, error, _):
         try:
-            self.part.close()
-            if kind is None:
-                mask = os.umask(0)
-                os.umask(mask)
-                os.chmod(self.part_path, 0o666 & ~mask)
-                os.replace(self.part_path, self.path)
+            with self.troubles():
+                self.part.close()
+                if kind is None:
+                    mask = os.umask(0)
+                    os.umask(mask)
+                    os.chmod(self.part_path, 0o666 & ~mask)
+                    os.replace(self.part_path, self.path)
         finally:
             if os.path.lexists(self.part_path):
                 os.remove(self.part_path)
+        if isinstance(error, OSError):
+            raise Trouble(f'cannot write {self.named}: {error.strerror}', self.status)
 
 
 def write_whole(path, data):
     """Puts bytes into a file, which takes its place as the last step."""
-    try:
-        with WholeFile(path) as part:
-            part.write(data)
-    except OSError as error:
-        raise Trouble(f'cannot write {path}: {error.strerror}')
+    with WholeFile(path) as part:
+        part.write(data)
 
 
 def is_terminal():
@@ -89,11 +103,3 @@ def write_output(data, path=None, what='the output'):
         raise
     except OSError as error:
         raise Trouble(f'cannot write {what}: {error.strerror}')
-
-
-def is_plain(path):
-    """Whether a path leads to a plain file, or is one that does not exist."""
-    try:
-        return stat.S_ISREG(os.stat(path).st_mode)
-    except OSError:
-        return False

@@ -7,7 +7,7 @@ import functools
 import struct
 
 from .trouble import WadError
-from .wads import MAP_LUMPS, clean, map_labels, read as read_wad
+from .wads import BEHIND_MAP, MAP_LUMPS, clean, map_labels, read as read_wad
 
 UNIT = 1 << 16  # a map unit in 16.16
 TURN = 1 << 32  # a whole turn as an angle
@@ -151,10 +151,12 @@ def no_map(wads, name, lumps):
     """The WadError of WADs without a map of that name: what stands in its place."""
     names = [lump.name for lump in lumps]
     where = wads[0] if len(wads) == 1 else 'the WADs ' + ' '.join(wads)
-    behind = names[len(names) - names[::-1].index(name):][:12] if name in names else []
+    behind = names[len(names) - names[::-1].index(name):][:BEHIND_MAP] if name in names else []
     why = why_no_map(behind)
     if why:
         return WadError(f'{name} of {where} {why}')
+    if name in names:
+        return WadError(f'{name} of {where} is no map: behind it stand {", ".join(behind[:8]) or "no lumps"}')
     return WadError(f'{where} has no map {name}; its maps: {" ".join(sorted(map_labels(lumps))) or "none"}')
 
 
@@ -166,9 +168,14 @@ def why_no_map(behind):
         return 'is in Hexen format (it has a BEHAVIOR); save it in Doom format'
     missing = [lump for lump in MAP_LUMPS if lump not in behind[:8]]
     if behind[:2] == MAP_LUMPS[:2] and missing and set(missing) <= set(BUILT_LUMPS):
-        gl = ' for software rendering: its GL nodes alone are not read' if any(it.startswith('GL_') for it in behind) else ''
-        return f'has no nodes ({", ".join(BUILT_LUMPS)}); build them{gl}'
+        alone = ' (it has GL nodes alone, which are not read)' if any(it.startswith('GL_') for it in behind) else ''
+        return f'has no nodes ({", ".join(BUILT_LUMPS)}){alone}; build them'
     return None
+
+
+def has_gl_nodes(lumps, label):
+    """Whether GL nodes stand behind a map."""
+    return any(lump.name.startswith('GL_') for lump in lumps[label + 9:label + 9 + BEHIND_MAP])
 
 
 def read(wads, name):

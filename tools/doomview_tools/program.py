@@ -4,6 +4,7 @@ DOOMVIEW names another program to run in its place. `run(words)` takes the words
 are found as ports find them, and where `--tables` or `--things` is not named the tools' own are."""
 import atexit
 import collections
+import contextlib
 import os
 import shutil
 import signal
@@ -11,9 +12,9 @@ import subprocess
 import tempfile
 
 from . import home, tables
-from .files import write_whole
-from .jobs import LEVEL_JOBS, Words
-from .trouble import Trouble
+from .files import WholeFile, is_terminal, write_whole
+from .jobs import LEVEL_JOBS, USAGE, WRITE_FAULT, Words, wrong_words
+from .trouble import Ended, Trouble
 
 NO_PROGRAM = 70  # the status where there is no run
 SECONDS = 300  # that a run of the sources without proofs may take
@@ -125,8 +126,10 @@ def completed(words):
     if given.job not in LEVEL_JOBS:
         return given.with_wads_found()
     own = [('--tables', tables_file), ('--things', things_file)]
-    front = [part for name, file in own if name not in given.given for part in (name, file())]
-    return front + given.with_wads_found()
+    more = [part for name, file in own if name not in given.given for part in (name, file())]
+    words = given.with_wads_found()
+    at = 1 if words[0] == given.job else 0  # where they are options, whatever stands behind
+    return words[:at] + more + words[at:]
 
 
 def ended(status, output, said):
@@ -142,6 +145,31 @@ def run(words, output=None, unproved=False):
     if unproved and not is_built():
         return run_sources(words, output)
     return ended(*call([ready(), *words], output))
+
+
+def guard_terminal(words):
+    """A Trouble where a job would write to a terminal what is no text. Where its words are wrong it may run, since it
+    writes nothing then."""
+    given = Words(words)
+    if not given.writes_bytes or not is_terminal():
+        return
+    if not wrong_words(given):
+        raise Trouble(f'what {given.job} writes is no text, and the output is a terminal; name a file by -o FILE', USAGE)
+    os.dup2(os.open(os.devnull, os.O_WRONLY), 1)
+
+
+def run_whole(words):
+    """Runs the program with its output in the file that `-o` names, whole or not there, or else as it comes on the
+    standard output."""
+    path = Words(words).output
+    if not path:
+        guard_terminal(completed(words))
+        return run(words, 1)
+    with contextlib.suppress(Ended), WholeFile(path, WRITE_FAULT) as part:
+        done = run(words, part)
+        if done.status:
+            raise Ended(done.status)
+    return done
 
 
 def call(command, output, folder=None):
@@ -166,6 +194,7 @@ def replace(words):
     """Puts a run of the program in the place of this process; or runs it to its end where it needs what this process
     holds. Gives its status."""
     words = completed(words)
+    guard_terminal(words)
     program = ready()
     for number in IGNORED:
         signal.signal(number, signal.SIG_DFL)

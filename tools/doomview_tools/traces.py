@@ -17,6 +17,7 @@ LUMP, COMPOSITE = 1, 2  # kinds of sources
 SHOWN_NUMBERS, SHOWN_TEXTURES = 6, 3
 
 Painter = collections.namedtuple('Painter', 'kind source_kind source')
+Source = collections.namedtuple('Source', 'word name more')
 
 
 def record_at(path, view, x, y):
@@ -77,15 +78,17 @@ class Names:
             return []
         return self.with_patch.get(self.source(painter), [])
 
-    def texture(self, painter):
-        """The name to know a painter by, and words on what it read: of a patch that one texture has, the texture."""
+    def known(self, painter):
+        """What a painter read, for a user to know it by: of a patch that one texture alone has, the texture."""
         name, textures = self.source(painter), self.textures_of(painter)
+        if painter.source_kind == COMPOSITE:
+            return Source('texture', name, '')
         if len(textures) == 1:
-            return textures[0], f'patch {name}' if name != textures[0] else ''
-        if not textures:
-            return name, ''
-        some = ', '.join(textures[:SHOWN_TEXTURES]) + (' ..' if len(textures) > SHOWN_TEXTURES else '')
-        return name, f'patch of {some}'
+            return Source('texture', textures[0], f'patch {name}' if name != textures[0] else '')
+        if textures:
+            some = ', '.join(textures[:SHOWN_TEXTURES]) + (' ..' if len(textures) > SHOWN_TEXTURES else '')
+            return Source('patch', name, f'of {some}')
+        return Source('lump', name, '')
 
 
 def told(record, names):
@@ -94,14 +97,14 @@ def told(record, names):
     word, thing = KINDS.get(kind, (f'kind {kind}', 'number'))
     if not kind:
         return 'nothing, colour 0'
-    painter = Painter(kind, source_kind, source)
     parts = [f'{word} {number}' if thing == word else f'{word}, {thing} {number}']
-    name, more = names.texture(painter)
     if source_kind:
-        is_texture = source_kind == COMPOSITE or more.startswith('patch ') and not more.startswith('patch of ')
-        what = 'texture' if is_texture else 'lump'
-        parts.append(name if name.startswith(what + ' ') else f'{what} {name}')
-    return ', '.join(parts + [it for it in [more] if it] + [f'colour {colour}'])
+        known = names.known(Painter(kind, source_kind, source))
+        is_number = known.name == f'{known.word} {source}'
+        parts.append(known.name if is_number else f'{known.word} {known.name}')
+        if known.more:
+            parts.append(known.more)
+    return ', '.join(parts + [f'colour {colour}'])
 
 
 def painters(records, places, names):
@@ -114,8 +117,9 @@ def painters(records, places, names):
         numbers[painter].add(number)
     for painter, count in pixels.most_common():
         word, thing = KINDS.get(painter.kind, (f'kind {painter.kind}', 'number'))
-        name, more = names.texture(painter)
+        known = names.known(painter)
         some = sorted(numbers[painter])
         shown = ' '.join(map(str, some[:SHOWN_NUMBERS])) + (' ..' if len(some) > SHOWN_NUMBERS else '')
-        yield '  '.join([f'  {word:8} {name:9} {count:6}', *([f'{thing} {shown}'] if thing else []),
-                         *([more] if more else [])])
+        more = f'patch {known.more}' if known.word == 'patch' else known.more
+        cells = [f'  {word:8} {known.name:9} {count:6}', f'{thing} {shown}' if thing else '', more]
+        yield '  '.join(cell for cell in cells if cell)

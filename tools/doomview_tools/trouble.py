@@ -13,3 +13,10 @@ class Trouble(Exception):
 
 class WadError(Trouble):
     """What is wrong with a WAD or a level."""
+
+
+class Ended(Trouble):
+    """A run of the program that failed, which is told already."""
+
+    def __init__(self, status):
+        super().__init__('', status)

@@ -40,20 +40,23 @@ def find_or_none(name):
     return None
 
 
+def not_found(name):
+    return f'there is no WAD {name} here, in DOOMWADDIR, in DOOMWADPATH or in /usr/share/games/doom; name its path'
+
+
 def find(name):
     """The WAD of a name; a Trouble where there is none."""
     found = find_or_none(name)
     if found is None and '/' not in name:
-        raise Trouble(f'there is no WAD {name} here, in DOOMWADDIR, in DOOMWADPATH or in /usr/share/games/doom; '
-                      'name its path')
+        raise Trouble(not_found(name))
     check_source(found or name)
     return found
 
 
-def find_all(names, base=None):
-    """The WADs of the names, before them the one that a PWAD stands on: `base`, or else that of the variable IWAD."""
+def with_base(name, base=None):
+    """The WAD of a name, and before it the one that it stands on: `base`, or else that of the variable IWAD."""
     base = base or os.environ.get('IWAD')
-    return [find(name) for name in ([base] if base else []) + list(names)]
+    return [find(it) for it in ([base] if base else []) + [name]]
 
 
 def clean(name):

@@ -1,4 +1,4 @@
-"""What the tests of the scripts of this folder share: made files, stand-ins for doomview, and a way to run a script."""
+"""What the tests of the tools share: made files, stand-ins for doomview, and a way to run a tool."""
 import os
 import shutil
 import struct
@@ -9,21 +9,31 @@ import unittest
 import zlib
 
 HERE = os.path.dirname(os.path.abspath(__file__))
+TOOLS = os.path.dirname(HERE)
+TOP = os.path.dirname(TOOLS)
 sys.dont_write_bytecode = True
-sys.path.insert(0, HERE)
+sys.path.insert(0, TOOLS)
+from doomview_tools import wads  # noqa: E402
 
-# All that the scripts may call besides Python, doomview and the tools that draw.
-COMMANDS = ['sh', 'basename', 'cat', 'dirname', 'env', 'grep', 'head', 'mkdir', 'mktemp', 'mv', 'readlink', 'rm', 'tr']
+COMMAND = os.path.join(TOP, 'doomview')
+# All that the command and the stand-ins may call besides Python, doomview and the tools that draw.
+COMMANDS = ['sh', 'basename', 'cat', 'dirname', 'env', 'readlink']
 ROOM = [(-256, 256), (256, 256), (256, -256), (-256, -256)]
 FRAME = b'P6\n320 200\n255\n' + bytes(192000)
 
 
 # Reads the files of an audit, and refuses MAP02; takes no words of another job.
 DOOMVIEW = '''#!/bin/sh
-[ "$1" != audit ] || cat "$3" "$5" "$7" "$9" >/dev/null || exit 3
-case "$1 $2" in
-    'make things') echo type ;;
-    'audit MAP02') echo 'doomview: refused 901 3' >&2; exit 2 ;;
+job=$1 words=" $* "
+while [ $# -gt 0 ]; do
+    case $1 in
+        --tables | --things | --path) cat "$2" >/dev/null || exit 3; shift ;;
+        */*) cat "$1" >/dev/null || exit 3 ;;
+    esac
+    shift
+done
+case $job$words in
+    audit*' MAP02 '*) echo 'doomview: refused 901 3' >&2; exit 2 ;;
     audit*) echo 'accepted enough 1 roomy 2' ;;
     *) echo 'doomview: usage' >&2; exit 1 ;;
 esac
@@ -58,11 +68,7 @@ def room(floors, starts, nodes):
 
 
 def wad(lumps):
-    offset, bodies, entries = 12, b'', b''
-    for label, data in lumps:
-        entries += struct.pack('<II8s', offset + len(bodies), len(data), name(label))
-        bodies += data
-    return b'IWAD' + struct.pack('<II', len(lumps), offset + len(bodies)) + bodies + entries
+    return wads.packed(lumps)
 
 
 def made_wad():
@@ -95,7 +101,9 @@ def pixels_of(path):
     return b''.join(lines[(3 * width + 1) * row + 1:(3 * width + 1) * (row + 1)] for row in range(height))
 
 
-class Scripts(unittest.TestCase):
+class Tools(unittest.TestCase):
+    """Runs tools in a folder of its own, with nothing on the PATH but COMMANDS and stand-ins."""
+
     def setUp(self):
         self.folder = tempfile.mkdtemp(prefix='two words ')
         self.addCleanup(shutil.rmtree, self.folder)
@@ -122,19 +130,34 @@ class Scripts(unittest.TestCase):
         with open(self.at(place), encoding='latin-1') as file:
             return file.read()
 
-    def run_script(self, script, *words, doomview=None, input=None, stdout=subprocess.PIPE, **more):
-        """Status, standard output and standard error, with nothing on the PATH but COMMANDS and stand-ins."""
-        command = [sys.executable, '-B'] if script.endswith('.py') else []
-        script = script if os.path.isabs(script) else os.path.join(HERE, script)
-        env = {'PATH': self.bin, 'DOOMVIEW': doomview or self.at('absent'), **more}
+    def clone(self):
+        """A copy of the command, its tools and the page that they read, without the program: its command."""
+        left_out = shutil.ignore_patterns('still*', 'source', '__pycache__', 'tests')
+        shutil.copytree(TOOLS, self.at('clone/tools'), ignore=left_out)
+        shutil.copy(COMMAND, self.at('clone'))
+        os.makedirs(self.at('clone/crates/doomview'))
+        os.mkdir(self.at('clone/docs'))
+        shutil.copy(os.path.join(TOP, 'docs', 'FILES.md'), self.at('clone/docs'))
+        self.write('clone/crates.txt', b'doomview:\n')
+        return self.at('clone/doomview')
+
+    def surroundings(self, doomview=None, **more):
+        return {'PATH': self.bin, 'HOME': self.folder, 'XDG_CACHE_HOME': self.at('cache'),
+                'DOOMVIEW': self.at('absent') if doomview is None else doomview, **more}
+
+    def run_command(self, command, *words, input=None, stdout=subprocess.PIPE, **more):
+        """Status, standard output and standard error of a command; `doomview` stands for the program."""
         given = {'stdin': subprocess.DEVNULL} if input is None else {'input': input}
-        done = subprocess.run([*command, script, *words], stdout=stdout, stderr=subprocess.PIPE, cwd=self.folder,
-                              env=env, **given)
+        done = subprocess.run([command, *words], stdout=stdout, stderr=subprocess.PIPE, cwd=self.folder,
+                              env=self.surroundings(**more), **given)
         return done.returncode, done.stdout, done.stderr.decode()
 
-    def refuses(self, part, script, *words, **more):
-        """The script ends with a status other than 0, writes nothing, and says what is wrong."""
-        status, output, error = self.run_script(script, *words, **more)
+    def run_tool(self, tool, *words, **more):
+        return self.run_command(COMMAND, tool, *words, **more)
+
+    def refuses(self, part, tool, *words, command=COMMAND, **more):
+        """The tool ends with a status other than 0, writes nothing, and says in a sentence what is wrong."""
+        status, output, error = self.run_command(command, tool, *words, **more)
         self.assertNotEqual(status, 0)
         self.assertEqual(output, b'')
         self.assertIn(part, error)

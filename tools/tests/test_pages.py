@@ -1,16 +1,16 @@
 """Tests the pages: that links lead somewhere, that the code they point to is there, and that tables which say the same
-agree.
-
-usage: python3 examples/test_pages.py"""
+agree."""
+import datetime
 import glob
 import os
 import re
 import unittest
 
-from made_files import HERE
+import constants
+from made_files import TOOLS, TOP
+from doomview_tools import command, home, jobs
 
-TOP = os.path.dirname(HERE)
-PAGES = ['README.md', 'CHANGELOG.md', 'examples/README.md', 'examples/original/README.md']
+PAGES = ['README.md', 'CHANGELOG.md', 'tools/original/README.md']
 
 
 def read(place):
@@ -139,44 +139,97 @@ class Pages(unittest.TestCase):
             crate, file = place.strip().split(', ')
             crate, _, folder = crate.partition('/')
             path = file if file.startswith('src/') else '/'.join(it for it in ('src', folder, f'{file}.rt') if it)
-            text = read(f'crates/{crate}/{path}')
             bounds = [number.strip('` ') for number in f'{least},{greatest}'.split(',')]
             for name, stated in re.findall(r'`(\w+)`(?: = (\d+))?', words):
-                value = re.search(rf"const {name}: \w+ = (?:b'(.)'|(-?[\d_]+));", text)
-                self.assertTrue(value, f'{what}: {name} is not in {crate}, {path}')
-                number = value[1] or value[2].replace('_', '')
+                number = str(constants.value_in(os.path.join(TOP, 'crates', crate, path), name))
                 self.assertTrue(stated == number if stated else number in bounds, f'{what}: {name} is {number}')
                 told += 1
         self.assertGreater(told, 45)
 
-    def test_jobs_and_options(self):
-        """README, the script doomview, the manual and explain have the same jobs, options and statuses."""
-        jobs = [re.match(r'`([a-z]+)', job)[1] for job, _ in rows('README.md', '| Job | Writes |')]
-        options = {name for cell, *_ in rows('README.md', '| Option | Jobs |')
-                   for name in re.findall(r'--[a-z]+', cell)}
-        manual = read('docs/doomview.1').replace('\\-', '-')
-        script, explain = read('doomview'), read('examples/explain')
-        self.assertGreater(len(jobs), 5)
-        for job in jobs:
-            self.assertIn(f'\n  {job} ', script)
-            self.assertIn(f'\n.BI {job} ', manual)
-            self.assertIn(f"'{job}': ", explain)
-        for option in options:
-            self.assertIn(option, manual)
-            self.assertIn(option, script)
-            self.assertIn(option, explain)
-        for status, *_ in rows('README.md', '| Status | Line'):
-            self.assertIn(f'\n.B {status}\n', manual)
+    def test_options(self):
+        """The table of options has the numbers of the code, and the flags of its parser, and no other."""
+        code = {'--zone': ('MIN_ZONE', 'MAX_ZONE', 'ZONE_STEP', 'DEFAULT_ZONE'),
+                '--skill': ('MIN_SKILL', 'MAX_SKILL', None, 'DEFAULT_SKILL'),
+                '--size': ('MIN_SIZE', 'MAX_SIZE', None, 'DEFAULT_SIZE'),
+                '--planes': ('MIN_PLANES', 'MAX_PLANES', None, 'DEFAULT_PLANES'),
+                '--openings': ('MIN_OPENINGS', 'MOST_OPENINGS', None, 'DEFAULT_OPENINGS')}
+        for name, (*bounds, default) in code.items():
+            option = jobs.options()[name]
+            for bound, stated in zip(bounds, (option.least, option.greatest, option.step)):
+                self.assertEqual(stated, constants.value('job_rules', bound) if bound else None, name)
+            self.assertEqual(int(option.default), constants.value('command_line', default), name)
+        self.assertEqual({name for name, option in jobs.options().items() if option.least is not None}, set(code))
+        self.assertEqual(jobs.MOST_WADS, constants.value('job_rules', 'MAX_WADS'))
+        flags = re.findall(r'"([a-z]+)"', read('crates/command_line/src/simple.rt'))
+        self.assertEqual({f'--{flag}' for flag in flags if f'--{flag}' in jobs.options()}, set(jobs.options()))
 
-    def test_examples(self):
-        """The page of the scripts names each file, and no script names a path of a machine."""
-        readme = read('examples/README.md')
-        for entry in set(os.listdir(HERE)) - {'README.md', '.gitignore', 'common.sh', '__pycache__'}:
-            self.assertTrue(re.search('`' + re.escape(entry) + r'\b', readme), entry)
-            if os.path.isdir(os.path.join(HERE, entry)):
-                continue
-            paths = set(re.findall(r'(?<![\w.)}*\]])/[a-z][\w/]*', read(os.path.join('examples', entry))))
-            self.assertEqual({path for path in paths if re.match('/(home|root|work|opt|tmp)', path)}, set(), entry)
+    def test_jobs(self):
+        """README, the manual and the tools have the same jobs with the same words, and the code has no other."""
+        told = {re.match(r'`([a-z]+)', job)[1]: job for job, _ in rows('README.md', '| Job | Writes |')}
+        manual = read('docs/doomview.1').replace('\\-', '-')
+        self.assertEqual(list(told), list(jobs.JOBS))
+        for job in jobs.JOBS.values():
+            self.assertEqual(told[job.name].strip('`').replace(' ..', '..'), ' '.join([job.name, *(it[0] for it in job.words)]))
+            self.assertIn(f'\n.BI {job.name} ', manual)
+        code = read('crates/command_line/src/jobs.rt') + read('crates/command_line/src/level_jobs.rt')
+        for job in jobs.JOBS:
+            self.assertIn(f'"{job}"', code)
+
+    def test_pages_of_options(self):
+        """README and the manual have each option with its jobs and numbers, and no other."""
+        cells = {name: (what, value) for cell, what, value in rows('README.md', '| Option | Jobs |')
+                 for name in re.findall(r'--[a-z]+', cell)}
+        manual = read('docs/doomview.1').replace('\\-', '-')
+        entries = {name: text for head, text in re.findall(r'^\.TP\n\.BI ?(.*--.*)\n((?:[^.].*\n|\.[BI].*\n)*)', manual, re.M)
+                   for name in re.findall(r'--[a-z]+', head)}
+        self.assertEqual(set(cells), set(jobs.options()))
+        self.assertEqual(set(entries) - {'--iwad'}, set(jobs.options()))
+        for option in jobs.options().values():
+            for text in (cells[option.name][1], entries[option.name]):
+                numbers = re.findall(r'\d+', text)
+                for number in (option.least, option.greatest, option.step):
+                    self.assertTrue(number is None or str(number) in numbers, f'{option.name}: {text}')
+                self.assertTrue(option.least is None or f'else {option.default}' in ' '.join(text.split()), option.name)
+            self.assertEqual('exercise' in cells[option.name][0], 'exercise' in option.jobs, option.name)
+
+    def test_statuses(self):
+        """README, the manual and the help of a job have the same statuses."""
+        told = [int(status) for status, *_ in rows('README.md', '| Status | Line')]
+        self.assertEqual(told, list(jobs.STATUSES))
+        for status in told:
+            self.assertIn(f'\n.B {status}\n', read('docs/doomview.1'))
+
+    def test_tools(self):
+        """The page of the tools and the manual name each tool."""
+        told = [re.match(r'`([a-z-]+)', tool)[1] for tool, *_ in rows('docs/TOOLS.md', '| Tool | What it does |')]
+        self.assertEqual(told, command.TOOLS)
+        manual = read('docs/doomview.1').replace('\\-', '-')
+        for tool in command.TOOLS:
+            self.assertRegex(manual, rf'\n\.TP\n\.BI? {tool}\b')
+
+    def test_version(self):
+        """The first heading of CHANGELOG and the manual have the version, and one date."""
+        number, date = re.search(r'^## ([0-9.]+), (.*)$', read('CHANGELOG.md'), re.M).groups()
+        self.assertEqual(number, home.version()['version'])
+        self.assertRegex(home.version()['logic'], '^[0-9a-f]{16}$')
+        self.assertTrue(read('docs/doomview.1').startswith(f'.TH DOOMVIEW 1 "{date}" "doomview {number}" '))
+        datetime.date.fromisoformat(date)
+
+    def test_places(self):
+        """The page of the tools names each file, and no file names a path of a machine."""
+        page = read('docs/TOOLS.md')
+        entries = [*os.listdir(TOOLS), *os.listdir(os.path.join(TOOLS, 'data'))]
+        entries += [name[:-3] for name in os.listdir(home.PACKAGE) if name.endswith('.py') and name[0] != '_']
+        for entry in set(entries) - {'__pycache__', 'data'}:
+            self.assertTrue(re.search('[`/]' + re.escape(entry) + r'\b', page), entry)
+        for folder, folders, names in os.walk(TOOLS):
+            folders[:] = [name for name in folders if name not in ('__pycache__', 'source')]
+            for name in names:
+                if name.endswith('.pyc') or name.startswith('still') and not name.endswith('.c'):
+                    continue
+                place = os.path.relpath(os.path.join(folder, name), TOP)
+                paths = set(re.findall(r'(?<![\w.)}*\]])/[a-z][\w/]*', read(place)))
+                self.assertEqual({path for path in paths if re.match('/(home|root|work|opt|tmp)', path)}, set(), place)
 
 
 if __name__ == '__main__':

@@ -1,50 +1,67 @@
-#!/bin/sh
-# Draws a view as a PNG: that from a map's player start, or one of a small made level where no WAD is named.
-# usage: picture [--proved] OUT.png
-#        picture [--proved] WAD [MAP] OUT.png [OPTIONS OF RENDER..]
-# A WAD is looked for as ports look for it (common.sh, find_wad); its first map is taken where none is named.
-# Where the proved program is not built yet, the picture comes from a run of its sources without proofs
-# (the script unproved, about a minute); with --proved the program is built first.
-. "$(dirname "$0")/common.sh"
+"""doomview picture: one view as a PNG."""
+import os
+import sys
+import tempfile
 
-proved=''
-if [ "$1" = --proved ]; then
-    proved=yes
-    shift
-fi
-count=0
-for word in "$@"; do
-    case $word in --*) break ;; esac
-    count=$((count + 1))
-done
-name='' map=''
-case $count in
-    1) png=$1 ;;
-    2) name=$1 png=$2 ;;
-    3) name=$1 map=$2 png=$3 ;;
-    *) png='' ;;
-esac
-case $png in
-    *?.png) shift "$count" ;;
-    *) fail 'usage: picture OUT.png, or picture WAD [MAP] OUT.png [OPTIONS OF RENDER..]; OUT.png ends in .png' ;;
-esac
-check_target "$png"
-[ -z "$name" ] || find_wads "$name"
-start_work
-if [ -z "$name" ]; then
-    base='' wad=$work/room.wad
-    python3 "$here/make_room.py" >"$wad" || exit
-fi
-[ -n "$map" ] || map=$(python3 "$here/wad_maps.py" "$wad" | head -n 1)
-[ -n "$map" ] || exit 1
-python3 "$here/make_path.py" "$wad" "$map" 1 >"$work/path.csv" || exit
-if [ -n "$proved" ] || is_built; then
-    need_doomview
-else
-    printf '%s: the proved program is not built yet, so %s; %s\n' "$script" \
-        'this picture comes from a run of its sources without proofs (about a minute)' './doomview --build builds it' >&2
-    doomview=$here/unproved
-fi
-run_doomview "$work/frame.ppm" render "$map" ${base:+"$base"} "$wad" --tables "$work/tables.bin" \
-    --things "$here/things.csv" --path "$work/path.csv" --format ppm "$@"
-python3 "$here/write_png.py" "$png" <"$work/frame.ppm"
+from .. import cli, frames, home, levels, paths, program, room, wads
+from ..explanations import explained
+from ..files import check_target, write_whole
+from ..png import write_png
+from ..trouble import Trouble
+
+WITHOUT = ('--tables', '--things', '--path', '--format')  # options of render that the tool gives itself
+NOT_BUILT = ('doomview picture: the proved program is not built yet, so this picture comes from a run of its sources '
+             'without proofs (about a minute); doomview --build builds it')
+PAGE = cli.Page(
+    'picture', "the view from a map's player start as a PNG; of a made room where no WAD is named", '''
+Draws the view from a map's player start as a PNG, or one of a small made level where no WAD is named.
+
+The map is the first one of the WAD where none is named. Where the proved program is not built yet, the picture comes
+from a run of its sources without proofs, which takes about a minute; with --proved the program is built first.
+''', '''
+$ doomview picture first.png
+$ doomview picture freedoom2.wad map01.png
+$ doomview picture --iwad freedoom2.wad mymap.wad MAP07 map07.png --skill 4
+''', 'the program, or the command rt of the Rattle kit', '''
+ 0  the picture is drawn
+ 2  the tool could not begin
+ other statuses are those of doomview render, and no picture is written
+''', '[WAD [MAP]] OUT.png')
+
+
+def add_words(parser):
+    parser.add_argument('words', metavar='WORDS', nargs='+', help='a WAD, found as ports find it (see doomview --help); '
+                        'the name of one of its maps; the picture, whose name ends in .png')
+    cli.add_base(parser)
+    parser.add_argument('--proved', action='store_true', help='builds the proved program first, if that is needed')
+    cli.add_job_options(parser, 'render', WITHOUT)
+
+
+def run(options):
+    *named, png = options.words
+    if len(named) > 2 or not os.path.basename(png)[:-4] or not png.endswith('.png'):
+        raise Trouble('the words are [WAD [MAP]] OUT.png, where OUT.png ends in .png; doomview picture --help has examples')
+    check_target(png)
+    with tempfile.TemporaryDirectory(prefix='doomview-') as folder:
+        draw(options, named, png, folder)
+
+
+def draw(options, named, png, folder):
+    """Draws the view of a WAD and map, as they are named, in a folder for what is needed on the way."""
+    if named:
+        files = wads.with_base(named[0], options.iwad)
+    else:
+        files = [os.path.join(folder, 'room.wad')]
+        write_whole(files[0], room.room())
+    name = named[1] if len(named) == 2 else wads.maps_of(files)[0]
+    path = os.path.join(folder, 'path.csv')
+    write_whole(path, paths.text(paths.turn(levels.read(files, name), 1)).encode())
+    words = ['render', name, *files, '--path', path, '--format', 'ppm', *cli.job_words(options)]
+    if options.proved:
+        program.ready()
+    elif not program.is_built():
+        print(NOT_BUILT, file=sys.stderr, flush=True)
+    done = program.run(words, unproved=True)
+    if done.status:
+        raise explained(words, done)
+    write_png(png, frames.WIDTH, frames.HEIGHT, frames.pixels_of_ppm(done.output))

@@ -1,59 +1,36 @@
-#!/usr/bin/env python3
-"""Tells what painted a pixel, with the name of its lump or texture.
-
-usage: trace_at VIEW X Y TRACE [WAD..]
-
-TRACE is what `doomview trace` wrote. The view counts from 0 in the order of the path, the column X from 0 to 319 from
-the left, the row Y from 0 to 199 from the top. Names need the WADs of the run, in their order."""
+"""doomview pixel: what painted one pixel."""
 import os
-import struct
-import sys
 
-from painters import COMPOSITE, KINDS, RECORD, Names
-from wad_maps import WadError
+from .. import cli, traces, wads
+from ..files import check_source
+from ..frames import HEIGHT, WIDTH
+from ..trouble import Trouble
 
-WIDTH, HEIGHT = 320, 200
+PAGE = cli.Page(
+    'pixel', 'what painted a pixel', '''
+Tells what painted a pixel, with the name of its lump or texture.
 
-
-def record_at(path, view, x, y):
-    """The record of a pixel, or none where the trace does not have the view."""
-    with open(path, 'rb') as file:
-        file.seek(RECORD.size * ((HEIGHT * view + y) * WIDTH + x))
-        data = file.read(RECORD.size)
-    return RECORD.unpack(data) if len(data) == RECORD.size else None
-
-
-def told(record, names):
-    kind, source_kind, number, source, colour, _ = record
-    word, thing = KINDS.get(kind, (f'kind {kind}', 'number'))
-    if not kind:
-        return 'nothing, colour 0'
-    painter = f'{word} {number}' if thing == word else f'{word}, {thing} {number}'
-    name = names.of(source_kind, source)
-    read = {0: '', COMPOSITE: f', texture {name}'}.get(source_kind, f', lump {name}')
-    return f'{painter}{read}, colour {colour}'.replace('texture texture', 'texture').replace('lump lump', 'lump')
+TRACE is what doomview trace wrote. Names need the WADs of the run, in their order. Of a patch that one texture alone
+has the texture is named too, else the textures that have it.
+''', '''
+$ doomview trace MAP01 freedoom2.wad --path path.csv -o trace.bin
+$ doomview pixel 0 160 100 trace.bin freedoom2.wad
+''')
 
 
-def main():
-    words = sys.argv[1:]
-    if len(words) < 4 or not all(word.isdigit() for word in words[:3]):
-        sys.exit('usage: trace_at VIEW X Y TRACE [WAD..]')
-    view, x, y = map(int, words[:3])
-    if x >= WIDTH or y >= HEIGHT:
-        sys.exit('trace_at: X is 0 to 319 and Y is 0 to 199')
-    try:
-        record, names = record_at(words[3], view, x, y), Names(words[4:])
-    except OSError as error:
-        sys.exit(f'trace_at: cannot read {words[3]}: {error.strerror}')
-    except WadError as error:
-        sys.exit(f'trace_at: {error}')
-    except struct.error:
-        sys.exit('trace_at: the lists of textures in the WADs are damaged; leave the WADs out')
+def add_words(parser):
+    parser.add_argument('view', metavar='VIEW', type=cli.number(0, 9999), help='counted from 0 in the order of the path')
+    parser.add_argument('x', metavar='X', type=cli.number(0, WIDTH - 1), help='the column, 0 to 319 from the left')
+    parser.add_argument('y', metavar='Y', type=cli.number(0, HEIGHT - 1), help='the row, 0 to 199 from the top')
+    parser.add_argument('trace', metavar='TRACE', help='the file of the trace')
+    parser.add_argument('wads', metavar='WAD', nargs='*', help='the WADs of the run, in their order')
+
+
+def run(options):
+    check_source(options.trace)
+    record = traces.record_at(options.trace, options.view, options.x, options.y)
     if record is None:
-        count = os.path.getsize(words[3]) // (RECORD.size * WIDTH * HEIGHT)
-        sys.exit(f'trace_at: {words[3]} has {count} views, counted from 0, and none of number {view}')
-    print(f'view {view} column {x} row {y}: {told(record, names)}')
-
-
-if __name__ == '__main__':
-    main()
+        count = os.path.getsize(options.trace) // traces.VIEW_SIZE
+        raise Trouble(f'{options.trace} has {count} views, counted from 0, and none of number {options.view}')
+    names = traces.Names([wads.find(name) for name in options.wads])
+    print(f'view {options.view} column {options.x} row {options.y}: {traces.told(record, names)}')

@@ -1,6 +1,4 @@
-"""Tests the script ../doomview and its build.py with a stand-in for rt, on crates that it makes up.
-
-usage: python3 examples/test_doomview.py"""
+"""Tests how the command builds the program, with a stand-in for rt, on crates that are made up."""
 import os
 import re
 import shutil
@@ -11,8 +9,9 @@ import tempfile
 import time
 import unittest
 
-TOP = os.path.dirname(os.path.dirname(os.path.abspath(__file__)))
-COMMANDS = ['sh', 'basename', 'cat', 'dirname', 'env', 'find', 'readlink']
+from made_files import COMMAND, COMMANDS, TOOLS
+from doomview_tools import plan
+
 CRATES = '''# low
 low: csv
 left: low
@@ -75,7 +74,7 @@ if sys.argv[1] == 'run':
 '''
 
 
-class Doomview(unittest.TestCase):
+class Build(unittest.TestCase):
     def setUp(self):
         self.folder = tempfile.mkdtemp(prefix='two words ')
         self.addCleanup(shutil.rmtree, self.folder)
@@ -90,8 +89,9 @@ class Doomview(unittest.TestCase):
         for name in COMMANDS:
             os.symlink(shutil.which(name), self.at('bin', name))
         os.symlink(sys.executable, self.at('bin', 'python3'))
-        for name in ('doomview', 'build.py'):
-            shutil.copy(os.path.join(TOP, name), self.folder)
+        shutil.copy(COMMAND, self.folder)
+        for name in ('data', 'doomview_tools'):
+            shutil.copytree(os.path.join(TOOLS, name), self.at('tools', name), ignore=shutil.ignore_patterns('__pycache__'))
         os.chmod(self.write('opt/kit/bin/rt', RT.replace('PYTHON', sys.executable)), 0o755)
         os.symlink('../opt/kit/bin/rt', self.at('bin', 'rt'))
         self.seen = 0
@@ -122,7 +122,7 @@ class Doomview(unittest.TestCase):
         self.fail('no rt waits')
 
     def start(self, *words, session=False, **more):
-        env = {'PATH': self.at('bin'), 'CALLS': self.at('calls'), **more}
+        env = {'PATH': self.at('bin'), 'HOME': self.folder, 'CALLS': self.at('calls'), **more}
         return subprocess.Popen([self.at('doomview'), *words], cwd='/', text=True, env=env, start_new_session=session,
                                 stdin=subprocess.PIPE, stdout=subprocess.PIPE, stderr=subprocess.PIPE)
 
@@ -247,14 +247,16 @@ class Doomview(unittest.TestCase):
         self.builds()
 
     def test_longest_chain_first(self):
-        """A crate goes first that begins the longest chain, by lines; the last ones stand on all others."""
-        for crate, lines in [('low', 10), ('left', 15), ('right', 30), ('high', 10), ('doomview', 10)]:
-            self.write(f'crates/{crate}/src/lib.rt', 'a line\n' * lines)
-            self.write(f'crates/{crate}/src/tests.rt', 'a test\n' * 99)
-        words = 'import build; it = build.crates_below("doomview"); print(build.lines_above(it), build.last_crates(it))'
+        """A crate goes first that begins the longest chain, by seconds; the last ones stand on all others."""
+        seconds = {'low': 10, 'left': 15, 'right': 30, 'high': 10, 'doomview': 10}
+        words = ('import sys; sys.path.insert(0, "tools"); from doomview_tools import build, plan; '
+                 'it = build.crates_below("doomview"); '
+                 f'print(plan.seconds_above(it, {seconds}), build.last_crates(it), build.count_lines("low"))')
+        self.write('crates/low/src/lib.rt', 'a line\n' * 7)
+        self.write('crates/low/src/tests.rt', 'a test\n' * 99)
         run = subprocess.run([sys.executable, '-c', words], cwd=self.folder, capture_output=True, text=True, check=True)
         above = {'doomview': 10, 'high': 20, 'right': 50, 'left': 35, 'low': 60}
-        self.assertEqual(run.stdout, f"{above} ['high', 'doomview']\n")
+        self.assertEqual(run.stdout, f"{above} ['high', 'doomview'] 7\n")
 
     def test_two_at_once(self):
         runs = [self.start(word) for word in ('one', 'two')]
@@ -263,10 +265,13 @@ class Doomview(unittest.TestCase):
         self.assertEqual(sum(line == 'build high' for line in self.calls()), 1)
 
     def test_progress(self):
-        """A build that waits says how far it is, and at first how long it takes."""
-        with open(self.at('build.py')) as file:
+        """A build that waits says how far it is and how long it still takes, and at first how long it takes."""
+        place = 'tools/doomview_tools/build.py'
+        with open(self.at(place)) as file:
             text = file.read()
-        self.write('build.py', text.replace('TELL_SECONDS = 20', 'TELL_SECONDS = 0'))
+        self.write(place, text.replace('TELL_SECONDS = 20', 'TELL_SECONDS = 0'))
+        os.makedirs(self.at('out'))
+        self.write('out/seconds.csv', 'crate,seconds\nlow,1\nleft,1\nright,1\nhigh,400\ndoomview,200\n')
         run = self.start('make', WAITS='high')
         self.waiting()
         told = [run.stderr.readline()]
@@ -274,22 +279,38 @@ class Doomview(unittest.TestCase):
             told.append(run.stderr.readline())
         run.send_signal(signal.SIGTERM)
         run.communicate()
-        self.assertRegex(told[0], 'building: 5 crates .* about [0-9]+ minutes on [0-9]+ processors')
-        self.assertRegex(told[-1], 'doomview: 3 of 5 crates, [0-9]+ % of the work, after 0.[0-9] minutes; now high')
+        self.assertRegex(told[0], 'building: 5 crates .* about half an hour on four processors\n$')
+        self.assertRegex(told[-1], 'doomview: 3 of 5 crates, about (9|10|11) minutes left; now high\n$')
 
-    def test_minutes(self):
-        words = 'import build; print([build.minutes_for(jobs) for jobs in (1, 2, 4, 64)])'
-        run = subprocess.run([sys.executable, '-c', words], cwd=self.folder, capture_output=True, text=True, check=True)
-        one, two, four, many = map(int, run.stdout.strip('[]\n').split(','))
-        self.assertTrue(one > two > four >= many > 0)
+    def seconds(self):
+        return plan.read_numbers(self.at('out/seconds.csv'))
+
+    def test_seconds(self):
+        """What each crate took is kept, as soon as it is built; what was found built changes nothing."""
+        run = self.start('make', WAITS='high')
+        self.waiting()
+        run.send_signal(signal.SIGTERM)
+        run.communicate()
+        self.assertEqual(sorted(self.seconds()), ['left', 'low', 'right'])
+        self.builds()
+        self.assertEqual(sorted(self.seconds()), sorted(ORDER))
+        old = dict.fromkeys(ORDER, 0.0)
+        self.write('out/seconds.csv', 'crate,seconds\n' + ''.join(f'{crate},0\n' for crate in old))
+        self.write('crates/left/src/lib.rt', 'changed')
+        self.builds()
+        self.assertEqual({crate for crate, seconds in self.seconds().items() if not seconds}, {'low', 'right'})
+
+    def test_damaged_seconds(self):
+        """A build does without its notes."""
+        os.makedirs(self.at('out'))
+        self.write('out/seconds.csv', 'nothing\n\n')
+        self.builds()
+        self.assertEqual(sorted(self.seconds()), sorted(ORDER))
 
     def test_own_words(self):
-        """Words of the script alone: the table of jobs without a build, a build without a job."""
+        """The table of jobs and whether it is built without a build, a build without a job."""
         status, output, error = self.runs('--help')
         self.assertEqual((status, error), (0, ''))
-        for job in ('render MAP', 'trace MAP', 'limits MAP', 'audit MAP', 'trim MAP', 'flat NAME', 'make WHAT',
-                    'exercise N'):
-            self.assertIn('\n  ' + job, output)
         self.assertEqual(self.runs(), (1, '', 'doomview: usage\n' + output))
         self.assertEqual(self.runs('--built')[:2], (1, ''))
         self.assertEqual(self.calls(), [])
@@ -297,6 +318,14 @@ class Doomview(unittest.TestCase):
         self.assertEqual(self.runs('--build')[:2], (0, ''))
         self.assertEqual([self.runs('--build'), self.runs('--built')], [(0, '', '')] * 2)
         self.assertEqual(self.runs('--help', 'me')[:2], (5, 'input --help me\n'))
+        self.assertEqual(self.runs('paint', 'it')[:2], (5, 'input paint it\n'))
+
+    def test_output(self):
+        """A build says what it does on standard error, also where a job's output goes to a file."""
+        status, output, error = self.runs('make', 'things', '-o', self.at('out.csv'))
+        self.assertEqual((status, output), (5, ''))
+        self.assertIn('crate 5 of 5', error)
+        self.assertFalse(os.path.exists(self.at('out.csv')))
 
     def test_missing(self):
         os.remove(self.at('bin', 'rt'))
@@ -304,7 +333,43 @@ class Doomview(unittest.TestCase):
         self.assertEqual((status, output), (70, ''))
         self.assertRegex(error, '^doomview: the build needs the command rt, .*\n$')
         os.remove(self.at('bin', 'python3'))
-        self.assertEqual(self.runs('make'), (70, '', 'doomview: the build needs python3\n'))
+        self.assertEqual(self.runs('make'), (70, '', 'doomview: python3 is not installed (package: python3)\n'))
+
+    def test_without_python(self):
+        """Without Python the program that is built takes the words as they are."""
+        self.builds()
+        os.remove(self.at('bin', 'python3'))
+        self.assertEqual(self.runs('render', 'two words')[:2], (5, 'input render two words\n'))
+
+
+class Plan(unittest.TestCase):
+    """What is told of the time that a build takes."""
+
+    def test_seconds(self):
+        """As they are kept; by weight, brought to their scale; or by lines."""
+        lines = {'a': 100, 'b': 200, 'c': 300}
+        self.assertEqual(plan.seconds_of(['a', 'b', 'c'], {'a': 50}, {'a': 10, 'b': 30}, lines),
+                         {'a': 50, 'b': 150, 'c': 187.5})
+        self.assertEqual(plan.seconds_of(['a', 'b', 'c'], {}, {}, lines), lines)
+
+    def test_left(self):
+        """The longest chain on many processors, all of it on one."""
+        crates = {'low': [], 'left': ['low'], 'right': ['low'], 'high': ['left', 'right']}
+        left = {'low': 10, 'left': 20, 'right': 50, 'high': 5}
+        self.assertEqual([plan.seconds_left(crates, left, workers) for workers in (1, 2, 64)], [85, 65, 65])
+        del left['low']
+        self.assertEqual(plan.seconds_left(crates, left, 2), 55)
+        self.assertEqual(plan.seconds_left(crates, {}, 2), 0)
+
+    def test_pace(self):
+        """The pace of a build counts more the longer it is known."""
+        planned = {'a': 60, 'b': 6000}
+        self.assertEqual([plan.pace({}, planned), plan.pace({'a': 120}, planned)], [1, 1.5])
+        self.assertAlmostEqual(plan.pace({'a': 120, 'b': 12000}, planned), 2, 1)
+
+    def test_rounded(self):
+        self.assertEqual([plan.rounded(seconds) for seconds in (0, 29, 31, 89, 91, 1800)],
+                         ['less than a minute'] * 2 + ['about 1 minute'] * 2 + ['about 2 minutes', 'about 30 minutes'])
 
 
 if __name__ == '__main__':
