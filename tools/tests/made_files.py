@@ -1,4 +1,5 @@
 """What the tests of the tools share: made files, stand-ins for doomview, and a way to run a tool."""
+import atexit
 import os
 import shutil
 import struct
@@ -16,6 +17,8 @@ sys.path.insert(0, TOOLS)
 from doomview_tools import wads  # noqa: E402
 
 COMMAND = os.path.join(TOP, 'doomview')
+COMPILED = {'PYTHONPYCACHEPREFIX': tempfile.mkdtemp()}  # of modules, not beside them
+atexit.register(shutil.rmtree, COMPILED['PYTHONPYCACHEPREFIX'])
 # All that the command and the stand-ins may call besides Python, doomview and the tools that draw.
 COMMANDS = ['sh', 'basename', 'cat', 'dirname', 'env', 'readlink']
 ROOM = [(-256, 256), (256, 256), (256, -256), (-256, -256)]
@@ -111,7 +114,7 @@ class Tools(unittest.TestCase):
         os.mkdir(self.bin)
         for command in COMMANDS:
             os.symlink(shutil.which(command), os.path.join(self.bin, command))
-        self.stand_in('bin/python3', f'#!/bin/sh\nexec "{sys.executable}" -B "$@"\n')
+        self.stand_in('bin/python3', f'#!/bin/sh\nexec "{sys.executable}" "$@"\n')
         self.wad = self.write('made.wad', made_wad())
 
     def at(self, *parts):
@@ -142,7 +145,7 @@ class Tools(unittest.TestCase):
         return self.at('clone/doomview')
 
     def surroundings(self, doomview=None, **more):
-        return {'PATH': self.bin, 'HOME': self.folder, 'XDG_CACHE_HOME': self.at('cache'),
+        return {'PATH': self.bin, 'HOME': self.folder, 'XDG_CACHE_HOME': self.at('cache'), **COMPILED,
                 'DOOMVIEW': self.at('absent') if doomview is None else doomview, **more}
 
     def run_command(self, command, *words, input=None, stdout=subprocess.PIPE, **more):

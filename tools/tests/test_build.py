@@ -9,7 +9,7 @@ import tempfile
 import time
 import unittest
 
-from made_files import COMMAND, COMMANDS, TOOLS
+from made_files import COMMAND, COMMANDS, COMPILED, TOOLS
 from doomview_tools import plan
 
 CRATES = '''# low
@@ -122,7 +122,7 @@ class Build(unittest.TestCase):
         self.fail('no rt waits')
 
     def start(self, *words, session=False, **more):
-        env = {'PATH': self.at('bin'), 'HOME': self.folder, 'CALLS': self.at('calls'), **more}
+        env = {'PATH': self.at('bin'), 'HOME': self.folder, 'CALLS': self.at('calls'), **COMPILED, **more}
         return subprocess.Popen([self.at('doomview'), *words], cwd='/', text=True, env=env, start_new_session=session,
                                 stdin=subprocess.PIPE, stdout=subprocess.PIPE, stderr=subprocess.PIPE)
 
