@@ -11,34 +11,45 @@ TOOLS = ['picture', 'places', 'turn', 'compare', 'pixel', 'explain', 'video', 'a
          'room']
 
 
+OVERVIEW = '''usage: doomview JOB WORDS.. [OPTIONS]
+       doomview TOOL WORDS.. [OPTIONS]
+
+Jobs of the proved program:
+{jobs}
+
+Tools:
+{tools}
+
+The page of a job or tool, with its words, options and examples:
+  doomview JOB --help
+  doomview TOOL --help
+
+Of the command itself:
+  doomview --version   the version, and the logic that the program is proved in
+  doomview --build     builds the program, if that is needed; every job does so too
+  doomview --built     ends with 0 where the program is built, else with 1
+
+WADs are found as ports find them: as they are named, in the folders of DOOMWADDIR
+and DOOMWADPATH, and in those of the packages (/usr/share/games/doom and its kin),
+there also in small letters and without .wad.
+
+The manual: man -l {manual}'''
+
+
 def tool(name):
     """The module of a tool."""
     return importlib.import_module('.commands.' + name.replace('-', '_'), __package__)
+
+
+def table(lines):
+    return '\n'.join(f'  {left:18} {right}' for left, right in lines)
 
 
 def overview():
     """What `doomview --help` prints."""
     job_lines = [(' '.join([job.name, *(word for word, _ in job.words)]), job.summary) for job in jobs.JOBS.values()]
     tool_lines = [(name, tool(name).PAGE.summary) for name in TOOLS]
-
-    def table(lines):
-        return '\n'.join(f'  {left:18} {right}' for left, right in lines)
-
-    return f'''usage: doomview JOB WORDS.. [OPTIONS]
-       doomview TOOL WORDS.. [OPTIONS]
-
-Jobs of the proved program:
-{table(job_lines)}
-
-Tools:
-{table(tool_lines)}
-
-  doomview JOB --help, doomview TOOL --help   what it does, its words, options and examples
-  doomview --version   the version, and the logic that the program is proved in
-  doomview --build     builds the program, if that is needed; every job does so too
-  doomview --built     ends with 0 where the program is built, else with 1
-
-The manual: man -l {home.MANUAL}'''
+    return OVERVIEW.format(jobs=table(job_lines), tools=table(tool_lines), manual=home.MANUAL)
 
 
 def version():
@@ -47,7 +58,10 @@ def version():
 
 
 def run_job(words):
-    """Runs a job, or hands words to the program that are none of this command's."""
+    """Runs a job, or hands words to the program that are none of this command's. For words that are no job nothing is
+    built, since the program's answer is known."""
+    if jobs.Words(words).job not in jobs.JOBS and not program.is_built():
+        return usage()
     if not jobs.Words(words).output:
         return program.replace(words)
     done = program.run_whole(words)
@@ -66,6 +80,12 @@ def build():
 def stop(number, _):
     """Ends this process by a signal; what it holds is cleared up on the way."""
     raise SystemExit(128 + number)
+
+
+def usage():
+    """What the program says of words that are no job, and what would be some."""
+    print('doomview: usage', overview(), sep='\n', file=sys.stderr)
+    return jobs.USAGE
 
 
 def main(words):
@@ -87,8 +107,7 @@ def main(words):
 def answer(words):
     """What the command does with its words; its status."""
     if not words:
-        print('doomview: usage', overview(), sep='\n', file=sys.stderr)
-        return jobs.USAGE
+        return usage()
     if words in (['--help'], ['-h'], ['--version']):
         print(version() if words == ['--version'] else overview())
         return 0
@@ -98,7 +117,7 @@ def answer(words):
         return build()
     if words[0] in TOOLS:
         return cli.run(tool(words[0]), words[1:])
-    if words[0] in jobs.JOBS and {'--help', '-h'} & {*words}:
+    if words[0] in jobs.JOBS and cli.HELP & {*words}:
         print(cli.job_page(jobs.JOBS[words[0]]), end='')
         return 0
     return run_job(words)

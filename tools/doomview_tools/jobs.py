@@ -88,7 +88,8 @@ original's (doomview tables writes those), and the things are one type alone.
 $ doomview make wad 10 -o made.wad
 $ doomview make path 10 > made_path.csv
 '''),
-    Job('exercise', [('N', 'the number of the made files, 1 to 32')], 'the sum of the frames of a made level', False, '''
+    Job('exercise', [('N', 'the number of the made files, 1 to 32')],
+        'the sum of the frames of a made level', False, '''
 Makes the files of a number in memory, renders them, and prints the number and the sum of the frames'
 bytes. It reads no file, so it shows on any machine whether the program draws what it should.
 ''', '''

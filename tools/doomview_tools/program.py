@@ -154,7 +154,8 @@ def guard_terminal(words):
     if not given.writes_bytes or not is_terminal():
         return
     if not wrong_words(given):
-        raise Trouble(f'what {given.job} writes is no text, and the output is a terminal; name a file by -o FILE', USAGE)
+        raise Trouble(f'what {given.job} writes is no text, and the output is a terminal; name a file by -o FILE',
+                      USAGE)
     os.dup2(os.open(os.devnull, os.O_WRONLY), 1)
 
 

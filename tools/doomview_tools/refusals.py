@@ -212,10 +212,11 @@ def packed_file(scene, numbers):
 def odd_nodes(scene, numbers):
     extended = scene.level.extended_nodes()
     if extended:
-        yield (f'{extended[0]} has extended nodes ({extended[1]}); build plain ones (zdbsp without -X, -x and -z; in an '
-               'editor a builder named normal or vanilla).')
+        yield (f'{extended[0]} has extended nodes ({extended[1]}); build plain ones (zdbsp without -X, -x and -z; in '
+               'an editor a builder named normal or vanilla).')
     elif scene.label is not None and levels.has_gl_nodes(scene.lumps, scene.label):
-        yield f'{scene.map_name} has GL nodes alone (GL_SEGS, GL_SSECT, GL_NODES), which are not read; build plain ones too.'
+        yield (f'{scene.map_name} has GL nodes alone (GL_SEGS, GL_SSECT, GL_NODES), which are not read; build plain '
+               'ones too.')
 
 
 def deep_nodes(scene, numbers):
@@ -238,7 +239,8 @@ def no_texture(scene, numbers):
     yield from hidden_list(scene, set(missing.values()))
     used = {name for side in scene.level.sides for name in side[2:5] if not name.startswith('-')}
     if 2 * len(used - known) > len(used):
-        yield f'{len(used - known)} of the {len(used)} textures of the map are in no list: the map may be for another game.'
+        yield (f'{len(used - known)} of the {len(used)} textures of the map are in no list: the map may be for another '
+               'game.')
 
 
 def hidden_list(scene, missing):

@@ -6,11 +6,10 @@ import re
 import shutil
 import signal
 import subprocess
-import sys
 import time
 import unittest
 
-from made_files import COMMAND, FRAME, TOOLS, Tools, made_wad
+from made_files import COMMAND, TOOLS, Tools, made_wad
 from doomview_tools import command, jobs
 
 # Writes its words down; paints bytes and ends with the status that ENDS has.
@@ -104,7 +103,8 @@ class Help(Command):
     def test_version(self):
         with open(os.path.join(TOOLS, 'data', 'version')) as file:
             known = dict(line.split() for line in file)
-        self.assertEqual(self.runs('--version'), (0, f'doomview {known["version"]}\nlogic {known["logic"]}\n'.encode(), ''))
+        told = f'doomview {known["version"]}\nlogic {known["logic"]}\n'
+        self.assertEqual(self.runs('--version'), (0, told.encode(), ''))
 
     def test_wrong_words(self):
         """A tool says what is wrong with its words in one sentence."""

@@ -243,10 +243,10 @@ class Drawing(Tools):
         self.write('frame', FRAME[:-1])
         self.write('old.png', b'old')
         for part, png in [('is a folder', 'folder.png'), ('is no plain file', 'pipe.png'), ('is no frame', 'old.png'),
-                          ('there is no folder absent', 'absent/out.png'), ('ends in .png', 'out'),
-                          ('ends in .png', '.png')]:
+                          ('there is no folder absent', 'absent/out.png'), ('has to end in .png', 'out'),
+                          ('has to end in .png', '.png')]:
             self.refuses(part, 'picture', self.wad, 'MAP01', png, doomview=self.drawing)
-        self.refuses('WAD [MAP]] OUT.png', 'picture', self.wad, 'MAP01', 'more', 'out.png', doomview=self.drawing)
+        self.refuses('unrecognized arguments: out.png', 'picture', self.wad, 'MAP01', 'more', 'out.png', doomview=self.drawing)
         with open(self.at('old.png')) as file:
             self.assertEqual(file.read(), 'old')
         self.write('frame', FRAME)

@@ -9,7 +9,7 @@ from ..trouble import Trouble
 RED = b'\xff\x00\x00'
 DIFFERENT = 1
 PAGE = cli.Page(
-    'compare', 'of two files of frames which views differ, where, and in what', '''
+    'compare', 'which views of two files of frames differ, where, and in what', '''
 Compares two files of index frames, and tells of each view that differs how, where and in what.
 
 OURS is what doomview render wrote, PORT what the port drew at the same rows of the camera path: 64,000 bytes a view. A

@@ -29,7 +29,7 @@ $ doomview draw-all freedoom2.wad out --machines 8/one,8/two
 
 
 def add_words(parser):
-    parser.add_argument('wad', metavar='WAD', help='a WAD, found as ports find it (see doomview --help)')
+    parser.add_argument('wad', metavar='WAD', help=cli.WAD)
     parser.add_argument('folder', metavar='FOLDER', help='where the pictures go; it is made')
     cli.add_base(parser)
     parser.add_argument('--jobs', metavar='N', type=cli.number(1, 1000), default=len(os.sched_getaffinity(0)),

@@ -1,7 +1,7 @@
 """doomview pixel: what painted one pixel."""
 import os
 
-from .. import cli, traces, wads
+from .. import cli, paths, traces, wads
 from ..files import check_source
 from ..frames import HEIGHT, WIDTH
 from ..trouble import Trouble
@@ -19,7 +19,8 @@ $ doomview pixel 0 160 100 trace.bin freedoom2.wad
 
 
 def add_words(parser):
-    parser.add_argument('view', metavar='VIEW', type=cli.number(0, 9999), help='counted from 0 in the order of the path')
+    parser.add_argument('view', metavar='VIEW', type=cli.number(0, paths.MOST_ROWS - 1),
+                        help='counted from 0 in the order of the path')
     parser.add_argument('x', metavar='X', type=cli.number(0, WIDTH - 1), help='the column, 0 to 319 from the left')
     parser.add_argument('y', metavar='Y', type=cli.number(0, HEIGHT - 1), help='the row, 0 to 199 from the top')
     parser.add_argument('trace', metavar='TRACE', help='the file of the trace')
