@@ -9,7 +9,7 @@ import textwrap
 import typing
 
 from . import jobs, wads
-from .trouble import TROUBLE, Trouble
+from .trouble import Trouble
 
 MOST_COLUMNS = 100
 HELP = {'--help', '-h'}
@@ -182,9 +182,7 @@ def run(tool, words):
     """Runs a tool with its words; its status."""
     try:
         return tool.run(parser_of(tool).parse(words)) or 0
-    except BrokenPipeError:
-        raise
-    except (Trouble, OSError) as error:
+    except Trouble as error:
         if str(error):
             print(f'doomview {tool.PAGE.name}: {error}', file=sys.stderr)
-        return getattr(error, 'status', TROUBLE)
+        return error.status

@@ -5,12 +5,10 @@ import signal
 import sys
 
 from . import cli, home, jobs, program
-from .trouble import Trouble
+from .trouble import TROUBLE, Trouble
 
 TOOLS = ['picture', 'places', 'turn', 'compare', 'pixel', 'explain', 'video', 'audit-all', 'draw-all', 'maps', 'tables',
          'room']
-
-
 OVERVIEW = '''usage: doomview JOB WORDS.. [OPTIONS]
        doomview TOOL WORDS.. [OPTIONS]
 
@@ -93,15 +91,20 @@ def main(words):
     for number in (signal.SIGTERM, signal.SIGHUP):
         signal.signal(number, stop)
     try:
-        return answer(words)
+        status = answer(words)
+        sys.stdout.flush()
+        return status
     except Trouble as error:
         print(f'doomview: {error}', file=sys.stderr)
         return error.status
     except KeyboardInterrupt:
         return 128 + signal.SIGINT
-    except BrokenPipeError:
-        os.dup2(os.open(os.devnull, os.O_WRONLY), 1)  # nobody reads what is left
-        return 128 + signal.SIGPIPE
+    except OSError as error:
+        os.dup2(os.open(os.devnull, os.O_WRONLY), 1)  # what is left to write has no place
+        if isinstance(error, BrokenPipeError):
+            return 128 + signal.SIGPIPE
+        print(f'doomview: {error.filename or "cannot write the output"}: {error.strerror}', file=sys.stderr)
+        return TROUBLE
 
 
 def answer(words):

@@ -158,7 +158,7 @@ class Words:
     `--zone 64` and `--zone=64`, and all behind `--` as plain words."""
 
     def __init__(self, words):
-        self.words, self.output = take_output(list(words))
+        self.words, self.output = take_output(list(words)) if {*words} & {*JOBS} else (list(words), None)
         self.plain, self.places, self.given = [], [], {}
         words, at, are_plain = self.words, 0, False
         while at < len(words):

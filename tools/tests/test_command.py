@@ -172,7 +172,8 @@ class Words(Command):
 
     def test_other_words(self):
         """A word that is neither job nor tool goes to the program as it is, and so do wrong words of jobs."""
-        for words in (['paint', 'it'], ['--help', 'me'], ['--build', 'it'], ['Render'], [''], ['exercise'], ['-x']):
+        for words in (['paint', 'it'], ['--help', 'me'], ['--build', 'it'], ['Render'], [''], ['exercise'], ['-x'],
+                      ['paint', '-o', 'it'], ['-o']):
             self.assertEqual(self.hands_on(*words), words)
         self.assertEqual(self.hands_on('render', '--path')[5:], ['--path'])
 

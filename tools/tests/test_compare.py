@@ -141,6 +141,18 @@ class Compare(Tools):
         self.assertEqual([pixels[3 * 320 * k:3 * 320 * k + 3] for k in range(3)],
                          [b'\xff\xff\xff', b'\x05\x05\x05', b'\xff\x00\x00'])
 
+    def test_full_output(self):
+        """What cannot be written is told."""
+        self.write('ours.bin', painted())
+        self.write('trace.bin', traced())
+        for words in (['compare', 'ours.bin', 'ours.bin'], ['pixel', '0', '0', '0', 'trace.bin'], ['--help']):
+            with open('/dev/full', 'wb') as full:
+                status, _, error = self.run_tool(*words, stdout=full)
+            self.assertEqual((status, error), (2, 'doomview: cannot write the output: No space left on device\n'))
+        self.write('out', b'')
+        self.write('port.bin', painted((0, 0, 1)))
+        self.refuses('out: File exists', 'compare', 'ours.bin', 'port.bin', '--png', 'out')
+
     def test_wrong(self):
         self.write('ours.bin', painted())
         self.write('short.bin', painted()[:-1])
