@@ -74,7 +74,10 @@ def environment():
 
 
 def cache_folder():
-    return os.path.join(os.environ.get('XDG_CACHE_HOME') or os.path.join(os.path.expanduser('~'), '.cache'), 'doomview')
+    """Where what is made once is kept."""
+    named = os.environ.get('XDG_CACHE_HOME', '')
+    folder = named if os.path.isabs(named) else os.path.join(os.path.expanduser('~'), '.cache')
+    return os.path.join(folder, 'doomview')
 
 
 held_files = []  # temporary files of this process

@@ -282,7 +282,7 @@ def medusa(scene, numbers):
         yield f'lines of two sides with {name}: {shown}.'
 
 
-HINTS = {401: packed_file, **dict.fromkeys((603, 604, 605, 606), odd_nodes), 607: deep_nodes,
+HINTS = {401: packed_file, 402: packed_file, **dict.fromkeys((603, 604, 605, 606), odd_nodes), 607: deep_nodes,
          901: no_texture, 903: no_flat, 905: medusa}
 
 

@@ -151,8 +151,9 @@ class Words(Command):
         self.assertEqual(os.listdir(self.at('temporary')), [])
         status = self.runs('render', *LEVEL, XDG_CACHE_HOME=self.at('file'), ENDS='6')[0]
         self.assertEqual(status, 6)
-        home = self.hands_on('render', *LEVEL, XDG_CACHE_HOME='')[2]
-        self.assertEqual(home, self.at('.cache/doomview/tables.bin'))
+        for named in ('', 'relative'):
+            home = self.hands_on('render', *LEVEL, XDG_CACHE_HOME=named)[2]
+            self.assertEqual(home, self.at('.cache/doomview/tables.bin'))
 
     def test_wads(self):
         """WADs of jobs are found as ports find them; a name that is found nowhere goes to the program as it is."""

@@ -100,7 +100,8 @@ class Compare(Tools):
             self.assertEqual(done, (0, f'view {view} column {x} row {y}: {told}\n'.encode(), ''))
         for part, words in [('has 2 views', '2 0 0 trace.bin'), ('X: a number from 0 to 319', '0 320 0 trace.bin'),
                             ('Y: a number from 0 to 199', '0 0 200 trace.bin'), ('VIEW: a number', 'x 0 0 trace.bin'),
-                            ('cannot read absent', '0 0 0 absent'), ('is no WAD', '0 0 0 trace.bin trace.bin'),
+                            ('cannot read absent', '0 0 0 absent'),
+                            ('and a view has 512000; name the whole of what doomview trace', '0 0 0 names.wad'), ('is no WAD', '0 0 0 trace.bin trace.bin'),
                             ('--help shows its words', '0 0')]:
             self.refuses(part, 'pixel', *words.split())
 
@@ -158,6 +159,7 @@ class Compare(Tools):
         self.write('short.bin', painted()[:-1])
         for part, words in [('no file absent', ['absent']), ('has 63999 bytes, and a view has 64000', ['short.bin']),
                             ('is no plain file', ['bin']),
+                            ('and a view has 512000', ['ours.bin', '--trace', 'ours.bin']),
                             ('is not the trace of 1 views', ['ours.bin', '--trace', 'trace']),
                             ('is no WAD', ['ours.bin', '--wad', 'ours.bin']), ('--help shows its words', []),
                             ('--most: a number', ['ours.bin', '--most', 'x']),

@@ -121,6 +121,10 @@ class Release(Tools):
         told = b'doomview: this is a release: the program is built already\n'
         self.assertEqual(self.alone(folder, '--build')[:2], (0, told))
         self.assertEqual(self.alone(folder, '--built'), (0, b'', ''))
+        if shutil.which('man'):
+            done = subprocess.run(['man', '-l', manual], capture_output=True, env={**os.environ, 'MANWIDTH': '80'})
+            self.assertEqual((done.returncode, done.stderr), (0, b''))
+            self.assertIn(b'DOOMVIEW(1)', done.stdout)
         self.assertEqual(self.alone(folder, 'picture', 'first.png'), (0, b'', ''))
         self.assertEqual(len(pixels_of(self.at('first.png'))), 192000)
         for words in (['room', '-o', 'room.wad'], ['places', 'room.wad', 'MAP01', '3', '-o', 'path.csv'],

@@ -39,7 +39,7 @@ def last_line(path):
 
 def run(options):
     if not options.words:
-        raise Trouble('explain needs the words of a job, or a line of doomview; doomview explain --help has examples')
+        raise Trouble('it needs the words of a job, or a line of doomview; doomview explain --help has examples')
     if options.said:
         explanations.tell(last_line(options.said), program.completed(options.words))
         return 0

@@ -1,6 +1,4 @@
 """doomview pixel: what painted one pixel."""
-import os
-
 from .. import cli, paths, traces, wads
 from ..files import check_source
 from ..frames import HEIGHT, WIDTH
@@ -29,9 +27,9 @@ def add_words(parser):
 
 def run(options):
     check_source(options.trace)
-    record = traces.record_at(options.trace, options.view, options.x, options.y)
-    if record is None:
-        count = os.path.getsize(options.trace) // traces.VIEW_SIZE
+    count = traces.count_views(options.trace)
+    if options.view >= count:
         raise Trouble(f'{options.trace} has {count} views, counted from 0, and none of number {options.view}')
+    record = traces.record_at(options.trace, options.view, options.x, options.y)
     names = traces.Names([wads.find(name) for name in options.wads])
     print(f'view {options.view} column {options.x} row {options.y}: {traces.told(record, names)}')
