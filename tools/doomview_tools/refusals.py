@@ -316,7 +316,7 @@ def refused(code, numbers, words):
     """Sentences on a refusal of a call."""
     scene = Scene(words)
     if code == NO_MAP and scene.lumps and scene.label is None:
-        yield f'{code}: {levels.no_map(scene.wads, scene.map_name, scene.lumps)}.'
+        yield f'{code}: {levels.no_map(scene.map_name, scene.places, scene.lumps)}.'
         return
     wrong, mend = codes().get(code, ('docs/FILES.md has no such code', ''))
     at, table = names(scene, code, numbers), words.value(TABLES.get(code // 100))

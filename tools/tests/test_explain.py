@@ -58,7 +58,7 @@ class Explain(Tools):
     def test_maps(self):
         """What a map's author may have overlooked."""
         words = ['audit', 'MAP09', *MAP[1:]]
-        self.explains('doomview: refused 601', *words, part='made.wad has no map MAP09; its maps: A/B MAP01 MAP02')
+        self.explains('doomview: refused 601', *words, part='made.wad has no map MAP09; the maps there: A/B MAP01 MAP02')
         self.explains('doomview: refused 601', 'audit', 'MAP05', *MAP[1:], part='in Hexen format')
         self.explains('doomview: refused 601', 'audit', 'MAP06', *MAP[1:],
                       part='MAP06 of made.wad is no map: behind it stand MAP07')
