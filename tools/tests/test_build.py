@@ -9,7 +9,7 @@ import tempfile
 import time
 import unittest
 
-from made_files import COMMAND, COMMANDS, COMPILED, TOOLS
+from made_files import COMMAND, COMMANDS, COMPILED, TOOLS, TOP
 from doomview_tools import plan
 
 CRATES = '''# low
@@ -346,6 +346,14 @@ class Build(unittest.TestCase):
 
 class Plan(unittest.TestCase):
     """What is told of the time that a build takes."""
+
+    def test_weights(self):
+        """Each crate has a weight, and no weight is of another."""
+        with open(os.path.join(TOP, 'crates.txt')) as file:
+            crates = {line.partition(':')[0] for line in file if re.match('[a-z_]+:', line)}
+        weights = plan.read_numbers(os.path.join(TOOLS, 'data', 'weights.csv'))
+        self.assertEqual(set(weights), crates - {'word_tests', 'file_tests', 'whole_tests'})
+        self.assertGreater(min(weights.values()), 0)
 
     def test_seconds(self):
         """As they are kept; by weight, brought to their scale; or by lines."""
