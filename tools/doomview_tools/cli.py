@@ -12,6 +12,7 @@ from . import jobs, wads
 from .trouble import Trouble
 
 MOST_COLUMNS = 100
+UNBROKEN = '\N{NO-BREAK SPACE}'
 HELP = {'--help', '-h'}
 WAD = 'a WAD, found as ports find it (see doomview --help)'
 JOB_OPTION = 'job '  # before the names of options that are handed on
@@ -55,10 +56,11 @@ class Parser(argparse.ArgumentParser):
         """All words, the positional ones first."""
         plain = [form_of(action) for action in self._actions if not action.option_strings]
         options = [form_of(action) for action in self._actions if action.option_strings and action.dest != 'help']
-        forms = self.page.usage or [' '.join(plain + options)]
-        return ''.join(textwrap.fill(f'{self.prog} {form}', columns(), initial_indent='       ' if i else 'usage: ',
+        forms = self.page.usage or [' '.join(it.replace(' ', UNBROKEN) for it in plain + options)]
+        text = ''.join(textwrap.fill(f'{self.prog} {form}', columns(), initial_indent='       ' if i else 'usage: ',
                                      subsequent_indent=' ' * 9, break_on_hyphens=False) + '\n'
                        for i, form in enumerate(forms))
+        return text.replace(UNBROKEN, ' ')
 
     def parse(self, words):
         """What the words give. Options may stand between plain words, but for a tool that takes the rest of its words."""
