@@ -3,9 +3,9 @@
 
 usage: measure.py [WAD..] [--programs PROGRAM..] [--maps NAMES] [--rounds N] [--repeat N] [--ppm] [--count]
 
-With WADs: of each map 21 places at which one can stand, chosen as `doomview places` does, from a fixed seed. A view is what a
-run over the places REPEAT times takes more than a run over them once, so that the reading of the level does not count;
-clearing and writing the frame do. Frames go to /dev/null. Times are processor time in microseconds, the least of
+With WADs: of each map 21 places at which one can stand, chosen as `doomview places` does, from a fixed seed. A view is
+what a run over the places REPEAT times takes more than a run over them once, so that the reading of the level does not
+count; clearing and writing the frame do. Frames go to /dev/null. Times are processor time in microseconds, the least of
 ROUNDS; in each round all programs run in turn, and runs are short and many, since a machine that others use changes
 its pace from second to second. Where tools/original/build has made `still`, R_RenderPlayerView of the original is
 measured beside, the least of its passes over the places, and the ratios are to it; else they are to the first program.
@@ -74,7 +74,8 @@ def write_paths(folder, wad, name, repeat):
 
 
 def doomview_words(executable, wad, name, path, ppm):
-    return [executable, *program.completed(['render', name, wad, '--path', path, '--format', 'ppm' if ppm else 'index'])]
+    words = ['render', name, wad, '--path', path, '--format', 'ppm' if ppm else 'index']
+    return [executable, *program.completed(words)]
 
 
 def still_words(wad, name, path, *more):
@@ -161,7 +162,8 @@ def main():
         return exercises(options)
     try:
         found = [os.path.abspath(wads.find(name)) for name in options.wads]
-        maps = [(wad, name) for wad in found for name in wads.map_labels(wads.read(wad)) if name in options.maps.split()]
+        maps = [(wad, name) for wad in found for name in wads.map_labels(wads.read(wad))
+                if name in options.maps.split()]
     except Trouble as error:
         reader.error(str(error))
     if not maps:

@@ -9,22 +9,25 @@ import textwrap
 import typing
 
 from . import jobs, wads
-from .trouble import TROUBLE, Trouble
+from .trouble import Trouble
 
 MOST_COLUMNS = 100
+UNBROKEN = '\N{NO-BREAK SPACE}'
+HELP = {'--help', '-h'}
+WAD = 'a WAD, found as ports find it (see doomview --help)'
 JOB_OPTION = 'job '  # before the names of options that are handed on
 
 
 class Page(typing.NamedTuple):
-    """The parts of a help page. `usage` has the plain words as they are shown, where they depend on each other."""
+    """The parts of a help page. `usage` has the forms of a call, where they cannot be told from its words."""
 
     name: str
     summary: str
     text: str
     examples: str
     needs: str = 'Python alone'
-    ends: str = ''
-    usage: str = ''
+    ends: str = ' 0  all is well\n 2  it could not be done, and a sentence says why'
+    usage: tuple = ()
 
 
 def columns():
@@ -53,9 +56,19 @@ class Parser(argparse.ArgumentParser):
         """All words, the positional ones first."""
         plain = [form_of(action) for action in self._actions if not action.option_strings]
         options = [form_of(action) for action in self._actions if action.option_strings and action.dest != 'help']
-        words = [self.page.usage] if self.page.usage else plain
-        return textwrap.fill(' '.join(['usage:', self.prog, *words, *options]), columns(), subsequent_indent=' ' * 9,
-                             break_on_hyphens=False) + '\n'
+        forms = self.page.usage or [' '.join(it.replace(' ', UNBROKEN) for it in plain + options)]
+        text = ''.join(textwrap.fill(f'{self.prog} {form}', columns(), initial_indent='       ' if i else 'usage: ',
+                                     subsequent_indent=' ' * 9, break_on_hyphens=False) + '\n'
+                       for i, form in enumerate(forms))
+        return text.replace(UNBROKEN, ' ')
+
+    def parse(self, words):
+        """What the words give. Options may stand between plain words, but for a tool that takes the rest of its words."""
+        takes_rest = any(action.nargs == argparse.REMAINDER for action in self._actions)
+        if HELP & {*(words[:1] if takes_rest else words)}:
+            self.print_help()
+            raise SystemExit(0)
+        return self.parse_args(words) if takes_rest else self.parse_intermixed_args(words)
 
     def format_help(self):
         self.usage = argparse.SUPPRESS
@@ -84,8 +97,8 @@ def last_parts(page):
 
 
 def add_output(parser, what):
-    parser.add_argument('-o', dest='output', metavar='FILE', help=f'{what} goes to FILE, whole or not at all, in the '
-                        'place of the standard output')
+    parser.add_argument('-o', dest='output', metavar='FILE',
+                        help=f'writes {what} to FILE, whole or not at all, and not to the standard output')
 
 
 def add_base(parser):
@@ -95,7 +108,7 @@ def add_base(parser):
 
 def add_level(parser):
     """The words of a tool over one map."""
-    parser.add_argument('wad', metavar='WAD', help='a WAD, found as ports find it (see doomview --help)')
+    parser.add_argument('wad', metavar='WAD', help=WAD)
     parser.add_argument('map', metavar='MAP', help='the name of a map, such as MAP01 or E1M1')
     add_base(parser)
 
@@ -132,8 +145,12 @@ def parser_of(tool):
     """The parser of a tool, which also prints its help page."""
     parser = Parser(tool.PAGE)
     tool.add_words(parser)
-    parser.add_argument('--help', '-h', action='help', help='prints this page')
+    add_help(parser)
     return parser
+
+
+def add_help(parser):
+    parser.add_argument('--help', '-h', action='help', help='prints this page')
 
 
 def job_page(job):
@@ -147,7 +164,7 @@ def job_page(job):
         parser.add_argument(option.name, metavar=option.value, help=meaning_of(option),
                             required=option.is_needed and not option.default)
     add_output(parser, 'the output')
-    parser.add_argument('--help', '-h', action='help', help='prints this page')
+    add_help(parser)
     return parser.format_help()
 
 
@@ -166,10 +183,8 @@ def meaning_of(option):
 def run(tool, words):
     """Runs a tool with its words; its status."""
     try:
-        return tool.run(parser_of(tool).parse_args(words)) or 0
-    except BrokenPipeError:
-        raise
-    except (Trouble, OSError) as error:
+        return tool.run(parser_of(tool).parse(words)) or 0
+    except Trouble as error:
         if str(error):
             print(f'doomview {tool.PAGE.name}: {error}', file=sys.stderr)
-        return getattr(error, 'status', TROUBLE)
+        return error.status

@@ -5,10 +5,33 @@ import signal
 import sys
 
 from . import cli, home, jobs, program
-from .trouble import Trouble
+from .trouble import TROUBLE, Trouble
 
 TOOLS = ['picture', 'places', 'turn', 'compare', 'pixel', 'explain', 'video', 'audit-all', 'draw-all', 'maps', 'tables',
          'room']
+OVERVIEW = '''usage: doomview JOB WORDS.. [OPTIONS]
+       doomview TOOL WORDS.. [OPTIONS]
+
+Jobs of the proved program:
+{jobs}
+
+Tools:
+{tools}
+
+The page of a job or tool, with its words, options and examples:
+  doomview JOB --help
+  doomview TOOL --help
+
+Of the command itself:
+  doomview --version   the version, and the logic that the program is proved in
+  doomview --build     builds the program, if that is needed; every job does so too
+  doomview --built     ends with 0 where the program is built, else with 1
+
+WADs are found as ports find them: as they are named, in the folders of DOOMWADDIR
+and DOOMWADPATH, and in those of the packages (/usr/share/games/doom and its kin),
+there also in small letters and without .wad.
+
+The manual: man -l {manual}'''
 
 
 def tool(name):
@@ -16,29 +39,15 @@ def tool(name):
     return importlib.import_module('.commands.' + name.replace('-', '_'), __package__)
 
 
+def table(lines):
+    return '\n'.join(f'  {left:18} {right}' for left, right in lines)
+
+
 def overview():
     """What `doomview --help` prints."""
     job_lines = [(' '.join([job.name, *(word for word, _ in job.words)]), job.summary) for job in jobs.JOBS.values()]
     tool_lines = [(name, tool(name).PAGE.summary) for name in TOOLS]
-
-    def table(lines):
-        return '\n'.join(f'  {left:18} {right}' for left, right in lines)
-
-    return f'''usage: doomview JOB WORDS.. [OPTIONS]
-       doomview TOOL WORDS.. [OPTIONS]
-
-Jobs of the proved program:
-{table(job_lines)}
-
-Tools:
-{table(tool_lines)}
-
-  doomview JOB --help, doomview TOOL --help   what it does, its words, options and examples
-  doomview --version   the version, and the logic that the program is proved in
-  doomview --build     builds the program, if that is needed; every job does so too
-  doomview --built     ends with 0 where the program is built, else with 1
-
-The manual: man -l {home.MANUAL}'''
+    return OVERVIEW.format(jobs=table(job_lines), tools=table(tool_lines), manual=home.MANUAL)
 
 
 def version():
@@ -47,7 +56,10 @@ def version():
 
 
 def run_job(words):
-    """Runs a job, or hands words to the program that are none of this command's."""
+    """Runs a job, or hands words to the program that are none of this command's. For words that are no job nothing is
+    built, since the program's answer is known."""
+    if jobs.Words(words).job not in jobs.JOBS and not program.is_built():
+        return usage()
     if not jobs.Words(words).output:
         return program.replace(words)
     done = program.run_whole(words)
@@ -68,27 +80,37 @@ def stop(number, _):
     raise SystemExit(128 + number)
 
 
+def usage():
+    """What the program says of words that are no job, and what would be some."""
+    print('doomview: usage', overview(), sep='\n', file=sys.stderr)
+    return jobs.USAGE
+
+
 def main(words):
     """Runs the command; its status."""
     for number in (signal.SIGTERM, signal.SIGHUP):
         signal.signal(number, stop)
     try:
-        return answer(words)
+        status = answer(words)
+        sys.stdout.flush()
+        return status
     except Trouble as error:
         print(f'doomview: {error}', file=sys.stderr)
         return error.status
     except KeyboardInterrupt:
         return 128 + signal.SIGINT
-    except BrokenPipeError:
-        os.dup2(os.open(os.devnull, os.O_WRONLY), 1)  # nobody reads what is left
-        return 128 + signal.SIGPIPE
+    except OSError as error:
+        os.dup2(os.open(os.devnull, os.O_WRONLY), 1)  # what is left to write has no place
+        if isinstance(error, BrokenPipeError):
+            return 128 + signal.SIGPIPE
+        print(f'doomview: {error.filename or "cannot write the output"}: {error.strerror}', file=sys.stderr)
+        return TROUBLE
 
 
 def answer(words):
     """What the command does with its words; its status."""
     if not words:
-        print('doomview: usage', overview(), sep='\n', file=sys.stderr)
-        return jobs.USAGE
+        return usage()
     if words in (['--help'], ['-h'], ['--version']):
         print(version() if words == ['--version'] else overview())
         return 0
@@ -98,7 +120,7 @@ def answer(words):
         return build()
     if words[0] in TOOLS:
         return cli.run(tool(words[0]), words[1:])
-    if words[0] in jobs.JOBS and {'--help', '-h'} & {*words}:
+    if words[0] in jobs.JOBS and cli.HELP & {*words}:
         print(cli.job_page(jobs.JOBS[words[0]]), end='')
         return 0
     return run_job(words)

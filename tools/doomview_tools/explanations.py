@@ -73,7 +73,8 @@ LINES = [
 def spectres(count):
     """A sentence on things that the original draws as shadows."""
     which = f'{count} spectres of the map are' if count > 1 else 'the spectre of the map is'
-    return f'{which} not drawn, since the thing table has no row for type {SPECTRE}: the original draws them as shadows.'
+    return (f'{which} not drawn, since the thing table has no row for type {SPECTRE}: the original draws them as '
+            'shadows.')
 
 
 def undrawn(scene, things):

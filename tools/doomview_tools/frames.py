@@ -10,14 +10,18 @@ PPM_HEAD = b'P6\n320 200\n255\n'
 NONZERO = re.compile(b'[^\\0]')
 
 
-def count_views(path, size=SIZE):
-    """The number of views in a file; each has `size` bytes."""
+def count_views(path):
+    """The number of views in a file of frames."""
+    return count_parts(path, SIZE, 'frames are to be written as palette indices, one behind the other')
+
+
+def count_parts(path, size, form):
+    """The number of views in a file, of which each has that size; `form` says how they are to be written."""
     if not os.path.isfile(path):
         raise Trouble(f'{path} is no plain file' if os.path.exists(path) else f'there is no file {path}')
     length = os.path.getsize(path)
     if length % size:
-        raise Trouble(f'{path} has {length} bytes, and a view has {size}; frames are to be written as palette indices, '
-                      'one behind the other')
+        raise Trouble(f'{path} has {length} bytes, and a view has {size}; {form}')
     return length // size
 
 

@@ -9,6 +9,7 @@ IS_RELEASE = os.path.basename(TOOLS) == 'doomview' and os.path.basename(os.path.
 TOP = os.path.dirname(os.path.dirname(TOOLS)) if IS_RELEASE else os.path.dirname(TOOLS)
 DOCS = os.path.join(TOP, *(('share', 'doc', 'doomview', 'docs') if IS_RELEASE else ('docs',)))
 MANUAL = os.path.join(TOP, 'share', 'man', 'man1', 'doomview.1') if IS_RELEASE else os.path.join(DOCS, 'doomview.1')
+COMMAND = os.path.join(TOP, *(('bin', 'doomview') if IS_RELEASE else ('doomview',)))
 PROGRAM = os.path.join(TOP, *(('libexec', 'doomview') if IS_RELEASE else ('out', 'doomview')))
 
 

@@ -88,7 +88,8 @@ original's (doomview tables writes those), and the things are one type alone.
 $ doomview make wad 10 -o made.wad
 $ doomview make path 10 > made_path.csv
 '''),
-    Job('exercise', [('N', 'the number of the made files, 1 to 32')], 'the sum of the frames of a made level', False, '''
+    Job('exercise', [('N', 'the number of the made files, 1 to 32')],
+        'the sum of the frames of a made level', False, '''
 Makes the files of a number in memory, renders them, and prints the number and the sum of the frames'
 bytes. It reads no file, so it shows on any machine whether the program draws what it should.
 ''', '''
@@ -157,7 +158,7 @@ class Words:
     `--zone 64` and `--zone=64`, and all behind `--` as plain words."""
 
     def __init__(self, words):
-        self.words, self.output = take_output(list(words))
+        self.words, self.output = take_output(list(words)) if {*words} & {*JOBS} else (list(words), None)
         self.plain, self.places, self.given = [], [], {}
         words, at, are_plain = self.words, 0, False
         while at < len(words):

@@ -87,14 +87,14 @@ class Level:
                 return name, letters.decode()
         return None
 
-    def damage(self):
-        """The WadError of a level in which a number names nothing."""
+    def damage(self, what="is damaged; doomview's job audit says where"):
+        """The WadError of a level in which a number names nothing, or nodes lead nowhere."""
         extended = self.extended_nodes()
         if extended:
             return self.error('has extended nodes ({1} in {0}); build plain ones'.format(*extended))
         if not self.leaves:
             return self.error('has no nodes (SSECTORS is empty); build them')
-        return self.error("is damaged; doomview's job audit says where")
+        return self.error(what)
 
     def error(self, what):
         return WadError(f'{self.name} of {self.wad} {what}')
@@ -109,7 +109,7 @@ class Level:
                 node = self.nodes[child]
                 child = node.back if is_behind(node, x, y) else node.front
             if not child & LEAF:
-                raise self.error('has nodes that form a circle; build them anew')
+                raise self.damage('has nodes that form a circle; build them anew')
             return self.sector_of_leaf(child & ~LEAF)
         except (IndexError, TypeError):
             raise self.damage()
@@ -147,21 +147,20 @@ def is_behind(node, x, y):
     return line_y * (x - node_x) <= line_x * (y - node_y)
 
 
-def no_map(wads, name, lumps):
-    """The WadError of WADs without a map of that name: what stands in its place."""
+def no_map(name, wads, lumps):
+    """The WadError of lumps without a map of that name; `wads` has the WAD of each lump, or those without any."""
     names = [lump.name for lump in lumps]
-    where = wads[0] if len(wads) == 1 else 'the WADs ' + ' '.join(wads)
-    behind = names[len(names) - names[::-1].index(name):][:BEHIND_MAP] if name in names else []
-    why = why_no_map(behind)
-    if why:
-        return WadError(f'{name} of {where} {why}')
     if name in names:
-        return WadError(f'{name} of {where} is no map: behind it stand {", ".join(behind[:8]) or "no lumps"}')
-    return WadError(f'{where} has no map {name}; its maps: {" ".join(sorted(map_labels(lumps))) or "none"}')
+        label = len(names) - 1 - names[::-1].index(name)
+        return WadError(f'{name} of {wads[label]} {why_no_map(names[label + 1:label + BEHIND_MAP])}')
+    where = list(dict.fromkeys(wads))
+    have = 'has' if len(where) == 1 else 'have'
+    maps = ' '.join(sorted(map_labels(lumps))) or 'none'
+    return WadError(f'{" and ".join(where)} {have} no map {name}; the maps there: {maps}')
 
 
 def why_no_map(behind):
-    """Why a label is that of no map here, by the names of the lumps behind it; None where it is no label."""
+    """Why a label is that of no map here, by the names of the lumps behind it."""
     if behind[:1] == ['TEXTMAP']:
         return 'is a UDMF map; save it in Doom format'
     if 'BEHAVIOR' in behind:
@@ -170,19 +169,24 @@ def why_no_map(behind):
     if behind[:2] == MAP_LUMPS[:2] and missing and set(missing) <= set(BUILT_LUMPS):
         alone = ' (it has GL nodes alone, which are not read)' if any(it.startswith('GL_') for it in behind) else ''
         return f'has no nodes ({", ".join(BUILT_LUMPS)}){alone}; build them'
-    return None
+    return f'is no map: behind it stand {", ".join(behind[:len(MAP_LUMPS)]) or "no lumps"}'
 
 
 def has_gl_nodes(lumps, label):
     """Whether GL nodes stand behind a map."""
-    return any(lump.name.startswith('GL_') for lump in lumps[label + 9:label + 9 + BEHIND_MAP])
+    first = label + 1 + len(MAP_LUMPS)
+    return any(lump.name.startswith('GL_') for lump in lumps[first:first + BEHIND_MAP])
 
 
 def read(wads, name):
     """The level of a map over WADs, given in their order by their paths. The last label of the name counts."""
-    lumps = [(wad, lump) for wad in wads for lump in read_wad(wad)]
+    lumps, places = [], []
+    for wad in wads:
+        found = read_wad(wad)
+        lumps += found
+        places += [wad] * len(found)
     name = name.upper()
-    label = map_labels([lump for _, lump in lumps]).get(name)
+    label = map_labels(lumps).get(name)
     if label is None:
-        raise no_map(wads, name, [lump for _, lump in lumps])
-    return Level(name, lumps[label][0], {lump.name: lump.data for _, lump in lumps[label + 1:label + 9]})
+        raise no_map(name, places or wads, lumps)
+    return Level(name, places[label], dict(lumps[label + 1:label + 1 + len(MAP_LUMPS)]))

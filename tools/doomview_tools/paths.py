@@ -51,33 +51,52 @@ def turn(level, views):
             for view in range(views)]
 
 
+class Choice:
+    """Places of a level that are chosen at random, the same for the same words."""
+
+    def __init__(self, level, words):
+        self.level, self.draw = level, random.Random(words)
+        self.things = [(thing.x * UNIT, thing.y * UNIT) for thing in level.things]
+        self.vertexes = [(vertex.x * UNIT, vertex.y * UNIT) for vertex in level.vertexes]
+
+    def row(self, x, y, angle, any_height=False):
+        """The row of a place: an eye over the floor, or at any height."""
+        number = self.level.sector_at(x / UNIT, y / UNIT)
+        if number >= len(self.level.sectors):
+            raise self.level.damage()
+        floor, ceiling = self.level.sectors[number][:2]
+        low, high = (floor - MARGIN) * UNIT, (max(floor, ceiling) + MARGIN) * UNIT
+        z = self.draw.randrange(low, high) if any_height else (floor + EYE_HEIGHT) * UNIT
+        return Row(x, y, z, angle)
+
+    def beside_thing(self, any_height=False):
+        x, y = self.draw.choice(self.things)
+        return self.row(x + self.draw.randint(-NEAR, NEAR), y + self.draw.randint(-NEAR, NEAR),
+                        self.draw.randrange(TURN), any_height)
+
+    def on_vertex(self):
+        x, y = self.draw.choice(self.vertexes)
+        return self.row(x, y, self.draw.randrange(TURN))
+
+    def on_thing(self):
+        x, y = self.draw.choice(self.things)
+        return self.row(x, y, self.draw.randrange(8) * (TURN // 8))
+
+    def anywhere(self):
+        self.draw.choice(self.things)  # so that the choices are those of earlier versions
+        xs, ys = zip(*self.vertexes)
+        return self.row(self.draw.randint(min(xs), max(xs)), self.draw.randint(min(ys), max(ys)),
+                        self.draw.randrange(TURN), True)
+
+    def wild(self, number):
+        """A place of each kind by turns."""
+        kinds = [lambda: self.beside_thing(True), self.on_vertex, self.on_thing, self.anywhere]
+        return kinds[number % len(kinds)]()
+
+
 def places(level, count, seed, wild=False):
     """The player start and `count` places more, chosen at random: the same for the same words."""
-    draw = random.Random(f'{seed} {count} {wild}')
-    things = [thing[:2] for thing in level.things]
-    vertexes = level.vertexes
-
-    def row(x, y, angle, any_height=False):
-        number = level.sector_at(x / UNIT, y / UNIT)
-        if number >= len(level.sectors):
-            raise level.damage()
-        floor, ceiling = level.sectors[number][:2]
-        low, high = (floor - MARGIN) * UNIT, (max(floor, ceiling) + MARGIN) * UNIT
-        return Row(x, y, draw.randrange(low, high) if any_height else (floor + EYE_HEIGHT) * UNIT, angle)
-
-    def one(number):
-        kind = number % 4 if wild else 0
-        x, y = (UNIT * part for part in draw.choice(vertexes if kind == 1 else things))
-        if kind == 0:
-            return row(x + draw.randint(-NEAR, NEAR), y + draw.randint(-NEAR, NEAR), draw.randrange(TURN), wild)
-        if kind == 1:
-            return row(x, y, draw.randrange(TURN))
-        if kind == 2:
-            return row(x, y, draw.randrange(8) * (TURN // 8))
-        xs, ys = zip(*vertexes)
-        return row(draw.randint(min(xs) * UNIT, max(xs) * UNIT), draw.randint(min(ys) * UNIT, max(ys) * UNIT),
-                   draw.randrange(TURN), True)
-
     start = level.player_start()
-    first = row(start.x * UNIT, start.y * UNIT, start_angle(start))
-    return [first] + [one(number) for number in range(count)]
+    choice = Choice(level, f'{seed} {count} {wild}')
+    first = choice.row(start.x * UNIT, start.y * UNIT, start_angle(start))
+    return [first] + [choice.wild(number) if wild else choice.beside_thing() for number in range(count)]

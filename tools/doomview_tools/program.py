@@ -74,7 +74,10 @@ def environment():
 
 
 def cache_folder():
-    return os.path.join(os.environ.get('XDG_CACHE_HOME') or os.path.join(os.path.expanduser('~'), '.cache'), 'doomview')
+    """Where what is made once is kept."""
+    named = os.environ.get('XDG_CACHE_HOME', '')
+    folder = named if os.path.isabs(named) else os.path.join(os.path.expanduser('~'), '.cache')
+    return os.path.join(folder, 'doomview')
 
 
 held_files = []  # temporary files of this process
@@ -154,7 +157,8 @@ def guard_terminal(words):
     if not given.writes_bytes or not is_terminal():
         return
     if not wrong_words(given):
-        raise Trouble(f'what {given.job} writes is no text, and the output is a terminal; name a file by -o FILE', USAGE)
+        raise Trouble(f'what {given.job} writes is no text, and the output is a terminal; name a file by -o FILE',
+                      USAGE)
     os.dup2(os.open(os.devnull, os.O_WRONLY), 1)
 
 

@@ -212,10 +212,11 @@ def packed_file(scene, numbers):
 def odd_nodes(scene, numbers):
     extended = scene.level.extended_nodes()
     if extended:
-        yield (f'{extended[0]} has extended nodes ({extended[1]}); build plain ones (zdbsp without -X, -x and -z; in an '
-               'editor a builder named normal or vanilla).')
+        yield (f'{extended[0]} has extended nodes ({extended[1]}); build plain ones (zdbsp without -X, -x and -z; in '
+               'an editor a builder named normal or vanilla).')
     elif scene.label is not None and levels.has_gl_nodes(scene.lumps, scene.label):
-        yield f'{scene.map_name} has GL nodes alone (GL_SEGS, GL_SSECT, GL_NODES), which are not read; build plain ones too.'
+        yield (f'{scene.map_name} has GL nodes alone (GL_SEGS, GL_SSECT, GL_NODES), which are not read; build plain '
+               'ones too.')
 
 
 def deep_nodes(scene, numbers):
@@ -238,7 +239,8 @@ def no_texture(scene, numbers):
     yield from hidden_list(scene, set(missing.values()))
     used = {name for side in scene.level.sides for name in side[2:5] if not name.startswith('-')}
     if 2 * len(used - known) > len(used):
-        yield f'{len(used - known)} of the {len(used)} textures of the map are in no list: the map may be for another game.'
+        yield (f'{len(used - known)} of the {len(used)} textures of the map are in no list: the map may be for another '
+               'game.')
 
 
 def hidden_list(scene, missing):
@@ -280,7 +282,7 @@ def medusa(scene, numbers):
         yield f'lines of two sides with {name}: {shown}.'
 
 
-HINTS = {401: packed_file, **dict.fromkeys((603, 604, 605, 606), odd_nodes), 607: deep_nodes,
+HINTS = {401: packed_file, 402: packed_file, **dict.fromkeys((603, 604, 605, 606), odd_nodes), 607: deep_nodes,
          901: no_texture, 903: no_flat, 905: medusa}
 
 
@@ -314,7 +316,7 @@ def refused(code, numbers, words):
     """Sentences on a refusal of a call."""
     scene = Scene(words)
     if code == NO_MAP and scene.lumps and scene.label is None:
-        yield f'{code}: {levels.no_map(scene.wads, scene.map_name, scene.lumps)}.'
+        yield f'{code}: {levels.no_map(scene.map_name, scene.places, scene.lumps)}.'
         return
     wrong, mend = codes().get(code, ('docs/FILES.md has no such code', ''))
     at, table = names(scene, code, numbers), words.value(TABLES.get(code // 100))

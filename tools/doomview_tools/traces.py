@@ -2,7 +2,7 @@
 import collections
 import struct
 
-from .frames import HEIGHT, SIZE, WIDTH
+from .frames import HEIGHT, SIZE, WIDTH, count_parts
 from .png import GREYS
 from .trouble import Trouble
 from .wads import clean, read
@@ -20,12 +20,16 @@ Painter = collections.namedtuple('Painter', 'kind source_kind source')
 Source = collections.namedtuple('Source', 'word name more')
 
 
+def count_views(path):
+    """The number of views in a file of traces."""
+    return count_parts(path, VIEW_SIZE, 'name the whole of what doomview trace wrote')
+
+
 def record_at(path, view, x, y):
-    """The record of a pixel, or None where the trace does not have the view."""
+    """The record of a pixel of a view that the trace has."""
     with open(path, 'rb') as file:
         file.seek(RECORD.size * ((HEIGHT * view + y) * WIDTH + x))
-        data = file.read(RECORD.size)
-    return RECORD.unpack(data) if len(data) == RECORD.size else None
+        return RECORD.unpack(file.read(RECORD.size))
 
 
 def texture_lists(lumps):

@@ -9,7 +9,7 @@ import tempfile
 import time
 import unittest
 
-from made_files import COMMAND, COMMANDS, COMPILED, TOOLS
+from made_files import COMMAND, COMMANDS, COMPILED, TOOLS, TOP
 from doomview_tools import plan
 
 CRATES = '''# low
@@ -91,7 +91,8 @@ class Build(unittest.TestCase):
         os.symlink(sys.executable, self.at('bin', 'python3'))
         shutil.copy(COMMAND, self.folder)
         for name in ('data', 'doomview_tools'):
-            shutil.copytree(os.path.join(TOOLS, name), self.at('tools', name), ignore=shutil.ignore_patterns('__pycache__'))
+            shutil.copytree(os.path.join(TOOLS, name), self.at('tools', name),
+                            ignore=shutil.ignore_patterns('__pycache__'))
         os.chmod(self.write('opt/kit/bin/rt', RT.replace('PYTHON', sys.executable)), 0o755)
         os.symlink('../opt/kit/bin/rt', self.at('bin', 'rt'))
         self.seen = 0
@@ -259,9 +260,9 @@ class Build(unittest.TestCase):
         self.assertEqual(run.stdout, f"{above} ['high', 'doomview'] 7\n")
 
     def test_two_at_once(self):
-        runs = [self.start(word) for word in ('one', 'two')]
+        runs = [self.start('make', word) for word in ('one', 'two')]
         for word, run in zip(('one', 'two'), runs):
-            self.assertEqual(run.communicate('')[0], word + '\n')
+            self.assertEqual(run.communicate('')[0], f'make {word}\n')
         self.assertEqual(sum(line == 'build high' for line in self.calls()), 1)
 
     def test_progress(self):
@@ -313,6 +314,7 @@ class Build(unittest.TestCase):
         self.assertEqual((status, error), (0, ''))
         self.assertEqual(self.runs(), (1, '', 'doomview: usage\n' + output))
         self.assertEqual(self.runs('--built')[:2], (1, ''))
+        self.assertEqual(self.runs('paint', 'it'), (1, '', 'doomview: usage\n' + output))
         self.assertEqual(self.calls(), [])
         self.assertEqual(self.runs('--build', FAILS='left')[0], 70)
         self.assertEqual(self.runs('--build')[:2], (0, ''))
@@ -344,6 +346,14 @@ class Build(unittest.TestCase):
 
 class Plan(unittest.TestCase):
     """What is told of the time that a build takes."""
+
+    def test_weights(self):
+        """Each crate has a weight, and no weight is of another."""
+        with open(os.path.join(TOP, 'crates.txt')) as file:
+            crates = {line.partition(':')[0] for line in file if re.match('[a-z_]+:', line)}
+        weights = plan.read_numbers(os.path.join(TOOLS, 'data', 'weights.csv'))
+        self.assertEqual(set(weights), crates - {'word_tests', 'file_tests', 'whole_tests'})
+        self.assertGreater(min(weights.values()), 0)
 
     def test_seconds(self):
         """As they are kept; by weight, brought to their scale; or by lines."""

@@ -6,11 +6,10 @@ import re
 import shutil
 import signal
 import subprocess
-import sys
 import time
 import unittest
 
-from made_files import COMMAND, FRAME, TOOLS, Tools, made_wad
+from made_files import COMMAND, TOOLS, Tools, made_wad
 from doomview_tools import command, jobs
 
 # Writes its words down; paints bytes and ends with the status that ENDS has.
@@ -104,7 +103,8 @@ class Help(Command):
     def test_version(self):
         with open(os.path.join(TOOLS, 'data', 'version')) as file:
             known = dict(line.split() for line in file)
-        self.assertEqual(self.runs('--version'), (0, f'doomview {known["version"]}\nlogic {known["logic"]}\n'.encode(), ''))
+        told = f'doomview {known["version"]}\nlogic {known["logic"]}\n'
+        self.assertEqual(self.runs('--version'), (0, told.encode(), ''))
 
     def test_wrong_words(self):
         """A tool says what is wrong with its words in one sentence."""
@@ -151,8 +151,9 @@ class Words(Command):
         self.assertEqual(os.listdir(self.at('temporary')), [])
         status = self.runs('render', *LEVEL, XDG_CACHE_HOME=self.at('file'), ENDS='6')[0]
         self.assertEqual(status, 6)
-        home = self.hands_on('render', *LEVEL, XDG_CACHE_HOME='')[2]
-        self.assertEqual(home, self.at('.cache/doomview/tables.bin'))
+        for named in ('', 'relative'):
+            home = self.hands_on('render', *LEVEL, XDG_CACHE_HOME=named)[2]
+            self.assertEqual(home, self.at('.cache/doomview/tables.bin'))
 
     def test_wads(self):
         """WADs of jobs are found as ports find them; a name that is found nowhere goes to the program as it is."""
@@ -172,7 +173,8 @@ class Words(Command):
 
     def test_other_words(self):
         """A word that is neither job nor tool goes to the program as it is, and so do wrong words of jobs."""
-        for words in (['paint', 'it'], ['--help', 'me'], ['--build', 'it'], ['Render'], [''], ['exercise'], ['-x']):
+        for words in (['paint', 'it'], ['--help', 'me'], ['--build', 'it'], ['Render'], [''], ['exercise'], ['-x'],
+                      ['paint', '-o', 'it'], ['-o']):
             self.assertEqual(self.hands_on(*words), words)
         self.assertEqual(self.hands_on('render', '--path')[5:], ['--path'])
 

@@ -19,7 +19,8 @@ def texture_of_patches(names):
     """A TEXTURE1 and PNAMES of textures, each a pair of a name and the names of its patches."""
     patches = sorted({patch for _, found in names for patch in found})
     records = [name(it) + struct.pack('<IhhIH', 0, 64, 128, 0, len(found))
-               + b''.join(struct.pack('<hhHI', 0, 0, patches.index(patch), 0) for patch in found) for it, found in names]
+               + b''.join(struct.pack('<hhHI', 0, 0, patches.index(patch), 0) for patch in found)
+               for it, found in names]
     places, at = [], 4 + 4 * len(records)
     for record in records:
         places.append(at)
@@ -91,14 +92,16 @@ class Compare(Tools):
         self.write('trace.bin', traced() + traced(*spots))
         lists = ('TEXTURE1', texture_list(['NONE', 'STONE']))
         self.write('names.wad', wad([('PLAYPAL', bytes(768)), ('TROOA1', b''), lists]))
-        for words, told in [('1 7 1', 'wall, fragment 4, texture STONE, colour 6'), ('1 319 2', 'sprite 2, lump TROOA1, colour 8'),
+        for words, told in [('1 7 1', 'wall, fragment 4, texture STONE, colour 6'),
+                            ('1 319 2', 'sprite 2, lump TROOA1, colour 8'),
                             ('1 0 199', 'weapon, row 1, lump 9, colour 3'), ('0 0 0', 'nothing, colour 0')]:
             view, x, y = words.split()
             done = self.run_tool('pixel', view, x, y, 'trace.bin', 'names.wad')
             self.assertEqual(done, (0, f'view {view} column {x} row {y}: {told}\n'.encode(), ''))
         for part, words in [('has 2 views', '2 0 0 trace.bin'), ('X: a number from 0 to 319', '0 320 0 trace.bin'),
                             ('Y: a number from 0 to 199', '0 0 200 trace.bin'), ('VIEW: a number', 'x 0 0 trace.bin'),
-                            ('cannot read absent', '0 0 0 absent'), ('is no WAD', '0 0 0 trace.bin trace.bin'),
+                            ('cannot read absent', '0 0 0 absent'),
+                            ('and a view has 512000; name the whole of what doomview trace', '0 0 0 names.wad'), ('is no WAD', '0 0 0 trace.bin trace.bin'),
                             ('--help shows its words', '0 0')]:
             self.refuses(part, 'pixel', *words.split())
 
@@ -108,7 +111,8 @@ class Compare(Tools):
                                     ('SAME', ['SAME']), ('A', ['MANY']), ('B', ['MANY']), ('C', ['MANY']),
                                     ('D', ['MANY'])])
         self.write('names.wad', wad([(patch, b'') for patch in ('W65B_2', 'SHARED', 'SAME', 'MANY', 'FLAT1')] + lists))
-        spots = [(0, x, (1, 1, 4, x, 6, 0)) for x in range(4)] + [(0, 4, (2, 1, 0, 4, 6, 0)), (0, 5, (5, 1, 0, 1, 6, 0))]
+        spots = [(0, x, (1, 1, 4, x, 6, 0)) for x in range(4)]
+        spots += [(0, 4, (2, 1, 0, 4, 6, 0)), (0, 5, (5, 1, 0, 1, 6, 0))]
         self.write('trace.bin', traced(*spots))
         self.write('ours.bin', painted(*((0, x, 6) for x in range(6))))
         self.write('port.bin', painted())
@@ -120,7 +124,8 @@ class Compare(Tools):
             self.assertEqual(done, (0, f'view 0 column {x} row 0: {told}, colour 6\n'.encode(), ''))
         words = ['compare', 'ours.bin', 'port.bin', '--trace', 'trace.bin', '--wad', 'names.wad']
         self.assertEqual(self.run_tool(*words)[1].decode().splitlines()[1:-1], [
-            '  wall     FIREBLU2       1  fragment 4  patch W65B_2', '  wall     SHARED         1  fragment 4  patch of ONE, TWO',
+            '  wall     FIREBLU2       1  fragment 4  patch W65B_2',
+            '  wall     SHARED         1  fragment 4  patch of ONE, TWO',
             '  wall     SAME           1  fragment 4', '  wall     MANY           1  fragment 4  patch of A, B, C ..',
             '  plane    FLAT1          1  plane 0', '  sprite   SHARED         1  sprite 0'])
         damaged = [(label, data[:-1] if label == 'TEXTURE1' else data) for label, data in lists]
@@ -137,13 +142,27 @@ class Compare(Tools):
         self.assertEqual([pixels[3 * 320 * k:3 * 320 * k + 3] for k in range(3)],
                          [b'\xff\xff\xff', b'\x05\x05\x05', b'\xff\x00\x00'])
 
+    def test_full_output(self):
+        """What cannot be written is told."""
+        self.write('ours.bin', painted())
+        self.write('trace.bin', traced())
+        for words in (['compare', 'ours.bin', 'ours.bin'], ['pixel', '0', '0', '0', 'trace.bin'], ['--help']):
+            with open('/dev/full', 'wb') as full:
+                status, _, error = self.run_tool(*words, stdout=full)
+            self.assertEqual((status, error), (2, 'doomview: cannot write the output: No space left on device\n'))
+        self.write('out', b'')
+        self.write('port.bin', painted((0, 0, 1)))
+        self.refuses('out: File exists', 'compare', 'ours.bin', 'port.bin', '--png', 'out')
+
     def test_wrong(self):
         self.write('ours.bin', painted())
         self.write('short.bin', painted()[:-1])
         for part, words in [('no file absent', ['absent']), ('has 63999 bytes, and a view has 64000', ['short.bin']),
                             ('is no plain file', ['bin']),
+                            ('and a view has 512000', ['ours.bin', '--trace', 'ours.bin']),
                             ('is not the trace of 1 views', ['ours.bin', '--trace', 'trace']),
-                            ('is no WAD', ['ours.bin', '--wad', 'ours.bin']), ('--help shows its words', []), ('--most: a number', ['ours.bin', '--most', 'x']),
+                            ('is no WAD', ['ours.bin', '--wad', 'ours.bin']), ('--help shows its words', []),
+                            ('--most: a number', ['ours.bin', '--most', 'x']),
                             ('there is no WAD absent', ['ours.bin', '--wad', 'absent'])]:
             self.write('trace', traced() * 2)
             status, output, error = self.run_tool('compare', 'ours.bin', *words)

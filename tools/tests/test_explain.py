@@ -58,9 +58,10 @@ class Explain(Tools):
     def test_maps(self):
         """What a map's author may have overlooked."""
         words = ['audit', 'MAP09', *MAP[1:]]
-        self.explains('doomview: refused 601', *words, part='made.wad has no map MAP09; its maps: A/B MAP01 MAP02')
+        self.explains('doomview: refused 601', *words, part='made.wad has no map MAP09; the maps there: A/B MAP01 MAP02')
         self.explains('doomview: refused 601', 'audit', 'MAP05', *MAP[1:], part='in Hexen format')
-        self.explains('doomview: refused 601', 'audit', 'MAP06', *MAP[1:], part='MAP06 of made.wad is no map: behind it stand MAP07')
+        self.explains('doomview: refused 601', 'audit', 'MAP06', *MAP[1:],
+                      part='MAP06 of made.wad is no map: behind it stand MAP07')
         self.write('made.wad', wad([('MAP09', b''), ('TEXTMAP', b'')]))
         self.explains('doomview: refused 601', *words, part='is a UDMF map')
         nodes = [(label, b'XNOD' if label == 'NODES' else data) for label, data in room([0], [(0, 0, 0, 1)], [])]
@@ -121,8 +122,8 @@ class Explain(Tools):
         lumps = dict(room([0], [(0, 0, 0, 1)], []))
         lumps['SEGS'] = struct.pack('<6H', 0, 1, 0, 3, 0, 0)
         self.write('made.wad', wad([('MAP01', b''), *lumps.items()]))
-        self.explains('doomview: refused 604 4 0 4', part='SEGS record 0, side of the line (of line 3, which has no front '
-                                                         'side)')
+        self.explains('doomview: refused 604 4 0 4',
+                      part='SEGS record 0, side of the line (of line 3, which has no front side)')
 
     def test_spectres(self):
         """Spectres are named once, by their name."""

@@ -101,13 +101,15 @@ class Original(Tools):
     def test_speed(self):
         """bench/measure.py has the original beside the programs where it is built."""
         shutil.copytree(os.path.join(TOP, 'bench'), self.at('clone/bench'))
-        words = [self.at('clone/bench/measure.py'), 'room.wad', '--programs', self.doomview, '--rounds', '1', '--repeat', '2']
+        words = [self.at('clone/bench/measure.py'), 'room.wad', '--programs', self.doomview, '--rounds', '1',
+                 '--repeat', '2']
         self.refuses('none of these maps', *words[1:], '--maps', 'MAP02', command=words[0])
         for ratio in ('', r' \| -?[0-9.]+'):
             status, output, error = self.run_command(*words)
             self.assertEqual((status, error), (0, ''))
             first = r' \| 1\.0' if ratio else ''
-            self.assertRegex(output.decode(), rf'MAP01{first} \| -?[0-9.]+{ratio} \|\n\| mean{first} \| -?[0-9.]+{ratio} \|\n$')
+            self.assertRegex(output.decode(), rf'MAP01{first} \| -?[0-9.]+{ratio} \|\n'
+                                              rf'\| mean{first} \| -?[0-9.]+{ratio} \|\n$')
             self.originals('none')
 
 

@@ -169,7 +169,8 @@ class Pages(unittest.TestCase):
         manual = read('docs/doomview.1').replace('\\-', '-')
         self.assertEqual(list(told), list(jobs.JOBS))
         for job in jobs.JOBS.values():
-            self.assertEqual(told[job.name].strip('`').replace(' ..', '..'), ' '.join([job.name, *(it[0] for it in job.words)]))
+            words = ' '.join([job.name, *(word for word, _ in job.words)])
+            self.assertEqual(told[job.name].strip('`').replace(' ..', '..'), words)
             self.assertIn(f'\n.BI {job.name} ', manual)
         code = read('crates/command_line/src/jobs.rt') + read('crates/command_line/src/level_jobs.rt')
         for job in jobs.JOBS:
@@ -180,8 +181,8 @@ class Pages(unittest.TestCase):
         cells = {name: (what, value) for cell, what, value in rows('README.md', '| Option | Jobs |')
                  for name in re.findall(r'--[a-z]+', cell)}
         manual = read('docs/doomview.1').replace('\\-', '-')
-        entries = {name: text for head, text in re.findall(r'^\.TP\n\.BI ?(.*--.*)\n((?:[^.].*\n|\.[BI].*\n)*)', manual, re.M)
-                   for name in re.findall(r'--[a-z]+', head)}
+        found = re.findall(r'^\.TP\n\.BI ?(.*--.*)\n((?:[^.].*\n|\.[BI].*\n)*)', manual, re.M)
+        entries = {name: text for head, text in found for name in re.findall(r'--[a-z]+', head)}
         self.assertEqual(set(cells), set(jobs.options()))
         self.assertEqual(set(entries) - {'--iwad'}, set(jobs.options()))
         for option in jobs.options().values():

@@ -54,8 +54,8 @@ class Release(Tools):
         self.assertEqual((status, os.path.realpath(output.decode().strip()), error), (0, path, ''))
         with tarfile.open(path) as tar:
             names = tar.getnames()
-            modes = [tar.getmember(f'doomview-2.1/{it}').mode for it in ('bin/doomview', 'libexec/doomview', 'share/doc/'
-                                                                         'doomview/README.md')]
+            modes = [tar.getmember(f'doomview-2.1/{it}').mode
+                     for it in ('bin/doomview', 'libexec/doomview', 'share/doc/doomview/README.md')]
         self.assertEqual(modes, [0o755, 0o755, 0o644])
         self.assertEqual([it for it in PLACES if f'doomview-2.1/{it}' not in names], [])
         odd = 'pycache|/still(-|$)|source|/tests?/|build.py|plan.py|weights|docs/doomview.1'
@@ -118,8 +118,13 @@ class Release(Tools):
         manual = re.search('man -l (.*)', output.decode())[1]
         self.assertEqual(manual, os.path.join(folder, 'share/man/man1/doomview.1'))
         self.assertTrue(os.path.isfile(manual))
-        self.assertEqual(self.alone(folder, '--build')[:2], (0, b'doomview: this is a release: the program is built already\n'))
+        told = b'doomview: this is a release: the program is built already\n'
+        self.assertEqual(self.alone(folder, '--build')[:2], (0, told))
         self.assertEqual(self.alone(folder, '--built'), (0, b'', ''))
+        if shutil.which('man'):
+            done = subprocess.run(['man', '-l', manual], capture_output=True, env={**os.environ, 'MANWIDTH': '80'})
+            self.assertEqual((done.returncode, done.stderr), (0, b''))
+            self.assertIn(b'DOOMVIEW(1)', done.stdout)
         self.assertEqual(self.alone(folder, 'picture', 'first.png'), (0, b'', ''))
         self.assertEqual(len(pixels_of(self.at('first.png'))), 192000)
         for words in (['room', '-o', 'room.wad'], ['places', 'room.wad', 'MAP01', '3', '-o', 'path.csv'],

@@ -7,7 +7,7 @@ import shutil
 import struct
 import unittest
 
-from made_files import DOOMVIEW, DRAWING, FRAME, TOOLS, Tools, made_wad, pixels_of, room, wad
+from made_files import COMMAND, DOOMVIEW, DRAWING, FRAME, TOOLS, Tools, made_wad, pixels_of, room, wad
 from doomview_tools import levels, paths
 from doomview_tools.trouble import Trouble
 
@@ -60,7 +60,7 @@ class Made(Tools):
         wild = self.run_tool('places', room_wad, 'map01', '50', '--wild')[1].decode().splitlines()
         self.assertGreater(len({row.split(',')[2] for row in wild}), 20)
         self.refuses('COUNT: a number from 0 to 9999, and not 10000', 'places', room_wad, 'MAP01', '10000')
-        self.refuses('has no map MAP09; its maps: MAP01', 'places', room_wad, 'MAP09')
+        self.refuses('has no map MAP09; the maps there: MAP01', 'places', room_wad, 'MAP09')
         self.refuses('there is no WAD absent.wad', 'places', 'absent.wad', 'MAP01')
         self.refuses('unrecognized arguments: x', 'room', 'x')
 
@@ -155,7 +155,7 @@ class Levels(Tools):
     def test_wrong_wads(self):
         made = made_wad()
         for part, data in [('is no WAD', b'XWAD' + made[4:]), ('is no WAD', b''), ('cut short', made[:-1]),
-                           ('has no map', wad([('PLAYPAL', bytes(768))]))]:
+                           ('wrong.wad has no map', wad([('PLAYPAL', bytes(768))])), ('wrong.wad has no map', wad([]))]:
             place = self.write('wrong.wad', data)
             self.refuses(part, 'maps', place)
             self.refuses(part, 'turn', place, 'MAP01')
@@ -164,7 +164,7 @@ class Levels(Tools):
         self.refuses('it is no plain file', 'maps', './bin')
         for part, words in [('MAP05 of made.wad is in Hexen format', ['MAP05']),
                             ('MAP06 of made.wad is no map: behind it stand MAP07, THINGS', ['MAP06']),
-                            ('has no map MAP08; its maps: A/B MAP01', ['MAP08']),
+                            ('has no map MAP08; the maps there: A/B MAP01', ['MAP08']),
                             ('no player', ['MAP03']), ('circle', ['MAP04']),
                             ('VIEWS: a number from 1 to 10000, and not 0', ['MAP01', '0']),
                             ('VIEWS: a number', ['MAP01', '10001']), ('VIEWS: a number', ['MAP01', 'x']),
@@ -182,13 +182,19 @@ class Levels(Tools):
         empty = [(label, b'' if label in ('SEGS', 'SSECTORS') else data) for label, data in lumps]
         extended = [(label, b'XNOD' if label == 'NODES' else b'' if label == 'SSECTORS' else data)
                     for label, data in lumps]
+        longer = [(label, b'XNOD' + bytes(40) if label == 'NODES' else data) for label, data in extended]
         for part, found in [('MAP01 of wrong.wad has no nodes (SEGS, SSECTORS, NODES); build them', bare),
                             ('has GL nodes alone', None), ('has no nodes (SSECTORS is empty); build them', empty),
-                            ('has extended nodes (XNOD in NODES); build plain ones', extended)]:
+                            ('has extended nodes (XNOD in NODES); build plain ones', extended),
+                            ('has extended nodes (XNOD in NODES); build plain ones', longer)]:
             found = [*bare, ('GL_MAP01', b''), ('GL_VERT', b'')] if found is None else found
             self.write('wrong.wad', wad([('MAP01', b''), *found]))
             for tool in ('turn', 'places'):
                 self.refuses(part, tool, 'wrong.wad', 'MAP01')
+        self.write('wrong.wad', wad([('MAP01', b''), *bare]))
+        self.refuses('MAP01 of wrong.wad has no nodes', 'turn', 'wrong.wad', 'MAP01', '--iwad', self.wad)
+        self.refuses('made.wad and wrong.wad have no map E1M1; the maps there: A/B MAP02', 'turn', 'wrong.wad', 'E1M1',
+                     '--iwad', 'made.wad')
         self.write('wrong.wad', wad([('MAP01', b''), ('TEXTMAP', b''), ('ENDMAP', b'')]))
         self.refuses('MAP01 of wrong.wad is a UDMF map; save it in Doom format', 'turn', 'wrong.wad', 'MAP01')
 
@@ -243,10 +249,10 @@ class Drawing(Tools):
         self.write('frame', FRAME[:-1])
         self.write('old.png', b'old')
         for part, png in [('is a folder', 'folder.png'), ('is no plain file', 'pipe.png'), ('is no frame', 'old.png'),
-                          ('there is no folder absent', 'absent/out.png'), ('ends in .png', 'out'),
-                          ('ends in .png', '.png')]:
+                          ('there is no folder absent', 'absent/out.png'), ('has to end in .png', 'out'),
+                          ('has to end in .png', '.png')]:
             self.refuses(part, 'picture', self.wad, 'MAP01', png, doomview=self.drawing)
-        self.refuses('WAD [MAP]] OUT.png', 'picture', self.wad, 'MAP01', 'more', 'out.png', doomview=self.drawing)
+        self.refuses('unrecognized arguments: out.png', 'picture', self.wad, 'MAP01', 'more', 'out.png', doomview=self.drawing)
         with open(self.at('old.png')) as file:
             self.assertEqual(file.read(), 'old')
         self.write('frame', FRAME)
@@ -377,8 +383,8 @@ cat "$FRAME_FILE"
         self.assertEqual(len(maps), 5)
         for line, name in zip(maps, ['MAP01', 'MAP02', 'MAP03', 'MAP04', 'MAP07']):
             folder = os.path.realpath(self.folder)
-            self.assertRegex(line, f"^env 'DOOMVIEW={folder}/doomview' .* picture '{folder}/made.wad' {name} "
-                                   f"'{folder}/out/{name}.png'$")
+            self.assertEqual(line, f"env 'DOOMVIEW={folder}/doomview' {COMMAND} picture '{folder}/made.wad' {name} "
+                                   f"'{folder}/out/{name}.png'")
         self.assertTrue(os.path.isdir(self.at('out')))
 
     def test_audit_all(self):

@@ -24,7 +24,7 @@ $ doomview audit-all --iwad freedoom2.wad mymaps.wad --skill 4
 
 
 def add_words(parser):
-    parser.add_argument('wad', metavar='WAD', help='a WAD, found as ports find it (see doomview --help)')
+    parser.add_argument('wad', metavar='WAD', help=cli.WAD)
     cli.add_base(parser)
     cli.add_job_options(parser, 'audit', WITHOUT)
 

@@ -9,7 +9,7 @@ from ..trouble import Trouble
 RED = b'\xff\x00\x00'
 DIFFERENT = 1
 PAGE = cli.Page(
-    'compare', 'of two files of frames which views differ, where, and in what', '''
+    'compare', 'which views of two files of frames differ, where, and in what', '''
 Compares two files of index frames, and tells of each view that differs how, where and in what.
 
 OURS is what doomview render wrote, PORT what the port drew at the same rows of the camera path: 64,000 bytes a view. A
@@ -73,7 +73,7 @@ class Comparison:
         self.options, self.names = options, traces.Names([wads.find(name) for name in options.wad])
         self.counts = [frames.count_views(path) for path in (options.ours, options.port)]
         self.different = self.pixels = 0
-        if options.trace and frames.count_views(options.trace, traces.VIEW_SIZE) != self.counts[0]:
+        if options.trace and traces.count_views(options.trace) != self.counts[0]:
             raise Trouble(f'{options.trace} is not the trace of {self.counts[0]} views, as {options.ours} has them')
         if options.png:
             os.makedirs(options.png, exist_ok=True)

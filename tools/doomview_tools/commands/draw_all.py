@@ -29,7 +29,7 @@ $ doomview draw-all freedoom2.wad out --machines 8/one,8/two
 
 
 def add_words(parser):
-    parser.add_argument('wad', metavar='WAD', help='a WAD, found as ports find it (see doomview --help)')
+    parser.add_argument('wad', metavar='WAD', help=cli.WAD)
     parser.add_argument('folder', metavar='FOLDER', help='where the pictures go; it is made')
     cli.add_base(parser)
     parser.add_argument('--jobs', metavar='N', type=cli.number(1, 1000), default=len(os.sched_getaffinity(0)),
@@ -42,23 +42,21 @@ def command(options, files, name):
     """The words that draw one map."""
     picture = os.path.join(os.path.abspath(options.folder), f'{name}.png')
     base = ['--iwad', files[0]] if len(files) == 2 else []
-    return [sys.executable, os.path.join(home.PACKAGE, '__main__.py'), 'picture', *base, files[-1], name, picture,
-            *cli.job_words(options)]
+    return [home.COMMAND, 'picture', *base, files[-1], name, picture, *cli.job_words(options)]
 
 
 def draw(words):
-    """Runs the words that draw a map; what went wrong."""
-    done = subprocess.run(words, stdin=subprocess.DEVNULL, stderr=subprocess.PIPE, text=True, errors='replace')
-    return done.stderr if done.returncode else ''
+    """Runs the words that draw a map."""
+    return subprocess.run(words, stdin=subprocess.DEVNULL, stderr=subprocess.PIPE, text=True, errors='replace')
 
 
 def draw_here(commands, jobs):
-    """The number of maps that could not be drawn."""
+    """The number of maps that could not be drawn; what is said of each goes to standard error."""
     failed = 0
     with concurrent.futures.ThreadPoolExecutor(jobs) as pool:
-        for said in pool.map(draw, commands):
-            failed += bool(said)
-            print(said, end='', file=sys.stderr, flush=True)
+        for done in pool.map(draw, commands):
+            failed += done.returncode != 0
+            print(done.stderr, end='', file=sys.stderr, flush=True)
     return failed
 
 

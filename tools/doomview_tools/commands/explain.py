@@ -6,7 +6,7 @@ from .. import cli, explanations, program
 from ..trouble import Trouble
 
 PAGE = cli.Page(
-    'explain', 'runs a job, and says in a sentence what is wrong and how to mend it', '''
+    'explain', 'runs a job, and says what is wrong and how to mend it', '''
 Runs a job of doomview with the words, passes on what it writes, and ends with its status. Sentences on what it said
 follow on standard error: what the numbers of a refusal mean, by the names of lines, things, lumps and files; and what
 else looks like a mistake, such as an IWAD behind its PWAD, things of types without a row, or extended nodes.
@@ -20,12 +20,13 @@ $ doomview explain audit MAP01 freedoom2.wad mymap.wad --path path.csv
 $ doomview explain 'doomview: refused 604 2 7 5'
 ''', 'the program, but for a line or --said', '''
  the status of the job; 0 for a line or --said
-''', "WORDS OF DOOMVIEW.. | 'doomview: LINE' | --said FILE WORDS OF DOOMVIEW..")
+''', ('WORDS OF DOOMVIEW..', "'doomview: LINE'", '--said FILE WORDS OF DOOMVIEW..'))
 
 
 def add_words(parser):
     parser.add_argument('--said', metavar='FILE', help='what a run of the words said, on standard error')
-    parser.add_argument('words', metavar='WORDS', nargs=argparse.REMAINDER, help='the words of a job, or a line of doomview')
+    parser.add_argument('words', metavar='WORDS..', nargs=argparse.REMAINDER,
+                        help='the words of a job, or a line of doomview')
 
 
 def last_line(path):
@@ -38,7 +39,7 @@ def last_line(path):
 
 def run(options):
     if not options.words:
-        raise Trouble('explain needs the words of a job, or a line of doomview; doomview explain --help has examples')
+        raise Trouble('it needs the words of a job, or a line of doomview; doomview explain --help has examples')
     if options.said:
         explanations.tell(last_line(options.said), program.completed(options.words))
         return 0

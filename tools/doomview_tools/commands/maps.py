@@ -14,7 +14,7 @@ $ doomview maps freedoom2.wad
 
 
 def add_words(parser):
-    parser.add_argument('wad', metavar='WAD', help='a WAD, found as ports find it (see doomview --help)')
+    parser.add_argument('wad', metavar='WAD', help=cli.WAD)
 
 
 def run(options):

@@ -1,7 +1,5 @@
 """doomview pixel: what painted one pixel."""
-import os
-
-from .. import cli, traces, wads
+from .. import cli, paths, traces, wads
 from ..files import check_source
 from ..frames import HEIGHT, WIDTH
 from ..trouble import Trouble
@@ -19,7 +17,8 @@ $ doomview pixel 0 160 100 trace.bin freedoom2.wad
 
 
 def add_words(parser):
-    parser.add_argument('view', metavar='VIEW', type=cli.number(0, 9999), help='counted from 0 in the order of the path')
+    parser.add_argument('view', metavar='VIEW', type=cli.number(0, paths.MOST_ROWS - 1),
+                        help='counted from 0 in the order of the path')
     parser.add_argument('x', metavar='X', type=cli.number(0, WIDTH - 1), help='the column, 0 to 319 from the left')
     parser.add_argument('y', metavar='Y', type=cli.number(0, HEIGHT - 1), help='the row, 0 to 199 from the top')
     parser.add_argument('trace', metavar='TRACE', help='the file of the trace')
@@ -28,9 +27,9 @@ def add_words(parser):
 
 def run(options):
     check_source(options.trace)
-    record = traces.record_at(options.trace, options.view, options.x, options.y)
-    if record is None:
-        count = os.path.getsize(options.trace) // traces.VIEW_SIZE
+    count = traces.count_views(options.trace)
+    if options.view >= count:
         raise Trouble(f'{options.trace} has {count} views, counted from 0, and none of number {options.view}')
+    record = traces.record_at(options.trace, options.view, options.x, options.y)
     names = traces.Names([wads.find(name) for name in options.wads])
     print(f'view {options.view} column {options.x} row {options.y}: {traces.told(record, names)}')

@@ -15,7 +15,7 @@ $ doomview tables -o tables.bin
 
 
 def add_words(parser):
-    cli.add_output(parser, 'the file')
+    cli.add_output(parser, 'the tables')
 
 
 def run(options):

@@ -1,5 +1,4 @@
 """doomview video: the views of a camera path as a video."""
-import os
 import shutil
 import subprocess
 import tempfile
