@@ -44,8 +44,8 @@ def on_usage(words):
 
 
 def on_read_fault(words):
-    return list(unreadable(words)) or ['a file could not be read to its end; look at the disk that has it: '
-                                 + ', '.join(words.files) + '.']
+    files = ', '.join(words.files)
+    return list(unreadable(words)) or [f'a file could not be read to its end; look at the disk that has it: {files}.']
 
 
 def on_limit(words, view, what, count):
@@ -107,13 +107,13 @@ def remarks(words, things):
 
 
 def explain(line, words):
-    """Sentences on the line that a call of the program ended with."""
-    given = Words(words)
+    """Sentences on the line that a call with these words ended with."""
+    given, is_kept = Words(program.completed(words)), not Words(words).output
     for form, told in LINES:
         found = re.fullmatch('doomview: ' + form, line)
         if found:
             yield from told(given, *found.groups())
-    if given.job == 'trim' and re.match('doomview: (read fault|write fault|zone full)', line):
+    if given.job == 'trim' and is_kept and re.match('doomview: (read fault|write fault|zone full)', line):
         yield 'what was written is no whole WAD; throw it away.'
     if given.job in LEVEL_JOBS and given.wads:
         yield from remarks(given, given.value('--things') or '')
@@ -128,5 +128,5 @@ def tell(line, words):
 def explained(words, done):
     """Tells why a run of these words failed, as a Trouble that is told already."""
     sys.stderr.write(done.said)
-    tell(done.line, program.completed(words))
+    tell(done.line, words)
     return Ended(done.status)

@@ -172,6 +172,10 @@ class Explain(Tools):
         self.explains('doomview: zone full wanted 8 widest 4', 'trim', *MAP, status=6, part=cut)
         self.assertFalse(any(cut in sentence for sentence in
                              self.explains('doomview: refused 601', 'trim', *MAP, part='601: ')))
+        full = self.stand_in('full', "#!/bin/sh\necho 'doomview: zone full wanted 8 widest 4' >&2\nexit 6\n")
+        done = self.run_tool('explain', 'trim', *MAP, '-o', 'out.wad', doomview=full)
+        self.assertEqual((done[0], done[1], cut in done[2]), (6, b'', False))
+        self.assertFalse(os.path.exists(self.at('out.wad')))
         words = ['audit', 'MAP01', 'absent', 'made.wad', *MAP[2:]]
         self.explains('doomview: read fault', *words, status=3, part='there is no WAD absent here, in DOOMWADDIR')
         words[2] = './absent.wad'

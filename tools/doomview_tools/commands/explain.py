@@ -41,12 +41,12 @@ def run(options):
     if not options.words:
         raise Trouble('it needs the words of a job, or a line of doomview; doomview explain --help has examples')
     if options.said:
-        explanations.tell(last_line(options.said), program.completed(options.words))
+        explanations.tell(last_line(options.said), options.words)
         return 0
     if options.words[0].startswith('doomview: '):
         explanations.tell(options.words[0], [])
         return 0
     done = program.run_whole(options.words)
     sys.stderr.write(done.said)
-    explanations.tell(done.line, program.completed(options.words))
+    explanations.tell(done.line, options.words)
     return done.status
