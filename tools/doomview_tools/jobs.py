@@ -35,7 +35,7 @@ $ doomview render MAP01 freedoom2.wad mymap.wad --path path.csv --format ppm > f
     Job('trace', [MAP, WADS], 'what painted each pixel of the frames', True, '''
 Writes a record of eight bytes for each pixel of the frames of a camera path, 512,000 bytes a view: the
 kind of painter (wall, plane, sky, middle texture, sprite, weapon), its number in the view, the lump or
-texture that was read, and the colour. docs/FILES.md has the record. doomview compare and doomview pixel
+texture that was read, and the colour. docs/FORMATS.md has the record. doomview compare and doomview pixel
 read it.
 ''', '''
 $ doomview trace MAP01 freedoom2.wad --path path.csv -o trace.bin

@@ -1,7 +1,7 @@
 """Levels: the lumps of a map as records, and what the nodes say of a place.
 
 `read(wads, name)` gives a Level, whose things, lines, sides, vertexes, segs, leaves, nodes and sectors are lists of
-records with the fields of docs/FILES.md, "Maps". Bytes after the last whole record count for nothing."""
+records with the fields of docs/FORMATS.md, "Maps". Bytes after the last whole record count for nothing."""
 import collections
 import functools
 import struct

@@ -1,6 +1,6 @@
 """Refusals in words: what the numbers behind a code mean, by names from the files of the call.
 
-What is wrong and how to mend it stands in docs/FILES.md, code by code."""
+What is wrong and how to mend it is in docs/REFUSALS.md, code by code."""
 import csv
 import os
 import re
@@ -34,9 +34,9 @@ SHOWN_LINES = 12
 
 
 def codes():
-    """From FILES.md: for each code what is wrong and how to mend it. `the same` is what stands above."""
+    """From REFUSALS.md: for each code what is wrong and how to mend it. `the same` is what stands above."""
     try:
-        with open(os.path.join(home.DOCS, 'FILES.md'), encoding='utf-8') as file:
+        with open(os.path.join(home.DOCS, 'REFUSALS.md'), encoding='utf-8') as file:
             rows = re.findall(r'^\| (\d{3,4}) \|([^|]*)\|([^|]*)\|([^|]*)\|', file.read(), re.M)
     except OSError:
         rows = []
@@ -318,7 +318,7 @@ def refused(code, numbers, words):
     if code == NO_MAP and scene.lumps and scene.label is None:
         yield f'{code}: {levels.no_map(scene.map_name, scene.places, scene.lumps)}.'
         return
-    wrong, mend = codes().get(code, ('docs/FILES.md has no such code', ''))
+    wrong, mend = codes().get(code, ('docs/REFUSALS.md has no such code', ''))
     at, table = names(scene, code, numbers), words.value(TABLES.get(code // 100))
     if table and code % 100 != 1:
         at += line_of(table, numbers) if code % 100 in OF_ROWS[:4] else ''

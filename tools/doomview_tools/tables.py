@@ -1,4 +1,4 @@
-"""The tables of angles (docs/FILES.md): 65,540 bytes, all 16,385 words of which equal those of the original's tables.c.
+"""The tables of angles (docs/FORMATS.md): 65,540 bytes, all 16,385 words of which equal those of the original's tables.c.
 
 Sines, tangents and angles are computed by formula, with pi as 3.141592657 and some steps in single precision."""
 import hashlib

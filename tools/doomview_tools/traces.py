@@ -1,4 +1,4 @@
-"""Traces: what painted each pixel of the frames, a record of eight bytes a pixel (docs/FILES.md, "Traces")."""
+"""Traces: what painted each pixel of the frames, a record of eight bytes a pixel (docs/FORMATS.md, "Traces")."""
 import collections
 import struct
 

@@ -1,6 +1,6 @@
 """WADs: found as ports find them, read, and written.
 
-docs/FILES.md has the rules: small letters count as capitals, the last lump of a name counts, and so does the last
+docs/FORMATS.md has the rules: small letters count as capitals, the last lump of a name counts, and so does the last
 label of a map; a map with a BEHAVIOR is of another format and is left out."""
 import collections
 import os

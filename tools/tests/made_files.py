@@ -140,7 +140,7 @@ class Tools(unittest.TestCase):
         shutil.copy(COMMAND, self.at('clone'))
         os.makedirs(self.at('clone/crates/doomview'))
         os.mkdir(self.at('clone/docs'))
-        shutil.copy(os.path.join(TOP, 'docs', 'FILES.md'), self.at('clone/docs'))
+        shutil.copy(os.path.join(TOP, 'docs', 'REFUSALS.md'), self.at('clone/docs'))
         self.write('clone/crates.txt', b'doomview:\n')
         return self.at('clone/doomview')
 

@@ -198,8 +198,8 @@ class Explain(Tools):
         self.refuses('cannot run', 'explain', 'audit', doomview=self.stand_in('broken', '#!/bin/absent\n'))
 
     def test_all_codes(self):
-        """Each code of FILES has its sentence, with what mends it."""
-        with open(os.path.join(TOP, 'docs', 'FILES.md'), encoding='utf-8') as file:
+        """Each code of REFUSALS has its sentence, with what mends it."""
+        with open(os.path.join(TOP, 'docs', 'REFUSALS.md'), encoding='utf-8') as file:
             codes = re.findall(r'^\| (\d{3,4}) \|', file.read(), re.M)
         self.assertGreater(len(codes), 50)
         for code in codes[::5]:

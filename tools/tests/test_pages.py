@@ -100,12 +100,12 @@ class Pages(unittest.TestCase):
                         self.assertTrue(os.path.exists(os.path.join(TOP, place)), f'{question}: {place}')
 
     def test_refusals(self):
-        """FILES has each code of the code, and no other, each with the variant in the file that it names."""
+        """REFUSALS has each code of the code, and no other, each with the variant in the file that it names."""
         text = read('crates/refusals/src/codes.rt')
         known = {int(number) for number in re.findall(r'CODE_\w+: u64 = (\d+);', text)}
         groups = [int(number) for number in re.findall(r'GROUP_\w+: u64 = (\d+);', text)]
         told = []
-        for code, _, wrong, mend, where in rows('docs/FILES.md', '| Code | Numbers |'):
+        for code, _, wrong, mend, where in rows('docs/REFUSALS.md', '| Code | Numbers |'):
             told.append(int(code))
             self.assertTrue(wrong and mend, code)
             for word, place in pointers(where, 'src'):
@@ -119,12 +119,12 @@ class Pages(unittest.TestCase):
         codes = dict(re.findall(r'(\w+): u64 = (\d+);', read('crates/refusals/src/codes.rt')))
         lines = read('crates/refusals/src/lines.rt')
         written = {int(codes[code]): variant for variant, code in
-                   re.findall(r'Refusal::(\w+)(?: \{[^}]*\})? => put_numbers\(\s*notes,\s*&\[(CODE_\w+)', lines)}
-        of_table = dict(re.findall(r'CsvRefusal::(\w+)(?: \{[^}]*\})? => put_numbers\(notes, &\[group \+ (\d)', lines))
+                   re.findall(r'Refusal::(\w+)(?: \{[^}]*\})? => \{?\s*line\.add_numbers\(\s*&\[\s*(CODE_\w+)', lines)}
+        of_table = dict(re.findall(r'CsvRefusal::(\w+)(?: \{[^}]*\})? => line\.add_numbers\(&\[group \+ (\d)', lines))
         groups = [int(number) for name, number in codes.items() if name.startswith('GROUP_')]
         self.assertGreater(len(written), 35)
         self.assertEqual(len(of_table), 7)
-        for code, _, _, _, where in rows('docs/FILES.md', '| Code | Numbers |'):
+        for code, _, _, _, where in rows('docs/REFUSALS.md', '| Code | Numbers |'):
             variant = re.match(r'`(?:\w+::)?(\w+)`', where)[1]
             if variant in of_table and int(code) not in written:
                 self.assertIn(int(code) - int(of_table[variant]), groups, code)
@@ -134,7 +134,7 @@ class Pages(unittest.TestCase):
     def test_limits(self):
         """Each number of the table of limits is that of the constant beside it."""
         told = 0
-        for what, least, greatest, where in rows('docs/FILES.md', '| What | Least | Greatest |'):
+        for what, least, greatest, where in rows('docs/FORMATS.md', '| What | Least | Greatest |'):
             words, _, place = where.rpartition(';')
             crate, file = place.strip().split(', ')
             crate, _, folder = crate.partition('/')
@@ -177,8 +177,8 @@ class Pages(unittest.TestCase):
             self.assertIn(f'"{job}"', code)
 
     def test_pages_of_options(self):
-        """README and the manual have each option with its jobs and numbers, and no other."""
-        cells = {name: (what, value) for cell, what, value in rows('README.md', '| Option | Jobs |')
+        """JOBS and the manual have each option with its jobs and numbers, and no other."""
+        cells = {name: (what, value) for cell, what, value in rows('docs/JOBS.md', '| Option | Jobs |')
                  for name in re.findall(r'--[a-z]+', cell)}
         manual = read('docs/doomview.1').replace('\\-', '-')
         found = re.findall(r'^\.TP\n\.BI ?(.*--.*)\n((?:[^.].*\n|\.[BI].*\n)*)', manual, re.M)
@@ -194,8 +194,8 @@ class Pages(unittest.TestCase):
             self.assertEqual('exercise' in cells[option.name][0], 'exercise' in option.jobs, option.name)
 
     def test_statuses(self):
-        """README, the manual and the help of a job have the same statuses."""
-        told = [int(status) for status, *_ in rows('README.md', '| Status | Line')]
+        """JOBS, the manual and the help of a job have the same statuses."""
+        told = [int(status) for status, *_ in rows('docs/JOBS.md', '| Status | Line')]
         self.assertEqual(told, list(jobs.STATUSES))
         for status in told:
             self.assertIn(f'\n.B {status}\n', read('docs/doomview.1'))

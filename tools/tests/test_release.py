@@ -17,7 +17,7 @@ TESTED = os.environ.get('DOOMVIEW_TESTED', '')
 HEADING = '## 2.1, 2026\n'
 PLACES = ['bin/doomview', 'libexec/doomview', 'lib/doomview/doomview_tools/__main__.py', 'lib/doomview/data/things.csv',
           'lib/doomview/data/version', 'lib/doomview/original/build', 'share/man/man1/doomview.1',
-          'share/doc/doomview/README.md', 'share/doc/doomview/CHANGELOG.md', 'share/doc/doomview/docs/FILES.md',
+          'share/doc/doomview/README.md', 'share/doc/doomview/CHANGELOG.md', 'share/doc/doomview/docs/REFUSALS.md',
           'share/doc/doomview/docs/FREEDOOM.txt']
 
 
