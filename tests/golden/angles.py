@@ -13,11 +13,15 @@ def single(number):
     return struct.unpack('<f', struct.pack('<f', number))[0]
 
 
+def fine_angle(index):
+    """The middle of a fine angle, 8192 a turn, in radians."""
+    return single((index + 0.5) * PI * 2 / 8192)
+
+
 def original():
     """The tables as the original has them, by formula, with some steps in single precision."""
-    fine = [single((index + 0.5) * PI * 2 / 8192) for index in range(SINES)]
-    sines = [int(65536 * math.sin(angle)) for angle in fine]
-    tangents = [int(single(65536 * math.tan(single((index - 2048 + 0.5) * PI * 2 / 8192)))) for index in range(TANGENTS)]
+    sines = [int(65536 * math.sin(fine_angle(index))) for index in range(SINES)]
+    tangents = [int(single(65536 * math.tan(fine_angle(index - 2048)))) for index in range(TANGENTS)]
     angles = [int(single(0xffffffff * single(math.atan(index / 2048) / (PI * 2)))) for index in range(ANGLES)]
     return struct.pack(f'<{SINES}i{TANGENTS}i{ANGLES}I', *sines, *tangents, *angles)
 

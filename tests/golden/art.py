@@ -150,6 +150,8 @@ SPRITES = {
     'GUARB0': picture(30, 20, blob(220, 20), 15, 18),
     'LAMPA0': picture(16, 48, lambda x, y: 230 + (x + y) % 20 if 4 <= x < 12 or y < 12 else None, 8, 46),
     'HOOKA0': picture(20, 60, blob(60, 20), 10, 60),
+    'KEYSA0': picture(14, 16, lambda x, y: 200 + (x ^ y), 7, 15),
+    'GUNSA0': picture(70, 60, lambda x, y: 40 + (x * 3 + y) % 60 if x + 2 * y > 60 else None, -125, -110),
     **{f'DISKA{turn}': picture(20, 20, blob(25 * turn, 20), 10, 10) for turn in range(1, 9)},
     'CUBEB1D1': picture(18, 18, blob(130, 18), 30, -6),
     'CUBEB0D0': picture(18, 18, blob(170, 18), -12, 34),

@@ -1,13 +1,7 @@
-"""Changed copies of files: bytes put over others, entries changed, lumps put in, taken out and renamed."""
+"""Changed copies of WADs: bytes put over others, entries changed, lumps put in, taken out and renamed."""
 import struct
 
-from wads import ENTRY_BYTES, entries_of, lumps_of, number_of, wad
-
-
-def put(data, at, new):
-    """The bytes with others over them from an offset on; a negative one counts from the end."""
-    at %= len(data) + 1
-    return data[:at] + new + data[at + len(new):]
+from wads import ENTRY_BYTES, RECORD_BYTES, directory_of, lump, lumps_of, number_of, offset_of, wad
 
 
 def half(number):
@@ -18,14 +12,32 @@ def word(number):
     return struct.pack('<I', number & 0xffffffff)
 
 
+def put(data, at, new):
+    """The bytes with others over them from an offset on."""
+    return data[:at] + new + data[at + len(new):]
+
+
 def put_in(data, name, at, new):
     """A WAD with other bytes over those of its last lump of that name, from an offset in the lump on."""
-    return put(data, entries_of(data)[number_of(data, name)][0] + at, new)
+    return put(data, offset_of(data, name) + at, new)
+
+
+def put_field(data, name, record, at, number):
+    """A WAD with another number in a record of a lump of its map."""
+    return put_in(data, name, RECORD_BYTES[name] * record + at, half(number))
+
+
+def put_each(data, name, at, new):
+    """A WAD with other bytes in each record of a lump of its map; `new` gives them by the record's number and bytes."""
+    size, body = RECORD_BYTES[name], lump(data, name)
+    records = [body[place:place + size] for place in range(0, len(body), size)]
+    changed = [put(record, at, new(number, record)) for number, record in enumerate(records)]
+    return with_lumps(data, {name: b''.join(changed)})
 
 
 def put_entry(data, name, offset=None, size=None, rename=None):
-    """A WAD whose directory tells of the last lump of that name something else."""
-    at = struct.unpack_from('<I', data, 8)[0] + ENTRY_BYTES * number_of(data, name)
+    """A WAD whose directory tells something else of the last lump of that name."""
+    at = directory_of(data)[0] + ENTRY_BYTES * number_of(data, name)
     old = struct.unpack_from('<II8s', data, at)
     new = [was if it is None else it for was, it in zip(old, (offset, size, rename))]
     return put(data, at, struct.pack('<II8s', *new))

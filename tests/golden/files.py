@@ -5,9 +5,13 @@ import re
 import angles
 import art
 import bad_wads
-import odd_wads
+import chance
+import levels
+import more_wads
+import odd_art
+import odd_levels
 import texts
-from wads import wad
+from wads import beside, wad
 
 FILE_NAME = re.compile(r'(?:^|[=/])([\w-]+\.(?:wad|csv|bin))$')  # at the end of a word
 ABSENT = ('absent.wad', 'absent.csv', 'absent.bin', '-made1.wad')
@@ -26,32 +30,26 @@ NUMBERED_WRITTEN = {'made.wad': 'make wad', 'path.csv': 'make path'}
 NUMBERED = {
     'chain.wad': bad_wads.chain_file,
     'chance.csv': texts.chance_text,
-    'chance.wad': odd_wads.chance_file,
+    'chance.wad': lambda seed: beside(*chance.chance_level('MAP01', seed)),
     'colormap.csv': texts.colormap_text,
-    'crowd.wad': odd_wads.crowd_file,
+    'crowd.wad': odd_levels.crowd_file,
     'extralight.csv': texts.extralight_text,
-    'fan.wad': odd_wads.fan_file,
-    'hall.wad': odd_wads.hall_file,
+    'fan.wad': odd_levels.fan_file,
+    'hall.wad': odd_levels.hall_file,
     'lumps.wad': bad_wads.many_lumps,
 }
-
-
-def court_and_art():
-    return wad([*art.art(), *odd_wads.court('MAP01')])
-
-
 # Files of a kind and a number that are made of another: faulty0.wad, torn1.wad.
 NUMBERED_CHANGED = {
     'cut.wad': lambda number, bytes_of: bytes_of('made1.wad')[:number],
     'faulty.wad': lambda number, bytes_of: bad_wads.faulty(bytes_of('made2.wad'), number),
-    'torn.wad': lambda number, bytes_of: odd_wads.torn(court_and_art() if number % 2 else bytes_of('made2.wad'), number),
+    'torn.wad': lambda number, bytes_of: chance.torn(bytes_of(('made2.wad', 'court-and-art.wad')[number % 2]), number),
 }
 # What makes several files at once, each by its name, and the files that these are made of.
 GROUPS = [
-    (lambda: {'art.wad': wad(art.art()), 'court-and-art.wad': court_and_art()}, []),
-    (odd_wads.court_files, []),
-    (odd_wads.room_files, []),
-    (odd_wads.art_files, []),
+    (lambda: {'art.wad': wad(art.art()), 'court-and-art.wad': wad([*art.art(), *levels.court('MAP01')])}, []),
+    (odd_levels.court_files, []),
+    (odd_levels.room_files, []),
+    (odd_art.art_files, []),
     (bad_wads.tiny_files, []),
     (bad_wads.large_files, []),
     (angles.angle_files, ['angles.bin']),
@@ -59,12 +57,14 @@ GROUPS = [
     (bad_wads.map_files, ['made1.wad']),
     (bad_wads.record_files, ['made1.wad']),
     (bad_wads.list_files, ['made1.wad']),
+    (bad_wads.patch_files, ['made1.wad']),
+    (bad_wads.name_files, ['made1.wad']),
     (bad_wads.sprite_files, ['made1.wad']),
     (bad_wads.masked_files, ['made2.wad']),
-    (odd_wads.level_files, ['made3.wad']),
-    (odd_wads.replacing_files, ['made1.wad', 'made2.wad']),
-    (odd_wads.open_files, ['made7.wad']),
-    (lambda made: {'other-art.wad': odd_wads.other_art(made)}, ['made1.wad']),
+    (odd_levels.level_files, ['made3.wad']),
+    (more_wads.more_files, ['made1.wad', 'made2.wad']),
+    (odd_levels.open_files, ['made7.wad']),
+    (lambda made: {'other-art.wad': odd_levels.other_art(made)}, ['made1.wad']),
     (lambda trimmed: {'trimmed-cut.wad': trimmed[:-1]}, ['trimmed-made1.wad']),
 ]
 UNREADABLE = {'unreadable.wad', 'unreadable.csv'}
@@ -110,7 +110,7 @@ class Files:
             return self.make_numbered(numbered[1] + numbered[3], int(numbered[2]))
         court = re.fullmatch(r'court-([A-Z]\w+)\.wad', name)
         if court:
-            return odd_wads.court_file(court[1])
+            return odd_levels.court_file(court[1])
         while self.groups:
             make, inputs = self.groups.pop(0)
             self.known.update(make(*map(self.bytes_of, inputs)))

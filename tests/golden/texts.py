@@ -1,5 +1,6 @@
 """The tables of rows of the cases: thing tables, camera paths and weapon layers, good ones and such as are refused."""
-from levels import COURT, chance_path
+from chance import chance_path
+from levels import COURT
 
 THINGS = 'type,sprite,frame,bright,hang,shadow'
 PATH = 'x,y,z,angle'
@@ -45,7 +46,7 @@ def at(x, y, z, degrees, *light):
 
 # The things of the levels that are made here.
 KINDS = table(THINGS, '10,GUAR,A,0,0,0', '11,LAMP,A,1,0,0', '12,DISK,A,0,0,0', '13,CUBE,B,0,0,0', '14,GUAR,B,0,0,0',
-              '15,HOOK,A,0,60,0')
+              '15,HOOK,A,0,60,0', '16,KEYS,A,1,0,0')
 
 GOOD = {
     'kinds.csv': KINDS,
@@ -194,8 +195,10 @@ WEAPONS = {
     'no-guns.csv': table(WEAPON),
     'flipped.csv': weapon((0, 'CUBE,B', 1, 160, 100), (1, 'CUBE,D', 1, 160, 100)),
     'turned-weapons.csv': weapon((0, 'GUAR,A', 1, 160, 150), (1, 'DISK,A', 0, 100, 100)),
+    'guns.csv': weapon((0, 'GUNS,A', 1, 1, 32), (1, 'GUNS,A', 0, -40, 60), (2, 'GUNS,A', 0, 100, 10)),
     'court-weapons.csv': weapon(*((view, picture, view % 2, 40 + 25 * view, 60 + 12 * view)
-                                  for view in range(12) for picture in ('LAMP,A', 'CUBE,D', 'GUAR,B'))),
+                                  for view in range(12) for picture in ('LAMP,A', 'CUBE,D', 'GUAR,B')),
+                                  *((view, 'GUNS,A', 1 - view % 2, 1, 32 + view) for view in range(12))),
     'small-letters-weapon.csv': table(WEAPON, '0,tree,a,1,10485760,6553600'),
 }
 

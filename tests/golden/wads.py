@@ -2,6 +2,8 @@
 import struct
 
 HEAD_BYTES, ENTRY_BYTES = 12, 16
+MAP_LUMPS = ['THINGS', 'LINEDEFS', 'SIDEDEFS', 'VERTEXES', 'SEGS', 'SSECTORS', 'NODES', 'SECTORS']
+RECORD_BYTES = dict(zip(MAP_LUMPS, (10, 14, 30, 4, 12, 4, 28, 26)))
 
 
 def name8(name):
@@ -19,10 +21,21 @@ def wad(lumps, letters=b'IWAD'):
     return letters + struct.pack('<II', len(entries), at) + b''.join(bodies + entries)
 
 
+def beside(*lumps):
+    """A WAD that stands beside another."""
+    return wad(lumps, b'PWAD')
+
+
+def directory_of(data):
+    """Where the directory of a WAD begins, and how many entries it has."""
+    count, directory = struct.unpack_from('<II', data, 4)
+    return directory, count
+
+
 def entries_of(data):
     """Offset, size and name of each entry of a WAD."""
-    count, directory = struct.unpack_from('<II', data, 4)
-    entries = [struct.unpack_from('<II8s', data, directory + ENTRY_BYTES * i) for i in range(count)]
+    directory, count = directory_of(data)
+    entries = [struct.unpack_from('<II8s', data, directory + ENTRY_BYTES * number) for number in range(count)]
     return [(offset, size, name.rstrip(b'\0').decode('latin-1')) for offset, size, name in entries]
 
 
@@ -34,6 +47,11 @@ def lumps_of(data):
 def number_of(data, name):
     """The number of the last lump of that name."""
     return max(number for number, entry in enumerate(entries_of(data)) if entry[2] == name)
+
+
+def offset_of(data, name):
+    """Where the last lump of that name begins."""
+    return entries_of(data)[number_of(data, name)][0]
 
 
 def lump(data, name):
