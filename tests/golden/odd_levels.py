@@ -33,7 +33,7 @@ def hall_file(leaves):
 
 def crowd_file(count):
     """A room with so many trees in rows before the eye."""
-    things = [(60 + 5 * (k % 37), (0, 66, -66, 132, -132, 198)[k // 37] + k % 5, 0, TREE) for k in range(count)]
+    things = [(60 + 5 * (k % 37), (0, 30, -30, 45, -45, 15)[k // 37] + k % 5, 0, TREE) for k in range(count)]
     return beside(*room('MAP02', things=things))
 
 
