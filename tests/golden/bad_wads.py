@@ -9,7 +9,7 @@ from wads import ENTRY_BYTES, RECORD_BYTES, beside, directory_of, lump, lumps_of
 MOST_RECORDS, MOST_TEXTURES = 65535, 32767
 COLORMAP_BYTES, PLAYPAL_BYTES = 8192, 768
 # Offsets of fields in a record.
-LINE_FLAGS, LINE_FRONT, LINE_BACK = 4, 10, 12
+LINE_FRONT, LINE_BACK = 10, 12
 SIDE_TOP, SIDE_BOTTOM, SIDE_MIDDLE, SIDE_SECTOR = 4, 12, 20, 28
 SEG_START, SEG_END, SEG_LINE, SEG_SIDE = 0, 2, 6, 8
 LEAF_COUNT, LEAF_FIRST = 0, 2
@@ -38,7 +38,6 @@ def tiny_files():
         'tiny-12.wad': whole[:12],
         'tiny-11.wad': whole[:11],
         'empty.wad': b'',
-        'two-bytes.wad': b'XX',
         'other-letters.wad': put(whole, 0, b'X'),
         'zip.wad': b'PK\x03\x04' * 10,
         'far-directory.wad': put(whole, 8, word(0xfffffff0)),
@@ -71,7 +70,6 @@ def colour_files(made):
         'colormap-8191.wad': put_entry(made, 'COLORMAP', size=COLORMAP_BYTES - 1),
         'no-playpal.wad': without(made, 'PLAYPAL'),
         'playpal-767.wad': put_entry(made, 'PLAYPAL', size=PLAYPAL_BYTES - 1),
-        'playpal-700.wad': put_entry(made, 'PLAYPAL', size=700),
         'lump-behind-end.wad': put_entry(made, 'WPATA', offset=len(made)),
         'no-colours.wad': without(made, 'PLAYPAL', 'COLORMAP'),
     }
@@ -165,7 +163,6 @@ def list_files(made):
         'texture-far.wad': put_in(made, 'TEXTURE1', 4, word(0xfffffff0)),
         'texture-width-0.wad': put_in(made, 'TEXTURE1', wall2 + TEXTURE_WIDTH, half(0)),
         'texture-height-0.wad': put_in(made, 'TEXTURE1', wall2 + TEXTURE_HEIGHT, half(0)),
-        'texture-width-negative.wad': put_in(made, 'TEXTURE1', wall2 + TEXTURE_WIDTH, half(-64)),
         'texture-cut.wad': with_lumps(made, {'TEXTURE1': first[:-1]}),
         'texture-many-patches.wad': put_in(made, 'TEXTURE1', sky1 + TEXTURE_PATCHES, half(2)),
         'texture2-width-0.wad': with_lumps(made, {'TEXTURE2': put(second, 8 + TEXTURE_WIDTH, half(0))}),

@@ -12,7 +12,7 @@ import urllib.parse
 HERE = os.path.dirname(os.path.abspath(__file__))
 TABLES = os.path.join(HERE, 'tables')
 HEADER = ['case', 'words', 'how', 'status', 'line', 'bytes', 'sha256']
-NOTE = '# Expected values come from another program written from the same rules, or by hand from the rules; none from doomview.'
+NOTE = '# Values come from another program written from the same rules, or by hand from the rules; none from doomview.'
 FULL, MAY_BE_FULL, READS = 'full', 'may be full', 'reads '
 ZONES = (FULL, MAY_BE_FULL)
 ZONE_FULL = '6'  # the status

@@ -4,6 +4,10 @@ from damage import half, put, word
 from wads import beside, wad
 
 
+# Patches that stand in the place of BARS too, the grate's.
+IN_GRATES = ['cut', 'holed', 'low-post', 'overlapping-posts', 'narrow']
+
+
 def flats(*lumps):
     return ('F_START', b''), *lumps, ('F_END', b'')
 
@@ -134,8 +138,9 @@ def odd_colours():
 
 
 def art_files():
-    files = {f'{name.lower()}-{oddity}.wad': beside((name, patch))
-             for oddity, patch in odd_patches().items() for name in ('STONE', 'BARS')}
+    patches = odd_patches()
+    files = {f'stone-{name}.wad': beside(('STONE', patch)) for name, patch in patches.items()}
+    files.update({f'bars-{name}.wad': beside(('BARS', patches[name])) for name in IN_GRATES})
     files.update({f'texture-{name}.wad': texture_file(records) for name, records in odd_textures().items()})
     for named in (odd_flats(), odd_sprites(), odd_colours()):
         files.update({f'{name}.wad': beside(*lumps) for name, lumps in named.items()})

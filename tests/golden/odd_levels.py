@@ -2,7 +2,7 @@
 import struct
 
 from damage import half, put, put_each, put_field, put_in, with_lumps
-from levels import LEAF, NO_SIDE, ONE_SIDED, TWO_SIDED, Level, Squares, court, hall, room
+from levels import LEAF, ONE_SIDED, TWO_SIDED, Level, Squares, court, hall, room
 from wads import MAP_LUMPS, beside, lump, name8, offset_of
 
 CELLS = 14  # of a side of the made level of 7

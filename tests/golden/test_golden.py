@@ -1,6 +1,6 @@
 #!/usr/bin/env python3
-"""Tests of the golden runs themselves, without a program: that each case tells a wrong run from a right one, and that the
-tables have what they should.
+"""Tests of the golden runs themselves, without a program: that each case tells a wrong run from a right one, and that
+the tables have what they should.
 
 usage: python3 tests/golden/test_golden.py"""
 import collections
@@ -14,8 +14,8 @@ import unittest
 sys.dont_write_bytecode = True
 HERE = os.path.dirname(os.path.abspath(__file__))
 sys.path.insert(0, HERE)
-from cases import (FULL, HEADER, MAY_BE_FULL, NOTE, READS, TABLES, ZONE_FULL, ZONES, Case, Outcome, Runner,  # noqa: E402
-                   differences, read_table, table_names, without_zone)
+import cases  # noqa: E402
+from cases import FULL, MAY_BE_FULL, ZONE_FULL, ZONES, Case, Outcome, Runner, differences  # noqa: E402
 
 TOP = os.path.dirname(os.path.dirname(HERE))
 LEVEL_JOBS = ('render', 'trace', 'limits', 'audit', 'trim')
@@ -25,7 +25,7 @@ OPTIONS = ('tables', 'things', 'path', 'weapon', 'format', *RANGES)
 
 
 def all_cases():
-    return [case for table in table_names() for case in read_table(table)]
+    return [case for table in cases.table_names() for case in cases.read_table(table)]
 
 
 def turned(text):
@@ -66,7 +66,7 @@ class Differences(unittest.TestCase):
 
     def test_a_zone_is_left_out_of_words(self):
         for words in ('a --zone 64 b', 'a --zone=64 b', 'a b --zone 64', 'a b'):
-            self.assertEqual(without_zone(words.split()), ['a', 'b'])
+            self.assertEqual(cases.without_zone(words.split()), ['a', 'b'])
 
 
 class Runs(unittest.TestCase):
@@ -92,8 +92,8 @@ class Runs(unittest.TestCase):
     def test_streams_are_closed_and_readers_go(self):
         self.assertEqual(self.ended('0 abc line', '2>&-').line, '')
         self.assertEqual(self.ended('0 abc line', '>/dev/full').status, '4')
-        self.assertEqual(self.ended('0 long line', f'{READS}3').status, '4')
-        self.assertEqual(self.ended('0 long line', f'{READS}3').length, '3')
+        self.assertEqual(self.ended('0 long line', f'{cases.READS}3').status, '4')
+        self.assertEqual(self.ended('0 long line', f'{cases.READS}3').length, '3')
 
     def test_a_full_zone_is_compared_with_a_run_in_another(self):
         whole = Outcome('0', '', '3', ABC)
@@ -128,9 +128,9 @@ class Tables(unittest.TestCase):
     def test_names_are_unique_and_each_table_says_where_its_values_come_from(self):
         counts = collections.Counter(case.name for case in all_cases())
         self.assertEqual([name for name, count in counts.items() if count > 1], [])
-        for table in table_names():
-            with open(os.path.join(TABLES, f'{table}.csv'), encoding='utf-8') as file:
-                self.assertEqual([next(file).rstrip('\n'), next(file).rstrip('\n')], [NOTE, ','.join(HEADER)])
+        for table in cases.table_names():
+            with open(os.path.join(cases.TABLES, f'{table}.csv'), encoding='utf-8') as file:
+                self.assertEqual([next(file).rstrip('\n'), next(file).rstrip('\n')], [cases.NOTE, ','.join(cases.HEADER)])
 
     def test_each_line_is_one_of_its_status(self):
         lines = {'0': '', '1': 'usage', '2': r'refused \d+( \d+)*', '3': 'read fault', '4': 'write fault',

@@ -131,34 +131,33 @@ def faults(name, head, row, bad_rows):
 
 BAD_THINGS = faults('things', THINGS, TREE, {
     'type-letter': ['x,TREE,A,0,0,0'], 'type-plus': ['+1,TREE,A,0,0,0'], 'type-space': ['1 ,TREE,A,0,0,0'],
-    'type-empty': [',TREE,A,0,0,0'], 'type-11-digits': ['00000002035,TREE,A,0,0,0'], 'type-minus': ['-,TREE,A,0,0,0'],
-    'bright-letter': ['1,TREE,A,x,0,0'], 'hang-point': ['1,TREE,A,0,1.5,0'], 'shadow-letter': ['1,TREE,A,0,0,n'],
+    'type-empty': [',TREE,A,0,0,0'], 'type-11-digits': ['00000002035,TREE,A,0,0,0'],
+    'hang-point': ['1,TREE,A,0,1.5,0'],
     'type-65536': ['65536,TREE,A,0,0,0'], 'type-negative': ['-1,TREE,A,0,0,0'], 'sprite-3-letters': ['1,TRE,A,0,0,0'],
-    'sprite-5-letters': ['1,TREES,A,0,0,0'], 'sprite-space': ['1,TRE ,A,0,0,0'], 'sprite-delete': ['1,TRE\x7f,A,0,0,0'],
-    'frame-at': ['1,TREE,@,0,0,0'], 'frame-roof': ['1,TREE,^,0,0,0'], 'frame-two': ['1,TREE,AA,0,0,0'],
-    'frame-none': ['1,TREE,,0,0,0'], 'bright-2': ['1,TREE,A,2,0,0'], 'hang-32768': ['1,TREE,A,0,32768,0'],
+    'sprite-5-letters': ['1,TREES,A,0,0,0'], 'sprite-delete': ['1,TRE\x7f,A,0,0,0'],
+    'frame-at': ['1,TREE,@,0,0,0'], 'frame-roof': ['1,TREE,^,0,0,0'],
+    'bright-2': ['1,TREE,A,2,0,0'], 'hang-32768': ['1,TREE,A,0,32768,0'],
     'hang-negative': ['1,TREE,A,0,-1,0'], 'shadow-2': ['1,TREE,A,0,0,2'],
     'twice': [TREE, TREE], 'twice-later': [TREE, '1,TREE,A,0,0,0', '02035,LEAF,B,1,5,1'],
     '4097': [f'{kind},TREE,A,0,0,0' for kind in range(4097)],
     '4097-bad': [*(f'{kind},TREE,A,0,0,0' for kind in range(4096)), 'x'],
     'two-faults': ['x,TR,A,0,0,0'], 'fault-below-fault': ['1,TREE,A,0,0,9', 'x,TREE,A,0,0,0'],
     'fields-before-number': ['x,TREE,A,0,0'], 'range-before-twice': [TREE, '2035,TREE,A,7,0,0'],
-    'shadow': ['2035,TREE,A,0,0,1'], 'frame-b': ['2035,TREE,B,0,0,0'], 'leaf': ['2035,LEAF,A,0,0,0']})
+    'shadow': ['2035,TREE,A,0,0,1'], 'frame-b': ['2035,TREE,B,0,0,0']})
 BAD_PATHS = faults('path', PATH, '1,2,3,4', {
-    'x-letter': ['x,2,3,4'], 'z-letter': ['1,2,x,4'], 'y-point': ['1,2.5,3,4'], 'angle-empty': ['1,2,3,'],
+    'x-letter': ['x,2,3,4'], 'z-letter': ['1,2,x,4'], 'angle-empty': ['1,2,3,'],
     'x-too-great': ['2147483648,2,3,4'], 'y-too-small': ['1,-2147483649,3,4'], 'angle-too-great': ['1,2,3,4294967296'],
-    'angle-negative': ['1,2,3,-1'], 'z-11-digits': ['1,2,00000000003,4'], '10001': ['1,2,3,4'] * 10001,
+    'angle-negative': ['1,2,3,-1'], '10001': ['1,2,3,4'] * 10001,
     '10001-bad': [*['1,2,3,4'] * 10000, 'x'], 'two-faults': ['1,2,3,4', '1,x,9999999999,4']}) | {
     'path-extralight-16.csv': table(LIT_PATH, '1,2,3,4,16,0'), 'path-colormap-33.csv': table(LIT_PATH, '1,2,3,4,0,33'),
     'path-extralight-letter.csv': table(LIT_PATH, '1,2,3,4,a,0'), 'path-lit-short.csv': table(LIT_PATH, '1,2,3,4'),
     'path-half-header.csv': table(PATH + ',extralight', '1,2,3,4,0')}
 BAD_WEAPONS = faults('weapon', WEAPON, '0,TREE,A,1,0,0', {
-    'view-letter': ['a,TREE,A,1,0,0'], 'sx-letter': ['0,TREE,A,1,x,0'], 'sy-empty': ['0,TREE,A,1,0,'],
+    'view-letter': ['a,TREE,A,1,0,0'],
     'view-10000': ['10000,TREE,A,1,0,0'], 'view-negative': ['-1,TREE,A,1,0,0'], 'sprite-long': ['0,TREES,A,1,0,0'],
-    'frame-small': ['0,TREE,@,1,0,0'], 'bright-2': ['0,TREE,A,2,0,0'], 'sx-too-great': ['0,TREE,A,1,2147483648,0'],
+    'frame-small': ['0,TREE,@,1,0,0'], 'sx-too-great': ['0,TREE,A,1,2147483648,0'],
     'sy-too-small': ['0,TREE,A,1,0,-2147483649'], '20001': ['0,TREE,A,1,0,0'] * 20001,
-    'frame-b': ['0,TREE,B,0,0,0'], 'frame-b-second': ['0,TREE,A,0,0,0', '7,TREE,B,0,0,0'],
-    'leaf': ['0,LEAF,A,0,0,0'], 'guard': ['3,GUAR,A,0,0,0']})
+    'frame-b': ['0,TREE,B,0,0,0'], 'frame-b-second': ['0,TREE,A,0,0,0', '7,TREE,B,0,0,0']})
 
 # Weapon layers: sprite, frame and bright, and the place in whole pixels.
 GUN = 'TREE,A'
@@ -174,9 +173,7 @@ WEAPONS = {
     'gun.csv': weapon((0, GUN, 1, 160, 100)),
     'dark-gun.csv': weapon((0, GUN, 0, 160, 100)),
     'gun-left.csv': weapon((0, GUN, 1, 0, 100)),
-    'gun-half-left.csv': weapon((0, GUN, 1, 5, 100)),
     'gun-off-left.csv': weapon((0, GUN, 1, -40, 100)),
-    'gun-right.csv': weapon((0, GUN, 1, 320, 100)),
     'gun-off-right.csv': weapon((0, GUN, 1, 400, 100)),
     'gun-above.csv': weapon((0, GUN, 1, 160, 30)),
     'gun-off-above.csv': weapon((0, GUN, 1, 160, -80)),
