@@ -3,7 +3,7 @@ import struct
 
 import art
 from damage import half, put, put_entry, put_field, put_in, renamed, with_lumps, without, word
-from levels import Level, chain
+from levels import Level, add_walls, chain
 from wads import ENTRY_BYTES, RECORD_BYTES, beside, directory_of, lump, lumps_of, name8, number_of, wad
 
 MOST_RECORDS, MOST_TEXTURES = 65535, 32767
@@ -261,9 +261,7 @@ def many_flats(count, size, as_patches):
     level = Level()
     for number in range(0, count, 2):
         level.sector(0, 128, names[number], names[min(number + 1, count - 1)], 160)
-    corners = [level.vertex(x, y) for x, y in ((256, 256), (256, -256), (-256, -256), (-256, 256))]
-    for number in range(4):
-        level.wall(corners[number], corners[(number + 1) % 4], 0, 'WALL')
+    add_walls(level, 0, ['WALL'])
     level.leaf(0)
     placed = [(number % 32000, 0, number) for number in range(count if as_patches else 1)]
     lists = [art.texture('NONE', 8, 8), art.texture('WALL', 32000, 2, *placed)]

@@ -81,9 +81,9 @@ def differences(case, outcome):
 
 def zone_differences(outcome):
     """The same of a run whose zone has to be full."""
-    found = []
     if outcome.status != ZONE_FULL:
-        found.append(f'status {ZONE_FULL} expected, {outcome.status} came')
+        return [f'status {ZONE_FULL} expected, {outcome.status} came']
+    found = []
     sizes = ZONE_LINE.fullmatch(outcome.line)
     if not sizes or int(sizes[2]) >= int(sizes[1]):
         found.append(f'line of a full zone expected, {outcome.line or "none"} came')

@@ -2,7 +2,7 @@
 import math
 import struct
 
-from wads import name8
+from wads import MAP_LUMPS, name8
 
 NO_SIDE = 0xffff
 LEAF = 0x8000
@@ -22,8 +22,7 @@ class Level:
     def __init__(self, east=(1, 0), north=(0, 1)):
         self.east, self.north = east, north
         self.numbers, self.points = {}, []
-        self.records = {name: [] for name in
-                        ('THINGS', 'LINEDEFS', 'SIDEDEFS', 'SEGS', 'SSECTORS', 'NODES', 'SECTORS')}
+        self.records = {name: [] for name in MAP_LUMPS}
 
     def add(self, lump, layout, *fields):
         self.records[lump].append(struct.pack(layout, *fields))
@@ -38,7 +37,7 @@ class Level:
     def vertex(self, x, y):
         point = self.place(x, y)
         if point not in self.numbers:
-            self.numbers[point] = len(self.points)
+            self.numbers[point] = self.add('VERTEXES', '<hh', *point)
             self.points.append(point)
         return self.numbers[point]
 
@@ -51,16 +50,13 @@ class Level:
     def line(self, start, end, flags, front, back=NO_SIDE):
         return self.add('LINEDEFS', '<7H', start, end, flags, 0, 0, front, back)
 
-    def seg(self, start, end, line, side=0, offset=0, turned=0):
-        """A seg; its angle is that of its vertices, `turned` further."""
+    def seg(self, start, end, line, side=0):
         (x1, y1), (x2, y2) = self.points[start], self.points[end]
-        angle = bam16(x2 - x1, y2 - y1) + turned & 0xffff
-        return self.add('SEGS', '<5HH', start, end, angle, line, side, offset & 0xffff)
+        return self.add('SEGS', '<6H', start, end, bam16(x2 - x1, y2 - y1), line, side, 0)
 
-    def wall(self, start, end, sector, middle='WALL1', **more):
+    def wall(self, start, end, sector, middle):
         """A wall of one side: a side, a line and a seg."""
-        side = self.side(sector, middle=middle, **more)
-        line = self.line(start, end, ONE_SIDED, side)
+        line = self.line(start, end, ONE_SIDED, self.side(sector, middle=middle))
         return self.seg(start, end, line)
 
     def leaf(self, first):
@@ -81,10 +77,7 @@ class Level:
         return self.add('THINGS', '<hhhHH', *self.place(x, y), angle, kind, options)
 
     def lumps(self, label):
-        bodies = {name: b''.join(records) for name, records in self.records.items()}
-        bodies['VERTEXES'] = b''.join(struct.pack('<hh', *point) for point in self.points)
-        order = ('THINGS', 'LINEDEFS', 'SIDEDEFS', 'VERTEXES', 'SEGS', 'SSECTORS', 'NODES', 'SECTORS')
-        return [(label, b''), *((name, bodies[name]) for name in order)]
+        return [(label, b''), *((name, b''.join(records)) for name, records in self.records.items())]
 
 
 class Squares:
@@ -156,14 +149,17 @@ def box_of(level, squares, unit):
     return level.box(unit * min(columns), unit * min(rows), unit * (max(columns) + 1), unit * (max(rows) + 1))
 
 
-def room(label, below='FLAT0', above='FLAT1', walls=('WALL1',), floor=0, ceiling=128, light=160, things=()):
-    """A room of one leaf, from -256 to 256 both ways, with these textures on its walls in turn: east, south, west and
-    north."""
-    level = Level()
-    sector = level.sector(floor, ceiling, below, above, light)
+def add_walls(level, sector, walls=('WALL1',)):
+    """The walls of a room from -256 to 256 both ways, with these textures in turn: east, south, west and north."""
     corners = [level.vertex(x, y) for x, y in ((256, 256), (256, -256), (-256, -256), (-256, 256))]
     for number in range(4):
         level.wall(corners[number], corners[(number + 1) % 4], sector, walls[number % len(walls)])
+
+
+def room(label, below='FLAT0', above='FLAT1', walls=('WALL1',), floor=0, ceiling=128, light=160, things=()):
+    """A room of one leaf."""
+    level = Level()
+    add_walls(level, level.sector(floor, ceiling, below, above, light), walls)
     level.leaf(0)
     for thing in things:
         level.thing(*thing)
@@ -185,11 +181,8 @@ def hall(label, leaves):
 def chain(label, depth):
     """A room under a chain of nodes: behind each is the one leaf, in front the node before it."""
     level = Level()
-    sector = level.sector(0, 128, 'FLAT0', 'FLAT1', 160)
-    corners = [level.vertex(x, y) for x, y in ((256, 256), (256, -256), (-256, -256), (-256, 256))]
-    for number in range(4):
-        level.wall(corners[number], corners[(number + 1) % 4], sector)
-    for number in range(depth + 1):
+    add_walls(level, level.sector(0, 128, 'FLAT0', 'FLAT1', 160))
+    for _ in range(depth + 1):
         level.add('SSECTORS', '<HH', 4, 0)
     boxes = [level.box(-256, -256, 256, 256)] * 2
     for number in range(depth):
