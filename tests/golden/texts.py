@@ -100,11 +100,11 @@ ODDLY_WRITTEN = {
     'things-zeros.csv': table(THINGS, '0000002035,TREE,A,00,-0,0000000000'),
     'things-edges.csv': table(THINGS, '0,!!!!,A,0,0,0', '65535,~~~~,],1,32767,0', TREE),
     'things-4096.csv': table(THINGS, *(f'{kind},TREE,A,0,0,0' for kind in range(4096))),
-    'things-full.csv': table(THINGS, TREE) + '\n' * (MOST_BYTES - len(table(THINGS, TREE))),
+    'things-full.csv': table(THINGS, TREE).ljust(MOST_BYTES, '\n'),
     'path-quoted.csv': '"x","y",z,"angle"\r\n"2621440",2621440,"4718592",0\r\n',
     'path-zeros.csv': table(PATH, '0002621440,0002621440,4718592,-0'),
     'path-10000.csv': table(PATH, *['2621440,2621440,4718592,0'] * 10000),
-    'path-full.csv': table(PATH, '2621440,2621440,4718592,0') + '\n' * (MOST_BYTES - len(PATH) - 27),
+    'path-full.csv': table(PATH, '2621440,2621440,4718592,0').ljust(MOST_BYTES, '\n'),
     'weapon-marked.csv': '\ufeff' + table(WEAPON, '0,tree,a,1,"10485760",6553600').replace('\n', '\r\n'),
     'weapon-20000.csv': table(WEAPON, *['9999,TREE,A,1,0,0'] * 20000),
     'weapon-edges.csv': table(WEAPON, '0,TREE,A,0,-2147483648,-2147483648', '9999,TREE,A,1,2147483647,2147483647'),
@@ -119,8 +119,8 @@ def faults(name, head, row, bad_rows):
         f'{name}-spaced-header.csv': table(head.replace(',', ', '), row),
         f'{name}-capital-header.csv': table(head.upper(), row),
         f'{name}-longer-header.csv': table(head + ',more', row),
-        f'{name}-wide.csv': table(head, row).encode('utf-16'),
-        f'{name}-too-long.csv': table(head, row) + '\n' * (MOST_BYTES + 1 - len(table(head, row))),
+        f'{name}-wide.csv': ('\ufeff' + table(head, row)).encode('utf-16-le'),
+        f'{name}-too-long.csv': table(head, row).ljust(MOST_BYTES + 1, '\n'),
         f'{name}-few-fields.csv': table(head, row, row.rpartition(',')[0]),
         f'{name}-many-fields.csv': table(head, row + ',0'),
         f'{name}-open-quote.csv': table(head, '"' + row),
@@ -148,10 +148,11 @@ BAD_PATHS = faults('path', PATH, '1,2,3,4', {
     'x-letter': ['x,2,3,4'], 'z-letter': ['1,2,x,4'], 'angle-empty': ['1,2,3,'],
     'x-too-great': ['2147483648,2,3,4'], 'y-too-small': ['1,-2147483649,3,4'], 'angle-too-great': ['1,2,3,4294967296'],
     'angle-negative': ['1,2,3,-1'], '10001': ['1,2,3,4'] * 10001,
-    '10001-bad': [*['1,2,3,4'] * 10000, 'x'], 'two-faults': ['1,2,3,4', '1,x,9999999999,4']}) | {
+    '10001-bad': [*['1,2,3,4'] * 10000, 'x'], 'two-faults': ['1,2,3,4', '1,x,9999999999,4']})
+BAD_PATHS.update({
     'path-extralight-16.csv': table(LIT_PATH, '1,2,3,4,16,0'), 'path-colormap-33.csv': table(LIT_PATH, '1,2,3,4,0,33'),
     'path-extralight-letter.csv': table(LIT_PATH, '1,2,3,4,a,0'), 'path-lit-short.csv': table(LIT_PATH, '1,2,3,4'),
-    'path-half-header.csv': table(PATH + ',extralight', '1,2,3,4,0')}
+    'path-half-header.csv': table(PATH + ',extralight', '1,2,3,4,0')})
 BAD_WEAPONS = faults('weapon', WEAPON, '0,TREE,A,1,0,0', {
     'view-letter': ['a,TREE,A,1,0,0'],
     'view-10000': ['10000,TREE,A,1,0,0'], 'view-negative': ['-1,TREE,A,1,0,0'], 'sprite-long': ['0,TREES,A,1,0,0'],
@@ -199,7 +200,7 @@ WEAPONS = {
     'small-letters-weapon.csv': table(WEAPON, '0,tree,a,1,10485760,6553600'),
 }
 
-TEXTS = GOOD | ODDLY_WRITTEN | BAD_THINGS | BAD_PATHS | BAD_WEAPONS | WEAPONS
+TEXTS = {**GOOD, **ODDLY_WRITTEN, **BAD_THINGS, **BAD_PATHS, **BAD_WEAPONS, **WEAPONS}
 
 
 def chance_text(seed):
