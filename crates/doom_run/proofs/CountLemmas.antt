@@ -32,7 +32,7 @@ numbers_within count (sector ∷ sectors) (f ∷ flats) few there =
 
 pub can_count : (lumps : List Lump) (scene : SceneValue) (z : Heap) → CanDrawView lumps scene z → CanCount scene
 can_count lumps scene z can = record {
-  sides = can.whole.sides;
-  flats = can.whole.flats;
-  numbers = numbers_within (length lumps) scene.base.level.sectors scene.faces.flats can.few can.whole.flats_there;
+  sides = can.drawable.sides;
+  flats = can.drawable.flats;
+  numbers = numbers_within (length lumps) scene.base.level.sectors scene.faces.flats can.few can.drawable.flats_there;
 }

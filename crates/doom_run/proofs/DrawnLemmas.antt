@@ -10,6 +10,7 @@ use Rattle.scene_rules.specs.Sizes.{SceneArt, lump_block, zone_sizes}
 use Rattle.sound_scene.specs.Sound.{art_with, textures_view}
 use Rattle.sound_scene.proofs.SceneLemmas.{and_then-ok}
 use Rattle.frame_core.proofs.EnoughLemmas.{IsArtFull, full-small, view_full}
+use Rattle.frame_core.proofs.SceneLemmas.{drawable-whole}
 use Rattle.job_files.specs.Files.{files_in}
 use Rattle.frame_core.specs.Views.{CanDrawView}
 use Rattle.level_audit.specs.declared.scene_load.load.LoadedScene.{LoadedScene}
@@ -35,10 +36,7 @@ loaded_textures level wads files loaded e =
 -- a loaded scene may be drawn
 pub drawable : (level : LevelJobValue) (loaded : LoadedScene) → IsLoadedScene level loaded → CanDrawView loaded.files.dir.lumps loaded.scene.scene loaded.cache
 drawable level loaded stands = record {
-  lines = loaded.files.things;
-  name = level.map_name;
-  skill = level.settings.skill;
-  whole = stands.audited.whole;
+  drawable = drawable-whole loaded.files.dir.lumps loaded.files.things level.map_name level.settings.skill loaded.scene.scene stands.audited.whole;
   few = omega (arith, stands.few);
   colormap = stands.audited.colormap;
   slots = stands.slots;

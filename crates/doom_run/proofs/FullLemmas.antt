@@ -73,7 +73,7 @@ below_accepted (Err stop) value e = absurd (cc)
 
 -- where a zone is full, no file is absent
 task_held : (wanted widest' : ℕ) (task : Task) (held : List File) → IsFullTask task held wanted widest' → task_verdict task held ≡ Err files.absent → ⊥
-task_held wanted widest' (plain writes) held full e = full
+task_held wanted widest' (plain writes reads) held full e = full
 task_held wanted widest' (over work) held full e =
     full_held work.level work.wads (work.files held) full
     (absent_load (load_in work.level work.wads (work.files held)) _ (λ loaded. delivers_held (work.delivery.makes (wad_bytes work.wads (work.files held) loaded.files.lumps) loaded) _) e)
@@ -89,7 +89,7 @@ no_smaller zone enough due small same room = omega (arith, small, same, room)
 
 -- a zone that is large enough for what is accepted is not full
 task_room : (wanted widest' : ℕ) (task : Task) (held : List File) (accepted : Accepted) → IsFullTask task held wanted widest' → accepted.enough ≤ zone_of task → task_verdict task held ≡ Ok accepted → ⊥
-task_room wanted widest' (plain writes) held accepted full room e = full
+task_room wanted widest' (plain writes reads) held accepted full room e = full
 task_room wanted widest' (over work) held accepted full room e =
     let p = accepted_load work.delivery (λ loaded. wad_bytes work.wads (work.files held) loaded.files.lumps) (load_in work.level work.wads (work.files held)) accepted e in
     no_smaller work.level.settings.zone (loaded_sizes p.0).enough accepted.enough (full_small work.level work.wads (work.files held) p.0 full p.1) p.2 room

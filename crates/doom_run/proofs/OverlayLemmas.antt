@@ -55,8 +55,8 @@ module _ {mark : Painter → ℕ → ℕ} (k : ℕ) (eye : Eye) (old new : Loade
       DrawsLayers mark k eye view after old new before now result
   unfolding scene_of
   layers_drawn keeps one = record {
-    painted = λ contents count hold. one.painted (textures_view old.scene.scene) contents count hold;
-    fits = λ contents count hold. one.fits (textures_view old.scene.scene) contents count hold;
+    painted = λ contents count hold. one.painted (textures_view old.scene.scene) contents count (record { rest = hold.rest; files = hold.files });
+    fits = λ contents count hold. one.fits (textures_view old.scene.scene) contents count (record { rest = hold.rest; files = hold.files });
     draws = one.draws (textures_view old.scene.scene);
     place = one.place;
     keeps = keeps;

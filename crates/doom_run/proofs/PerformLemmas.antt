@@ -50,7 +50,7 @@ fault_behaves reads_on before after old faults fault.OutOfMemory cause =
 
 -- nothing was read
 pub takes_none : (task : Task) (held : List File) (n : ℕ) → TaskTakes task held n n
-takes_none (plain writes) held n = tt
+takes_none (plain writes reads) held n = omega arith
 takes_none (over work) held n = λ loaded is room. omega arith
 
 -- memory ran out before anything was asked for
@@ -73,14 +73,14 @@ memory_runs None view old faults = record { runs = (inr refl, grew_none old) }
 memory_runs (Some command) view old faults = record { runs = memory_performs (job_of command) view old faults }
 
 -- a job without a level
-module _ (writes : List File → Result Written (Stop Refusal)) where
+module _ (writes : List File → Result Written (Stop Refusal)) (most : List File → ℕ) where
   abbrev plain_job : Bool → Job
-  plain_job asks = record { asks = asks; reads_on = false; task = plain writes }
+  plain_job asks = record { asks = asks; reads_on = false; task = plain writes most }
 
   -- whose first half has stopped
   pub plain_stops : (before after : ShelfView) (old : List ℕ → Type 0) (faults : ℕ) (stop : Fault Refusal) → ((held : List File) → Holds before held → FaultFitsOrAbsent before.steady (writes held) stop) →
-      HasCauseAt before.faults after.faults stop → ((wanted widest : ℕ) → status_of stop ≡ ZoneFull wanted widest → ⊥) → Performs (plain_job true) before after old old faults faults (status_of stop)
-  plain_stops before after old faults stop fits cause narrow = record {
+      HasCauseAt before.faults after.faults stop → ((wanted widest : ℕ) → status_of stop ≡ ZoneFull wanted widest → ⊥) → ((held : List File) → Holds before held → after.taken ≤ before.taken + most held) → Performs (plain_job true) before after old old faults faults (status_of stop)
+  plain_stops before after old faults stop fits cause narrow few = record {
     behaves = fault_behaves false before after old faults stop cause;
     asked = λ e. refl;
     zoned = λ wanted widest e. absurd (narrow wanted widest e);
@@ -88,14 +88,14 @@ module _ (writes : List File → Result Written (Stop Refusal)) where
       ends = fault_end before.steady _ old old stop (stops_all before.steady (writes held) (λ written. Ok (accepted_in zero written)) stop (fits held (holds refl))) (grew_none old);
       zone_full = λ wanted widest e. narrow wanted widest e;
       least = λ end. absurd (fault_no_end stop end);
-      reads = λ calm. tt;
+      reads = λ calm. few held (holds refl);
     };
   }
 
   -- whose bytes were written
   pub plain_delivers : (asks : Bool) (due : Written) (before after : ShelfView) (old new : List ℕ → Type 0) (faults later : ℕ) (status : Status) → ((held : List File) → (IsTrue asks → Holds before held) → writes held ≡ Ok due) →
-      DeliversAt due old new status → (status ≡ WriteFault → FaultsRose faults later) → Performs (plain_job asks) before after old new faults later status
-  plain_delivers asks due before after old new faults later status is delivers failed = record {
+      DeliversAt due old new status → (status ≡ WriteFault → FaultsRose faults later) → ((held : List File) → (IsTrue asks → Holds before held) → after.taken ≤ before.taken + most held) → Performs (plain_job asks) before after old new faults later status
+  plain_delivers asks due before after old new faults later status is delivers failed few = record {
     behaves = record {
       unwritten = λ e. absurd (delivers_more due old new status delivers e);
       unread = λ none e. absurd (delivers_all due old new status delivers e);
@@ -109,7 +109,7 @@ module _ (writes : List File → Result Written (Stop Refusal)) where
       ends = renders_end before.steady _ zero due old new status (ap (λ (w : Result Written (Stop Refusal)). from_below at_step (and_then {B = Accepted} w (λ written. Ok (accepted_in zero written)))) (is held holds)) (delivers_render before.steady due old new status delivers);
       zone_full = λ wanted widest e. delivers_all due old new status delivers (rw e tt);
       least = λ end. omega arith;
-      reads = λ calm. tt;
+      reads = λ calm. few held holds;
     };
   }
 

@@ -55,7 +55,7 @@ pub record IsFullDraw (level : LevelJobValue) (wads : List (List ℕ)) (files : 
 -- The files of a task with a zone are in order, and the zone is small: for what loading reads, or for what is
 -- drawn or copied.
 abbrev pub IsFullTask : Task → List File → ℕ → ℕ → Type 0
-IsFullTask (plain writes) files wanted widest = ⊥
+IsFullTask (plain writes reads) files wanted widest = ⊥
 IsFullTask (over work) files wanted widest =
     IsFullLoad work.level work.wads (work.files files) wanted widest
     ⊎ (IsTrue work.delivery.reads × IsFullDraw work.level work.wads (work.files files) wanted widest)

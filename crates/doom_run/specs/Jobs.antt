@@ -16,6 +16,7 @@ use Rattle.trim_rules.specs.Files.{trimmed_file}
 use Rattle.job_files.specs.Flats.{flat_verdict}
 use Rattle.job_files.specs.Lines.{pair_line}
 use Rattle.job_files.specs.Made.{made_file}
+use Rattle.job_files.specs.Sizes.{flat_reads}
 use Rattle.job_files.specs.declared.status.Status.{Status}
 use Rattle.job_files.specs.declared.status.Status.TheVariants.{Done}
 use Rattle.level_audit.specs.scene_load.Loads.{LoadedValue, loaded_sizes}
@@ -103,8 +104,8 @@ made_work n zone format = record {
 }
 
 pub data Task : Type 0 where
-  -- without a level: what is written, by the files that are held
-  plain : (List File → Result Written (Stop Refusal)) → Task
+  -- without a level: what is written, and how many bytes are read at most, by the files that are held
+  plain : (List File → Result Written (Stop Refusal)) → (List File → ℕ) → Task
   over : Work → Task
 
 pub record Job : Type 0 where
@@ -119,7 +120,7 @@ job_over level wads delivery = record { asks = true; reads_on = delivery.reads; 
 
 -- the table
 abbrev pub job_of : CommandValue → Job
-job_of (flat name file) = record { asks = true; reads_on = false; task = plain (λ files. and_then (flat_verdict name file files) (λ picture. Ok (done (ppm picture.frame picture.palette)))) }
+job_of (flat name file) = record { asks = true; reads_on = false; task = plain (λ files. and_then (flat_verdict name file files) (λ picture. Ok (done (ppm picture.frame picture.palette)))) (flat_reads name file) }
 job_of (level_job task level wads) = job_over level wads (delivery_of task level)
-job_of (make job) = record { asks = false; reads_on = false; task = plain (λ files. Ok (done (made_file job))) }
+job_of (make job) = record { asks = false; reads_on = false; task = plain (λ files. Ok (done (made_file job))) (λ files. 0) }
 job_of (exercise n zone format) = record { asks = false; reads_on = false; task = over (made_work n zone format) }

@@ -71,12 +71,12 @@ work_least work files = least_loading work files (load_in work.level work.wads f
 
 -- the least of a task, 0 where it has no zone
 abbrev pub task_least : Task → List File → ℕ
-task_least (plain writes) files = 0
+task_least (plain writes reads) files = 0
 task_least (over work) files = work_least work (work.files files)
 
 -- how many bytes the zone of a task has
 abbrev pub zone_of : Task → ℕ
-zone_of (plain writes) = 0
+zone_of (plain writes reads) = 0
 zone_of (over work) = work.level.settings.zone
 
 -- the same of a command

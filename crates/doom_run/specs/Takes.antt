@@ -1,4 +1,4 @@
--- How many bytes of files a job over a level reads at most, where its zone has room for all that the level
+-- How many bytes of files a job reads at most, one over a level where its zone has room for all that the level
 -- needs: each needed lump counts once.
 use Rattle.std.specs.Prelude.{◌≡◌, ◌≤◌, ◌+◌, ℕ, List, Ok, ⊤}
 use Rattle.outside.specs.Shelf.{File}
@@ -18,9 +18,9 @@ TakesOnce level wads files before after =
     (loaded : LoadedValue) → load_in level wads files ≡ Ok loaded → (loaded_sizes loaded).roomy ≤ level.settings.zone →
     after ≤ before + (files_size level.files wads files + lumps_size loaded)
 
--- the same of a task; nothing is said of one without a level
+-- the same of a task; one without a level reads no more than its parts, each once
 abbrev pub TaskTakes : Task → List File → ℕ → ℕ → Type 0
-TaskTakes (plain writes) files before after = ⊤
+TaskTakes (plain writes reads) files before after = after ≤ before + reads files
 TaskTakes (over work) files before after = TakesOnce work.level work.wads (work.files files) before after
 
 -- the same of a command

@@ -31,7 +31,7 @@ work_verdict work files =
     delivered work.delivery (wad_bytes work.wads (work.files files) loaded.files.lumps) loaded)
 
 abbrev pub task_verdict : Task → List File → Result Accepted (Stop Refusal)
-task_verdict (plain writes) files = and_then (writes files) (λ written. Ok (accepted_in zero written))
+task_verdict (plain writes reads) files = and_then (writes files) (λ written. Ok (accepted_in zero written))
 task_verdict (over work) files = work_verdict work files
 
 -- what a job determines

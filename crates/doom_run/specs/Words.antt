@@ -23,7 +23,7 @@ read_on words = option_map_or (λ command. (job_of command).reads_on) (command_o
 
 -- a job over a level has a zone, and so has an exercise
 abbrev pub has_zone : Task → Bool
-has_zone (plain writes) = false
+has_zone (plain writes reads) = false
 has_zone (over work) = true
 
 -- the words are a command that has a zone

@@ -9,9 +9,10 @@ ghost use Rattle.doom_run.specs.Ends.{DeliversAt};
 ghost use Rattle.doom_run.specs.Jobs.{audited, delivery_of};
 ghost use Rattle.doom_run.specs.Performs.{Delivers};
 
-use job_files::{Status, put_pair};
+use job_files::Status;
 use level_audit::LoadedScene;
 use outside::Sink;
+use refusals::Line;
 use scene_rules::ZoneSizes;
 
 // Writes the line of an accepted level. Takes no memory.
@@ -20,13 +21,11 @@ fn deliver_audit<K: Sink>(sizes: ZoneSizes, out: &mut K) -> Status
     ensures write_fault { result ≡ Status.WriteFault →
         FaultsRose (K.faults out.old) (K.faults out.new) }
 {
-    match put_pair(
-        out,
-        b"accepted enough ",
-        sizes.enough,
-        b" roomy ",
-        sizes.roomy,
-    ) {
+    let mut line = Line::new();
+    line.add_number(b"accepted enough ", sizes.enough);
+    line.add_number(b" roomy ", sizes.roomy);
+    line.add(b"\n");
+    match line.put(out) {
         Ok(()) => Status::Done,
         Err(_) => Status::WriteFault,
     }

@@ -19,7 +19,7 @@ use job_rules::{Files, Format, LevelJob, LevelTask, Settings};
 use level_maker::{make_path, make_tables, make_things, make_wad};
 use lump_rules::Name8;
 use outside::{Failed, MemoryFile, MemoryShelf, OutOfMemory, Sink, TallySink};
-use refusals::put_labelled;
+use refusals::Line;
 use std::alloc::Global;
 
 // What an exercise counted.
@@ -166,12 +166,14 @@ fn put_summary<K: Sink>(out: &mut K, summary: &Summary) -> Result<(), Failed>
     ensures { Writes (K.written out.old) (K.written out.new) (K.faults out.old)
         (K.faults out.new) (summary_line summary.now) result }
 {
-    put_labelled(out, b"sectors ", summary.sectors)?;
-    put_labelled(out, b" views ", summary.views)?;
-    put_labelled(out, b" frames ", summary.frames)?;
-    put_labelled(out, b" bytes ", summary.bytes)?;
-    put_labelled(out, b" sum ", summary.sum)?;
-    out.put(b"\n")
+    let mut line = Line::new();
+    line.add_number(b"sectors ", summary.sectors);
+    line.add_number(b" views ", summary.views);
+    line.add_number(b" frames ", summary.frames);
+    line.add_number(b" bytes ", summary.bytes);
+    line.add_number(b" sum ", summary.sum);
+    line.add(b"\n");
+    line.put(out)
 }
 
 // Writes the line of an exercise. Takes no memory.

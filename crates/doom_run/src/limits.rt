@@ -16,11 +16,11 @@ ghost use Rattle.doom_run.specs.Views.{counts_line, view_line_at, over_line};
 
 use crate::render::{ReadyViews, eye_at, prepare_views, view_count};
 use frame_core::{Counts, OverLimit, count_view};
-use job_files::{Status, put_limit_count};
+use job_files::{Status, limit_label};
 use job_rules::LevelJob;
 use level_audit::LoadedScene;
 use outside::{Failed, Sink};
-use refusals::put_labelled;
+use refusals::Line;
 use std::alloc::Global;
 
 // Appends the line of a view's counts.
@@ -28,12 +28,14 @@ fn put_counts<K: Sink>(out: &mut K, view: u64, counts: &Counts) -> Result<(), Fa
     ensures { Writes (K.written out.old) (K.written out.new) (K.faults out.old)
         (K.faults out.new) (counts_line view counts.now) result }
 {
-    put_labelled(out, b"view ", view)?;
-    put_labelled(out, b" planes ", counts.planes as u64)?;
-    put_labelled(out, b" openings ", counts.openings as u64)?;
-    put_labelled(out, b" fragments ", counts.fragments as u64)?;
-    put_labelled(out, b" sprites ", counts.sprites as u64)?;
-    out.put(b"\n")
+    let mut line = Line::new();
+    line.add_number(b"view ", view);
+    line.add_number(b" planes ", counts.planes as u64);
+    line.add_number(b" openings ", counts.openings as u64);
+    line.add_number(b" fragments ", counts.fragments as u64);
+    line.add_number(b" sprites ", counts.sprites as u64);
+    line.add(b"\n");
+    line.put(out)
 }
 
 // Appends the line of a view that is over a limit.
@@ -41,10 +43,12 @@ fn put_over<K: Sink>(out: &mut K, view: u64, over: &OverLimit) -> Result<(), Fai
     ensures { Writes (K.written out.old) (K.written out.new) (K.faults out.old)
         (K.faults out.new) (over_line view over.now) result }
 {
-    put_labelled(out, b"view ", view)?;
-    out.put(b" over")?;
-    put_limit_count(out, over.kind, over.count)?;
-    out.put(b"\n")
+    let mut line = Line::new();
+    line.add_number(b"view ", view);
+    line.add(b" over");
+    line.add_number(limit_label(over.kind), over.count as u64);
+    line.add(b"\n");
+    line.put(out)
 }
 
 // Appends the line of view number `number`.

@@ -112,7 +112,7 @@ pub fn run<S: Shelf, K: Sink, N: Sink>(
         command_least command files ≤ command_zone command) }
 
     // In a zone with room for all that a level needs, no more is read than the files and each lump
-    // of it once.
+    // of it once; for a flat no more than its file's directory, one palette and the flat.
     ensures taken { (files : List File) →
         WhereAsked (texts words.now) (Holds (S.view shelf.old) files) →
         (FaultsRose (S.view shelf.old).faults (S.view shelf.new).faults → ⊥) →

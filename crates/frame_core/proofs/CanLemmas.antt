@@ -9,9 +9,9 @@ use Rattle.frame_core.proofs.SceneLemmas.{surface_flats}
 -- a scene that can be drawn can be counted
 pub can_count-drawable : (lumps : List Lump) (scene : SceneValue) (z : Heap) → CanDrawView lumps scene z → CanCount scene
 can_count-drawable lumps scene z can = record {
-  sides = can.whole.sides;
-  flats = can.whole.flats;
+  sides = can.drawable.sides;
+  flats = can.drawable.flats;
   numbers = λ i d l.
-      let there = surface_flats lumps can.lines can.name can.skill scene can.whole can.few i d l in
+      let there = surface_flats lumps scene can.drawable can.few i d l in
       record { floor = there.floor.number; ceiling = there.ceiling.number };
 }

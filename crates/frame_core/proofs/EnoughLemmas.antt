@@ -233,7 +233,7 @@ module _ (contents : List (List ℕ)) (dir : DirectoryView) (scene : SceneValue)
     unfolding lump_block
     alone_full (inl patch) gap = inl (record {
       lump = patch.0.lump;
-      there = patch_there dir.lumps scene t patch.0 can.whole.art.patches prepared patch.1;
+      there = patch_there dir.lumps scene t patch.0 can.drawable.patches prepared patch.1;
       needed = needed_patch dir.lumps art t patch.0 prepared patch.1;
       is = wanted_is ∙ ap (λ n. block_size n) patch.3;
       gap = gap;
@@ -256,7 +256,7 @@ module _ (contents : List (List ℕ)) (dir : DirectoryView) (scene : SceneValue)
           prepared = prepared;
           patch = patch;
           among = among;
-          there = patch_there dir.lumps scene t patch can.whole.art.patches prepared among;
+          there = patch_there dir.lumps scene t patch can.drawable.patches prepared among;
           needed = needed_patch dir.lumps art t patch prepared among;
           is = wanted_is ∙ ap (λ n. block_size n) same;
           built = subst (λ n. n ≢ 0) (sym built) (block_some (size_of t));

@@ -36,7 +36,6 @@ use Rattle.scene_rules.specs.SectorFlats.{flat_number, surface_of}
 use Rattle.scene_rules.specs.Sides.{found_sky, sky_texture}
 use Rattle.scene_rules.specs.Sizes.{has_flat}
 use Rattle.scene_rules.specs.Skies.{has_sky, sky_name}
-use Rattle.scene_rules.proofs.SkyLemmas.{sky_is_listed}
 use Rattle.picture_rules.specs.declared.Limits.{Limits}
 use Rattle.picture_rules.specs.Counts.{view_steps}
 use Rattle.picture_rules.specs.Planes.{planes_dots, view_planes}
@@ -56,7 +55,7 @@ use Rattle.frame_core.specs.Views.{CanDrawView, IsViewLump, IsViewTexture, Paint
 use Rattle.frame_core.specs.Walked.{HasWalked, IsFlatOf as IsFlatIn, IsFlatShown, IsPlaneIn, planes_after}
 use Rattle.frame_core.specs.Painters.{HasWalkedView, IsPlacedIn, limits_in}
 use Rattle.frame_core.proofs.PaintLemmas.{paints-stop, paints-value}
-use Rattle.frame_core.proofs.SceneLemmas.{are_meant, flats_at, no_flats, no_sector, patches_there, sky_of_surface, surface_from}
+use Rattle.frame_core.proofs.SceneLemmas.{flats_at, no_flats, no_sector, patches_there, sky_of_surface, surface_from}
 
 -- the sky's texture of a scene, as drawing has it
 abbrev pub IsSkyOf : SceneValue → Option TexNo → Type 0
@@ -70,9 +69,9 @@ module _ (lumps : List Lump) (scene : SceneValue) (z : Heap) (sky : Option TexNo
   -- the flat of a plane of the view is there
   flat_there : (flat : Flat4) → IsFlatShown scene flat → HasFlat (length lumps) sky flat
   flat_there flat.Sky shown =
-      some_sky sky (subst (λ (o : Option ℕ). IsSome o) (sym is) (sky_of_surface lumps can.lines can.name can.skill scene can.whole can.few shown.sector shown.there shown.is))
+      some_sky sky (subst (λ (o : Option ℕ). IsSome o) (sym is) (sky_of_surface lumps scene can.drawable can.few shown.sector shown.there shown.is))
   flat_there (flat.Lump n) shown =
-      let flats = flats_at lumps can.lines can.name can.skill scene can.whole can.few shown.sector shown.there in
+      let flats = flats_at lumps scene can.drawable can.few shown.sector shown.there in
       elim shown.is [
         | inl floor ↦ subst (λ (k : ℕ). k < length lumps) (sym floor.0) (flats.floor.there floor.1)
         | inr ceiling ↦ subst (λ (k : ℕ). k < length lumps) (sym ceiling.0) (flats.ceiling.there ceiling.1)
@@ -94,27 +93,16 @@ module _ (lumps : List Lump) (scene : SceneValue) (z : Heap) (sky : Option TexNo
       }
 
 -- the number of the sky's texture is one of the list
-sky_number : (textures : List Texture) (name : List ℕ) (o sky : Option ℕ) (n : ℕ) → texture_number textures (sky_name name) ≡ o → found_sky o ≡ Ok sky → sky ≡ Some n → n < length textures
-unfolding found_sky
-sky_number textures name None sky n e f g = absurd (cc)
-sky_number textures name (Some k) sky n e f g = let same : k ≡ n = cc in subst (λ (m : ℕ). m < length textures) same (sky_is_listed textures name k e)
-
-sky_by : (asked : Bool) (textures : List Texture) (name : List ℕ) (sky : Option ℕ) (n : ℕ) → cond asked (found_sky (texture_number textures (sky_name name))) (Ok None) ≡ Ok sky → sky ≡ Some n → n < length textures
-sky_by true textures name sky n e f = sky_number textures name (texture_number textures (sky_name name)) sky n refl e f
-sky_by false textures name sky n e f = absurd (cc)
-
-sky_listed : (lumps : List Lump) (scene : SceneValue) (z : Heap) (n : ℕ) → CanDrawView lumps scene z → scene.faces.sky ≡ Some n → n < length scene.base.lists.textures
-unfolding sky_texture
-sky_listed lumps scene z n can e =
-    sky_by (has_sky scene.base.level.sectors) scene.base.lists.textures can.name scene.faces.sky n
-    (are_meant lumps can.name scene.base.level scene.base.lists scene.faces can.whole.faces).sky e
+some_listed : (count : ℕ) (sky : Option ℕ) (n : ℕ) → IfSome sky (λ number. number < count) → sky ≡ Some n → n < count
+some_listed count None n h e = absurd (cc)
+some_listed count (Some k) n h e = let same : k ≡ n = cc in subst (λ (m : ℕ). m < count) same h
 
 -- the sky's texture may be drawn
 pub sky_can : (lumps : List Lump) (scene : SceneValue) (z : Heap) (sky : Option TexNo) → CanDrawView lumps scene z → IsSkyOf scene sky → IfSome sky (λ (tex : TexNo). CanDraw lumps (textures_view scene) z tex.0)
 sky_can lumps scene z None can is = tt
 sky_can lumps scene z (Some tex) can is =
-    let art = can.whole.art in
-    let listed : tex.0 < length scene.base.lists.textures = sky_listed lumps scene z tex.0 can (sym is) in
+    let art = can.drawable in
+    let listed : tex.0 < length scene.base.lists.textures = some_listed (length scene.base.lists.textures) scene.faces.sky tex.0 can.drawable.listed (sym is) in
     record {
       prepared = subst (λ (o : Option ℕ). IfSome o (IsPrepared (textures_view scene))) (sym is) art.sky;
       slot = omega (arith, listed, can.composites);
@@ -173,7 +161,7 @@ flat_lump lumps scene z sky shape planes lump can is all asked =
     let shown : IsFlatShown scene (flat.Lump lump) = subst (IsFlatShown scene) asked.is (All-contains (IsPlaneIn shape scene) planes asked.plane all asked.among).flat in
     record {
       there = flat_there lumps scene z sky can is (flat.Lump lump) shown;
-      drawn = or_left (list_any (has_flat lump) scene.faces.flats) (list_any (λ n. n == lump) (book_lumps scene.book)) (flat_shown scene lump can.whole.flats shown);
+      drawn = or_left (list_any (has_flat lump) scene.faces.flats) (list_any (λ n. n == lump) (book_lumps scene.book)) (flat_shown scene lump can.drawable.flats shown);
     }
 
 -- a fault of the cache is the same fault of a view
@@ -217,7 +205,7 @@ module _ {mark : Painter → ℕ → ℕ} {s : ViewScene} where
             (subst (λ (ps : List Plane). OnOk part (FitBeside s.dir.lumps (textures_view s.scene) s.scene.base.colormap count old.cache.size (planes_dots s.view (held_scene contents s) ps))) (same contents)
             (drawn.fits (held_scene contents s) contents count hold (held_art (lump_bytes contents s.dir.lumps) s.scene) (held_sky (lump_bytes contents s.dir.lumps) s.scene sky is)));
         draws = draws-above (λ (never : ⊥). absurd never) from_cache cache_above part
-            (draws-wider (λ number asked. sky_prepared s.scene sky number can.whole.art.sky is asked) (λ lump asked. flat_lump s.dir.lumps s.scene old.cache sky s.view.shape b.planes.planes lump can is all asked) drawn.draws);
+            (draws-wider (λ number asked. sky_prepared s.scene sky number can.drawable.sky is asked) (λ lump asked. flat_lump s.dir.lumps s.scene old.cache sky s.view.shape b.planes.planes lump can is all asked) drawn.draws);
         place = drawn.place;
       }
 

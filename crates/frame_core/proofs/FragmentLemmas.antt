@@ -66,7 +66,7 @@ pub facts-ready : (lumps : List Lump) (scene : SceneValue) (z : Heap) (front : S
     ((bytes : ℕ → List ℕ) → facts ≡ facts_of (scene_of bytes scene) front seg (seg_at (lists_of scene) seg)) → AreFactsReady scene facts
 facts-ready lumps scene z front seg facts can sound l are =
     let bytes : ℕ → List ℕ = λ n. [] in
-    subst (AreFactsReady scene) (sym (are bytes)) (facts_ready lumps can.lines can.name can.skill scene can.whole sound bytes front seg l)
+    subst (AreFactsReady scene) (sym (are bytes)) (facts_ready lumps scene can.drawable sound bytes front seg l)
 
 -- a texture of theirs may be drawn
 pub can_draw-facts : (lumps : List Lump) (scene : SceneValue) (z : Heap) (facts : WallFacts) (textures : TexturesView) (number : ℕ) → CanDrawView lumps scene z → AreFactsReady scene facts → textures ≡ textures_view scene →
@@ -78,7 +78,7 @@ can_draw-facts lumps scene z facts textures number can ready same is =
     subst (λ (t : TexturesView). CanDraw lumps t z number) (sym same) (record {
       prepared = r.0;
       slot = omega arith;
-      there = patches_there lumps scene.prepared number can.whole.art.patches;
+      there = patches_there lumps scene.prepared number can.drawable.patches;
     })
 
 -- a fault of drawing is told here as it was there

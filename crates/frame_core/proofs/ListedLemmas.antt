@@ -33,7 +33,7 @@ use Rattle.picture_rules.specs.Walls.{fragment_wall, walls_of}
 use Rattle.texture_build.specs.Draws.{CanDraw}
 use Rattle.texture_build.specs.Views.{IsPrepared, prepared_texture}
 use Rattle.sound_scene.specs.Sound.{middles_of, textures_view}
-use Rattle.sound_scene.specs.Whole.{AllColumnsSingle, IsNoneOrSingle, IsWholeScene}
+use Rattle.sound_scene.specs.Whole.{AllColumnsSingle, IsNoneOrSingle}
 use Rattle.masked_draw.specs.Lists.{middle_by, note_seg}
 use Rattle.masked_draw.specs.Ready.{CanDrawMiddle, IsListed, IsNotedMiddle}
 use Rattle.frame_core.specs.Scenes.{scene_of}
@@ -88,19 +88,19 @@ if_some : {X : Type 0} (P : X → Type 0) (o : Option X) → ForSome o P → IfS
 if_some P None h = tt
 if_some P (Some x) h = h x refl
 
-module _ (lumps : List Lump) (lines : List ThingLine) (name : List ℕ) (skill : ℕ) (s : SceneValue) (whole : IsWholeScene lumps lines name skill s) (sound : IsSound s.base.level)
+module _ (lumps : List Lump) (s : SceneValue) (can : IsDrawable lumps s) (sound : IsSound s.base.level)
     (z : Heap) (slots : length s.base.lists.textures ≤ z.composites) where
   -- the middle texture of a side, where it has one, is of the lists, and may be drawn
   middle_among : (side : ℕ) → side < length s.faces.sides → 0 < (get_or s.faces.sides side no_textures).middle → (get_or s.faces.sides side no_textures).middle < length s.base.lists.textures
-  middle_among side inside some = (whole.below side no_textures inside).middle some
+  middle_among side inside some = (can.below side no_textures inside).middle some
 
   middle_drawn : (side : ℕ) → side < length s.faces.sides → 0 < (get_or s.faces.sides side no_textures).middle → CanDraw lumps (textures_view s) z (get_or s.faces.sides side no_textures).middle
   middle_drawn side inside some =
       let number : ℕ = (get_or s.faces.sides side no_textures).middle in
       record {
-        prepared = prepared_some (IsPrepared (textures_view s) number) number (whole.art.textures side no_textures inside).middle some;
+        prepared = prepared_some (IsPrepared (textures_view s) number) number (can.textures side no_textures inside).middle some;
         slot = let among = middle_among side inside some in omega (arith, among, slots);
-        there = patches_there lumps s.prepared number whole.art.patches;
+        there = patches_there lumps s.prepared number can.patches;
       }
 
   -- and is of single columns, behind the side of a seg with a sector behind it
@@ -110,7 +110,7 @@ module _ (lumps : List Lump) (lines : List ThingLine) (name : List ℕ) (skill :
   unfolding three_textures
   middle_single seg l behind some =
       let number : ℕ = (get_or s.faces.sides (get_or s.base.level.segs seg no_seg).side no_textures).middle in
-      let single : IsNoneOrSingle (textures_view s) number = whole.art.middles seg no_seg l behind in
+      let single : IsNoneOrSingle (textures_view s) number = can.middles seg no_seg l behind in
       prepared_some (AllColumnsSingle (prepared_texture (textures_view s) number)) number single some
 
   -- the note of a fragment whose seg is there
@@ -122,7 +122,7 @@ module _ (lumps : List Lump) (lines : List ThingLine) (name : List ℕ) (skill :
       let there = sound.segs f.seg no_seg l in
       let side : ℕ = (get_or s.base.level.segs f.seg no_seg).side in
       let behind = mapped_some (surface_at (scene_of bytes s).level) (get_or s.base.level.segs f.seg no_seg).back got.0 in
-      let inside : side < length s.faces.sides = omega (arith, there.side, whole.sides) in
+      let inside : side < length s.faces.sides = omega (arith, there.side, can.sides) in
       let number : ℕ = (get_or s.faces.sides side no_textures).middle in
       let same : number ≡ get_or (middles_of s.faces.sides) side 0 = sym (get_or-map (λ (t : SideTextures). t.middle) s.faces.sides side no_textures) in
       record {
@@ -142,7 +142,7 @@ module _ (lumps : List Lump) (lines : List ThingLine) (name : List ℕ) (skill :
         seg = l;
         front = there.front;
         side = there.side;
-        middle = omega (arith, there.side, whole.sides, length-map s.faces.sides (λ (t : SideTextures). t.middle));
+        middle = omega (arith, there.side, can.sides, length-map s.faces.sides (λ (t : SideTextures). t.middle));
         masked = middle_ready bytes v f place l;
       }
 

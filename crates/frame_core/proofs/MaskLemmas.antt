@@ -136,7 +136,7 @@ module _ {v : ViewValue} {s : SceneValue} {b : Bench} {z : Heap} (dir : Director
   scene_notes : All (IsListed dir.lumps (textures_view s) z (mask_lists s)) b.walls.notes
   scene_notes =
       let w = walked no_bytes in
-      notes_listed dir.lumps can.lines can.name can.skill s can.whole sound z can.composites no_bytes v (view_events v (lists_of s)) b.walls.notes w.there w.built.notes
+      notes_listed dir.lumps s can.drawable sound z can.composites no_bytes v (view_events v (lists_of s)) b.walls.notes w.there w.built.notes
 
   -- the notes are listed in the parts
   pub parts-listed : {parts : MaskParts} → parts ≡ parts_of s b → All (IsListed dir.lumps parts.textures z parts.lists) parts.notes
@@ -144,7 +144,7 @@ module _ {v : ViewValue} {s : SceneValue} {b : Bench} {z : Heap} (dir : Director
 
   -- the pictures of the vissprites are of the directory
   pub sprites-below : AllPass (has_lump_below (length dir.lumps)) b.sprites
-  sprites-below = (walked no_bytes).lumps (length dir.lumps) can.whole.art.pictures
+  sprites-below = (walked no_bytes).lumps (length dir.lumps) can.drawable.pictures
 
   sprite_lump : (lump : ℕ) → IsSpriteLump b.sprites lump → IsViewLump dir.lumps s lump
   sprite_lump lump k =
@@ -163,7 +163,7 @@ module _ {v : ViewValue} {s : SceneValue} {b : Bench} {z : Heap} (dir : Director
   unfolding scene_of
   same_dots bytes =
       let w = walked bytes in
-      masked_dots-noted bytes v s can.whole.flats (scene_of bytes s).art (view_events v (lists_of s)) b.walls.notes b.walls.openings (draw_order b.sprites) w.built.notes w.built.openings
+      masked_dots-noted bytes v s can.drawable.flats (scene_of bytes s).art (view_events v (lists_of s)) b.walls.notes b.walls.openings (draw_order b.sprites) w.built.notes w.built.openings
       ∙ ap (λ (es : List SpriteEntry). masked_dots v (scene_of bytes s).art (view_drawsegs v (scene_of bytes s) (walls_of v (scene_of bytes s) (view_events v (lists_of s)))) (draw_order es)) w.sprites
 
 -- a call of the masked pass paints that of the view, its faults told as those of a view

@@ -88,10 +88,7 @@ module _ {mark : Painter → ℕ → ℕ} {s : ViewScene} where
 -- what a call asks of the scene and the cache it may ask again
 pub can_draw_view-later : (lumps : List Lump) (scene : SceneValue) (old new : Heap) → KeepsCounts old new → CanDrawView lumps scene old → CanDrawView lumps scene new
 can_draw_view-later lumps scene old new counts can = record {
-  lines = can.lines;
-  name = can.name;
-  skill = can.skill;
-  whole = can.whole;
+  drawable = can.drawable;
   few = can.few;
   colormap = can.colormap;
   slots = rw counts.1 can.slots;

@@ -23,16 +23,19 @@ use Rattle.scene_rules.specs.Numbered.{each_from, each_or}
 use Rattle.scene_rules.specs.Scenes.{Faces, SceneValue, faces_in}
 use Rattle.scene_rules.specs.SectorFlats.{both_flats, flat_named, flat_number, flats_of, lump_flat, sector_flats, surface_of, surfaces_of}
 use Rattle.scene_rules.specs.Sides.{found_sky, side_textures, sky_texture}
+use Rattle.scene_rules.proofs.SkyLemmas.{sky_is_listed}
 use Rattle.scene_rules.specs.Skies.{has_sky, is_sky_name, shows_sky, sky_name}
 use Rattle.art_rules.specs.declared.PlacedPatch.{PlacedPatch}
+use Rattle.art_rules.specs.Books.{book_lumps}
 use Rattle.art_rules.specs.Wanted.{PreparedTexture}
 use Rattle.texture_build.specs.Views.{ArePatchesThere, IsPrepared, prepared_at, unprepared}
-use Rattle.level_scene.specs.Bounds.{IsNoneOrBelow, IsThere}
+use Rattle.level_scene.specs.Bounds.{AreThere, IsNoneOrBelow, IsThere}
 use Rattle.sound_scene.specs.Sound.{middles_of, textures_view}
 use Rattle.sound_scene.specs.Whole.{IsNoneOrPrepared, IsWholeScene}
 use Rattle.picture_rules.specs.declared.wall.WallFacts.{WallFacts}
 use Rattle.picture_rules.specs.Scene.{facts_of, no_textures, textures_at, wall_texture}
 use Rattle.frame_core.specs.Scenes.{lists_of, scene_of}
+use Rattle.frame_core.specs.Views.{IsDrawable, ShowsSky}
 
 -- there are as many surfaces as sectors
 pub surface_counts : (sectors : List Sector) (flats : List SectorFlats) → length flats ≡ length sectors → length (surfaces_of sectors flats) ≡ length sectors
@@ -188,13 +191,73 @@ none_or_ready scene zero prepared below = inl refl
 none_or_ready scene (suc number) (inl none) below = absurd (omega (arith, none))
 none_or_ready scene (suc number) (inr prepared) below = inr (prepared, below (omega arith))
 
+-- the number of the sky's texture is one of the list
+sky_number : (textures : List Texture) (name : List ℕ) (o sky : Option ℕ) (n : ℕ) → texture_number textures (sky_name name) ≡ o → found_sky o ≡ Ok sky → sky ≡ Some n → n < length textures
+unfolding found_sky
+sky_number textures name None sky n e f g = absurd (cc)
+sky_number textures name (Some k) sky n e f g = let same : k ≡ n = cc in subst (λ (m : ℕ). m < length textures) same (sky_is_listed textures name k e)
+
+sky_by : (asked : Bool) (textures : List Texture) (name : List ℕ) (sky : Option ℕ) (n : ℕ) → cond asked (found_sky (texture_number textures (sky_name name))) (Ok None) ≡ Ok sky → sky ≡ Some n → n < length textures
+sky_by true textures name sky n e f = sky_number textures name (texture_number textures (sky_name name)) sky n refl e f
+sky_by false textures name sky n e f = absurd (cc)
+
+for_some : {P : ℕ → Type 0} (o : Option ℕ) → ((n : ℕ) → o ≡ Some n → P n) → IfSome o P
+for_some None h = tt
+for_some (Some n) h = h n refl
+
+-- a scene that passed its audit can be drawn
 module _ (lumps : List Lump) (lines : List ThingLine) (name : List ℕ) (skill : ℕ) (scene : SceneValue) (whole : IsWholeScene lumps lines name skill scene) where
+  sky_is_shown : (sector : ℕ) (both : SectorFlats) → sector < length scene.faces.flats → ShowsSky (get_or scene.faces.flats sector both) → IsSome scene.faces.sky
+  unfolding sky_texture
+  sky_is_shown sector both l shown =
+      let meant = are_meant lumps name scene.base.level scene.base.lists scene.faces whole.faces in
+      sky_got (has_sky scene.base.level.sectors) (texture_number scene.base.lists.textures (sky_name name)) scene.faces.sky meant.sky
+      (sector_shows lumps scene.base.level.sectors scene.faces.flats sector no_sector both meant.flats (omega (arith, l, whole.flats)) shown)
+
+  sky_is_below : (n : ℕ) → scene.faces.sky ≡ Some n → n < length scene.base.lists.textures
+  unfolding sky_texture
+  sky_is_below n e =
+      sky_by (has_sky scene.base.level.sectors) scene.base.lists.textures name scene.faces.sky n
+      (are_meant lumps name scene.base.level scene.base.lists scene.faces whole.faces).sky e
+
+  pub drawable-whole : IsDrawable lumps scene
+  drawable-whole = record {
+    sides = whole.sides;
+    flats = whole.flats;
+    flats_there = whole.flats_there;
+    below = whole.below;
+    listed = for_some scene.faces.sky sky_is_below;
+    shown = λ sector both l shown. sky_is_shown sector both l shown;
+    textures = whole.art.textures;
+    sky = whole.art.sky;
+    patches = whole.art.patches;
+    middles = whole.art.middles;
+    pictures = whole.art.pictures;
+  }
+
+-- and over each directory that has as many lumps
+pub drawable-as_many : (lumps lumps' : List Lump) (scene : SceneValue) → length lumps' ≡ length lumps → IsDrawable lumps scene → IsDrawable lumps' scene
+drawable-as_many lumps lumps' scene same can = record {
+  sides = can.sides;
+  flats = can.flats;
+  flats_there = subst (λ (n : ℕ). All (AreThere n) scene.faces.flats) (sym same) can.flats_there;
+  below = can.below;
+  listed = can.listed;
+  shown = can.shown;
+  textures = can.textures;
+  sky = can.sky;
+  patches = subst (λ (n : ℕ). All (λ (t : Option PreparedTexture). IfSome t (λ u. All (λ (patch : PlacedPatch). patch.lump < n) u.patches)) (textures_view scene).prepared) (sym same) can.patches;
+  middles = can.middles;
+  pictures = subst (λ (n : ℕ). All (λ lump. lump < n) (book_lumps scene.book)) (sym same) can.pictures;
+}
+
+module _ (lumps : List Lump) (scene : SceneValue) (can : IsDrawable lumps scene) where
   -- there are as many surfaces as sectors, and as many middles as sides
   pub surfaces_as_many : length (surfaces_of scene.base.level.sectors scene.faces.flats) ≡ length scene.base.level.sectors
-  surfaces_as_many = surface_counts scene.base.level.sectors scene.faces.flats whole.flats
+  surfaces_as_many = surface_counts scene.base.level.sectors scene.faces.flats can.flats
 
   pub middles_as_many : length (middles_of scene.faces.sides) ≡ length scene.base.level.sides
-  middles_as_many = length-map scene.faces.sides _ ∙ whole.sides
+  middles_as_many = length-map scene.faces.sides _ ∙ can.sides
 
   -- the flats of a surface are there, where all lumps have numbers below that of the sky
   pub surface_flats : length lumps ≤ SKY_FLAT → All (AreFlatsOf (length lumps)) (surfaces_of scene.base.level.sectors scene.faces.flats)
@@ -202,8 +265,8 @@ module _ (lumps : List Lump) (lines : List ThingLine) (name : List ℕ) (skill :
   surface_flats few i d l =
       let inside : i < length scene.base.level.sectors = omega (arith, l, surfaces_as_many) in
       let flats = get_or scene.faces.flats i no_flats in
-      let there = whole.flats_there i no_flats (omega (arith, inside, whole.flats)) in
-      subst (AreFlatsOf (length lumps)) (sym (surface_from scene.base.level.sectors scene.faces.flats i no_sector no_flats d whole.flats inside))
+      let there = can.flats_there i no_flats (omega (arith, inside, can.flats)) in
+      subst (AreFlatsOf (length lumps)) (sym (surface_from scene.base.level.sectors scene.faces.flats i no_sector no_flats d can.flats inside))
       (record { floor = flat_of_number (length lumps) flats.floor few there.floor; ceiling = flat_of_number (length lumps) flats.ceiling few there.ceiling })
 
   pub flats_at : length lumps ≤ SKY_FLAT → (sector : ℕ) → sector < length scene.base.level.sectors → AreFlatsOf (length lumps) (surface_at (lists_of scene) sector)
@@ -215,18 +278,14 @@ module _ (lumps : List Lump) (lines : List ThingLine) (name : List ℕ) (skill :
       ((get_or scene.faces.flats sector no_flats).floor ≡ Sky) ⊎ ((get_or scene.faces.flats sector no_flats).ceiling ≡ Sky)
   unfolding surface_at
   sky_of_flats few sector l e =
-      let there = whole.flats_there sector no_flats (omega (arith, l, whole.flats)) in
+      let there = can.flats_there sector no_flats (omega (arith, l, can.flats)) in
       flats_with_sky (length lumps) (get_or scene.base.level.sectors sector no_sector) (get_or scene.faces.flats sector no_flats) few there.floor there.ceiling
-      (subst (λ (s : Surface). (is_sky s.floor_flat || is_sky s.ceiling_flat) ≡ true) (surface_from scene.base.level.sectors scene.faces.flats sector no_sector no_flats no_surface whole.flats l) e)
+      (subst (λ (s : Surface). (is_sky s.floor_flat || is_sky s.ceiling_flat) ≡ true) (surface_from scene.base.level.sectors scene.faces.flats sector no_sector no_flats no_surface can.flats l) e)
 
   -- where a surface has sky, the sky has a texture
   pub sky_of_surface : length lumps ≤ SKY_FLAT → (sector : ℕ) → sector < length scene.base.level.sectors →
       (is_sky (surface_at (lists_of scene) sector).floor_flat || is_sky (surface_at (lists_of scene) sector).ceiling_flat) ≡ true → IsSome scene.faces.sky
-  unfolding sky_texture
-  sky_of_surface few sector l e =
-      let meant = are_meant lumps name scene.base.level scene.base.lists scene.faces whole.faces in
-      sky_got (has_sky scene.base.level.sectors) (texture_number scene.base.lists.textures (sky_name name)) scene.faces.sky meant.sky
-      (sector_shows lumps scene.base.level.sectors scene.faces.flats sector no_sector no_flats meant.flats l (sky_of_flats few sector l e))
+  sky_of_surface few sector l e = can.shown sector no_flats (omega (arith, l, can.flats)) (sky_of_flats few sector l e)
 
   -- the textures of the facts of a seg are none or ready to draw
   pub facts_ready : IsSound scene.base.level → (bytes : ℕ → List ℕ) (front : Surface) (seg : ℕ) → seg < length scene.base.level.segs →
@@ -234,9 +293,9 @@ module _ (lumps : List Lump) (lines : List ThingLine) (name : List ℕ) (skill :
   unfolding facts_of scene_of seg_at textures_at wall_texture
   facts_ready sound bytes front seg l =
       let side = (seg_at (lists_of scene) seg).side in
-      let inside : side < length scene.faces.sides = omega (arith, (sound.segs seg no_seg l).side, whole.sides) in
-      let prepared = whole.art.textures side no_textures inside in
-      let below = whole.below side no_textures inside in
+      let inside : side < length scene.faces.sides = omega (arith, (sound.segs seg no_seg l).side, can.sides) in
+      let prepared = can.textures side no_textures inside in
+      let below = can.below side no_textures inside in
       record {
         top = none_or_ready scene _ prepared.top below.top;
         bottom = none_or_ready scene _ prepared.bottom below.bottom;

@@ -1,5 +1,5 @@
 -- What is drawn in a view, what it is drawn with, and what a part of it paints.
-use Rattle.std.specs.Prelude.{◌≡◌, ◌≤◌, ◌<◌, ◌||◌, ◌==◌, ℕ, true, List, All, OnOk, Result, length}
+use Rattle.std.specs.Prelude.{◌≡◌, ◌≤◌, ◌<◌, ◌||◌, ◌==◌, ◌⊎◌, ℕ, true, List, All, IfSome, IsSome, OnOk, Result, length}
 use Rattle.std.specs.List.{list_any}
 use Rattle.outside.specs.Shelf.{ShelfView}
 use Rattle.lump_rules.specs.declared.wad.Lump.{Lump}
@@ -7,22 +7,24 @@ use Rattle.lump_rules.specs.Contents.{lump_bytes}
 use Rattle.zone_rules.specs.Zones.{Heap}
 use Rattle.view_rules.specs.View.{ViewValue}
 use Rattle.level_rules.specs.declared.Surface.{Surface}
-use Rattle.level_rules.specs.declared.ThingLine.{ThingLine}
 use Rattle.level_rules.specs.declared.TheConstants.{SKY_FLAT}
 use Rattle.wad_dir.specs.DirectoryView.{DirectoryView}
 use Rattle.art_rules.specs.Books.{book_lumps}
 use Rattle.pixel_rules.specs.declared.Painter.{Painter}
 use Rattle.pixel_rules.specs.Dots.{Dot}
+use Rattle.scene_rules.specs.declared.Flat.TheVariants.{Sky}
+use Rattle.scene_rules.specs.declared.SectorFlats.{SectorFlats}
 use Rattle.scene_rules.specs.Scenes.{SceneValue}
 use Rattle.scene_rules.specs.SectorFlats.{surfaces_of}
 use Rattle.scene_rules.specs.Sizes.{has_flat}
 use Rattle.picture_rules.specs.Scene.{Scene}
 use Rattle.pixel_strips.specs.Canvases.{CanvasView, placed_at}
 use Rattle.pixel_strips.specs.Dotted.{HasDots, PlacedAlike}
-use Rattle.texture_build.specs.Views.{IsPrepared}
+use Rattle.texture_build.specs.Views.{AllThere, IsPrepared}
 use Rattle.texture_build.specs.Draws.{HoldsArt, FitBeside, DrawsWith}
 use Rattle.sound_scene.specs.Sound.{textures_view}
-use Rattle.sound_scene.specs.Whole.{IsWholeScene}
+use Rattle.level_scene.specs.Bounds.{AreBelow, AreThere}
+use Rattle.sound_scene.specs.Whole.{AreSidePrepared, IsMiddleSingle}
 use Rattle.frame_core.specs.declared.fault.ViewFault.{ViewFault}
 use Rattle.frame_core.specs.declared.tools.ViewTools.{ViewTools}
 use Rattle.frame_core.specs.Faults.{view_fault}
@@ -33,19 +35,37 @@ pub record AreFlatNumbers (surface : Surface) : Type 0 where
   pub floor : surface.floor_flat ≤ SKY_FLAT
   pub ceiling : surface.ceiling_flat ≤ SKY_FLAT
 
+-- the floor or the ceiling of a sector is sky
+abbrev pub ShowsSky : SectorFlats → Type 0
+ShowsSky both = (both.floor ≡ Sky) ⊎ (both.ceiling ≡ Sky)
+
 -- what of a scene a view is counted by is there: so it is of one that passed its audit
 pub record CanCount (scene : SceneValue) : Type 0 where
   pub sides : length scene.faces.sides ≡ length scene.base.level.sides
   pub flats : length scene.faces.flats ≡ length scene.base.level.sectors
   pub numbers : All AreFlatNumbers (surfaces_of scene.base.level.sectors scene.faces.flats)
 
--- a scene that passed its audit over a directory, and a cache that has a slot for each of its lumps
--- and its textures
+-- Each number that a scene has is that of something there: its lumps are below the count of a directory, its textures
+-- are among those that were read, and those that it shows are prepared; where a sector shows the sky, the sky has a
+-- texture; the middles of segs with a sector behind them are of single columns. So it is over the directory of its
+-- audit, and over each that has as many lumps.
+pub record IsDrawable (lumps : List Lump) (scene : SceneValue) : Type 0 where
+  pub sides : length scene.faces.sides ≡ length scene.base.level.sides
+  pub flats : length scene.faces.flats ≡ length scene.base.level.sectors
+  pub flats_there : All (AreThere (length lumps)) scene.faces.flats
+  pub below : All (AreBelow (length scene.base.lists.textures)) scene.faces.sides
+  pub listed : IfSome scene.faces.sky (λ number. number < length scene.base.lists.textures)
+  pub shown : All (λ both. ShowsSky both → IsSome scene.faces.sky) scene.faces.flats
+  pub textures : All (AreSidePrepared (textures_view scene)) scene.faces.sides
+  pub sky : IfSome scene.faces.sky (IsPrepared (textures_view scene))
+  pub patches : AllThere lumps (textures_view scene)
+  pub middles : All (IsMiddleSingle (textures_view scene) scene.faces.sides) scene.base.level.segs
+  pub pictures : All (λ lump. lump < length lumps) (book_lumps scene.book)
+
+-- a scene that can be drawn with the lumps of a directory, and a cache that has a slot for each of
+-- them and for each texture
 pub record CanDrawView (lumps : List Lump) (scene : SceneValue) (z : Heap) : Type 0 where
-  pub lines : List ThingLine
-  pub name : List ℕ
-  pub skill : ℕ
-  pub whole : IsWholeScene lumps lines name skill scene
+  pub drawable : IsDrawable lumps scene
   pub few : length lumps ≤ SKY_FLAT
   pub colormap : scene.base.colormap < length lumps
   pub slots : length lumps ≤ z.lumps

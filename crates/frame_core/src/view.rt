@@ -37,9 +37,9 @@ use wad_dir::Directory;
 /// Draws the view of `eye` on the workshop's frame, which is cleared before: after Ok its bytes are
 /// the picture of the view (`picture`). Takes no memory.
 ///
-/// The scene passed its audit over this directory, and the cache has a slot for each of its lumps
-/// and each of the scene's textures. The cache is at rest, and where the shelf tells its files it
-/// holds their bytes.
+/// The lumps that the scene names are among this directory's (`IsDrawable`), as they are in the one
+/// of its audit, and the cache has a slot for each lump and for each of the scene's textures. What
+/// is told of bytes is told of a cache at rest that holds those of its files.
 ///
 /// Errors: `Limit` only where a count of the view passes its limit, with the first count that does;
 /// where one does, never Ok. `ZoneFull` only if no gap of the zone held the block of a lump or a

@@ -33,7 +33,7 @@ pub use colours::{find_colormap, find_playpal};
 pub use fault::LoadFault;
 pub use flat::{deliver_flat, prepare_flat};
 pub use make::{deliver_make, prepare_make};
-pub use notes::{put_limit_count, put_note, put_pair};
+pub use notes::{limit_label, put_note};
 pub use picture::Picture;
 pub use read::{SceneFiles, read_files};
 pub use status::Status;

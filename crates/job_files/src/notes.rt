@@ -1,13 +1,12 @@
-// The line that is noted for a status. No call takes memory.
-ghost use Rattle.std.specs.Prelude.{codes};
+// The line that is noted for a status, which goes out in one put. No call takes memory.
+ghost use Rattle.std.specs.Prelude.{◌≡◌, ◌≤◌, codes, length};
 ghost use Rattle.outside.specs.Sink.{Writes};
-ghost use Rattle.refusals.specs.Lines.{labelled};
 ghost use Rattle.job_files.specs.Lines.{line_of, limit_label, refusal_line, pair_line};
 
 use crate::status::Status;
 use outside::{Failed, Sink};
 use picture_rules::LimitKind;
-use refusals::{Refusal, put_labelled, put_numbers_of};
+use refusals::{Line, Refusal, add_refusal};
 
 /// Appends the line of a status, and nothing for `Done`. Takes no memory.
 ///
@@ -37,22 +36,11 @@ fn put_limit<N: Sink>(notes: &mut N, view: u32, kind: LimitKind, count: u32) -> 
         (N.faults notes.old) (N.faults notes.new)
         (pair_line (codes "doomview: limit view ") view (limit_label kind) count) result }
 {
-    match kind {
-        LimitKind::Planes => put_pair(
-            notes,
-            b"doomview: limit view ",
-            view as u64,
-            b" planes ",
-            count as u64,
-        ),
-        LimitKind::Openings => put_pair(
-            notes,
-            b"doomview: limit view ",
-            view as u64,
-            b" openings ",
-            count as u64,
-        ),
-    }
+    let mut line = Line::new();
+    line.add_number(b"doomview: limit view ", view as u64);
+    line.add_number(limit_label(kind), count as u64);
+    line.add(b"\n");
+    line.put(notes)
 }
 
 fn put_zone_full<N: Sink>(notes: &mut N, wanted: u64, widest: u64) -> Result<(), Failed>
@@ -60,55 +48,33 @@ fn put_zone_full<N: Sink>(notes: &mut N, wanted: u64, widest: u64) -> Result<(),
         (N.faults notes.old) (N.faults notes.new)
         (pair_line (codes "doomview: zone full wanted ") wanted (codes " widest ") widest) result }
 {
-    put_pair(
-        notes,
-        b"doomview: zone full wanted ",
-        wanted,
-        b" widest ",
-        widest,
-    )
-}
-
-/// Appends a line with two numbers, `a` after `first` and `b` after `second`. Takes no memory.
-///
-/// Errors: `Failed` only where the count of faults of `notes` rose; then a prefix was appended.
-///
-/// This project's own: the lines.
-pub fn put_pair<N: Sink>(
-    notes: &mut N,
-    first: &[u8],
-    a: u64,
-    second: &[u8],
-    b: u64,
-) -> Result<(), Failed>
-    ensures { Writes (N.written notes.old) (N.written notes.new)
-        (N.faults notes.old) (N.faults notes.new) (pair_line first.now a second.now b) result }
-{
-    put_labelled(notes, first, a)?;
-    put_labelled(notes, second, b)?;
-    notes.put(b"\n")
+    let mut line = Line::new();
+    line.add_number(b"doomview: zone full wanted ", wanted);
+    line.add_number(b" widest ", widest);
+    line.add(b"\n");
+    line.put(notes)
 }
 
 fn put_refusal<N: Sink>(notes: &mut N, refusal: Refusal) -> Result<(), Failed>
     ensures { Writes (N.written notes.old) (N.written notes.new)
         (N.faults notes.old) (N.faults notes.new) (refusal_line refusal) result }
 {
-    notes.put(b"doomview: refused")?;
-    put_numbers_of(notes, refusal)?;
-    notes.put(b"\n")
+    let mut line = Line::new();
+    line.add(b"doomview: refused");
+    add_refusal(&mut line, refusal);
+    line.add(b"\n");
+    line.put(notes)
 }
 
-/// Appends what a limit counts, and the count. Takes no memory.
-///
-/// Errors: `Failed` only where the count of faults of `out` rose; then a prefix was appended.
+/// What a limit counts, as a line names it.
 ///
 /// This project's own: the lines.
-pub fn put_limit_count<K: Sink>(out: &mut K, kind: LimitKind, count: u32) -> Result<(), Failed>
-    ensures { Writes (K.written out.old) (K.written out.new) (K.faults out.old)
-        (K.faults out.new) (labelled (limit_label kind) count) result }
+pub fn limit_label(kind: LimitKind) -> &'static [u8]
+    ensures label { result.now ≡ limit_label kind }
+    ensures length { length result.now ≤ 10 }
 {
     match kind {
-        LimitKind::Planes => put_labelled(out, b" planes ", count as u64),
-        LimitKind::Openings => put_labelled(out, b" openings ", count as u64),
+        LimitKind::Planes => b" planes ",
+        LimitKind::Openings => b" openings ",
     }
 }

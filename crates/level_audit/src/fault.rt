@@ -18,10 +18,7 @@ pub type AuditFault = Fault<AuditRefusal>;
 pub(crate) fn above_scene(fault: SceneFault) -> AuditFault
     ensures { result ≡ above_scene fault }
 {
-    match fault {
-        SceneFault::Refused(refusal) => Fault::Refused(AuditRefusal::Scene(refusal)),
-        SceneFault::OutOfMemory => Fault::OutOfMemory,
-    }
+    fault.above(AuditRefusal::Scene)
 }
 
 /// A fault of a level as that of an audit.

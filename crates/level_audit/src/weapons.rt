@@ -7,13 +7,13 @@ ghost use Rattle.lump_cache.specs.Calls.{ReadsLumps};
 ghost use Rattle.sprite_book.specs.Calls.{IsWanted};
 ghost use Rattle.scene_rules.specs.declared.refusal.AuditRefusal.TheVariants.{WeaponArt};
 ghost use Rattle.sound_scene.specs.Sound.{with_book};
-ghost use Rattle.level_audit.specs.Weapons.{AreThere, need_of_row, weapon_book, weapon_fault, weapon_needs, weapon_refusal};
+ghost use Rattle.level_audit.specs.Weapons.{AreThere, need_of_row, weapon_art, weapon_book, weapon_fault, weapon_needs, weapon_refusal};
 
 use crate::{AuditFault, AuditRefusal, SoundScene, WeaponRefusal};
 use art_rules::SpriteRefusal;
 use csv_tables::{WeaponRow, WeaponTable};
 use lump_cache::LumpCache;
-use outside::{Fault, OutOfMemory, Shelf};
+use outside::{OutOfMemory, Shelf};
 use sound_scene::find_needed;
 use sprite_book::{Need, SpriteBook, SpriteFault};
 use std::alloc::Global;
@@ -104,14 +104,14 @@ fn need_of_row(row: &WeaponRow, number: u16) -> Need
 fn weapon_fault(fault: SpriteFault) -> AuditFault
     ensures { result ≡ weapon_fault fault }
 {
-    match fault {
-        Fault::Refused(refusal) => {
-            Fault::Refused(AuditRefusal::WeaponArt(weapon_refusal(refusal)))
-        }
-        Fault::ReadFault => Fault::ReadFault,
-        Fault::ZoneFull { wanted, widest } => Fault::ZoneFull { wanted, widest },
-        Fault::OutOfMemory => Fault::OutOfMemory,
-    }
+    fault.above(weapon_art)
+}
+
+// A refusal of the book, as one of an audit.
+fn weapon_art(refusal: SpriteRefusal) -> AuditRefusal
+    ensures { result ≡ weapon_art refusal }
+{
+    AuditRefusal::WeaponArt(weapon_refusal(refusal))
 }
 
 // A refusal of the book, by the number of the row.

@@ -1,9 +1,10 @@
 // Lumps made live, and their bytes.
 //
 // Rules: `specs/Calls` and `specs/Named`. The original: w_wad.c.
-ghost use Rattle.std.specs.Prelude.{◌≡◌, ◌<◌, ◌≤◌, ◌+◌, ℕ, List, length, false, Ok, Some, IfOk, IfSome, OnOk, option_map};
+ghost use Rattle.std.specs.Prelude.{◌≡◌, ◌≢◌, ◌<◌, ◌≤◌, ◌+◌, ℕ, List, length, false, Ok, Some, IfErr, IfOk, IfSome, OnOk, option_map};
 ghost use Rattle.std.specs.Option.{option_copied};
 ghost use Rattle.outside.specs.Faults.{itself};
+ghost use Rattle.outside.specs.declared.fault.Fault.TheVariants.{OutOfMemory};
 ghost use Rattle.lump_rules.specs.Contents.{lump_bytes, named_bytes};
 ghost use Rattle.lump_rules.specs.Lookups.{last_of};
 ghost use Rattle.zone_rules.specs.Zones.{IsLive, bytes_of, block_size, owned_block, same_owner};
@@ -22,7 +23,7 @@ use zone_heap::Tag;
 /// live lump has the size that the directory gives, this is so after any answer too.
 ///
 /// Errors: `ZoneFull` where no gap of the zone held the lump's block, `ReadFault` where a call of
-/// the shelf failed; it refuses nothing of its own.
+/// the shelf failed; it refuses nothing of its own, and memory does not run out.
 ///
 /// The original: `W_CacheLumpNum`, w_wad.c.
 pub fn fetch_live<S: Shelf, R>(
@@ -38,6 +39,7 @@ pub fn fetch_live<S: Shelf, R>(
         (λ number. number ≡ lump.0) (λ done. done) (λ bytes. Ok tt) result }
     ensures live { OnOk result (IsLive cache.new (lump_owner lump.0)) }
     ensures bytes { GivesBytes (S.view shelf.old) dir.now cache.old cache.new lump.0 result }
+    ensures memory { IfErr result (λ fault. fault ≢ OutOfMemory) }
 {
     match make_live(cache, dir, shelf, lump) {
         Ok(()) => Ok(()),

@@ -8,6 +8,7 @@ use Rattle.lump_rules.specs.Contents.{lump_bytes}
 use Rattle.zone_rules.specs.Zones.{Owner, Holding, Block, Heap, IsLive, bytes_of, block_size, holding_of, owned_block, same_owner}
 use Rattle.wad_dir.specs.DirectoryView.{DirectoryView}
 use Rattle.lump_cache.specs.Caches.{IsStatic, composite_owner, lump_owner}
+use Rattle.lump_cache.specs.Calls.{HoldContents}
 use Rattle.lump_cache.proofs.FetchLemmas.{live_faithful}
 use Rattle.lump_cache.proofs.SizeLemmas.{sizes_told}
 use Rattle.art_rules.specs.declared.ColumnLookup.{ColumnLookup}
@@ -33,6 +34,35 @@ static_live o z block count is pinned = rw is (go block.holding pinned) where
   go None k = absurd k
   go (Some h) k = refl
 
+apart : (colormap lump : ℕ) → lump ≢ colormap →
+    same_owner (lump_owner colormap) (lump_owner lump) ≡ false
+apart colormap lump other = ne_eqb colormap lump (λ e. other (sym e))
+
+-- a cache that holds the files' bytes lends as many as the directory says
+lump_size : (view : ShelfView) (dir : DirectoryView) (contents : List (List ℕ)) (z : Heap) →
+    HoldContents view dir z contents → (lump : ℕ) (bytes : List ℕ) → lump < length dir.lumps →
+    bytes_of (lump_owner lump) z.blocks ≡ Some bytes →
+    length bytes ≡ (lump_at dir.lumps lump).size
+lump_size view dir contents z files lump bytes there is =
+    subst (λ (x : Option (List ℕ)). IfSome x (λ xs. length xs ≡ (lump_at dir.lumps lump).size)) is
+    ((sizes_told view dir z contents files).at lump there)
+
+-- a lump that is lent, as a painter's source, whatever the textures
+pub lent_lump-fits : {view : ShelfView} {dir : DirectoryView} {textures : TexturesView}
+    {contents : List (List ℕ)} {colormap count : ℕ} {z : Heap} → HoldContents view dir z contents →
+    (kind number lump : ℕ) (bytes : List ℕ) → lump < length dir.lumps →
+    bytes_of (lump_owner lump) z.blocks ≡ Some bytes →
+    (same_owner (lump_owner colormap) (lump_owner lump) ≡ false →
+    block_size count + block_size (length bytes) ≤ z.size) →
+    FitsBeside dir.lumps textures colormap count z.size
+    (painter_of kind number (record { kind = LUMP; number = lump }))
+unfolding painter_of
+lent_lump-fits {view} {dir} {contents = contents} {colormap} {count} {z} files kind number lump bytes there is fits = record {
+  lump = λ source other. subst (λ (n : ℕ). block_size count + block_size n ≤ z.size)
+      (lump_size view dir contents z files lump bytes there is) (fits (apart colormap lump other));
+  composite = λ source. cc;
+}
+
 module _ {view : ShelfView} {dir : DirectoryView} {textures : TexturesView}
     {contents : List (List ℕ)} {colormap count : ℕ} {z : Heap}
     (hold : HoldsArt view dir textures contents colormap count z) where
@@ -41,16 +71,6 @@ module _ {view : ShelfView} {dir : DirectoryView} {textures : TexturesView}
       bytes_of (lump_owner colormap) z.blocks ≡ Some (lump_bytes contents dir.lumps colormap)
   colormap_lent there = live_faithful contents dir z colormap there hold.files.faithful
       (static_live (lump_owner colormap) z hold.rest.block count hold.rest.is hold.rest.pinned)
-
-  apart : (lump : ℕ) → lump ≢ colormap → same_owner (lump_owner colormap) (lump_owner lump) ≡ false
-  apart lump other = ne_eqb colormap lump (λ e. other (sym e))
-
-  lump_size : (lump : ℕ) (bytes : List ℕ) → lump < length dir.lumps →
-      bytes_of (lump_owner lump) z.blocks ≡ Some bytes →
-      length bytes ≡ (lump_at dir.lumps lump).size
-  lump_size lump bytes there is =
-      subst (λ (x : Option (List ℕ)). IfSome x (λ xs. length xs ≡ (lump_at dir.lumps lump).size)) is
-      ((sizes_told view dir z contents hold.files).at lump there)
 
   composite_size : (number : ℕ) (bytes : List ℕ) → IsPrepared textures number →
       bytes_of (composite_owner number) z.blocks ≡ Some bytes →
@@ -77,12 +97,7 @@ module _ {view : ShelfView} {dir : DirectoryView} {textures : TexturesView}
       block_size count + block_size (length bytes) ≤ z.size) →
       FitsBeside dir.lumps textures colormap count z.size
       (painter_of kind number (record { kind = LUMP; number = lump }))
-  unfolding painter_of
-  fits-lump kind number lump bytes there is fits = record {
-    lump = λ source other. subst (λ (n : ℕ). block_size count + block_size n ≤ z.size)
-        (lump_size lump bytes there is) (fits (apart lump other));
-    composite = λ source. cc;
-  }
+  fits-lump = lent_lump-fits hold.files
 
   -- so is a texture column
   pub fits-column : (kind k number : ℕ) (lookup : ColumnLookup) (column : ColumnView) →

@@ -17,14 +17,6 @@ pub struct LeafPlanes {
     pub ceiling: Option<PlaneKey>,
 }
 
-// There are no more planes than there is room for.
-#[inline(always)]
-fn keep_within(planes: &Planes)
-    ensures { length planes.now.planes ≤ planes.now.room }
-{
-    planes.count();
-}
-
 /// The plane of a key, or None without one.
 ///
 /// Errors: `Planes` exactly where a new plane is wanted and the room is full, with the count.
@@ -41,7 +33,7 @@ pub fn find_plane(planes: &mut Planes, key: Option<PlaneKey>) -> Result<Option<P
         ≡ DrawFault.Planes (length (planes_found planes.old.planes key))) }
     ensures room { planes.new.room ≡ planes.old.room }
 {
-    keep_within(planes);
+    planes.count();
     match key {
         None => Ok(None),
         Some(key) => match planes.find(key) {
@@ -81,7 +73,7 @@ pub fn check_plane(
     ensures longer { length planes.old.planes ≤ length planes.new.planes }
     ensures room { planes.new.room ≡ planes.old.room }
 {
-    keep_within(planes);
+    planes.count();
     if !marks {
         return Ok(plane);
     }

@@ -7,6 +7,22 @@
 //! a canvas is given exactly a fragment's strips, and planes and openings past a limit are told
 //! exactly where they come. Only `new` takes memory. The original: r_segs.c, and R_Subsector of
 //! r_bsp.c.
+//!
+//! `R_RenderSegLoop`, r_segs.c, and where each of its steps is here:
+//!
+//! ```text
+//! for each column x of the fragment              drawing: draw_each (count_columns without paint)
+//!     yl, yh: the rows of its edges, clipped     clips: wall_first, wall_last
+//!     mark the ceiling above, the floor below    clips: ceiling_rows, floor_rows; columns: mark_rows
+//!     the texture's column, light, dc_iscale     wall_edges: column_at; paint: paint_plan
+//!     a middle texture: paint yl to yh           clips: solid_plan; paint: first_strip, paint_live
+//!         and shut the column                    clips: shut_clip
+//!     else an upper texture: paint to pixhigh    clips: top_plan; paint: first_strip
+//!         a lower texture: paint from pixlow     clips: bottom_plan; paint: paint_second
+//!         and leave these clips                  clips: open_plan; windows: narrow
+//!     masked: save the texture's column          column_state: save_column; openings: save
+//!     step scale, top, bottom, high and low      wall_edges: Stepper::next
+//! ```
 #![tactic(auto)]
 
 mod clips;

@@ -1,7 +1,7 @@
 -- The zone's fields, and what its calls need and give back.
-use Rattle.std.proofs.Common.{◌≡◌, ℕ, ◌+◌, ◌-◌, ◌*◌, ◌/◌, ◌%◌, ◌<◌, ◌≤◌, true, false, List, length, map, take, drop, ◌++◌, Global, Option, Some, None, refl, sym, subst, ap, ap₂, ◌∙◌, arith, option_map, inl, inr}
-use Rattle.std.specs.Prelude.{◌==◌, ◌⊎◌, slice_index, slice_range, IsSome, option_and_then, vec_len, IsNone, is_some, not}
-use Rattle.std.proofs.lemmas.Bool.{false≢true, cases_eq, eq-eqb, ne_eqb}
+use Rattle.std.proofs.Common.{◌≡◌, ℕ, ◌+◌, ◌-◌, ◌*◌, ◌/◌, ◌%◌, ◌<◌, ◌≤◌, false, List, length, map, take, drop, ◌++◌, Global, Option, Some, None, refl, sym, subst, ap, ap₂, ◌∙◌, arith, option_map, inl, inr}
+use Rattle.std.specs.Prelude.{◌==◌, ◌⊎◌, slice_index, slice_range, IsSome, option_and_then, vec_len, is_some, not}
+use Rattle.std.proofs.lemmas.Bool.{cases_eq, eq-eqb, ne_eqb}
 use Rattle.std.proofs.lemmas.List.{length-take, length-drop}
 use Rattle.std.specs.declared.vec.Vec.{Vec}
 use Rattle.zone_rules.specs.declared.Tag.{Tag}
@@ -225,11 +225,3 @@ module _ (i : Inside) (zone : IsZone i) where
         | inl d ↦ inl (let u = x.1 in let v = y.0 in omega arith)
         | inr d ↦ inr (let u = x.0 in let v = y.1 in omega arith)
       ]
-
-pub none_is : (x : Option ℕ) → is_some x ≡ false → (x ≡ None) × IsNone x
-none_is None e = (refl, refl)
-none_is (Some p) e = absurd (false≢true (sym e))
-
-pub some_place : (x : Option ℕ) → is_some x ≡ true → (p : ℕ) × (x ≡ Some p)
-some_place None e = absurd (false≢true e)
-some_place (Some p) e = (p, refl)

@@ -1,5 +1,6 @@
 // A request for a block, and a block given back.
-ghost use Rattle.std.specs.Prelude.{◌≡◌, ◌<◌, ◌≤◌, ◌-◌, ◌^◌, ◌==◌, length, IsSome, IsNone, IfSome, false};
+ghost use Rattle.std.specs.Prelude.{◌≡◌, ◌<◌, ◌≤◌, ◌-◌, ◌^◌, ◌==◌, length, IsSome, IsErr, IfOk, IfErr, false};
+ghost use Rattle.std.specs.Result.{result_ok};
 ghost use Rattle.zone_rules.specs.Zones.{IsSound, Lacks, block_size, owner_at, owned_block};
 ghost use Rattle.zone_rules.specs.Requests.{first_room, stretches, passed_blocks, count_among, after_search, place_around, join_free};
 ghost use Rattle.zone_rules.specs.Frees.{free_owner};
@@ -7,11 +8,12 @@ ghost use Rattle.zone_heap.specs.Headers.{owner_in};
 ghost use Rattle.zone_heap.specs.Regions.{blocks_in, IsLaid, IsRing};
 ghost use Rattle.zone_heap.specs.Homes.{home_index, IsSlot, AreExact, AreHome};
 ghost use Rattle.zone_heap.specs.Asks.{heap_at, IsPlaced};
+ghost use Rattle.zone_heap.specs.Walks.{widest_from};
 
 use crate::edits::{join, link, place_in, ring_place, take};
 use crate::headers::{FREE_OWNER, Used};
 use crate::homes::{free_at, home_index};
-use crate::search::search;
+use crate::search::{NoRoom, search};
 
 /// What a slot asks for: the size of its block with the header, its home, and what its header says.
 #[derive(Clone, Copy)]
@@ -21,10 +23,11 @@ pub struct Request {
     pub used: Used,
 }
 
-/// What came of a request: the place of the new block, the rover, and how many blocks were purged.
+/// What came of a request: the place of the new block, if a gap holds it, the rover, and how many
+/// blocks were purged.
 #[derive(Clone, Copy)]
 pub struct Outcome {
-    pub place: Option<usize>,
+    pub place: Result<usize, NoRoom>,
     pub rover: usize,
     pub purges: u64,
 }
@@ -57,33 +60,35 @@ pub fn serve(
     ensures homes { length homes.new ≡ length homes.old }
     ensures exact { AreExact lumps homes.new (blocks_in region.new) }
     ensures place { first_room request.wanted (stretches rover (blocks_in region.old))
-        ≡ result.place }
+        ≡ result_ok result.place }
+    ensures widest { IfErr result.place (λ n.
+        n.widest ≡ widest_from 0 0 (blocks_in region.old)) }
     ensures purges { result.purges
         ≡ count_among (passed_blocks request.wanted (stretches rover (blocks_in region.old)))
         (blocks_in region.old) }
-    ensures none { IsNone result.place → (blocks_in region.new
+    ensures none { IsErr result.place → (blocks_in region.new
         ≡ after_search request.wanted (heap_at region.old homes.old lumps rover))
         × (result.rover ≡ place_around rover 0 (blocks_in region.new)) }
-    ensures some { IfSome result.place (λ p. IsPlaced (heap_at region.old homes.old lumps rover)
+    ensures some { IfOk result.place (λ p. IsPlaced (heap_at region.old homes.old lumps rover)
         request.wanted request.used p (blocks_in region.new) result.rover) }
     ensures bound { result.rover ≤ length region.old }
 {
     let room = search(region, homes, lumps, rover, request.wanted);
     match room.place {
-        None => {
+        Err(none) => {
             link(region);
             Outcome {
-                place: None,
+                place: Err(none),
                 rover: place_in(region, rover),
                 purges: room.purges,
             }
         }
-        Some(place) => {
+        Ok(place) => {
             let next = take(region, place, request.wanted as u32, request.used);
             link(region);
             homes[request.home] = place as u32;
             Outcome {
-                place: Some(place),
+                place: Ok(place),
                 rover: ring_place(next, region.len()),
                 purges: room.purges,
             }

@@ -1,5 +1,6 @@
 // Where a request finds room, and which blocks it purges.
-ghost use Rattle.std.specs.Prelude.{◌≡◌, ◌<◌, ◌+◌, ◌++◌, ◌^◌, length, IfSome, option_map, drop, take, map, count_by};
+ghost use Rattle.std.specs.Prelude.{◌≡◌, ◌<◌, ◌+◌, ◌++◌, ◌^◌, length, IfOk, IfErr, option_map, drop, take, map, count_by};
+ghost use Rattle.std.specs.Result.{result_ok};
 ghost use Rattle.zone_rules.specs.Zones.{is_purgeable};
 ghost use Rattle.zone_rules.specs.Requests.{purge_block, join_free, first_room, stretches, passed_blocks, purge_among, count_among};
 ghost use Rattle.zone_heap.specs.Homes.{AreHome};
@@ -70,7 +71,7 @@ pub fn start_place(region: &[u8], rover: usize) -> usize
 }
 
 /// The size of the widest gap.
-pub fn widest_gap(region: &[u8]) -> u64
+fn widest_gap(region: &[u8]) -> u64
     requires laid { IsLaid region.now }
     requires small { length region.now < 2 ^ 32 }
     ensures { result ≡ widest_from 0 0 (blocks_in region.now) }
@@ -123,10 +124,17 @@ pub fn purge(region: &mut [u8], homes: &mut [u32], lumps: u32, from: usize, most
     count
 }
 
-/// What a search came to: where a run begins that holds, and how many blocks were purged.
+/// No run of blocks holds what is wanted: the size of the widest gap before anything was purged.
+#[derive(Clone, Copy)]
+pub struct NoRoom {
+    pub widest: u64,
+}
+
+/// What a search came to: where a run begins that holds, if there is one, and how many blocks were
+/// purged.
 #[derive(Clone, Copy)]
 pub struct Room {
-    pub place: Option<usize>,
+    pub place: Result<usize, NoRoom>,
     pub purges: u64,
 }
 
@@ -138,16 +146,18 @@ fn clear_way(region: &mut [u8], homes: &mut [u32], lumps: u32, rover: usize, wan
     ensures len { length region.new ≡ length region.old }
     ensures homes { length homes.new ≡ length homes.old }
     ensures home { AreHome lumps homes.new (blocks_in region.new) }
-    ensures search { SearchIs wanted rover (blocks_in region.old) result.place
+    ensures search { SearchIs wanted rover (blocks_in region.old) (result_ok result.place)
         (blocks_in region.new) result.purges }
-    ensures room { IfSome result.place (λ p. RoomAt p wanted (join_free (blocks_in region.new))) }
+    ensures room { IfOk result.place (λ p. RoomAt p wanted (join_free (blocks_in region.new))) }
+    ensures widest { IfErr result.place (λ n.
+        n.widest ≡ widest_from 0 0 (blocks_in region.old)) }
 {
     let start = start_place(region, rover);
     let all = region.len();
     if let Some(fit) = first_fit(region, start, wanted) {
         let purges = purge(region, homes, lumps, start, fit.end);
         return Room {
-            place: Some(fit.place),
+            place: Ok(fit.place),
             purges,
         };
     }
@@ -155,13 +165,14 @@ fn clear_way(region: &mut [u8], homes: &mut [u32], lumps: u32, rover: usize, wan
         let later = purge(region, homes, lumps, start, all);
         let earlier = purge(region, homes, lumps, 0, fit.end);
         return Room {
-            place: Some(fit.place),
+            place: Ok(fit.place),
             purges: later + earlier,
         };
     }
+    let widest = widest_gap(region);
     let purges = purge(region, homes, lumps, 0, all);
     Room {
-        place: None,
+        place: Err(NoRoom { widest }),
         purges,
     }
 }
@@ -173,14 +184,17 @@ pub fn search(region: &mut [u8], homes: &mut [u32], lumps: u32, rover: usize, wa
     ensures len { length region.new ≡ length region.old }
     ensures homes { length homes.new ≡ length homes.old }
     ensures home { AreHome lumps homes.new (blocks_in region.new) }
-    ensures place { first_room wanted (stretches rover (blocks_in region.old)) ≡ result.place }
+    ensures place { first_room wanted (stretches rover (blocks_in region.old))
+        ≡ result_ok result.place }
     ensures blocks { blocks_in region.new
         ≡ join_free (purge_among (passed_blocks wanted (stretches rover (blocks_in
         region.old))) (blocks_in region.old)) }
     ensures purges { result.purges
         ≡ count_among (passed_blocks wanted (stretches rover (blocks_in region.old)))
         (blocks_in region.old) }
-    ensures room { IfSome result.place (λ p. RoomAt p wanted (blocks_in region.new)) }
+    ensures room { IfOk result.place (λ p. RoomAt p wanted (blocks_in region.new)) }
+    ensures widest { IfErr result.place (λ n.
+        n.widest ≡ widest_from 0 0 (blocks_in region.old)) }
 {
     let room = clear_way(region, homes, lumps, rover, wanted);
     join(region);

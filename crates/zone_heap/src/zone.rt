@@ -15,7 +15,7 @@ use crate::homes::{NO_HOME, home_index};
 use crate::look::{Span, home_at, live_span, retag, slot_span, slot_tag};
 use crate::request::{Request, release, serve};
 use crate::slot::{CompositeKind, LumpKind, Slot, SlotKind};
-use crate::{edits, figures, pair, search};
+use crate::{edits, figures, pair};
 use std::alloc::{AllocError, Global};
 use std::marker::Model;
 use thiserror::Error;
@@ -141,7 +141,6 @@ impl Zone {
         ensures sound { IsSound self.new }
     {
         let wanted = block_size(size);
-        let widest = search::widest_gap(&self.region);
         let request = Request {
             wanted,
             home: home_index(self.lumps, K::CODE, slot.number()),
@@ -160,8 +159,11 @@ impl Zone {
         );
         self.purges = self.purges.saturating_add(outcome.purges);
         self.rover = outcome.rover as u32;
-        if outcome.place.is_none() {
-            return Err(ZoneFull { wanted, widest });
+        if let Err(none) = outcome.place {
+            return Err(ZoneFull {
+                wanted,
+                widest: none.widest,
+            });
         }
         Ok(())
     }

@@ -5,17 +5,11 @@ ghost use Rattle.refusals.specs.Groups.{of_audit};
 
 use crate::AuditFault;
 use job_files::LoadFault;
-use outside::Fault;
 use refusals::Refusal;
 
 /// A fault of an audit as that of a scene.
 pub(crate) fn audit_fault(fault: AuditFault) -> LoadFault
     ensures { result ≡ fault_above of_audit fault }
 {
-    match fault {
-        Fault::Refused(refusal) => Fault::Refused(Refusal::from(refusal)),
-        Fault::ReadFault => Fault::ReadFault,
-        Fault::ZoneFull { wanted, widest } => Fault::ZoneFull { wanted, widest },
-        Fault::OutOfMemory => Fault::OutOfMemory,
-    }
+    fault.above(|refusal| Refusal::from(refusal))
 }

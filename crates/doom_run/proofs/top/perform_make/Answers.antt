@@ -1,4 +1,4 @@
-use Rattle.std.proofs.Common.{ap, Ok, List, ℕ, sym}
+use Rattle.std.proofs.Common.{ap, Ok, List, ℕ, sym, arith}
 use Rattle.job_rules.specs.Commands.{make}
 use Rattle.doom_run.specs.Jobs.{done, job_of}
 use Rattle.doom_run.proofs.EndLemmas.{bytes_deliver}
@@ -7,9 +7,10 @@ use Rattle.doom_run.proofs.top.perform_make.Goals as goal
 
 pub returns-in-Ok : goal.returns-in-Ok
 returns-in-Ok g c view =
-    plain_delivers _ _ (done c.in-Ok.bytes.items) view view _ _ _ _ c.deliver_make.result
+    plain_delivers _ _ _ (done c.in-Ok.bytes.items) view view _ _ _ _ c.deliver_make.result
     (λ held holds. ap (λ (bytes : List ℕ). Ok (done bytes)) (sym c.in-Ok.ensures))
     (rw c.deref.ensures.value at (bytes_deliver _ _ _ c.deliver_make.result c.deliver_make.ensures.ends)) c.deliver_make.ensures.write_fault
+    (λ held holds. omega arith)
 
 pub returns-in-Err : goal.returns-in-Err
 returns-in-Err g c view = memory_performs (job_of (make c.args.job)) view _ _

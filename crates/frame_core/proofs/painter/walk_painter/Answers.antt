@@ -15,7 +15,7 @@ use Rattle.frame_core.proofs.painter.walk_painter.Goals as goal
 
 pub walk-requires-clause-surfaces : goal.walk-requires-clause-surfaces
 walk-requires-clause-surfaces g c =
-    ap length c.surfaces.ensures ∙ surface_counts _ _ c.requires.drawable.whole.flats ∙ sym (ap (λ (l : LevelValue). length l.sectors) c.level.ensures)
+    ap length c.surfaces.ensures ∙ surface_counts _ _ c.requires.drawable.drawable.flats ∙ sym (ap (λ (l : LevelValue). length l.sectors) c.level.ensures)
 
 -- what a painter stands for, whose shelf and canvas tell of themselves so
 abbrev value_of : {S C : Type 0} → (S → ShelfView) → (C → CanvasView) → ViewPainter S C → PainterValue

@@ -10,38 +10,38 @@ use Rattle.zone_heap.specs.Regions.{blocks_in, ring_place}
 use Rattle.zone_heap.specs.Homes.{home_index, IsSlot, AreExact, AreHome}
 use Rattle.zone_heap.specs.Asks.{heap_at}
 use Rattle.zone_heap.proofs.HomeLemmas.{taken_exact}
-use Rattle.zone_heap.proofs.request.serve.Goals.{In-Some}
+use Rattle.zone_heap.proofs.request.serve.Goals.{In-Ok}
 use Rattle.zone_heap.proofs.request.serve.Goals as goal
 
-abbrev z : (c : In-Some) → Heap
+abbrev z : (c : In-Ok) → Heap
 z c = heap_at c.args.region.now c.args.homes.now c.args.lumps c.args.rover
 
-room_is : (c : In-Some) → RoomAt c.in-Some.place c.args.request.wanted (blocks_in c.search-room.new.region)
-room_is c = let there = c.search-room.ensures.room in let at = rw c.in-Some.is at there in at
+room_is : (c : In-Ok) → RoomAt c.in-Ok.place c.args.request.wanted (blocks_in c.search-room.new.region)
+room_is c = let there = c.search-room.ensures.room in let at = rw c.in-Ok.is at there in at
 
-tiles_is : (c : In-Some) → Tiles 0 (length c.args.region.now) (blocks_in c.search-room.new.region)
+tiles_is : (c : In-Ok) → Tiles 0 (length c.args.region.now) (blocks_in c.search-room.new.region)
 tiles_is c = subst (Tiles 0 (length c.args.region.now)) (sym c.search-room.ensures.blocks) (searched_tiles c.args.request.wanted (z c) c.requires.sound)
 
-ends : (c : In-Some) → c.in-Some.place + c.args.request.wanted ≤ length c.args.region.now
-ends c = room_end c.in-Some.place c.args.request.wanted (length c.args.region.now) (blocks_in c.search-room.new.region) (room_is c) (tiles_is c)
+ends : (c : In-Ok) → c.in-Ok.place + c.args.request.wanted ≤ length c.args.region.now
+ends c = room_end c.in-Ok.place c.args.request.wanted (length c.args.region.now) (blocks_in c.search-room.new.region) (room_is c) (tiles_is c)
 
 asked_fits : (n : ℕ) → n + 24 ≤ (n + 3) / 4 * 4 + 24
 asked_fits n = omega arith
 
 pub overflow_cast-request : goal.overflow_cast-request
-overflow_cast-request c = let e = ends (goal.at.overflow_cast-request c).In-Some in let k = c.requires.small in let h : c.args.request.wanted < 4294967296 = omega arith in search rules
+overflow_cast-request c = let e = ends (goal.at.overflow_cast-request c).In-Ok in let k = c.requires.small in let h : c.args.request.wanted < 4294967296 = omega arith in search rules
 
 pub overflow_cast-homes : goal.overflow_cast-homes
-overflow_cast-homes c = let e = ends (goal.at.overflow_cast-homes c).In-Some in let k = c.requires.small in let h : c.in-Some.place < 4294967296 = omega arith in search rules
+overflow_cast-homes c = let e = ends (goal.at.overflow_cast-homes c).In-Ok in let k = c.requires.small in let h : c.in-Ok.place < 4294967296 = omega arith in search rules
 
-abbrev new_holding : (c : In-Some) → Holding
-new_holding c = used_holding c.args.request.used (drop (c.in-Some.place + 24) c.search-room.new.region)
+abbrev new_holding : (c : In-Ok) → Holding
+new_holding c = used_holding c.args.request.used (drop (c.in-Ok.place + 24) c.search-room.new.region)
 
-lacks_is : (c : In-Some) → Lacks (owner_in c.args.request.used.owner) (blocks_in c.search-room.new.region)
+lacks_is : (c : In-Ok) → Lacks (owner_in c.args.request.used.owner) (blocks_in c.search-room.new.region)
 lacks_is c = subst (Lacks (owner_in c.args.request.used.owner)) (sym c.search-room.ensures.blocks) (searched_lacks c.args.request.wanted (z c) (owner_in c.args.request.used.owner) c.requires.empty)
 
-shape : (c : In-Some) (r : RoomAt c.in-Some.place c.args.request.wanted (blocks_in c.search-room.new.region)) → take_at c.in-Some.place c.args.request.wanted (new_holding c) (blocks_in c.search-room.new.region) ≡ r.front ++ (cut_block c.args.request.wanted (new_holding c) (free_block c.in-Some.place r.size) ++ r.rest)
-shape c r = ap (take_at c.in-Some.place c.args.request.wanted (new_holding c)) r.is ∙ take_at_is c.in-Some.place r.size c.args.request.wanted (new_holding c) 0 (length c.args.region.now) r.front r.rest (subst (Tiles 0 (length c.args.region.now)) r.is (tiles_is c))
+shape : (c : In-Ok) (r : RoomAt c.in-Ok.place c.args.request.wanted (blocks_in c.search-room.new.region)) → take_at c.in-Ok.place c.args.request.wanted (new_holding c) (blocks_in c.search-room.new.region) ≡ r.front ++ (cut_block c.args.request.wanted (new_holding c) (free_block c.in-Ok.place r.size) ++ r.rest)
+shape c r = ap (take_at c.in-Ok.place c.args.request.wanted (new_holding c)) r.is ∙ take_at_is c.in-Ok.place r.size c.args.request.wanted (new_holding c) 0 (length c.args.region.now) r.front r.rest (subst (Tiles 0 (length c.args.region.now)) r.is (tiles_is c))
 
 pub search-room-requires : goal.search-room-requires
 search-room-requires c = record {
@@ -54,32 +54,32 @@ search-room-requires c = record {
   positive = search rules;
 }
 
-pub returns-in-Some-clause-exact : goal.returns-in-Some-clause-exact
-returns-in-Some-clause-exact c =
-    let d = (goal.at.returns-in-Some-clause-exact c).In-Some in
+pub returns-in-Ok-clause-exact : goal.returns-in-Ok-clause-exact
+returns-in-Ok-clause-exact c =
+    let d = (goal.at.returns-in-Ok-clause-exact c).In-Ok in
     let r = room_is d in
     let homes = c.search-room.new.homes in
     let n = c.search-room.ensures.homes in
     let slot = subst (λ k. IsSlot c.args.lumps (k - c.args.lumps) (owner_in c.args.request.used.owner)) (sym n) c.requires.slot in
     let home = subst (AreHome c.args.lumps homes) r.is c.search-room.ensures.home in
     let lacks = subst (Lacks (owner_in c.args.request.used.owner)) r.is (lacks_is d) in
-    subst (λ i. AreExact c.args.lumps (set homes i c.in-Some.place) (blocks_in c.link-in-Some.new.region)) (sym c.requires.home)
-    (subst (AreExact c.args.lumps (set homes (home_index c.args.lumps (owner_in c.args.request.used.owner).kind (owner_in c.args.request.used.owner).number) c.in-Some.place)) (sym (c.link-in-Some.ensures.blocks ∙ c.take-next.ensures.blocks ∙ shape d r))
-    (taken_exact c.args.lumps homes r.front r.rest c.in-Some.place r.size c.args.request.wanted (new_holding d) home slot lacks))
+    subst (λ i. AreExact c.args.lumps (set homes i c.in-Ok.place) (blocks_in c.link-in-Ok.new.region)) (sym c.requires.home)
+    (subst (AreExact c.args.lumps (set homes (home_index c.args.lumps (owner_in c.args.request.used.owner).kind (owner_in c.args.request.used.owner).number) c.in-Ok.place)) (sym (c.link-in-Ok.ensures.blocks ∙ c.take-next.ensures.blocks ∙ shape d r))
+    (taken_exact c.args.lumps homes r.front r.rest c.in-Ok.place r.size c.args.request.wanted (new_holding d) home slot lacks))
 
-pub returns-in-Some-clause-some : goal.returns-in-Some-clause-some
-returns-in-Some-clause-some c =
-    let d = (goal.at.returns-in-Some-clause-some c).In-Some in
+pub returns-in-Ok-clause-some : goal.returns-in-Ok-clause-some
+returns-in-Ok-clause-some c =
+    let d = (goal.at.returns-in-Ok-clause-some c).In-Ok in
     let e = ends d in
     let n = c.search-room.ensures.len in
     let fit = asked_fits c.args.request.used.asked in
     let w = c.requires.wanted in
-    let a = length-take c.args.request.used.asked (drop (c.in-Some.place + 24) c.search-room.new.region) in
-    let b = length-drop (c.in-Some.place + 24) c.search-room.new.region in
+    let a = length-take c.args.request.used.asked (drop (c.in-Ok.place + 24) c.search-room.new.region) in
+    let b = length-drop (c.in-Ok.place + 24) c.search-room.new.region in
     record {
-      room = subst (RoomAt c.in-Some.place c.args.request.wanted) c.search-room.ensures.blocks (room_is d);
-      bytes = take c.args.request.used.asked (drop (c.in-Some.place + 24) c.search-room.new.region);
+      room = subst (RoomAt c.in-Ok.place c.args.request.wanted) c.search-room.ensures.blocks (room_is d);
+      bytes = take c.args.request.used.asked (drop (c.in-Ok.place + 24) c.search-room.new.region);
       len = omega arith;
-      blocks = c.link-in-Some.ensures.blocks ∙ c.take-next.ensures.blocks ∙ ap (take_at c.in-Some.place c.args.request.wanted (new_holding d)) c.search-room.ensures.blocks;
-      rover_is = c.ring_place.ensures.value ∙ ap (ring_place c.take-next.result) (c.link-in-Some.ensures.len ∙ c.take-next.ensures.len) ∙ c.take-next.ensures.rover ∙ ap₂ (place_after c.in-Some.place) n (sym c.link-in-Some.ensures.blocks);
+      blocks = c.link-in-Ok.ensures.blocks ∙ c.take-next.ensures.blocks ∙ ap (take_at c.in-Ok.place c.args.request.wanted (new_holding d)) c.search-room.ensures.blocks;
+      rover_is = c.ring_place.ensures.value ∙ ap (ring_place c.take-next.result) (c.link-in-Ok.ensures.len ∙ c.take-next.ensures.len) ∙ c.take-next.ensures.rover ∙ ap₂ (place_after c.in-Ok.place) n (sym c.link-in-Ok.ensures.blocks);
     }

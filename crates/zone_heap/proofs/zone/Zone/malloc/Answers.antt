@@ -1,11 +1,13 @@
-use Rattle.std.proofs.Common.{arith, ◌≡◌, ◌<◌, ◌≤◌, ◌+◌, ◌∙◌, ap, ap₂, sym, true, false, subst, List, ℕ, length, refl, Some}
+use Rattle.std.proofs.Common.{arith, ◌≡◌, ◌<◌, ◌≤◌, ◌+◌, ◌∙◌, ap, ap₂, sym, true, false, subst, List, ℕ, length, refl, Ok, Err}
 use Rattle.std.specs.Vec.{with_items}
 use Rattle.std.proofs.lemmas.Bool.{false≢true}
 use Rattle.std.proofs.lemmas.List.{with_items_is}
-use Rattle.std.specs.Prelude.{IsNone, All, not}
+use Rattle.std.specs.Prelude.{IsNone, IsErr, All}
+use Rattle.std.specs.Result.{result_ok}
 use Rattle.zone_heap.specs.View.{heap_of, IsZone}
 use Rattle.zone_rules.specs.Zones.{is_purgeable, Block, owned_block, Heap, Holding, Owner, IsSound, Lacks, owner_at, block_size, slot_count, holding_of}
 use Rattle.zone_rules.specs.Requests.{after_search, passed_blocks, block_left, cap_count, without_room, with_block, take_at, TakesBlock, place_around, place_after, gaps, widest, total, first_room, stretches, purge_count, count_among}
+use Rattle.zone_heap.specs.declared.search.NoRoom.{NoRoom}
 use Rattle.zone_heap.specs.Walks.{widest_from}
 use Rattle.zone_rules.specs.Rooms.{RoomAt}
 use Rattle.zone_rules.proofs.TakeLemmas.{InRange}
@@ -18,9 +20,9 @@ use Rattle.zone_heap.specs.Regions.{blocks_in, IsRing}
 use Rattle.zone_heap.specs.Homes.{AreExact}
 use Rattle.zone_heap.specs.Asks.{heap_at}
 use Rattle.zone_heap.proofs.ChangeLemmas.{code_back}
-use Rattle.zone_heap.proofs.ZoneLemmas.{owner_back, number_small, region_len, zone_with, none_is, some_place}
+use Rattle.zone_heap.proofs.ZoneLemmas.{owner_back, number_small, region_len, zone_with}
 use Rattle.zone_heap.proofs.zone.Zone.malloc.Given.{Over}
-use Rattle.zone_heap.proofs.zone.Zone.malloc.Goals.{After-deref_mut-2, After-is_none, Then-is_none, Else-is_none}
+use Rattle.zone_heap.proofs.zone.Zone.malloc.Goals.{After-deref_mut-2, After-saturating_add-self-inside}
 use Rattle.zone_heap.proofs.zone.Zone.malloc.Goals as goal
 
 abbrev o : (g : Over) (c : After-deref_mut-2 g) → Owner
@@ -42,86 +44,79 @@ serve-outcome-requires-clause-empty g c =
     let d = (goal.at.serve-outcome-requires-clause-empty g c).After-deref_mut-2 in
     subst (λ (p : Owner). Lacks p (blocks_in c.deref_mut.result.now)) (sym (owner_is g d)) (subst (λ xs. Lacks (owner_at g.K.SlotKind.CODE c.args.slot.number) (blocks_in xs)) (sym c.deref_mut.ensures.value) (lacks_it g d))
 
-abbrev earlier : (g : Over) (c : After-is_none g) → After-deref_mut-2 g
-earlier g c = c.before.before.before.before.before.before.before.before.before
+abbrev earlier : (g : Over) (c : After-saturating_add-self-inside g) → After-deref_mut-2 g
+earlier g c = c.before.before.before.before.before
 
-items_are : (g : Over) (c : After-is_none g) → (with_items c.self.inside.region c.serve-outcome.new.region).items ≡ c.serve-outcome.new.region
+items_are : (g : Over) (c : After-saturating_add-self-inside g) → (with_items c.self.inside.region c.serve-outcome.new.region).items ≡ c.serve-outcome.new.region
 items_are g c = let a = c.serve-outcome.ensures.len in let b = ap (λ (xs : List ℕ). length xs) c.deref_mut.ensures.value in let d = c.self.inside.region.ok.0 in with_items_is c.self.inside.region c.serve-outcome.new.region (omega arith)
 
-homes_are : (g : Over) (c : After-is_none g) → (with_items c.self.inside.homes c.serve-outcome.new.homes).items ≡ c.serve-outcome.new.homes
+homes_are : (g : Over) (c : After-saturating_add-self-inside g) → (with_items c.self.inside.homes c.serve-outcome.new.homes).items ≡ c.serve-outcome.new.homes
 homes_are g c = let a = c.serve-outcome.ensures.homes in let b = ap (λ (xs : List ℕ). length xs) c.deref_mut-2.ensures.value in let d = c.self.inside.homes.ok.0 in with_items_is c.self.inside.homes c.serve-outcome.new.homes (omega arith)
 
-place_is : (g : Over) (c : After-is_none g) → first_room c.block_size-wanted.result (stretches c.self.inside.rover (blocks_in c.self.inside.region.items)) ≡ c.serve-outcome.result.place
+place_is : (g : Over) (c : After-saturating_add-self-inside g) → first_room c.block_size-wanted.result (stretches c.self.inside.rover (blocks_in c.self.inside.region.items)) ≡ result_ok c.serve-outcome.result.place
 place_is g c = ap (λ xs. first_room c.block_size-wanted.result (stretches c.self.inside.rover (blocks_in xs))) (sym c.deref_mut.ensures.value) ∙ c.serve-outcome.ensures.place
 
-purges_are : (g : Over) (c : After-is_none g) → c.saturating_add-self-inside.result ≡ cap_count (c.self.inside.purges + purge_count c.block_size-wanted.result (heap_of c.self.inside))
+purges_are : (g : Over) (c : After-saturating_add-self-inside g) → c.saturating_add-self-inside.result ≡ cap_count (c.self.inside.purges + purge_count c.block_size-wanted.result (heap_of c.self.inside))
 purges_are g c =
     c.saturating_add-self-inside.ensures ∙ ap (λ n. cap_count (c.self.inside.purges + n)) (c.serve-outcome.ensures.purges ∙ ap (λ xs. count_among (passed_blocks c.block_size-wanted.result (stretches c.self.inside.rover (blocks_in xs))) (blocks_in xs)) c.deref_mut.ensures.value)
 
-abbrev new_heap : (g : Over) (c : After-is_none g) → Heap
+abbrev new_heap : (g : Over) (c : After-saturating_add-self-inside g) → Heap
 new_heap g c = record { size = c.self.inside.size; lumps = c.self.inside.lumps; composites = c.self.inside.composites; blocks = blocks_in (with_items c.self.inside.region c.serve-outcome.new.region).items; rover = c.serve-outcome.result.rover; purges = c.saturating_add-self-inside.result }
 
 -- the zone after a search that found nothing
-none_heap : (g : Over) (c : After-is_none g) → c.is_none.result ≡ true → new_heap g c ≡ without_room c.block_size-wanted.result (heap_of c.self.inside)
-none_heap g c e =
+none_heap : (g : Over) (c : After-saturating_add-self-inside g) (none : NoRoom) → c.serve-outcome.result.place ≡ Err none → new_heap g c ≡ without_room c.block_size-wanted.result (heap_of c.self.inside)
+none_heap g c none e =
     let i = c.self.inside in
-    let k = c.serve-outcome.ensures.none (none_is c.serve-outcome.result.place (c.is_none.ensures ∙ ap not e)).1 in
+    let k = c.serve-outcome.ensures.none (subst IsErr (sym e) refl) in
     let b = ap blocks_in (items_are g c) ∙ k.0 ∙ ap (λ xs. after_search c.block_size-wanted.result (heap_at xs c.deref_mut-2.result.now i.lumps i.rover)) c.deref_mut.ensures.value in
     let r = k.1 ∙ ap (λ xs. place_around i.rover 0 (blocks_in xs)) (sym (items_are g c)) in
     let p = purges_are g c in
     rw (r, p, b) refl
 
-found : (g : Over) (c : After-is_none g) → c.is_none.result ≡ false → (p : ℕ) × (c.serve-outcome.result.place ≡ Some p)
-found g c e = some_place c.serve-outcome.result.place (c.is_none.ensures ∙ ap not e)
-
-abbrev z : (g : Over) (c : After-is_none g) → Heap
-z g c = heap_of c.self.inside
-
 -- the zone after a search that found room
-record IsMade (g : Over) (c : After-is_none g) : Type 0 where
+record IsMade (g : Over) (c : After-saturating_add-self-inside g) : Type 0 where
   place : ℕ
-  is : c.serve-outcome.result.place ≡ Some place
+  is : c.serve-outcome.result.place ≡ Ok place
   bytes : List ℕ
   len : length bytes ≡ c.args.size
   room : RoomAt place c.block_size-wanted.result (after_search c.block_size-wanted.result (heap_of c.self.inside))
   heap : new_heap g c ≡ with_block c.block_size-wanted.result (record { owner = owner_at g.K.SlotKind.CODE c.args.slot.number; tag = c.args.tag; asked = c.args.size; bytes = bytes }) place (heap_of c.self.inside)
 
-made : (g : Over) (c : After-is_none g) → c.is_none.result ≡ false → IsMade g c
-made g c e =
+made : (g : Over) (c : After-saturating_add-self-inside g) (place : ℕ) → c.serve-outcome.result.place ≡ Ok place → IsMade g c
+made g c place e =
     let i = c.self.inside in
     let w = c.block_size-wanted.result in
-    let f = found g c e in
     let there = c.serve-outcome.ensures.some in
-    let k = rw f.1 at there in
+    let k = rw e at there in
     let s = ap (λ xs. after_search w (heap_at xs c.deref_mut-2.result.now i.lumps i.rover)) c.deref_mut.ensures.value in
     let own = owner_is g (earlier g c) in
     let tag : code_tag c.tag_code.result ≡ c.args.tag = ap code_tag c.tag_code.ensures ∙ code_back c.args.tag in
     let h : ◌≡◌ {A = Holding} (record { owner = owner_in c.owner_word.result; tag = code_tag c.tag_code.result; asked = c.args.size; bytes = k.bytes }) (record { owner = owner_at g.K.SlotKind.CODE c.args.slot.number; tag = c.args.tag; asked = c.args.size; bytes = k.bytes }) = λ j. record { owner = own j; tag = tag j; asked = c.args.size; bytes = k.bytes } in
-    let b = ap blocks_in (items_are g c) ∙ k.blocks ∙ ap₂ (λ (x : Holding) (ys : List Block). take_at f.0 w x ys) h s in
+    let b = ap blocks_in (items_are g c) ∙ k.blocks ∙ ap₂ (λ (x : Holding) (ys : List Block). take_at place w x ys) h s in
     let size : length c.deref_mut.result.now ≡ i.size = ap (λ (xs : List ℕ). length xs) c.deref_mut.ensures.value ∙ region_len i c.self.invariant in
-    let r : c.serve-outcome.result.rover ≡ place_after f.0 i.size (blocks_in (with_items i.region c.serve-outcome.new.region).items) = k.rover_is ∙ ap₂ (λ n xs. place_after f.0 n (blocks_in xs)) size (sym (items_are g c)) in
+    let r : c.serve-outcome.result.rover ≡ place_after place i.size (blocks_in (with_items i.region c.serve-outcome.new.region).items) = k.rover_is ∙ ap₂ (λ n xs. place_after place n (blocks_in xs)) size (sym (items_are g c)) in
     let p = purges_are g c in
     record {
-      place = f.0;
-      is = f.1;
+      place = place;
+      is = e;
       bytes = k.bytes;
       len = k.len;
-      room = subst (RoomAt f.0 w) s k.room;
-      heap = λ j. record { size = i.size; lumps = i.lumps; composites = i.composites; blocks = b j; rover = (r ∙ ap (place_after f.0 i.size) b) j; purges = p j };
+      room = subst (RoomAt place w) s k.room;
+      heap = λ j. record { size = i.size; lumps = i.lumps; composites = i.composites; blocks = b j; rover = (r ∙ ap (place_after place i.size) b) j; purges = p j };
     }
 
 slot_is : (g : Over) (c : After-deref_mut-2 g) → InRange c.self.inside.lumps c.self.inside.composites (owner_at g.K.SlotKind.CODE c.args.slot.number)
 slot_is g c = in_range_of (heap_of c.self.inside) g.K.SlotKind.CODE c.args.slot.number g.K.SlotKind.is_known (in_range g c)
 
-abbrev held : (g : Over) (c : After-is_none g) (m : IsMade g c) → Holding
+abbrev held : (g : Over) (c : After-saturating_add-self-inside g) (m : IsMade g c) → Holding
 held g c m = record { owner = owner_at g.K.SlotKind.CODE c.args.slot.number; tag = c.args.tag; asked = c.args.size; bytes = m.bytes }
 
-made_sound : (g : Over) (c : After-is_none g) (m : IsMade g c) → IsSound (with_block c.block_size-wanted.result (held g c m) m.place (heap_of c.self.inside))
+made_sound : (g : Over) (c : After-saturating_add-self-inside g) (m : IsMade g c) → IsSound (with_block c.block_size-wanted.result (held g c m) m.place (heap_of c.self.inside))
 made_sound g c m =
     with_block_sound c.block_size-wanted.result m.place (heap_of c.self.inside) (held g c m) c.self.invariant.sound c.self.invariant.least (sym c.block_size-wanted.ensures.value) m.len c.block_size-wanted.ensures.least (lacks_it g (earlier g c)) (slot_is g (earlier g c)) m.room
 
 -- whatever came of the search, the fields are a zone where the blocks are sound
-kept : (g : Over) (c : After-is_none g) → IsSound (new_heap g c)
+kept : (g : Over) (c : After-saturating_add-self-inside g) → IsSound (new_heap g c)
     → IsZone (record c.self.inside { region = with_items c.self.inside.region c.serve-outcome.new.region; homes = with_items c.self.inside.homes c.serve-outcome.new.homes; rover = c.serve-outcome.result.rover; purges = c.saturating_add-self-inside.result })
 kept g c sound =
     let i = c.self.inside in
@@ -130,27 +125,27 @@ kept g c sound =
 
 pub invariant_of-self : goal.invariant_of-self
 invariant_of-self g c =
-    let d = (goal.at.invariant_of-self g c).After-is_none in
-    kept g d (subst IsSound (sym (none_heap g d c.if-is_none.true)) (without_room_sound c.block_size-wanted.result (heap_of c.self.inside) c.self.invariant.sound c.self.invariant.least))
+    let d = (goal.at.invariant_of-self g c).After-saturating_add-self-inside in
+    kept g d (subst IsSound (sym (none_heap g d _ c.in-Err.is)) (without_room_sound c.block_size-wanted.result (heap_of c.self.inside) c.self.invariant.sound c.self.invariant.least))
 
 pub invariant_of-self-2 : goal.invariant_of-self-2
 invariant_of-self-2 g c =
-    let d = (goal.at.invariant_of-self-2 g c).After-is_none in
-    let m = made g d c.if-is_none.false in
+    let d = (goal.at.invariant_of-self-2 g c).After-saturating_add-self-inside in
+    let m = made g d _ c.in_default.is in
     kept g d (subst IsSound (sym m.heap) (made_sound g d m))
 
 pub returns-clause-sound : goal.returns-clause-sound
-returns-clause-sound g c = let d = (goal.at.returns-clause-sound g c).After-is_none in let m = made g d c.if-is_none.false in subst IsSound (sym m.heap) (made_sound g d m)
+returns-clause-sound g c = let d = (goal.at.returns-clause-sound g c).After-saturating_add-self-inside in let m = made g d _ c.in_default.is in subst IsSound (sym m.heap) (made_sound g d m)
 
 pub returns-clause-ok : goal.returns-clause-ok
 returns-clause-ok g c =
-    let d = (goal.at.returns-clause-ok g c).After-is_none in
-    let m = made g d c.if-is_none.false in
+    let d = (goal.at.returns-clause-ok g c).After-saturating_add-self-inside in
+    let m = made g d _ c.in_default.is in
     let w = c.block_size-wanted.result in
     let e = c.block_size-wanted.ensures.value in
     subst (λ (y : Heap). TakesBlock y (new_heap g d) (owner_at g.K.SlotKind.CODE c.args.slot.number) c.args.size c.args.tag) c.self.view_is (record {
       place = m.place;
-      place_is = ap (λ n. first_room n (stretches c.self.inside.rover (blocks_in c.self.inside.region.items))) (sym e) ∙ place_is g d ∙ m.is;
+      place_is = ap (λ n. first_room n (stretches c.self.inside.rover (blocks_in c.self.inside.region.items))) (sym e) ∙ place_is g d ∙ ap result_ok m.is;
       bytes = m.bytes;
       len = m.len;
       size = cut_size m.place m.room.size w (held g d m);
@@ -162,61 +157,59 @@ returns-clause-ok g c =
 
 pub returns-clause-full : goal.returns-clause-full
 returns-clause-full g c =
-    let d = (goal.at.returns-clause-full g c).After-is_none in
-    let m = made g d c.if-is_none.false in
+    let d = (goal.at.returns-clause-full g c).After-saturating_add-self-inside in
+    let m = made g d _ c.in_default.is in
     let i = c.self.inside in
     let zone = c.self.invariant in
     subst (λ (y : Heap). (false ≡ true → All (λ x. total x < block_size c.args.size) (gaps y.blocks)) × (All (λ x. total x < block_size c.args.size) (gaps y.blocks) → false ≡ true)) c.self.view_is (
       (λ e. absurd (false≢true e)),
       λ a. absurd (full_some (block_size c.args.size) i.rover m.place i.size (blocks_in i.region.items) (omega arith) zone.sound.tiles
-          (ap (λ n. first_room n (stretches i.rover (blocks_in i.region.items))) (sym c.block_size-wanted.ensures.value) ∙ place_is g d ∙ m.is) a),
+          (ap (λ n. first_room n (stretches i.rover (blocks_in i.region.items))) (sym c.block_size-wanted.ensures.value) ∙ place_is g d ∙ ap result_ok m.is) a),
     )
 
 pub returns-clause-others : goal.returns-clause-others
 returns-clause-others g c = λ p apart.
-    let d = (goal.at.returns-clause-others g c).After-is_none in
-    let m = made g d c.if-is_none.false in
+    let d = (goal.at.returns-clause-others g c).After-saturating_add-self-inside in
+    let m = made g d _ c.in_default.is in
     ap (λ (y : Heap). owned_block p y.blocks) m.heap ∙ owned_others c.block_size-wanted.result m.place (heap_of c.self.inside) (held g d m) c.self.invariant.sound (lacks_it g (earlier g d)) m.room p apart
     ∙ ap₂ (λ n (y : Heap). block_left (passed_blocks n (stretches y.rover y.blocks)) (owned_block p y.blocks)) c.block_size-wanted.ensures.value c.self.view_is
 
-pub returns-then-is_none-clause-full : goal.returns-then-is_none-clause-full
-returns-then-is_none-clause-full g c =
-    let d = (goal.at.returns-then-is_none-clause-full g c).After-is_none in
+pub returns-in-Err-clause-full : goal.returns-in-Err-clause-full
+returns-in-Err-clause-full g c =
+    let d = (goal.at.returns-in-Err-clause-full g c).After-saturating_add-self-inside in
     let i = c.self.inside in
-    let none = (none_is c.serve-outcome.result.place (c.is_none.ensures ∙ ap not c.if-is_none.true)).0 in
     subst (λ (y : Heap). (true ≡ true → All (λ x. total x < block_size c.args.size) (gaps y.blocks)) × (All (λ x. total x < block_size c.args.size) (gaps y.blocks) → true ≡ true)) c.self.view_is (
-      (λ e. full_none (block_size c.args.size) i.rover (blocks_in i.region.items) (omega arith) (ap (λ n. first_room n (stretches i.rover (blocks_in i.region.items))) (sym c.block_size-wanted.ensures.value) ∙ place_is g d ∙ none)),
+      (λ e. full_none (block_size c.args.size) i.rover (blocks_in i.region.items) (omega arith) (ap (λ n. first_room n (stretches i.rover (blocks_in i.region.items))) (sym c.block_size-wanted.ensures.value) ∙ place_is g d ∙ ap result_ok c.in-Err.is)),
       λ a. refl,
     )
 
-pub returns-then-is_none-clause-report : goal.returns-then-is_none-clause-report
-returns-then-is_none-clause-report g c = (
+pub returns-in-Err-clause-report : goal.returns-in-Err-clause-report
+returns-in-Err-clause-report g c = (
   c.block_size-wanted.ensures.value,
-  c.widest_gap-widest.ensures ∙ ap (λ xs. widest_from 0 0 (blocks_in xs)) c.deref.ensures.value ∙ widest_is (blocks_in c.self.inside.region.items) ∙ ap (λ (y : Heap). widest (gaps y.blocks)) c.self.view_is,
+  (let there = c.serve-outcome.ensures.widest in let e = rw c.in-Err.is at there in e) ∙ ap (λ xs. widest_from 0 0 (blocks_in xs)) c.deref_mut.ensures.value ∙ widest_is (blocks_in c.self.inside.region.items) ∙ ap (λ (y : Heap). widest (gaps y.blocks)) c.self.view_is,
 )
 
-pub returns-then-is_none-clause-err : goal.returns-then-is_none-clause-err
-returns-then-is_none-clause-err g c = none_heap g (goal.at.returns-then-is_none-clause-err g c).After-is_none c.if-is_none.true ∙ ap₂ without_room c.block_size-wanted.ensures.value c.self.view_is
+pub returns-in-Err-clause-err : goal.returns-in-Err-clause-err
+returns-in-Err-clause-err g c = none_heap g (goal.at.returns-in-Err-clause-err g c).After-saturating_add-self-inside _ c.in-Err.is ∙ ap₂ without_room c.block_size-wanted.ensures.value c.self.view_is
 
-pub returns-then-is_none-clause-sound : goal.returns-then-is_none-clause-sound
-returns-then-is_none-clause-sound g c = subst IsSound (sym (none_heap g (goal.at.returns-then-is_none-clause-sound g c).After-is_none c.if-is_none.true)) (without_room_sound c.block_size-wanted.result (heap_of c.self.inside) c.self.invariant.sound c.self.invariant.least)
+pub returns-in-Err-clause-sound : goal.returns-in-Err-clause-sound
+returns-in-Err-clause-sound g c = subst IsSound (sym (none_heap g (goal.at.returns-in-Err-clause-sound g c).After-saturating_add-self-inside _ c.in-Err.is)) (without_room_sound c.block_size-wanted.result (heap_of c.self.inside) c.self.invariant.sound c.self.invariant.least)
 
-pub returns-then-is_none-clause-empty : goal.returns-then-is_none-clause-empty
-returns-then-is_none-clause-empty g c =
-    let d = (goal.at.returns-then-is_none-clause-empty g c).After-is_none in
+pub returns-in-Err-clause-empty : goal.returns-in-Err-clause-empty
+returns-in-Err-clause-empty g c =
+    let d = (goal.at.returns-in-Err-clause-empty g c).After-saturating_add-self-inside in
     let p = owner_at g.K.SlotKind.CODE c.args.slot.number in
     let y = heap_of c.self.inside in
-    ap (λ (x : Heap). owned_block p x.blocks) (none_heap g d c.if-is_none.true) ∙ owned_searched p c.block_size-wanted.result y c.self.invariant.sound ∙ ap (block_left (passed_blocks c.block_size-wanted.result (stretches y.rover y.blocks))) (none_owned p y.blocks (lacks_it g (earlier g d)))
+    ap (λ (x : Heap). owned_block p x.blocks) (none_heap g d _ c.in-Err.is) ∙ owned_searched p c.block_size-wanted.result y c.self.invariant.sound ∙ ap (block_left (passed_blocks c.block_size-wanted.result (stretches y.rover y.blocks))) (none_owned p y.blocks (lacks_it g (earlier g d)))
 
-pub returns-then-is_none-clause-purged : goal.returns-then-is_none-clause-purged
-returns-then-is_none-clause-purged g c =
-    let d = (goal.at.returns-then-is_none-clause-purged g c).After-is_none in
+pub returns-in-Err-clause-purged : goal.returns-in-Err-clause-purged
+returns-in-Err-clause-purged g c =
+    let d = (goal.at.returns-in-Err-clause-purged g c).After-saturating_add-self-inside in
     let least = c.block_size-wanted.ensures.least in
-    let none = (none_is c.serve-outcome.result.place (c.is_none.ensures ∙ ap not c.if-is_none.true)).0 in
-    subst (λ (x : Heap). All (λ (b : Block). is_purgeable b ≡ false) x.blocks) (sym (none_heap g d c.if-is_none.true)) (full_all c.block_size-wanted.result (heap_of c.self.inside) c.self.invariant.sound (omega arith) (place_is g d ∙ none))
+    subst (λ (x : Heap). All (λ (b : Block). is_purgeable b ≡ false) x.blocks) (sym (none_heap g d _ c.in-Err.is)) (full_all c.block_size-wanted.result (heap_of c.self.inside) c.self.invariant.sound (omega arith) (place_is g d ∙ ap result_ok c.in-Err.is))
 
-pub returns-then-is_none-clause-others : goal.returns-then-is_none-clause-others
-returns-then-is_none-clause-others g c = λ p apart.
-    let d = (goal.at.returns-then-is_none-clause-others g c).After-is_none in
-    ap (λ (x : Heap). owned_block p x.blocks) (none_heap g d c.if-is_none.true) ∙ owned_searched p c.block_size-wanted.result (heap_of c.self.inside) c.self.invariant.sound
+pub returns-in-Err-clause-others : goal.returns-in-Err-clause-others
+returns-in-Err-clause-others g c = λ p apart.
+    let d = (goal.at.returns-in-Err-clause-others g c).After-saturating_add-self-inside in
+    ap (λ (x : Heap). owned_block p x.blocks) (none_heap g d _ c.in-Err.is) ∙ owned_searched p c.block_size-wanted.result (heap_of c.self.inside) c.self.invariant.sound
     ∙ ap₂ (λ n (y : Heap). block_left (passed_blocks n (stretches y.rover y.blocks)) (owned_block p y.blocks)) c.block_size-wanted.ensures.value c.self.view_is
