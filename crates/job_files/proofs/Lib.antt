@@ -5,6 +5,7 @@ pub mod ColourLemmas
 pub mod FlatLemmas
 pub mod FoundLemmas
 pub mod LengthLemmas
+pub mod LineLemmas
 pub mod LumpLemmas
 pub mod StepLemmas
 pub mod TakenLemmas

@@ -1,6 +1,6 @@
 -- The homes of slots, where a block is freed.
-use Rattle.std.proofs.Common.{◌≡◌, ℕ, ◌-◌, ◌<◌, ◌≤◌, Bool, true, false, List, [], ◌∷◌, ◌++◌, length, set, Some, refl, sym, subst, ap, ap₂, ◌∙◌, arith}
-use Rattle.std.specs.Prelude.{◌==◌, slice_index}
+use Rattle.std.proofs.Common.{◌≡◌, ℕ, ◌-◌, ◌<◌, ◌≤◌, Bool, true, false, List, [], ◌∷◌, ◌++◌, length, Some, refl, sym, subst, ap, ap₂, ◌∙◌, arith}
+use Rattle.std.specs.Prelude.{◌==◌, slice_index, slice_set}
 use Rattle.std.proofs.lemmas.Bool.{cond-true, cond-false, false≢true, and_from, eq-eqb}
 use Rattle.std.proofs.lemmas.List.{get_or-set_same, get_or-set_other, length-set}
 use Rattle.zone_rules.specs.Zones.{Block, Holding, Owner, AllFit, FitsHolding, Unique, Lacks, is_held_by, holds_for, same_owner, free_block, owned_block}
@@ -10,7 +10,8 @@ use Rattle.zone_rules.proofs.TakeLemmas.{code_small, code_same}
 use Rattle.zone_rules.proofs.OwnerLemmas.{owned_cut, owned_beside, owner_eq, lacks_held, owned_freed, owned_freed_others, owned_block-join_free}
 use Rattle.zone_rules.proofs.JoinLemmas.{Unique-join_free, AllFit-join_free}
 use Rattle.zone_rules.proofs.ZoneLemmas.{Unique-freed, AllFit-freed, release_frees}
-use Rattle.zone_heap.specs.Homes.{home_index, home_of, IsSlot, AreExact, AreHome}
+use Rattle.zone_heap.specs.declared.homes.Homes.{Homes}
+use Rattle.zone_heap.specs.Homes.{home_index, home_in, home_of, composites_in, IsSlot, AreExact, AreHome, AreAlike, IsSet}
 
 pub fit_at : (l m : ℕ) (F R : List Block) (b : Block) → AllFit l m (F ++ (b ∷ R)) → FitsHolding l m b.size b.holding
 fit_at l m [] R b f = f.0
@@ -35,26 +36,61 @@ free_one o (a ∷ F) R b held u = ap₂ ◌∷◌ (cond-false (is_held_by o a) _
   other true e = absurd (false≢true (sym (lacks_at o F R b (lacks_held o a.holding (F ++ (b ∷ R)) e u.0)) ∙ held))
   other false e = refl
 
-module _ (l : ℕ) (homes : List ℕ) (few : l ≤ length homes) where
-  pub slot_small : (o : Owner) → IsSlot l (length homes - l) o → home_index l o.kind o.number < length homes
-  slot_small o s = let k = code_small l (length homes - l) o s in omega arith
+module _ (homes : Homes) (few : homes.lumps ≤ length homes.list.items) where
+  -- a slot's entry is within the list
+  pub slot_small : (o : Owner) → IsSlot homes o → home_index homes.lumps o.kind o.number < length homes.list.items
+  slot_small o s = let k = code_small homes.lumps (composites_in homes) o s in omega arith
 
-  pub slot_same : (o p : Owner) → IsSlot l (length homes - l) o → IsSlot l (length homes - l) p → home_index l o.kind o.number ≡ home_index l p.kind p.number → same_owner o p ≡ true
-  slot_same o p s t e = code_same l (length homes - l) o p s t e
+  -- two slots of one entry are one owner
+  pub slot_same : (o p : Owner) → IsSlot homes o → IsSlot homes p → home_index homes.lumps o.kind o.number ≡ home_index homes.lumps p.kind p.number → same_owner o p ≡ true
+  slot_same o p s t e = code_same homes.lumps (composites_in homes) o p s t e
+
+-- a slot of homes is one of others of the same slots
+pub slot_kept : (old new : Homes) → AreAlike old new → (o : Owner) → IsSlot new o → IsSlot old o
+slot_kept old new a o s = let l = a.0 in let n = a.1 in (λ e. let k = s.0 e in omega arith, λ e. let k = s.1 e in omega arith, s.2)
+
+-- blocks that fit the slots of homes fit those of others of the same slots
+pub alike_fits : (old new : Homes) → AreAlike old new → (bs : List Block) → AllFit old.lumps (composites_in old) bs → AllFit new.lumps (composites_in new) bs
+alike_fits old new a bs f = subst (λ m. AllFit m (length new.list.items - m) bs) (sym a.0) (subst (λ n. AllFit old.lumps (n - old.lumps) bs) (sym a.1) f)
+
+-- what two changes one after the other leave has the same slots
+pub alike_then : (old mid new : Homes) → AreAlike old mid → AreAlike mid new → AreAlike old new
+alike_then old mid new a b = (b.0 ∙ a.0, b.1 ∙ a.1)
+
+-- setting a home leaves the slots
+pub set_alike : (old new : Homes) (o : Owner) (home : ℕ) → IsSet old new o home → AreAlike old new
+set_alike old new o home s = (s.lumps, ap length s.list ∙ length-set old.list.items (home_index old.lumps o.kind o.number) home)
+
+-- one home set, and other blocks
+module _ (old new : Homes) (o : Owner) (home : ℕ) (bs cs : List Block) (s : IsSet old new o home) (few : old.lumps ≤ length old.list.items) (slot : IsSlot old o) (exact : AreExact old bs) where
+  abbrev after : ℕ → ℕ → ℕ
+  after kind number = slice_index (slice_set old.list.items (home_index old.lumps o.kind o.number) home) (home_index old.lumps kind number)
+
+  moved : (p : Owner) → home_in new p.kind p.number ≡ after p.kind p.number
+  moved p = ap₂ (λ xs l. slice_index xs (home_index l p.kind p.number)) s.list s.lumps
+
+  -- the homes are exact, where the one that was set is and each other owner has the block that it had
+  pub set_exact : home ≡ home_of (owned_block o cs) → ((p : Owner) → same_owner o p ≡ false → owned_block p cs ≡ owned_block p bs) → AreExact new cs
+  set_exact here others = λ p q. moved p ∙ go p (slot_kept old new (set_alike old new o home s) p q) (same_owner o p) refl where
+    go : (p : Owner) → IsSlot old p → (t : Bool) → same_owner o p ≡ t → after p.kind p.number ≡ home_of (owned_block p cs)
+    go p q true e =
+        let same = owner_eq o p e in
+        ap (λ (r : Owner). after r.kind r.number) (sym same) ∙ get_or-set_same old.list.items (home_index old.lumps o.kind o.number) home 0 (slot_small old few o slot) ∙ here ∙ ap (λ (r : Owner). home_of (owned_block r cs)) same
+    go p q false e =
+        get_or-set_other old.list.items (home_index old.lumps o.kind o.number) (home_index old.lumps p.kind p.number) home 0 (λ same. false≢true (sym e ∙ slot_same old few o p slot q (sym same))) ∙ exact p q ∙ ap home_of (sym (others p e))
 
 -- a block freed, and the home of its slot emptied
-module _ (l : ℕ) (homes : List ℕ) (F R : List Block) (b : Block) (h : Holding) (holds : b.holding ≡ Some h) (k : AreHome l homes (F ++ (b ∷ R))) where
-  abbrev i : ℕ
-  i = home_index l h.owner.kind h.owner.number
-
+module _ (homes : Homes) (F R : List Block) (b : Block) (h : Holding) (holds : b.holding ≡ Some h) (k : AreHome homes (F ++ (b ∷ R))) where
   held : is_held_by h.owner b ≡ true
   held = ap (holds_for h.owner) holds ∙ same_self h.owner
 
-  pub slot_of : IsSlot l (length homes - l) h.owner
-  slot_of = let f = subst (FitsHolding l (length homes - l) b.size) holds (fit_at l (length homes - l) F R b k.fits) in (f.3, f.4, f.5)
+  -- a block's owner is a slot
+  pub slot_of : IsSlot homes h.owner
+  slot_of = let f = subst (FitsHolding homes.lumps (composites_in homes) b.size) holds (fit_at homes.lumps (composites_in homes) F R b k.fits) in (f.3, f.4, f.5)
 
-  pub index_small : i < length homes
-  index_small = slot_small l homes k.few h.owner slot_of
+  -- the entry of a block's owner is within the list
+  pub index_small : home_index homes.lumps h.owner.kind h.owner.number < length homes.list.items
+  index_small = slot_small homes k.few h.owner slot_of
 
   freed_is : free_owner h.owner (F ++ (b ∷ R)) ≡ F ++ (free_block b.place b.size ∷ R)
   freed_is = free_one h.owner F R b held k.unique
@@ -62,46 +98,31 @@ module _ (l : ℕ) (homes : List ℕ) (F R : List Block) (b : Block) (h : Holdin
   owned_is : (o : Owner) → owned_block o (F ++ (free_block b.place b.size ∷ R)) ≡ owned_block o (join_free (free_owner h.owner (F ++ (b ∷ R))))
   owned_is o = ap (owned_block o) (sym freed_is) ∙ sym (owned_block-join_free o (free_owner h.owner (F ++ (b ∷ R))))
 
-  exact : (o : Owner) → IsSlot l (length homes - l) o → slice_index (set homes i 4294967295) (home_index l o.kind o.number) ≡ home_of (owned_block o (F ++ (free_block b.place b.size ∷ R)))
-  exact o s = go (same_owner h.owner o) refl where
-    go : (t : Bool) → same_owner h.owner o ≡ t → slice_index (set homes i 4294967295) (home_index l o.kind o.number) ≡ home_of (owned_block o (F ++ (free_block b.place b.size ∷ R)))
-    go true e =
-        let same = owner_eq h.owner o e in
-        ap (λ (p : Owner). slice_index (set homes i 4294967295) (home_index l p.kind p.number)) (sym same) ∙ get_or-set_same homes i 4294967295 0 index_small
-        ∙ sym (ap home_of (owned_is o ∙ ap (λ (p : Owner). owned_block p (join_free (free_owner h.owner (F ++ (b ∷ R))))) (sym same) ∙ owned_freed h.owner (F ++ (b ∷ R))))
-    go false e =
-        get_or-set_other homes i (home_index l o.kind o.number) 4294967295 0 (λ same. false≢true (sym e ∙ slot_same l homes k.few h.owner o slot_of s (sym same))) ∙ k.exact o s
-        ∙ ap home_of (sym (owned_is o ∙ owned_freed_others o h.owner e (F ++ (b ∷ R))))
-
-  pub freed_home : AreHome l (set homes i 4294967295) (F ++ (free_block b.place b.size ∷ R))
-  freed_home =
-      let n = length-set homes i 4294967295 in
+  -- the owners of the blocks, and their homes, are right after the block was freed and the owner's home emptied
+  pub freed_home : (new : Homes) → IsSet homes new h.owner 4294967295 → AreHome new (F ++ (free_block b.place b.size ∷ R))
+  freed_home new set =
+      let a = set_alike homes new h.owner 4294967295 set in
       let few' = k.few in
+      let l = a.0 in
+      let n = a.1 in
       record {
         few = omega arith;
         unique = subst Unique freed_is (Unique-freed _ (release_frees h.owner) (F ++ (b ∷ R)) k.unique);
-        fits = subst (λ m. AllFit l (m - l) (F ++ (free_block b.place b.size ∷ R))) (sym n) (subst (AllFit l (length homes - l)) freed_is (AllFit-freed _ (release_frees h.owner) l (length homes - l) (F ++ (b ∷ R)) k.fits));
-        exact = λ o s. exact o (subst (λ m. IsSlot l (m - l) o) n s);
+        fits = alike_fits homes new a _ (subst (AllFit homes.lumps (composites_in homes)) freed_is (AllFit-freed _ (release_frees h.owner) homes.lumps (composites_in homes) (F ++ (b ∷ R)) k.fits));
+        exact = set_exact homes new h.owner 4294967295 (F ++ (b ∷ R)) (F ++ (free_block b.place b.size ∷ R)) set k.few slot_of k.exact (sym (ap home_of (owned_is h.owner ∙ owned_freed h.owner (F ++ (b ∷ R))))) (λ p e. owned_is p ∙ owned_freed_others p h.owner e (F ++ (b ∷ R)));
       }
 
 -- joined blocks have the same owners
-pub joined_home : (l : ℕ) (homes : List ℕ) (bs : List Block) → AreHome l homes bs → AreHome l homes (join_free bs)
-joined_home l homes bs k = record {
+pub joined_home : (homes : Homes) (bs : List Block) → AreHome homes bs → AreHome homes (join_free bs)
+joined_home homes bs k = record {
   few = k.few;
   unique = Unique-join_free bs k.unique;
-  fits = AllFit-join_free l (length homes - l) bs k.fits;
+  fits = AllFit-join_free homes.lumps (composites_in homes) bs k.fits;
   exact = λ o s. k.exact o s ∙ ap home_of (sym (owned_block-join_free o bs));
 }
 
 -- a free block given to a slot without one, and the slot's home set
-pub taken_exact : (l : ℕ) (homes : List ℕ) (F R : List Block) (p size wanted : ℕ) (h : Holding) → AreHome l homes (F ++ (free_block p size ∷ R)) → IsSlot l (length homes - l) h.owner → Lacks h.owner (F ++ (free_block p size ∷ R))
-    → AreExact l (set homes (home_index l h.owner.kind h.owner.number) p) (F ++ (cut_block wanted h (free_block p size) ++ R))
-taken_exact l homes F R p size wanted h k slot lacks = λ o s. go o (subst (λ m. IsSlot l (m - l) o) (length-set homes (home_index l h.owner.kind h.owner.number) p) s) (same_owner h.owner o) refl where
-  go : (o : Owner) → IsSlot l (length homes - l) o → (t : Bool) → same_owner h.owner o ≡ t → slice_index (set homes (home_index l h.owner.kind h.owner.number) p) (home_index l o.kind o.number) ≡ home_of (owned_block o (F ++ (cut_block wanted h (free_block p size) ++ R)))
-  go o s true e =
-      let same = owner_eq h.owner o e in
-      ap (λ (q : Owner). slice_index (set homes (home_index l h.owner.kind h.owner.number) p) (home_index l q.kind q.number)) (sym same) ∙ get_or-set_same homes (home_index l h.owner.kind h.owner.number) p 0 (slot_small l homes k.few h.owner slot)
-      ∙ sym (ap home_of (ap (λ (q : Owner). owned_block q (F ++ (cut_block wanted h (free_block p size) ++ R))) (sym same) ∙ owned_cut p size wanted h F R lacks))
-  go o s false e =
-      get_or-set_other homes (home_index l h.owner.kind h.owner.number) (home_index l o.kind o.number) p 0 (λ same. false≢true (sym e ∙ slot_same l homes k.few h.owner o slot s (sym same))) ∙ k.exact o s
-      ∙ ap home_of (sym (owned_beside p size wanted h o e F R))
+pub taken_exact : (homes new : Homes) (F R : List Block) (p size wanted : ℕ) (h : Holding) → AreHome homes (F ++ (free_block p size ∷ R)) → IsSlot homes h.owner → Lacks h.owner (F ++ (free_block p size ∷ R)) → IsSet homes new h.owner p
+    → AreExact new (F ++ (cut_block wanted h (free_block p size) ++ R))
+taken_exact homes new F R p size wanted h k slot lacks set =
+    set_exact homes new h.owner p (F ++ (free_block p size ∷ R)) (F ++ (cut_block wanted h (free_block p size) ++ R)) set k.few slot k.exact (sym (ap home_of (owned_cut p size wanted h F R lacks))) (λ o e. owned_beside p size wanted h o e F R)

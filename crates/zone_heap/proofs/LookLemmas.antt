@@ -1,12 +1,13 @@
 -- A slot's block, found at the slot's home.
-use Rattle.std.proofs.Common.{◌≡◌, ℕ, ◌+◌, ◌/◌, ◌%◌, ◌<◌, ◌≤◌, Bool, true, false, cond, List, [], ◌∷◌, ◌++◌, length, set, Option, Some, None, refl, sym, subst, ap, ap₂, ◌∙◌, arith}
-use Rattle.std.specs.Prelude.{◌==◌, IsSome, option_and_then, slice_index}
+use Rattle.std.proofs.Common.{◌≡◌, ℕ, ◌+◌, ◌/◌, ◌%◌, ◌<◌, ◌≤◌, Bool, true, false, cond, List, [], ◌∷◌, ◌++◌, length, Option, Some, None, refl, sym, subst, ap, ap₂, ◌∙◌, arith}
+use Rattle.std.specs.Prelude.{◌==◌, IsSome, option_and_then}
 use Rattle.std.proofs.lemmas.Bool.{cond-false, false≢true}
 use Rattle.std.proofs.lemmas.List.{length-append}
 use Rattle.zone_rules.specs.Zones.{Unique, free_block, Block, Owner, owned_block, holding_of, is_held_by, holds_for}
-use Rattle.zone_heap.specs.Headers.{word_at, with_use, freed, block_in, live_in}
+use Rattle.zone_heap.specs.Headers.{owner_in, word_at, with_use, freed, block_in, live_in}
 use Rattle.zone_heap.specs.Regions.{joined, blocks_in, blocks_from, AllWhole, IsLaid, IsSplit}
-use Rattle.zone_heap.specs.Homes.{home_index, home_of, AreHome, IsHomed}
+use Rattle.zone_heap.specs.declared.homes.Homes.{Homes}
+use Rattle.zone_heap.specs.Homes.{home_index, home_in, home_of, AreHome, IsHomed, IsSet}
 use Rattle.zone_heap.proofs.WordLemmas.{word_within, used_within, length-with_use}
 use Rattle.zone_rules.specs.Frees.{free_owner}
 use Rattle.zone_heap.proofs.PurgeLemmas.{length-freed, told-freed, block-freed}
@@ -95,21 +96,22 @@ pub holding_found : (region : List ℕ) (o : Owner) (place : ℕ) (f : IsFound r
 holding_found region o place f = ap (option_and_then (λ (b : Block). b.holding)) f.owned ∙ f.holds
 
 -- a live slot's block freed
-module _ (l : ℕ) (homes region : List ℕ) (o : Owner) (place : ℕ) (f : IsFound region o place) (home : AreHome l homes (blocks_in region)) where
+module _ (homes : Homes) (region : List ℕ) (o : Owner) (place : ℕ) (f : IsFound region o place) (home : AreHome homes (blocks_in region)) where
   abbrev pub found_after : List ℕ
   found_after = with_use region place 0 4294967295 0
 
-  abbrev pub found_index : ℕ
-  found_index = home_index l (word_at region (place + 8) / 16777216) (word_at region (place + 8) % 16777216)
+  abbrev pub found_word : ℕ
+  found_word = word_at region (place + 8)
 
-  index_is : found_index ≡ home_index l (live_in f.part).owner.kind (live_in f.part).owner.number
-  index_is = ap (λ w. home_index l (w / 16777216) (w % 16777216)) (f.words 8 (omega arith))
+  word_is : found_word ≡ word_at f.part 8
+  word_is = f.words 8 (omega arith)
 
-  home_here : AreHome l homes (f.front ++ (f.block ∷ f.rest))
-  home_here = subst (AreHome l homes) f.is home
+  home_here : AreHome homes (f.front ++ (f.block ∷ f.rest))
+  home_here = subst (AreHome homes) f.is home
 
-  pub found_small : found_index < length homes
-  found_small = subst (λ k. k < length homes) (sym index_is) (index_small l homes f.front f.rest f.block (live_in f.part) f.holds home_here)
+  -- the entry of its owner is within the list of homes
+  pub found_small : home_index homes.lumps (found_word / 16777216) (found_word % 16777216) < length homes.list.items
+  found_small = subst (λ w. home_index homes.lumps (w / 16777216) (w % 16777216) < length homes.list.items) (sym word_is) (index_small homes f.front f.rest f.block (live_in f.part) f.holds home_here)
 
   parts_are : found_after ≡ joined f.split.front ++ (freed f.part ++ joined f.others)
   parts_are =
@@ -139,10 +141,9 @@ module _ (l : ℕ) (homes region : List ℕ) (o : Owner) (place : ℕ) (f : IsFo
   pub found_blocks : blocks_in found_after ≡ free_owner o (blocks_in region)
   found_blocks = blocks_are ∙ sym (ap (free_owner o) f.is ∙ free_one o f.front f.rest f.block f.held (subst Unique f.is home.unique))
 
-  pub found_home : AreHome l (set homes found_index 4294967295) (blocks_in found_after)
-  found_home =
-      subst (λ i. AreHome l (set homes i 4294967295) (blocks_in found_after)) (sym index_is)
-      (subst (AreHome l (set homes (home_index l (live_in f.part).owner.kind (live_in f.part).owner.number) 4294967295)) (sym blocks_are) (freed_home l homes f.front f.rest f.block (live_in f.part) f.holds home_here))
+  -- the owners of the blocks, and their homes, are right once the owner's home is emptied too
+  pub found_home : (new : Homes) → IsSet homes new (owner_in found_word) 4294967295 → AreHome new (blocks_in found_after)
+  found_home new set = subst (AreHome new) (sym blocks_are) (freed_home homes f.front f.rest f.block (live_in f.part) f.holds home_here new (subst (λ w. IsSet homes new (owner_in w) 4294967295) word_is set))
 
 -- a slot's home says whether the slot is live
 module _ (region : List ℕ) (laid : IsLaid region) (o : Owner) (home : ℕ) (is : home ≡ home_of (owned_block o (blocks_in region))) where
@@ -159,15 +160,18 @@ module _ (region : List ℕ) (laid : IsLaid region) (o : Owner) (home : ℕ) (is
     go (Some b) k = absurd (let f = look region laid o home (subst IsSome (sym k) refl) is in let a = f.fits in let l = f.large in omega arith)
 
 -- a slot's home as the list of homes has it
-module _ (region : List ℕ) (laid : IsLaid region) (l : ℕ) (homes : List ℕ) (o : Owner) (homed : IsHomed l homes o (blocks_in region)) (home : ℕ) (is : home ≡ slice_index homes (home_index l o.kind o.number)) where
+module _ (region : List ℕ) (laid : IsLaid region) (homes : Homes) (o : Owner) (homed : IsHomed homes o (blocks_in region)) (home : ℕ) (is : home ≡ home_in homes o.kind o.number) where
   home_exact : home ≡ home_of (owned_block o (blocks_in region))
   home_exact = is ∙ homed.2 o homed.1
 
+  -- a live slot's block stands at the slot's home
   pub homed_live : IsSome (owned_block o (blocks_in region)) → IsFound region o home
   homed_live live = look region laid o home live home_exact
 
+  -- so does that of a slot whose home is a place
   pub homed_found : (home ≡ 4294967295 → ⊥) → IsFound region o home
   homed_found other = homed_live (live_home region laid o home home_exact other)
 
+  -- a slot whose home is none has no block
   pub homed_none : length region < 4294967295 → home ≡ 4294967295 → owned_block o (blocks_in region) ≡ None
   homed_none = no_home region laid o home home_exact

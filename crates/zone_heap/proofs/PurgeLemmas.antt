@@ -1,17 +1,18 @@
 -- A pass over the region that frees purgeable blocks.
-use Rattle.std.proofs.Common.{◌≡◌, ℕ, zero, suc, ◌+◌, ◌/◌, ◌%◌, ◌<◌, ◌≤◌, Bool, true, false, cond, List, [], ◌∷◌, ◌++◌, length, take, drop, map, set, count_by, Some, None, refl, sym, subst, ap, ap₂, ◌∙◌, arith, inl}
+use Rattle.std.proofs.Common.{◌≡◌, ℕ, zero, suc, ◌+◌, ◌/◌, ◌%◌, ◌<◌, ◌≤◌, Bool, true, false, cond, List, [], ◌∷◌, ◌++◌, length, take, drop, map, count_by, Some, None, refl, sym, subst, ap, ap₂, ◌∙◌, arith, inl}
 use Rattle.std.specs.Prelude.{◌==◌}
 use Rattle.std.proofs.lemmas.Bool.{cond-true, cond-false, false≢true}
-use Rattle.std.proofs.lemmas.List.{append_assoc, map-append, length-set}
+use Rattle.std.proofs.lemmas.List.{append_assoc, map-append}
 use Rattle.std.proofs.lemmas.List.Sums.{sum_by-append, sum_by-cons}
 use Rattle.zone_rules.specs.Zones.{Block, free_block, is_purgeable}
 use Rattle.zone_rules.specs.Requests.{purge_block}
-use Rattle.zone_heap.specs.Headers.{word_at, with_word, with_use, block_in, holding_in, live_in, freed}
+use Rattle.zone_heap.specs.Headers.{owner_in, word_at, with_word, with_use, block_in, holding_in, live_in, freed}
 use Rattle.zone_heap.specs.Regions.{joined, blocks_in, blocks_from, IsSplit}
-use Rattle.zone_heap.specs.Homes.{home_index, AreHome}
+use Rattle.zone_heap.specs.declared.homes.Homes.{Homes}
+use Rattle.zone_heap.specs.Homes.{home_index, AreHome, AreAlike, IsSet}
 use Rattle.zone_heap.proofs.WordLemmas.{word_same, word_other, length-with_word, length-with_use, used_within, word_from}
 use Rattle.zone_heap.proofs.PartLemmas.{Opened, opened_is, whole_rest, split_next, blocks_next, length_after, blocks_split, blocks-append}
-use Rattle.zone_heap.proofs.HomeLemmas.{freed_home, index_small}
+use Rattle.zone_heap.proofs.HomeLemmas.{alike_then, set_alike, freed_home, index_small}
 
 module _ (c : List ℕ) (large : 24 ≤ length c) where
   pub length-freed : length (freed c) ≡ length c
@@ -53,24 +54,26 @@ drop_next [] (suc k) b rest e = cc
 drop_next (c ∷ bs) zero b rest e = cc
 drop_next (c ∷ bs) (suc k) b rest e = ap (λ n. drop n (c ∷ bs)) (let f : suc k + 1 ≡ suc (k + 1) = omega arith in f) ∙ drop_next bs k b rest e
 
-pub record PurgedTo (lumps : ℕ) (old : List ℕ) (all : List ℕ) (region homes : List ℕ) (from at passed count : ℕ) : Type 0 where
+-- a pass so far: it stands at a block, has gone over so many, and freed the purgeable ones among them
+pub record PurgedTo (old : List ℕ) (all : Homes) (region : List ℕ) (homes : Homes) (from at passed count : ℕ) : Type 0 where
   pub split : IsSplit region at
   pub len : length region ≡ length old
-  pub homes_len : length homes ≡ length all
-  pub home : AreHome lumps homes (blocks_in region)
+  pub alike : AreAlike all homes
+  pub home : AreHome homes (blocks_in region)
   pub low : passed ≤ at
   pub few : count ≤ passed
   pub front : (s : IsSplit old from) → blocks_from 0 split.front ≡ blocks_from 0 s.front ++ map purge_block (take passed (blocks_from from s.rest))
   pub rest : (s : IsSplit old from) → blocks_from at split.rest ≡ drop passed (blocks_from from s.rest)
   pub count_is : (s : IsSplit old from) → count ≡ count_by is_purgeable (take passed (blocks_from from s.rest))
 
-pub purged_blocks : (lumps : ℕ) (old all region homes : List ℕ) (from at passed count : ℕ) (p : PurgedTo lumps old all region homes from at passed count) (s : IsSplit old from)
+-- the blocks are those before the pass, those that it went over, freed where they were purgeable, and the rest
+pub purged_blocks : (old : List ℕ) (all : Homes) (region : List ℕ) (homes : Homes) (from at passed count : ℕ) (p : PurgedTo old all region homes from at passed count) (s : IsSplit old from)
     → blocks_in region ≡ blocks_from 0 s.front ++ (map purge_block (take passed (blocks_from from s.rest)) ++ drop passed (blocks_from from s.rest))
-purged_blocks lumps old all region homes from at passed count p s =
+purged_blocks old all region homes from at passed count p s =
     let bs = blocks_from from s.rest in
     blocks_split region at p.split ∙ ap₂ ◌++◌ (p.front s) (p.rest s) ∙ append_assoc (blocks_from 0 s.front) (map purge_block (take passed bs)) (drop passed bs)
 
-module _ (lumps : ℕ) (old all region homes : List ℕ) (from at passed count : ℕ) (p : PurgedTo lumps old all region homes from at passed count) (n : ℕ) (o : Opened region at p.split n) where
+module _ (old : List ℕ) (all : Homes) (region : List ℕ) (homes : Homes) (from at passed count : ℕ) (p : PurgedTo old all region homes from at passed count) (n : ℕ) (o : Opened region at p.split n) where
   abbrev here : Block
   here = block_in at o.part
 
@@ -90,7 +93,7 @@ module _ (lumps : ℕ) (old all region homes : List ℕ) (from at passed count :
       ∙ ap (λ xs. blocks_from 0 s.front ++ xs) (sym (map-append purge_block bs (here ∷ [])) ∙ ap (map purge_block) (sym (take_next (blocks_from from s.rest) passed here _ (behind_is s))))
 
   -- a block that is no purgeable one
-  pub passed_step : is_purgeable here ≡ false → PurgedTo lumps old all region homes from (at + n) (passed + 1) count
+  pub passed_step : is_purgeable here ≡ false → PurgedTo old all region homes from (at + n) (passed + 1) count
   passed_step off =
       let l = o.large in
       let k = p.low in
@@ -99,7 +102,7 @@ module _ (lumps : ℕ) (old all region homes : List ℕ) (from at passed count :
       record {
         split = o.next;
         len = p.len;
-        homes_len = p.homes_len;
+        alike = p.alike;
         home = p.home;
         low = omega arith;
         few = omega arith;
@@ -147,16 +150,16 @@ module _ (lumps : ℕ) (old all region homes : List ℕ) (from at passed count :
     next = split_next region at n p.split o part same told after after_is
 
     abbrev index : ℕ
-    index = home_index lumps (word_at region (at + 8) / 16777216) (word_at region (at + 8) % 16777216)
+    index = home_index homes.lumps (word_at region (at + 8) / 16777216) (word_at region (at + 8) % 16777216)
 
-    index_is : index ≡ home_index lumps (live_in o.part).owner.kind (live_in o.part).owner.number
-    index_is = ap (λ w. home_index lumps (w / 16777216) (w % 16777216)) word_is
+    home_here : AreHome homes (blocks_from 0 p.split.front ++ (here ∷ blocks_from (at + n) o.next.rest))
+    home_here = subst (AreHome homes) (blocks_split region at p.split ∙ ap (λ bs. blocks_from 0 p.split.front ++ bs) o.blocks) p.home
 
-    home_here : AreHome lumps homes (blocks_from 0 p.split.front ++ (here ∷ blocks_from (at + n) o.next.rest))
-    home_here = subst (AreHome lumps homes) (blocks_split region at p.split ∙ ap (λ bs. blocks_from 0 p.split.front ++ bs) o.blocks) p.home
-
-    pub slot_there : index < length homes
-    slot_there = subst (λ k. k < length homes) (sym index_is) (index_small lumps homes (blocks_from 0 p.split.front) (blocks_from (at + n) o.next.rest) here (live_in o.part) holds home_here)
+    -- the entry of the block's owner is within the list of homes
+    pub slot_there : index < length homes.list.items
+    slot_there =
+        subst (λ w. home_index homes.lumps (w / 16777216) (w % 16777216) < length homes.list.items) (sym word_is)
+        (index_small homes (blocks_from 0 p.split.front) (blocks_from (at + n) o.next.rest) here (live_in o.part) holds home_here)
 
     free_here : block_in at part ≡ free_block at (length o.part)
     free_here = block-freed o.part large at
@@ -164,8 +167,9 @@ module _ (lumps : ℕ) (old all region homes : List ℕ) (from at passed count :
     front_is : blocks_from 0 next.front ≡ blocks_from 0 p.split.front ++ (free_block at (length o.part) ∷ [])
     front_is = blocks_next region at n p.split o part same told after after_is ∙ ap (λ b. blocks_from 0 p.split.front ++ (b ∷ [])) free_here
 
-    pub freed_step : PurgedTo lumps old all after (set homes index 4294967295) from (at + n) (passed + 1) (count + 1)
-    freed_step =
+    -- the pass goes on over a purgeable block, which is freed
+    pub freed_step : (new : Homes) → IsSet homes new (owner_in (word_at region (at + 8))) 4294967295 → PurgedTo old all after new from (at + n) (passed + 1) (count + 1)
+    freed_step new set =
         let l = o.large in
         let k = p.low in
         let f = p.few in
@@ -173,11 +177,9 @@ module _ (lumps : ℕ) (old all region homes : List ℕ) (from at passed count :
         record {
           split = next;
           len = length_after region at n p.split o part same told after after_is ∙ p.len;
-          homes_len = length-set homes index 4294967295 ∙ p.homes_len;
-          home = subst (λ i. AreHome lumps (set homes i 4294967295) (blocks_in after)) (sym index_is)
-              (subst (AreHome lumps (set homes (home_index lumps (live_in o.part).owner.kind (live_in o.part).owner.number) 4294967295))
-              (sym (blocks_split after (at + n) next ∙ ap (λ bs. bs ++ later) front_is ∙ append_assoc (blocks_from 0 p.split.front) (free_block at (length o.part) ∷ []) later))
-              (freed_home lumps homes (blocks_from 0 p.split.front) later here (live_in o.part) holds home_here));
+          alike = alike_then all homes new p.alike (set_alike homes new _ 4294967295 set);
+          home = subst (AreHome new) (sym (blocks_split after (at + n) next ∙ ap (λ bs. bs ++ later) front_is ∙ append_assoc (blocks_from 0 p.split.front) (free_block at (length o.part) ∷ []) later))
+              (freed_home homes (blocks_from 0 p.split.front) later here (live_in o.part) holds home_here new (subst (λ w. IsSet homes new (owner_in w) 4294967295) word_is set));
           low = omega arith;
           few = omega arith;
           front = λ s. front_is ∙ fronted s (free_block at (length o.part)) (cond-true (is_purgeable here) _ _ on);

@@ -1,6 +1,6 @@
 -- The zone's fields, and what its calls need and give back.
 use Rattle.std.proofs.Common.{◌≡◌, ℕ, ◌+◌, ◌-◌, ◌*◌, ◌/◌, ◌%◌, ◌<◌, ◌≤◌, false, List, length, map, take, drop, ◌++◌, Global, Option, Some, None, refl, sym, subst, ap, ap₂, ◌∙◌, arith, option_map, inl, inr}
-use Rattle.std.specs.Prelude.{◌==◌, ◌⊎◌, slice_index, slice_range, IsSome, option_and_then, vec_len, is_some, not}
+use Rattle.std.specs.Prelude.{◌==◌, ◌⊎◌, slice_range, IsSome, option_and_then, vec_len, is_some, not}
 use Rattle.std.proofs.lemmas.Bool.{cases_eq, eq-eqb, ne_eqb}
 use Rattle.std.proofs.lemmas.List.{length-take, length-drop}
 use Rattle.std.specs.declared.vec.Vec.{Vec}
@@ -9,6 +9,7 @@ use Rattle.zone_rules.specs.Zones.{Heap, Block, Holding, Owner, AllFit, IsSound,
 use Rattle.zone_rules.proofs.OwnerLemmas.{owned_apart}
 use Rattle.zone_rules.specs.Frees.{retag_block, write_block, with_bytes}
 use Rattle.zone_rules.proofs.ChangeLemmas.{retag_keeps, with_bytes_sound, write_keeps}
+use Rattle.zone_heap.specs.declared.homes.Homes.{Homes}
 use Rattle.zone_heap.specs.declared.look.Span.{Span}
 use Rattle.zone_rules.proofs.OwnerLemmas.{owned_block-map, retag_held, write_held}
 use Rattle.zone_rules.proofs.SoundLemmas.{in_range_of}
@@ -16,7 +17,7 @@ use Rattle.zone_heap.specs.declared.zone.Zone.TheInside.{Inside}
 use Rattle.zone_heap.specs.View.{heap_of, IsZone}
 use Rattle.zone_heap.specs.Headers.{owner_in, word_at, live_in}
 use Rattle.zone_heap.specs.Regions.{blocks_in, IsRing}
-use Rattle.zone_heap.specs.Homes.{home_index, home_of, IsSlot, AreExact, AreHome}
+use Rattle.zone_heap.specs.Homes.{home_in, home_of, composites_in, IsSlot, AreExact, AreHome, AreAlike}
 use Rattle.zone_heap.proofs.LookLemmas.{IsFound, look, holding_found}
 use Rattle.zone_heap.proofs.ChangeLemmas.{asked_fits, bytes_found}
 use Rattle.zone_heap.proofs.WriteLemmas.{written_ring, written_blocks}
@@ -32,14 +33,17 @@ home_map : (f : Block → Block) (places : (b : Block) → (f b).place ≡ b.pla
 home_map f places None = refl
 home_map f places (Some b) = places b
 
-pub exact_map : (l : ℕ) (homes : List ℕ) (bs : List Block) (f : Block → Block) (stays : (o : Owner) (b : Block) → is_held_by o (f b) ≡ is_held_by o b) (places : (b : Block) → (f b).place ≡ b.place) → AreExact l homes bs → AreExact l homes (map f bs)
-exact_map l homes bs f stays places e = λ o s. e o s ∙ sym (ap home_of (owned_block-map o f (stays o) bs) ∙ home_map f places (owned_block o bs))
+-- the homes are exact after such a change, if they were
+pub exact_map : (homes : Homes) (bs : List Block) (f : Block → Block) (stays : (o : Owner) (b : Block) → is_held_by o (f b) ≡ is_held_by o b) (places : (b : Block) → (f b).place ≡ b.place) → AreExact homes bs → AreExact homes (map f bs)
+exact_map homes bs f stays places e = λ o s. e o s ∙ sym (ap home_of (owned_block-map o f (stays o) bs) ∙ home_map f places (owned_block o bs))
 
-pub exact_tagged : (l : ℕ) (homes : List ℕ) (bs : List Block) (p : Owner) (tag : Tag) → AreExact l homes bs → AreExact l homes (map (retag_block p tag) bs)
-exact_tagged l homes bs p tag = exact_map l homes bs (retag_block p tag) (λ o. retag_held o p tag) (retag_keeps p tag).place
+-- so they are after a change of a tag
+pub exact_tagged : (homes : Homes) (bs : List Block) (p : Owner) (tag : Tag) → AreExact homes bs → AreExact homes (map (retag_block p tag) bs)
+exact_tagged homes bs p tag = exact_map homes bs (retag_block p tag) (λ o. retag_held o p tag) (retag_keeps p tag).place
 
-pub exact_written : (l : ℕ) (homes : List ℕ) (bs : List Block) (p : Owner) (w : List ℕ) → AreExact l homes bs → AreExact l homes (map (write_block p w) bs)
-exact_written l homes bs p w = exact_map l homes bs (write_block p w) (λ o. write_held o p w) (write_keeps p w).place
+-- and after a change of a block's bytes
+pub exact_written : (homes : Homes) (bs : List Block) (p : Owner) (w : List ℕ) → AreExact homes bs → AreExact homes (map (write_block p w) bs)
+exact_written homes bs p w = exact_map homes bs (write_block p w) (λ o. write_held o p w) (write_keeps p w).place
 
 held_some : (x : Option Block) → IsSome (option_and_then (λ (b : Block). b.holding) x) → IsSome x
 held_some None k = k
@@ -51,13 +55,14 @@ pub record IsSpan (i : Inside) (z : Heap) (kind number : ℕ) (s : Span) : Type 
   pub known : kind ≤ 1
   pub inside : number < slot_count (heap_of i) kind
   pub live : IsLive (heap_of i) (owner_at kind number)
-  pub from_is : s.from ≡ slice_index i.homes.items (home_index i.lumps kind number) + 24
-  pub to_is : s.to ≡ s.from + word_at i.region.items (slice_index i.homes.items (home_index i.lumps kind number) + 4)
+  pub from_is : s.from ≡ home_in i.homes kind number + 24
+  pub to_is : s.to ≡ s.from + word_at i.region.items (home_in i.homes kind number + 4)
 
-pub span_is : (i : Inside) (z : Heap) → heap_of i ≡ z → (kind number : ℕ) → kind ≤ 1 → number < slot_count z kind → IsLive z (owner_at kind number) → (region homes : List ℕ) → region ≡ i.region.items → homes ≡ i.homes.items → (k n : ℕ) → k ≡ kind → n ≡ number
-    → (s : Span) → s.from ≡ slice_index homes (home_index i.lumps k n) + 24 → s.to ≡ s.from + word_at region (slice_index homes (home_index i.lumps k n) + 4) → IsSpan i z kind number s
-span_is i z view kind number known inside live region homes region_is homes_is k n k_is n_is s from to =
-    let home = ap₂ slice_index homes_is (ap₂ (home_index i.lumps) k_is n_is) in
+-- what a look-up of a live slot's bytes answers is their span
+pub span_is : (i : Inside) (z : Heap) → heap_of i ≡ z → (kind number : ℕ) → kind ≤ 1 → number < slot_count z kind → IsLive z (owner_at kind number) → (region : List ℕ) → region ≡ i.region.items → (k n : ℕ) → k ≡ kind → n ≡ number
+    → (s : Span) → s.from ≡ home_in i.homes k n + 24 → s.to ≡ s.from + word_at region (home_in i.homes k n + 4) → IsSpan i z kind number s
+span_is i z view kind number known inside live region region_is k n k_is n_is s from to =
+    let home = ap₂ (home_in i.homes) k_is n_is in
     record {
       view = view;
       known = known;
@@ -78,39 +83,43 @@ abbrev pub IsPart : (List ℕ → Type 0) → ℕ → ℕ → List ℕ → List 
 IsPart P from to old new = (w : List ℕ) × (length w ≡ to - from) × P w × (new ≡ take from old ++ (w ++ drop to old))
 
 module _ (i : Inside) (zone : IsZone i) where
-  pub homes_len : length i.homes.items ≡ i.lumps + i.composites
-  homes_len = let a = zone.homes in let b = i.homes.ok.0 in omega arith
+  -- a home for each slot
+  pub homes_len : length i.homes.list.items ≡ i.homes.lumps + i.composites
+  homes_len = let a = zone.homes in let b = i.homes.list.ok.0 in omega arith
 
   pub region_len : length i.region.items ≡ i.size
   region_len = let a = zone.region in let b = i.region.ok.0 in omega arith
 
-  pub few : i.lumps ≤ length i.homes.items
+  pub few : i.homes.lumps ≤ length i.homes.list.items
   few = let a = homes_len in omega arith
 
-  pub others : length i.homes.items - i.lumps ≡ i.composites
+  -- those that are not of lumps are of composites
+  pub others : composites_in i.homes ≡ i.composites
   others = let a = homes_len in omega arith
 
-  pub home_all : AreHome i.lumps i.homes.items (blocks_in i.region.items)
-  home_all = record { few = few; unique = zone.sound.unique; fits = subst (λ m. AllFit i.lumps m (blocks_in i.region.items)) (sym others) zone.sound.fits; exact = zone.exact }
+  -- the owners of the zone's blocks, and their homes, are right
+  pub home_all : AreHome i.homes (blocks_in i.region.items)
+  home_all = record { few = few; unique = zone.sound.unique; fits = subst (λ m. AllFit i.homes.lumps m (blocks_in i.region.items)) (sym others) zone.sound.fits; exact = zone.exact }
 
-  -- another region and other homes of as many bytes and slots
-  pub zone_with : (region homes : Vec ℕ Global) (rover purges : ℕ) → vec_len region ≡ vec_len i.region → vec_len homes ≡ vec_len i.homes → IsSound (heap_of (record i { region = region; homes = homes; rover = rover; purges = purges })) → IsRing region.items → AreExact i.lumps homes.items (blocks_in region.items)
-      → IsZone (record i { region = region; homes = homes; rover = rover; purges = purges })
-  zone_with region homes rover purges r h sound ring exact = record {
+  -- another region and other homes of as many bytes and slots are a zone's, where the blocks are sound and the homes exact
+  pub zone_with : (region : Vec ℕ Global) (homes : Homes) (rover purges : ℕ) → vec_len region ≡ vec_len i.region → AreAlike i.homes homes → IsSound (heap_of (record i { region = region; homes = homes; rover = rover; purges = purges })) → IsRing region.items
+      → AreExact homes (blocks_in region.items) → IsZone (record i { region = region; homes = homes; rover = rover; purges = purges })
+  zone_with region homes rover purges r alike sound ring exact = record {
     sound = sound;
     ring = ring;
     exact = exact;
     region = r ∙ zone.region;
     least = zone.least;
     small = zone.small;
-    lumps = zone.lumps;
+    lumps = let a = zone.lumps in let l = alike.0 in omega arith;
     composites = zone.composites;
-    homes = h ∙ zone.homes;
+    homes = let l = alike.0 in let n = alike.1 in let a = zone.homes in let b = homes.list.ok.0 in let d = i.homes.list.ok.0 in omega arith;
   }
 
   module _ (kind number : ℕ) (known : kind ≤ 1) (inside : number < slot_count (heap_of i) kind) where
-    pub slot_is : IsSlot i.lumps (length i.homes.items - i.lumps) (owner_at kind number)
-    slot_is = subst (λ m. IsSlot i.lumps m (owner_at kind number)) (sym others) (in_range_of (heap_of i) kind number known inside)
+    -- a number within the range of its kind is a slot
+    pub slot_is : IsSlot i.homes (owner_at kind number)
+    slot_is = let r = in_range_of (heap_of i) kind number known inside in let m = others in (r.0, λ e. let k = r.1 e in omega arith, r.2)
 
     pub number_small : number < 16777216
     number_small = go (cases_eq kind 0) (cases_eq kind 1) where
@@ -123,11 +132,12 @@ module _ (i : Inside) (zone : IsZone i) where
       pub owned_live : IsSome (owned_block (owner_at kind number) (blocks_in i.region.items))
       owned_live = held_some (owned_block (owner_at kind number) (blocks_in i.region.items)) live
 
-      pub found : IsFound i.region.items (owner_at kind number) (slice_index i.homes.items (home_index i.lumps kind number))
-      found = look i.region.items zone.ring.laid (owner_at kind number) (slice_index i.homes.items (home_index i.lumps kind number)) owned_live (zone.exact (owner_at kind number) slot_is)
+      -- its block stands at its home
+      pub found : IsFound i.region.items (owner_at kind number) (home_in i.homes kind number)
+      found = look i.region.items zone.ring.laid (owner_at kind number) (home_in i.homes kind number) owned_live (zone.exact (owner_at kind number) slot_is)
 
     -- whether a slot is live, by its home
-    pub live_told : (home : ℕ) → home ≡ slice_index i.homes.items (home_index i.lumps kind number) → not (home == 4294967295) ≡ is_some (holding_of (owner_at kind number) (blocks_in i.region.items))
+    pub live_told : (home : ℕ) → home ≡ home_in i.homes kind number → not (home == 4294967295) ≡ is_some (holding_of (owner_at kind number) (blocks_in i.region.items))
     live_told home e = go (owned_block (owner_at kind number) (blocks_in i.region.items)) refl where
       at : home ≡ home_of (owned_block (owner_at kind number) (blocks_in i.region.items))
       at = e ∙ zone.exact (owner_at kind number) slot_is
@@ -145,13 +155,13 @@ module _ (i : Inside) (zone : IsZone i) where
   -- the span of a live slot
   module _ (z : Heap) (kind number : ℕ) (s : Span) (p : IsSpan i z kind number s) where
     abbrev home : ℕ
-    home = slice_index i.homes.items (home_index i.lumps kind number)
+    home = home_in i.homes kind number
 
     abbrev there : IsFound i.region.items (owner_at kind number) home
     there = found kind number p.known p.inside p.live
 
     fits : word_at there.part 4 + 24 ≤ length there.part
-    fits = asked_fits i.region.items (owner_at kind number) home there i.lumps i.composites zone.sound.fits
+    fits = asked_fits i.region.items (owner_at kind number) home there i.homes.lumps i.composites zone.sound.fits
 
     to_word : s.to ≡ home + 24 + word_at there.part 4
     to_word = let a = there.words 4 (omega arith) in let b = p.from_is in let c = p.to_is in omega arith
@@ -164,7 +174,7 @@ module _ (i : Inside) (zone : IsZone i) where
         let a = to_word in
         let b = p.from_is in
         let n : word_at there.part 4 ≡ s.to - s.from = omega arith in
-        ap (λ (y : Heap). bytes_of (owner_at kind number) y.blocks) (sym p.view) ∙ bytes_found i.region.items (owner_at kind number) home there i.lumps i.composites zone.sound.fits ∙ ap₂ (λ k q. Some (take k (drop q i.region.items))) n (sym p.from_is)
+        ap (λ (y : Heap). bytes_of (owner_at kind number) y.blocks) (sym p.view) ∙ bytes_found i.region.items (owner_at kind number) home there i.homes.lumps i.composites zone.sound.fits ∙ ap₂ (λ k q. Some (take k (drop q i.region.items))) n (sym p.from_is)
 
     span_len : length (slice_range i.region.items s.from s.to) ≡ s.to - s.from
     span_len =
@@ -190,7 +200,7 @@ module _ (i : Inside) (zone : IsZone i) where
       blocks = written_blocks i.region.items (owner_at kind number) home there zone.ring zone.sound.unique w v.items w_len fits items
 
       written_heap : heap_of (record i { region = v }) ≡ with_bytes (owner_at kind number) w (heap_of i)
-      written_heap = λ j. record { size = i.size; lumps = i.lumps; composites = i.composites; blocks = blocks j; rover = i.rover; purges = i.purges }
+      written_heap = λ j. record { size = i.size; lumps = i.homes.lumps; composites = i.composites; blocks = blocks j; rover = i.rover; purges = i.purges }
 
       pub rewritten : IsRewritten (owner_at kind number) z (heap_of (record i { region = v })) (slice_range i.region.items s.from s.to) w
       rewritten = record { x_is = span_bytes; len = len ∙ sym span_len; zone = written_heap ∙ ap (with_bytes (owner_at kind number) w) p.view }
@@ -202,9 +212,9 @@ module _ (i : Inside) (zone : IsZone i) where
 
       pub written_zone : IsZone (record i { region = v })
       written_zone =
-          zone_with v i.homes i.rover i.purges same refl (subst IsSound (sym written_heap) (with_bytes_sound (owner_at kind number) w (heap_of i) zone.sound right))
+          zone_with v i.homes i.rover i.purges same (refl, refl) (subst IsSound (sym written_heap) (with_bytes_sound (owner_at kind number) w (heap_of i) zone.sound right))
           (written_ring i.region.items (owner_at kind number) home there zone.ring zone.sound.unique w v.items w_len fits items)
-          (subst (AreExact i.lumps i.homes.items) (sym blocks) (exact_written i.lumps i.homes.items (blocks_in i.region.items) (owner_at kind number) w zone.exact))
+          (subst (AreExact i.homes) (sym blocks) (exact_written i.homes (blocks_in i.region.items) (owner_at kind number) w zone.exact))
 
     -- the same of what a call with the span's bytes gives back
     module _ (P : List ℕ → Type 0) (v : Vec ℕ Global) (part : IsPart P s.from s.to i.region.items v.items) (same : vec_len v ≡ vec_len i.region) where

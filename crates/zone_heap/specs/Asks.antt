@@ -1,15 +1,17 @@
 -- What a request asks for, and what came of it.
-use Rattle.std.specs.Prelude.{◌≡◌, ℕ, ◌-◌, List, length}
+use Rattle.std.specs.Prelude.{◌≡◌, ℕ, List, length}
 use Rattle.zone_rules.specs.Zones.{Heap, Block}
 use Rattle.zone_rules.specs.Requests.{after_search, take_at, place_after}
 use Rattle.zone_rules.specs.Rooms.{RoomAt}
 use Rattle.zone_heap.specs.declared.headers.Used.{Used}
+use Rattle.zone_heap.specs.declared.homes.Homes.{Homes}
 use Rattle.zone_heap.specs.Headers.{owner_in, code_tag}
+use Rattle.zone_heap.specs.Homes.{composites_in}
 use Rattle.zone_heap.specs.Regions.{blocks_in}
 
 -- the zone of a region and the homes of its slots
-abbrev pub heap_at : List ℕ → List ℕ → ℕ → ℕ → Heap
-heap_at region homes lumps rover = record { size = length region; lumps = lumps; composites = length homes - lumps; blocks = blocks_in region; rover = rover; purges = 0 }
+abbrev pub heap_at : List ℕ → Homes → ℕ → Heap
+heap_at region homes rover = record { size = length region; lumps = homes.lumps; composites = composites_in homes; blocks = blocks_in region; rover = rover; purges = 0 }
 
 -- a block placed in the blocks that a search left
 pub record IsPlaced (old : Heap) (wanted : ℕ) (used : Used) (place : ℕ) (new : List Block) (rover : ℕ) : Type 0 where

@@ -6,15 +6,15 @@ use Rattle.zone_heap.specs.Regions.{blocks_in, IsRing}
 use Rattle.zone_heap.specs.Homes.{AreExact}
 
 abbrev pub heap_of : Inside → Heap
-heap_of z = record { size = z.size; lumps = z.lumps; composites = z.composites; blocks = blocks_in z.region.items; rover = z.rover; purges = z.purges }
+heap_of z = record { size = z.size; lumps = z.homes.lumps; composites = z.composites; blocks = blocks_in z.region.items; rover = z.rover; purges = z.purges }
 
 pub record IsZone (z : Inside) : Type 0 where
   pub sound : IsSound (heap_of z)
   pub ring : IsRing z.region.items
-  pub exact : AreExact z.lumps z.homes.items (blocks_in z.region.items)
+  pub exact : AreExact z.homes (blocks_in z.region.items)
   pub region : vec_len z.region ≡ z.size
   pub least : 0 < z.size
   pub small : z.size ≤ 536870912
-  pub lumps : z.lumps < 2 ^ 24
+  pub lumps : z.homes.lumps < 2 ^ 24
   pub composites : z.composites < 2 ^ 24
-  pub homes : vec_len z.homes ≡ z.lumps + z.composites
+  pub homes : vec_len z.homes.list ≡ z.homes.lumps + z.composites

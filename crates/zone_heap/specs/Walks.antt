@@ -2,6 +2,7 @@
 use Rattle.std.specs.Prelude.{◌≡◌, ℕ, ◌+◌, ◌^◌, ◌<◌, ◌==◌, ◌||◌, Bool, true, nat_le, if◌then◌else◌, List, [], ◌∷◌, Option, Some, None, max, length}
 use Rattle.zone_rules.specs.Zones.{Apart, Block, has_place, is_pinned}
 use Rattle.zone_rules.specs.Requests.{ends_free_at, first_room, stretches, passed_blocks, purge_among, count_among}
+use Rattle.zone_heap.specs.declared.homes.Homes.{Homes}
 use Rattle.zone_heap.specs.Homes.{AreHome}
 use Rattle.zone_heap.specs.Regions.{blocks_in, IsLaid}
 
@@ -24,11 +25,11 @@ abbrev pub starts_at : ℕ → Block → Bool
 starts_at rover b = nat_le rover b.place || ends_free_at rover b
 
 -- a region in which a search from the rover may look for what is wanted
-pub record CanSearch (lumps rover wanted : ℕ) (homes region : List ℕ) : Type 0 where
+pub record CanSearch (homes : Homes) (rover wanted : ℕ) (region : List ℕ) : Type 0 where
   pub laid : IsLaid region
   pub some : 0 < length region
   pub small : length region < 2 ^ 32
-  pub home : AreHome lumps homes (blocks_in region)
+  pub home : AreHome homes (blocks_in region)
   pub apart : Apart (blocks_in region)
   pub rover_is : has_place rover (blocks_in region) ≡ true
   pub positive : 0 < wanted

@@ -3,8 +3,8 @@
 // The original: `memblock_t`, z_zone.h, of as many words: size, user, tag, id, next and prev. Here
 // the asked length stands in the place of id, and the owner in that of user. The ring, which is the
 // places of the next and of the previous block, is written and read by nothing, since a walk adds
-// sizes up. It is kept because a header of 24 bytes is a rule of the zone: it is part of the size of
-// each request (`block_size`), and so of every size that `ZoneFull` tells and that `audit` prints.
+// sizes up. It is kept because a header of 24 bytes is a rule of the zone: it is part of the size
+// of each request (`block_size`), and so of every size that `ZoneFull` tells and `audit` prints.
 ghost use Rattle.std.specs.Prelude.{◌≡◌, ◌≤◌, ◌<◌, ◌+◌, ◌*◌, ◌^◌, length, drop, ◌==◌, ◌&&◌, ◌||◌, nat_le};
 ghost use Rattle.zone_heap.specs.Headers.{word_at, with_word, header_in, with_use, code_tag, tag_code, owner_word, is_free_header, is_pinned_header, is_purgeable_header};
 

@@ -1,13 +1,13 @@
 // A slot's block, looked up at the slot's home.
 ghost use Rattle.std.specs.Prelude.{◌≡◌, ◌<◌, ◌≤◌, ◌+◌, ◌-◌, ◌==◌, length, slice_index, slice_range, map, Some, IsSome, IfSome, option_map};
 ghost use Rattle.zone_heap.specs.Headers.{word_at};
-ghost use Rattle.zone_heap.specs.Homes.{home_index, IsHomed};
+ghost use Rattle.zone_heap.specs.Homes.{home_in, composites_in, IsHomed};
 ghost use Rattle.zone_heap.specs.Regions.{blocks_in, IsLaid, IsRing};
 ghost use Rattle.zone_rules.specs.Frees.{retag_block};
 ghost use Rattle.zone_rules.specs.Zones.{AllFit, Unique, owner_at, owned_block, holding_of, bytes_of};
 
 use crate::headers::{ASKED_AT, TAG_AT, code_tag, set_word, tag_code, word_at};
-use crate::homes::{NO_HOME, home_index};
+use crate::homes::{Homes, NO_HOME};
 use zone_rules::{HEADER_SIZE, Tag};
 
 /// Where a block's bytes lie in the region.
@@ -31,25 +31,16 @@ pub fn span_at(region: &[u8], at: usize) -> Span
     }
 }
 
-/// The home of a slot.
-#[inline(always)]
-pub fn home_at(homes: &[u32], lumps: u32, kind: u8, number: u32) -> u32
-    requires { home_index lumps kind number < length homes.now }
-    ensures { result ≡ slice_index homes.now (home_index lumps kind number) }
-{
-    homes[home_index(lumps, kind, number)]
-}
-
 /// The tag of a slot's block.
 #[inline(always)]
-pub fn slot_tag(region: &[u8], homes: &[u32], lumps: u32, kind: u8, number: u32) -> Option<Tag>
+pub fn slot_tag(region: &[u8], homes: &Homes, kind: u8, number: u32) -> Option<Tag>
     requires laid { IsLaid region.now }
     requires small { length region.now < 4294967295 }
-    requires homed { IsHomed lumps homes.now (owner_at kind number) (blocks_in region.now) }
+    requires homed { IsHomed homes.now (owner_at kind number) (blocks_in region.now) }
     ensures { result
         ≡ option_map (λ h. h.tag) (holding_of (owner_at kind number) (blocks_in region.now)) }
 {
-    let home = home_at(homes, lumps, kind, number);
+    let home = homes.of(kind, number);
     if home == NO_HOME {
         None
     } else {
@@ -59,16 +50,16 @@ pub fn slot_tag(region: &[u8], homes: &[u32], lumps: u32, kind: u8, number: u32)
 
 /// Where the bytes of a slot's block lie.
 #[inline(always)]
-pub fn slot_span(region: &[u8], homes: &[u32], lumps: u32, kind: u8, number: u32) -> Option<Span>
+pub fn slot_span(region: &[u8], homes: &Homes, kind: u8, number: u32) -> Option<Span>
     requires laid { IsLaid region.now }
     requires small { length region.now < 4294967295 }
-    requires homed { IsHomed lumps homes.now (owner_at kind number) (blocks_in region.now) }
-    requires fits { AllFit lumps (length homes.now - lumps) (blocks_in region.now) }
+    requires homed { IsHomed homes.now (owner_at kind number) (blocks_in region.now) }
+    requires fits { AllFit homes.now.lumps (composites_in homes.now) (blocks_in region.now) }
     ensures value { bytes_of (owner_at kind number) (blocks_in region.now)
         ≡ option_map (λ s. slice_range region.now s.from s.to) result }
     ensures bound { IfSome result (λ s. (s.from ≤ s.to) × (s.to ≤ length region.now)) }
 {
-    let home = home_at(homes, lumps, kind, number);
+    let home = homes.of(kind, number);
     if home == NO_HOME {
         None
     } else {
@@ -77,23 +68,22 @@ pub fn slot_span(region: &[u8], homes: &[u32], lumps: u32, kind: u8, number: u32
 }
 
 /// Where the bytes of a live slot's block lie.
-pub fn live_span(region: &[u8], homes: &[u32], lumps: u32, kind: u8, number: u32) -> Span
+pub fn live_span(region: &[u8], homes: &Homes, kind: u8, number: u32) -> Span
     requires laid { IsLaid region.now }
-    requires homed { IsHomed lumps homes.now (owner_at kind number) (blocks_in region.now) }
+    requires homed { IsHomed homes.now (owner_at kind number) (blocks_in region.now) }
     requires live { IsSome (owned_block (owner_at kind number) (blocks_in region.now)) }
-    ensures from { result.from ≡ slice_index homes.now (home_index lumps kind number) + 24 }
+    ensures from { result.from ≡ home_in homes.now kind number + 24 }
     ensures to { result.to
-        ≡ result.from + word_at region.now (slice_index homes.now (home_index lumps kind
-        number) + 4) }
+        ≡ result.from + word_at region.now (home_in homes.now kind number + 4) }
 {
-    let home = home_at(homes, lumps, kind, number);
+    let home = homes.of(kind, number);
     span_at(region, home as usize)
 }
 
 /// Gives the block of a live slot another tag.
-pub fn retag(region: &mut [u8], homes: &[u32], lumps: u32, kind: u8, number: u32, tag: Tag)
+pub fn retag(region: &mut [u8], homes: &Homes, kind: u8, number: u32, tag: Tag)
     requires ring { IsRing region.old }
-    requires homed { IsHomed lumps homes.now (owner_at kind number) (blocks_in region.old) }
+    requires homed { IsHomed homes.now (owner_at kind number) (blocks_in region.old) }
     requires unique { Unique (blocks_in region.old) }
     requires live { IsSome (owned_block (owner_at kind number) (blocks_in region.old)) }
     ensures ring { IsRing region.new }
@@ -101,6 +91,6 @@ pub fn retag(region: &mut [u8], homes: &[u32], lumps: u32, kind: u8, number: u32
     ensures blocks { blocks_in region.new
         ≡ map (retag_block (owner_at kind number) tag) (blocks_in region.old) }
 {
-    let home = home_at(homes, lumps, kind, number);
+    let home = homes.of(kind, number);
     set_word(region, home as usize + TAG_AT, tag_code(tag));
 }

@@ -6,20 +6,19 @@ ghost use Rattle.zone_rules.specs.Requests.{first_room, stretches, passed_blocks
 ghost use Rattle.zone_rules.specs.Frees.{free_owner};
 ghost use Rattle.zone_heap.specs.Headers.{owner_in};
 ghost use Rattle.zone_heap.specs.Regions.{blocks_in, IsLaid, IsRing};
-ghost use Rattle.zone_heap.specs.Homes.{home_index, IsSlot, AreExact, AreHome};
+ghost use Rattle.zone_heap.specs.Homes.{IsSlot, AreExact, AreHome, AreAlike};
 ghost use Rattle.zone_heap.specs.Asks.{heap_at, IsPlaced};
 ghost use Rattle.zone_heap.specs.Walks.{widest_from};
 
 use crate::edits::{join, link, place_in, ring_place, take};
 use crate::headers::{FREE_OWNER, Used};
-use crate::homes::{free_at, home_index};
+use crate::homes::{Homes, free_at};
 use crate::search::{NoRoom, search};
 
-/// What a slot asks for: the size of its block with the header, its home, and what its header says.
+/// What a slot asks for: the size of its block with the header, and what its header says.
 #[derive(Clone, Copy)]
 pub struct Request {
     pub wanted: u64,
-    pub home: usize,
     pub used: Used,
 }
 
@@ -33,32 +32,23 @@ pub struct Outcome {
 }
 
 /// Gives a block to an empty slot, where a gap holds it.
-pub fn serve(
-    region: &mut [u8],
-    homes: &mut [u32],
-    lumps: u32,
-    rover: usize,
-    request: Request,
-) -> Outcome
-    requires sound { IsSound (heap_at region.old homes.old lumps rover) }
+pub fn serve(region: &mut [u8], homes: &mut Homes, rover: usize, request: Request) -> Outcome
+    requires sound { IsSound (heap_at region.old homes.old rover) }
     requires laid { IsLaid region.old }
     requires some { 0 < length region.old }
     requires small { length region.old < 2 ^ 32 }
-    requires few { lumps ≤ length homes.old }
-    requires exact { AreExact lumps homes.old (blocks_in region.old) }
+    requires few { homes.old.lumps ≤ length homes.old.list.items }
+    requires exact { AreExact homes.old (blocks_in region.old) }
     requires wanted { request.wanted ≡ block_size request.used.asked }
     requires live { (request.used.owner == FREE_OWNER) ≡ false }
     requires owner { request.used.owner < 2 ^ 32 }
     requires tag { request.used.tag < 2 ^ 32 }
-    requires slot { IsSlot lumps (length homes.old - lumps) (owner_in request.used.owner) }
-    requires home { request.home
-        ≡ home_index lumps (owner_in request.used.owner).kind
-        (owner_in request.used.owner).number }
+    requires slot { IsSlot homes.old (owner_in request.used.owner) }
     requires empty { Lacks (owner_in request.used.owner) (blocks_in region.old) }
     ensures ring { IsRing region.new }
     ensures len { length region.new ≡ length region.old }
-    ensures homes { length homes.new ≡ length homes.old }
-    ensures exact { AreExact lumps homes.new (blocks_in region.new) }
+    ensures slots { AreAlike homes.old homes.new }
+    ensures exact { AreExact homes.new (blocks_in region.new) }
     ensures place { first_room request.wanted (stretches rover (blocks_in region.old))
         ≡ result_ok result.place }
     ensures widest { IfErr result.place (λ n.
@@ -67,13 +57,13 @@ pub fn serve(
         ≡ count_among (passed_blocks request.wanted (stretches rover (blocks_in region.old)))
         (blocks_in region.old) }
     ensures none { IsErr result.place → (blocks_in region.new
-        ≡ after_search request.wanted (heap_at region.old homes.old lumps rover))
+        ≡ after_search request.wanted (heap_at region.old homes.old rover))
         × (result.rover ≡ place_around rover 0 (blocks_in region.new)) }
-    ensures some { IfOk result.place (λ p. IsPlaced (heap_at region.old homes.old lumps rover)
+    ensures some { IfOk result.place (λ p. IsPlaced (heap_at region.old homes.old rover)
         request.wanted request.used p (blocks_in region.new) result.rover) }
     ensures bound { result.rover ≤ length region.old }
 {
-    let room = search(region, homes, lumps, rover, request.wanted);
+    let room = search(region, homes, rover, request.wanted);
     match room.place {
         Err(none) => {
             link(region);
@@ -86,7 +76,7 @@ pub fn serve(
         Ok(place) => {
             let next = take(region, place, request.wanted as u32, request.used);
             link(region);
-            homes[request.home] = place as u32;
+            homes.set(request.used.owner, place as u32);
             Outcome {
                 place: Ok(place),
                 rover: ring_place(next, region.len()),
@@ -97,22 +87,22 @@ pub fn serve(
 }
 
 /// Frees the block of a live slot, and joins it with its free neighbours.
-pub fn release(region: &mut [u8], homes: &mut [u32], lumps: u32, kind: u8, number: u32)
+pub fn release(region: &mut [u8], homes: &mut Homes, kind: u8, number: u32)
     requires laid { IsLaid region.old }
     requires some { 0 < length region.old }
     requires small { length region.old < 2 ^ 32 }
-    requires home { AreHome lumps homes.old (blocks_in region.old) }
-    requires slot { IsSlot lumps (length homes.old - lumps) (owner_at kind number) }
+    requires home { AreHome homes.old (blocks_in region.old) }
+    requires slot { IsSlot homes.old (owner_at kind number) }
     requires live { IsSome (owned_block (owner_at kind number) (blocks_in region.old)) }
     ensures ring { IsRing region.new }
     ensures len { length region.new ≡ length region.old }
-    ensures homes { length homes.new ≡ length homes.old }
-    ensures home { AreHome lumps homes.new (blocks_in region.new) }
+    ensures slots { AreAlike homes.old homes.new }
+    ensures home { AreHome homes.new (blocks_in region.new) }
     ensures blocks { blocks_in region.new
         ≡ join_free (free_owner (owner_at kind number) (blocks_in region.old)) }
 {
-    let home = homes[home_index(lumps, kind, number)];
-    free_at(region, homes, lumps, home as usize);
+    let home = homes.of(kind, number);
+    free_at(region, homes, home as usize);
     join(region);
     link(region);
 }

@@ -3,7 +3,7 @@ ghost use Rattle.std.specs.Prelude.{◌≡◌, ◌<◌, ◌+◌, ◌++◌, ◌^�
 ghost use Rattle.std.specs.Result.{result_ok};
 ghost use Rattle.zone_rules.specs.Zones.{is_purgeable};
 ghost use Rattle.zone_rules.specs.Requests.{purge_block, join_free, first_room, stretches, passed_blocks, purge_among, count_among};
-ghost use Rattle.zone_heap.specs.Homes.{AreHome};
+ghost use Rattle.zone_heap.specs.Homes.{AreHome, AreAlike};
 ghost use Rattle.std.specs.List.{position_or_len};
 ghost use Rattle.zone_heap.specs.Walks.{CanSearch, fit_from, widest_from, starts_at, SearchIs};
 ghost use Rattle.zone_rules.specs.Rooms.{RoomAt};
@@ -11,7 +11,7 @@ ghost use Rattle.zone_heap.specs.Regions.{blocks_in, blocks_from, IsLaid, IsSpli
 
 use crate::edits::join;
 use crate::headers::header_at;
-use crate::homes::free_at;
+use crate::homes::{Homes, free_at};
 
 /// A run of blocks that holds a request: the place of its first block, and how many blocks from the
 /// start of the search end with its least front.
@@ -93,14 +93,14 @@ fn widest_gap(region: &[u8]) -> u64
 }
 
 /// Frees the purgeable blocks among so many from a block on, and says how many they were.
-pub fn purge(region: &mut [u8], homes: &mut [u32], lumps: u32, from: usize, most: usize) -> u64
+pub fn purge(region: &mut [u8], homes: &mut Homes, from: usize, most: usize) -> u64
     requires split { IsSplit region.old from }
     requires small { length region.old < 2 ^ 32 }
-    requires home { AreHome lumps homes.old (blocks_in region.old) }
+    requires home { AreHome homes.old (blocks_in region.old) }
     ensures laid { IsLaid region.new }
     ensures len { length region.new ≡ length region.old }
-    ensures homes { length homes.new ≡ length homes.old }
-    ensures home { AreHome lumps homes.new (blocks_in region.new) }
+    ensures slots { AreAlike homes.old homes.new }
+    ensures home { AreHome homes.new (blocks_in region.new) }
     ensures blocks { (s : IsSplit region.old from) → blocks_in region.new
         ≡ blocks_from 0 s.front
         ++ (map purge_block (take most (blocks_from from s.rest))
@@ -115,7 +115,7 @@ pub fn purge(region: &mut [u8], homes: &mut [u32], lumps: u32, from: usize, most
     while at < region.len() && passed < most {
         let header = header_at(region, at);
         if header.is_purgeable() {
-            free_at(region, homes, lumps, at);
+            free_at(region, homes, at);
             count += 1;
         }
         at += header.size as usize;
@@ -140,12 +140,12 @@ pub struct Room {
 
 /// Looks for a run of blocks that holds what is wanted, from the rover on and then from the front,
 /// and purges what it goes over.
-fn clear_way(region: &mut [u8], homes: &mut [u32], lumps: u32, rover: usize, wanted: u64) -> Room
-    requires { CanSearch lumps rover wanted homes.old region.old }
+fn clear_way(region: &mut [u8], homes: &mut Homes, rover: usize, wanted: u64) -> Room
+    requires { CanSearch homes.old rover wanted region.old }
     ensures laid { IsLaid region.new }
     ensures len { length region.new ≡ length region.old }
-    ensures homes { length homes.new ≡ length homes.old }
-    ensures home { AreHome lumps homes.new (blocks_in region.new) }
+    ensures slots { AreAlike homes.old homes.new }
+    ensures home { AreHome homes.new (blocks_in region.new) }
     ensures search { SearchIs wanted rover (blocks_in region.old) (result_ok result.place)
         (blocks_in region.new) result.purges }
     ensures room { IfOk result.place (λ p. RoomAt p wanted (join_free (blocks_in region.new))) }
@@ -155,22 +155,22 @@ fn clear_way(region: &mut [u8], homes: &mut [u32], lumps: u32, rover: usize, wan
     let start = start_place(region, rover);
     let all = region.len();
     if let Some(fit) = first_fit(region, start, wanted) {
-        let purges = purge(region, homes, lumps, start, fit.end);
+        let purges = purge(region, homes, start, fit.end);
         return Room {
             place: Ok(fit.place),
             purges,
         };
     }
     if let Some(fit) = first_fit(region, 0, wanted) {
-        let later = purge(region, homes, lumps, start, all);
-        let earlier = purge(region, homes, lumps, 0, fit.end);
+        let later = purge(region, homes, start, all);
+        let earlier = purge(region, homes, 0, fit.end);
         return Room {
             place: Ok(fit.place),
             purges: later + earlier,
         };
     }
     let widest = widest_gap(region);
-    let purges = purge(region, homes, lumps, 0, all);
+    let purges = purge(region, homes, 0, all);
     Room {
         place: Err(NoRoom { widest }),
         purges,
@@ -178,12 +178,12 @@ fn clear_way(region: &mut [u8], homes: &mut [u32], lumps: u32, rover: usize, wan
 }
 
 /// Looks for room, purges what it goes over, and joins free neighbours.
-pub fn search(region: &mut [u8], homes: &mut [u32], lumps: u32, rover: usize, wanted: u64) -> Room
-    requires { CanSearch lumps rover wanted homes.old region.old }
+pub fn search(region: &mut [u8], homes: &mut Homes, rover: usize, wanted: u64) -> Room
+    requires { CanSearch homes.old rover wanted region.old }
     ensures laid { IsLaid region.new }
     ensures len { length region.new ≡ length region.old }
-    ensures homes { length homes.new ≡ length homes.old }
-    ensures home { AreHome lumps homes.new (blocks_in region.new) }
+    ensures slots { AreAlike homes.old homes.new }
+    ensures home { AreHome homes.new (blocks_in region.new) }
     ensures place { first_room wanted (stretches rover (blocks_in region.old))
         ≡ result_ok result.place }
     ensures blocks { blocks_in region.new
@@ -196,7 +196,7 @@ pub fn search(region: &mut [u8], homes: &mut [u32], lumps: u32, rover: usize, wa
     ensures widest { IfErr result.place (λ n.
         n.widest ≡ widest_from 0 0 (blocks_in region.old)) }
 {
-    let room = clear_way(region, homes, lumps, rover, wanted);
+    let room = clear_way(region, homes, rover, wanted);
     join(region);
     room
 }

@@ -11,8 +11,8 @@ ghost use Rattle.zone_rules.specs.Requests.{gaps, widest, total, without_room, T
 ghost use Rattle.zone_rules.specs.Frees.{without_block, with_tag, retag_block};
 
 use crate::headers::{Used, owner_word, tag_code};
-use crate::homes::{NO_HOME, home_index};
-use crate::look::{Span, home_at, live_span, retag, slot_span, slot_tag};
+use crate::homes::{Homes, NO_HOME};
+use crate::look::{Span, live_span, retag, slot_span, slot_tag};
 use crate::request::{Request, release, serve};
 use crate::slot::{CompositeKind, LumpKind, Slot, SlotKind};
 use crate::{edits, figures, pair};
@@ -55,9 +55,8 @@ pub struct ZoneFigures {
 #[derive(Drop)]
 pub struct Zone {
     region: Vec<u8>,
-    homes: Vec<u32>,
+    homes: Homes,
     size: u32,
-    lumps: u32,
     composites: u32,
     rover: u32,
     purges: u64,
@@ -96,7 +95,6 @@ impl Zone {
                 region: parts.region,
                 homes: parts.homes,
                 size,
-                lumps,
                 composites,
                 rover: 0,
                 purges: 0,
@@ -141,22 +139,16 @@ impl Zone {
         ensures sound { IsSound self.new }
     {
         let wanted = block_size(size);
+        let rover = self.rover as usize;
         let request = Request {
             wanted,
-            home: home_index(self.lumps, K::CODE, slot.number()),
             used: Used {
                 asked: size,
                 owner: owner_word(K::CODE, slot.number()),
                 tag: tag_code(tag),
             },
         };
-        let outcome = serve(
-            &mut self.region,
-            &mut self.homes,
-            self.lumps,
-            self.rover as usize,
-            request,
-        );
+        let outcome = serve(&mut self.region, &mut self.homes, rover, request);
         self.purges = self.purges.saturating_add(outcome.purges);
         self.rover = outcome.rover as u32;
         if let Err(none) = outcome.place {
@@ -175,7 +167,7 @@ impl Zone {
         ensures live { IsTrue result ↔ IsLive self.now (owner_at K.CODE slot.number) }
         ensures sound { IsSound self.now }
     {
-        home_at(&self.homes, self.lumps, K::CODE, slot.number()) != NO_HOME
+        self.homes.of(K::CODE, slot.number()) != NO_HOME
     }
 
     /// The tag of the slot's block, or None exactly where the slot is empty.
@@ -186,13 +178,7 @@ impl Zone {
             ≡ option_map (λ h. h.tag)
             (holding_of (owner_at K.CODE slot.number) self.now.blocks) }
     {
-        slot_tag(
-            &self.region,
-            &self.homes,
-            self.lumps,
-            K::CODE,
-            slot.number(),
-        )
+        slot_tag(&self.region, &self.homes, K::CODE, slot.number())
     }
 
     /// The slot's bytes, as many as were asked for, or None exactly where the slot is empty.
@@ -201,13 +187,7 @@ impl Zone {
         requires { slot.number < slot_count self.now K.CODE }
         ensures { option_copied result ≡ bytes_of (owner_at K.CODE slot.number) self.now.blocks }
     {
-        let span = slot_span(
-            &self.region,
-            &self.homes,
-            self.lumps,
-            K::CODE,
-            slot.number(),
-        );
+        let span = slot_span(&self.region, &self.homes, K::CODE, slot.number());
         cut(&self.region, span)
     }
 
@@ -221,7 +201,7 @@ impl Zone {
         ensures called { BytesChanged F.FnOnce f (owner_at K.CODE slot.number)
             self.old self.new result }
     {
-        let span = live_span(&self.region, &self.homes, self.lumps, K::CODE, slot.number);
+        let span = live_span(&self.region, &self.homes, K::CODE, slot.number);
         pair::with_part(&mut self.region, span, f)
     }
 
@@ -242,7 +222,7 @@ impl Zone {
         ensures called { BytesChangedWith F.FnOnce f (owner_at K.CODE slot.number)
             self.old self.new context.old context.new result }
     {
-        let span = live_span(&self.region, &self.homes, self.lumps, K::CODE, slot.number);
+        let span = live_span(&self.region, &self.homes, K::CODE, slot.number);
         pair::with_part_and(&mut self.region, span, context, f)
     }
 
@@ -262,8 +242,8 @@ impl Zone {
         ensures called { PairCalled F.FnOnce f (owner_at 0 read.number) (owner_at 1 write.number)
             self.old self.new result }
     {
-        let from = live_span(&self.region, &self.homes, self.lumps, 0, read.number());
-        let to = live_span(&self.region, &self.homes, self.lumps, 1, write.number());
+        let from = live_span(&self.region, &self.homes, 0, read.number());
+        let to = live_span(&self.region, &self.homes, 1, write.number());
         pair::with_parts(&mut self.region, from, to, f)
     }
 
@@ -297,13 +277,7 @@ impl Zone {
             owned_block o self.new.blocks ≡ owned_block o self.old.blocks }
         ensures sound { IsSound self.new }
     {
-        release(
-            &mut self.region,
-            &mut self.homes,
-            self.lumps,
-            K::CODE,
-            slot.number(),
-        );
+        release(&mut self.region, &mut self.homes, K::CODE, slot.number());
         self.rover = edits::place_in(&self.region, self.rover as usize) as u32;
     }
 
@@ -321,14 +295,7 @@ impl Zone {
             owned_block o self.new.blocks ≡ owned_block o self.old.blocks }
         ensures sound { IsSound self.new }
     {
-        retag(
-            &mut self.region,
-            &self.homes,
-            self.lumps,
-            K::CODE,
-            slot.number(),
-            tag,
-        );
+        retag(&mut self.region, &self.homes, K::CODE, slot.number(), tag);
     }
 }
 
@@ -357,7 +324,7 @@ pub fn block_size(size: u32) -> u64
 #[derive(Drop)]
 struct Parts {
     region: Vec<u8>,
-    homes: Vec<u32>,
+    homes: Homes,
 }
 
 /// The bytes of a zone as one free block, and a home for each slot, all empty.
@@ -368,13 +335,13 @@ fn make_parts(alloc: Global, size: u32, lumps: u32, composites: u32) -> Result<P
     ensures region { IfOk result (λ p. vec_len p.region ≡ size) }
     ensures ring { IfOk result (λ p. IsRing p.region.items) }
     ensures blocks { IfOk result (λ p. blocks_in p.region.items ≡ free_block 0 size ∷ []) }
-    ensures homes { IfOk result (λ p. vec_len p.homes ≡ lumps + composites) }
+    ensures lumps { IfOk result (λ p. p.homes.lumps ≡ lumps) }
+    ensures homes { IfOk result (λ p. vec_len p.homes.list ≡ lumps + composites) }
     ensures empty { IfOk result (λ p.
-        (k : ℕ) → k < lumps + composites → slice_index p.homes.items k ≡ NO_HOME) }
+        (k : ℕ) → k < lumps + composites → slice_index p.homes.list.items k ≡ NO_HOME) }
 {
     let mut region = vec![in alloc; 0u8; size as usize]?;
     edits::lay_free(&mut region, size);
-    let slots = lumps as usize + composites as usize;
-    let homes = vec![in alloc; NO_HOME; slots]?;
+    let homes = Homes::new(alloc, lumps, composites)?;
     Ok(Parts { region, homes })
 }

@@ -6,14 +6,14 @@ use Rattle.zone_heap.proofs.look.live_span.Goals as goal
 
 pub span_at-requires : goal.span_at-requires
 span_at-requires c =
-    let f = homed_live _ c.requires.laid _ _ (owner_at c.args.kind c.args.number) c.requires.homed _ c.home_at-home.ensures c.requires.live in
+    let f = homed_live _ c.requires.laid c.args.homes.now (owner_at c.args.kind c.args.number) c.requires.homed _ c.of-home.ensures c.requires.live in
     let a = f.fits in
     let l = f.large in
     omega arith
 
 pub returns-clause-to : goal.returns-clause-to
 returns-clause-to c =
-    let e = ap (λ n. word_at c.args.region.now (n + 4)) c.home_at-home.ensures in
+    let e = ap (λ n. word_at c.args.region.now (n + 4)) c.of-home.ensures in
     let a = c.span_at.ensures.from in
     let b = c.span_at.ensures.to in
     omega arith

@@ -4,21 +4,21 @@ use Rattle.zone_heap.specs.Headers.{with_word}
 use Rattle.zone_heap.specs.Regions.{blocks_in, IsRing}
 use Rattle.zone_heap.proofs.LookLemmas.{IsFound, homed_live}
 use Rattle.zone_heap.proofs.ChangeLemmas.{tagged_ring, tagged_blocks}
-use Rattle.zone_heap.proofs.look.retag.Goals.{After-home_at-home}
+use Rattle.zone_heap.proofs.look.retag.Goals.{After-of-home}
 use Rattle.zone_heap.proofs.look.retag.Goals as goal
 
-it : (c : After-home_at-home) → IsFound c.args.region.now (owner_at c.args.kind c.args.number) c.home_at-home.result
-it c = homed_live _ c.requires.ring.laid _ _ _ c.requires.homed _ c.home_at-home.ensures c.requires.live
+it : (c : After-of-home) → IsFound c.args.region.now (owner_at c.args.kind c.args.number) c.of-home.result
+it c = homed_live _ c.requires.ring.laid c.args.homes.now _ c.requires.homed _ c.of-home.ensures c.requires.live
 
 pub set_word-requires : goal.set_word-requires
-set_word-requires c = let f = it (goal.at.set_word-requires c).After-home_at-home in let a = f.fits in let l = f.large in omega arith
+set_word-requires c = let f = it (goal.at.set_word-requires c).After-of-home in let a = f.fits in let l = f.large in omega arith
 
 pub returns-clause-ring : goal.returns-clause-ring
 returns-clause-ring c =
-    let d = (goal.at.returns-clause-ring c).After-home_at-home in
-    subst IsRing (sym (c.set_word.ensures ∙ ap (with_word c.args.region.now (c.home_at-home.result + 12)) c.tag_code.ensures)) (tagged_ring c.args.region.now (owner_at c.args.kind c.args.number) c.home_at-home.result (it d) c.requires.ring c.requires.unique c.args.tag)
+    let d = (goal.at.returns-clause-ring c).After-of-home in
+    subst IsRing (sym (c.set_word.ensures ∙ ap (with_word c.args.region.now (c.of-home.result + 12)) c.tag_code.ensures)) (tagged_ring c.args.region.now (owner_at c.args.kind c.args.number) c.of-home.result (it d) c.requires.ring c.requires.unique c.args.tag)
 
 pub returns-clause-blocks : goal.returns-clause-blocks
 returns-clause-blocks c =
-    let d = (goal.at.returns-clause-blocks c).After-home_at-home in
-    ap blocks_in (c.set_word.ensures ∙ ap (with_word c.args.region.now (c.home_at-home.result + 12)) c.tag_code.ensures) ∙ tagged_blocks c.args.region.now (owner_at c.args.kind c.args.number) c.home_at-home.result (it d) c.requires.ring c.requires.unique c.args.tag
+    let d = (goal.at.returns-clause-blocks c).After-of-home in
+    ap blocks_in (c.set_word.ensures ∙ ap (with_word c.args.region.now (c.of-home.result + 12)) c.tag_code.ensures) ∙ tagged_blocks c.args.region.now (owner_at c.args.kind c.args.number) c.of-home.result (it d) c.requires.ring c.requires.unique c.args.tag

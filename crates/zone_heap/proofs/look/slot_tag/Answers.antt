@@ -6,17 +6,17 @@ use Rattle.zone_heap.proofs.LookLemmas.{IsFound, homed_found, homed_none, holdin
 use Rattle.zone_heap.proofs.look.slot_tag.Goals.{Else-home}
 use Rattle.zone_heap.proofs.look.slot_tag.Goals as goal
 
-it : (c : Else-home) → IsFound c.args.region.now (owner_at c.args.kind c.args.number) c.home_at-home.result
-it c = homed_found _ c.requires.laid _ _ _ c.requires.homed _ c.home_at-home.ensures c.if-home.false
+it : (c : Else-home) → IsFound c.args.region.now (owner_at c.args.kind c.args.number) c.of-home.result
+it c = homed_found _ c.requires.laid c.args.homes.now _ c.requires.homed _ c.of-home.ensures c.if-home.false
 
 pub word_at-requires : goal.word_at-requires
 word_at-requires c = let f = it (goal.at.word_at-requires c).Else-home in let a = f.fits in let l = f.large in omega arith
 
 pub returns-then-home : goal.returns-then-home
 returns-then-home c =
-    sym (ap (λ x. option_map (λ (h : Holding). h.tag) (option_and_then (λ (b : Block). b.holding) x)) (homed_none _ c.requires.laid _ _ _ c.requires.homed _ c.home_at-home.ensures c.requires.small c.if-home.true))
+    sym (ap (λ x. option_map (λ (h : Holding). h.tag) (option_and_then (λ (b : Block). b.holding) x)) (homed_none _ c.requires.laid c.args.homes.now _ c.requires.homed _ c.of-home.ensures c.requires.small c.if-home.true))
 
 pub returns-else-home : goal.returns-else-home
 returns-else-home c =
     let f = it (goal.at.returns-else-home c).Else-home in
-    ap Some (c.code_tag.ensures ∙ ap code_tag (c.word_at.ensures ∙ f.words 12 (omega arith))) ∙ sym (ap (option_map (λ (h : Holding). h.tag)) (holding_found c.args.region.now (owner_at c.args.kind c.args.number) c.home_at-home.result f))
+    ap Some (c.code_tag.ensures ∙ ap code_tag (c.word_at.ensures ∙ f.words 12 (omega arith))) ∙ sym (ap (option_map (λ (h : Holding). h.tag)) (holding_found c.args.region.now (owner_at c.args.kind c.args.number) c.of-home.result f))

@@ -1,33 +1,31 @@
 use Rattle.std.proofs.Common.{arith, ◌∙◌, ap, sym, subst}
-use Rattle.std.specs.Prelude.{slice_index}
 use Rattle.zone_rules.specs.Zones.{owner_at}
 use Rattle.zone_rules.specs.Requests.{join_free}
 use Rattle.zone_heap.specs.Regions.{blocks_in, IsLaid}
 use Rattle.zone_heap.specs.Homes.{AreHome}
 use Rattle.zone_heap.proofs.HomeLemmas.{joined_home}
 use Rattle.zone_heap.proofs.LookLemmas.{IsFound, look, found_small, found_laid, found_blocks, found_home}
-use Rattle.zone_heap.proofs.request.release.Goals.{After-home_index}
+use Rattle.zone_heap.proofs.request.release.Goals.{After-of-home}
 use Rattle.zone_heap.proofs.request.release.Goals as goal
 
-it : (c : After-home_index) → IsFound c.args.region.now (owner_at c.args.kind c.args.number) (slice_index c.args.homes.now c.home_index.result)
-it c = look c.args.region.now c.requires.laid (owner_at c.args.kind c.args.number) _ c.requires.live (ap (slice_index c.args.homes.now) c.home_index.ensures ∙ c.requires.home.exact (owner_at c.args.kind c.args.number) c.requires.slot)
+it : (c : After-of-home) → IsFound c.args.region.now (owner_at c.args.kind c.args.number) c.of-home.result
+it c = look c.args.region.now c.requires.laid (owner_at c.args.kind c.args.number) _ c.requires.live (c.of-home.ensures ∙ c.requires.home.exact (owner_at c.args.kind c.args.number) c.requires.slot)
 
 pub free_at-requires-clause-fits : goal.free_at-requires-clause-fits
-free_at-requires-clause-fits c = let f = it (goal.at.free_at-requires-clause-fits c).After-home_index in let l = f.large in let k = f.fits in omega arith
+free_at-requires-clause-fits c = let f = it (goal.at.free_at-requires-clause-fits c).After-of-home in let l = f.large in let k = f.fits in omega arith
 
 pub free_at-requires-clause-slot : goal.free_at-requires-clause-slot
-free_at-requires-clause-slot c = found_small c.args.lumps c.args.homes.now c.args.region.now (owner_at c.args.kind c.args.number) _ (it (goal.at.free_at-requires-clause-slot c).After-home_index) c.requires.home
+free_at-requires-clause-slot c = found_small c.args.homes.now c.args.region.now (owner_at c.args.kind c.args.number) _ (it (goal.at.free_at-requires-clause-slot c).After-of-home) c.requires.home
 
 pub join-requires-clause-laid : goal.join-requires-clause-laid
-join-requires-clause-laid c = subst IsLaid (sym c.free_at.ensures.region) (found_laid c.args.lumps c.args.homes.now c.args.region.now (owner_at c.args.kind c.args.number) _ (it (goal.at.join-requires-clause-laid c).After-home_index) c.requires.home)
+join-requires-clause-laid c = subst IsLaid (sym c.free_at.ensures.region) (found_laid c.args.homes.now c.args.region.now (owner_at c.args.kind c.args.number) _ (it (goal.at.join-requires-clause-laid c).After-of-home) c.requires.home)
 
 pub returns-clause-home : goal.returns-clause-home
 returns-clause-home c =
-    let h = found_home c.args.lumps c.args.homes.now c.args.region.now (owner_at c.args.kind c.args.number) _ (it (goal.at.returns-clause-home c).After-home_index) c.requires.home in
-    subst (AreHome c.args.lumps c.free_at.new.homes) (sym (c.link.ensures.blocks ∙ c.join.ensures.blocks)) (joined_home c.args.lumps c.free_at.new.homes (blocks_in c.free_at.new.region)
-    (rw (c.free_at.ensures.homes, c.free_at.ensures.region) h))
+    let h = found_home c.args.homes.now c.args.region.now (owner_at c.args.kind c.args.number) _ (it (goal.at.returns-clause-home c).After-of-home) c.requires.home c.free_at.new.homes c.free_at.ensures.home in
+    subst (AreHome c.free_at.new.homes) (sym (c.link.ensures.blocks ∙ c.join.ensures.blocks)) (joined_home c.free_at.new.homes (blocks_in c.free_at.new.region) (subst (λ xs. AreHome c.free_at.new.homes (blocks_in xs)) (sym c.free_at.ensures.region) h))
 
 pub returns-clause-blocks : goal.returns-clause-blocks
 returns-clause-blocks c =
     c.link.ensures.blocks ∙ c.join.ensures.blocks ∙ ap (λ xs. join_free (blocks_in xs)) c.free_at.ensures.region
-    ∙ ap join_free (found_blocks c.args.lumps c.args.homes.now c.args.region.now (owner_at c.args.kind c.args.number) _ (it (goal.at.returns-clause-blocks c).After-home_index) c.requires.home)
+    ∙ ap join_free (found_blocks c.args.homes.now c.args.region.now (owner_at c.args.kind c.args.number) _ (it (goal.at.returns-clause-blocks c).After-of-home) c.requires.home)

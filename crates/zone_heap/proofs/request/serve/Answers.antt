@@ -1,4 +1,4 @@
-use Rattle.std.proofs.Common.{arith, rules, ◌≡◌, ◌+◌, ◌-◌, ◌*◌, ◌/◌, ◌<◌, ◌≤◌, ◌++◌, ◌∙◌, ap, ap₂, sym, subst, length, take, drop, set, ℕ}
+use Rattle.std.proofs.Common.{arith, rules, ◌≡◌, ◌+◌, ◌*◌, ◌/◌, ◌<◌, ◌≤◌, ◌++◌, ◌∙◌, ap, ap₂, sym, subst, length, take, drop, ℕ}
 use Rattle.std.proofs.lemmas.List.{length-take, length-drop}
 use Rattle.zone_rules.specs.Zones.{Heap, Holding, Tiles, Lacks, free_block}
 use Rattle.zone_rules.specs.Requests.{cut_block, take_at, place_after}
@@ -7,14 +7,14 @@ use Rattle.zone_rules.proofs.SoundLemmas.{room_end, searched_lacks, searched_til
 use Rattle.zone_rules.proofs.TakeLemmas.{take_at_is}
 use Rattle.zone_heap.specs.Headers.{owner_in, used_holding}
 use Rattle.zone_heap.specs.Regions.{blocks_in, ring_place}
-use Rattle.zone_heap.specs.Homes.{home_index, IsSlot, AreExact, AreHome}
+use Rattle.zone_heap.specs.Homes.{IsSlot, AreExact, AreHome}
 use Rattle.zone_heap.specs.Asks.{heap_at}
-use Rattle.zone_heap.proofs.HomeLemmas.{taken_exact}
+use Rattle.zone_heap.proofs.HomeLemmas.{slot_small, slot_kept, taken_exact}
 use Rattle.zone_heap.proofs.request.serve.Goals.{In-Ok}
 use Rattle.zone_heap.proofs.request.serve.Goals as goal
 
 abbrev z : (c : In-Ok) → Heap
-z c = heap_at c.args.region.now c.args.homes.now c.args.lumps c.args.rover
+z c = heap_at c.args.region.now c.args.homes.now c.args.rover
 
 room_is : (c : In-Ok) → RoomAt c.in-Ok.place c.args.request.wanted (blocks_in c.search-room.new.region)
 room_is c = let there = c.search-room.ensures.room in let at = rw c.in-Ok.is at there in at
@@ -31,8 +31,8 @@ asked_fits n = omega arith
 pub overflow_cast-request : goal.overflow_cast-request
 overflow_cast-request c = let e = ends (goal.at.overflow_cast-request c).In-Ok in let k = c.requires.small in let h : c.args.request.wanted < 4294967296 = omega arith in search rules
 
-pub overflow_cast-homes : goal.overflow_cast-homes
-overflow_cast-homes c = let e = ends (goal.at.overflow_cast-homes c).In-Ok in let k = c.requires.small in let h : c.in-Ok.place < 4294967296 = omega arith in search rules
+pub overflow_cast-place : goal.overflow_cast-place
+overflow_cast-place c = let e = ends (goal.at.overflow_cast-place c).In-Ok in let k = c.requires.small in let h : c.in-Ok.place < 4294967296 = omega arith in search rules
 
 abbrev new_holding : (c : In-Ok) → Holding
 new_holding c = used_holding c.args.request.used (drop (c.in-Ok.place + 24) c.search-room.new.region)
@@ -42,6 +42,12 @@ lacks_is c = subst (Lacks (owner_in c.args.request.used.owner)) (sym c.search-ro
 
 shape : (c : In-Ok) (r : RoomAt c.in-Ok.place c.args.request.wanted (blocks_in c.search-room.new.region)) → take_at c.in-Ok.place c.args.request.wanted (new_holding c) (blocks_in c.search-room.new.region) ≡ r.front ++ (cut_block c.args.request.wanted (new_holding c) (free_block c.in-Ok.place r.size) ++ r.rest)
 shape c r = ap (take_at c.in-Ok.place c.args.request.wanted (new_holding c)) r.is ∙ take_at_is c.in-Ok.place r.size c.args.request.wanted (new_holding c) 0 (length c.args.region.now) r.front r.rest (subst (Tiles 0 (length c.args.region.now)) r.is (tiles_is c))
+
+slot_is : (c : In-Ok) → IsSlot c.search-room.new.homes (owner_in c.args.request.used.owner)
+slot_is c = slot_kept c.search-room.new.homes c.args.homes.now (let a = c.search-room.ensures.slots in (sym a.0, sym a.1)) (owner_in c.args.request.used.owner) c.requires.slot
+
+pub set-requires : goal.set-requires
+set-requires c = slot_small c.search-room.new.homes c.search-room.ensures.home.few (owner_in c.args.request.used.owner) (slot_is (goal.at.set-requires c).In-Ok)
 
 pub search-room-requires : goal.search-room-requires
 search-room-requires c = record {
@@ -59,13 +65,10 @@ returns-in-Ok-clause-exact c =
     let d = (goal.at.returns-in-Ok-clause-exact c).In-Ok in
     let r = room_is d in
     let homes = c.search-room.new.homes in
-    let n = c.search-room.ensures.homes in
-    let slot = subst (λ k. IsSlot c.args.lumps (k - c.args.lumps) (owner_in c.args.request.used.owner)) (sym n) c.requires.slot in
-    let home = subst (AreHome c.args.lumps homes) r.is c.search-room.ensures.home in
+    let home = subst (AreHome homes) r.is c.search-room.ensures.home in
     let lacks = subst (Lacks (owner_in c.args.request.used.owner)) r.is (lacks_is d) in
-    subst (λ i. AreExact c.args.lumps (set homes i c.in-Ok.place) (blocks_in c.link-in-Ok.new.region)) (sym c.requires.home)
-    (subst (AreExact c.args.lumps (set homes (home_index c.args.lumps (owner_in c.args.request.used.owner).kind (owner_in c.args.request.used.owner).number) c.in-Ok.place)) (sym (c.link-in-Ok.ensures.blocks ∙ c.take-next.ensures.blocks ∙ shape d r))
-    (taken_exact c.args.lumps homes r.front r.rest c.in-Ok.place r.size c.args.request.wanted (new_holding d) home slot lacks))
+    subst (AreExact c.set.new.self) (sym (c.link-in-Ok.ensures.blocks ∙ c.take-next.ensures.blocks ∙ shape d r))
+    (taken_exact homes c.set.new.self r.front r.rest c.in-Ok.place r.size c.args.request.wanted (new_holding d) home (slot_is d) lacks c.set.ensures)
 
 pub returns-in-Ok-clause-some : goal.returns-in-Ok-clause-some
 returns-in-Ok-clause-some c =

@@ -3,6 +3,7 @@ use Rattle.std.specs.List.{position_or_len}
 use Rattle.std.proofs.lemmas.List.{take_at, drop_at, take_all, drop_all, append-nil, length-append}
 use Rattle.zone_rules.specs.Zones.{Block, Tiles, is_purgeable}
 use Rattle.zone_rules.specs.Requests.{purge_block, join_free}
+use Rattle.zone_heap.specs.declared.homes.Homes.{Homes}
 use Rattle.zone_heap.specs.Walks.{fit_from, starts_at, CanSearch, SearchIs}
 use Rattle.zone_rules.specs.Rooms.{RoomAt}
 use Rattle.zone_heap.proofs.SearchLemmas.{fit_first, fit_second, fit_never}
@@ -61,7 +62,7 @@ from_first : (region : List ℕ) (laid : IsLaid region) (new : List Block) (e : 
 from_first region laid new e k = k ∙ ap (λ bs. map purge_block (take e bs) ++ drop e bs) (sym (blocks_laid region laid))
 
 -- what a search that ended from the start on, or from the front on, found and left
-module _ (lumps rover wanted : ℕ) (homes region : List ℕ) (q : CanSearch lumps rover wanted homes region) (start : ℕ) (split : (s : IsSplit region start) × (length s.front ≡ position_or_len (starts_at rover) (blocks_in region))) (place e : ℕ) where
+module _ (homes : Homes) (rover wanted : ℕ) (region : List ℕ) (q : CanSearch homes rover wanted region) (start : ℕ) (split : (s : IsSplit region start) × (length s.front ≡ position_or_len (starts_at rover) (blocks_in region))) (place e : ℕ) where
   abbrev s : IsSplit region start
   s = split.0
 
@@ -101,16 +102,16 @@ pub purge-purges-requires-2-clause-split : goal.purge-purges-requires-2-clause-s
 purge-purges-requires-2-clause-split c = split_first c.args.region.now c.requires.laid
 
 pub returns-in-Some-clause-search : goal.returns-in-Some-clause-search
-returns-in-Some-clause-search c = (found_first _ _ _ _ _ c.requires _ c.start_place-start.ensures.split c.in-Some.fit.place c.in-Some.fit.end c.in-Some.ensures.value _ c.purge-purges.ensures.blocks _ c.purge-purges.ensures.count).0
+returns-in-Some-clause-search c = (found_first _ _ _ _ c.requires _ c.start_place-start.ensures.split c.in-Some.fit.place c.in-Some.fit.end c.in-Some.ensures.value _ c.purge-purges.ensures.blocks _ c.purge-purges.ensures.count).0
 
 pub returns-in-Some-clause-room : goal.returns-in-Some-clause-room
-returns-in-Some-clause-room c = (found_first _ _ _ _ _ c.requires _ c.start_place-start.ensures.split c.in-Some.fit.place c.in-Some.fit.end c.in-Some.ensures.value _ c.purge-purges.ensures.blocks _ c.purge-purges.ensures.count).1
+returns-in-Some-clause-room c = (found_first _ _ _ _ c.requires _ c.start_place-start.ensures.split c.in-Some.fit.place c.in-Some.fit.end c.in-Some.ensures.value _ c.purge-purges.ensures.blocks _ c.purge-purges.ensures.count).1
 
 pub returns-in-Some-first_fit-clause-search : goal.returns-in-Some-first_fit-clause-search
-returns-in-Some-first_fit-clause-search c = (found_second _ _ _ _ _ c.requires _ c.start_place-start.ensures.split c.in-Some-first_fit.fit.place c.in-Some-first_fit.fit.end c.in_default.ensures.value c.in-Some-first_fit.ensures.value _ c.purge-later.ensures.laid c.purge-later.ensures.blocks _ c.purge-later.ensures.count _ c.purge-earlier.ensures.blocks _ c.purge-earlier.ensures.count).0
+returns-in-Some-first_fit-clause-search c = (found_second _ _ _ _ c.requires _ c.start_place-start.ensures.split c.in-Some-first_fit.fit.place c.in-Some-first_fit.fit.end c.in_default.ensures.value c.in-Some-first_fit.ensures.value _ c.purge-later.ensures.laid c.purge-later.ensures.blocks _ c.purge-later.ensures.count _ c.purge-earlier.ensures.blocks _ c.purge-earlier.ensures.count).0
 
 pub returns-in-Some-first_fit-clause-room : goal.returns-in-Some-first_fit-clause-room
-returns-in-Some-first_fit-clause-room c = (found_second _ _ _ _ _ c.requires _ c.start_place-start.ensures.split c.in-Some-first_fit.fit.place c.in-Some-first_fit.fit.end c.in_default.ensures.value c.in-Some-first_fit.ensures.value _ c.purge-later.ensures.laid c.purge-later.ensures.blocks _ c.purge-later.ensures.count _ c.purge-earlier.ensures.blocks _ c.purge-earlier.ensures.count).1
+returns-in-Some-first_fit-clause-room c = (found_second _ _ _ _ c.requires _ c.start_place-start.ensures.split c.in-Some-first_fit.fit.place c.in-Some-first_fit.fit.end c.in_default.ensures.value c.in-Some-first_fit.ensures.value _ c.purge-later.ensures.laid c.purge-later.ensures.blocks _ c.purge-later.ensures.count _ c.purge-earlier.ensures.blocks _ c.purge-earlier.ensures.count).1
 
 pub returns-clause-search : goal.returns-clause-search
 returns-clause-search c =

@@ -14,7 +14,7 @@ loop-at-init c = record {
   purged = record {
     split = c.requires.split;
     len = refl;
-    homes_len = refl;
+    alike = (refl, refl);
     home = c.requires.home;
     low = omega arith;
     few = omega arith;
@@ -37,7 +37,7 @@ free_at-requires-clause-slot c =
     let h = c.header_at-header.result in
     let o = opened c.loop-at.region c.loop-at.at p.split c.loop-at-test.true h c.header_at-header.ensures in
     let on = sym (purgeable_at c.loop-at.region c.loop-at.at p.split h.size o h c.header_at-header.ensures) ∙ sym c.is_purgeable.ensures ∙ c.if-is_purgeable.true in
-    slot_there c.args.lumps c.args.region.now c.args.homes.now c.loop-at.region c.loop-at.homes c.args.from c.loop-at.at c.loop-at.passed c.loop-at.count p h.size o on
+    slot_there c.args.region.now c.args.homes.now c.loop-at.region c.loop-at.homes c.args.from c.loop-at.at c.loop-at.passed c.loop-at.count p h.size o on
 
 pub loop-at-smaller : goal.loop-at-smaller
 loop-at-smaller c =
@@ -60,10 +60,10 @@ loop-at-preserved c =
     let told = c.is_purgeable.ensures ∙ purgeable_at c.loop-at.region at p.split h.size o h c.header_at-header.ensures in
     record {
       purged = elim c.if-is_purgeable.branch [
-        | then-is_purgeable w ↦ rw (w.region-is, w.free_at.ensures.region, w.homes-is, w.free_at.ensures.homes, w.count-is)
-            (freed_step c.args.lumps c.args.region.now c.args.homes.now c.loop-at.region c.loop-at.homes c.args.from at c.loop-at.passed c.loop-at.count p h.size o (sym told ∙ w.if-is_purgeable.true))
+        | then-is_purgeable w ↦ rw (w.region-is, w.free_at.ensures.region, w.homes-is, w.count-is)
+            (freed_step c.args.region.now c.args.homes.now c.loop-at.region c.loop-at.homes c.args.from at c.loop-at.passed c.loop-at.count p h.size o (sym told ∙ w.if-is_purgeable.true) w.free_at.new.homes w.free_at.ensures.home)
         | else-is_purgeable w ↦ rw (w.region-is, w.homes-is, w.count-is)
-            (passed_step c.args.lumps c.args.region.now c.args.homes.now c.loop-at.region c.loop-at.homes c.args.from at c.loop-at.passed c.loop-at.count p h.size o (sym told ∙ w.if-is_purgeable.false))
+            (passed_step c.args.region.now c.args.homes.now c.loop-at.region c.loop-at.homes c.args.from at c.loop-at.passed c.loop-at.count p h.size o (sym told ∙ w.if-is_purgeable.false))
       ];
       within = omega arith;
     }
@@ -87,7 +87,7 @@ returns-else-passed-most-clause-blocks c = λ s.
     let w = c.loop-at.invariant.within in
     let e : c.loop-at.passed ≡ c.args.most = omega arith in
     let bs = blocks_from c.args.from s.rest in
-    purged_blocks c.args.lumps c.args.region.now c.args.homes.now c.loop-at.region c.loop-at.homes c.args.from c.loop-at.at c.loop-at.passed c.loop-at.count p s
+    purged_blocks c.args.region.now c.args.homes.now c.loop-at.region c.loop-at.homes c.args.from c.loop-at.at c.loop-at.passed c.loop-at.count p s
     ∙ ap (λ n. blocks_from 0 s.front ++ (map purge_block (take n bs) ++ drop n bs)) e
 
 pub returns-else-passed-most-clause-count : goal.returns-else-passed-most-clause-count
@@ -108,7 +108,7 @@ returns-after-loop-at-clause-blocks c = λ s.
     let none = ap (blocks_from c.loop-at.at) (nothing_left c.loop-at.region c.loop-at.at p.split (omega arith)) in
     let bs = blocks_from c.args.from s.rest in
     let w = whole bs c.loop-at.passed c.args.most (sym none ∙ p.rest s) c.loop-at.invariant.within in
-    purged_blocks c.args.lumps c.args.region.now c.args.homes.now c.loop-at.region c.loop-at.homes c.args.from c.loop-at.at c.loop-at.passed c.loop-at.count p s
+    purged_blocks c.args.region.now c.args.homes.now c.loop-at.region c.loop-at.homes c.args.from c.loop-at.at c.loop-at.passed c.loop-at.count p s
     ∙ ap₂ (λ xs ys. blocks_from 0 s.front ++ (map purge_block xs ++ ys)) (sym w.0) (sym w.1)
 
 pub returns-after-loop-at-clause-count : goal.returns-after-loop-at-clause-count

@@ -4,7 +4,7 @@ use Rattle.zone_heap.proofs.search.purge.Given as goal
 
 abbrev pub invariant-loop-at : goal.invariant-loop-at
 invariant-loop-at l = record {
-  purged : PurgedTo l.lumps l.initial.region l.initial.homes l.region l.homes l.from l.at l.passed l.count;
+  purged : PurgedTo l.initial.region l.initial.homes l.region l.homes l.from l.at l.passed l.count;
   within : l.passed ≤ l.most;
 }
 

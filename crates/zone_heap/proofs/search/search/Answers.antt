@@ -5,4 +5,4 @@ use Rattle.zone_heap.proofs.HomeLemmas.{joined_home}
 use Rattle.zone_heap.proofs.search.search.Goals as goal
 
 pub returns-clause-home : goal.returns-clause-home
-returns-clause-home c = subst (AreHome c.args.lumps c.clear_way-room.new.homes) (sym c.join.ensures.blocks) (joined_home c.args.lumps c.clear_way-room.new.homes (blocks_in c.clear_way-room.new.region) c.clear_way-room.ensures.home)
+returns-clause-home c = subst (AreHome c.clear_way-room.new.homes) (sym c.join.ensures.blocks) (joined_home c.clear_way-room.new.homes (blocks_in c.clear_way-room.new.region) c.clear_way-room.ensures.home)

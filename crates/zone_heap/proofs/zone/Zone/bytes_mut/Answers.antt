@@ -5,7 +5,7 @@ use Rattle.zone_heap.proofs.zone.Zone.bytes_mut.Goals.{After-live_span-span}
 use Rattle.zone_heap.proofs.zone.Zone.bytes_mut.Goals as goal
 
 span : (g : Over) (c : After-live_span-span g) → IsSpan c.self.inside c.args.self.now g.K.SlotKind.CODE c.args.slot.number c.live_span-span.result
-span g c = span_is c.self.inside _ c.self.view_is _ _ g.K.SlotKind.is_known c.requires.in_range c.requires.live _ _ c.deref.ensures.value c.deref-2.ensures.value _ _ c.CODE.ensures refl _ c.live_span-span.ensures.from c.live_span-span.ensures.to
+span g c = span_is c.self.inside _ c.self.view_is _ _ g.K.SlotKind.is_known c.requires.in_range c.requires.live _ c.deref.ensures.value _ _ c.CODE.ensures refl _ c.live_span-span.ensures.from c.live_span-span.ensures.to
 
 pub with_part-requires-clause-bound : goal.with_part-requires-clause-bound
 with_part-requires-clause-bound g c = span_bound c.self.inside c.self.invariant _ _ _ _ (span g (goal.at.with_part-requires-clause-bound g c).After-live_span-span)

@@ -21,15 +21,15 @@ after g c =
     ap blocks_in (items_are g c) ∙ c.retag.ensures.blocks ∙ ap (λ xs. map (retag_block (owner_at c.CODE.result c.number.result) c.args.tag) (blocks_in xs)) c.deref_mut.ensures.value
     ∙ ap (λ (q : Owner). map (retag_block q c.args.tag) (blocks_in c.self.inside.region.items)) (ap₂ owner_at c.CODE.ensures c.number.ensures)
 
-sound_after : (g : Over) (c : After-retag g) → IsSound (record { size = c.self.inside.size; lumps = c.self.inside.lumps; composites = c.self.inside.composites; blocks = blocks_in (with_items c.self.inside.region c.retag.new.region).items; rover = c.self.inside.rover; purges = c.self.inside.purges })
+sound_after : (g : Over) (c : After-retag g) → IsSound (record { size = c.self.inside.size; lumps = c.self.inside.homes.lumps; composites = c.self.inside.composites; blocks = blocks_in (with_items c.self.inside.region c.retag.new.region).items; rover = c.self.inside.rover; purges = c.self.inside.purges })
 sound_after g c = rw (after g c) (with_tag_sound (owner_at g.K.SlotKind.CODE c.args.slot.number) c.args.tag (heap_of c.self.inside) c.self.invariant.sound)
 
 pub invariant_of-self : goal.invariant_of-self
 invariant_of-self g c =
     let d = (goal.at.invariant_of-self g c).After-retag in
     let i = c.self.inside in
-    zone_with i c.self.invariant (with_items i.region c.retag.new.region) i.homes i.rover i.purges refl refl (sound_after g d) (subst IsRing (sym (items_are g d)) c.retag.ensures.ring)
-    (subst (AreExact i.lumps i.homes.items) (sym (after g d)) (exact_tagged i.lumps i.homes.items (blocks_in i.region.items) (owner_at g.K.SlotKind.CODE c.args.slot.number) c.args.tag c.self.invariant.exact))
+    zone_with i c.self.invariant (with_items i.region c.retag.new.region) i.homes i.rover i.purges refl (refl, refl) (sound_after g d) (subst IsRing (sym (items_are g d)) c.retag.ensures.ring)
+    (subst (AreExact i.homes) (sym (after g d)) (exact_tagged i.homes (blocks_in i.region.items) (owner_at g.K.SlotKind.CODE c.args.slot.number) c.args.tag c.self.invariant.exact))
 
 pub returns-clause-sound : goal.returns-clause-sound
 returns-clause-sound g c = sound_after g (goal.at.returns-clause-sound g c).After-retag

@@ -22,36 +22,33 @@ use Rattle.zone_heap.specs.Asks.{heap_at}
 use Rattle.zone_heap.proofs.ChangeLemmas.{code_back}
 use Rattle.zone_heap.proofs.ZoneLemmas.{owner_back, number_small, region_len, zone_with}
 use Rattle.zone_heap.proofs.zone.Zone.malloc.Given.{Over}
-use Rattle.zone_heap.proofs.zone.Zone.malloc.Goals.{After-deref_mut-2, After-saturating_add-self-inside}
+use Rattle.zone_heap.proofs.zone.Zone.malloc.Goals.{After-deref_mut, After-saturating_add-self-inside}
 use Rattle.zone_heap.proofs.zone.Zone.malloc.Goals as goal
 
-abbrev o : (g : Over) (c : After-deref_mut-2 g) → Owner
+abbrev o : (g : Over) (c : After-deref_mut g) → Owner
 o g c = owner_at g.K.SlotKind.CODE c.args.slot.number
 
-in_range : (g : Over) (c : After-deref_mut-2 g) → c.args.slot.number < slot_count (heap_of c.self.inside) g.K.SlotKind.CODE
+in_range : (g : Over) (c : After-deref_mut g) → c.args.slot.number < slot_count (heap_of c.self.inside) g.K.SlotKind.CODE
 in_range g c = subst (λ (z : Heap). c.args.slot.number < slot_count z g.K.SlotKind.CODE) (sym c.self.view_is) c.requires.in_range
 
-owner_is : (g : Over) (c : After-deref_mut-2 g) → owner_in c.owner_word.result ≡ owner_at g.K.SlotKind.CODE c.args.slot.number
+owner_is : (g : Over) (c : After-deref_mut g) → owner_in c.owner_word.result ≡ owner_at g.K.SlotKind.CODE c.args.slot.number
 owner_is g c =
     let n = number_small c.self.inside c.self.invariant g.K.SlotKind.CODE c.args.slot.number g.K.SlotKind.is_known (in_range g c) in
-    ap owner_in (c.owner_word.ensures ∙ ap₂ Rattle.zone_heap.specs.Headers.owner_word c.CODE-2.ensures c.number-2.ensures) ∙ owner_back g.K.SlotKind.CODE c.args.slot.number n
+    ap owner_in (c.owner_word.ensures ∙ ap₂ Rattle.zone_heap.specs.Headers.owner_word c.CODE.ensures c.number.ensures) ∙ owner_back g.K.SlotKind.CODE c.args.slot.number n
 
-lacks_it : (g : Over) (c : After-deref_mut-2 g) → Lacks (owner_at g.K.SlotKind.CODE c.args.slot.number) (blocks_in c.self.inside.region.items)
+lacks_it : (g : Over) (c : After-deref_mut g) → Lacks (owner_at g.K.SlotKind.CODE c.args.slot.number) (blocks_in c.self.inside.region.items)
 lacks_it g c = lacked _ _ (subst (λ (z : Heap). IsNone (holding_of (owner_at g.K.SlotKind.CODE c.args.slot.number) z.blocks)) (sym c.self.view_is) c.requires.empty)
 
 pub serve-outcome-requires-clause-empty : goal.serve-outcome-requires-clause-empty
 serve-outcome-requires-clause-empty g c =
-    let d = (goal.at.serve-outcome-requires-clause-empty g c).After-deref_mut-2 in
+    let d = (goal.at.serve-outcome-requires-clause-empty g c).After-deref_mut in
     subst (λ (p : Owner). Lacks p (blocks_in c.deref_mut.result.now)) (sym (owner_is g d)) (subst (λ xs. Lacks (owner_at g.K.SlotKind.CODE c.args.slot.number) (blocks_in xs)) (sym c.deref_mut.ensures.value) (lacks_it g d))
 
-abbrev earlier : (g : Over) (c : After-saturating_add-self-inside g) → After-deref_mut-2 g
-earlier g c = c.before.before.before.before.before
+abbrev earlier : (g : Over) (c : After-saturating_add-self-inside g) → After-deref_mut g
+earlier g c = c.before.before.before.before
 
 items_are : (g : Over) (c : After-saturating_add-self-inside g) → (with_items c.self.inside.region c.serve-outcome.new.region).items ≡ c.serve-outcome.new.region
 items_are g c = let a = c.serve-outcome.ensures.len in let b = ap (λ (xs : List ℕ). length xs) c.deref_mut.ensures.value in let d = c.self.inside.region.ok.0 in with_items_is c.self.inside.region c.serve-outcome.new.region (omega arith)
-
-homes_are : (g : Over) (c : After-saturating_add-self-inside g) → (with_items c.self.inside.homes c.serve-outcome.new.homes).items ≡ c.serve-outcome.new.homes
-homes_are g c = let a = c.serve-outcome.ensures.homes in let b = ap (λ (xs : List ℕ). length xs) c.deref_mut-2.ensures.value in let d = c.self.inside.homes.ok.0 in with_items_is c.self.inside.homes c.serve-outcome.new.homes (omega arith)
 
 place_is : (g : Over) (c : After-saturating_add-self-inside g) → first_room c.block_size-wanted.result (stretches c.self.inside.rover (blocks_in c.self.inside.region.items)) ≡ result_ok c.serve-outcome.result.place
 place_is g c = ap (λ xs. first_room c.block_size-wanted.result (stretches c.self.inside.rover (blocks_in xs))) (sym c.deref_mut.ensures.value) ∙ c.serve-outcome.ensures.place
@@ -61,17 +58,17 @@ purges_are g c =
     c.saturating_add-self-inside.ensures ∙ ap (λ n. cap_count (c.self.inside.purges + n)) (c.serve-outcome.ensures.purges ∙ ap (λ xs. count_among (passed_blocks c.block_size-wanted.result (stretches c.self.inside.rover (blocks_in xs))) (blocks_in xs)) c.deref_mut.ensures.value)
 
 abbrev new_heap : (g : Over) (c : After-saturating_add-self-inside g) → Heap
-new_heap g c = record { size = c.self.inside.size; lumps = c.self.inside.lumps; composites = c.self.inside.composites; blocks = blocks_in (with_items c.self.inside.region c.serve-outcome.new.region).items; rover = c.serve-outcome.result.rover; purges = c.saturating_add-self-inside.result }
+new_heap g c = record { size = c.self.inside.size; lumps = c.serve-outcome.new.homes.lumps; composites = c.self.inside.composites; blocks = blocks_in (with_items c.self.inside.region c.serve-outcome.new.region).items; rover = c.serve-outcome.result.rover; purges = c.saturating_add-self-inside.result }
 
 -- the zone after a search that found nothing
 none_heap : (g : Over) (c : After-saturating_add-self-inside g) (none : NoRoom) → c.serve-outcome.result.place ≡ Err none → new_heap g c ≡ without_room c.block_size-wanted.result (heap_of c.self.inside)
 none_heap g c none e =
     let i = c.self.inside in
     let k = c.serve-outcome.ensures.none (subst IsErr (sym e) refl) in
-    let b = ap blocks_in (items_are g c) ∙ k.0 ∙ ap (λ xs. after_search c.block_size-wanted.result (heap_at xs c.deref_mut-2.result.now i.lumps i.rover)) c.deref_mut.ensures.value in
+    let b = ap blocks_in (items_are g c) ∙ k.0 ∙ ap (λ xs. after_search c.block_size-wanted.result (heap_at xs i.homes i.rover)) c.deref_mut.ensures.value in
     let r = k.1 ∙ ap (λ xs. place_around i.rover 0 (blocks_in xs)) (sym (items_are g c)) in
     let p = purges_are g c in
-    rw (r, p, b) refl
+    rw (c.serve-outcome.ensures.slots.0, r, p, b) refl
 
 -- the zone after a search that found room
 record IsMade (g : Over) (c : After-saturating_add-self-inside g) : Type 0 where
@@ -88,7 +85,7 @@ made g c place e =
     let w = c.block_size-wanted.result in
     let there = c.serve-outcome.ensures.some in
     let k = rw e at there in
-    let s = ap (λ xs. after_search w (heap_at xs c.deref_mut-2.result.now i.lumps i.rover)) c.deref_mut.ensures.value in
+    let s = ap (λ xs. after_search w (heap_at xs i.homes i.rover)) c.deref_mut.ensures.value in
     let own = owner_is g (earlier g c) in
     let tag : code_tag c.tag_code.result ≡ c.args.tag = ap code_tag c.tag_code.ensures ∙ code_back c.args.tag in
     let h : ◌≡◌ {A = Holding} (record { owner = owner_in c.owner_word.result; tag = code_tag c.tag_code.result; asked = c.args.size; bytes = k.bytes }) (record { owner = owner_at g.K.SlotKind.CODE c.args.slot.number; tag = c.args.tag; asked = c.args.size; bytes = k.bytes }) = λ j. record { owner = own j; tag = tag j; asked = c.args.size; bytes = k.bytes } in
@@ -102,10 +99,10 @@ made g c place e =
       bytes = k.bytes;
       len = k.len;
       room = subst (RoomAt place w) s k.room;
-      heap = λ j. record { size = i.size; lumps = i.lumps; composites = i.composites; blocks = b j; rover = (r ∙ ap (place_after place i.size) b) j; purges = p j };
+      heap = λ j. record { size = i.size; lumps = c.serve-outcome.ensures.slots.0 j; composites = i.composites; blocks = b j; rover = (r ∙ ap (place_after place i.size) b) j; purges = p j };
     }
 
-slot_is : (g : Over) (c : After-deref_mut-2 g) → InRange c.self.inside.lumps c.self.inside.composites (owner_at g.K.SlotKind.CODE c.args.slot.number)
+slot_is : (g : Over) (c : After-deref_mut g) → InRange c.self.inside.homes.lumps c.self.inside.composites (owner_at g.K.SlotKind.CODE c.args.slot.number)
 slot_is g c = in_range_of (heap_of c.self.inside) g.K.SlotKind.CODE c.args.slot.number g.K.SlotKind.is_known (in_range g c)
 
 abbrev held : (g : Over) (c : After-saturating_add-self-inside g) (m : IsMade g c) → Holding
@@ -117,11 +114,11 @@ made_sound g c m =
 
 -- whatever came of the search, the fields are a zone where the blocks are sound
 kept : (g : Over) (c : After-saturating_add-self-inside g) → IsSound (new_heap g c)
-    → IsZone (record c.self.inside { region = with_items c.self.inside.region c.serve-outcome.new.region; homes = with_items c.self.inside.homes c.serve-outcome.new.homes; rover = c.serve-outcome.result.rover; purges = c.saturating_add-self-inside.result })
+    → IsZone (record c.self.inside { region = with_items c.self.inside.region c.serve-outcome.new.region; homes = c.serve-outcome.new.homes; rover = c.serve-outcome.result.rover; purges = c.saturating_add-self-inside.result })
 kept g c sound =
     let i = c.self.inside in
-    zone_with i c.self.invariant (with_items i.region c.serve-outcome.new.region) (with_items i.homes c.serve-outcome.new.homes) c.serve-outcome.result.rover c.saturating_add-self-inside.result refl refl sound (subst IsRing (sym (items_are g c)) c.serve-outcome.ensures.ring)
-    (subst (λ xs. AreExact i.lumps (with_items i.homes c.serve-outcome.new.homes).items (blocks_in xs)) (sym (items_are g c)) (subst (λ hs. AreExact i.lumps hs (blocks_in c.serve-outcome.new.region)) (sym (homes_are g c)) c.serve-outcome.ensures.exact))
+    zone_with i c.self.invariant (with_items i.region c.serve-outcome.new.region) c.serve-outcome.new.homes c.serve-outcome.result.rover c.saturating_add-self-inside.result refl c.serve-outcome.ensures.slots sound (subst IsRing (sym (items_are g c)) c.serve-outcome.ensures.ring)
+    (subst (λ xs. AreExact c.serve-outcome.new.homes (blocks_in xs)) (sym (items_are g c)) c.serve-outcome.ensures.exact)
 
 pub invariant_of-self : goal.invariant_of-self
 invariant_of-self g c =

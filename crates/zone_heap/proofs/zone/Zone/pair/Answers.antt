@@ -5,10 +5,10 @@ use Rattle.zone_heap.proofs.zone.Zone.pair.Goals.{After-live_span-to}
 use Rattle.zone_heap.proofs.zone.Zone.pair.Goals as goal
 
 read : (g : Over) (c : After-live_span-to g) → IsSpan c.self.inside c.args.self.now 0 c.args.read.number c.live_span-from.result
-read g c = span_is c.self.inside _ c.self.view_is _ _ (lit≤ tt) c.requires.read_in_range c.requires.read_live _ _ c.deref.ensures.value c.deref-2.ensures.value _ _ refl c.number.ensures _ c.live_span-from.ensures.from c.live_span-from.ensures.to
+read g c = span_is c.self.inside _ c.self.view_is _ _ (lit≤ tt) c.requires.read_in_range c.requires.read_live _ c.deref.ensures.value _ _ refl c.number.ensures _ c.live_span-from.ensures.from c.live_span-from.ensures.to
 
 write : (g : Over) (c : After-live_span-to g) → IsSpan c.self.inside c.args.self.now 1 c.args.write.number c.live_span-to.result
-write g c = span_is c.self.inside _ c.self.view_is _ _ (lit≤ tt) c.requires.write_in_range c.requires.write_live _ _ c.deref-3.ensures.value c.deref-4.ensures.value _ _ refl c.number-2.ensures _ c.live_span-to.ensures.from c.live_span-to.ensures.to
+write g c = span_is c.self.inside _ c.self.view_is _ _ (lit≤ tt) c.requires.write_in_range c.requires.write_live _ c.deref-2.ensures.value _ _ refl c.number-2.ensures _ c.live_span-to.ensures.from c.live_span-to.ensures.to
 
 pub with_parts-requires-clause-read_bound : goal.with_parts-requires-clause-read_bound
 with_parts-requires-clause-read_bound g c = span_bound c.self.inside c.self.invariant _ _ _ _ (read g (goal.at.with_parts-requires-clause-read_bound g c).After-live_span-to)
