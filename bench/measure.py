@@ -3,11 +3,11 @@
 
 usage: measure.py [WAD..] [--programs PROGRAM..] [--maps NAMES] [--rounds N] [--repeat N] [--ppm] [--count]
 
-With WADs: of each map 21 places at which one can stand, chosen by examples/places from a fixed seed. A view is what a
-run over the places REPEAT times takes more than a run over them once, so that the reading of the level does not count;
-clearing and writing the frame do. Frames go to /dev/null. Times are processor time in microseconds, the least of
+With WADs: of each map 21 places at which one can stand, chosen as `doomview places` does, from a fixed seed. A view is
+what a run over the places REPEAT times takes more than a run over them once, so that the reading of the level does not
+count; clearing and writing the frame do. Frames go to /dev/null. Times are processor time in microseconds, the least of
 ROUNDS; in each round all programs run in turn, and runs are short and many, since a machine that others use changes
-its pace from second to second. Where examples/original/build has made `still`, R_RenderPlayerView of the original is
+its pace from second to second. Where tools/original/build has made `still`, R_RenderPlayerView of the original is
 measured beside, the least of its passes over the places, and the ratios are to it; else they are to the first program.
 
 Without WADs: `exercise` of 1, 4, 16 and 32, with all else that the job does.
@@ -26,10 +26,11 @@ import sys
 import tempfile
 
 TOP = os.path.dirname(os.path.dirname(os.path.abspath(__file__)))
-EXAMPLES = os.path.join(TOP, 'examples')
-STILL = os.path.join(EXAMPLES, 'original', 'still')
-sys.path.insert(0, EXAMPLES)
-from wad_maps import WadError, map_labels, read_wad  # noqa: E402
+TOOLS = os.path.join(TOP, 'tools')
+STILL = os.path.join(TOOLS, 'original', 'still')
+sys.path.insert(0, TOOLS)
+from doomview_tools import levels, paths, program, wads  # noqa: E402
+from doomview_tools.trouble import Trouble  # noqa: E402
 
 MAPS = 'E1M1 E2M8 E3M1 MAP01 MAP07 MAP18 MAP19 MAP21 MAP31'
 PLACES, SEED = 20, 7
@@ -65,17 +66,16 @@ def instructions(words, folder, *options):
 
 def write_paths(folder, wad, name, repeat):
     """The places once and REPEAT times; how many views the second has more."""
-    words = [os.path.join(EXAMPLES, 'places'), wad, name, str(PLACES), '--seed', str(SEED)]
-    head, *rows = run(words, folder)[0].decode().splitlines()
+    rows = paths.places(levels.read([wad], name), PLACES, SEED)
     for path, times in (('one.csv', 1), ('many.csv', repeat)):
         with open(os.path.join(folder, path), 'w') as file:
-            file.write('\n'.join([head, *rows * times]) + '\n')
+            file.write(paths.text(rows * times))
     return len(rows) * (repeat - 1)
 
 
-def doomview_words(program, wad, name, path, ppm):
-    return [program, 'render', name, wad, '--tables', 'tables.bin', '--path', path, '--things',
-            os.path.join(EXAMPLES, 'things.csv'), '--format', 'ppm' if ppm else 'index']
+def doomview_words(executable, wad, name, path, ppm):
+    words = ['render', name, wad, '--path', path, '--format', 'ppm' if ppm else 'index']
+    return [executable, *program.completed(words)]
 
 
 def still_words(wad, name, path, *more):
@@ -87,22 +87,22 @@ def timed(options, folder, wad, name):
     views = write_paths(folder, wad, name, options.repeat)
     least = collections.defaultdict(lambda: float('inf'))
     for _ in range(options.rounds):
-        for program in options.programs:
+        for executable in options.programs:
             for path in ('one.csv', 'many.csv'):
-                words = doomview_words(program, wad, name, path, options.ppm)
-                least[program, path] = min(least[program, path], seconds(words, folder))
+                words = doomview_words(executable, wad, name, path, options.ppm)
+                least[executable, path] = min(least[executable, path], seconds(words, folder))
         if options.original:
             told = run(still_words(wad, name, 'one.csv', '-time', str(options.repeat)), folder)[0]
             least[STILL] = min(least[STILL], int(re.search(rb'least (\d+) ns', told)[1]) / 1000)
     return [least[STILL]] * options.original + [
-        (least[program, 'many.csv'] - least[program, 'one.csv']) / views * 1e6 for program in options.programs]
+        (least[executable, 'many.csv'] - least[executable, 'one.csv']) / views * 1e6 for executable in options.programs]
 
 
 def counted(options, folder, wad, name):
     """The thousands of instructions a view of each of them."""
     views = write_paths(folder, wad, name, COUNTED_REPEAT)
     jobs = [(still_words, (), [f'--toggle-collect={RENDERER}'])] * options.original
-    jobs += [(lambda *words, program=it: doomview_words(program, *words), (options.ppm,), []) for it in options.programs]
+    jobs += [(lambda *words, it=it: doomview_words(it, *words), (options.ppm,), []) for it in options.programs]
     return [(instructions(words(wad, name, 'many.csv', *more), folder, *flags)
              - instructions(words(wad, name, 'one.csv', *more), folder, *flags)) / views / 1000
             for words, more, flags in jobs]
@@ -125,8 +125,6 @@ def renders(options, maps):
     print('|---' * (2 * len(names)) + '|')
     sums = [0.0] * len(names)
     with tempfile.TemporaryDirectory() as folder:
-        with open(os.path.join(folder, 'tables.bin'), 'wb') as file:
-            file.write(run([sys.executable, os.path.join(EXAMPLES, 'make_tables.py')], folder)[0])
         for wad, name in sorted(maps, key=lambda it: it[1]):
             found = (counted if options.count else timed)(options, folder, wad, name)
             sums = [a + b for a, b in zip(sums, found)]
@@ -140,7 +138,7 @@ def exercises(options):
     print('|---' * (2 + len(options.programs)) + '|')
     for number in NUMBERS:
         views = VIEWS_PER_NUMBER * number
-        rounds = [[seconds([program, 'exercise', str(number)], None) for program in options.programs]
+        rounds = [[seconds([executable, 'exercise', str(number)], None) for executable in options.programs]
                   for _ in range(options.rounds)]
         least = [1e6 * min(column) / views for column in zip(*rounds)]
         print_row([str(number), str(views), *(f'{it:.0f}' for it in least)])
@@ -163,9 +161,10 @@ def main():
     if not options.wads:
         return exercises(options)
     try:
-        maps = [(os.path.abspath(wad), name) for wad in options.wads for name in map_labels(read_wad(wad))
+        found = [os.path.abspath(wads.find(name)) for name in options.wads]
+        maps = [(wad, name) for wad in found for name in wads.map_labels(wads.read(wad))
                 if name in options.maps.split()]
-    except WadError as error:
+    except Trouble as error:
         reader.error(str(error))
     if not maps:
         reader.error('none of these maps is in the WADs; --maps names others')

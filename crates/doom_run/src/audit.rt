@@ -4,16 +4,31 @@ ghost use Rattle.job_rules.specs.declared.command.LevelTask.TheVariants.{Audit};
 ghost use Rattle.level_audit.specs.scene_load.Calls.{IsLoadedScene};
 ghost use Rattle.outside.specs.Causes.{FaultsRose};
 ghost use Rattle.outside.specs.Shelf.{ShelfView};
-ghost use Rattle.std.specs.Prelude.{◌≡◌};
+ghost use Rattle.outside.specs.Sink.{Writes};
+ghost use Rattle.job_files.specs.Lines.{pair_line};
+ghost use Rattle.std.specs.Prelude.{◌≡◌, codes};
 ghost use Rattle.doom_run.specs.Ends.{DeliversAt};
 ghost use Rattle.doom_run.specs.Jobs.{audited, delivery_of};
 ghost use Rattle.doom_run.specs.Performs.{Delivers};
 
 use job_files::Status;
 use level_audit::LoadedScene;
-use outside::Sink;
+use outside::{Failed, Sink};
 use refusals::Line;
 use scene_rules::ZoneSizes;
+
+// Appends the line of an accepted level.
+fn put_sizes<K: Sink>(out: &mut K, sizes: ZoneSizes) -> Result<(), Failed>
+    ensures { Writes (K.written out.old) (K.written out.new) (K.faults out.old)
+        (K.faults out.new) (pair_line (codes "accepted enough ") sizes.enough
+        (codes " roomy ") sizes.roomy) result }
+{
+    let mut line = Line::new();
+    line.add_number(b"accepted enough ", sizes.enough);
+    line.add_number(b" roomy ", sizes.roomy);
+    line.add(b"\n");
+    line.put(out)
+}
 
 // Writes the line of an accepted level. Takes no memory.
 fn deliver_audit<K: Sink>(sizes: ZoneSizes, out: &mut K) -> Status
@@ -21,11 +36,7 @@ fn deliver_audit<K: Sink>(sizes: ZoneSizes, out: &mut K) -> Status
     ensures write_fault { result ≡ Status.WriteFault →
         FaultsRose (K.faults out.old) (K.faults out.new) }
 {
-    let mut line = Line::new();
-    line.add_number(b"accepted enough ", sizes.enough);
-    line.add_number(b" roomy ", sizes.roomy);
-    line.add(b"\n");
-    match line.put(out) {
+    match put_sizes(out, sizes) {
         Ok(()) => Status::Done,
         Err(_) => Status::WriteFault,
     }

@@ -78,8 +78,8 @@ fn made_level(zone: u32) -> LevelJob<'static>
         },
         settings: Settings {
             zone,
-            skill: DEFAULT_SKILL,
-            size: DEFAULT_SIZE,
+            skill: DEFAULT_SKILL as u8,
+            size: DEFAULT_SIZE as u8,
             planes: DEFAULT_PLANES,
             openings: DEFAULT_OPENINGS,
         },

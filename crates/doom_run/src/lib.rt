@@ -21,22 +21,12 @@
 mod audit;
 mod canvas;
 mod exercise;
-#[cfg(test)]
-mod hostile_tests;
 mod layers;
 mod level;
 mod limits;
 mod render;
-#[cfg(test)]
-mod tests;
 mod top;
 mod trim;
-#[cfg(test)]
-mod trim_tests;
-#[cfg(test)]
-mod view_tests;
-#[cfg(test)]
-mod wad_tests;
 
 pub use job_files::{Status, put_note};
 pub use picture_rules::LimitKind;

@@ -11,7 +11,6 @@ use Rattle.zone_rules.specs.Zones.{Heap}
 use Rattle.view_rules.specs.View.{ViewValue}
 use Rattle.level_rules.specs.declared.SideTextures.{SideTextures}
 use Rattle.level_rules.specs.declared.Surface.{Surface}
-use Rattle.level_rules.specs.declared.ThingLine.{ThingLine}
 use Rattle.level_rules.specs.Levels.{no_seg, seg_at, surface_at}
 use Rattle.level_rules.specs.maps.Sound.{IsSound}
 use Rattle.level_rules.specs.declared.walk.TheConstants.{MAX_DRAWSEGS}
@@ -36,6 +35,7 @@ use Rattle.sound_scene.specs.Sound.{middles_of, textures_view}
 use Rattle.sound_scene.specs.Whole.{AllColumnsSingle, IsNoneOrSingle}
 use Rattle.masked_draw.specs.Lists.{middle_by, note_seg}
 use Rattle.masked_draw.specs.Ready.{CanDrawMiddle, IsListed, IsNotedMiddle}
+use Rattle.frame_core.specs.Views.{IsDrawable}
 use Rattle.frame_core.specs.Scenes.{scene_of}
 use Rattle.frame_core.specs.Walked.{IsEventIn}
 use Rattle.frame_core.proofs.DrawsegLemmas.{mask_lists}

@@ -15,7 +15,7 @@ use Rattle.level_rules.specs.declared.TheConstants.{SKY_FLAT}
 use Rattle.level_rules.specs.Levels.{is_sky, no_seg, no_surface, seg_at, surface_at}
 use Rattle.level_rules.specs.maps.Levels.{LevelValue}
 use Rattle.level_rules.specs.maps.Sound.{IsSound}
-use Rattle.art_rules.specs.Textures.{TextureLists, texture_number}
+use Rattle.art_rules.specs.Textures.{Texture, TextureLists, texture_number}
 use Rattle.scene_rules.specs.declared.Flat.{Flat}
 use Rattle.scene_rules.specs.declared.Flat.TheVariants.{Sky, Lump as LumpFlat}
 use Rattle.scene_rules.specs.declared.SectorFlats.{SectorFlats}

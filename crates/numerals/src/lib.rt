@@ -63,18 +63,3 @@ fn value_of(digits: &[u8]) -> u64
     }
     value
 }
-
-#[cfg(test)]
-mod tests {
-    use crate::numeral;
-    use std::test::Fail;
-
-    #[test]
-    fn ten_digits_and_no_more(rt: HostRuntime) -> Result<(), Fail> {
-        assert!(rt; numeral(b"0000000032") == Some(32));
-        assert!(rt; numeral(b"4294967296") == Some(4294967296));
-        assert!(rt; numeral(b"00000000032") == None);
-        assert!(rt; numeral(b"+5") == None);
-        Ok(())
-    }
-}

@@ -1,0 +1,153 @@
+"""The cases: read from the tables, run, and compared with what a run of another program gave."""
+import csv
+import dataclasses
+import hashlib
+import io
+import os
+import re
+import shlex
+import subprocess
+import urllib.parse
+
+HERE = os.path.dirname(os.path.abspath(__file__))
+TABLES = os.path.join(HERE, 'tables')
+HEADER = ['case', 'words', 'how', 'status', 'line', 'bytes', 'sha256']
+NOTE = '# Values come from another program written from the same rules, or by hand from the rules; none from doomview.'
+FULL, MAY_BE_FULL, READS = 'full', 'may be full', 'reads '
+ZONES = (FULL, MAY_BE_FULL)
+ZONE_FULL = '6'  # the status
+ZONE_LINE = re.compile(r'doomview: zone full wanted (\d+) widest (\d+)')
+SECONDS = 60  # after which a run is given up
+
+
+@dataclasses.dataclass(frozen=True)
+class Outcome:
+    """How a run ended: its status, its line, and how many bytes it wrote with what sum; of a run whose zone was full
+    also whether it wrote a beginning of what is expected."""
+    status: str
+    line: str
+    length: str
+    sum: str
+    is_part: bool = False
+
+
+@dataclasses.dataclass(frozen=True)
+class Case:
+    """A case of a table. `how` is empty, or tells of the zone (`full`, `may be full`), of the reader of the output
+    (`reads N`: it goes after so many bytes), or has what a shell does with the streams (`>&-`)."""
+    table: str
+    name: str
+    words: str
+    how: str
+    expected: Outcome
+
+    def arguments(self):
+        """The words as the program gets them; %FF among them is a byte."""
+        return [os.fsdecode(urllib.parse.unquote_to_bytes(word)) for word in shlex.split(self.words)]
+
+    def is_of_shell(self):
+        return bool(self.how) and self.how not in ZONES and not self.how.startswith(READS)
+
+    def row(self, outcome):
+        """The line of the table where it ends so."""
+        text = io.StringIO()
+        csv.writer(text, lineterminator='\n').writerow(
+            [self.name, self.words, self.how, outcome.status, outcome.line, outcome.length, outcome.sum])
+        return text.getvalue()
+
+
+def table_names():
+    return sorted(name[:-4] for name in os.listdir(TABLES) if name.endswith('.csv'))
+
+
+def read_table(table):
+    with open(os.path.join(TABLES, f'{table}.csv'), encoding='utf-8', newline='') as file:
+        rows = [row for row in csv.reader(file) if row and not row[0].startswith('#')]
+    if rows[:1] != [HEADER]:
+        raise ValueError(f'the first line of {table}.csv is not {",".join(HEADER)}')
+    padded = [row + [''] * (len(HEADER) - len(row)) for row in rows[1:]]
+    return [Case(table, *row[:3], Outcome(*row[3:])) for row in padded]
+
+
+def differences(case, outcome):
+    """What differs between what is expected of a case and how it ended, a few words each."""
+    expected = case.expected
+    if case.how == FULL or case.how == MAY_BE_FULL and outcome.status == ZONE_FULL:
+        return zone_differences(outcome)
+    fields = [('status', expected.status, outcome.status), ('line', expected.line, outcome.line),
+              ('bytes', expected.length, outcome.length), ('sum', expected.sum, outcome.sum)]
+    return [f'{name} {want or "none"} expected, {came or "none"} came' for name, want, came in fields if want != came]
+
+
+def zone_differences(outcome):
+    """The same of a run whose zone has to be full."""
+    if outcome.status != ZONE_FULL:
+        return [f'status {ZONE_FULL} expected, {outcome.status} came']
+    found = []
+    sizes = ZONE_LINE.fullmatch(outcome.line)
+    if not sizes or int(sizes[2]) >= int(sizes[1]):
+        found.append(f'line of a full zone expected, {outcome.line or "none"} came')
+    if not outcome.is_part:
+        found.append(f'a beginning of {outcome.length} bytes of the whole output expected, others came')
+    return found
+
+
+class Runner:
+    """Runs cases with a program over files in a folder."""
+
+    def __init__(self, program, folder):
+        self.program, self.folder = program, folder
+
+    def run(self, case):
+        """How a case ends."""
+        if case.how.startswith(READS):
+            return self.read(case.arguments(), int(case.how[len(READS):]))
+        command = [self.program, *case.arguments()]
+        if case.is_of_shell():
+            command = ['sh', '-c', f'exec "$0" "$@" {case.how}', *command]
+        outcome, output = self.call(command)
+        if outcome.status == ZONE_FULL and case.how in ZONES:
+            whole, beginning = self.call([self.program, *without_zone(case.arguments())])
+            is_part = whole == case.expected and beginning.startswith(output)
+            return dataclasses.replace(outcome, is_part=is_part)
+        return outcome
+
+    def expect(self, case):
+        """What a table is to have of a case: in a zone that may be full what a run in another zone writes."""
+        if case.how in ZONES:
+            return self.call([self.program, *without_zone(case.arguments())])[0]
+        return self.run(case)
+
+    def call(self, command):
+        """How a command ends, and what it writes."""
+        try:
+            done = subprocess.run(command, cwd=self.folder, stdin=subprocess.DEVNULL, stdout=subprocess.PIPE,
+                                  stderr=subprocess.PIPE, timeout=SECONDS)
+        except subprocess.TimeoutExpired:
+            return Outcome('none', f'no end after {SECONDS} seconds', '0', ''), b''
+        return outcome_of(done.returncode, done.stdout, done.stderr), done.stdout
+
+    def read(self, arguments, count):
+        """How a run ends whose reader takes so many bytes and goes; its write then fails, without a signal."""
+        with subprocess.Popen([self.program, *arguments], cwd=self.folder, stdin=subprocess.DEVNULL,
+                              stdout=subprocess.PIPE, stderr=subprocess.PIPE, restore_signals=False) as process:
+            output = process.stdout.read(count)
+            process.stdout.close()
+            line = process.stderr.read()
+        return outcome_of(process.returncode, output, line)
+
+
+def without_zone(arguments):
+    """Words without the option --zone."""
+    kept, skipped = [], False
+    for word in arguments:
+        if not skipped and word != '--zone' and not word.startswith('--zone='):
+            kept.append(word)
+        skipped = word == '--zone'
+    return kept
+
+
+def outcome_of(status, output, line):
+    text = line.decode('utf-8', 'backslashreplace')
+    text = text[:-1] if text.endswith('\n') else text and text + ' without a line end'
+    return Outcome(str(status), text, str(len(output)), hashlib.sha256(output).hexdigest())

@@ -1,0 +1,190 @@
+"""What the tools of doomview share on the command line: their words, their help pages, and how they end.
+
+A tool is a module of `commands` with a PAGE, a function `add_words(parser)` and a function `run(options)`, which gives
+the status of the tool, or None for 0."""
+import argparse
+import shutil
+import sys
+import textwrap
+import typing
+
+from . import jobs, wads
+from .trouble import Trouble
+
+MOST_COLUMNS = 100
+UNBROKEN = '\N{NO-BREAK SPACE}'
+HELP = {'--help', '-h'}
+WAD = 'a WAD, found as ports find it (see doomview --help)'
+JOB_OPTION = 'job '  # before the names of options that are handed on
+
+
+class Page(typing.NamedTuple):
+    """The parts of a help page. `usage` has the forms of a call, where they cannot be told from its words."""
+
+    name: str
+    summary: str
+    text: str
+    examples: str
+    needs: str = 'Python alone'
+    ends: str = ' 0  all is well\n 2  it could not be done, and a sentence says why'
+    usage: tuple = ()
+
+
+def columns():
+    """The width of a help page."""
+    return max(60, min(MOST_COLUMNS, shutil.get_terminal_size((MOST_COLUMNS, 24)).columns))
+
+
+class Formatter(argparse.RawDescriptionHelpFormatter):
+    def __init__(self, prog):
+        super().__init__(prog, max_help_position=26, width=columns())
+
+
+class Parser(argparse.ArgumentParser):
+    """The words of a tool or a job. All help pages have the same parts in the same order."""
+
+    def __init__(self, page):
+        super().__init__(prog=f'doomview {page.name}', description=filled(page.text), epilog=last_parts(page),
+                         add_help=False, allow_abbrev=False, formatter_class=Formatter)
+        self.page = page
+        self._positionals.title, self._optionals.title = 'Words', 'Options'
+
+    def error(self, message):
+        raise Trouble(f'{message.replace("argument ", "")}; {self.prog} --help shows its words')
+
+    def format_usage(self):
+        """All words, the positional ones first."""
+        plain = [form_of(action) for action in self._actions if not action.option_strings]
+        options = [form_of(action) for action in self._actions if action.option_strings and action.dest != 'help']
+        forms = self.page.usage or [' '.join(it.replace(' ', UNBROKEN) for it in plain + options)]
+        text = ''.join(textwrap.fill(f'{self.prog} {form}', columns(), initial_indent='       ' if i else 'usage: ',
+                                     subsequent_indent=' ' * 9, break_on_hyphens=False) + '\n'
+                       for i, form in enumerate(forms))
+        return text.replace(UNBROKEN, ' ')
+
+    def parse(self, words):
+        """What the words give. Options may stand between plain words, but for a tool that takes the rest of its words."""
+        takes_rest = any(action.nargs == argparse.REMAINDER for action in self._actions)
+        if HELP & {*(words[:1] if takes_rest else words)}:
+            self.print_help()
+            raise SystemExit(0)
+        return self.parse_args(words) if takes_rest else self.parse_intermixed_args(words)
+
+    def format_help(self):
+        self.usage = argparse.SUPPRESS
+        return f'{self.format_usage()}\n{super().format_help()}'
+
+
+def form_of(action):
+    """How a word or an option is written."""
+    many = '..' if action.nargs in ('*', '+') else ''
+    if action.option_strings:
+        form = ' '.join(filter(None, [action.option_strings[0], action.metavar])) + many
+        return form if action.required else f'[{form}]'
+    return f'[{action.metavar}{many}]' if action.nargs in ('*', '?') else action.metavar + many
+
+
+def filled(text):
+    """Paragraphs, each filled up to the width of the page."""
+    return '\n\n'.join(textwrap.fill(' '.join(part.split()), columns(), break_on_hyphens=False)
+                       for part in text.strip().split('\n\n'))
+
+
+def last_parts(page):
+    """The examples of a page, how it ends, and what it needs."""
+    parts = [('Examples', page.examples), ('Ends with', page.ends), ('Needs', page.needs + '.')]
+    return '\n\n'.join(f'{title}:\n' + textwrap.indent(text.strip('\n'), '  ') for title, text in parts if text)
+
+
+def add_output(parser, what):
+    parser.add_argument('-o', dest='output', metavar='FILE',
+                        help=f'writes {what} to FILE, whole or not at all, and not to the standard output')
+
+
+def add_base(parser):
+    parser.add_argument('--iwad', metavar='WAD', help='the WAD that a PWAD stands on, read before it; else that of the '
+                        'variable IWAD')
+
+
+def add_level(parser):
+    """The words of a tool over one map."""
+    parser.add_argument('wad', metavar='WAD', help=WAD)
+    parser.add_argument('map', metavar='MAP', help='the name of a map, such as MAP01 or E1M1')
+    add_base(parser)
+
+
+def wads_of(options):
+    """The WADs of a tool over one WAD, in their order."""
+    return wads.with_base(options.wad, options.iwad)
+
+
+def number(least, greatest):
+    """The type of a word that is a number within a range."""
+    def read(text):
+        if not text.isdecimal() or not least <= int(text) <= greatest:
+            raise argparse.ArgumentTypeError(f'a number from {least} to {greatest}, and not {text}')
+        return int(text)
+    return read
+
+
+def add_job_options(parser, job, without=()):
+    """The options of a job that a tool hands on to it."""
+    for option in jobs.options_of(job):
+        if option.name not in without:
+            parser.add_argument(option.name, metavar=option.value, dest=JOB_OPTION + option.name,
+                                help=meaning_of(option))
+
+
+def job_words(options):
+    """The words of the options that a tool hands on to a job."""
+    found = {name[len(JOB_OPTION):]: value for name, value in vars(options).items() if name.startswith(JOB_OPTION)}
+    return [part for name, value in found.items() if value is not None for part in (name, value)]
+
+
+def parser_of(tool):
+    """The parser of a tool, which also prints its help page."""
+    parser = Parser(tool.PAGE)
+    tool.add_words(parser)
+    add_help(parser)
+    return parser
+
+
+def add_help(parser):
+    parser.add_argument('--help', '-h', action='help', help='prints this page')
+
+
+def job_page(job):
+    """The help page of a job, by the table of options."""
+    ends = '\n'.join(f'{status:2}  {meaning}' for status, meaning in jobs.STATUSES.items())
+    parser = Parser(Page(job.name, job.summary, job.text, job.examples, 'the program; it is built at the first call',
+                         ends))
+    for metavar, meaning in job.words:
+        parser.add_argument(metavar, metavar=metavar, help=meaning)
+    for option in jobs.options_of(job.name):
+        parser.add_argument(option.name, metavar=option.value, help=meaning_of(option),
+                            required=option.is_needed and not option.default)
+    add_output(parser, 'the output')
+    add_help(parser)
+    return parser.format_help()
+
+
+def meaning_of(option):
+    """What an option means, its range, and what it is where it is not named."""
+    parts = [option.meaning]
+    if option.least is not None:
+        parts.append(f'{option.least} to {option.greatest}')
+    if option.default:
+        parts.append(f'else {option.default}')
+    elif option.is_needed:
+        parts.append('needed')
+    return '; '.join(parts)
+
+
+def run(tool, words):
+    """Runs a tool with its words; its status."""
+    try:
+        return tool.run(parser_of(tool).parse(words)) or 0
+    except Trouble as error:
+        if str(error):
+            print(f'doomview {tool.PAGE.name}: {error}', file=sys.stderr)
+        return error.status

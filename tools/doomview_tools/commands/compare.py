@@ -1,0 +1,116 @@
+"""doomview compare: two files of frames beside each other."""
+import os
+import sys
+
+from .. import cli, frames, png, traces, wads
+from ..frames import HEIGHT, SIZE, WIDTH
+from ..trouble import Trouble
+
+RED = b'\xff\x00\x00'
+DIFFERENT = 1
+PAGE = cli.Page(
+    'compare', 'which views of two files of frames differ, where, and in what', '''
+Compares two files of index frames, and tells of each view that differs how, where and in what.
+
+OURS is what doomview render wrote, PORT what the port drew at the same rows of the camera path: 64,000 bytes a view. A
+line for each view that differs has the number of pixels, their box, and the first of them with both colours. The last
+line counts all views.
+
+With the file that doomview trace wrote for the same words, the lines under it tell what doomview painted there: the
+painter's kind, the lump or texture, the pixels, and the numbers of the fragments, planes or sprites in the view. Names
+need the WADs of the run. A texture of one patch is named where no other texture has the patch.
+
+--png writes a picture for each view that differs: OURS, PORT and the differences beside each other (red over grey), in
+the palette of the WADs or else in greys.
+''', '''
+$ doomview compare ours.bin port.bin
+$ doomview compare ours.bin port.bin --wad freedoom2.wad --trace trace.bin --png out --most 10
+''', ends='''
+ 0  all views are the same
+ 1  some differ
+ 2  the files cannot be compared
+''')
+
+
+def add_words(parser):
+    parser.add_argument('ours', metavar='OURS', help='the frames that doomview drew')
+    parser.add_argument('port', metavar='PORT', help='the frames that the port drew')
+    parser.add_argument('--trace', metavar='FILE', help='what doomview trace wrote: names what painted the pixels')
+    parser.add_argument('--wad', metavar='WAD', action='append', default=[], help='a WAD of the run; once for each, in '
+                        'their order')
+    parser.add_argument('--png', metavar='FOLDER', help='writes a picture of each view that differs into FOLDER')
+    parser.add_argument('--most', metavar='N', type=cli.number(0, sys.maxsize), default=sys.maxsize,
+                        help='tells of N views that differ, and counts the others')
+
+
+def told(view, ours, port, places):
+    """The line on a view that differs."""
+    rows, columns = [place // WIDTH for place in places], [place % WIDTH for place in places]
+    first = places[0]
+    return (f'view {view} pixels {len(places)} rows {rows[0]} to {rows[-1]} columns {min(columns)} to '
+            f'{max(columns)} first at row {rows[0]} column {columns[0]}: {ours[first]}, port {port[first]}')
+
+
+def marked(frame, palette, places):
+    """The frame in dark greys, with the places in red."""
+    greys = bytes(sum(palette[3 * i:3 * i + 3]) // 6 for i in range(256))
+    rgb = frames.coloured(frame, bytes(shade for shade in greys for _ in 'rgb'))
+    for place in places:
+        rgb[3 * place:3 * place + 3] = RED
+    return rgb
+
+
+def put_picture(folder, view, ours, port, places, palette):
+    pictures = [frames.coloured(ours, palette), frames.coloured(port, palette), marked(ours, palette, places)]
+    path = os.path.join(folder, f'view{view:05}.png')
+    png.write_png(path, WIDTH * len(pictures), HEIGHT, frames.beside(pictures))
+
+
+class Comparison:
+    """The views of both files, and what is told of those that differ."""
+
+    def __init__(self, options):
+        self.options, self.names = options, traces.Names([wads.find(name) for name in options.wad])
+        self.counts = [frames.count_views(path) for path in (options.ours, options.port)]
+        self.different = self.pixels = 0
+        if options.trace and traces.count_views(options.trace) != self.counts[0]:
+            raise Trouble(f'{options.trace} is not the trace of {self.counts[0]} views, as {options.ours} has them')
+        if options.png:
+            os.makedirs(options.png, exist_ok=True)
+
+    def views(self):
+        """The number and both frames of each view that both files have."""
+        with open(self.options.ours, 'rb') as ours, open(self.options.port, 'rb') as port:
+            for view in range(min(self.counts)):
+                yield view, ours.read(SIZE), port.read(SIZE)
+
+    def records(self, view):
+        with open(self.options.trace, 'rb') as file:
+            file.seek(traces.VIEW_SIZE * view)
+            return file.read(traces.VIEW_SIZE)
+
+    def tell(self, view, ours, port, places):
+        print(told(view, ours, port, places))
+        if self.options.trace:
+            print('\n'.join(traces.painters(self.records(view), places, self.names)))
+        if self.options.png:
+            put_picture(self.options.png, view, ours, port, places, self.names.palette)
+
+    def run(self):
+        """Tells of the views that differ; whether there is any, or a view that one file lacks."""
+        for view, ours, port in self.views():
+            if ours != port:
+                places = frames.differing(ours, port)
+                self.different += 1
+                self.pixels += len(places)
+                if self.different <= self.options.most:
+                    self.tell(view, ours, port, places)
+        both = min(self.counts)
+        print(f'views {both} same {both - self.different} different {self.different} pixels {self.pixels}')
+        if self.counts[0] != self.counts[1]:
+            print(f'{self.options.ours} has {self.counts[0]} views, {self.options.port} {self.counts[1]}')
+        return self.different > 0 or self.counts[0] != self.counts[1]
+
+
+def run(options):
+    return DIFFERENT if Comparison(options).run() else 0

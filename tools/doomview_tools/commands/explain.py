@@ -1,0 +1,52 @@
+"""doomview explain: why a run ended as it did."""
+import argparse
+import sys
+
+from .. import cli, explanations, program
+from ..trouble import Trouble
+
+PAGE = cli.Page(
+    'explain', 'runs a job, and says what is wrong and how to mend it', '''
+Runs a job of doomview with the words, passes on what it writes, and ends with its status. Sentences on what it said
+follow on standard error: what the numbers of a refusal mean, by the names of lines, things, lumps and files; and what
+else looks like a mistake, such as an IWAD behind its PWAD, things of types without a row, or extended nodes.
+
+With a line of doomview as its one word it tells what the line means, without the names. With --said it runs nothing:
+FILE has what a run of these words said.
+
+A refusal is the first thing for which a level cannot be drawn: explain audit is no map check.
+''', '''
+$ doomview explain audit MAP01 freedoom2.wad mymap.wad --path path.csv
+$ doomview explain 'doomview: refused 604 2 7 5'
+''', 'the program, but for a line or --said', '''
+ the status of the job; 0 for a line or --said
+''', ('WORDS OF DOOMVIEW..', "'doomview: LINE'", '--said FILE WORDS OF DOOMVIEW..'))
+
+
+def add_words(parser):
+    parser.add_argument('--said', metavar='FILE', help='what a run of the words said, on standard error')
+    parser.add_argument('words', metavar='WORDS..', nargs=argparse.REMAINDER,
+                        help='the words of a job, or a line of doomview')
+
+
+def last_line(path):
+    try:
+        with open(path, errors='replace') as file:
+            return (file.read().splitlines() or [''])[-1]
+    except OSError as error:
+        raise Trouble(f'cannot read {path}: {error.strerror}')
+
+
+def run(options):
+    if not options.words:
+        raise Trouble('it needs the words of a job, or a line of doomview; doomview explain --help has examples')
+    if options.said:
+        explanations.tell(last_line(options.said), options.words)
+        return 0
+    if options.words[0].startswith('doomview: '):
+        explanations.tell(options.words[0], [])
+        return 0
+    done = program.run_whole(options.words)
+    sys.stderr.write(done.said)
+    explanations.tell(done.line, options.words)
+    return done.status

@@ -1,0 +1,35 @@
+"""doomview pixel: what painted one pixel."""
+from .. import cli, paths, traces, wads
+from ..files import check_source
+from ..frames import HEIGHT, WIDTH
+from ..trouble import Trouble
+
+PAGE = cli.Page(
+    'pixel', 'what painted a pixel', '''
+Tells what painted a pixel, with the name of its lump or texture.
+
+TRACE is what doomview trace wrote. Names need the WADs of the run, in their order. Of a patch that one texture alone
+has the texture is named too, else the textures that have it.
+''', '''
+$ doomview trace MAP01 freedoom2.wad --path path.csv -o trace.bin
+$ doomview pixel 0 160 100 trace.bin freedoom2.wad
+''')
+
+
+def add_words(parser):
+    parser.add_argument('view', metavar='VIEW', type=cli.number(0, paths.MOST_ROWS - 1),
+                        help='counted from 0 in the order of the path')
+    parser.add_argument('x', metavar='X', type=cli.number(0, WIDTH - 1), help='the column, 0 to 319 from the left')
+    parser.add_argument('y', metavar='Y', type=cli.number(0, HEIGHT - 1), help='the row, 0 to 199 from the top')
+    parser.add_argument('trace', metavar='TRACE', help='the file of the trace')
+    parser.add_argument('wads', metavar='WAD', nargs='*', help='the WADs of the run, in their order')
+
+
+def run(options):
+    check_source(options.trace)
+    count = traces.count_views(options.trace)
+    if options.view >= count:
+        raise Trouble(f'{options.trace} has {count} views, counted from 0, and none of number {options.view}')
+    record = traces.record_at(options.trace, options.view, options.x, options.y)
+    names = traces.Names([wads.find(name) for name in options.wads])
+    print(f'view {options.view} column {options.x} row {options.y}: {traces.told(record, names)}')

@@ -1,0 +1,105 @@
+"""Files that are written whole or not at all."""
+import contextlib
+import os
+import sys
+import tempfile
+
+from .trouble import TROUBLE, Trouble
+
+
+def check_source(path):
+    """A Trouble where a file cannot be read."""
+    if not os.path.exists(path):
+        raise Trouble(f'cannot read {path}: there is no such file')
+    if not os.path.isfile(path):
+        raise Trouble(f'cannot read {path}: it is no plain file')
+    if not os.access(path, os.R_OK):
+        raise Trouble(f'cannot read {path}: you may not read it')
+
+
+def check_target(path):
+    """A Trouble where a file cannot be written, or stands in the place of what is no plain file."""
+    folder = os.path.dirname(path) or '.'
+    if os.path.isdir(path):
+        raise Trouble(f'{path} is a folder; name a file')
+    if os.path.lexists(path) and not os.path.isfile(path):
+        raise Trouble(f'{path} is no plain file, and is left as it is; name another')
+    if not os.path.isdir(folder):
+        raise Trouble(f'there is no folder {folder}; make it first')
+    if not os.access(folder, os.W_OK):
+        raise Trouble(f'you may not write in the folder {folder}')
+
+
+class WholeFile:
+    """A file that takes its place as the last step: `with WholeFile(path) as part: ..` writes into the file `part`.
+
+    What is there and no plain file stays, and so does what is there where the block ends with an exception. A file that
+    cannot be written is a Trouble with the status."""
+
+    def __init__(self, path, status=TROUBLE):
+        self.named, self.status = path, status
+        with self.troubles():
+            check_target(path)
+            self.path = os.path.realpath(path)
+            folder, name = os.path.split(self.path)
+            handle, self.part_path = tempfile.mkstemp(prefix=f'.{name}.', dir=folder)
+            os.close(handle)
+            self.part = open(self.part_path, 'wb')
+
+    @contextlib.contextmanager
+    def troubles(self):
+        """Makes Troubles with the status of what goes wrong."""
+        try:
+            yield
+        except Trouble as error:
+            raise Trouble(str(error), self.status)
+        except OSError as error:
+            raise Trouble(f'cannot write {self.named}: {error.strerror}', self.status)
+
+    def __enter__(self):
+        return self.part
+
+    def __exit__(self, kind, error, _):
+        try:
+            with self.troubles():
+                self.part.close()
+                if kind is None:
+                    mask = os.umask(0)
+                    os.umask(mask)
+                    os.chmod(self.part_path, 0o666 & ~mask)
+                    os.replace(self.part_path, self.path)
+        finally:
+            if os.path.lexists(self.part_path):
+                os.remove(self.part_path)
+        if isinstance(error, OSError):
+            raise Trouble(f'cannot write {self.named}: {error.strerror}', self.status)
+
+
+def write_whole(path, data):
+    """Puts bytes into a file, which takes its place as the last step."""
+    with WholeFile(path) as part:
+        part.write(data)
+
+
+def is_terminal():
+    """Whether standard output is a terminal."""
+    try:
+        return os.isatty(1)
+    except OSError:
+        return False
+
+
+def write_output(data, path=None, what='the output'):
+    """Writes text or bytes to a file, or to standard output; no bytes to a terminal."""
+    if path:
+        return write_whole(path, data.encode() if isinstance(data, str) else data)
+    if isinstance(data, bytes) and is_terminal():
+        raise Trouble(f'{what} is no text, and the output is a terminal; name a file by -o FILE')
+    sys.stdout.flush()
+    try:
+        with open(1, 'wb', closefd=False) as out:  # sys.stdout.buffer may be cut short where PYTHONUNBUFFERED is set
+            out.write(data.encode() if isinstance(data, str) else data)
+    except BrokenPipeError:
+        raise
+    except OSError as error:
+        raise Trouble(f'cannot write {what}: {error.strerror}')

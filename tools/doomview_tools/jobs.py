@@ -1,0 +1,258 @@
+"""The jobs of the proved program, its options (data/options.csv, where they stand once), and the words of a call."""
+import collections
+import csv
+import functools
+import re
+
+from . import home, wads
+from .trouble import Trouble
+
+MOST_WADS, MOST_LETTERS = 16, 8
+USAGE, WRITE_FAULT = 1, 4  # statuses of the program
+FORMATS = ['index', 'ppm']
+NUMERAL = re.compile('[0-9]{1,10}')
+
+Option = collections.namedtuple('Option', 'name value jobs is_needed least greatest step default meaning')
+Job = collections.namedtuple('Job', 'name words summary is_binary text examples')
+
+MAP = ('MAP', 'the name of a map, such as MAP01 or E1M1')
+WADS = ('WAD..', f'up to {MOST_WADS} WADs, read as one list of lumps: the IWAD first, then PWADs')
+EYE = '''
+A row of the path is x,y,z,angle: x, y and z in 16.16 map units (65536 a unit), the angle with 2^32 a turn,
+counterclockwise from east. z is the height of the eye, not of the feet: a player who stands has it 41
+units above the floor. doomview places and doomview turn write paths.'''
+
+JOBS = {job.name: job for job in [
+    Job('render', [MAP, WADS], 'the frames of a camera path', True, f'''
+Draws a frame for each row of a camera path, and writes them one after the other, each as soon as it is
+drawn: 320 by 200 palette indices row by row from the top, 64,000 bytes a frame; or 192,015 bytes a frame
+as PPM pictures, with --format ppm.
+{EYE}
+''', '''
+$ doomview render MAP01 freedoom2.wad --path path.csv -o frames.bin
+$ doomview render MAP01 freedoom2.wad mymap.wad --path path.csv --format ppm > frames.ppm
+'''),
+    Job('trace', [MAP, WADS], 'what painted each pixel of the frames', True, '''
+Writes a record of eight bytes for each pixel of the frames of a camera path, 512,000 bytes a view: the
+kind of painter (wall, plane, sky, middle texture, sprite, weapon), its number in the view, the lump or
+texture that was read, and the colour. docs/FORMATS.md has the record. doomview compare and doomview pixel
+read it.
+''', '''
+$ doomview trace MAP01 freedoom2.wad --path path.csv -o trace.bin
+$ doomview pixel 0 160 100 trace.bin freedoom2.wad
+'''),
+    Job('limits', [MAP, WADS], 'what each view of a camera path counts', False, '''
+Prints a line for each row of a camera path: how many planes, openings, fragments and sprites its view
+has, or which limit it passes. Draws nothing. The original ends at 128 planes and 20,480 openings; it
+stops drawing walls at 256 fragments, and sprites at 128, without a word, and here they are counted no further.
+''', '''
+$ doomview limits MAP01 freedoom2.wad --path path.csv
+$ doomview limits MAP01 freedoom2.wad --path path.csv --planes 1024 -o counts.txt
+'''),
+    Job('audit', [MAP, WADS], 'that the level is sound, and how large a zone it needs', False, '''
+Reads all that a picture of the level can need, and accepts it or names the first thing for which it
+cannot be drawn. The two numbers are sizes of a zone in bytes: one that is never full, and one that holds
+all lumps and composed textures at once.
+
+audit is no map check: a level is accepted where each of its views can be drawn. It says nothing of walls
+without a texture, sectors that are not closed, the tutti-frutti effect, or things outside the level.
+doomview explain audit, with the same words, says in sentences why a level is refused.
+''', '''
+$ doomview audit MAP01 freedoom2.wad --path path.csv
+$ doomview explain audit MAP01 freedoom2.wad mymap.wad --path path.csv
+'''),
+    Job('trim', [MAP, WADS], 'one WAD with only the lumps that the frames of a level need', True, '''
+Writes one WAD that has only what the frames of a level need, at one skill, with one thing table and these
+weapon layers. render draws the same frames from it, which is proved. So a fault can be sent with a small
+file in the place of a game's WAD. The art in it is still the game's, under the game's licence.
+
+The file is for doomview alone: it starts no port, since ports want all patches of TEXTURE1, whole
+animations and all frames of each sprite.
+''', '''
+$ doomview trim MAP01 freedoom2.wad mymap.wad --path path.csv -o case.wad
+$ doomview picture case.wad case.png
+'''),
+    Job('flat', [('NAME', 'the name of a flat, such as FLOOR0_1'), ('WAD', 'one WAD, which has the palette too')],
+        'one flat, laid over the frame again and again, as a PPM', True, '''
+Writes a picture of one flat, laid over the frame again and again, as a PPM of 192,015 bytes, in the
+colours of the WAD's own palette.
+''', '''
+$ doomview flat FLOOR0_1 freedoom2.wad -o flat.ppm
+'''),
+    Job('make', [('WHAT', 'wad N, path N, things or tables; N from 1 to 32')],
+        'a made file: wad N, path N, things or tables', True, '''
+Writes a file that needs no game: a WAD with one level, MAP01, which grows with the number, a camera path
+through it, its thing table, and tables of angles. They serve tests of doomview: the tables are not the
+original's (doomview tables writes those), and the things are one type alone.
+''', '''
+$ doomview make wad 10 -o made.wad
+$ doomview make path 10 > made_path.csv
+'''),
+    Job('exercise', [('N', 'the number of the made files, 1 to 32')],
+        'the sum of the frames of a made level', False, '''
+Makes the files of a number in memory, renders them, and prints the number and the sum of the frames'
+bytes. It reads no file, so it shows on any machine whether the program draws what it should.
+''', '''
+$ doomview exercise 10
+sectors 400 views 30 frames 30 bytes 1920000 sum 110342962
+'''),
+]}
+LEVEL_JOBS = [job.name for job in JOBS.values() if job.words[0] == MAP]
+STATUSES = {
+    0: 'the whole output was written',
+    1: 'usage: the words are no job; doomview explain with the same words says what is wrong',
+    2: 'refused CODE A B ..: the bytes of a file are refused; doomview explain says which',
+    3: 'read fault: a file is absent, or could not be read',
+    4: 'write fault: the output could not be written',
+    5: 'limit view V planes N, or openings N: a view has more than --planes or --openings allow',
+    6: 'zone full wanted W widest X: --zone is too small',
+    7: 'out of memory',
+    70: 'the program could not be built',
+}
+
+
+@functools.lru_cache(maxsize=None)
+def options():
+    """The options by name, in their order."""
+    path = home.data('options.csv')
+
+    def number(text):
+        return int(text) if text else None
+
+    try:
+        with open(path, newline='', encoding='utf-8') as file:
+            found = {row['option']: Option(row['option'], row['value'], row['jobs'].split(), row['needed'] == 'yes',
+                                           number(row['least']), number(row['greatest']), number(row['step']),
+                                           row['default'], row['meaning']) for row in csv.DictReader(file)}
+    except (OSError, KeyError, ValueError, AttributeError):
+        found = {}
+    if not found:
+        raise Trouble(f'{path} is missing or damaged; take the whole folder of doomview anew')
+    return found
+
+
+def options_of(job):
+    """The options that a job takes."""
+    return [option for option in options().values() if job in option.jobs]
+
+
+def needed():
+    """The names of the options that a job over a level needs."""
+    return [option.name for option in options().values() if option.is_needed]
+
+
+def take_output(words):
+    """The words without `-o FILE`, and FILE or None."""
+    end = words.index('--') if '--' in words else len(words)
+    at = [place for place, word in enumerate(words[:end]) if word == '-o']
+    if not at:
+        return words, None
+    if len(at) > 1 or at[0] + 1 == end:
+        raise Trouble('-o stands once, with the name of a file behind it', USAGE)
+    return words[:at[0]] + words[at[0] + 2:], words[at[0] + 1]
+
+
+class Words:
+    """The words of a call: `plain` ones and their places, of each option `given` its values (None for a missing one),
+    and the file `output` that `-o` names, which is none of the program's `words`. As the program does it takes
+    `--zone 64` and `--zone=64`, and all behind `--` as plain words."""
+
+    def __init__(self, words):
+        self.words, self.output = take_output(list(words)) if {*words} & {*JOBS} else (list(words), None)
+        self.plain, self.places, self.given = [], [], {}
+        words, at, are_plain = self.words, 0, False
+        while at < len(words):
+            word = words[at]
+            if word == '--' and not are_plain:
+                are_plain = True
+            elif word.startswith('--') and not are_plain:
+                name, equal, value = word.partition('=')
+                if not equal:
+                    at += 1
+                    value = words[at] if at < len(words) else None
+                self.given.setdefault(name, []).append(value)
+            else:
+                self.plain.append(word)
+                self.places.append(at)
+            at += 1
+
+    @property
+    def job(self):
+        return self.plain[0] if self.plain else ''
+
+    @property
+    def map_name(self):
+        return self.plain[1] if self.job in LEVEL_JOBS and len(self.plain) > 1 else ''
+
+    @property
+    def wads(self):
+        return self.plain[2:] if self.job in LEVEL_JOBS or self.job == 'flat' else []
+
+    @property
+    def files(self):
+        """The files that a call reads: those of its options, and its WADs."""
+        named = [self.value(name) for name in (*needed(), '--weapon')]
+        return [name for name in named if name] + self.wads
+
+    @property
+    def writes_bytes(self):
+        """Whether what the job writes is no text."""
+        job = JOBS.get(self.job)
+        return bool(job) and job.is_binary and self.plain[:2] not in (['make', 'path'], ['make', 'things'])
+
+    def value(self, name):
+        """The first value of an option, or None."""
+        return self.given.get(name, [None])[0]
+
+    def with_wads_found(self):
+        """The words, each WAD by its path where ports find it; a name that is found nowhere stays as it is."""
+        words = list(self.words)
+        for place in self.places[2:] if self.wads else []:
+            words[place] = wads.find_or_none(words[place]) or words[place]
+        return words
+
+
+def wrong_option(job, name, values):
+    """What is wrong with an option of a job, or None."""
+    known = [option.name for option in options_of(job)]
+    if job in JOBS and name not in known:
+        return f'{job} takes no {name}' + (f'; its options are {" ".join(known)}' if known else '')
+    if len(values) > 1:
+        return f'{name} may stand only once'
+    if values[0] is None:
+        return f'{name} needs a value behind it'
+    return wrong_value(options()[name], values[0]) if name in options() else None
+
+
+def wrong_value(option, value):
+    """What is wrong with the value of an option, or None."""
+    if option.value == 'F' and value not in FORMATS:
+        return f'{option.name} is {" or ".join(FORMATS)}, and not {value}'
+    if option.least is None:
+        return None
+    if not NUMERAL.fullmatch(value) or not option.least <= int(value) <= option.greatest:
+        return f'{option.name} is a number from {option.least} to {option.greatest}, and not {value}'
+    if option.step and int(value) % option.step:
+        return f'{option.name} is a multiple of {option.step}, and {value} is none'
+    return None
+
+
+def wrong_words(words):
+    """Sentences on what is wrong with the words of a call, as far as it can be told."""
+    found = [wrong_option(words.job, name, values) for name, values in words.given.items()]
+    found = [sentence for sentence in found if sentence]
+    if words.job not in JOBS:
+        return [f'the first word is a job: {", ".join(JOBS)}', *found]
+    return found + (wrong_level(words) if words.job in LEVEL_JOBS else [])
+
+
+def wrong_level(words):
+    """The same of a job over a level."""
+    job, count = words.job, len(words.plain)
+    missing = [name for name in needed() if name not in words.given]
+    tests = [(missing, f'{job} needs {" and ".join(missing)} too'),
+             (count < 3, f'{job} needs a map and a WAD, as in {job} MAP01 game.wad'),
+             (count - 2 > MOST_WADS, f'{job} takes at most {MOST_WADS} WADs'),
+             (count > 1 and not 1 <= len(words.plain[1].encode()) <= MOST_LETTERS,
+              f'the name of a map has 1 to {MOST_LETTERS} letters, and {words.map_name!r} has not')]
+    return [sentence for is_wrong, sentence in tests if is_wrong]

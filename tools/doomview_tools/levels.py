@@ -1,0 +1,192 @@
+"""Levels: the lumps of a map as records, and what the nodes say of a place.
+
+`read(wads, name)` gives a Level, whose things, lines, sides, vertexes, segs, leaves, nodes and sectors are lists of
+records with the fields of docs/FORMATS.md, "Maps". Bytes after the last whole record count for nothing."""
+import collections
+import functools
+import struct
+
+from .trouble import WadError
+from .wads import BEHIND_MAP, MAP_LUMPS, clean, map_labels, read as read_wad
+
+UNIT = 1 << 16  # a map unit in 16.16
+TURN = 1 << 32  # a whole turn as an angle
+EYE_HEIGHT = 41  # map units above the floor
+PLAYER_1 = 1  # the type of a thing
+LEAF = 0x8000  # the bit of a child that is a leaf
+NO_SIDE = 0xffff
+EXTENDED = [b'XNOD', b'ZNOD', b'XGLN', b'ZGLN', b'XGL2', b'ZGL2', b'XGL3', b'ZGL3', b'gNd2', b'gNd5']
+BUILT_LUMPS = ['SEGS', 'SSECTORS', 'NODES']  # what a builder of nodes makes
+
+Thing = collections.namedtuple('Thing', 'x y angle type options')
+Line = collections.namedtuple('Line', 'start end flags special tag front back')  # a side, or None
+Side = collections.namedtuple('Side', 'x_offset y_offset upper lower middle sector')
+Vertex = collections.namedtuple('Vertex', 'x y')
+Seg = collections.namedtuple('Seg', 'start end angle line side offset')
+Leaf = collections.namedtuple('Leaf', 'count first')
+Node = collections.namedtuple('Node', 'x y dx dy front_box back_box front back')  # boxes: top, bottom, left, right
+Sector = collections.namedtuple('Sector', 'floor ceiling floor_flat ceiling_flat light special tag')
+
+
+def records(data, layout):
+    """The whole records of a lump, as tuples."""
+    size = struct.calcsize(layout)
+    return [struct.unpack_from(layout, data, size * i) for i in range(len(data) // size)]
+
+
+class Level:
+    """A map: its name, the WAD that has it, the bytes of its eight lumps by name, and their records."""
+
+    def __init__(self, name, wad, lumps):
+        self.name, self.wad, self.lumps = name, wad, lumps
+
+    def records(self, lump, layout):
+        return records(self.lumps.get(lump, b''), layout)
+
+    @functools.cached_property
+    def things(self):
+        return [Thing(*record) for record in self.records('THINGS', '<hhhHH')]
+
+    @functools.cached_property
+    def lines(self):
+        return [Line(*record[:5], *(None if side == NO_SIDE else side for side in record[5:]))
+                for record in self.records('LINEDEFS', '<7H')]
+
+    @functools.cached_property
+    def sides(self):
+        return [Side(x, y, clean(upper), clean(lower), clean(middle), sector)
+                for x, y, upper, lower, middle, sector in self.records('SIDEDEFS', '<hh8s8s8sH')]
+
+    @functools.cached_property
+    def vertexes(self):
+        return [Vertex(*record) for record in self.records('VERTEXES', '<hh')]
+
+    @functools.cached_property
+    def segs(self):
+        return [Seg(*record) for record in self.records('SEGS', '<6H')]
+
+    @functools.cached_property
+    def leaves(self):
+        return [Leaf(*record) for record in self.records('SSECTORS', '<HH')]
+
+    @functools.cached_property
+    def nodes(self):
+        return [Node(*record[:4], record[4:8], record[8:12], *record[12:])
+                for record in self.records('NODES', '<12h2H')]
+
+    @functools.cached_property
+    def sectors(self):
+        return [Sector(floor, ceiling, clean(below), clean(above), *rest)
+                for floor, ceiling, below, above, *rest in self.records('SECTORS', '<hh8s8shhh')]
+
+    def extended_nodes(self):
+        """The lump that has extended nodes, and their letters, or None."""
+        for name in reversed(BUILT_LUMPS):
+            letters = self.lumps.get(name, b'')[:4]
+            if letters in EXTENDED:
+                return name, letters.decode()
+        return None
+
+    def damage(self, what="is damaged; doomview's job audit says where"):
+        """The WadError of a level in which a number names nothing, or nodes lead nowhere."""
+        extended = self.extended_nodes()
+        if extended:
+            return self.error('has extended nodes ({1} in {0}); build plain ones'.format(*extended))
+        if not self.leaves:
+            return self.error('has no nodes (SSECTORS is empty); build them')
+        return self.error(what)
+
+    def error(self, what):
+        return WadError(f'{self.name} of {self.wad} {what}')
+
+    def sector_at(self, x, y):
+        """The number of the sector at a point, in map units, by the nodes (R_PointInSubsector)."""
+        try:
+            child = len(self.nodes) - 1 if self.nodes else LEAF
+            for _ in self.nodes:
+                if child & LEAF:
+                    break
+                node = self.nodes[child]
+                child = node.back if is_behind(node, x, y) else node.front
+            if not child & LEAF:
+                raise self.damage('has nodes that form a circle; build them anew')
+            return self.sector_of_leaf(child & ~LEAF)
+        except (IndexError, TypeError):
+            raise self.damage()
+
+    def sector_of_leaf(self, number):
+        """The sector of a leaf: that in front of its first seg."""
+        seg = self.segs[self.leaves[number].first]
+        line = self.lines[seg.line]
+        return self.sides[line[5 + seg.side]].sector
+
+    def floor_at(self, x, y):
+        """The height of the floor at a point."""
+        sector = self.sector_at(x, y)
+        if sector >= len(self.sectors):
+            raise self.damage()
+        return self.sectors[sector].floor
+
+    def player_start(self):
+        """The thing at which the original puts player 1: the last of its type (earlier ones are voodoo dolls)."""
+        starts = [thing for thing in self.things if thing.type == PLAYER_1]
+        if not starts:
+            raise self.error('has no player start (thing of type 1)')
+        return starts[-1]
+
+
+def is_behind(node, x, y):
+    """Whether a point is on the back of a node's line (R_PointOnSide)."""
+    node_x, node_y, line_x, line_y = node[:4]
+    if line_x == 0:
+        return line_y > 0 if x <= node_x else line_y < 0
+    if line_y == 0:
+        return line_x < 0 if y <= node_y else line_x > 0
+    if (x, y) == (node_x, node_y):
+        return not line_x < 0 < line_y
+    return line_y * (x - node_x) <= line_x * (y - node_y)
+
+
+def no_map(name, wads, lumps):
+    """The WadError of lumps without a map of that name; `wads` has the WAD of each lump, or those without any."""
+    names = [lump.name for lump in lumps]
+    if name in names:
+        label = len(names) - 1 - names[::-1].index(name)
+        return WadError(f'{name} of {wads[label]} {why_no_map(names[label + 1:label + BEHIND_MAP])}')
+    where = list(dict.fromkeys(wads))
+    have = 'has' if len(where) == 1 else 'have'
+    maps = ' '.join(sorted(map_labels(lumps))) or 'none'
+    return WadError(f'{" and ".join(where)} {have} no map {name}; the maps there: {maps}')
+
+
+def why_no_map(behind):
+    """Why a label is that of no map here, by the names of the lumps behind it."""
+    if behind[:1] == ['TEXTMAP']:
+        return 'is a UDMF map; save it in Doom format'
+    if 'BEHAVIOR' in behind:
+        return 'is in Hexen format (it has a BEHAVIOR); save it in Doom format'
+    missing = [lump for lump in MAP_LUMPS if lump not in behind[:8]]
+    if behind[:2] == MAP_LUMPS[:2] and missing and set(missing) <= set(BUILT_LUMPS):
+        alone = ' (it has GL nodes alone, which are not read)' if any(it.startswith('GL_') for it in behind) else ''
+        return f'has no nodes ({", ".join(BUILT_LUMPS)}){alone}; build them'
+    return f'is no map: behind it stand {", ".join(behind[:len(MAP_LUMPS)]) or "no lumps"}'
+
+
+def has_gl_nodes(lumps, label):
+    """Whether GL nodes stand behind a map."""
+    first = label + 1 + len(MAP_LUMPS)
+    return any(lump.name.startswith('GL_') for lump in lumps[first:first + BEHIND_MAP])
+
+
+def read(wads, name):
+    """The level of a map over WADs, given in their order by their paths. The last label of the name counts."""
+    lumps, places = [], []
+    for wad in wads:
+        found = read_wad(wad)
+        lumps += found
+        places += [wad] * len(found)
+    name = name.upper()
+    label = map_labels(lumps).get(name)
+    if label is None:
+        raise no_map(name, places or wads, lumps)
+    return Level(name, places[label], dict(lumps[label + 1:label + 1 + len(MAP_LUMPS)]))

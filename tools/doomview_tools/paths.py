@@ -1,0 +1,102 @@
+"""Camera paths: rows of x, y, z in 16.16 map units and an angle, 2^32 a turn; maybe extra light and a colormap.
+
+`rows` reads a file of rows, `text` writes rows; `turn` and `places` choose them. z is the height of the eye."""
+import collections
+import csv
+import random
+
+from .levels import EYE_HEIGHT, TURN, UNIT
+from .trouble import Trouble
+
+HEADER = ['x', 'y', 'z', 'angle']
+LIGHT = ['extralight', 'colormap']
+NEAR = 24 * UNIT
+MARGIN = 64
+MOST_ROWS = 10000
+
+Row = collections.namedtuple('Row', 'x y z angle extralight colormap', defaults=(0, 0))
+
+
+def rows(path):
+    """The rows of a file."""
+    try:
+        with open(path, newline='', encoding='utf-8-sig') as file:
+            header, *found = [record for record in csv.reader(file) if record]
+            if header not in (HEADER, HEADER + LIGHT) or any(len(record) != len(header) for record in found):
+                raise ValueError
+            return [Row(*map(int, record)) for record in found]
+    except OSError as error:
+        raise Trouble(f'cannot read {path}: {error.strerror}')
+    except (ValueError, csv.Error):
+        raise Trouble(f'{path} is no camera path: lines of numbers under the header {",".join(HEADER)}')
+
+
+def text(rows):
+    """The text of a file of rows; with the columns of light where a row has any."""
+    is_lit = any(row.extralight or row.colormap for row in rows)
+    lines = [HEADER + LIGHT if is_lit else HEADER] + [row if is_lit else row[:4] for row in rows]
+    return ''.join(','.join(map(str, line)) + '\n' for line in lines)
+
+
+def start_angle(thing):
+    """The direction of a thing, cut to eighths of a turn."""
+    return int(thing.angle / 45) * (TURN // 8) % TURN
+
+
+def turn(level, views):
+    """A turn to the left on the spot, at the player start."""
+    start = level.player_start()
+    z = (level.floor_at(start.x, start.y) + EYE_HEIGHT) * UNIT
+    return [Row(start.x * UNIT, start.y * UNIT, z, (start_angle(start) + view * TURN // views) % TURN)
+            for view in range(views)]
+
+
+class Choice:
+    """Places of a level that are chosen at random, the same for the same words."""
+
+    def __init__(self, level, words):
+        self.level, self.draw = level, random.Random(words)
+        self.things = [(thing.x * UNIT, thing.y * UNIT) for thing in level.things]
+        self.vertexes = [(vertex.x * UNIT, vertex.y * UNIT) for vertex in level.vertexes]
+
+    def row(self, x, y, angle, any_height=False):
+        """The row of a place: an eye over the floor, or at any height."""
+        number = self.level.sector_at(x / UNIT, y / UNIT)
+        if number >= len(self.level.sectors):
+            raise self.level.damage()
+        floor, ceiling = self.level.sectors[number][:2]
+        low, high = (floor - MARGIN) * UNIT, (max(floor, ceiling) + MARGIN) * UNIT
+        z = self.draw.randrange(low, high) if any_height else (floor + EYE_HEIGHT) * UNIT
+        return Row(x, y, z, angle)
+
+    def beside_thing(self, any_height=False):
+        x, y = self.draw.choice(self.things)
+        return self.row(x + self.draw.randint(-NEAR, NEAR), y + self.draw.randint(-NEAR, NEAR),
+                        self.draw.randrange(TURN), any_height)
+
+    def on_vertex(self):
+        x, y = self.draw.choice(self.vertexes)
+        return self.row(x, y, self.draw.randrange(TURN))
+
+    def on_thing(self):
+        x, y = self.draw.choice(self.things)
+        return self.row(x, y, self.draw.randrange(8) * (TURN // 8))
+
+    def anywhere(self):
+        self.draw.choice(self.things)  # so that the choices are those of earlier versions
+        xs, ys = zip(*self.vertexes)
+        return self.row(self.draw.randint(min(xs), max(xs)), self.draw.randint(min(ys), max(ys)),
+                        self.draw.randrange(TURN), True)
+
+    def wild(self, number):
+        """A place of each kind by turns."""
+        kinds = [lambda: self.beside_thing(True), self.on_vertex, self.on_thing, self.anywhere]
+        return kinds[number % len(kinds)]()
+
+
+def places(level, count, seed, wild=False):
+    """The player start and `count` places more, chosen at random: the same for the same words."""
+    start = level.player_start()
+    choice = Choice(level, f'{seed} {count} {wild}')
+    first = choice.row(start.x * UNIT, start.y * UNIT, start_angle(start))
+    return [first] + [choice.wild(number) if wild else choice.beside_thing() for number in range(count)]

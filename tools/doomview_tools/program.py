@@ -1,0 +1,240 @@
+"""The proved program: where it is, whether it is built, and runs of it.
+
+DOOMVIEW names another program to run in its place. `run(words)` takes the words that a user gives to doomview: WADs
+are found as ports find them, and where `--tables` or `--things` is not named the tools' own are."""
+import atexit
+import collections
+import contextlib
+import os
+import shutil
+import signal
+import subprocess
+import tempfile
+
+from . import home, tables
+from .files import WholeFile, is_terminal, write_whole
+from .jobs import LEVEL_JOBS, USAGE, WRITE_FAULT, Words, wrong_words
+from .trouble import Ended, Trouble
+
+NO_PROGRAM = 70  # the status where there is no run
+SECONDS = 300  # that a run of the sources without proofs may take
+SHOWN = 5  # lines of what rt said where there was no run
+IGNORED = (signal.SIGPIPE, signal.SIGXFSZ)  # by Python, and not by the program
+
+Run = collections.namedtuple('Run', 'status output line said')
+
+
+def named():
+    """The program that DOOMVIEW names, or an empty text."""
+    return os.environ.get('DOOMVIEW', '')
+
+
+def path():
+    """The path of the program."""
+    return os.path.abspath(named() or home.PROGRAM)
+
+
+def is_source(name):
+    return name.endswith(('.rt', '.antt')) or name == 'crates.txt'
+
+
+def newest_source(top):
+    """When the last of the sources was written."""
+    newest = os.path.getmtime(os.path.join(top, 'crates.txt'))
+    for folder, folders, names in os.walk(os.path.join(top, 'crates')):
+        folders[:] = [name for name in folders if name != 'out']
+        newest = max([newest, *(os.path.getmtime(os.path.join(folder, name)) for name in names if is_source(name))])
+    return newest
+
+
+def is_current(program, top):
+    """Whether a program is there and no older than the sources."""
+    return os.access(program, os.X_OK) and os.path.getmtime(program) >= newest_source(top)
+
+
+def is_built():
+    """Whether the program can run at once."""
+    return bool(named()) or home.IS_RELEASE or is_current(home.PROGRAM, home.TOP)
+
+
+def ready():
+    """The path of the program, which is built first if that is needed."""
+    if not is_built():
+        from .build import build
+        build()
+    if not os.access(path(), os.X_OK):
+        what = 'set DOOMVIEW to one, or leave it unset' if named() else 'take the whole folder of doomview anew'
+        raise Trouble(f'there is no program {path()}; {what}', NO_PROGRAM)
+    return path()
+
+
+def environment():
+    """The surroundings of the program: DOOMVIEW is not handed on, since it may name this command."""
+    return {name: value for name, value in os.environ.items() if name != 'DOOMVIEW'}
+
+
+def cache_folder():
+    """Where what is made once is kept."""
+    named = os.environ.get('XDG_CACHE_HOME', '')
+    folder = named if os.path.isabs(named) else os.path.join(os.path.expanduser('~'), '.cache')
+    return os.path.join(folder, 'doomview')
+
+
+held_files = []  # temporary files of this process
+
+
+def temporary_file(data, ending):
+    """A file with these bytes that is there as long as this process."""
+    try:
+        handle, name = tempfile.mkstemp(prefix='doomview-', suffix=ending)
+        held_files.append(name)
+        atexit.register(os.remove, name)
+        with open(handle, 'wb') as file:
+            file.write(data)
+    except OSError as error:
+        raise Trouble(f'cannot write a temporary file ({error.strerror}); TMPDIR may name another place for it')
+    return name
+
+
+def has_tables(file):
+    try:
+        with open(file, 'rb') as opened:
+            return tables.is_right(opened.read())
+    except OSError:
+        return False
+
+
+def tables_file():
+    """The path of the tables of angles, which are made once and kept, or held as long as this process."""
+    kept = os.path.join(cache_folder(), 'tables.bin')
+    if has_tables(kept):
+        return kept
+    data = tables.tables()
+    try:
+        os.makedirs(cache_folder(), exist_ok=True)
+        write_whole(kept, data)
+    except (OSError, Trouble):
+        return temporary_file(data, '.bin')
+    return kept
+
+
+def things_file():
+    """The path of the thing table of the games."""
+    return home.data('things.csv')
+
+
+def completed(words):
+    """The words of a job as the program takes them: WADs found, and the tools' own tables where none are named."""
+    given = Words(words)
+    if given.job not in LEVEL_JOBS:
+        return given.with_wads_found()
+    own = [('--tables', tables_file), ('--things', things_file)]
+    more = [part for name, file in own if name not in given.given for part in (name, file())]
+    words = given.with_wads_found()
+    at = 1 if words[0] == given.job else 0  # where they are options, whatever stands behind
+    return words[:at] + more + words[at:]
+
+
+def ended(status, output, said):
+    """How a run ended; one that a signal ended has 128 and its number, as in a shell."""
+    said = said.decode(errors='replace')
+    return Run(status if status >= 0 else 128 - status, output, (said.splitlines() or [''])[-1], said)
+
+
+def run(words, output=None, unproved=False):
+    """Runs the program to its end: its status, its output where `output` is no file for it, the last line of what it
+    said, and all of it. `unproved` runs the sources without a proof, by `rt try`, where the program is not built."""
+    words = completed(words)
+    if unproved and not is_built():
+        return run_sources(words, output)
+    return ended(*call([ready(), *words], output))
+
+
+def guard_terminal(words):
+    """A Trouble where a job would write to a terminal what is no text. Where its words are wrong it may run, since it
+    writes nothing then."""
+    given = Words(words)
+    if not given.writes_bytes or not is_terminal():
+        return
+    if not wrong_words(given):
+        raise Trouble(f'what {given.job} writes is no text, and the output is a terminal; name a file by -o FILE',
+                      USAGE)
+    os.dup2(os.open(os.devnull, os.O_WRONLY), 1)
+
+
+def run_whole(words):
+    """Runs the program with its output in the file that `-o` names, whole or not there, or else as it comes on the
+    standard output."""
+    path = Words(words).output
+    if not path:
+        guard_terminal(completed(words))
+        return run(words, 1)
+    with contextlib.suppress(Ended), WholeFile(path, WRITE_FAULT) as part:
+        done = run(words, part)
+        if done.status:
+            raise Ended(done.status)
+    return done
+
+
+def call(command, output, folder=None):
+    """Status, output and what is said of a command."""
+    try:
+        done = subprocess.run(command, cwd=folder, env=environment(), stdin=subprocess.DEVNULL,
+                              stdout=subprocess.PIPE if output is None else output, stderr=subprocess.PIPE)
+    except OSError as error:
+        raise Trouble(f'cannot run {command[0]}: {error.strerror}', NO_PROGRAM)
+    return done.returncode, done.stdout, done.stderr
+
+
+def start(words, **more):
+    """Starts the program."""
+    try:
+        return subprocess.Popen([ready(), *completed(words)], env=environment(), **more)
+    except OSError as error:
+        raise Trouble(f'cannot run {path()}: {error.strerror}', NO_PROGRAM)
+
+
+def replace(words):
+    """Puts a run of the program in the place of this process; or runs it to its end where it needs what this process
+    holds. Gives its status."""
+    words = completed(words)
+    guard_terminal(words)
+    program = ready()
+    for number in IGNORED:
+        signal.signal(number, signal.SIG_DFL)
+    try:
+        if held_files:
+            status = subprocess.run([program, *words], env=environment()).returncode
+            return status if status >= 0 else 128 - status
+        os.execve(program, [program, *words], environment())
+    except OSError as error:
+        raise Trouble(f'cannot run {program}: {error.strerror}', NO_PROGRAM)
+
+
+def renamed(word, files):
+    """A word, with a name of its own for the file that it names."""
+    option, equal, file = word.partition('=') if word.startswith('--') else ('', '', word)
+    if not os.path.isfile(file):
+        return word
+    name = f'file{len(files)}'
+    files[name] = os.path.abspath(file)
+    return option + equal + name
+
+
+def run_sources(words, output):
+    """Runs the sources without a proof and without a build; at most 1 MiB comes out. The checks of `rt try` stop such a
+    run at an index out of range or a sum that overflows, and nothing is proved of it."""
+    if not shutil.which('rt'):
+        raise Trouble('the command rt is not installed: doomview is made by the Rattle kit, whose folder bin has to be '
+                      'in PATH', NO_PROGRAM)
+    files = {}
+    words = [renamed(word, files) for word in words]
+    data = [part for name, file in files.items() for part in ('--data', f'{name}={file}')]
+    status, written, said = call(['rt', 'try', '--steps', '1', '--seconds', str(SECONDS), *data, '--', *words], output,
+                                 os.path.join(home.TOP, 'crates', 'doomview'))
+    lines = said.decode(errors='replace').splitlines()
+    line = ([it for it in lines if it.startswith('doomview: ')] or [''])[-1]
+    if line or status == 0:
+        return ended(status, written, line.encode())
+    raise Trouble('\n'.join([*(it[:300] for it in lines[-SHOWN:]), 'rt try did not run the sources; its last lines '
+                             'stand above']), NO_PROGRAM)

@@ -1,0 +1,129 @@
+"""Traces: what painted each pixel of the frames, a record of eight bytes a pixel (docs/FORMATS.md, "Traces")."""
+import collections
+import struct
+
+from .frames import HEIGHT, SIZE, WIDTH, count_parts
+from .png import GREYS
+from .trouble import Trouble
+from .wads import clean, read
+
+RECORD = struct.Struct('<BBHHBB')  # kind, kind of source, number, source, colour, 0
+VIEW_SIZE = RECORD.size * SIZE
+# Of each kind its word, and what its number counts: from 0, but rows of the weapon layers from 1.
+KINDS = {0: ('nothing', ''), 1: ('wall', 'fragment'), 2: ('plane', 'plane'), 3: ('sky', 'plane'),
+         4: ('middle', 'fragment'), 5: ('sprite', 'sprite'), 6: ('weapon', 'row')}
+TEXTURED = (1, 3, 4)  # kinds that paint from a texture
+LUMP, COMPOSITE = 1, 2  # kinds of sources
+SHOWN_NUMBERS, SHOWN_TEXTURES = 6, 3
+
+Painter = collections.namedtuple('Painter', 'kind source_kind source')
+Source = collections.namedtuple('Source', 'word name more')
+
+
+def count_views(path):
+    """The number of views in a file of traces."""
+    return count_parts(path, VIEW_SIZE, 'name the whole of what doomview trace wrote')
+
+
+def record_at(path, view, x, y):
+    """The record of a pixel of a view that the trace has."""
+    with open(path, 'rb') as file:
+        file.seek(RECORD.size * ((HEIGHT * view + y) * WIDTH + x))
+        return RECORD.unpack(file.read(RECORD.size))
+
+
+def texture_lists(lumps):
+    """The textures of both lists, in the order of their numbers: pairs of a name and the numbers of its patches."""
+    newest = dict(lumps)
+    found = []
+    for lump in (newest[name] for name in ('TEXTURE1', 'TEXTURE2') if name in newest):
+        count = int.from_bytes(lump[:4], 'little')
+        for offset in struct.unpack_from(f'<{count}I', lump, 4):
+            patches, = struct.unpack_from('<H', lump, offset + 20)
+            places = [offset + 22 + 10 * i for i in range(patches)]
+            found.append((clean(lump[offset:offset + 8]), [struct.unpack_from('<4xH', lump, it)[0] for it in places]))
+    return found
+
+
+def patch_names(lumps):
+    lump = dict(lumps).get('PNAMES', b'')
+    return [clean(name) for name, in struct.iter_unpack('<8s', lump[4:4 + len(lump[4:]) // 8 * 8])]
+
+
+class Names:
+    """The names of what paints, as far as the WADs are known."""
+
+    def __init__(self, wads):
+        lumps = [lump for wad in wads for lump in read(wad)]
+        self.lumps = [lump.name for lump in lumps]
+        self.textures, self.with_patch = [], collections.defaultdict(list)
+        try:
+            patches = patch_names(lumps)
+            for name, numbers in texture_lists(lumps):
+                self.textures.append(name)
+                for patch in sorted({patches[it] for it in numbers if it < len(patches)}):
+                    self.with_patch[patch].append(name)
+        except struct.error:
+            raise Trouble('the lists of textures in the WADs are damaged; leave the WADs out')
+        self.palette = dict(lumps).get('PLAYPAL', b'')[:768]
+        if len(self.palette) < 768:
+            self.palette = GREYS
+
+    def source(self, painter):
+        """The name of what a painter read: of a lump or of a texture."""
+        if painter.source_kind == 0:
+            return '-'
+        names, word = (self.textures, 'texture') if painter.source_kind == COMPOSITE else (self.lumps, 'lump')
+        return names[painter.source] if painter.source < len(names) else f'{word} {painter.source}'
+
+    def textures_of(self, painter):
+        """The names of the textures that have the patch which a painter read; none where it read no patch."""
+        if painter.source_kind != LUMP or painter.kind not in TEXTURED:
+            return []
+        return self.with_patch.get(self.source(painter), [])
+
+    def known(self, painter):
+        """What a painter read, for a user to know it by: of a patch that one texture alone has, the texture."""
+        name, textures = self.source(painter), self.textures_of(painter)
+        if painter.source_kind == COMPOSITE:
+            return Source('texture', name, '')
+        if len(textures) == 1:
+            return Source('texture', textures[0], f'patch {name}' if name != textures[0] else '')
+        if textures:
+            some = ', '.join(textures[:SHOWN_TEXTURES]) + (' ..' if len(textures) > SHOWN_TEXTURES else '')
+            return Source('patch', name, f'of {some}')
+        return Source('lump', name, '')
+
+
+def told(record, names):
+    """A record in words: painter, number, source and colour."""
+    kind, source_kind, number, source, colour, _ = record
+    word, thing = KINDS.get(kind, (f'kind {kind}', 'number'))
+    if not kind:
+        return 'nothing, colour 0'
+    parts = [f'{word} {number}' if thing == word else f'{word}, {thing} {number}']
+    if source_kind:
+        known = names.known(Painter(kind, source_kind, source))
+        is_number = known.name == f'{known.word} {source}'
+        parts.append(known.name if is_number else f'{known.word} {known.name}')
+        if known.more:
+            parts.append(known.more)
+    return ', '.join(parts + [f'colour {colour}'])
+
+
+def painters(records, places, names):
+    """Lines on the painters of some places of a view: the most pixels first."""
+    pixels, numbers = collections.Counter(), collections.defaultdict(set)
+    for record, count in collections.Counter(records[8 * place:8 * place + 8] for place in places).items():
+        kind, source_kind, number, source, _, _ = RECORD.unpack(record)
+        painter = Painter(kind, source_kind, source)
+        pixels[painter] += count
+        numbers[painter].add(number)
+    for painter, count in pixels.most_common():
+        word, thing = KINDS.get(painter.kind, (f'kind {painter.kind}', 'number'))
+        known = names.known(painter)
+        some = sorted(numbers[painter])
+        shown = ' '.join(map(str, some[:SHOWN_NUMBERS])) + (' ..' if len(some) > SHOWN_NUMBERS else '')
+        more = f'patch {known.more}' if known.word == 'patch' else known.more
+        cells = [f'  {word:8} {known.name:9} {count:6}', f'{thing} {shown}' if thing else '', more]
+        yield '  '.join(cell for cell in cells if cell)

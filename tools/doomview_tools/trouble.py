@@ -1,0 +1,22 @@
+"""What is wrong, for a user to read."""
+
+TROUBLE = 2  # the status of a tool that could not do its work; 1 is that of a tool that did, and found something
+
+
+class Trouble(Exception):
+    """What is wrong and what to do, as one sentence without its full stop; a command ends with the status."""
+
+    def __init__(self, sentence, status=TROUBLE):
+        super().__init__(sentence)
+        self.status = status
+
+
+class WadError(Trouble):
+    """What is wrong with a WAD or a level."""
+
+
+class Ended(Trouble):
+    """A run of the program that failed, which is told already."""
+
+    def __init__(self, status):
+        super().__init__('', status)

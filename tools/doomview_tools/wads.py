@@ -1,0 +1,113 @@
+"""WADs: found as ports find them, read, and written.
+
+docs/FORMATS.md has the rules: small letters count as capitals, the last lump of a name counts, and so does the last
+label of a map; a map with a BEHAVIOR is of another format and is left out."""
+import collections
+import os
+import re
+import struct
+
+from .files import check_source
+from .trouble import Trouble, WadError
+
+MAP_LUMPS = ['THINGS', 'LINEDEFS', 'SIDEDEFS', 'VERTEXES', 'SEGS', 'SSECTORS', 'NODES', 'SECTORS']
+FOLDERS = ['/usr/local/share/games/doom', '/usr/share/games/doom', '/usr/local/share/doom', '/usr/share/doom',
+           '/usr/share/games/freedoom']  # of the packages of Linux
+BEHIND_MAP = 12  # a label, its eight lumps, REJECT, BLOCKMAP and BEHAVIOR
+
+Lump = collections.namedtuple('Lump', 'name data')
+
+
+def folders():
+    """The folders in which ports look for a WAD, the first first."""
+    data = os.environ.get('XDG_DATA_HOME') or os.path.join(os.path.expanduser('~'), '.local', 'share')
+    named = os.environ.get('DOOMWADPATH', '').split(':')
+    found = [os.environ.get('DOOMWADDIR', ''), *named, os.path.join(data, 'games', 'doom'), *FOLDERS]
+    return [folder for folder in found if folder]
+
+
+def find_or_none(name):
+    """The WAD of a name where ports look for it, or None: as it is named, and then in each of the folders, there also
+    in small letters and without `.wad`. A name with a folder in it is a path."""
+    if '/' in name or os.path.lexists(name):
+        return name if os.path.exists(name) else None
+    small = name.lower()
+    for folder in folders():
+        for file in (name, name + '.wad', small, small + '.wad'):
+            path = os.path.join(folder, file)
+            if os.path.isfile(path) and os.access(path, os.R_OK):
+                return path
+    return None
+
+
+def not_found(name):
+    return f'there is no WAD {name} here, in DOOMWADDIR, in DOOMWADPATH or in /usr/share/games/doom; name its path'
+
+
+def find(name):
+    """The WAD of a name; a Trouble where there is none."""
+    found = find_or_none(name)
+    if found is None and '/' not in name:
+        raise Trouble(not_found(name))
+    check_source(found or name)
+    return found
+
+
+def with_base(name, base=None):
+    """The WAD of a name, and before it the one that it stands on: `base`, or else that of the variable IWAD."""
+    base = base or os.environ.get('IWAD')
+    return [find(it) for it in ([base] if base else []) + [name]]
+
+
+def clean(name):
+    """A name of eight bytes as text."""
+    return name.split(b'\0')[0].upper().decode('latin-1')
+
+
+def read(path):
+    """The lumps of a WAD, in the order of its directory."""
+    try:
+        with open(path, 'rb') as file:
+            data = file.read()
+    except OSError as error:
+        raise WadError(f'{path}: {error.strerror}')
+    if data[:4] not in (b'IWAD', b'PWAD'):
+        raise WadError(f'{path} is no WAD')
+    try:
+        count, directory = struct.unpack_from('<II', data, 4)
+        entries = [struct.unpack_from('<II8s', data, directory + 16 * i) for i in range(count)]
+    except struct.error:
+        raise WadError(f'{path} is cut short')
+    return [Lump(clean(name), data[offset:offset + size]) for offset, size, name in entries]
+
+
+def packed(lumps, kind=b'IWAD'):
+    """The bytes of a WAD with these lumps, pairs of name and bytes."""
+    bodies, entries = [], []
+    at = 12
+    for name, data in lumps:
+        entries.append(struct.pack('<II8s', at, len(data), name.encode()))
+        bodies.append(data)
+        at += len(data)
+    return kind + struct.pack('<II', len(entries), at) + b''.join(bodies + entries)
+
+
+def map_labels(lumps):
+    """The place of each map's label, by name."""
+    names = [name for name, _ in lumps]
+    labels = {name: place for place, name in enumerate(names)}
+    return {name: place for name, place in labels.items()
+            if names[place + 1:place + 9] == MAP_LUMPS and names[place + 11:place + BEHIND_MAP] != ['BEHAVIOR']}
+
+
+def map_names(lumps):
+    """The names of the maps that can be names of files: A to Z, 0 to 9 and _."""
+    return sorted(name for name in map_labels(lumps) if re.fullmatch('[A-Z0-9_]+', name))
+
+
+def maps_of(wads):
+    """The names of the maps of the last of some WADs; a Trouble where it has none."""
+    names = map_names(read(wads[-1]))
+    if not names:
+        raise WadError(f'{wads[-1]} has no map')
+    return names

@@ -1,0 +1,175 @@
+"""Tests the tools compare and pixel on frames, traces and WADs that are made here."""
+import os
+import struct
+import unittest
+
+from made_files import Tools, name, pixels_of, wad
+
+FRAME, WIDTH = 64000, 320
+
+
+def texture_list(names):
+    """A TEXTURE1 of textures without patches."""
+    places = [4 + 4 * len(names) + 22 * i for i in range(len(names))]
+    records = b''.join(name(it) + struct.pack('<IhhIH', 0, 64, 128, 0, 0) for it in names)
+    return struct.pack(f'<I{len(places)}I', len(places), *places) + records
+
+
+def texture_of_patches(names):
+    """A TEXTURE1 and PNAMES of textures, each a pair of a name and the names of its patches."""
+    patches = sorted({patch for _, found in names for patch in found})
+    records = [name(it) + struct.pack('<IhhIH', 0, 64, 128, 0, len(found))
+               + b''.join(struct.pack('<hhHI', 0, 0, patches.index(patch), 0) for patch in found)
+               for it, found in names]
+    places, at = [], 4 + 4 * len(records)
+    for record in records:
+        places.append(at)
+        at += len(record)
+    return [('TEXTURE1', struct.pack(f'<I{len(places)}I', len(places), *places) + b''.join(records)),
+            ('PNAMES', struct.pack('<I', len(patches)) + b''.join(map(name, patches)))]
+
+
+def painted(*spots):
+    """A frame of colour 5 with other colours at (row, column)."""
+    frame = bytearray([5]) * FRAME
+    for row, column, colour in spots:
+        frame[WIDTH * row + column] = colour
+    return bytes(frame)
+
+
+def traced(*spots):
+    """A trace of nothing, with records at (row, column)."""
+    trace = bytearray(8 * FRAME)
+    for row, column, record in spots:
+        struct.pack_into('<BBHHBB', trace, 8 * (WIDTH * row + column), *record)
+    return bytes(trace)
+
+
+class Compare(Tools):
+    def test_same(self):
+        self.write('ours.bin', painted() * 3)
+        done = self.run_tool('compare', 'ours.bin', 'ours.bin')
+        self.assertEqual(done, (0, b'views 3 same 3 different 0 pixels 0\n', ''))
+
+    def test_different(self):
+        self.write('ours.bin', painted() + painted((3, 7, 9), (60, 2, 1)) + painted((199, 319, 200)))
+        self.write('port.bin', painted() + painted((60, 2, 4)) + painted())
+        status, output, error = self.run_tool('compare', 'ours.bin', 'port.bin')
+        self.assertEqual((status, error), (1, ''))
+        self.assertEqual(output.decode().splitlines(), [
+            'view 1 pixels 2 rows 3 to 60 columns 2 to 7 first at row 3 column 7: 9, port 5',
+            'view 2 pixels 1 rows 199 to 199 columns 319 to 319 first at row 199 column 319: 200, port 5',
+            'views 3 same 1 different 2 pixels 3'])
+        most = self.run_tool('compare', 'ours.bin', 'port.bin', '--most', '1')[1].decode().splitlines()
+        self.assertEqual([most[0][:6], most[1:]], ['view 1', ['views 3 same 1 different 2 pixels 3']])
+
+    def test_fewer_views(self):
+        self.write('ours.bin', painted() * 3)
+        self.write('port.bin', painted() * 2)
+        status, output, _ = self.run_tool('compare', 'ours.bin', 'port.bin')
+        self.assertEqual(status, 1)
+        self.assertEqual(output, b'views 2 same 2 different 0 pixels 0\nours.bin has 3 views, port.bin 2\n')
+
+    def test_painters(self):
+        """What painted the pixels, by name, the most pixels first."""
+        self.write('ours.bin', painted((1, 1, 6), (1, 2, 7), (5, 5, 8), (9, 9, 0)))
+        self.write('port.bin', painted())
+        wall, sprite = (1, 2, 4, 1, 6, 0), (5, 1, 2, 1, 8, 0)
+        self.write('trace.bin', traced((1, 1, wall), (1, 2, wall), (5, 5, sprite)))
+        lists = ('TEXTURE1', texture_list(['NONE', 'STONE']))
+        self.write('names.wad', wad([('PLAYPAL', bytes(768)), ('TROOA1', b''), lists]))
+        words = ['compare', 'ours.bin', 'port.bin', '--trace', 'trace.bin']
+        status, output, error = self.run_tool(*words, '--wad', 'names.wad')
+        self.assertEqual((status, error), (1, ''))
+        self.assertEqual(output.decode().splitlines()[1:-1], ['  wall     STONE          2  fragment 4',
+                                                              '  sprite   TROOA1         1  sprite 2',
+                                                              '  nothing  -              1'])
+        self.assertIn('  wall     texture 1      2  fragment 4\n', self.run_tool(*words)[1].decode())
+
+    def test_pixel(self):
+        """The painter of one pixel, by name."""
+        spots = [(1, 7, (1, 2, 4, 1, 6, 0)), (2, 319, (5, 1, 2, 1, 8, 0)), (199, 0, (6, 1, 1, 9, 3, 0))]
+        self.write('trace.bin', traced() + traced(*spots))
+        lists = ('TEXTURE1', texture_list(['NONE', 'STONE']))
+        self.write('names.wad', wad([('PLAYPAL', bytes(768)), ('TROOA1', b''), lists]))
+        for words, told in [('1 7 1', 'wall, fragment 4, texture STONE, colour 6'),
+                            ('1 319 2', 'sprite 2, lump TROOA1, colour 8'),
+                            ('1 0 199', 'weapon, row 1, lump 9, colour 3'), ('0 0 0', 'nothing, colour 0')]:
+            view, x, y = words.split()
+            done = self.run_tool('pixel', view, x, y, 'trace.bin', 'names.wad')
+            self.assertEqual(done, (0, f'view {view} column {x} row {y}: {told}\n'.encode(), ''))
+        for part, words in [('has 2 views', '2 0 0 trace.bin'), ('X: a number from 0 to 319', '0 320 0 trace.bin'),
+                            ('Y: a number from 0 to 199', '0 0 200 trace.bin'), ('VIEW: a number', 'x 0 0 trace.bin'),
+                            ('cannot read absent', '0 0 0 absent'),
+                            ('and a view has 512000; name the whole of what doomview trace', '0 0 0 names.wad'), ('is no WAD', '0 0 0 trace.bin trace.bin'),
+                            ('--help shows its words', '0 0')]:
+            self.refuses(part, 'pixel', *words.split())
+
+    def test_textures_of_patches(self):
+        """A wall that is read from a patch bears the name of the one texture that has it, or of several."""
+        lists = texture_of_patches([('FIREBLU2', ['W65B_2', 'W65B_1']), ('ONE', ['SHARED']), ('TWO', ['SHARED']),
+                                    ('SAME', ['SAME']), ('A', ['MANY']), ('B', ['MANY']), ('C', ['MANY']),
+                                    ('D', ['MANY'])])
+        self.write('names.wad', wad([(patch, b'') for patch in ('W65B_2', 'SHARED', 'SAME', 'MANY', 'FLAT1')] + lists))
+        spots = [(0, x, (1, 1, 4, x, 6, 0)) for x in range(4)]
+        spots += [(0, 4, (2, 1, 0, 4, 6, 0)), (0, 5, (5, 1, 0, 1, 6, 0))]
+        self.write('trace.bin', traced(*spots))
+        self.write('ours.bin', painted(*((0, x, 6) for x in range(6))))
+        self.write('port.bin', painted())
+        for x, told in enumerate(['wall, fragment 4, texture FIREBLU2, patch W65B_2',
+                                  'wall, fragment 4, patch SHARED, of ONE, TWO', 'wall, fragment 4, texture SAME',
+                                  'wall, fragment 4, patch MANY, of A, B, C ..', 'plane 0, lump FLAT1',
+                                  'sprite 0, lump SHARED']):
+            done = self.run_tool('pixel', '0', str(x), '0', 'trace.bin', 'names.wad')
+            self.assertEqual(done, (0, f'view 0 column {x} row 0: {told}, colour 6\n'.encode(), ''))
+        words = ['compare', 'ours.bin', 'port.bin', '--trace', 'trace.bin', '--wad', 'names.wad']
+        self.assertEqual(self.run_tool(*words)[1].decode().splitlines()[1:-1], [
+            '  wall     FIREBLU2       1  fragment 4  patch W65B_2',
+            '  wall     SHARED         1  fragment 4  patch of ONE, TWO',
+            '  wall     SAME           1  fragment 4', '  wall     MANY           1  fragment 4  patch of A, B, C ..',
+            '  plane    FLAT1          1  plane 0', '  sprite   SHARED         1  sprite 0'])
+        damaged = [(label, data[:-1] if label == 'TEXTURE1' else data) for label, data in lists]
+        self.write('names.wad', wad(damaged[:1] + [('TEXTURE2', struct.pack('<I', 9))]))
+        self.refuses('the lists of textures in the WADs are damaged', 'pixel', '0', '0', '0', 'trace.bin', 'names.wad')
+
+    def test_pictures(self):
+        self.write('ours.bin', painted((0, 0, 255)))
+        self.write('port.bin', painted())
+        self.assertEqual(self.run_tool('compare', 'ours.bin', 'port.bin', '--png', 'out')[0], 1)
+        self.assertEqual(os.listdir(self.at('out')), ['view00000.png'])
+        pixels = pixels_of(self.at('out', 'view00000.png'))
+        self.assertEqual(len(pixels), 3 * 3 * FRAME)
+        self.assertEqual([pixels[3 * 320 * k:3 * 320 * k + 3] for k in range(3)],
+                         [b'\xff\xff\xff', b'\x05\x05\x05', b'\xff\x00\x00'])
+
+    def test_full_output(self):
+        """What cannot be written is told."""
+        self.write('ours.bin', painted())
+        self.write('trace.bin', traced())
+        for words in (['compare', 'ours.bin', 'ours.bin'], ['pixel', '0', '0', '0', 'trace.bin'], ['--help']):
+            with open('/dev/full', 'wb') as full:
+                status, _, error = self.run_tool(*words, stdout=full)
+            self.assertEqual((status, error), (2, 'doomview: cannot write the output: No space left on device\n'))
+        self.write('out', b'')
+        self.write('port.bin', painted((0, 0, 1)))
+        self.refuses('out: File exists', 'compare', 'ours.bin', 'port.bin', '--png', 'out')
+
+    def test_wrong(self):
+        self.write('ours.bin', painted())
+        self.write('short.bin', painted()[:-1])
+        for part, words in [('no file absent', ['absent']), ('has 63999 bytes, and a view has 64000', ['short.bin']),
+                            ('is no plain file', ['bin']),
+                            ('and a view has 512000', ['ours.bin', '--trace', 'ours.bin']),
+                            ('is not the trace of 1 views', ['ours.bin', '--trace', 'trace']),
+                            ('is no WAD', ['ours.bin', '--wad', 'ours.bin']), ('--help shows its words', []),
+                            ('--most: a number', ['ours.bin', '--most', 'x']),
+                            ('there is no WAD absent', ['ours.bin', '--wad', 'absent'])]:
+            self.write('trace', traced() * 2)
+            status, output, error = self.run_tool('compare', 'ours.bin', *words)
+            self.assertEqual((status, output), (2, b''))
+            self.assertIn(part, error)
+            self.assertNotIn('Traceback', error)
+
+
+if __name__ == '__main__':
+    unittest.main()

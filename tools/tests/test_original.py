@@ -1,0 +1,117 @@
+"""Tests the scripts of the folder original, and bench/measure.py, with stand-ins for the programs, on files that are
+made here."""
+import os
+import shutil
+import sys
+import unittest
+
+from made_files import TOP, Tools
+
+# Draws a frame of its row's number for each row of the path; counts a view; ends view 3 for want of planes.
+DOOMVIEW = '''#!PYTHON
+import sys
+rows = open(sys.argv[sys.argv.index('--path') + 1]).read().splitlines()[1:]
+for k, row in enumerate(rows):
+    if sys.argv[1] == 'limits':
+        print(f'view {k} over planes 129' if k == 3 else f'view {k} planes 1')
+    else:
+        sys.stdout.buffer.write(bytes([sum(map(ord, row)) % 251]) * 64000)
+'''
+# The same, but for view 1 without zeros behind memory, and for view 2 but as NAME has it.
+STILL = '''#!PYTHON
+import os, sys
+word = dict(zip(sys.argv[1:], sys.argv[2:]))
+name = os.path.basename(sys.argv[0])
+if '-time' in word:
+    print('views 1 mean 2000 least 1000 ns a view')
+rows = open(word['-path']).read().splitlines()[1:]
+odd = open(os.path.join(os.path.dirname(sys.argv[0]), 'odd')).read().split()
+with open(word['-out'], 'wb') as out, open(word.get('-counts', os.devnull), 'w') as counts:
+    for k, row in enumerate(rows):
+        first = len(rows) > 3
+        colour = sum(map(ord, row)) % 251
+        if first and k == 1 and '-zerotail' not in sys.argv:
+            colour = 255
+        if (first and k == 2 or not first and row == open('row2').read()) and odd[0] not in name:
+            colour = 254
+        if first and k == 2:
+            open('row2', 'w').write(row)
+        out.write(bytes([colour]) * 64000)
+        counts.write(f'view {k} error R_FindPlane' if first and k == 3 else f'view {k} planes 1 openings 2')
+        counts.write('\\n')
+'''
+
+
+ORIGINAL = 'clone/tools/original'
+
+
+class Original(Tools):
+    def setUp(self):
+        super().setUp()
+        self.clone()
+        for name in ('build', 'measure'):
+            self.assertTrue(os.access(self.at(ORIGINAL, name), os.X_OK))
+        shutil.copy(os.path.join(TOP, 'tools/original/still.c'), self.at(ORIGINAL))
+        self.doomview = self.stand_in('doomview', DOOMVIEW.replace('PYTHON', sys.executable))
+        self.write('room.wad', self.run_tool('room')[1])
+
+    def originals(self, odd):
+        """Stand-ins for what build makes; view 2 is explained by the rule `odd`."""
+        for rule in ('', '-mark', '-tangent', '-back', '-all'):
+            self.stand_in(f'{ORIGINAL}/still{rule}', STILL.replace('PYTHON', sys.executable))
+        self.write(f'{ORIGINAL}/odd', odd.encode())
+
+    def measured(self, *words):
+        status, output, error = self.run_command(self.at(ORIGINAL, 'measure'), 'room.wad', '--places', '5',
+                                                '--sets', 'near', *words, doomview=self.doomview)
+        self.assertEqual(error, '')
+        return status, output.decode().splitlines()
+
+    def test_measure(self):
+        """Each view that differs is put down to a rule."""
+        self.originals('tangent')
+        status, lines = self.measured('--keep', 'kept')
+        self.assertEqual((status, lines[:2]), (0, ['near MAP01 view 1: memory, pixels 64000',
+                                                   'near MAP01 view 2: tangent, pixels 64000']))
+        self.assertEqual(lines[-1], '| near | 6 | 1 | 3 | 1 | 0 | 1 | 0 | 0 | 0 | 0 | 128000 |')
+        self.assertEqual(os.path.getsize(self.at('kept/near-MAP01/ours.bin')), 128000)
+
+    def test_unexplained(self):
+        self.originals('none')
+        status, lines = self.measured()
+        self.assertEqual((status, lines[1]), (1, 'near MAP01 view 2: unexplained, pixels 64000'))
+
+    def test_wrong(self):
+        measure = self.at(ORIGINAL, 'measure')
+        for part, words in [('there is no program still', ['room.wad']),
+                            ('there is no set far', ['room.wad', '--sets', 'far']),
+                            ('usage', ['--places'])]:
+            self.refuses(part, *words, command=measure, doomview=self.doomview)
+        status, output, error = self.run_command(measure)
+        self.assertEqual((status, output, error[:6]), (2, b'', 'usage:'))
+        self.originals('none')
+        self.refuses('there is no WAD absent.wad', 'absent.wad', command=measure, doomview=self.doomview)
+        self.refuses('there is no program', 'room.wad', command=measure, doomview=self.at('absent'))
+        self.stand_in('fails', '#!/bin/sh\necho doomview: refused 601 >&2\nexit 2\n')
+        status, output, _ = self.run_command(measure, 'room.wad', '--sets', 'near', doomview=self.at('fails'))
+        self.assertEqual(status, 1)
+        self.assertIn('near MAP01: fails: doomview: refused 601', output.decode())
+        self.refuses('gcc is not installed', self.at('source'), command=self.at(ORIGINAL, 'build'))
+
+    def test_speed(self):
+        """bench/measure.py has the original beside the programs where it is built."""
+        shutil.copytree(os.path.join(TOP, 'bench'), self.at('clone/bench'))
+        words = [self.at('clone/bench/measure.py'), 'room.wad', '--programs', self.doomview, '--rounds', '1',
+                 '--repeat', '2']
+        self.refuses('none of these maps', *words[1:], '--maps', 'MAP02', command=words[0])
+        for ratio in ('', r' \| -?[0-9.]+'):
+            status, output, error = self.run_command(*words)
+            self.assertEqual((status, error), (0, ''))
+            first = r' \| 1\.0' if ratio else ''
+            self.assertRegex(output.decode(), rf'MAP01{first} \| -?[0-9.]+{ratio} \|\n'
+                                              rf'\| mean{first} \| -?[0-9.]+{ratio} \|\n$')
+            self.originals('none')
+
+
+if __name__ == '__main__':
+    unittest.main()

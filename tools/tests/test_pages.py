@@ -1,0 +1,237 @@
+"""Tests the pages: that links lead somewhere, that the code they point to is there, and that tables which say the same
+agree."""
+import datetime
+import glob
+import os
+import re
+import unittest
+
+import constants
+from made_files import TOOLS, TOP
+from doomview_tools import command, home, jobs
+
+PAGES = ['README.md', 'CHANGELOG.md', 'tools/original/README.md']
+
+
+def read(place):
+    with open(os.path.join(TOP, place), encoding='utf-8') as file:
+        return file.read()
+
+
+def pages():
+    return PAGES + sorted(os.path.relpath(path, TOP) for path in glob.glob(os.path.join(TOP, 'docs', '*.md')))
+
+
+def rows(page, head):
+    """The cells of the tables whose head begins so."""
+    for table in re.findall(r'^' + re.escape(head) + r'.*\n\|[-|]+\|\n((?:\|.*\n?)+)', read(page), re.M):
+        for line in table.splitlines():
+            yield [cell.strip().replace('\\|', '|') for cell in re.split(r'(?<!\\)\|', line)[1:-1]]
+
+
+def anchors(page):
+    """The names that a link may give behind # for the headings of a page."""
+    heads = re.findall(r'^#+ (.*)$', read(page), re.M)
+    return {re.sub(r'[^\w\- ]', '', re.sub(r'[`*]', '', head).lower()).replace(' ', '-') for head in heads}
+
+
+def pointers(cell, kind):
+    """Of a cell such as "`f`, `g`; crate, file" each word with the file that should have it."""
+    found, parts = [], cell.split(';')
+    for before, part in zip(parts, parts[1:]):
+        place = re.match(r' *([a-z_]+(?:/[a-z_]+)?), ([\w/.]+)', part)
+        words = re.search(r'((?:`[A-Za-z_][\w:]*`(?:, | and )?)+)$', before)
+        if place and words:
+            crate, _, folder = place[1].partition('/')
+            file = place[2] if place[2].endswith('.rt') else f'{place[2]}.{"antt" if kind == "specs" else "rt"}'
+            top = 'crates/' + crate if file.startswith('src/') else f'crates/{crate}/{kind}'
+            path = '/'.join(it for it in (top, folder, file) if it)
+            found += [(word.split('::')[-1], path) for word in re.findall(r'`([\w:]+)`', words[1])]
+    return found
+
+
+class Pages(unittest.TestCase):
+    def has(self, word, place, what):
+        self.assertTrue(os.path.exists(os.path.join(TOP, place)), f'{what}: there is no {place}')
+        self.assertTrue(re.search(r'\b' + word + r'\b', read(place)), f'{what}: {word} is not in {place}')
+
+    def test_links(self):
+        for page in pages():
+            for link in re.findall(r'\]\(([^)]+)\)', read(page)):
+                if '://' in link:
+                    continue
+                path, _, anchor = link.partition('#')
+                to = os.path.normpath(os.path.join(os.path.dirname(page), path)) if path else page
+                self.assertTrue(os.path.exists(os.path.join(TOP, to)), f'{page}: {link}')
+                if anchor:
+                    self.assertIn(anchor, anchors(to), f'{page}: {link}')
+
+    def test_where(self):
+        """Each rule, function and edit of WHERE is in the file that it names."""
+        count = 0
+        for question, rule, code, _, edits in rows('docs/WHERE.md', '| Question | Rule | Code |'):
+            for kind, cell in (('specs', rule), ('src', code)):
+                for word, place in pointers(cell, kind):
+                    self.has(word, place, question)
+                    count += 1
+            for edit in re.findall(r'\b[a-z0-9]+(?:_[a-z0-9]+){2,}\b', edits):
+                found = glob.glob(os.path.join(TOP, 'crates/*/must-fail', edit + '.edit'))
+                self.assertTrue(found, f'{question}: there is no edit {edit}')
+        self.assertGreater(count, 60)
+
+    def test_map(self):
+        """MAP names each edit, and no other."""
+        there = sorted(os.path.basename(path)[:-len('.edit')]
+                       for path in glob.glob(os.path.join(TOP, 'crates', '*', 'must-fail', '*.edit')))
+        named = re.findall(r'\b[a-z0-9]+(?:_[a-z0-9]+)+\b', read('docs/MAP.md'))
+        self.assertEqual([edit for edit in there if edit not in named], [], 'MAP does not name these')
+        told = {edit for *_, cell in rows('docs/MAP.md', '| Original | Rule | Call | Edits |')
+                for edit in cell.split(', ')}
+        self.assertEqual([edit for edit in told if re.fullmatch('[a-z0-9_]+', edit) and edit not in there], [])
+
+    def test_rendering(self):
+        for question, rule, code, _ in rows('docs/RENDERING.md', '| Question | Rules | Code |'):
+            for kind, ending, cell in (('specs', 'antt', rule), ('src', 'rt', code)):
+                for part in cell.split(';'):
+                    crate, _, files = part.strip().replace('`', '').partition(': ')
+                    crate, _, folder = crate.partition('/')
+                    for file in files.split(', '):
+                        place = '/'.join(it for it in ('crates', crate, kind, folder, f'{file}.{ending}') if it)
+                        self.assertTrue(os.path.exists(os.path.join(TOP, place)), f'{question}: {place}')
+
+    def test_refusals(self):
+        """REFUSALS has each code of the code, and no other, each with the variant in the file that it names."""
+        text = read('crates/refusals/src/codes.rt')
+        known = {int(number) for number in re.findall(r'CODE_\w+: u64 = (\d+);', text)}
+        groups = [int(number) for number in re.findall(r'GROUP_\w+: u64 = (\d+);', text)]
+        told = []
+        for code, _, wrong, mend, where in rows('docs/REFUSALS.md', '| Code | Numbers |'):
+            told.append(int(code))
+            self.assertTrue(wrong and mend, code)
+            for word, place in pointers(where, 'src'):
+                self.has(word, place, code)
+        self.assertEqual(told, sorted(told))
+        self.assertEqual({code for code in told if code not in known and code // 100 * 100 not in groups}, set())
+        self.assertEqual(known - set(told), set())
+
+    def test_codes(self):
+        """Each row of the refusals names the variant for which the code writes that number."""
+        codes = dict(re.findall(r'(\w+): u64 = (\d+);', read('crates/refusals/src/codes.rt')))
+        lines = read('crates/refusals/src/lines.rt')
+        written = {int(codes[code]): variant for variant, code in
+                   re.findall(r'Refusal::(\w+)(?: \{[^}]*\})? => \{?\s*line\.add_numbers\(\s*&\[\s*(CODE_\w+)', lines)}
+        of_table = dict(re.findall(r'CsvRefusal::(\w+)(?: \{[^}]*\})? => line\.add_numbers\(&\[group \+ (\d)', lines))
+        groups = [int(number) for name, number in codes.items() if name.startswith('GROUP_')]
+        self.assertGreater(len(written), 35)
+        self.assertEqual(len(of_table), 7)
+        for code, _, _, _, where in rows('docs/REFUSALS.md', '| Code | Numbers |'):
+            variant = re.match(r'`(?:\w+::)?(\w+)`', where)[1]
+            if variant in of_table and int(code) not in written:
+                self.assertIn(int(code) - int(of_table[variant]), groups, code)
+            else:
+                self.assertEqual(written[int(code)], variant, code)
+
+    def test_limits(self):
+        """Each number of the table of limits is that of the constant beside it."""
+        told = 0
+        for what, least, greatest, where in rows('docs/FORMATS.md', '| What | Least | Greatest |'):
+            words, _, place = where.rpartition(';')
+            crate, file = place.strip().split(', ')
+            crate, _, folder = crate.partition('/')
+            path = file if file.startswith('src/') else '/'.join(it for it in ('src', folder, f'{file}.rt') if it)
+            bounds = [number.strip('` ') for number in f'{least},{greatest}'.split(',')]
+            for name, stated in re.findall(r'`(\w+)`(?: = (\d+))?', words):
+                number = str(constants.value_in(os.path.join(TOP, 'crates', crate, path), name))
+                self.assertTrue(stated == number if stated else number in bounds, f'{what}: {name} is {number}')
+                told += 1
+        self.assertGreater(told, 45)
+
+    def test_options(self):
+        """The table of options has the numbers of the code, and the flags of its parser, and no other."""
+        code = {'--zone': ('MIN_ZONE', 'MAX_ZONE', 'ZONE_STEP', 'DEFAULT_ZONE'),
+                '--skill': ('MIN_SKILL', 'MAX_SKILL', None, 'DEFAULT_SKILL'),
+                '--size': ('MIN_SIZE', 'MAX_SIZE', None, 'DEFAULT_SIZE'),
+                '--planes': ('MIN_PLANES', 'MAX_PLANES', None, 'DEFAULT_PLANES'),
+                '--openings': ('MIN_OPENINGS', 'MOST_OPENINGS', None, 'DEFAULT_OPENINGS')}
+        for name, (*bounds, default) in code.items():
+            option = jobs.options()[name]
+            for bound, stated in zip(bounds, (option.least, option.greatest, option.step)):
+                self.assertEqual(stated, constants.value('job_rules', bound) if bound else None, name)
+            self.assertEqual(int(option.default), constants.value('command_line', default), name)
+        self.assertEqual({name for name, option in jobs.options().items() if option.least is not None}, set(code))
+        self.assertEqual(jobs.MOST_WADS, constants.value('job_rules', 'MAX_WADS'))
+        flags = re.findall(r'"([a-z]+)"', read('crates/command_line/src/simple.rt'))
+        self.assertEqual({f'--{flag}' for flag in flags if f'--{flag}' in jobs.options()}, set(jobs.options()))
+
+    def test_jobs(self):
+        """README, the manual and the tools have the same jobs with the same words, and the code has no other."""
+        told = {re.match(r'`([a-z]+)', job)[1]: job for job, _ in rows('README.md', '| Job | Writes |')}
+        manual = read('docs/doomview.1').replace('\\-', '-')
+        self.assertEqual(list(told), list(jobs.JOBS))
+        for job in jobs.JOBS.values():
+            words = ' '.join([job.name, *(word for word, _ in job.words)])
+            self.assertEqual(told[job.name].strip('`').replace(' ..', '..'), words)
+            self.assertIn(f'\n.BI {job.name} ', manual)
+        code = read('crates/command_line/src/jobs.rt') + read('crates/command_line/src/level_jobs.rt')
+        for job in jobs.JOBS:
+            self.assertIn(f'"{job}"', code)
+
+    def test_pages_of_options(self):
+        """JOBS and the manual have each option with its jobs and numbers, and no other."""
+        cells = {name: (what, value) for cell, what, value in rows('docs/JOBS.md', '| Option | Jobs |')
+                 for name in re.findall(r'--[a-z]+', cell)}
+        manual = read('docs/doomview.1').replace('\\-', '-')
+        found = re.findall(r'^\.TP\n\.BI ?(.*--.*)\n((?:[^.].*\n|\.[BI].*\n)*)', manual, re.M)
+        entries = {name: text for head, text in found for name in re.findall(r'--[a-z]+', head)}
+        self.assertEqual(set(cells), set(jobs.options()))
+        self.assertEqual(set(entries) - {'--iwad'}, set(jobs.options()))
+        for option in jobs.options().values():
+            for text in (cells[option.name][1], entries[option.name]):
+                numbers = re.findall(r'\d+', text)
+                for number in (option.least, option.greatest, option.step):
+                    self.assertTrue(number is None or str(number) in numbers, f'{option.name}: {text}')
+                self.assertTrue(option.least is None or f'else {option.default}' in ' '.join(text.split()), option.name)
+            self.assertEqual('exercise' in cells[option.name][0], 'exercise' in option.jobs, option.name)
+
+    def test_statuses(self):
+        """JOBS, the manual and the help of a job have the same statuses."""
+        told = [int(status) for status, *_ in rows('docs/JOBS.md', '| Status | Line')]
+        self.assertEqual(told, list(jobs.STATUSES))
+        for status in told:
+            self.assertIn(f'\n.B {status}\n', read('docs/doomview.1'))
+
+    def test_tools(self):
+        """The page of the tools and the manual name each tool."""
+        told = [re.match(r'`([a-z-]+)', tool)[1] for tool, *_ in rows('docs/TOOLS.md', '| Tool | What it does |')]
+        self.assertEqual(told, command.TOOLS)
+        manual = read('docs/doomview.1').replace('\\-', '-')
+        for tool in command.TOOLS:
+            self.assertRegex(manual, rf'\n\.TP\n\.BI? {tool}\b')
+
+    def test_version(self):
+        """The first heading of CHANGELOG and the manual have the version, and one date."""
+        number, date = re.search(r'^## ([0-9.]+), (.*)$', read('CHANGELOG.md'), re.M).groups()
+        self.assertEqual(number, home.version()['version'])
+        self.assertRegex(home.version()['logic'], '^[0-9a-f]{16}$')
+        self.assertTrue(read('docs/doomview.1').startswith(f'.TH DOOMVIEW 1 "{date}" "doomview {number}" '))
+        datetime.date.fromisoformat(date)
+
+    def test_places(self):
+        """The page of the tools names each file, and no file names a path of a machine."""
+        page = read('docs/TOOLS.md')
+        entries = [*os.listdir(TOOLS), *os.listdir(os.path.join(TOOLS, 'data'))]
+        entries += [name[:-3] for name in os.listdir(home.PACKAGE) if name.endswith('.py') and name[0] != '_']
+        for entry in set(entries) - {'__pycache__', 'data'}:
+            self.assertTrue(re.search('[`/]' + re.escape(entry) + r'\b', page), entry)
+        for folder, folders, names in os.walk(TOOLS):
+            folders[:] = [name for name in folders if name not in ('__pycache__', 'source')]
+            for name in names:
+                if name.endswith('.pyc') or name.startswith('still') and not name.endswith('.c'):
+                    continue
+                place = os.path.relpath(os.path.join(folder, name), TOP)
+                paths = set(re.findall(r'(?<![\w.)}*\]])/[a-z][\w/]*', read(place)))
+                self.assertEqual({path for path in paths if re.match('/(home|root|work|opt|tmp)', path)}, set(), place)
+
+
+if __name__ == '__main__':
+    unittest.main()

@@ -1,0 +1,161 @@
+"""Tests the release: what is packed, and that it works alone, without the repository and without a kit.
+
+Where DOOMVIEW_TESTED names the program that is built, the commands of README are run in the release too."""
+import glob
+import hashlib
+import os
+import re
+import shutil
+import subprocess
+import sys
+import tarfile
+import unittest
+
+from made_files import DRAWING, FRAME, TOOLS, TOP, Tools, pixels_of
+
+TESTED = os.environ.get('DOOMVIEW_TESTED', '')
+HEADING = '## 2.1, 2026\n'
+PLACES = ['bin/doomview', 'libexec/doomview', 'lib/doomview/doomview_tools/__main__.py', 'lib/doomview/data/things.csv',
+          'lib/doomview/data/version', 'lib/doomview/original/build', 'share/man/man1/doomview.1',
+          'share/doc/doomview/README.md', 'share/doc/doomview/CHANGELOG.md', 'share/doc/doomview/docs/REFUSALS.md',
+          'share/doc/doomview/docs/FREEDOOM.txt']
+
+
+class Release(Tools):
+    def setUp(self):
+        super().setUp()
+        self.clone()
+        shutil.rmtree(self.at('clone/docs'))
+        for page in ('README.md', 'docs'):
+            (shutil.copytree if os.path.isdir(os.path.join(TOP, page)) else shutil.copy)(
+                os.path.join(TOP, page), self.at('clone', page))
+        os.mkdir(self.at('clone/out'))
+        if TESTED:
+            shutil.copy(TESTED, self.at('clone/out/doomview'))
+            os.utime(self.at('clone/out/doomview'))
+        else:
+            self.stand_in('clone/out/doomview', DRAWING)
+            self.write('frame', FRAME)
+        for name in ('still', 'still-mark-wide'):
+            self.write(f'clone/tools/original/{name}', b'')
+        self.known('2.1', HEADING)
+
+    def known(self, version, changes):
+        self.write('clone/CHANGELOG.md', b'# Changes\n\n' + changes.encode())
+        self.write('clone/tools/data/version', f'version {version}\nlogic 0123\n'.encode())
+
+    def pack(self, *words, **more):
+        return self.run_command(self.at('clone/tools/release'), *words, doomview='', **more)
+
+    def test_package(self):
+        """The package has program, tools, manual and pages, and the same bytes each time."""
+        status, output, error = self.pack()
+        path = os.path.realpath(self.at('clone/out/doomview-2.1.tar.gz'))
+        self.assertEqual((status, os.path.realpath(output.decode().strip()), error), (0, path, ''))
+        with tarfile.open(path) as tar:
+            names = tar.getnames()
+            modes = [tar.getmember(f'doomview-2.1/{it}').mode
+                     for it in ('bin/doomview', 'libexec/doomview', 'share/doc/doomview/README.md')]
+        self.assertEqual(modes, [0o755, 0o755, 0o644])
+        self.assertEqual([it for it in PLACES if f'doomview-2.1/{it}' not in names], [])
+        odd = 'pycache|/still(-|$)|source|/tests?/|build.py|plan.py|weights|docs/doomview.1'
+        self.assertEqual([name for name in names if re.search(odd, name)], [])
+        with open(path, 'rb') as file:
+            before = hashlib.sha256(file.read()).digest()
+        os.utime(self.at('clone/README.md'), (1, 1))
+        self.assertEqual(self.pack(self.folder)[0], 0)
+        with open(self.at('doomview-2.1.tar.gz'), 'rb') as file:
+            self.assertEqual(hashlib.sha256(file.read()).digest(), before)
+
+    def test_versions(self):
+        self.known('2.2', '## 2.2, not released yet\n')
+        self.assertIn(b'doomview-2.2-unreleased.tar.gz', self.pack()[1])
+        for version, changes in [('2.2', 'nothing\n'), ('2.3', '## 2.2\n')]:
+            self.known(version, changes)
+            status, output, error = self.pack()
+            self.assertEqual((status, output), (2, b''))
+            self.assertIn(f'the first heading of CHANGELOG.md is not that of version {version}', error)
+        self.known('2.2', '## 2.2\n')
+        self.assertIn('there is no folder absent', self.pack('absent')[2])
+        self.assertNotEqual(self.pack('one', 'two')[0], 0)
+        self.stand_in('bin/rt', '#!/bin/sh\necho kit logic 4567\n')
+        self.assertIn('the kit here has logic 4567, and data/version says 0123', self.pack()[2])
+        self.stand_in('bin/rt', '#!/bin/sh\necho kit logic 0123\n')
+        self.assertEqual(self.pack()[0], 0)
+
+    def test_not_built(self):
+        """A program that cannot be built is not packed."""
+        os.remove(self.at('clone/out/doomview'))
+        status, output, error = self.pack()
+        self.assertEqual((status, output), (70, b''))
+        self.assertEqual(glob.glob(self.at('clone/out/*.gz')), [])
+
+    def unpacked(self):
+        """The folder of the release, unpacked where nothing else is."""
+        path = self.pack()[1].decode().strip()
+        os.mkdir(self.at('alone'))
+        with tarfile.open(path) as tar:
+            tar.extractall(self.at('alone'))
+        shutil.rmtree(self.at('clone'))
+        return self.at('alone/doomview-2.1')
+
+    def alone(self, folder, *words):
+        """Status and outputs of the command of a release on a machine without a kit."""
+        env = {'PATH': '/usr/bin:/bin', 'HOME': self.folder}
+        if not shutil.which('python3', path=env['PATH']):
+            env['PATH'] += ':' + os.path.dirname(sys.executable)
+        done = subprocess.run([os.path.join(folder, 'bin/doomview'), *words], cwd=self.folder, env=env,
+                              stdin=subprocess.DEVNULL, capture_output=True)
+        return done.returncode, done.stdout, done.stderr.decode()
+
+    def test_alone(self):
+        folder = self.unpacked()
+        if not TESTED:
+            self.write('alone/doomview-2.1/libexec/frame', FRAME)
+        self.assertEqual(self.alone(folder, '--version'), (0, b'doomview 2.1\nlogic 0123\n', ''))
+        status, output, error = self.alone(folder, '--help')
+        self.assertEqual((status, error), (0, ''))
+        manual = re.search('man -l (.*)', output.decode())[1]
+        self.assertEqual(manual, os.path.join(folder, 'share/man/man1/doomview.1'))
+        self.assertTrue(os.path.isfile(manual))
+        told = b'doomview: this is a release: the program is built already\n'
+        self.assertEqual(self.alone(folder, '--build')[:2], (0, told))
+        self.assertEqual(self.alone(folder, '--built'), (0, b'', ''))
+        if shutil.which('man'):
+            done = subprocess.run(['man', '-l', manual], capture_output=True, env={**os.environ, 'MANWIDTH': '80'})
+            self.assertEqual((done.returncode, done.stderr), (0, b''))
+            self.assertIn(b'DOOMVIEW(1)', done.stdout)
+        self.assertEqual(self.alone(folder, 'picture', 'first.png'), (0, b'', ''))
+        self.assertEqual(len(pixels_of(self.at('first.png'))), 192000)
+        for words in (['room', '-o', 'room.wad'], ['places', 'room.wad', 'MAP01', '3', '-o', 'path.csv'],
+                      ['render', 'MAP01', 'room.wad', '--path', 'path.csv', '-o', 'ours.bin'], ['maps', 'room.wad'],
+                      ['render', '--help'], ['explain', 'doomview: refused 905 1'], ['picture', '--help']):
+            status, _, error = self.alone(folder, *words)
+            self.assertEqual((status, error.count('Traceback')), (0, 0), words)
+        self.assertIn('explain: 905: a column', self.alone(folder, 'explain', 'doomview: refused 905 1')[2])
+
+    @unittest.skipUnless(TESTED, 'the program is not built')
+    def test_port(self):
+        """A frame compared, and who painted a pixel."""
+        folder = self.unpacked()
+        for words in (['room', '-o', 'room.wad'], ['places', 'room.wad', 'MAP01', '3', '-o', 'path.csv'],
+                      ['render', 'MAP01', 'room.wad', '--path', 'path.csv', '-o', 'ours.bin'],
+                      ['trace', 'MAP01', 'room.wad', '--path', 'path.csv', '-o', 'trace.bin']):
+            self.assertEqual(self.alone(folder, *words), (0, b'', ''))
+        self.assertEqual(self.alone(folder, 'compare', 'ours.bin', 'ours.bin'),
+                         (0, b'views 4 same 4 different 0 pixels 0\n', ''))
+        self.assertRegex(self.alone(folder, 'pixel', '0', '77', '78', 'trace.bin', 'room.wad')[1],
+                         b'^view 0 column 77 row 78: sprite 0, lump COLUA0, colour 163\n$')
+
+    @unittest.skipUnless(TESTED, 'the program is not built')
+    def test_pages(self):
+        """The commands of README, in the release."""
+        folder = self.unpacked()
+        words = [os.path.join(TOOLS, 'check_pages'), '--command', os.path.join(folder, 'bin/doomview'), '--pages',
+                 'README.md', '--', os.path.join(folder, 'libexec/doomview')]
+        done = subprocess.run([sys.executable, '-B', *words], cwd=self.folder, capture_output=True, text=True)
+        self.assertEqual(done.returncode, 0, done.stdout + done.stderr)
+
+
+if __name__ == '__main__':
+    unittest.main()
