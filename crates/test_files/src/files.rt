@@ -7,16 +7,12 @@ use outside::MemoryFile;
 use std::alloc::{AllocError, Global};
 
 /// A file of that name.
-///
-/// Errors: `AllocError` alone.
 pub fn file_of(alloc: Global, name: &str, bytes: Vec<u8>) -> Result<MemoryFile, AllocError> {
     let name = name.to_string(alloc)?;
     Ok(MemoryFile { name, bytes })
 }
 
 /// The four made files of a number: made.wad, the tables t, the things h and the path p.
-///
-/// Errors: `AllocError` alone.
 pub fn made_files(alloc: Global, n: u32) -> Result<Vec<MemoryFile>, AllocError>
     requires least { 1 ≤ n }
     requires most { n ≤ MAX_NUMBER }

@@ -1,7 +1,8 @@
 //! Files for tests: WADs that are put together, small levels, the made files in memory, and the sum
 //! of bytes.
 //!
-//! Proved: that the calls are safe. Tested only: what they give, by the tests that read it.
+//! Errors: `AllocError` alone. Proved: that the calls are safe. Tested only: what they give, by the
+//! tests that read it.
 #![tactic(auto)]
 
 mod files;

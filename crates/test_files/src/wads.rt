@@ -7,8 +7,6 @@ const HEADER_BYTES: usize = 12;
 const NAME_BYTES: usize = 8;
 
 /// A PWAD of these lumps, each with its name, in this order.
-///
-/// Errors: `AllocError` alone.
 pub fn wad_of(alloc: Global, lumps: &[(&str, &[u8])]) -> Result<Vec<u8>, AllocError> {
     let mut bytes = Vec::new(alloc);
     let mut directory = Vec::new(alloc);
@@ -40,8 +38,6 @@ fn put_size(out: &mut Vec<u8>, size: usize) -> Result<(), AllocError> {
 }
 
 /// Appends numbers of 16 bits, as the records of a level have them.
-///
-/// Errors: `AllocError` alone.
 pub fn put_halves(out: &mut Vec<u8>, halves: &[u16]) -> Result<(), AllocError> {
     for half in halves {
         out.extend_from_slice(&half.to_le_bytes())?;

@@ -37,7 +37,7 @@ fn both_shelf(alloc: Global) -> Result<Box<MemoryShelf>, AllocError> {
     let mut files = Vec::with_capacity(alloc, 2)?;
     files.push(file_of(alloc, "tiny.wad", tiny_wad(alloc)?)?)?;
     files.push(file_of(alloc, "level.wad", level_wad().to_vec(alloc)?)?)?;
-    Box::new(alloc, MemoryShelf::new(files, Vec::new(alloc)))
+    Ok(Box::new(alloc, MemoryShelf::new(files, Vec::new(alloc)))?)
 }
 
 // The directory of the tiny file, the level, and the tiny file again; and the tiny file's number.
