@@ -142,7 +142,7 @@ class Tables(unittest.TestCase):
             self.assertRegex(case.how, r'^(full|may be full|reads \d+|[12]?[<>].*)?$', case.name)
 
     def test_each_refusal_code_has_a_case(self):
-        with open(os.path.join(TOP, 'docs', 'FILES.md'), encoding='utf-8') as file:
+        with open(os.path.join(TOP, 'docs', 'REFUSALS.md'), encoding='utf-8') as file:
             codes = set(re.findall(r'^\| (\d{3,4}) \|', file.read(), re.MULTILINE))
         lines = [case.expected.line.split() for case in all_cases() if case.expected.status == '2']
         self.assertEqual(codes, {line[2] for line in lines if line})

@@ -1,4 +1,4 @@
-"""WADs as bytes: written from lumps, and taken apart. docs/FILES.md has the format."""
+"""WADs as bytes: written from lumps, and taken apart. docs/FORMATS.md has the format."""
 import struct
 
 HEAD_BYTES, ENTRY_BYTES = 12, 16
