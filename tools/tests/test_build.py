@@ -352,7 +352,8 @@ class Plan(unittest.TestCase):
         with open(os.path.join(TOP, 'crates.txt')) as file:
             crates = {line.partition(':')[0] for line in file if re.match('[a-z_]+:', line)}
         weights = plan.read_numbers(os.path.join(TOOLS, 'data', 'weights.csv'))
-        self.assertEqual(set(weights), crates - {'word_tests', 'file_tests', 'whole_tests'})
+        tests = {it for it in crates if it.endswith('_tests') or it == 'test_files'}
+        self.assertEqual(set(weights), crates - tests)
         self.assertGreater(min(weights.values()), 0)
 
     def test_seconds(self):
