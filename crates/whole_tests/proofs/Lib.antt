@@ -1,2 +1,1 @@
-pub mod PlaneRows
 pub mod SpriteRows

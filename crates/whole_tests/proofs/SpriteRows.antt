@@ -9,18 +9,18 @@ use Rattle.picture_rules.specs.sprite.Clips.{gives_bottom, gives_top, passes_at,
 use Rattle.view_rules.specs.Sides.{side_by_product, side_by_slope, side_of}
 
 -- who unfolds it unfolds the rules of these
-unfoldable sprites_cut : ℕ
+unfoldable pub sprites_cut : ℕ
 unfolding words_unfolded greatest insert_entry draw_order is_smaller insert_last seg_line drawseg_has entry_has is_in_front is_behind gives_bottom gives_top passes_at greatest_that clip_of_some clip_of_number sprite_bottom sprite_top side_by_product side_by_slope side_of
 sprites_cut = 0
 
-unfoldable entry_scaled : ℕ → ℤ → SpriteEntry
+unfoldable pub entry_scaled : ℕ → ℤ → SpriteEntry
 entry_scaled n scale = record { number = n; first = pos 0; last = pos 9; a1 = pos 0; x = pos 0; y = pos 0; gz = pos 0; gzt = pos 0; mid = pos 0; scale = scale; iscale = pos 65536; flip = false; width = 32; lump = 9; map = 0 }
 
-unfoldable entry_between : ℤ → ℤ → SpriteEntry
+unfoldable pub entry_between : ℤ → ℤ → SpriteEntry
 entry_between gz gzt = record (entry_scaled 0 (pos 5)) { gz = gz; gzt = gzt }
 
 -- it stands in front of each sprite in columns 0 to 9, with bottom height 100 and top height 200, cut at row 50 and row 20
-unfoldable front_seg : Drawseg
+unfoldable pub front_seg : Drawseg
 front_seg = record {
   seg = record { x1 = pos 0; y1 = pos 0; x2 = pos 0; y2 = pos 0; angle = 0; offset = pos 0; flags = 0; side = 0; front = 0; back = None };
   first = 0;
