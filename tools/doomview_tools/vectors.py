@@ -33,11 +33,6 @@ NONE = '-'  # the sum where a run ends without the frame
 Vector = collections.namedtuple('Vector', 'set map view skill size weapon x y z angle extralight colormap frame packed '
                                 'answer original bands')
 Group = collections.namedtuple('Group', 'set skill size layers rows')  # views of one run
-# What explains a view of which the original's frame is another than doomview's.
-REASONS = {'memory': "the original reads past a lump's end there", 'mark': 'the original takes a clip of -2 for none',
-           'tangent': 'the original reads behind its tangents', 'back': 'the original has a sector at address 0 there',
-           'several': 'several rules are others in the original', 'ranges': 'the original ends there (solid ranges)',
-           'ended': 'the original and doomview end there', 'unexplained': 'the original draws another frame'}
 
 
 def is_before(row, thing):
@@ -165,6 +160,15 @@ def frames(wad, vectors):
             run.draw({i for i, vector in enumerate(part) if vector.frame == NONE})
             drawn += [run.ours.get(i, bytes(SIZE)) for i in range(len(part))]
     return b''.join(drawn)
+
+
+def of_frames(path, frames_path):
+    """The vectors of a file of frames, by its name: MAP01.bin, or MAP01-sizes.bin."""
+    name = os.path.basename(frames_path)
+    found = [it for it in read(path) if file_name(it.map, it.set) == name]
+    if not found:
+        raise Trouble(f'{path} has no vectors of {name}; a file of frames is named as its map, such as MAP01.bin')
+    return found
 
 
 def known(vector, frame):

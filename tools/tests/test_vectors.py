@@ -180,6 +180,21 @@ class Made(Tools):
                          ['packed spans', "the original's frame (memory)", ''])
 
 
+class Compare(Tools):
+    def test_known(self):
+        """`compare --vectors` names what is known of a frame that differs."""
+        ours, full = [frame(colour) for colour in (1, 2, 3)], frame(23)
+        rows = [vector(0, ours[0], frame(11)), vector(1, ours[1], frame(12), 'memory', full), vector(2, ours[2], ours[2])]
+        self.write('made.csv', vectors.text(rows).encode())
+        self.write('ours.bin', b''.join(ours))
+        self.write('MAP01.bin', frame(11) + full + frame(4))
+        status, output, error = self.run_tool('compare', 'ours.bin', 'MAP01.bin', '--vectors', 'made.csv')
+        self.assertEqual((status, error), (1, ''))
+        self.assertEqual([line.partition('; ')[2] for line in output.decode().splitlines()],
+                         ['packed spans', "the original's frame (memory)", '', ''])
+        self.refuses('no vectors of ours.bin', 'compare', 'ours.bin', 'ours.bin', '--vectors', 'made.csv')
+
+
 def game(name):
     """The WAD of a file of vectors, or None."""
     return wads.find_or_none(f'{name}.wad')
