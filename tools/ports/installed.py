@@ -17,7 +17,8 @@ from doomview_tools.files import write_whole
 from doomview_tools.levels import EYE_HEIGHT, UNIT
 from doomview_tools.trouble import Trouble
 
-EVERY = 0.22  # seconds from one screenshot to the next
+EVERY = 0.22  # seconds from one screenshot of a savegame to the next
+SHOTS_A_VIEW, TICS_A_SECOND = 6, 35  # of a demo; chocolate-doom takes at most 100 screenshots
 LONGEST = 120  # seconds of a run
 FIRST_SHOT = 1.5  # seconds until a game is drawn
 SAVED = 'doomsav0.dsg'
@@ -37,14 +38,14 @@ use_mouse 0
 grabmouse 0
 key_menu_screenshot 88
 '''
-CRISPY_OFF = ['hires', 'widescreen', 'uncapped', 'smoothscaling', 'smoothlight', 'brightmaps', 'translucency', 'bobfactor',
-              'pitch', 'flipcorpses', 'coloredblood', 'crosshair', 'demobar', 'demotimer', 'leveltime']
+CRISPY_OFF = ['hires', 'widescreen', 'uncapped', 'smoothscaling', 'smoothlight', 'brightmaps', 'translucency',
+              'bobfactor', 'pitch', 'flipcorpses', 'coloredblood', 'crosshair', 'demobar', 'demotimer', 'leveltime']
 CRISPY_EXTRA = CHOCOLATE_EXTRA + ''.join(f'crispy_{name} 0\n' for name in CRISPY_OFF)
 WOOF_OFF = ['hires', 'correct_aspect_ratio', 'widescreen', 'uncapped', 'fullscreen', 'hud_displayed', 'smoothlight',
             'stretchsky', 'brightmaps', 'translucency', 'hud_crosshair', 'flipcorpses', 'hud_msg_timer']
 WOOF = ALL + ''.join(f'{name} 0\n' for name in WOOF_OFF) + 'gamma2 9\n'
-DSDA_OFF = ['use_fullscreen', 'render_aspect', 'hudadd_demoprogressbar', 'hud_displayed', 'usegamma', 'uncapped_framerate',
-            'render_wipescreen', 'cap_wipescreen', 'cap_remove_tempfiles']
+DSDA_OFF = ['use_fullscreen', 'render_aspect', 'hudadd_demoprogressbar', 'hud_displayed', 'usegamma',
+            'uncapped_framerate', 'render_wipescreen', 'cap_wipescreen', 'cap_remove_tempfiles']
 DSDA = ALL + ''.join(f'{name} 0\n' for name in DSDA_OFF) + '''videomode "8bit"
 screen_resolution "320x200"
 cap_fps 35
@@ -121,11 +122,25 @@ class Game:
                 game.kill()
             game.wait()
 
+    def run_to_end(self, *words):
+        with self.running(*words) as game:
+            try:
+                game.wait(LONGEST)
+            except subprocess.TimeoutExpired:
+                raise Missed(f'{self.port} does not come to the end of the demo')
+
     def press(self, *words):
         """What xdotool says."""
         done = subprocess.run(['xdotool', *words], env=self.environment, stdout=subprocess.PIPE,
                               stderr=subprocess.DEVNULL, text=True)
         return done.stdout.split()
+
+    def focus(self):
+        """Lets the port's newest window have the keys; whether there is one."""
+        windows = self.press('search', '--name', '.')
+        if windows:
+            self.press('windowfocus', windows[-1])
+        return bool(windows)
 
     def shots(self):
         """The screenshots so far, in their order."""
@@ -143,35 +158,31 @@ class Game:
         """The pixels of a screenshot: indices, or bytes red, green, blue."""
         return screens.sampled(*screens.png_pixels(shot)) if shot[:4] == b'\x89PNG' else screens.pcx_indices(shot)
 
-    def demo_frames(self, views):
-        """The views of the demo still.lmp."""
+    def demo_frames(self, views, tics):
+        """The views of the demo still.lmp, which pauses for so many tics at each."""
         if self.port == 'dsda-doom':
             return self.video_frames(views)
         self.clear()
         with screen() as display:
             self.environment['DISPLAY'] = display
             with self.running('-playdemo', 'still') as game:
-                self.photograph(game)
+                self.photograph(game, tics / TICS_A_SECOND / SHOTS_A_VIEW)
         return [self.pixels(shot) for shot in still_ones(self.shots(), views, 2)]
 
-    def photograph(self, game):
-        """Presses the key of a screenshot again and again until the game ends."""
+    def photograph(self, game, seconds):
+        """Presses the key of a screenshot again and again, at this distance, until the game ends."""
         end = time.time() + LONGEST
-        window = None
         while game.poll() is None:
             if time.time() > end:
                 raise Missed(f'{self.port} does not come to the end of the demo')
-            window = window or (self.press('search', '--name', '.') or [None])[-1]
-            if window:
-                self.press('windowfocus', window)
+            if self.focus():
                 self.press('key', self.key)
-            time.sleep(EVERY)
+            time.sleep(seconds)
 
     def video_frames(self, views):
         """The views of the demo in the video that dsda-doom writes."""
         self.environment['SDL_VIDEODRIVER'] = 'dummy'
-        with self.running('-timedemo', 'still.lmp', '-viddump', 'video') as game:
-            game.wait(LONGEST)
+        self.run_to_end('-timedemo', 'still.lmp', '-viddump', 'video')
         try:
             with open(self.at('video.txt')) as file:
                 width, height = map(int, file.read().split())
@@ -187,8 +198,7 @@ class Game:
         write_whole(self.at('still.lmp'), rest.saving_demo(still.level.name, skill))
         with screen() as display:
             self.environment['DISPLAY'] = display
-            with self.running('-playdemo', 'still') as game:
-                game.wait(LONGEST)
+            self.run_to_end('-playdemo', 'still')
             with open(self.at(SAVED), 'rb') as file:
                 saved = file.read()
             return [self.row_frame(moved(saved, still.row(), row)) for row in rows]
@@ -200,12 +210,10 @@ class Game:
         with self.running('-loadgame', '0') as game:
             begun, paused = time.time(), 0
             while game.poll() is None and time.time() < begun + LONGEST:
-                shots = [self.pixels(it) for it in self.shots()]
+                shots = self.shots()
                 if len(shots) > 3 and shots[-1] == shots[-2]:
-                    return shots[-1]
-                window = self.press('search', '--name', '.')
-                if window and time.time() > begun + FIRST_SHOT:
-                    self.press('windowfocus', window[-1])
+                    return self.pixels(shots[-1])
+                if time.time() > begun + FIRST_SHOT and self.focus():
                     if len(shots) >= paused + 4 and len({*shots[-3:]}) == 3:
                         paused = len(shots)
                         self.press('key', 'Pause')

@@ -227,7 +227,7 @@ class Real(unittest.TestCase):
     def test_dsda(self):
         """It differs in planes and walls alone."""
         self.assertRegex(self.lines('dsda-doom', 1)[0], r'^dsda-doom MAP01 views 1 pixels [0-9.]+ % (packed spans [0-9.]+ '
-                                                        r'% )?plane [0-9.]+ %( wall [0-9.]+ %)?; textures 1 steps ahead$')
+                                                        r'% )?plane [0-9.]+ %( wall [0-9.]+ %)?; textures ahead by 1$')
 
     @unittest.skipUnless(os.environ.get('DOOMVIEW_PORTS'), 'it is tried with DOOMVIEW_PORTS=1 alone')
     def test_chocolate(self):
