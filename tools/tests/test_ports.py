@@ -233,7 +233,7 @@ class Real(unittest.TestCase):
     def test_chocolate(self):
         """It differs by packed spans alone."""
         spans = '' if original.missing() else 'packed spans 100.00 % '
-        self.assertEqual(self.lines('chocolate-doom', 2)[0], f'chocolate-doom MAP01 views 2 pixels 0.87 % {spans}plane '
+        self.assertEqual(self.lines('chocolate-doom', 2)[0], f'chocolate-doom MAP01 views 2 pixels 1.00 % {spans}plane '
                                                              '100.00 %')
 
 
