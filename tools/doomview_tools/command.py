@@ -8,7 +8,7 @@ from . import cli, home, jobs, program
 from .trouble import TROUBLE, Trouble
 
 TOOLS = ['picture', 'places', 'turn', 'compare', 'pixel', 'explain', 'video', 'audit-all', 'draw-all', 'maps', 'tables',
-         'room']
+         'room', 'vectors', 'rest']
 OVERVIEW = '''usage: doomview JOB WORDS.. [OPTIONS]
        doomview TOOL WORDS.. [OPTIONS]
 

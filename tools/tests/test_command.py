@@ -109,7 +109,8 @@ class Help(Command):
     def test_wrong_words(self):
         """A tool says what is wrong with its words in one sentence."""
         for words in (['picture'], ['places', self.wad], ['turn', '--absent'], ['pixel', '0', '0', '0'],
-                      ['compare', 'one'], ['video', self.wad, 'MAP01'], ['draw-all', self.wad], ['maps']):
+                      ['compare', 'one'], ['video', self.wad, 'MAP01'], ['draw-all', self.wad], ['maps'],
+                      ['vectors', 'make']):
             status, output, error = self.runs(*words)
             self.assertEqual((status, output, error.count('\n')), (2, b'', 1), error)
             self.assertRegex(error, f'^doomview {words[0]}: .*; doomview {words[0]} --help shows its words\n$')

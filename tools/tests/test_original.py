@@ -75,6 +75,7 @@ class Original(Tools):
                                                    'near MAP01 view 2: tangent, pixels 64000']))
         self.assertEqual(lines[-1], '| near | 6 | 1 | 3 | 1 | 0 | 1 | 0 | 0 | 0 | 0 | 128000 |')
         self.assertEqual(os.path.getsize(self.at('kept/near-MAP01/ours.bin')), 128000)
+        self.assertEqual(self.measured('--maps', 'MAP01')[1][-1], lines[-1])
 
     def test_unexplained(self):
         self.originals('none')
@@ -91,6 +92,7 @@ class Original(Tools):
         self.assertEqual((status, output, error[:6]), (2, b'', 'usage:'))
         self.originals('none')
         self.refuses('there is no WAD absent.wad', 'absent.wad', command=measure, doomview=self.doomview)
+        self.refuses('there is no map MAP09 in', 'room.wad', '--maps', 'MAP09', command=measure, doomview=self.doomview)
         self.refuses('there is no program', 'room.wad', command=measure, doomview=self.at('absent'))
         self.stand_in('fails', '#!/bin/sh\necho doomview: refused 601 >&2\nexit 2\n')
         status, output, _ = self.run_command(measure, 'room.wad', '--sets', 'near', doomview=self.at('fails'))

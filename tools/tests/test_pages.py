@@ -10,7 +10,7 @@ import constants
 from made_files import TOOLS, TOP
 from doomview_tools import command, home, jobs
 
-PAGES = ['README.md', 'CHANGELOG.md', 'tools/original/README.md']
+PAGES = ['README.md', 'CHANGELOG.md', 'tools/original/README.md', 'tools/ports/README.md']
 
 
 def read(place):

@@ -18,7 +18,7 @@ HEADING = '## 2.1, 2026\n'
 PLACES = ['bin/doomview', 'libexec/doomview', 'lib/doomview/doomview_tools/__main__.py', 'lib/doomview/data/things.csv',
           'lib/doomview/data/version', 'lib/doomview/original/build', 'share/man/man1/doomview.1',
           'share/doc/doomview/README.md', 'share/doc/doomview/CHANGELOG.md', 'share/doc/doomview/docs/REFUSALS.md',
-          'share/doc/doomview/docs/FREEDOOM.txt']
+          'share/doc/doomview/docs/FREEDOOM.txt', 'share/doc/doomview/vectors/check']
 
 
 class Release(Tools):
@@ -26,7 +26,7 @@ class Release(Tools):
         super().setUp()
         self.clone()
         shutil.rmtree(self.at('clone/docs'))
-        for page in ('README.md', 'docs'):
+        for page in ('README.md', 'docs', 'vectors'):
             (shutil.copytree if os.path.isdir(os.path.join(TOP, page)) else shutil.copy)(
                 os.path.join(TOP, page), self.at('clone', page))
         os.mkdir(self.at('clone/out'))

@@ -2,7 +2,7 @@
 import os
 import sys
 
-from .. import cli, frames, png, traces, wads
+from .. import cli, frames, png, traces, vectors, wads
 from ..frames import HEIGHT, SIZE, WIDTH
 from ..trouble import Trouble
 
@@ -19,6 +19,9 @@ line counts all views.
 With the file that doomview trace wrote for the same words, the lines under it tell what doomview painted there: the
 painter's kind, the lump or texture, the pixels, and the numbers of the fragments, planes or sprites in the view. Names
 need the WADs of the run. A texture of one patch is named where no other texture has the patch.
+
+With --vectors a line ends with what is known of the port's frame there: that it has packed spans, or is the original's
+where doomview departs from it (docs/VECTORS.md). PORT is named by the map then, as MAP01.bin or MAP01-sizes.bin.
 
 --png writes a picture for each view that differs: OURS, PORT and the differences beside each other (red over grey), in
 the palette of the WADs or else in greys.
@@ -38,6 +41,7 @@ def add_words(parser):
     parser.add_argument('--trace', metavar='FILE', help='what doomview trace wrote: names what painted the pixels')
     parser.add_argument('--wad', metavar='WAD', action='append', default=[], help='a WAD of the run; once for each, in '
                         'their order')
+    parser.add_argument('--vectors', metavar='FILE', help='the vectors whose views the files have')
     parser.add_argument('--png', metavar='FOLDER', help='writes a picture of each view that differs into FOLDER')
     parser.add_argument('--most', metavar='N', type=cli.number(0, sys.maxsize), default=sys.maxsize,
                         help='tells of N views that differ, and counts the others')
@@ -72,6 +76,7 @@ class Comparison:
     def __init__(self, options):
         self.options, self.names = options, traces.Names([wads.find(name) for name in options.wad])
         self.counts = [frames.count_views(path) for path in (options.ours, options.port)]
+        self.known = vectors.of_frames(options.vectors, options.port) if options.vectors else []
         self.different = self.pixels = 0
         if options.trace and traces.count_views(options.trace) != self.counts[0]:
             raise Trouble(f'{options.trace} is not the trace of {self.counts[0]} views, as {options.ours} has them')
@@ -90,7 +95,8 @@ class Comparison:
             return file.read(traces.VIEW_SIZE)
 
     def tell(self, view, ours, port, places):
-        print(told(view, ours, port, places))
+        known = vectors.known(self.known[view], port) if view < len(self.known) else ''
+        print(told(view, ours, port, places) + (f'; {known}' if known else ''))
         if self.options.trace:
             print('\n'.join(traces.painters(self.records(view), places, self.names)))
         if self.options.png:

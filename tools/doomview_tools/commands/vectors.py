@@ -1,0 +1,105 @@
+"""doomview vectors: sums of the frames that are right, for ports to check themselves by."""
+import concurrent.futures
+import os
+
+from .. import cli, original, program, vectors, wads
+from ..files import WholeFile, write_whole
+from ..trouble import Trouble
+
+MAKE, DRAW = 'make', 'draw'
+PAGE = cli.Page(
+    'vectors', 'sums of the right frames of a WAD, for ports to check themselves by', '''
+Makes the vectors of a WAD, or draws doomview's own frames of them.
+
+make WAD writes FOLDER/NAME.csv: for viewpoints of each map the sums of doomview's frame, of the original's with packed
+spans, and in one word whether the original with full spans draws the same, or which rule explains that it does not. It
+needs the programs that tools/original/build makes.
+
+draw VECTORS.csv WAD draws the frames of the vectors into FOLDER, a file for each map and set, as a port has to write
+them: MAP01.bin has those of the set near, MAP01-sizes.bin those of the set sizes. So doomview compare can show where a
+port's frames are others. vectors/check checks such files, and needs no doomview.
+''', '''
+$ doomview vectors make freedoom2.wad -o vectors
+$ doomview vectors draw vectors/freedoom2.csv freedoom2.wad -o ours --maps MAP01,MAP07
+$ vectors/check vectors/freedoom2.csv ours --maps MAP01,MAP07
+''', 'the program; for make the programs of tools/original', usage=(
+        'make WAD [-o FOLDER] [--maps NAMES] [--jobs N]',
+        'draw VECTORS.csv WAD [-o FOLDER] [--maps NAMES] [--sets NAMES] [--jobs N]'))
+
+
+def add_words(parser):
+    parser.add_argument('job', metavar='make|draw', choices=[MAKE, DRAW], help='makes vectors, or draws their frames')
+    parser.add_argument('files', metavar='FILE', nargs='+', help='WAD, found as ports find it; for draw the vectors '
+                        'before it')
+    parser.add_argument('-o', dest='output', metavar='FOLDER', default='.', help='where the files go; it is made')
+    parser.add_argument('--maps', metavar='NAMES', type=names, help='these maps alone, with commas between them')
+    parser.add_argument('--sets', metavar='NAMES', type=names, default=vectors.SETS, help='these sets alone, of '
+                        + ','.join(vectors.SETS))
+    parser.add_argument('--jobs', metavar='N', type=cli.number(1, 1000), default=len(os.sched_getaffinity(0)),
+                        help='how many maps at a time; else one a processor')
+
+
+def names(text):
+    return text.split(',')
+
+
+def chosen(there, wanted, what):
+    """The wanted ones of what is there, or all of it."""
+    missing = [it for it in wanted or [] if it not in there]
+    if missing:
+        raise Trouble(f'there is no {what} {missing[0]}; there are {", ".join(there)}')
+    return [it for it in there if not wanted or it in wanted]
+
+
+def folder_of(options):
+    try:
+        os.makedirs(options.output, exist_ok=True)
+    except OSError as error:
+        raise Trouble(f'cannot make the folder {options.output}: {error.strerror}')
+    return options.output
+
+
+def all_of(call, items, jobs):
+    """What a call gives for each item, in their order, several at a time."""
+    with concurrent.futures.ThreadPoolExecutor(jobs) as pool:
+        started = [pool.submit(call, item) for item in items]
+        try:
+            return [it.result() for it in started]
+        finally:
+            for it in started:
+                it.cancel()
+
+
+def make(options):
+    if len(options.files) != 1:
+        raise Trouble('make takes one WAD; doomview vectors --help shows its words')
+    wad = os.path.abspath(wads.find(options.files[0]))
+    maps = chosen(wads.maps_of([wad]), options.maps, 'map')
+    if original.missing():
+        raise Trouble(f'there is no program {original.missing()[0]}; tools/original/build makes it')
+    program.ready()
+    found = all_of(lambda name: vectors.made(wad, name), maps, options.jobs)
+    name = os.path.splitext(os.path.basename(wad))[0]
+    path = os.path.join(folder_of(options), f'{name}.csv')
+    write_whole(path, vectors.text(it for of_map in found for it in of_map).encode())
+
+
+def draw(options):
+    if len(options.files) != 2:
+        raise Trouble('draw takes a file of vectors and a WAD; doomview vectors --help shows its words')
+    rows, wad = vectors.read(options.files[0]), wads.find(options.files[1])
+    maps = chosen(list(dict.fromkeys(row.map for row in rows)), options.maps, 'map')
+    sets = chosen(vectors.SETS, options.sets, 'set')
+    program.ready()
+    folder = folder_of(options)
+
+    def draw_one(part):
+        of_part = [row for row in rows if (row.map, row.set) == part]
+        if of_part:
+            with WholeFile(os.path.join(folder, vectors.file_name(*part))) as file:
+                file.write(vectors.frames(wad, of_part))
+    all_of(draw_one, [(name, kind) for name in maps for kind in sets], options.jobs)
+
+
+def run(options):
+    (make if options.job == MAKE else draw)(options)

@@ -1,0 +1,181 @@
+"""Vectors: for viewpoints of a WAD's maps the sums of the frames that are right there (docs/VECTORS.md).
+
+A vector is a row of a file of the folder `vectors`. `made(wad, name)` makes those of a map, `read(path)` reads a file,
+`frames(..)` draws doomview's frames of some, and `known(..)` says what a port's frame at a vector is."""
+import collections
+import csv
+import hashlib
+import io
+import itertools
+import math
+import os
+import tempfile
+import zlib
+
+from . import levels, original, paths, weapons
+from .frames import SIZE
+from .trouble import Trouble
+
+DIGITS, BANDS, BAND_DIGITS = 16, 10, 4  # of SHA-256; a band is 20 rows of pixels, with digits of its CRC-32
+PLACES, SEED = 20, 1
+SETS = ['near', 'sizes', 'skills', 'light', 'weapons']
+MORE = ['E1M1', 'E2M4', 'E4M2', 'MAP01', 'MAP07', 'MAP19']  # the maps that have all sets
+SOME = 3  # places of each size and skill
+LIT = 16
+FAR, EVERY_SKILL = 1024, 7  # map units; the bits of a thing's options
+SKILL, SIZE_OF_VIEW = 3, 11
+PISTOL = (weapons.raised('PISG'),)
+HELD = [PISTOL, (weapons.raised('PUNG'),), (weapons.raised('SHTG', 'B'),), (weapons.raised('PISG', 'B'),
+        weapons.raised('PISF', 'A', 1)), (weapons.raised('MISG', 'B'), weapons.raised('MISF', 'B', 1)),
+        (weapons.Layer('CHGG', 'A', 0, -700000, 40 * weapons.UNIT + 12345),)]
+NONE = '-'  # the sum where a run ends without the frame
+
+Vector = collections.namedtuple('Vector', 'set map view skill size weapon x y z angle extralight colormap frame packed '
+                                'answer original bands')
+Group = collections.namedtuple('Group', 'set skill size layers rows')  # views of one run
+
+
+def is_before(row, thing):
+    """Whether a thing is less than FAR before an eye, and within 45 degrees of where it looks."""
+    x, y = thing.x - row.x / levels.UNIT, thing.y - row.y / levels.UNIT
+    off = math.atan2(y, x) - row.angle * 2 * math.pi / levels.TURN
+    return math.hypot(x, y) < FAR and math.cos(off) > math.sqrt(0.5)
+
+
+def by_skill(level, rows):
+    """The rows in whose sight the most things are that not every skill has."""
+    some = [thing for thing in level.things if 0 < thing.options & EVERY_SKILL < EVERY_SKILL]
+    return sorted(rows, key=lambda row: -sum(is_before(row, thing) for thing in some))[:SOME]
+
+
+def groups(level, rows):
+    """The runs of a map: rows at which one can stand, and of some maps all sets."""
+    yield Group('near', SKILL, SIZE_OF_VIEW, (), rows)
+    if level.name not in MORE:
+        return
+    for size in range(3, 11):
+        yield Group('sizes', SKILL, size, (), rows[:SOME])
+    for skill in (1, 2, 4, 5):
+        yield Group('skills', skill, SIZE_OF_VIEW, (), by_skill(level, rows))
+    lit = [row._replace(extralight=i) if i % 2 else row._replace(colormap=2 * i) for i, row in enumerate(rows[:LIT + 1])]
+    yield Group('light', SKILL, SIZE_OF_VIEW, (), lit[1:])
+    for i, layers in enumerate(HELD):
+        yield Group('weapons', SKILL, SIZE_OF_VIEW, layers, rows[i:i + 2])
+
+
+def sum_of(frame):
+    return hashlib.sha256(frame).hexdigest()[:DIGITS] if frame else NONE
+
+
+def bands_of(frame):
+    """Short sums of the bands of a frame, which say where another one differs."""
+    step = SIZE // BANDS
+    sums = (zlib.crc32(frame[step * i:step * (i + 1)]) for i in range(BANDS))
+    return ''.join(f'{it:08x}'[-BAND_DIGITS:] for it in sums) if frame else NONE
+
+
+def words_of(group):
+    """The words of a run for doomview and for the original."""
+    skill, size = str(group.skill), str(group.size)
+    return ['--skill', skill, '--size', size], ['-skill', skill, '-size', size]
+
+
+def run_of(folder, wad, name, group):
+    return original.Run(folder, wad, name, group.rows, *words_of(group), group.layers)
+
+
+def vectors_of(run, group, first):
+    """The vectors of a run, numbered from `first` on."""
+    answer = run.compare()
+    packed, ended = run.still(list(range(len(group.rows))), 'still', original.PACKED)
+    for i, row in enumerate(group.rows):
+        ours, full = run.ours.get(i, b''), run.port.get(i, b'')
+        drawn = b'' if answer[i] in ('ended', 'ranges') else full
+        yield Vector(group.set, run.name, first + i, group.skill, group.size, weapons.word(group.layers), *row,
+                     sum_of(ours), NONE if i in ended else sum_of(packed[i]), answer[i],
+                     '' if answer[i] == 'same' else sum_of(drawn), bands_of(ours))
+
+
+def made(wad, name, places=PLACES):
+    """The vectors of a map, drawn by doomview and by the original."""
+    counts, found = collections.Counter(), []
+    level = levels.read([wad], name)
+    for group in groups(level, paths.places(level, places, SEED)):
+        with tempfile.TemporaryDirectory(prefix='doomview-') as folder:
+            found += vectors_of(run_of(folder, wad, name, group), group, counts[group.set])
+        counts[group.set] += len(group.rows)
+    return found
+
+
+def text(vectors):
+    """The text of a file of vectors."""
+    out = io.StringIO()
+    table = csv.writer(out, lineterminator='\n')
+    table.writerow(Vector._fields)
+    table.writerows(vectors)
+    return out.getvalue()
+
+
+def vector_of(record):
+    """The vector of a row of a file, by the names of its columns."""
+    texts = ('set', 'map', 'weapon', 'frame', 'packed', 'answer', 'original', 'bands')
+    return Vector(**{name: record[name] if name in texts else int(record[name]) for name in Vector._fields})
+
+
+def read(path):
+    """The vectors of a file."""
+    try:
+        with open(path, newline='', encoding='utf-8') as file:
+            found = [vector_of(record) for record in csv.DictReader(file)]
+    except OSError as error:
+        raise Trouble(f'cannot read {path}: {error.strerror}')
+    except (ValueError, KeyError, TypeError, csv.Error):
+        found = []
+    if not found:
+        raise Trouble(f'{path} is no file of vectors; take one of the folder vectors')
+    return found
+
+
+def row_of(vector):
+    return paths.Row(*(getattr(vector, name) for name in paths.Row._fields))
+
+
+def file_name(map_name, kind):
+    """The name of the file of a port's frames of a map and a set."""
+    return map_name + ('' if kind == SETS[0] else f'-{kind}') + '.bin'
+
+
+def key_of(vector):
+    """What the vectors of one run have in common."""
+    return vector.set, vector.skill, vector.size, weapons.of_word(vector.weapon)
+
+
+def frames(wad, vectors):
+    """doomview's frames of vectors of one map and set, one after the other; zeros for a view that a run would end."""
+    drawn = []
+    for key, part in itertools.groupby(vectors, key_of):
+        part = list(part)
+        with tempfile.TemporaryDirectory(prefix='doomview-') as folder:
+            run = run_of(folder, os.path.abspath(wad), part[0].map, Group(*key, [row_of(it) for it in part]))
+            run.draw({i for i, vector in enumerate(part) if vector.frame == NONE})
+            drawn += [run.ours.get(i, bytes(SIZE)) for i in range(len(part))]
+    return b''.join(drawn)
+
+
+def of_frames(path, frames_path):
+    """The vectors of a file of frames, by its name: MAP01.bin, or MAP01-sizes.bin."""
+    name = os.path.basename(frames_path)
+    found = [it for it in read(path) if file_name(it.map, it.set) == name]
+    if not found:
+        raise Trouble(f'{path} has no vectors of {name}; a file of frames is named as its map, such as MAP01.bin')
+    return found
+
+
+def known(vector, frame):
+    """In a word or two what a port's frame that is not doomview's is at a vector, or an empty text."""
+    found = sum_of(frame)
+    if found == vector.packed:
+        return 'packed spans'
+    if vector.answer != 'same' and found == vector.original:
+        return f"the original's frame ({vector.answer})"
+    return ''
