@@ -250,24 +250,22 @@ def masked_files(made2):
 
 
 def large_files():
-    return {'flats-as-patches.wad': many_flats(32767, 12, True),
-            'flats-over-4-gib.wad': many_flats(32768, 131072, False)}
+    return {'entries-65536.wad': many_flats(65500, 12, 19), 'bytes-over-4-gib.wad': many_flats(32768, 131072, 1)}
 
 
-def many_flats(count, size, as_patches):
-    """A level whose sectors name so many flats of that size, which all lie at one place of the file; where they are
-    patches too, a texture of the level's walls has all of them."""
+def many_flats(count, size, patches):
+    """A level whose sectors name so many flats of that size, which all lie at one place of the file. So many of them
+    are patches too, of the texture of the level's walls."""
     names = [f'F{number}' for number in range(count)]
     level = Level()
     for number in range(0, count, 2):
-        level.sector(0, 128, names[number], names[min(number + 1, count - 1)], 160)
+        level.sector(0, 128, names[number], names[number + 1], 160)
     add_walls(level, 0, ['WALL'])
     level.leaf(0)
-    placed = [(number % 32000, 0, number) for number in range(count if as_patches else 1)]
-    lists = [art.texture('NONE', 8, 8), art.texture('WALL', 32000, 2, *placed)]
+    wall = art.texture('WALL', 64, 2, *((number, 0, number) for number in range(patches)))
     return with_copies(wad([
-        ('PLAYPAL', art.palette()), ('COLORMAP', art.colormap(32)), ('PNAMES', art.patch_names(names)),
-        ('TEXTURE1', art.texture_list(lists)), *level.lumps('MAP01'),
+        ('PLAYPAL', art.palette()), ('COLORMAP', art.colormap(32)), ('PNAMES', art.patch_names(names[:patches])),
+        ('TEXTURE1', art.texture_list([art.texture('NONE', 8, 8), wall])), *level.lumps('MAP01'),
         ('F_START', b''), ('FLAT', art.patch([[]], 1).ljust(size, b'\xff'))]), names)
 
 

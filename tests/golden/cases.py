@@ -17,7 +17,7 @@ FULL, MAY_BE_FULL, READS = 'full', 'may be full', 'reads '
 ZONES = (FULL, MAY_BE_FULL)
 ZONE_FULL = '6'  # the status
 ZONE_LINE = re.compile(r'doomview: zone full wanted (\d+) widest (\d+)')
-SECONDS = 60  # after which a run is given up
+SECONDS = 300  # after which a run is given up
 
 
 @dataclasses.dataclass(frozen=True)

@@ -3,7 +3,6 @@ import art
 from damage import half, put, word
 from wads import beside, wad
 
-
 # Patches that stand in the place of BARS too, the grate's.
 IN_GRATES = ['cut', 'holed', 'low-post', 'overlapping-posts', 'narrow']
 
