@@ -28,6 +28,11 @@ def page(template, data):
     return text.replace(PLACE, packed(data)).encode()
 
 
+def text_of(png):
+    """A PNG as a page has it."""
+    return base64.b64encode(png).decode()
+
+
 def picture(pixels, palette, width=WIDTH, height=HEIGHT):
-    """A picture as a page has it: a PNG as text."""
-    return base64.b64encode(indexed_png(width, height, bytes(pixels), palette)).decode()
+    """A picture as a page has it."""
+    return text_of(indexed_png(width, height, bytes(pixels), palette))
