@@ -159,8 +159,8 @@ class Compare(Tools):
         found = pages_shown.shown(self.at('page.html'), '''
             const text = id => document.getElementById(id).textContent, all = [];
             await wait(); all.push(text('head'), text('told'), [...document.querySelectorAll('#painters button')].map(it => it.textContent));
-            press('f'); await wait(); all.push(text('told')); press('n'); await wait(); all.push(text('told'));
-            press('ArrowLeft'); await wait(); all.push(text('told'));
+            hit('f'); await wait(); all.push(text('told')); hit('n'); await wait(); all.push(text('told'));
+            hit('ArrowLeft'); await wait(); all.push(text('told'));
             all.push(canvases(0).map(colours)); document.querySelector('#painters button').click();
             all.push(data.views.map((_, k) => document.getElementById('v' + k).hidden)); return all;''')
         self.assertEqual(found[0], 'ours.bin and port.bin: views 3 same 1 different 2 pixels 3')
