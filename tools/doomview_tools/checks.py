@@ -8,13 +8,14 @@ import difflib
 import struct
 
 from . import ground, program
+from .ground import SKY
 from .levels import PLAYER_1
 from .traces import patch_names
 from .trouble import WadError
 from .wads import clean, read
 
 ERROR, HOLE, ODD = 'error', 'hole', 'odd'
-SKY, SHOWN = 'F_SKY1', 8
+SHOWN = 8
 TALL = 128  # rows of a wall after which its texture begins anew
 UPPER_UNPEGGED, LOWER_UNPEGGED, TWO_SIDED = 8, 16, 4
 PARTS = ('upper', 'lower', 'middle')

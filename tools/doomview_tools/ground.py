@@ -11,6 +11,7 @@ HEIGHT, RADIUS, STEP_UP = 56, 16, 24  # of a player, in map units
 STARTS = {1, 2, 3, 4, 11}  # types of things: of players, and of a deathmatch
 TELEPORTS = {39, 97, 125, 126, 174, 195, 207, 208, 209, 210, 243, 244, 262, 263}  # specials of lines
 BLOCKS = 1  # the flag of a line that nobody passes
+SKY = 'F_SKY1'
 LINTEL = 4  # what a door that is open keeps of its height below the ceiling beside it
 SQUARE = 128
 SECTOR = struct.Struct('<hh8s8shhh')
@@ -95,14 +96,17 @@ class Plan:
         return ways
 
     def doors(self):
-        """The ceilings that shut sectors have once they are open: by the least one beside each."""
+        """The ceilings that doors have once they are open, by the least one beside each. A door is a shut sector with a
+        tag, or behind a line with a special, whose ceiling is no sky."""
         sectors, least = self.level.sectors, {}
+        behind = {self.beside[number][1] for number, line in enumerate(self.level.lines) if line.special}
         for pair in self.beside:
             for one, other in (pair, pair[::-1]):
                 if None not in pair and is_shut(sectors[one]) and not is_shut(sectors[other]):
                     least[one] = min(least.get(one, sectors[other].ceiling), sectors[other].ceiling)
-        return {sector: ceiling - LINTEL for sector, ceiling in least.items()
-                if ceiling - LINTEL > sectors[sector].floor}
+        return {number: ceiling - LINTEL for number, ceiling in least.items()
+                if (sectors[number].tag or number in behind) and sectors[number].ceiling_flat != SKY
+                and ceiling - LINTEL > sectors[number].floor}
 
 
 def is_shut(sector):

@@ -54,7 +54,7 @@ def hall():
             ('SEGS', b''.join(struct.pack('<6H', *it) for it in segs)),
             ('SSECTORS', b''.join(struct.pack('<HH', 1, i) for i in range(4))),
             ('NODES', b''.join(struct.pack('<12h2H', *it) for it in nodes)),
-            ('SECTORS', b''.join(struct.pack('<hh8s8shhh', *it, name('F'), name('F'), 160, 0, 0) for it in sectors))]
+            ('SECTORS', b''.join(struct.pack('<hh8s8shhh', *it, name('F'), name('F'), 160, 0, tag) for tag, it in enumerate(sectors)))]
 
 
 class LimitsMap(Tools):

@@ -22,8 +22,8 @@ prints of each count the greatest with the row of its view. The original ends at
 
 It looks from places of a grid at which a player can stand: within the lines, 56 units of height, 16 off the walls, in
 sectors to which a way leads from a start, the eye 41 over the floor, in 8 directions. Places with high counts are cut in
-four, twice, and looked at in 16. All is counted a second time with the doors open: each sector without height is raised
-to 4 under the lowest ceiling beside it.
+four, twice, and looked at in 16. All is counted a second time with the doors open: each sector without height that has a
+tag, or stands behind a line with a special, is raised to 4 under the lowest ceiling beside it.
 
 OUT.html is a page of one file: the map with its cells, light for few and dark for many, black with a cross where a view
 is over a limit; the worst views with their pictures; and the row of a view for a path, to copy. Keys and mouse work, and
@@ -90,7 +90,8 @@ def numbers(plan, states, options):
 
 def summary(found):
     """The numbers as lines for a user."""
-    yield (f'{found["map"]} of {found["wad"]}: a player reaches {found["reached"]} of its {found["sectors"]} sectors')
+    name = os.path.basename(found['wad'])
+    yield f'{found["map"]} of {name}: a player reaches {found["reached"]} of its {found["sectors"]} sectors'
     for state in found['states']:
         yield f'doors {state["doors"]}: {state["views"]} views from {state["places"]} places'
         for name, it in state['counts'].items():
