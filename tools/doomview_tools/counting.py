@@ -1,5 +1,7 @@
 """Runs of jobs over many rows of a path, several at a time: what `limits` counts of each, frames and traces."""
+import contextlib
 import os
+import signal
 import subprocess
 import sys
 
@@ -14,11 +16,26 @@ CAPPED = ['fragments', 'sprites']  # which `limits` counts no further than to th
 RAISED = ['--planes', '1024', '--openings', '245760']  # so that what is over the original's limit is counted too
 LEAST_ROWS, PARTS = 400, 3  # rows of a run, and runs for each processor, so that all end at about the same time
 USAGE, TROUBLE = 1, 2
+ENDING = (signal.SIGINT, signal.SIGTERM, signal.SIGHUP)
 
 
 def is_over(name, count, limits):
     """Whether a count passes its limit; one that is counted no further does so where it comes to it."""
     return count >= limits[name] if name in CAPPED else count > limits[name]
+
+
+@contextlib.contextmanager
+def held_signals():
+    """Lets a signal that ends this process wait for the end of a block."""
+    came = []
+    kept = {number: signal.signal(number, lambda number, _: came.append(number)) for number in ENDING}
+    try:
+        yield
+    finally:
+        for number, handler in kept.items():
+            signal.signal(number, handler)
+        for number in came:
+            signal.raise_signal(number)
 
 
 class Progress:
@@ -43,14 +60,14 @@ class Runs:
         self.words = [name, *wads, *RAISED, *words]
         self.given = program.completed(['limits', *self.words])[1:]
         self.program, self.folder, self.jobs, self.progress = program.ready(), folder, jobs, progress
-        self.runs, self.made = [], 0
+        self.runs, self.made = [], 0  # those that go on, shared with `over`
 
     def over(self, wads, added):
         """The same with one WAD more behind its WADs."""
         other = Runs.__new__(Runs)
         other.__dict__.update(self.__dict__)
         at = self.given.index(wads[-1]) + 1
-        other.given, other.runs = self.given[:at] + [added] + self.given[at:], []
+        other.given = self.given[:at] + [added] + self.given[at:]
         return other
 
     def start(self, job, rows):
@@ -58,10 +75,10 @@ class Runs:
         self.made += 1
         base = os.path.join(self.folder, f'{id(self)}.{self.made}')
         write_whole(base + '.csv', paths.text(rows).encode())
-        with open(base + '.out', 'wb') as out, open(base + '.err', 'wb') as err:
+        with open(base + '.out', 'wb') as out, open(base + '.err', 'wb') as err, held_signals():
             run = subprocess.Popen([self.program, job, *self.given, '--path', base + '.csv'], stdout=out, stderr=err,
                                    stdin=subprocess.DEVNULL, env=program.environment())
-        self.runs.append(run)
+            self.runs.append(run)
         return run, base
 
     def ended(self, run, base, job):

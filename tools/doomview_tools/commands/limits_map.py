@@ -139,6 +139,7 @@ def run(options):
         try:
             return looked(options, runs, folder, progress)
         finally:
+            runs.stop()
             progress.clear()
 
 
