@@ -15,7 +15,7 @@ LIMITS = {'planes': 128, 'openings': 20480, 'fragments': 256, 'sprites': 128}  #
 CAPPED = ['fragments', 'sprites']  # which `limits` counts no further than to the original's limit
 RAISED = ['--planes', '1024', '--openings', '245760']  # so that what is over the original's limit is counted too
 LEAST_ROWS, PARTS = 400, 3  # rows of a run, and runs for each processor, so that all end at about the same time
-USAGE, TROUBLE = 1, 2
+USAGE, TROUBLE, LIMIT = 1, 2, 5  # statuses
 ENDING = (signal.SIGINT, signal.SIGTERM, signal.SIGHUP)
 
 
@@ -85,15 +85,14 @@ class Runs:
         """The output of a run; a Trouble that is told already where it failed."""
         run.wait()
         self.runs.remove(run)
-        output, said = (read(base + ending) for ending in ('.out', '.err'))
-        for ending in ('.csv', '.out', '.err'):
-            os.remove(base + ending)
-        done = program.ended(run.returncode, output, said)
-        if done.status not in (0, 5):
+        done = program.ended(run.returncode, *(read(base + ending) for ending in ('.out', '.err')))
+        if done.status not in (0, LIMIT):
             self.progress.clear()
             trouble = explained([job, *self.words, '--path', base + '.csv'], done)
             raise Ended(TROUBLE if trouble.status == USAGE else trouble.status)
-        return output
+        for ending in ('.csv', '.out', '.err'):
+            os.remove(base + ending)
+        return done.output
 
     def outputs(self, job, rows, what=''):
         """What a job writes of rows, in parts, several runs at a time; none goes on where this ends early."""

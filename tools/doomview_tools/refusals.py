@@ -292,7 +292,8 @@ def all_wrong(scene, code):
     try:
         art = checks.Art(scene.wads)
         if art.textures:
-            yield from (f'{it.where}: {it.told}.' for it in CHECKS[code](checks.Check(scene.level, art)))
+            for it in CHECKS[code](checks.Check(scene.level, art)):
+                yield f'{it.where}: {it.told}' + ('' if it.told.endswith('?') else '.')
     except (Trouble, OSError):
         return
 

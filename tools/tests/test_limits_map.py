@@ -147,6 +147,7 @@ class LimitsMap(Tools):
         status, output, error = self.run_tool('limits-map', 'hall.wad', 'MAP02', 'page.html', doomview=self.counting)
         self.assertEqual((status, output, os.path.exists(self.at('page.html'))), (2, b'', False))
         self.assertTrue(error.startswith('doomview: refused 603\nexplain: 603: SSECTORS has no record'), error)
+        self.assertNotIn('cannot be read', error)
         for part, *words in [('has to end in .html', 'page.htm'), ('there is no folder absent', 'absent/page.html'),
                              ('multiple of 8', '--step', '60'), ('--planes: a number from 128', '--planes', '1'),
                              ('there is no folder absent', '--worst', 'absent/rows')]:
