@@ -4,6 +4,8 @@ import zlib
 
 from .files import write_whole
 
+SIGNATURE = b'\x89PNG\r\n\x1a\n'
+RGB, INDEXED = 2, 3  # colour types
 GREYS = bytes(shade for shade in range(256) for _ in 'rgb')
 
 
@@ -13,8 +15,19 @@ def chunk(kind, data):
 
 def png(width, height, rgb):
     """The bytes of a PNG of three bytes a pixel."""
-    lines = b''.join(b'\0' + rgb[3 * width * row:3 * width * (row + 1)] for row in range(height))
-    return (b'\x89PNG\r\n\x1a\n' + chunk(b'IHDR', struct.pack('>IIBBBBB', width, height, 8, 2, 0, 0, 0))
+    return whole(width, height, RGB, rgb, b'')
+
+
+def indexed_png(width, height, pixels, palette):
+    """The bytes of a PNG of one byte a pixel, with the palette that gives their colours."""
+    return whole(width, height, INDEXED, pixels, chunk(b'PLTE', bytes(palette)))
+
+
+def whole(width, height, kind, pixels, more):
+    """The bytes of a PNG, with chunks before those of the pixels."""
+    step = (3 if kind == RGB else 1) * width
+    lines = b''.join(b'\0' + pixels[step * row:step * (row + 1)] for row in range(height))
+    return (SIGNATURE + chunk(b'IHDR', struct.pack('>IIBBBBB', width, height, 8, kind, 0, 0, 0)) + more
             + chunk(b'IDAT', zlib.compress(lines, 9)) + chunk(b'IEND', b''))
 
 

@@ -6,8 +6,8 @@ import os
 import re
 import struct
 
-from . import home, levels, traces, wads
-from .trouble import WadError
+from . import checks, home, levels, traces, wads
+from .trouble import Trouble, WadError
 
 FIELDS = [['x', 'y', 'angle', 'type', 'options'],
           ['vertex 1', 'vertex 2', 'flags', 'special', 'tag', 'side 0', 'side 1'],
@@ -282,6 +282,22 @@ def medusa(scene, numbers):
         yield f'lines of two sides with {name}: {shown}.'
 
 
+# Of each code the checks that find all that is refused for it.
+CHECKS = {901: checks.Check.missing_textures, 903: checks.Check.missing_flats, 905: checks.Check.middles,
+          801: checks.Check.pictures}
+
+
+def all_wrong(scene, code):
+    """Sentences on all that is wrong in the way of a refusal, since a run tells the first alone."""
+    try:
+        art = checks.Art(scene.wads)
+        if art.textures:
+            for it in CHECKS[code](checks.Check(scene.level, art)):
+                yield f'{it.where}: {it.told}' + ('' if it.told.endswith('?') else '.')
+    except (Trouble, OSError):
+        return
+
+
 HINTS = {401: packed_file, 402: packed_file, **dict.fromkeys((603, 604, 605, 606), odd_nodes), 607: deep_nodes,
          901: no_texture, 903: no_flat, 905: medusa}
 
@@ -327,3 +343,5 @@ def refused(code, numbers, words):
     yield f'{code}: {wrong}' + (f': {at}' if at else '') + whose + (f'. To mend it: {mend}.' if mend else '.')
     if code in HINTS:
         yield from HINTS[code](scene, numbers)
+    if code in CHECKS and scene.label is not None:
+        yield from all_wrong(scene, code)

@@ -2,8 +2,11 @@
 import os
 import struct
 import unittest
+import zlib
 
+import pages_shown
 from made_files import Tools, name, pixels_of, wad
+from doomview_tools import png
 
 FRAME, WIDTH = 64000, 320
 
@@ -142,6 +145,75 @@ class Compare(Tools):
         self.assertEqual([pixels[3 * 320 * k:3 * 320 * k + 3] for k in range(3)],
                          [b'\xff\xff\xff', b'\x05\x05\x05', b'\xff\x00\x00'])
 
+    @unittest.skipUnless(pages_shown.BROWSER, 'no Chromium here')
+    def test_page(self):
+        """The page shows the frames, names the painter of a pixel, and its keys work."""
+        self.write('ours.bin', painted() + painted((1, 1, 6), (5, 5, 8)) + painted((9, 9, 7)))
+        self.write('port.bin', painted() * 3)
+        wall, sprite = (1, 2, 4, 1, 6, 0), (5, 1, 2, 1, 8, 0)
+        self.write('trace.bin', traced() + traced((1, 1, wall), (5, 5, sprite)) + traced((9, 9, sprite)))
+        lists = ('TEXTURE1', texture_list(['NONE', 'STONE']))
+        self.write('names.wad', wad([('PLAYPAL', bytes(range(256)) * 3), ('</A>', b''), lists]))
+        words = ['ours.bin', 'port.bin', '--wad', 'names.wad', '--trace', 'trace.bin', '--html', 'page.html']
+        self.assertEqual(self.run_tool('compare', *words)[0], 1)
+        found = pages_shown.shown(self.at('page.html'), '''
+            const text = id => document.getElementById(id).textContent, all = [];
+            await wait(); all.push(text('head'), text('told'), [...document.querySelectorAll('#painters button')].map(it => it.textContent));
+            hit('f'); await wait(); all.push(text('told')); hit('n'); await wait(); all.push(text('told'));
+            hit('ArrowLeft'); await wait(); all.push(text('told'));
+            all.push(canvases(0).map(colours)); document.querySelector('#painters button').click();
+            all.push(data.views.map((_, k) => document.getElementById('v' + k).hidden)); return all;''')
+        self.assertEqual(found[0], 'ours.bin and port.bin: views 3 same 1 different 2 pixels 3')
+        self.assertEqual(found[1], 'view 1 column 1 row 1: ours 6, port 5  DIFFERS   wall  STONE  fragment 4')
+        self.assertEqual(found[2], ['sprite </A>: 2 in 2 views', 'wall STONE: 1 in 1 view'])
+        self.assertEqual(found[3], 'view 1 column 5 row 5: ours 8, port 5  DIFFERS   sprite  </A>  sprite 2')
+        self.assertEqual(found[4], 'view 2 column 9 row 9: ours 7, port 5  DIFFERS   sprite  </A>  sprite 2')
+        self.assertEqual(found[5], 'view 2 column 8 row 9: ours 5, port 5   nothing  -')
+        self.assertEqual(found[6][0], 3)
+        self.assertEqual(found[7], [False, False])
+        self.refuses('there is no folder absent', 'compare', *words[:-1], 'absent/page.html')
+
+    def test_port_pictures(self):
+        """PNG and PCX by their colours, or by their entries where the palette is the same."""
+        palette = bytes(part for i in range(256) for part in (i, i // 2, 9))
+        twice = palette[:30] + palette[24:27] + palette[33:]
+        frame = painted((1, 1, 6), (5, 5, 8))
+        self.write('ours.bin', frame * 4)
+        self.write('names.wad', wad([('PLAYPAL', palette)]))
+        self.write('twice.wad', wad([('PLAYPAL', twice)]))
+        os.mkdir(self.at('shots'))
+        rgb = b''.join(palette[3 * it:3 * it + 3] for it in frame)
+        self.write('shots/view2.png', png.png(320, 200, rgb))
+        self.write('shots/view10.png', png.indexed_png(320, 200, painted((1, 1, 6)), palette))
+        head = struct.pack('<4B4H', 10, 5, 1, 8, 0, 0, 319, 199).ljust(65, b'\0') + struct.pack('<BH', 1, 320)
+        body = b''.join(bytes([0xc1, it]) for it in frame)
+        self.write('shots/view3.PCX', head.ljust(128, b'\0') + body + b'\x0c' + palette)
+        lines, above = b'', bytes(960)
+        for row in range(200):  # each filter of a PNG in turn
+            line, kind = rgb[960 * row:960 * row + 960], row % 3
+            before = (bytes(960), bytes(3) + line[:-3], above)[kind]
+            lines += bytes([kind]) + bytes((a - b) & 255 for a, b in zip(line, before))
+            above = line
+        chunks = png.chunk(b'IHDR', struct.pack('>IIBBBBB', 320, 200, 8, 2, 0, 0, 0)) + png.chunk(b'IDAT', zlib.compress(lines))
+        self.write('shots/view4.png', png.SIGNATURE + chunks)
+        status, output, error = self.run_tool('compare', 'ours.bin', 'shots', '--wad', 'names.wad')
+        self.assertEqual((status, error), (1, ''))
+        self.assertEqual(output.decode().splitlines(), [
+            'view 3 pixels 1 rows 5 to 5 columns 5 to 5 first at row 5 column 5: 8, port 5',
+            'views 4 same 3 different 1 pixels 1'])
+        self.write('one.bin', frame)
+        words = ['compare', 'one.bin', 'shots/view2.png']
+        done = self.run_tool(*words, '--wad', 'twice.wad')
+        self.assertEqual(done[:2], (0, b'views 1 same 1 different 0 pixels 0\nentries of the palette with the same colour: '
+                                       b'8 and 10; where ours has one of them, the port counts as having it too\n'))
+        self.refuses('name it by --wad', *words)
+        self.write('other.wad', wad([('PLAYPAL', bytes(768))]))
+        self.refuses('the colour 5,2,9 at row 0 column 0 is in no entry of the palette', *words, '--wad', 'other.wad')
+        self.write('wide.png', png.png(2, 1, bytes(6)))
+        self.refuses('wide.png is 2 by 1', 'compare', 'one.bin', 'wide.png', '--wad', 'names.wad')
+        self.write('cut.png', png.SIGNATURE + chunks[:300])
+        self.refuses('cut.png is no PNG or PCX', 'compare', 'one.bin', 'cut.png', '--wad', 'names.wad')
+
     def test_full_output(self):
         """What cannot be written is told."""
         self.write('ours.bin', painted())
@@ -158,7 +230,7 @@ class Compare(Tools):
         self.write('ours.bin', painted())
         self.write('short.bin', painted()[:-1])
         for part, words in [('no file absent', ['absent']), ('has 63999 bytes, and a view has 64000', ['short.bin']),
-                            ('is no plain file', ['bin']),
+                            ('bin has no pictures whose names end in .png or .pcx', ['bin']),
                             ('and a view has 512000', ['ours.bin', '--trace', 'ours.bin']),
                             ('is not the trace of 1 views', ['ours.bin', '--trace', 'trace']),
                             ('is no WAD', ['ours.bin', '--wad', 'ours.bin']), ('--help shows its words', []),

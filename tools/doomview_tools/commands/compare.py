@@ -2,7 +2,9 @@
 import os
 import sys
 
-from .. import cli, frames, png, traces, vectors, wads
+from .. import cli, frames, pictures, png, traces, vectors, wads
+from ..compare_page import ComparePage
+from ..files import check_target, write_whole
 from ..frames import HEIGHT, SIZE, WIDTH
 from ..trouble import Trouble
 
@@ -24,10 +26,15 @@ With --vectors a line ends with what is known of the port's frame there: that it
 where doomview departs from it (docs/VECTORS.md). PORT is named by the map then, as MAP01.bin or MAP01-sizes.bin.
 
 --png writes a picture for each view that differs: OURS, PORT and the differences beside each other (red over grey), in
-the palette of the WADs or else in greys.
+the palette of the WADs or else in greys. --html writes one page of the views that differ, in most pixels if there are
+many: it names the pixel under the pointer and, with a trace, what painted it, and sorts the differences by painter.
+
+PORT may also be a picture, PNG or PCX of 320 by 200, or a folder of them, a view each, in the order of the numbers in
+their names. Their colours have to be those of the palette of the WADs.
 ''', '''
 $ doomview compare ours.bin port.bin
 $ doomview compare ours.bin port.bin --wad freedoom2.wad --trace trace.bin --png out --most 10
+$ doomview compare ours.bin shots --wad freedoom2.wad --trace trace.bin --html compared.html
 ''', ends='''
  0  all views are the same
  1  some differ
@@ -37,12 +44,13 @@ $ doomview compare ours.bin port.bin --wad freedoom2.wad --trace trace.bin --png
 
 def add_words(parser):
     parser.add_argument('ours', metavar='OURS', help='the frames that doomview drew')
-    parser.add_argument('port', metavar='PORT', help='the frames that the port drew')
+    parser.add_argument('port', metavar='PORT', help='the frames that the port drew, or its pictures')
     parser.add_argument('--trace', metavar='FILE', help='what doomview trace wrote: names what painted the pixels')
     parser.add_argument('--wad', metavar='WAD', action='append', default=[], help='a WAD of the run; once for each, in '
                         'their order')
     parser.add_argument('--vectors', metavar='FILE', help='the vectors whose views the files have')
     parser.add_argument('--png', metavar='FOLDER', help='writes a picture of each view that differs into FOLDER')
+    parser.add_argument('--html', metavar='OUT.html', help='writes a page of the views that differ')
     parser.add_argument('--most', metavar='N', type=cli.number(0, sys.maxsize), default=sys.maxsize,
                         help='tells of N views that differ, and counts the others')
 
@@ -70,12 +78,53 @@ def put_picture(folder, view, ours, port, places, palette):
     png.write_png(path, WIDTH * len(pictures), HEIGHT, frames.beside(pictures))
 
 
+class FramesOfFile:
+    """The frames of a port, one behind the other."""
+
+    def __init__(self, path):
+        self.path, self.count = path, frames.count_views(path)
+
+    def frame(self, view, ours):
+        with open(self.path, 'rb') as file:
+            file.seek(SIZE * view)
+            return file.read(SIZE)
+
+    def told(self):
+        return []
+
+
+class FramesOfPictures:
+    """The frames of a port's pictures, by a palette."""
+
+    def __init__(self, path, options, names):
+        self.files, self.palette = pictures.files_of(path), pictures.Palette(names.palette)
+        self.count = len(self.files)
+        if not options.wad:
+            raise Trouble(f'{path}: the palette that tells the colours of pictures is that of a WAD; name it by --wad')
+
+    def frame(self, view, ours):
+        return self.palette.frame(self.files[view], ours)
+
+    def told(self):
+        return self.palette.told()
+
+
+def port_of(options, names):
+    """The frames of the port, as they are written."""
+    if os.path.isdir(options.port) or pictures.is_picture(options.port) and os.path.isfile(options.port):
+        return FramesOfPictures(options.port, options, names)
+    return FramesOfFile(options.port)
+
+
 class Comparison:
     """The views of both files, and what is told of those that differ."""
 
     def __init__(self, options):
         self.options, self.names = options, traces.Names([wads.find(name) for name in options.wad])
-        self.counts = [frames.count_views(path) for path in (options.ours, options.port)]
+        if options.html:
+            check_target(options.html)
+        self.page, self.port = ComparePage(self.names), port_of(options, self.names)
+        self.counts = [frames.count_views(options.ours), self.port.count]
         self.known = vectors.of_frames(options.vectors, options.port) if options.vectors else []
         self.different = self.pixels = 0
         if options.trace and traces.count_views(options.trace) != self.counts[0]:
@@ -85,9 +134,10 @@ class Comparison:
 
     def views(self):
         """The number and both frames of each view that both files have."""
-        with open(self.options.ours, 'rb') as ours, open(self.options.port, 'rb') as port:
+        with open(self.options.ours, 'rb') as file:
             for view in range(min(self.counts)):
-                yield view, ours.read(SIZE), port.read(SIZE)
+                ours = file.read(SIZE)
+                yield view, ours, self.port.frame(view, ours)
 
     def records(self, view):
         with open(self.options.trace, 'rb') as file:
@@ -111,8 +161,16 @@ class Comparison:
                 self.pixels += len(places)
                 if self.different <= self.options.most:
                     self.tell(view, ours, port, places)
+                if self.options.html:
+                    trace = self.records(view) if self.options.trace else b''
+                    self.page.add(view, told(view, ours, port, places), (ours, port), places, trace)
         both = min(self.counts)
-        print(f'views {both} same {both - self.different} different {self.different} pixels {self.pixels}')
+        last = f'views {both} same {both - self.different} different {self.different} pixels {self.pixels}'
+        print(last)
+        for sentence in self.port.told():
+            print(sentence)
+        if self.options.html:
+            write_whole(self.options.html, self.page.page(f'{self.options.ours} and {self.options.port}: {last}'))
         if self.counts[0] != self.counts[1]:
             print(f'{self.options.ours} has {self.counts[0]} views, {self.options.port} {self.counts[1]}')
         return self.different > 0 or self.counts[0] != self.counts[1]

@@ -1,0 +1,159 @@
+"""doomview limits-map: what the views of a whole map count."""
+import json
+import os
+import tempfile
+
+from .. import cli, counting, ground, jobs, levels, paths, wads
+from ..cells import Grid
+from ..counting import COUNTS, LIMITS, Progress, Runs
+from ..files import check_target, write_output, write_whole
+from ..limits_page import State, limits_page
+from ..png import GREYS
+from ..trouble import Trouble
+
+OVER = 1
+LEAST_STEP, MOST_STEP = 8, 1024
+WITHOUT = ('--path', '--planes', '--openings', '--weapon')  # options of limits that the tool gives itself, or not
+PAGE = cli.Page(
+    'limits-map', 'what the views of a whole map count, as a page: planes, openings, fragments, sprites', '''
+Counts what the views of a whole map have: planes, openings, fragments and sprites, as doomview limits counts them, and
+prints of each count the greatest with the row of its view. The original ends at more than 128 planes or 20,480 openings;
+256 fragments and 128 sprites are counted no further, and count as over here, since it draws no more of them.
+
+It looks from places of a grid at which a player can stand: within the lines, 56 units of height, 16 off the walls, in
+sectors to which a way leads from a start, the eye 41 over the floor, in 8 directions. Places with high counts are cut in
+four, twice, and looked at in 16. All is counted a second time with the doors open: each sector without height that has a
+tag, or stands behind a line with a special, is raised to 4 under the lowest ceiling beside it.
+
+OUT.html is a page of one file: the map with its cells, light for few and dark for many, black with a cross where a view
+is over a limit; the worst views with their pictures; and the row of a view for a path, to copy. Keys and mouse work, and
+the page says which.
+''', '''
+$ doomview limits-map freedoom2.wad MAP01 map01.html
+$ doomview limits-map --iwad freedoom2.wad mymap.wad MAP01 --json
+$ doomview limits-map freedoom2.wad MAP12 --planes 256 --worst worst.csv
+''', 'the program', '''
+ 0  no view is over a limit
+ 1  some are
+ 2  the map is refused, or the tool could not begin; sentences say why
+ other statuses are those of doomview limits
+''')
+
+
+def add_words(parser):
+    cli.add_level(parser)
+    parser.add_argument('page', metavar='OUT.html', nargs='?', help='the page, whose name ends in .html')
+    parser.add_argument('--json', action='store_true', help='prints the numbers as JSON')
+    parser.add_argument('--worst', metavar='FILE', help='writes the worst views of each count as a camera path to FILE')
+    parser.add_argument('--all', action='store_true',
+                        help='looks from places to which no way leads from a start, too; the page tells them apart')
+    parser.add_argument('--shut', action='store_true', help='leaves the doors shut, and does not count a second time')
+    for name in ('planes', 'openings'):
+        option = jobs.options()[f'--{name}']
+        parser.add_argument(option.name, metavar='N', type=cli.number(option.least, option.greatest),
+                            default=LIMITS[name], help=f'from more {name} on a view is over; {option.least} to '
+                            f'{option.greatest}; else {LIMITS[name]}')
+    parser.add_argument('--step', metavar='N', type=cli.number(LEAST_STEP, MOST_STEP), default=64,
+                        help=f'map units between places, a multiple of {LEAST_STEP}; else 64, or more on a large map')
+    parser.add_argument('--directions', metavar='N', type=cli.number(1, 64), default=8,
+                        help='in how many directions to look; else 8')
+    parser.add_argument('--views', metavar='N', type=cli.number(1, 20), default=6,
+                        help='how many of the worst views of each count; else 6')
+    parser.add_argument('--jobs', metavar='N', type=cli.number(1, 1000), default=len(os.sched_getaffinity(0)),
+                        help='how many runs at a time; else one a processor')
+    cli.add_job_options(parser, 'limits', WITHOUT)
+
+
+def check(options):
+    """A Trouble where the words cannot do, before anything is counted."""
+    if options.step % LEAST_STEP:
+        raise Trouble(f'--step is a multiple of {LEAST_STEP}, and {options.step} is none')
+    if options.page is not None and not options.page.endswith('.html'):
+        raise Trouble(f'the name of the page has to end in .html, and {options.page} does not')
+    for path in filter(None, (options.page, options.worst)):
+        check_target(path)
+
+
+def numbers(plan, states, options):
+    """All numbers of the summary."""
+    def of_count(grid, name):
+        worst = grid.worst(name, 1)
+        return {'most': worst[0][0] if worst else 0, 'limit': options.limits[name], 'over': grid.over[name],
+                'row': list(worst[0][1][:4]) if worst else None}
+    shown = [{'doors': state.label, 'places': len(state.grid.cells), 'views': state.grid.views,
+              'step': state.grid.step, 'counts': {name: of_count(state.grid, name) for name in COUNTS}}
+             for state in states]
+    return {'map': plan.level.name, 'wad': plan.level.wad, 'sectors': len(plan.level.sectors),
+            'reached': len(states[0].grid.reached), 'over': any(state.grid.is_bad() for state in states),
+            'states': shown}
+
+
+def summary(found):
+    """The numbers as lines for a user."""
+    name = os.path.basename(found['wad'])
+    yield f'{found["map"]} of {name}: a player reaches {found["reached"]} of its {found["sectors"]} sectors'
+    for state in found['states']:
+        yield f'doors {state["doors"]}: {state["views"]} views from {state["places"]} places'
+        for name, it in state['counts'].items():
+            most = f'{it["most"]} or more' if name in counting.CAPPED and it['most'] >= it['limit'] else it['most']
+            over = f'{it["over"]} views over' if it['over'] else 'none over'
+            row = ','.join(map(str, it['row'])) if it['row'] else '-'
+            yield f'  {name:9} most {most} of {it["limit"]}, {over}, row {row}'
+
+
+def states_of(plan, runs, options, folder, progress):
+    """The map with its doors shut, and open unless that is left out."""
+    reached, doors = plan.reached(), plan.doors()
+    if not reached and not options.all:
+        raise plan.level.error('has no start of a player; --all looks from all places')
+    found = [State('shut', Grid(ground.Ground(plan), runs, reached, options, 'doors shut, '), runs)]
+    if doors and not options.shut:
+        path = os.path.join(folder, 'open.wad')
+        write_whole(path, ground.with_ceilings(plan.level, doors))
+        opened = ground.Plan(levels.read([path], plan.level.name))
+        more = runs.over(options.files, path)
+        found.append(State('open', Grid(ground.Ground(opened), more, reached, options, 'doors open, '), more))
+    if not any(state.grid.cells for state in found):
+        raise plan.level.error('has no place with room for a player')
+    return found, doors
+
+
+def palette_of(files):
+    lumps = dict(lump for path in files for lump in wads.read(path))
+    return lumps.get('PLAYPAL', GREYS)[:len(GREYS)]
+
+
+def worst_path(states, options):
+    """The worst views of all counts as a camera path, each once."""
+    rows = [row for state in states for row in state.views(options.views)[0]]
+    return paths.text(list(dict.fromkeys(rows)))
+
+
+def run(options):
+    check(options)
+    options.files = cli.wads_of(options)
+    options.limits = {**LIMITS, 'planes': options.planes, 'openings': options.openings}
+    progress = Progress('limits-map')
+    with tempfile.TemporaryDirectory(prefix='doomview-') as folder:
+        runs = Runs(options.map, options.files, cli.job_words(options), folder, options.jobs, progress)
+        try:
+            return looked(options, runs, folder, progress)
+        finally:
+            runs.stop()
+            progress.clear()
+
+
+def looked(options, runs, folder, progress):
+    """Looks at the map, prints the summary and writes the files; the status."""
+    runs.check()
+    plan = ground.Plan(levels.read(options.files, options.map))
+    states, doors = states_of(plan, runs, options, folder, progress)
+    progress.tell('drawing the worst views')
+    if options.page:
+        write_whole(options.page, limits_page(plan, options.files, states, palette_of(options.files), options, doors))
+    if options.worst:
+        write_whole(options.worst, worst_path(states, options).encode())
+    found = numbers(plan, states, options)
+    progress.clear()
+    write_output(json.dumps(found, indent=1) + '\n' if options.json else ''.join(f'{it}\n' for it in summary(found)))
+    return OVER if found['over'] else 0

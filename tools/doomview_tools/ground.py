@@ -1,0 +1,192 @@
+"""Where a player can stand in a level: between its lines, with room, off the walls, and on a way from a start.
+
+A row is a y between two whole numbers, so that no vertex lies on it."""
+import bisect
+import collections
+import struct
+
+from .wads import MAP_LUMPS, packed
+
+HEIGHT, RADIUS, STEP_UP = 56, 16, 24  # of a player, in map units
+STARTS = {1, 2, 3, 4, 11}  # types of things: of players, and of a deathmatch
+TELEPORTS = {39, 97, 125, 126, 174, 195, 207, 208, 209, 210, 243, 244, 262, 263}  # specials of lines
+BLOCKS = 1  # the flag of a line that nobody passes
+SKY = 'F_SKY1'
+LINTEL = 4  # what a door that is open keeps of its height below the ceiling beside it
+SQUARE = 128
+SECTOR = struct.Struct('<hh8s8shhh')
+
+Crossing = collections.namedtuple('Crossing', 'x left right line')  # the sectors beside it, or None
+
+
+class Plan:
+    """A level with what its lines say: the sectors beside each, by their numbers, or None."""
+
+    def __init__(self, level):
+        self.level = level
+        for number, line in enumerate(level.lines):
+            if max(line.start, line.end) >= len(level.vertexes):
+                raise level.error(f'is damaged: a vertex of line {number} is not there')
+        self.beside = [tuple(map(self.sector_of_side, line[5:])) for line in level.lines]
+        self.bands = collections.defaultdict(list)
+        for number, line in enumerate(level.lines):
+            low, high = sorted(level.vertexes[end].y for end in line[:2])
+            for band in range(low // SQUARE, high // SQUARE + 1):
+                self.bands[band].append(number)
+
+    def sector_of_side(self, side):
+        if side is None or side >= len(self.level.sides):
+            return None
+        sector = self.level.sides[side].sector
+        return sector if sector < len(self.level.sectors) else None
+
+    def ends(self, number):
+        """Both ends of a line."""
+        return [self.level.vertexes[end] for end in self.level.lines[number][:2]]
+
+    def box(self):
+        """The least box of all lines: x and y of its corners, the low one first."""
+        used = [vertex for number in range(len(self.level.lines)) for vertex in self.ends(number)]
+        if not used:
+            raise self.level.error('has no lines')
+        xs, ys = zip(*used)
+        return min(xs), min(ys), max(xs), max(ys)
+
+    def crossings(self, y):
+        """Where lines cross a row, from left to right."""
+        found = []
+        for number in self.bands.get(int(y // SQUARE), ()):
+            (x1, y1), (x2, y2) = self.ends(number)
+            if (y1 > y) == (y2 > y):
+                continue
+            front, back = self.beside[number]
+            left, right = (back, front) if y2 > y1 else (front, back)
+            found.append(Crossing(x1 + (x2 - x1) * (y - y1) / (y2 - y1), left, right, number))
+        return sorted(found, key=lambda it: it.x)
+
+    def is_wall(self, number):
+        """Whether a player cannot pass a line, whatever moves beside it."""
+        return None in self.beside[number] or bool(self.level.lines[number].flags & BLOCKS)
+
+    def reached(self):
+        """The sectors that a player may come to from a start: rather too many than too few, since what moves, what has
+        a tag and each line with a special lets pass. None where no start leads anywhere."""
+        ways = self.ways()
+        found = {self.level.sector_at(thing.x, thing.y) for thing in self.level.things if thing.type in STARTS}
+        left = list(found)
+        while left:
+            more = ways[left.pop()] - found
+            found |= more
+            left += more
+        return found
+
+    def ways(self):
+        """Of each sector those that a player may step into."""
+        sectors, ways = self.level.sectors, collections.defaultdict(set)
+        moves = {number for number, it in enumerate(sectors) if it.tag or it.ceiling <= it.floor}
+        for number, line in enumerate(self.level.lines):
+            front, back = self.beside[number]
+            if line.special in TELEPORTS and front is not None:
+                ways[front].update(other for other, it in enumerate(sectors) if it.tag == line.tag)
+            if self.is_wall(number):
+                continue
+            for one, other in ((front, back), (back, front)):
+                if line.special or {one, other} & moves or is_step(sectors[one], sectors[other]):
+                    ways[one].add(other)
+        return ways
+
+    def doors(self):
+        """The ceilings that doors have once they are open, by the least one beside each. A door is a shut sector with a
+        tag, or behind a line with a special, whose ceiling is no sky."""
+        sectors, least = self.level.sectors, {}
+        behind = {self.beside[number][1] for number, line in enumerate(self.level.lines) if line.special}
+        for pair in self.beside:
+            for one, other in (pair, pair[::-1]):
+                if None not in pair and is_shut(sectors[one]) and not is_shut(sectors[other]):
+                    least[one] = min(least.get(one, sectors[other].ceiling), sectors[other].ceiling)
+        return {number: ceiling - LINTEL for number, ceiling in least.items()
+                if (sectors[number].tag or number in behind) and sectors[number].ceiling_flat != SKY
+                and ceiling - LINTEL > sectors[number].floor}
+
+
+def is_shut(sector):
+    return sector.ceiling <= sector.floor
+
+
+def is_step(one, other):
+    """Whether a player may step from one sector into another."""
+    return (other.floor - one.floor <= STEP_UP
+            and min(one.ceiling, other.ceiling) - max(one.floor, other.floor) >= HEIGHT)
+
+
+def with_ceilings(level, ceilings):
+    """A WAD of the level alone, in which some sectors have other ceilings."""
+    lumps, data = dict(level.lumps), bytearray(level.lumps['SECTORS'])
+    for sector, ceiling in ceilings.items():
+        struct.pack_into('<h', data, SECTOR.size * sector + 2, ceiling)
+    lumps['SECTORS'] = bytes(data)
+    return packed([(level.name, b'')] + [(name, lumps[name]) for name in MAP_LUMPS], b'PWAD')
+
+
+class Walls:
+    """The lines that stop a player, by the squares that they come near to."""
+
+    def __init__(self, plan):
+        self.squares = collections.defaultdict(list)
+        for number in filter(plan.is_wall, range(len(plan.level.lines))):
+            (x1, y1), (x2, y2) = plan.ends(number)
+            for i in squares(x1, x2):
+                for j in squares(y1, y2):
+                    self.squares[i, j].append((x1, y1, x2 - x1, y2 - y1))
+
+    def is_near(self, x, y):
+        """Whether a player at a place would stand in a wall."""
+        return any(distance(x - x1, y - y1, dx, dy) < RADIUS * RADIUS
+                   for x1, y1, dx, dy in self.squares.get((int(x // SQUARE), int(y // SQUARE)), ()))
+
+
+def squares(one, other):
+    low, high = sorted((one, other))
+    return range((low - RADIUS) // SQUARE, (high + RADIUS) // SQUARE + 1)
+
+
+def distance(x, y, dx, dy):
+    """The square of the distance of a point from a line from the origin."""
+    length = dx * dx + dy * dy
+    along = max(0, min(1, (x * dx + y * dy) / length)) if length else 0
+    return (x - along * dx) ** 2 + (y - along * dy) ** 2
+
+
+class Ground:
+    """The places of a level at which a player can stand."""
+
+    def __init__(self, plan):
+        self.plan, self.walls, self.rows = plan, Walls(plan), {}
+        self.doubts = collections.Counter()  # pairs of lines that face each other, and have other sectors
+
+    def row(self, y):
+        """The crossings of a row, and their x."""
+        if y not in self.rows:
+            row = self.plan.crossings(y)
+            self.rows[y] = row, [crossing.x for crossing in row]
+        return self.rows[y]
+
+    def is_void(self, x, y):
+        """Whether no sector is at a place, by the lines to the left and the right of it."""
+        row, xs = self.row(y)
+        place = bisect.bisect_right(xs, x)
+        if place in (0, len(row)):
+            return True
+        left, right = row[place - 1], row[place]
+        if left.right != right.left:
+            self.doubts[tuple(sorted((left.line, right.line)))] += 1
+        return left.right is None or right.left is None
+
+    def sector_at(self, x, y):
+        """The sector at a place at which a player has room, or None."""
+        if self.is_void(x, y):
+            return None
+        number = self.plan.level.sector_at(x, y)
+        sector = self.plan.level.sectors[number]
+        has_room = sector.ceiling - sector.floor >= HEIGHT and not self.walls.is_near(x, y)
+        return number if has_room else None

@@ -1,0 +1,38 @@
+"""Pages of one file: a template of data/ with its data and pictures in it, which need nothing from elsewhere."""
+import base64
+import json
+
+from . import home
+from .frames import HEIGHT, WIDTH
+from .png import indexed_png
+from .trouble import Trouble
+
+PLACE = '/*DATA*/null'  # of the data in a template
+
+
+def packed(data):
+    """Data as a page has it: nothing in it can end the script that it stands in."""
+    return json.dumps(data, separators=(',', ':')).replace('</', '<\\/')
+
+
+def page(template, data):
+    """The bytes of a page."""
+    path = home.data(template)
+    try:
+        with open(path, encoding='utf-8') as file:
+            text = file.read()
+    except OSError:
+        text = ''
+    if PLACE not in text:
+        raise Trouble(f'{path} is missing or damaged; take the whole folder of doomview anew')
+    return text.replace(PLACE, packed(data)).encode()
+
+
+def text_of(png):
+    """A PNG as a page has it."""
+    return base64.b64encode(png).decode()
+
+
+def picture(pixels, palette, width=WIDTH, height=HEIGHT):
+    """A picture as a page has it."""
+    return text_of(indexed_png(width, height, bytes(pixels), palette))

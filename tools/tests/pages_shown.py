@@ -1,0 +1,41 @@
+"""Pages of one file as a browser shows them: Chromium without a window, where it is installed."""
+import json
+import os
+import re
+import shutil
+import subprocess
+import tempfile
+
+BROWSER = shutil.which('chromium') or shutil.which('chromium-browser') or shutil.which('google-chrome')
+WORDS = ['--headless', '--no-sandbox', '--disable-gpu', '--window-size=1200,900', '--virtual-time-budget=5000',
+         '--dump-dom']
+# What a script on a page may use: it presses keys, counts the colours of a picture, and tells what it found.
+SCRIPT = '''<pre id="tested"></pre><script>
+const hit = (...keys) => keys.forEach(key => dispatchEvent(new KeyboardEvent('keydown', { key })));
+const colours = it => new Set(new Uint32Array(it.getContext('2d').getImageData(0, 0, it.width, it.height).data.buffer)).size;
+const wait = () => new Promise(done => setTimeout(done, 100));
+(async () => { let found; try { found = await (async () => { %s })(); } catch (error) { found = String(error); }
+document.getElementById('tested').textContent = JSON.stringify(found); })();
+</script>'''
+DATA = re.compile(r'^const data = (.*);$', re.M)
+
+
+def data_of(path):
+    """The data of a page."""
+    with open(path, encoding='utf-8') as file:
+        return json.loads(DATA.search(file.read())[1])
+
+
+def shown(path, script):
+    """What a script that is run on a page gives back."""
+    with open(path, encoding='utf-8') as file:
+        page = file.read()
+    with tempfile.TemporaryDirectory() as folder:
+        tested = os.path.join(folder, 'page.html')
+        with open(tested, 'w', encoding='utf-8') as file:
+            file.write(page + SCRIPT % script)
+        done = subprocess.run([BROWSER, *WORDS, f'--user-data-dir={folder}/user', f'file://{tested}'],
+                              stdin=subprocess.DEVNULL, stdout=subprocess.PIPE, stderr=subprocess.DEVNULL, text=True,
+                              env={**os.environ, 'HOME': folder})
+    found = re.search(r'<pre id="tested">(.*?)</pre>', done.stdout, re.S)
+    return json.loads(found[1].replace('&lt;', '<').replace('&gt;', '>').replace('&amp;', '&'))

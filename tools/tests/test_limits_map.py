@@ -1,0 +1,198 @@
+"""Tests the tool limits-map: with a stand-in for doomview, and with the program that DOOMVIEW_TESTED names."""
+import json
+import os
+import signal
+import struct
+import subprocess
+import time
+import unittest
+
+import pages_shown
+from made_files import COMMAND, Tools, name, wad
+from doomview_tools import ground, levels
+
+COARSE = ['--step', '256', '--directions', '4']
+TESTED = os.environ.get('DOOMVIEW_TESTED', '')
+# Counts by the row alone: planes 100 and more to the east of a place, sprites by the direction. Refuses MAP02.
+COUNTING = '''#!/usr/bin/env python3
+import sys
+job, words = sys.argv[1], sys.argv[2:]
+if 'MAP02' in words:
+    sys.exit(print('doomview: refused 603', file=sys.stderr) or 2)
+with open(words[words.index('--path') + 1]) as file:
+    rows = [tuple(map(int, line.split(','))) for line in list(file)[1:]]
+for view, (x, y, z, angle) in enumerate(rows):
+    if job == 'limits':
+        planes = 60 + (x >> 16) // 4 + len([word for word in words if word.endswith('open.wad')])
+        print(f'view {view} planes {planes} openings {y >> 16} fragments {min(256, abs(y) >> 16)} sprites {angle >> 28}')
+    else:
+        sys.stdout.buffer.write(bytes(i % 251 for i in range(64000 if job == 'render' else 512000)))
+'''
+
+
+def hall():
+    """Two halls with a door between them, and one to which no way leads; without nodes but one leaf each."""
+    corners = [(0, 0), (512, 0), (512, 512), (0, 512), (576, 0), (576, 512), (1024, 0), (1024, 512), (2000, 0), (2300, 0),
+               (2300, 300), (2000, 300)]
+    one = [(0, 3, 0, None), (3, 2, 0, None), (1, 0, 0, None), (2, 5, 1, None), (4, 1, 1, None), (5, 7, 2, None),
+           (7, 6, 2, None), (6, 4, 2, None), (8, 11, 3, None), (11, 10, 3, None), (10, 9, 3, None), (9, 8, 3, None)]
+    doors = [(2, 1, 0, 1), (4, 5, 2, 1)]
+    sides, lines = [], []
+    for start, end, front, back in one + doors:
+        lines.append((start, end, 1 if back is None else 4, 0, 0, len(sides), 0xffff if back is None else len(sides) + 1))
+        sides += [front] if back is None else [front, back]
+    first = {sector: next(i for i, it in enumerate(one) if it[2] == sector) for sector in range(4)}
+    segs = [(*one[first[sector]][:2], 0, first[sector], 0, 0) for sector in range(4)]
+    box = [512, 0, 0, 2300]
+    nodes = [(512, 0, 0, 512, *box, *box, 0x8001, 0x8000), (576, 0, 0, 512, *box, *box, 0x8002, 0),
+             (1500, 0, 0, 512, *box, *box, 0x8003, 1)]
+    sectors = [(0, 128), (0, 0), (0, 128), (0, 128)]
+    return [('THINGS', struct.pack('<hhhHH', 64, 64, 0, 1, 7)),
+            ('LINEDEFS', b''.join(struct.pack('<7H', *line) for line in lines)),
+            ('SIDEDEFS', b''.join(struct.pack('<hh8s8s8sH', 0, 0, name('-'), name('-'), name('-'), it) for it in sides)),
+            ('VERTEXES', b''.join(struct.pack('<hh', *it) for it in corners)),
+            ('SEGS', b''.join(struct.pack('<6H', *it) for it in segs)),
+            ('SSECTORS', b''.join(struct.pack('<HH', 1, i) for i in range(4))),
+            ('NODES', b''.join(struct.pack('<12h2H', *it) for it in nodes)),
+            ('SECTORS', b''.join(struct.pack('<hh8s8shhh', *it, name('F'), name('F'), 160, 0, tag) for tag, it in enumerate(sectors)))]
+
+
+class LimitsMap(Tools):
+    def setUp(self):
+        super().setUp()
+        self.hall = self.write('hall.wad', wad([('PLAYPAL', bytes(range(256)) * 3), ('MAP01', b''), *hall()]))
+        self.counting = self.stand_in('counting', COUNTING)
+
+    def looked(self, *words):
+        """Status and numbers of a run."""
+        status, output, error = self.run_tool('limits-map', 'hall.wad', 'MAP01', '--json', *COARSE, *words, doomview=self.counting)
+        self.assertEqual(error, '')
+        return status, json.loads(output)
+
+    def test_ground(self):
+        """Void, walls, doors, and what a player reaches."""
+        plan = ground.Plan(levels.read([self.hall], 'MAP01'))
+        place = ground.Ground(plan).sector_at
+        self.assertEqual([place(x, y) for x, y in [(256, 256.5), (800, 256.5), (2150, 150.5)]], [0, 2, 3])
+        self.assertEqual([place(x, y) for x, y in [(544, 256.5), (1500, 100.5), (8, 256.5), (256, 600.5), (-9, 9.5)]], [None] * 5)
+        self.assertEqual(plan.reached(), {0, 1, 2})
+        self.assertEqual(plan.doors(), {1: 124})
+        opened = ground.Plan(levels.read([self.write('open.wad', ground.with_ceilings(plan.level, plan.doors()))], 'MAP01'))
+        self.assertEqual(ground.Ground(opened).sector_at(544, 256.5), 1)
+
+    def test_numbers(self):
+        """The greatest counts, those over a limit, and the rows of their views."""
+        status, found = self.looked()
+        shut, opened = found['states']
+        self.assertEqual((status, found['over'], found['reached'], found['sectors']), (1, True, 3, 4))
+        self.assertEqual([shut['doors'], opened['doors']], ['shut', 'open'])
+        planes, fragments = shut['counts']['planes'], shut['counts']['fragments']
+        x, y, z, angle = planes['row']
+        self.assertEqual((planes['most'], planes['limit'], z), (60 + (x >> 16) // 4, 128, 41 << 16))
+        self.assertEqual(opened['counts']['planes']['most'], planes['most'] + 1)
+        self.assertGreater(planes['over'], 0)
+        self.assertEqual((fragments['most'], shut['counts']['sprites']['most']), (256, 14))
+        self.assertEqual(len(self.looked('--shut')[1]['states']), 1)
+        self.assertGreater(self.looked('--all', '--shut')[1]['states'][0]['places'], shut['places'])
+
+    def test_limits(self):
+        """Raised limits are those of the status; what is counted no further counts as over."""
+        planes = self.looked('--planes', '512')[1]['states'][0]['counts']['planes']
+        self.assertEqual((planes['limit'], planes['over']), (512, 0))
+        status, output, _ = self.run_tool('limits-map', 'hall.wad', 'MAP01', '--shut', *COARSE, doomview=self.counting)
+        lines = output.decode().splitlines()
+        self.assertEqual((status, lines[0]), (1, 'MAP01 of hall.wad: a player reaches 3 of its 4 sectors'))
+        self.assertRegex(lines[1], r'^doors shut: \d+ views from \d+ places$')
+        self.assertRegex(lines[4], r'^  fragments most 256 or more of 256, \d+ views over, row [-\d]+(,[-\d]+){3}$')
+
+    def test_page(self):
+        """Each number of the page is that which doomview gave for its row."""
+        self.looked('page.html', '--worst', 'worst.csv', '--all')
+        data = pages_shown.data_of(self.at('page.html'))
+        self.assertEqual((data['title'], data['reached'], data['doors']), ('MAP01 of hall.wad', 3, [1]))
+        for number, state in enumerate(data['states']):
+            self.assertIn(0, {cell[5] for cell in state['cells']})
+            for x, y, size, floor, sector, _, planes, _, openings, _, fragments, _, sprites, way in state['cells']:
+                counts = 60 + x // 4 + number, y, min(256, abs(y)), way * 16 // data['directions']
+                self.assertEqual((planes, openings, fragments, sprites), counts)
+            for view in state['views']:
+                self.assertEqual(view['counts']['planes'], 60 + (view['row'][0] >> 16) // 4 + number)
+        rows = self.read('worst.csv').splitlines()
+        self.assertEqual(rows[0], 'x,y,z,angle')
+        self.assertIn(','.join(map(str, data['states'][0]['views'][0]['row'])), rows)
+
+    @unittest.skipUnless(pages_shown.BROWSER, 'no Chromium here')
+    def test_shown(self):
+        """The picture is not empty, and keys work."""
+        self.looked('page.html')
+        found = pages_shown.shown(self.at('page.html'), '''
+            const text = id => document.getElementById(id).textContent, all = [colours(canvas), text('which'), text('row'), scale];
+            hit('2'); all.push(text('which')); hit('d'); all.push(state); hit('1', 'n'); all.push(text('row'));
+            hit('ArrowRight'); all.push(text('told')); hit('+'); all.push(scale); hit('0'); all.push(scale);
+            await wait(); all.push(document.getElementById('picture').naturalWidth); return all;''')
+        data = pages_shown.data_of(self.at('page.html'))
+        rows = [','.join(map(str, view['row'])) for view in data['states'][1]['views']]
+        self.assertGreater(found[0], 20)
+        self.assertEqual(found[1], 'planes')
+        self.assertEqual(found[2], ','.join(map(str, data['states'][0]['views'][0]['row'])))
+        self.assertEqual(found[4:6], ['openings', 1])
+        self.assertEqual(found[6], rows[data['states'][1]['order']['planes'][1]])
+        self.assertRegex(found[7], r'(?s)^x \d+ y [\d.]+ floor 0 sector \d.*planes \d+')
+        self.assertGreater(found[8], found[9])
+        self.assertEqual(found[9], found[3])
+        self.assertEqual(found[10], 320)
+
+    def test_wrong(self):
+        """Refusals are in doomview's words, with status 2, and nothing is left half-written."""
+        status, output, error = self.run_tool('limits-map', 'hall.wad', 'MAP02', 'page.html', doomview=self.counting)
+        self.assertEqual((status, output, os.path.exists(self.at('page.html'))), (2, b'', False))
+        self.assertTrue(error.startswith('doomview: refused 603\nexplain: 603: SSECTORS has no record'), error)
+        self.assertNotIn('cannot be read', error)
+        for part, *words in [('has to end in .html', 'page.htm'), ('there is no folder absent', 'absent/page.html'),
+                             ('multiple of 8', '--step', '60'), ('--planes: a number from 128', '--planes', '1'),
+                             ('there is no folder absent', '--worst', 'absent/rows')]:
+            self.refuses(part, 'limits-map', 'hall.wad', 'MAP01', *words, doomview=self.counting)
+        self.refuses('there is no WAD absent', 'limits-map', 'absent', 'MAP01', doomview=self.counting)
+        lumps = dict(hall())
+        for part, label, data in [('has no start of a player', 'THINGS', b''), ('a vertex of line 0 is not there', 'VERTEXES', b''),
+                                  ('is damaged', 'LINEDEFS', b'')]:
+            self.write('bad.wad', wad([('MAP01', b''), *{**lumps, label: data}.items()]))
+            self.refuses(part, 'limits-map', 'bad.wad', 'MAP01', doomview=self.counting)
+
+    def test_interrupt(self):
+        """An interrupt ends the runs that go on, and leaves nothing behind."""
+        slow = self.stand_in('slow', '#!/bin/sh\ncase "$*" in *.1.csv*) exit 0 ;; esac\necho $$ >>pids\nexec sleep 60\n')
+        os.symlink('/bin/sleep', self.at('bin', 'sleep'))
+        os.mkdir(self.at('tmp'))
+        run = subprocess.Popen([COMMAND, 'limits-map', 'hall.wad', 'MAP01', 'page.html'], cwd=self.folder,
+                               env=self.surroundings(slow, TMPDIR=self.at('tmp')))
+        for _ in range(600):
+            if os.path.exists(self.at('pids')):
+                break
+            time.sleep(.1)
+        run.send_signal(signal.SIGTERM)
+        self.assertEqual(run.wait(60), 128 + signal.SIGTERM)
+        for pid in self.read('pids').split():
+            self.assertFalse(os.path.exists(f'/proc/{pid}'), pid)
+        self.assertEqual((os.listdir(self.at('tmp')), os.path.exists(self.at('page.html'))), ([], False))
+
+    @unittest.skipUnless(TESTED, 'no program is named')
+    def test_program(self):
+        """With the program: each number of the page is that which `limits` gives for its row."""
+        self.run_tool('room', '-o', 'room.wad')
+        words = ['room.wad', 'MAP01', 'page.html', '--shut', '--step', '256']
+        self.assertEqual(self.run_tool('limits-map', *words, doomview=TESTED)[0], 0)
+        data = pages_shown.data_of(self.at('page.html'))
+        cells, names = data['states'][0]['cells'], data['counts']
+        rows = ['x,y,z,angle'] + [
+            f'{cell[0] << 16},{(cell[1] << 16) + 32768},{cell[3] + 41 << 16},{(cell[7 + 2 * i] << 32) // data["directions"]}'
+            for cell in cells for i in range(4)]
+        self.write('rows.csv', ''.join(f'{row}\n' for row in rows).encode())
+        lines = iter(self.run_tool('limits', 'MAP01', 'room.wad', '--path', 'rows.csv', doomview=TESTED)[1].decode().splitlines())
+        for cell in cells:
+            for i, count in enumerate(names):
+                self.assertIn(f' {count} {cell[6 + 2 * i]} ', next(lines) + ' ')
+
+
+if __name__ == '__main__':
+    unittest.main()
