@@ -23,6 +23,11 @@ printf 'painted'
 LEVEL = ['MAP01', 'made.wad', '--path', 'path.csv']
 
 
+def heed_interrupts():
+    """A program in the background of a script ignores interrupts, and so would all that it starts."""
+    signal.signal(signal.SIGINT, signal.SIG_DFL)
+
+
 class Command(Tools):
     def setUp(self):
         super().setUp()
@@ -225,7 +230,8 @@ class Outputs(Command):
         """A run that a signal ends leaves no part of its file, and no program."""
         for number in (signal.SIGTERM, signal.SIGHUP, signal.SIGINT):
             run = subprocess.Popen([COMMAND, 'render', *LEVEL, '-o', 'out'], cwd=self.folder, stderr=subprocess.PIPE,
-                                   env=self.surroundings(doomview=self.program, WORDS=self.at('words'), WAITS='1'))
+                                   env=self.surroundings(doomview=self.program, WORDS=self.at('words'), WAITS='1'),
+                                   preexec_fn=heed_interrupts)
             while not os.path.exists(self.at('words')):
                 time.sleep(0.01)
             time.sleep(0.2)
