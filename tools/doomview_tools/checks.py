@@ -1,7 +1,7 @@
 """Checks of a map: all that looks like a mistake, and all that doomview refuses a level for, at once.
 
-`findings(level, wads)` gives Findings: `error` is what doomview refuses or the original ends at, `hole` is where nothing
-paints, `odd` is the rest."""
+`findings(level, wads)` gives Findings: `error` is what doomview refuses or the original ends at, `hole` is where
+nothing paints, `odd` is the rest."""
 import collections
 import csv
 import difflib
@@ -129,8 +129,8 @@ def runs_out(part, texture):
 def findings(level, files):
     """All that looks like a mistake."""
     check = Check(level, Art(files))
-    for part in (check.missing_textures, check.missing_flats, check.odd_lines, check.walls, check.middles, check.sectors,
-                 check.pictures, check.things, check.unclosed):
+    for part in (check.missing_textures, check.missing_flats, check.odd_lines, check.walls, check.middles,
+                 check.sectors, check.pictures, check.things, check.unclosed):
         yield from part()
 
 
@@ -148,7 +148,7 @@ class Check:
         return [line for side in sides for line in self.lines_of[side]]
 
     def sides(self, number):
-        """The sides of a line that are there, and both sectors as each sees them: front or back, side, in front, behind."""
+        """The sides of a line that are there: which it is, the side, and the sectors in front of it and behind it."""
         line, beside = self.level.lines[number], self.plan.beside[number]
         for which in (0, 1):
             if beside[which] is not None:
@@ -191,7 +191,8 @@ class Check:
             parts = ' '.join(sorted({part for _, part in places}, reverse=True))
             why = (': there is a lump of that name, but not between F_START and F_END' if name in self.art.lumps
                    else guess(name, self.art.flats))
-            yield Finding(ERROR, 'flat', sectors(number for number, _ in places), f'{parts} {name or "(no name)"} is no flat{why}')
+            yield Finding(ERROR, 'flat', sectors(number for number, _ in places),
+                          f'{parts} {name or "(no name)"} is no flat{why}')
 
     def odd_lines(self):
         for number, line in enumerate(self.level.lines):
@@ -202,7 +203,8 @@ class Check:
                 yield Finding(ERROR, 'line', lines([number]), 'has no front side')
             for which in (0, 1):
                 if line[5 + which] is not None and self.plan.beside[number][which] is None:
-                    yield Finding(ERROR, 'line', lines([number]), f'its {SIDES[which]} side, or the sector of that, is not there')
+                    yield Finding(ERROR, 'line', lines([number]),
+                                  f'its {SIDES[which]} side, or the sector of that, is not there')
             if line.flags & TWO_SIDED and back is None and line.back is None:
                 yield Finding(ODD, 'line', lines([number]), 'is two-sided and has no back side')
             if not line.flags & TWO_SIDED and back is not None:
@@ -223,7 +225,8 @@ class Check:
                 yield Part(which, 'upper', side.upper, min(below, high), hangs, side.y_offset - below * hangs)
             if back.floor > front.floor:
                 start = (front.ceiling - back.floor) * bool(flags & LOWER_UNPEGGED)
-                yield Part(which, 'lower', side.lower, min(back.floor - front.floor, high), False, side.y_offset + start)
+                height = min(back.floor - front.floor, high)
+                yield Part(which, 'lower', side.lower, height, False, side.y_offset + start)
 
     def walls(self):
         """Parts without a texture, and those past the end of theirs."""
@@ -233,8 +236,8 @@ class Check:
                 if part.texture.startswith('-'):
                     yield Finding(HOLE, 'texture', where, f'needs a texture: {part.name}, {part.height} high')
                 elif texture and runs_out(part, texture):
-                    yield Finding(ODD, 'tutti-frutti', where, f'{part.name} {texture.name} is {texture.height} high and the '
-                                  f'wall {part.height}: rows of other pictures show')
+                    yield Finding(ODD, 'tutti-frutti', where, f'{part.name} {texture.name} is {texture.height} high and '
+                                  f'the wall {part.height}: rows of other pictures show')
 
     def medusa(self):
         """The middle textures with several patches, or none, in a column: by name the lines and the first column."""
@@ -251,13 +254,14 @@ class Check:
 
     def middles(self):
         for name, numbers, column, count in self.medusa():
-            yield Finding(ERROR, 'Medusa', lines(numbers), f'middle {name} has {count or "no"} patches in column {column}: the '
-                          'Medusa effect; take a texture of one patch a column')
+            yield Finding(ERROR, 'Medusa', lines(numbers), f'middle {name} has {count or "no"} patches in column {column}: '
+                          'the Medusa effect; take a texture of one patch a column')
 
     def sectors(self):
         for number, sector in enumerate(self.level.sectors):
             if sector.ceiling < sector.floor:
-                yield Finding(ODD, 'sector', sectors([number]), f'its ceiling {sector.ceiling} is below its floor {sector.floor}')
+                yield Finding(ODD, 'sector', sectors([number]),
+                              f'its ceiling {sector.ceiling} is below its floor {sector.floor}')
 
     def things_of(self, is_wrong):
         """The things whose type has no row in the thing table, or a wrong one: by type and row."""
@@ -274,8 +278,8 @@ class Check:
 
     def pictures(self):
         for (kind, frame), numbers in self.things_of(lambda frame: frame and frame not in self.art.frames):
-            yield Finding(ERROR, 'thing', several('thing', numbers), f'type {kind} needs the picture {frame}, which no WAD has '
-                          'between S_START and S_END')
+            yield Finding(ERROR, 'thing', several('thing', numbers), f'type {kind} needs the picture {frame}, which no WAD '
+                          'has between S_START and S_END')
 
     def things(self):
         if not any(thing.type == PLAYER_1 for thing in self.level.things):
@@ -285,8 +289,8 @@ class Check:
         place = ground.Ground(self.plan)
         for number, thing in enumerate(self.level.things):
             if all(place.is_void(thing.x, thing.y + off) for off in (-.5, .5)):
-                yield Finding(ODD, 'thing', f'thing {number}', f'type {thing.type} at {thing.x}, {thing.y} stands outside '
-                                                               'the level')
+                yield Finding(ODD, 'thing', f'thing {number}',
+                              f'type {thing.type} at {thing.x}, {thing.y} stands outside the level')
 
     def unclosed(self):
         """Sectors whose lines do not close: at a vertex where an odd number of them end."""

@@ -55,8 +55,8 @@ cannot be drawn. The two numbers are sizes of a zone in bytes: one that is never
 all lumps and composed textures at once.
 
 audit is no map check: a level is accepted where each of its views can be drawn. It says nothing of walls
-without a texture, sectors that are not closed, the tutti-frutti effect, or things outside the level.
-doomview explain audit, with the same words, says in sentences why a level is refused.
+without a texture, sectors that are not closed, the tutti-frutti effect, or things outside the level:
+doomview lint does. doomview explain audit, with the same words, says in sentences why a level is refused.
 ''', '''
 $ doomview audit MAP01 freedoom2.wad --path path.csv
 $ doomview explain audit MAP01 freedoom2.wad mymap.wad --path path.csv

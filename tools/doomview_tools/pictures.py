@@ -152,8 +152,9 @@ class Palette:
     def entry(self, colour, ours, path, place):
         found = self.entries.get(colour)
         if not found:
-            raise Trouble(f'{path}: the colour {",".join(map(str, colour))} at row {place // WIDTH} column {place % WIDTH} '
-                          'is in no entry of the palette; turn off what changes colours (gamma, filters, true colour)')
+            row, column = divmod(place, WIDTH)
+            raise Trouble(f'{path}: the colour {",".join(map(str, colour))} at row {row} column {column} is in no entry of '
+                          'the palette; turn off what changes colours (gamma, filters, true colour)')
         if len(found) > 1:
             self.doubtful.add(tuple(found))
         return ours if ours in found else found[0]
@@ -162,8 +163,8 @@ class Palette:
         """A sentence on the colours that are in two entries, or none."""
         if self.doubtful:
             some = ', '.join(' and '.join(map(str, found)) for found in sorted(self.doubtful))
-            yield (f'entries of the palette with the same colour: {some}; where ours has one of them, the port counts as '
-                   'having it too')
+            yield (f'entries of the palette with the same colour: {some}; where ours has one of them, the port counts '
+                   'as having it too')
 
 
 def coloured(picture, path):

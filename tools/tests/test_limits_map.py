@@ -54,7 +54,8 @@ def hall():
             ('SEGS', b''.join(struct.pack('<6H', *it) for it in segs)),
             ('SSECTORS', b''.join(struct.pack('<HH', 1, i) for i in range(4))),
             ('NODES', b''.join(struct.pack('<12h2H', *it) for it in nodes)),
-            ('SECTORS', b''.join(struct.pack('<hh8s8shhh', *it, name('F'), name('F'), 160, 0, tag) for tag, it in enumerate(sectors)))]
+            ('SECTORS', b''.join(struct.pack('<hh8s8shhh', *it, name('F'), name('F'), 160, 0, tag)
+                                 for tag, it in enumerate(sectors)))]
 
 
 class LimitsMap(Tools):
@@ -65,7 +66,8 @@ class LimitsMap(Tools):
 
     def looked(self, *words):
         """Status and numbers of a run."""
-        status, output, error = self.run_tool('limits-map', 'hall.wad', 'MAP01', '--json', *COARSE, *words, doomview=self.counting)
+        status, output, error = self.run_tool('limits-map', 'hall.wad', 'MAP01', '--json', *COARSE, *words,
+                                              doomview=self.counting)
         self.assertEqual(error, '')
         return status, json.loads(output)
 
@@ -74,10 +76,12 @@ class LimitsMap(Tools):
         plan = ground.Plan(levels.read([self.hall], 'MAP01'))
         place = ground.Ground(plan).sector_at
         self.assertEqual([place(x, y) for x, y in [(256, 256.5), (800, 256.5), (2150, 150.5)]], [0, 2, 3])
-        self.assertEqual([place(x, y) for x, y in [(544, 256.5), (1500, 100.5), (8, 256.5), (256, 600.5), (-9, 9.5)]], [None] * 5)
+        nowhere = [(544, 256.5), (1500, 100.5), (8, 256.5), (256, 600.5), (-9, 9.5)]
+        self.assertEqual([place(x, y) for x, y in nowhere], [None] * 5)
         self.assertEqual(plan.reached(), {0, 1, 2})
         self.assertEqual(plan.doors(), {1: 124})
-        opened = ground.Plan(levels.read([self.write('open.wad', ground.with_ceilings(plan.level, plan.doors()))], 'MAP01'))
+        patch = self.write('open.wad', ground.with_ceilings(plan.level, plan.doors()))
+        opened = ground.Plan(levels.read([patch], 'MAP01'))
         self.assertEqual(ground.Ground(opened).sector_at(544, 256.5), 1)
 
     def test_numbers(self):
@@ -126,7 +130,8 @@ class LimitsMap(Tools):
         """The picture is not empty, and keys work."""
         self.looked('page.html')
         found = pages_shown.shown(self.at('page.html'), '''
-            const text = id => document.getElementById(id).textContent, all = [colours(canvas), text('which'), text('row'), scale];
+            const text = id => document.getElementById(id).textContent;
+            const all = [colours(canvas), text('which'), text('row'), scale];
             hit('2'); all.push(text('which')); hit('d'); all.push(state); hit('1', 'n'); all.push(text('row'));
             hit('ArrowRight'); all.push(text('told')); hit('+'); all.push(scale); hit('0'); all.push(scale);
             await wait(); all.push(document.getElementById('picture').naturalWidth); return all;''')
@@ -154,8 +159,8 @@ class LimitsMap(Tools):
             self.refuses(part, 'limits-map', 'hall.wad', 'MAP01', *words, doomview=self.counting)
         self.refuses('there is no WAD absent', 'limits-map', 'absent', 'MAP01', doomview=self.counting)
         lumps = dict(hall())
-        for part, label, data in [('has no start of a player', 'THINGS', b''), ('a vertex of line 0 is not there', 'VERTEXES', b''),
-                                  ('is damaged', 'LINEDEFS', b'')]:
+        for part, label, data in [('has no start of a player', 'THINGS', b''),
+                                  ('a vertex of line 0 is not there', 'VERTEXES', b''), ('is damaged', 'LINEDEFS', b'')]:
             self.write('bad.wad', wad([('MAP01', b''), *{**lumps, label: data}.items()]))
             self.refuses(part, 'limits-map', 'bad.wad', 'MAP01', doomview=self.counting)
 
@@ -188,7 +193,8 @@ class LimitsMap(Tools):
             f'{cell[0] << 16},{(cell[1] << 16) + 32768},{cell[3] + 41 << 16},{(cell[7 + 2 * i] << 32) // data["directions"]}'
             for cell in cells for i in range(4)]
         self.write('rows.csv', ''.join(f'{row}\n' for row in rows).encode())
-        lines = iter(self.run_tool('limits', 'MAP01', 'room.wad', '--path', 'rows.csv', doomview=TESTED)[1].decode().splitlines())
+        words = ['limits', 'MAP01', 'room.wad', '--path', 'rows.csv']
+        lines = iter(self.run_tool(*words, doomview=TESTED)[1].decode().splitlines())
         for cell in cells:
             for i, count in enumerate(names):
                 self.assertIn(f' {count} {cell[6 + 2 * i]} ', next(lines) + ' ')

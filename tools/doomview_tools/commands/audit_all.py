@@ -12,7 +12,7 @@ PAGE = cli.Page(
 Audits every map of a WAD and prints a line for each: the map's name and doomview's answer, accepted or why not.
 doomview explain audit says in sentences what a refusal means.
 
-audit is no map check: a map is accepted where each of its views can be drawn.
+audit is no map check: a map is accepted where each of its views can be drawn. doomview lint lists the mistakes of a map.
 ''', '''
 $ doomview audit-all freedoom2.wad
 $ doomview audit-all --iwad freedoom2.wad mymaps.wad --skill 4

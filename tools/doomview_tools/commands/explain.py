@@ -14,7 +14,7 @@ else looks like a mistake, such as an IWAD behind its PWAD, things of types with
 With a line of doomview as its one word it tells what the line means, without the names. With --said it runs nothing:
 FILE has what a run of these words said.
 
-A refusal is the first thing for which a level cannot be drawn: explain audit is no map check.
+A refusal is the first thing for which a level cannot be drawn: explain audit is no map check, and doomview lint is one.
 ''', '''
 $ doomview explain audit MAP01 freedoom2.wad mymap.wad --path path.csv
 $ doomview explain 'doomview: refused 604 2 7 5'

@@ -16,18 +16,18 @@ LEAST_STEP, MOST_STEP = 8, 1024
 WITHOUT = ('--path', '--planes', '--openings', '--weapon')  # options of limits that the tool gives itself, or not
 PAGE = cli.Page(
     'limits-map', 'what the views of a whole map count, as a page: planes, openings, fragments, sprites', '''
-Counts what the views of a whole map have: planes, openings, fragments and sprites, as doomview limits counts them, and
-prints of each count the greatest with the row of its view. The original ends at more than 128 planes or 20,480 openings;
-256 fragments and 128 sprites are counted no further, and count as over here, since it draws no more of them.
+Counts what the views of a whole map have: planes, openings, fragments and sprites, as doomview limits counts them,
+and prints of each count the greatest with the row of its view. The original ends at more than 128 planes or 20,480
+openings; 256 fragments and 128 sprites are counted no further, and count as over here, since it draws no more of them.
 
 It looks from places of a grid at which a player can stand: within the lines, 56 units of height, 16 off the walls, in
-sectors to which a way leads from a start, the eye 41 over the floor, in 8 directions. Places with high counts are cut in
-four, twice, and looked at in 16. All is counted a second time with the doors open: each sector without height that has a
-tag, or stands behind a line with a special, is raised to 4 under the lowest ceiling beside it.
+sectors to which a way leads from a start, the eye 41 over the floor, in 8 directions. Places with high counts are cut
+in four, twice, and looked at in 16. All is counted a second time with the doors open: each sector without height that
+has a tag, or stands behind a line with a special, is raised to 4 under the lowest ceiling beside it.
 
-OUT.html is a page of one file: the map with its cells, light for few and dark for many, black with a cross where a view
-is over a limit; the worst views with their pictures; and the row of a view for a path, to copy. Keys and mouse work, and
-the page says which.
+OUT.html is a page of one file: the map with its cells, light for few and dark for many, black with a cross where a
+view is over a limit; the worst views with their pictures; and the row of a view for a path, to copy. Keys and mouse
+work, and the page says which.
 ''', '''
 $ doomview limits-map freedoom2.wad MAP01 map01.html
 $ doomview limits-map --iwad freedoom2.wad mymap.wad MAP01 --json

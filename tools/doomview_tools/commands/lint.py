@@ -12,11 +12,12 @@ FOUND, REFUSED = 1, 2
 GRAVE = (checks.ERROR, checks.HOLE)
 PAGE = cli.Page(
     'lint', 'all that looks like a mistake in a map, at once', '''
-Prints a line for each thing in a map that looks like a mistake: how grave it is, what it is about, where, and a sentence.
+Prints a line for each thing in a map that looks like a mistake: how grave it is, what it is about, where, and a
+sentence.
 
-error: doomview refuses the map, or the original ends there. Textures and flats that there are not, with what may be meant;
-flats outside their marks; a TEXTURE1 that hides the game's; two-sided middle textures of several patches (Medusa); lines
-without a side; pictures of things that are missing; no start of player 1.
+error: doomview refuses the map, or the original ends there. Textures and flats that there are not, with what may be
+meant; flats outside their marks; a TEXTURE1 that hides the game's; two-sided middle textures of several patches
+(Medusa); lines without a side; pictures of things that are missing; no start of player 1.
 
 hole: a part of a wall that is seen has no texture.
 
