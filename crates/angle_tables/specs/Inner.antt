@@ -8,7 +8,7 @@ use Rattle.view_rules.specs.Sound.{IsSound}
 use Rattle.angle_tables.specs.declared.tables.Tables.TheInside.{Inside}
 
 abbrev pub value_of : Inside → TablesValue
-value_of t = record { angles = t.lists; size = t.size }
+value_of t = record { angles = t.lists; size = t.size; spans = t.spans }
 
 -- a table of so many entries, of each of which the rule is so
 pub record IsTable {X : Type 0} (xs : List X) (n : ℕ) (IsRight : ℕ → Type 0) : Type 0 where

@@ -6,6 +6,7 @@ ghost use Rattle.view_rules.specs.Shape.{shape_of_size};
 ghost use Rattle.view_rules.specs.Tables.{column_of_angle, angle_of_column, clip_angle, y_slope, dist_scale, scale_light, distance_light};
 ghost use Rattle.view_rules.specs.Refusals.{angles_in, angles_refusal, tables_refusal};
 ghost use Rattle.view_rules.specs.Sound.{IsSound, IsWithinFrame};
+ghost use Rattle.view_rules.specs.declared.Spans.TheVariants.{Full};
 ghost use Rattle.view_rules.specs.declared.TablesRefusal.{TablesRefusal};
 ghost use Rattle.view_rules.specs.declared.TheConstants.{MIN_SIZE, MAX_SIZE, SINES, TANGENTS, SLOPE_ANGLES, COSINE_START, LIGHT_LEVELS, SCALE_STEPS, DISTANCE_STEPS};
 
@@ -16,13 +17,14 @@ use crate::refusals::{TablesFault, angles_refusal};
 use crate::shapes::shape_of_size;
 use std::alloc::{AllocError, Global};
 use std::marker::Model;
-use view_rules::{DISTANCE_STEPS, SCALE_STEPS, TABLES_BYTES, TablesRefusal, ViewShape};
+use view_rules::{DISTANCE_STEPS, SCALE_STEPS, Spans, TABLES_BYTES, TablesRefusal, ViewShape};
 
-/// The tables of angles, and what views of one size derive from them.
+/// The tables of angles, what views of one size derive from them, and how their spans are stepped.
 #[derive(Drop)]
 pub struct Tables {
     lists: AngleLists,
     size: u8,
+    spans: Spans,
     shape: ViewShape,
     columns: Vec<u16>,
     angles_from_right: Vec<u32>,
@@ -45,7 +47,7 @@ impl Model for Tables {
 }
 
 impl Tables {
-    /// The tables in a file of 65540 bytes, for views of `size`, 3 to 11.
+    /// The tables in a file of 65540 bytes, for views of `size`, 3 to 11, whose spans are full.
     ///
     /// Linear in the bytes and the view's width. Takes the memory of all tables.
     ///
@@ -58,7 +60,7 @@ impl Tables {
         requires least { MIN_SIZE ≤ size }
         requires greatest { size ≤ MAX_SIZE }
         ensures ok { IfOk result (λ t. (tables_refusal bytes.now size ≡ None) ×
-            (t ≡ record { angles = angles_in bytes.now; size = size })) }
+            (t ≡ record { angles = angles_in bytes.now; size = size; spans = Full })) }
         ensures refused { (r : TablesRefusal) → result ≡ Err (TablesFault.Refused r) →
             tables_refusal bytes.now size ≡ Some r }
     {
@@ -90,7 +92,7 @@ impl Tables {
         requires greatest { size ≤ MAX_SIZE }
         requires shaped { shape ≡ shape_of_size size }
         requires accepted { angles_refusal lists shape ≡ None }
-        ensures { IfOk result (λ t. t ≡ record { angles = lists; size = size }) }
+        ensures { IfOk result (λ t. t ≡ record { angles = lists; size = size; spans = Full }) }
     {
         let columns = columns_of_angles(alloc, &lists, shape)?;
         let angles_from_right = angles_of_columns(alloc, &lists, shape)?;
@@ -101,6 +103,7 @@ impl Tables {
         Ok(Tables {
             lists,
             size,
+            spans: Spans::Full,
             shape,
             columns,
             angles_from_right,
@@ -118,6 +121,22 @@ impl Tables {
         ensures greatest { result ≤ MAX_SIZE }
     {
         self.size
+    }
+
+    /// How spans are stepped.
+    pub fn spans(&self) -> Spans
+        ensures { result ≡ self.now.spans }
+    {
+        self.spans
+    }
+
+    /// Steps spans so from now on. All else stays.
+    ///
+    /// The original: `spanfunc`, which `R_ExecuteSetViewSize` sets, r_main.c.
+    pub fn set_spans(&mut self, spans: Spans)
+        ensures { self.new ≡ record self.old { spans = spans } }
+    {
+        self.spans = spans;
     }
 
     /// The shape of the views.

@@ -2,6 +2,8 @@
 use Rattle.std.specs.Prelude.{ℕ, Bool, cond, not, ◌%◌, nat_le, ◌==◌, ◌&&◌, List, Option, Some, None, option_and_then, is_some, codes, bytes_eq}
 use Rattle.clap.specs.Words.{Row, Text, first_of}
 use Rattle.numerals.specs.Numerals.{numeral}
+use Rattle.view_rules.specs.declared.Spans.{Spans}
+use Rattle.view_rules.specs.declared.Spans.TheVariants.{Full, Packed}
 use Rattle.job_rules.specs.declared.command.Format.{Format}
 use Rattle.job_rules.specs.declared.command.Format.TheVariants.{Index, Ppm}
 use Rattle.job_rules.specs.declared.command.Settings.{Settings}
@@ -24,6 +26,17 @@ multiple_of_step size = cond (size % ZONE_STEP == 0) (Some size) None
 unfoldable pub zone_in : List Row → Option ℕ
 zone_in rows = option_and_then multiple_of_step (number_option MIN_ZONE MAX_ZONE DEFAULT_ZONE (first_of (codes "zone") rows))
 
+unfoldable pub spans_named : Text → Option Spans
+spans_named name = cond (bytes_eq name (codes "full")) (Some Full) (cond (bytes_eq name (codes "packed")) (Some Packed) None)
+
+-- how spans are stepped, in full where it is not given
+abbrev pub spans_or_full : Option Text → Option Spans
+spans_or_full None = Some Full
+spans_or_full (Some name) = spans_named name
+
+unfoldable pub spans_in : List Row → Option Spans
+spans_in rows = spans_or_full (first_of (codes "spans") rows)
+
 -- the numbers of a job over a level
 unfoldable pub settings_in : List Row → Option Settings
 settings_in rows =
@@ -32,7 +45,9 @@ settings_in rows =
     option_and_then (λ size.
     option_and_then (λ planes.
     option_and_then (λ openings.
-    Some (record { zone = zone; skill = skill; size = size; planes = planes; openings = openings }))
+    option_and_then (λ spans.
+    Some (record { zone = zone; skill = skill; size = size; planes = planes; openings = openings; spans = spans }))
+    (spans_in rows))
     (number_option MIN_OPENINGS MOST_OPENINGS DEFAULT_OPENINGS (first_of (codes "openings") rows)))
     (number_option MIN_PLANES MAX_PLANES DEFAULT_PLANES (first_of (codes "planes") rows)))
     (number_option MIN_SIZE MAX_SIZE DEFAULT_SIZE (first_of (codes "size") rows)))
@@ -59,7 +74,7 @@ unfoldable pub has_no_files : List Row → Bool
 has_no_files rows = lacks (codes "tables") rows && (lacks (codes "things") rows && (lacks (codes "path") rows && lacks (codes "weapon") rows))
 
 unfoldable pub has_no_settings : List Row → Bool
-has_no_settings rows = has_no_files rows && (lacks (codes "skill") rows && (lacks (codes "size") rows && (lacks (codes "planes") rows && lacks (codes "openings") rows)))
+has_no_settings rows = has_no_files rows && (lacks (codes "skill") rows && (lacks (codes "size") rows && (lacks (codes "planes") rows && (lacks (codes "openings") rows && lacks (codes "spans") rows))))
 
 unfoldable pub has_no_options : List Row → Bool
 has_no_options rows = has_no_settings rows && (lacks (codes "zone") rows && lacks (codes "format") rows)

@@ -3,7 +3,7 @@ use Rattle.std.specs.Prelude.{Bool, cond, nat_lt, nat_le, ◌&&◌, List, length
 use Rattle.clap.specs.Words.{Row, Text, first_of}
 use Rattle.lump_rules.specs.Names.{name_of_text}
 use Rattle.job_rules.specs.declared.command.LevelTask.{LevelTask}
-use Rattle.job_rules.specs.declared.command.LevelTask.TheVariants.{Render, Audit, Limits, Trim, Trace}
+use Rattle.job_rules.specs.declared.command.LevelTask.TheVariants.{Render, Audit, Limits, Trim, Trace, List as Lists}
 use Rattle.job_rules.specs.declared.ranges.TheConstants.{MAX_WADS}
 use Rattle.job_rules.specs.LevelJobs.{FileNames, LevelJobValue}
 use Rattle.command_line.specs.Choices.{format_in, lacks, settings_in}
@@ -12,14 +12,20 @@ unfoldable pub other_level_task : Text → Option LevelTask
 other_level_task job =
     cond (bytes_eq job (codes "audit")) (Some Audit)
     (cond (bytes_eq job (codes "limits")) (Some Limits)
-    (cond (bytes_eq job (codes "trim")) (Some Trim)
-    (cond (bytes_eq job (codes "trace")) (Some Trace) None)))
+    (cond (bytes_eq job (codes "list")) (Some Lists)
+    (cond (bytes_eq job (codes "trim")) (Some Trim) None)))
+
+-- how spans are stepped is asked of `trace` too, and of no other job that draws no frame
+unfoldable pub plain_level_task : List Row → Text → Option LevelTask
+plain_level_task rows job =
+    cond (bytes_eq job (codes "trace")) (Some Trace)
+    (cond (lacks (codes "spans") rows) (other_level_task job) None)
 
 -- `render` may have a format, the other jobs over a level have none
 unfoldable pub level_task_in : List Row → Text → Option LevelTask
 level_task_in rows job =
     cond (bytes_eq job (codes "render")) (option_and_then (λ format. Some (Render format)) (format_in rows))
-    (cond (lacks (codes "format") rows) (other_level_task job) None)
+    (cond (lacks (codes "format") rows) (plain_level_task rows job) None)
 
 -- three files must be given, and one may be
 unfoldable pub file_names_in : List Row → Option FileNames

@@ -29,7 +29,7 @@ unfoldable pub with_files : App → App
 with_files command = with_option (with_option (with_option (with_option command (codes "tables")) (codes "things")) (codes "path")) (codes "weapon")
 
 unfoldable pub with_settings : App → App
-with_settings command = with_three command (codes "format") (codes "skill") (codes "size")
+with_settings command = with_option (with_three command (codes "format") (codes "skill") (codes "size")) (codes "spans")
 
 unfoldable pub with_limits : App → App
 with_limits command = with_three command (codes "zone") (codes "planes") (codes "openings")

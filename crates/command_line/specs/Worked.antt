@@ -5,17 +5,18 @@ use Rattle.clap.proofs.OnLiterals.{clap_on_literals}
 use Rattle.numerals.specs.Numerals.{digits_after, is_numeral, numeral}
 use Rattle.lump_rules.specs.Names.{filled}
 use Rattle.job_rules.specs.declared.command.MakeJob.TheVariants.{Wad}
-use Rattle.job_rules.specs.declared.command.LevelTask.TheVariants.{Audit, Limits, Trim, Render}
+use Rattle.job_rules.specs.declared.command.LevelTask.TheVariants.{Audit, Limits, Trim, Render, Trace}
 use Rattle.job_rules.specs.declared.command.Format.TheVariants.{Index, Ppm}
+use Rattle.view_rules.specs.declared.Spans.TheVariants.{Full, Packed}
 use Rattle.command_line.specs.Simple.{simple_command, with_files, with_limits, with_option, with_settings}
-use Rattle.command_line.specs.Choices.{format_in, format_named, has_no_files, has_no_options, has_no_settings, multiple_of_step, number_option, number_within, settings_in, zone_in}
-use Rattle.command_line.specs.LevelJobs.{are_wads, file_names_in, other_level_task, level_task_in, level_job_of}
+use Rattle.command_line.specs.Choices.{format_in, format_named, has_no_files, has_no_options, has_no_settings, multiple_of_step, number_option, number_within, settings_in, spans_in, spans_named, zone_in}
+use Rattle.command_line.specs.LevelJobs.{are_wads, file_names_in, other_level_task, plain_level_task, level_task_in, level_job_of}
 use Rattle.job_rules.specs.Commands.{exercise, flat, make, level_job}
 use Rattle.command_line.specs.Commands.{command_in, command_of, count_of, exercise_numbers, exercise_command, flat_command, job_named, make_job_of, make_command, numbered_make, plain_make, level_command, level_with}
 
 -- what the rows below unfold
 unfoldable pub words_unfolded : ℕ
-unfolding clap_on_literals digits_after is_numeral numeral filled simple_command with_files with_limits with_option with_settings format_in format_named has_no_files has_no_options has_no_settings multiple_of_step number_option number_within settings_in zone_in are_wads file_names_in other_level_task level_task_in level_job_of command_in command_of count_of exercise_numbers exercise_command flat_command job_named make_job_of make_command numbered_make plain_make level_command level_with
+unfolding clap_on_literals digits_after is_numeral numeral filled simple_command with_files with_limits with_option with_settings format_in format_named has_no_files has_no_options has_no_settings multiple_of_step number_option number_within settings_in spans_in spans_named zone_in are_wads file_names_in other_level_task plain_level_task level_task_in level_job_of command_in command_of count_of exercise_numbers exercise_command flat_command job_named make_job_of make_command numbered_make plain_make level_command level_with
 words_unfolded = 0
 
 -- words after `--` are no options
@@ -42,7 +43,7 @@ abbrev pub audit_words : List Text → List Text
 audit_words more = codes "audit" ∷ codes "e1m1" ∷ codes "a" ∷ codes "--tables" ∷ codes "t" ∷ codes "--things" ∷ codes "o" ∷ more
 
 -- an audit with the greatest skill
-pub audit_most : command_of (audit_words (codes "--path" ∷ codes "p" ∷ codes "--skill" ∷ codes "5" ∷ [])) ≡ Some (level_job Audit (record { map_name = 69 ∷ 49 ∷ 77 ∷ 49 ∷ 0 ∷ 0 ∷ 0 ∷ 0 ∷ []; files = record { tables = codes "t"; things = codes "o"; path = codes "p"; weapon = None }; settings = record { zone = 6291456; skill = 5; size = 11; planes = 128; openings = 20480 } }) (codes "a" ∷ []))
+pub audit_most : command_of (audit_words (codes "--path" ∷ codes "p" ∷ codes "--skill" ∷ codes "5" ∷ [])) ≡ Some (level_job Audit (record { map_name = 69 ∷ 49 ∷ 77 ∷ 49 ∷ 0 ∷ 0 ∷ 0 ∷ 0 ∷ []; files = record { tables = codes "t"; things = codes "o"; path = codes "p"; weapon = None }; settings = record { zone = 6291456; skill = 5; size = 11; planes = 128; openings = 20480; spans = Full } }) (codes "a" ∷ []))
 unfolding words_unfolded
 audit_most = refl
 
@@ -61,17 +62,17 @@ abbrev pub level_words : Text → List Text → List Text
 level_words job more = job ∷ codes "e1m1" ∷ codes "a" ∷ codes "--tables" ∷ codes "t" ∷ codes "--things" ∷ codes "o" ∷ codes "--path" ∷ codes "p" ∷ more
 
 -- frames as pictures
-pub render_ppm : command_of (level_words (codes "render") (codes "--format" ∷ codes "ppm" ∷ [])) ≡ Some (level_job (Render Ppm) (record { map_name = 69 ∷ 49 ∷ 77 ∷ 49 ∷ 0 ∷ 0 ∷ 0 ∷ 0 ∷ []; files = record { tables = codes "t"; things = codes "o"; path = codes "p"; weapon = None }; settings = record { zone = 6291456; skill = 3; size = 11; planes = 128; openings = 20480 } }) (codes "a" ∷ []))
+pub render_ppm : command_of (level_words (codes "render") (codes "--format" ∷ codes "ppm" ∷ [])) ≡ Some (level_job (Render Ppm) (record { map_name = 69 ∷ 49 ∷ 77 ∷ 49 ∷ 0 ∷ 0 ∷ 0 ∷ 0 ∷ []; files = record { tables = codes "t"; things = codes "o"; path = codes "p"; weapon = None }; settings = record { zone = 6291456; skill = 3; size = 11; planes = 128; openings = 20480; spans = Full } }) (codes "a" ∷ []))
 unfolding words_unfolded
 render_ppm = refl
 
 -- the limits of a level
-pub limits_plain : command_of (level_words (codes "limits") []) ≡ Some (level_job Limits (record { map_name = 69 ∷ 49 ∷ 77 ∷ 49 ∷ 0 ∷ 0 ∷ 0 ∷ 0 ∷ []; files = record { tables = codes "t"; things = codes "o"; path = codes "p"; weapon = None }; settings = record { zone = 6291456; skill = 3; size = 11; planes = 128; openings = 20480 } }) (codes "a" ∷ []))
+pub limits_plain : command_of (level_words (codes "limits") []) ≡ Some (level_job Limits (record { map_name = 69 ∷ 49 ∷ 77 ∷ 49 ∷ 0 ∷ 0 ∷ 0 ∷ 0 ∷ []; files = record { tables = codes "t"; things = codes "o"; path = codes "p"; weapon = None }; settings = record { zone = 6291456; skill = 3; size = 11; planes = 128; openings = 20480; spans = Full } }) (codes "a" ∷ []))
 unfolding words_unfolded
 limits_plain = refl
 
 -- the trimmed file of a level, which has no format
-pub trim_plain : command_of (level_words (codes "trim") []) ≡ Some (level_job Trim (record { map_name = 69 ∷ 49 ∷ 77 ∷ 49 ∷ 0 ∷ 0 ∷ 0 ∷ 0 ∷ []; files = record { tables = codes "t"; things = codes "o"; path = codes "p"; weapon = None }; settings = record { zone = 6291456; skill = 3; size = 11; planes = 128; openings = 20480 } }) (codes "a" ∷ []))
+pub trim_plain : command_of (level_words (codes "trim") []) ≡ Some (level_job Trim (record { map_name = 69 ∷ 49 ∷ 77 ∷ 49 ∷ 0 ∷ 0 ∷ 0 ∷ 0 ∷ []; files = record { tables = codes "t"; things = codes "o"; path = codes "p"; weapon = None }; settings = record { zone = 6291456; skill = 3; size = 11; planes = 128; openings = 20480; spans = Full } }) (codes "a" ∷ []))
 unfolding words_unfolded
 trim_plain = refl
 
@@ -83,3 +84,12 @@ trim_format = refl
 pub exercise_least : command_of (codes "exercise" ∷ codes "1" ∷ codes "--zone" ∷ codes "64" ∷ []) ≡ Some (exercise 1 64 Index)
 unfolding words_unfolded
 exercise_least = refl
+
+-- packed spans are for what draws
+pub trace_packed : command_of (level_words (codes "trace") (codes "--spans" ∷ codes "packed" ∷ [])) ≡ Some (level_job Trace (record { map_name = 69 ∷ 49 ∷ 77 ∷ 49 ∷ 0 ∷ 0 ∷ 0 ∷ 0 ∷ []; files = record { tables = codes "t"; things = codes "o"; path = codes "p"; weapon = None }; settings = record { zone = 6291456; skill = 3; size = 11; planes = 128; openings = 20480; spans = Packed } }) (codes "a" ∷ []))
+unfolding words_unfolded
+trace_packed = refl
+
+pub limits_packed : command_of (level_words (codes "limits") (codes "--spans" ∷ codes "packed" ∷ [])) ≡ None
+unfolding words_unfolded
+limits_packed = refl

@@ -3,7 +3,7 @@
 ghost use Rattle.std.specs.Prelude.{◌≡◌, ◌%◌, IfSome, option_map};
 ghost use Rattle.clap.specs.Words.{found_of, rows_of};
 ghost use Rattle.job_rules.specs.Ranges.{AreSettings, IsWithin, IsZone};
-ghost use Rattle.command_line.specs.Choices.{format_in, has_no_files, has_no_options, has_no_settings, multiple_of_step, number_option, number_within, settings_in, zone_in};
+ghost use Rattle.command_line.specs.Choices.{format_in, has_no_files, has_no_options, has_no_settings, multiple_of_step, number_option, number_within, settings_in, spans_in, zone_in};
 ghost use Rattle.job_rules.specs.declared.command.Settings.{Settings};
 
 use crate::simple::value;
@@ -13,6 +13,7 @@ use job_rules::{
     MIN_SKILL, MIN_ZONE, MOST_OPENINGS, Settings, ZONE_STEP,
 };
 use numerals::numeral;
+use view_rules::Spans;
 
 /// The size of a zone in bytes where none is asked for.
 pub const DEFAULT_ZONE: u32 = 6_291_456;
@@ -105,13 +106,28 @@ pub(crate) fn settings_in(found: &ArgMatches<'_>) -> Option<Settings>
         DEFAULT_OPENINGS,
         value(found, "openings"),
     )?;
+    let spans = spans_in(found)?;
     Some(Settings {
         zone,
         skill: skill as u8,
         size: size as u8,
         planes,
         openings,
+        spans,
     })
+}
+
+// How spans are stepped, in full where it is not given.
+#[tactic(auto, unfolding(crate::specs::Choices::spans_in, crate::specs::Choices::spans_named))]
+fn spans_in(found: &ArgMatches<'_>) -> Option<Spans>
+    ensures { result ≡ spans_in (rows_of (found_of found.now)) }
+{
+    match value(found, "spans") {
+        None => Some(Spans::Full),
+        Some("full") => Some(Spans::Full),
+        Some("packed") => Some(Spans::Packed),
+        Some(_) => None,
+    }
 }
 
 // The format, index where none is given.
@@ -145,6 +161,7 @@ pub(crate) fn has_no_settings(found: &ArgMatches<'_>) -> bool
         && value(found, "size").is_none()
         && value(found, "planes").is_none()
         && value(found, "openings").is_none()
+        && value(found, "spans").is_none()
 }
 
 // Whether no file is given by an option.

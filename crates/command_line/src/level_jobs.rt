@@ -4,7 +4,7 @@ ghost use Rattle.std.specs.Prelude.{◌≡◌, IsTrue, length, IfOk, IfSome, Som
 ghost use Rattle.clap.specs.Words.{found_of, rows_of};
 ghost use Rattle.job_rules.specs.Ranges.{AreSettings, IsWithin};
 ghost use Rattle.job_rules.specs.LevelJobs.{file_names, level_job_value};
-ghost use Rattle.command_line.specs.LevelJobs.{are_wads, file_names_in, other_level_task, level_task_in, level_job_of};
+ghost use Rattle.command_line.specs.LevelJobs.{are_wads, file_names_in, other_level_task, plain_level_task, level_task_in, level_job_of};
 
 use crate::choices::{format_in, settings_in};
 use crate::simple::value;
@@ -25,10 +25,25 @@ pub(crate) fn level_task_in(found: &ArgMatches<'_>, job: &str) -> Option<LevelTa
     if value(found, "format").is_some() {
         return None;
     }
+    plain_level_task(found, job)
+}
+
+// The same of a job without a format: of `render` and `trace` alone it is asked how spans are
+// stepped.
+#[tactic(auto, unfolding(crate::specs::LevelJobs::plain_level_task))]
+fn plain_level_task(found: &ArgMatches<'_>, job: &str) -> Option<LevelTask>
+    ensures { result ≡ plain_level_task (rows_of (found_of found.now)) job.now }
+{
+    if job == "trace" {
+        return Some(LevelTask::Trace);
+    }
+    if value(found, "spans").is_some() {
+        return None;
+    }
     other_level_task(job)
 }
 
-// The job over a level of that name, other than `render`.
+// The job over a level of that name, other than `render` and `trace`.
 #[tactic(auto, unfolding(crate::specs::LevelJobs::other_level_task))]
 fn other_level_task(job: &str) -> Option<LevelTask>
     ensures { result ≡ other_level_task job.now }
@@ -36,8 +51,8 @@ fn other_level_task(job: &str) -> Option<LevelTask>
     match job {
         "audit" => Some(LevelTask::Audit),
         "limits" => Some(LevelTask::Limits),
+        "list" => Some(LevelTask::List),
         "trim" => Some(LevelTask::Trim),
-        "trace" => Some(LevelTask::Trace),
         _ => None,
     }
 }

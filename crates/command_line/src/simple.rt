@@ -95,7 +95,8 @@ fn with_files<'a>(alloc: Global, command: Command<'a>) -> Result<Command<'a>, Al
 fn with_settings<'a>(alloc: Global, command: Command<'a>) -> Result<Command<'a>, AllocError>
     ensures { IfOk result (λ c. app_of c ≡ with_settings (app_of command.entry)) }
 {
-    with_three(alloc, command, "format", "skill", "size")
+    let command = with_three(alloc, command, "format", "skill", "size")?;
+    with_option(alloc, command, "spans")
 }
 
 // The command with the options of the limits.

@@ -29,7 +29,7 @@ use Rattle.doom_run.proofs.PictureLemmas.{layer_needed, layer_there}
 pub loaded_textures : (level : LevelJobValue) (wads : List (List ℕ)) (files : List File) (loaded : LoadedValue) → load_in level wads files ≡ Ok loaded → AreTexturesOf (wad_contents wads files) loaded.files.lumps (textures_view loaded.scene)
 unfolding load_in
 loaded_textures level wads files loaded e =
-    let a = and_then-ok (files_in level.files wads level.settings.size files) _ loaded e in
+    let a = and_then-ok (files_in level.files wads level.settings files) _ loaded e in
     audited_by (λ l. AreTexturesOf (wad_contents wads files) l.files.lumps (textures_view l.scene)) (wad_bytes wads files a.0.lumps) level a.0 loaded (audited_of level wads files a.0 loaded a.1 e)
     (λ scene weapons accepted layers. scene_textures (wad_contents wads files) a.0.lumps a.0.things level.map_name level.settings.skill scene accepted)
 

@@ -147,7 +147,7 @@ module _ (lumps : List Lump) (name : List ℕ) (base : LevelBase) (parts : IsBas
 loaded_base : (level : LevelJobValue) (wads : List (List ℕ)) (files : List File) (loaded : LoadedValue) → load_in level wads files ≡ Ok loaded → IsBaseOf loaded.files.lumps level.map_name loaded.scene.base
 unfolding load_in
 loaded_base level wads files loaded e =
-    let a = and_then-ok (files_in level.files wads level.settings.size files) _ loaded e in
+    let a = and_then-ok (files_in level.files wads level.settings files) _ loaded e in
     audited_by (λ l. IsBaseOf l.files.lumps level.map_name l.scene.base) (wad_bytes wads files a.0.lumps) level a.0 loaded (audited_of level wads files a.0 loaded a.1 e)
     (λ scene weapons accepted layers.
     base_parts (wad_bytes wads files a.0.lumps) a.0.lumps level.map_name scene.base (scene_parts (wad_bytes wads files a.0.lumps) a.0.lumps a.0.things level.map_name level.settings.skill scene accepted).base)

@@ -14,6 +14,7 @@ use Rattle.csv_tables.specs.declared.path.TheConstants.{MAX_VIEWS}
 use Rattle.csv_tables.specs.Records.{checked_shape, table_records, then_checked}
 use Rattle.csv_tables.specs.Paths.{path_in, path_of_records, path_row, path_width}
 use Rattle.csv_tables.proofs.RowSentences.{rows_after-within}
+use Rattle.job_rules.specs.declared.command.Settings.{Settings}
 use Rattle.job_rules.specs.declared.command.MakeJob.TheVariants.{Wad, Path, Tables, Things}
 use Rattle.zone_rules.specs.Zones.{IsZoneSize}
 use Rattle.job_rules.specs.LevelJobs.{FileNames, LevelJobValue}
@@ -72,10 +73,10 @@ texts_few names files texts e =
     let same : b.0 ≡ texts.path = cc (c.2) in
     rw same at few
 
-files_few : (names : FileNames) (wads : List (List ℕ)) (size : ℕ) (files : List File) (values : FilesValue) → files_in names wads size files ≡ Ok values → length values.path ≤ MAX_VIEWS
+files_few : (names : FileNames) (wads : List (List ℕ)) (settings : Settings) (files : List File) (values : FilesValue) → files_in names wads settings files ≡ Ok values → length values.path ≤ MAX_VIEWS
 unfolding files_in
-files_few names wads size files values e =
-    let a = and_then-ok (in_file (tables_file size) names.tables files) _ values e in
+files_few names wads settings files values e =
+    let a = and_then-ok (in_file (tables_file settings) names.tables files) _ values e in
     let b = and_then-ok (texts_in names files) _ values a.2 in
     let c = and_then-ok (lumps_in wads files) _ values b.2 in
     let few : length b.0.path ≤ MAX_VIEWS = texts_few names files b.0 b.1 in
@@ -86,11 +87,11 @@ files_few names wads size files values e =
 pub loaded_few : (level : LevelJobValue) (wads : List (List ℕ)) (files : List File) (loaded : LoadedValue) → load_in level wads files ≡ Ok loaded → length loaded.files.path ≤ MAX_VIEWS
 unfolding load_in
 loaded_few level wads files loaded e =
-    let a = and_then-ok (files_in level.files wads level.settings.size files) _ loaded e in
+    let a = and_then-ok (files_in level.files wads level.settings files) _ loaded e in
     let b = no_file-ok (from_below of_audit (audited_in (wad_bytes wads files a.0.lumps) level a.0)) loaded a.2 in
     let c = from_below-ok of_audit (audited_in (wad_bytes wads files a.0.lumps) level a.0) loaded b in
     audited_by (λ (l : LoadedValue). length l.files.path ≤ MAX_VIEWS) (wad_bytes wads files a.0.lumps) level a.0 loaded c
-    (λ scene weapons s w. files_few level.files wads level.settings.size files a.0 a.1)
+    (λ scene weapons s w. files_few level.files wads level.settings files a.0 a.1)
 
 -- steps that ask for no file find none absent
 none_asked : {A R : Type 0} (r : Result A R) → no_file r ≡ Err absent → ⊥
@@ -155,10 +156,10 @@ module _ (n zone : ℕ) where
   unfolding lumps_in
   lumps_held = both_held _ _ (λ e. not_absent {R = Refusal} (made_file (Wad n) ∷ []) (rw (wads_held n) at e)) (λ contents. none_asked (wad_files contents))
 
-  files_held : files_in (made_level zone).files made_wads (made_level zone).settings.size (made_files n) ≡ Err absent → ⊥
+  files_held : files_in (made_level zone).files made_wads (made_level zone).settings (made_files n) ≡ Err absent → ⊥
   unfolding files_in
   files_held =
-      both_held _ _ (file_held (tables_file 11) (codes "tables") (made_files n) _ (tables_held n)) (λ tables.
+      both_held _ _ (file_held (tables_file (made_level zone).settings) (codes "tables") (made_files n) _ (tables_held n)) (λ tables.
       both_held _ _ texts_held (λ texts.
       both_held _ _ lumps_held (λ lumps. not_absent (record { tables = tables; things = texts.things; path = texts.path; weapons = texts.weapons; lumps = lumps }))))
 

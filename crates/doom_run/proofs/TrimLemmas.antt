@@ -121,7 +121,7 @@ module _ (level : LevelJobValue) (wads : List (List ℕ)) (files : List File) (l
   unfolding load_in
   copied_needed lump copied =
       let value = loaded_value loaded in
-      let a = and_then-ok (files_in level.files wads level.settings.size files) _ value is in
+      let a = and_then-ok (files_in level.files wads level.settings files) _ value is in
       audited_by (λ l. (pictures : List ℕ) (parts : List TrimPart) → trim_plan l.files.lumps (art_with l.scene pictures) level.map_name ≡ Ok parts → IsCopied parts lump → is_needed l.files.lumps (art_with l.scene pictures) lump ≡ true)
       (wad_bytes wads files a.0.lumps) level a.0 value (audited_of level wads files a.0 value a.1 is)
       (λ scene weapons accepted layers pictures parts plan among.

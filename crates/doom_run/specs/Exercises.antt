@@ -3,6 +3,7 @@ use Rattle.std.specs.Prelude.{ℕ, ◌++◌, ◌∷◌, ◌*◌, ◌%◌, ◌^�
 use Rattle.outside.specs.Shelf.{File}
 use Rattle.command_line.specs.declared.choices.TheConstants.{DEFAULT_OPENINGS, DEFAULT_PLANES, DEFAULT_SIZE, DEFAULT_SKILL}
 use Rattle.frame_writer.specs.declared.TheConstants.{FRAME_BYTES, PPM_BYTES}
+use Rattle.view_rules.specs.declared.Spans.TheVariants.{Full}
 use Rattle.job_rules.specs.declared.command.Format.{Format}
 use Rattle.job_rules.specs.declared.command.Format.TheVariants.{Index, Ppm}
 use Rattle.job_rules.specs.declared.command.MakeJob.TheVariants.{Wad, Path, Tables, Things}
@@ -29,7 +30,7 @@ abbrev pub made_level : ℕ → LevelJobValue
 made_level zone = record {
   map_name = 77 ∷ 65 ∷ 80 ∷ 48 ∷ 49 ∷ 0 ∷ 0 ∷ 0 ∷ [];
   files = record { tables = codes "tables"; things = codes "things"; path = codes "path"; weapon = None };
-  settings = record { zone = zone; skill = DEFAULT_SKILL; size = DEFAULT_SIZE; planes = DEFAULT_PLANES; openings = DEFAULT_OPENINGS };
+  settings = record { zone = zone; skill = DEFAULT_SKILL; size = DEFAULT_SIZE; planes = DEFAULT_PLANES; openings = DEFAULT_OPENINGS; spans = Full };
 }
 
 -- the line of an exercise: sectors, views, frames, and the number and the sum of the frames' bytes

@@ -24,6 +24,7 @@ use Rattle.doom_run.specs.declared.canvas.ViewForm.{ViewForm}
 use Rattle.doom_run.specs.declared.canvas.ViewForm.TheVariants.{Frame, Trace}
 use Rattle.doom_run.specs.Exercises.{exercised_bytes, made_files, made_level, made_wads}
 use Rattle.doom_run.specs.Layers.{SeenView}
+use Rattle.doom_run.specs.Lists.{listed_bytes}
 use Rattle.doom_run.specs.Trims.{plan_in}
 use Rattle.doom_run.specs.Views.{ViewsValue, counted_bytes, due_views, rendered_bytes, rendered_end, views_of}
 
@@ -46,6 +47,10 @@ rendered form views = record { output = rendered_bytes form views; end = rendere
 -- the counts of these views
 abbrev pub counted_views : ViewsValue → Written
 counted_views views = done (counted_bytes views)
+
+-- what these views are made of, item by item
+abbrev pub listed_views : ViewsValue → Written
+listed_views views = done (listed_bytes views)
 
 -- the line of made files, rendered in memory and counted
 abbrev pub exercised : ℕ → Format → ViewsValue → Written
@@ -80,6 +85,7 @@ abbrev pub delivery_of : LevelTask → LevelJobValue → Delivery
 delivery_of (task.Render format) level = drawing level (rendered (Frame format))
 delivery_of task.Audit level = telling (λ bytes loaded. audited (loaded_sizes loaded))
 delivery_of task.Limits level = telling (λ bytes loaded. counted_views (views_of bytes level.settings loaded))
+delivery_of task.List level = telling (λ bytes loaded. listed_views (views_of bytes level.settings loaded))
 delivery_of task.Trim level = trimming level
 delivery_of task.Trace level = drawing level (rendered Trace)
 

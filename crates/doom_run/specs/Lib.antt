@@ -12,6 +12,7 @@ pub mod Takes
 pub mod Trims
 pub mod Verdict
 pub mod Layers
+pub mod Lists
 pub mod Views
 pub mod Words
 pub mod Drawn

@@ -21,6 +21,7 @@ use lump_rules::Name8;
 use outside::{Failed, MemoryFile, MemoryShelf, OutOfMemory, Sink, TallySink};
 use refusals::Line;
 use std::alloc::Global;
+use view_rules::Spans;
 
 // What an exercise counted.
 #[derive(Clone, Copy)]
@@ -82,6 +83,7 @@ fn made_level(zone: u32) -> LevelJob<'static>
             size: DEFAULT_SIZE as u8,
             planes: DEFAULT_PLANES,
             openings: DEFAULT_OPENINGS,
+            spans: Spans::Full,
         },
     }
 }

@@ -5,6 +5,7 @@ use Rattle.outside.specs.Faults.{and_then, from_below}
 use Rattle.lump_rules.specs.declared.wad.Lump.{Lump}
 use Rattle.lump_rules.specs.declared.wad.DirRefusal.{DirRefusal}
 use Rattle.lump_rules.specs.Wads.{directory}
+use Rattle.job_rules.specs.declared.command.Settings.{Settings}
 use Rattle.job_rules.specs.LevelJobs.{FileNames}
 use Rattle.refusals.specs.declared.refusal.Refusal.{Refusal}
 use Rattle.refusals.specs.declared.refusal.Refusal.TheVariants.{Wad}
@@ -31,11 +32,11 @@ is_held None contents e = absurd (cc)
 is_held (Some found) contents e = let same : found ≡ contents = cc in ap Some same
 
 -- all files were accepted: the WADs are held, and their bytes list the lumps
-pub wads_accepted : (names : FileNames) (wads : List (List ℕ)) (size : ℕ) (files : List File) (value : FilesValue) →
-    files_in names wads size files ≡ Ok value → AreListed wads files value.lumps
+pub wads_accepted : (names : FileNames) (wads : List (List ℕ)) (settings : Settings) (files : List File) (value : FilesValue) →
+    files_in names wads settings files ≡ Ok value → AreListed wads files value.lumps
 unfolding files_in lumps_in
-wads_accepted names wads size files value e =
-    let tables = both_passed (in_file (tables_file size) names.tables files) _ value e in
+wads_accepted names wads settings files value e =
+    let tables = both_passed (in_file (tables_file settings) names.tables files) _ value e in
     let texts = both_passed (texts_in names files) _ value tables.2 in
     let lumps = both_passed (lumps_in wads files) _ value texts.2 in
     let wad = both_passed (else_absent (files_named wads files)) _ lumps.0 lumps.1 in

@@ -18,6 +18,7 @@ use Rattle.csv_tables.specs.Things.{lines_of_records, things_in_table}
 use Rattle.csv_tables.specs.Paths.{path_of_records, path_in}
 use Rattle.csv_tables.specs.Weapons.{weapons_of_records, weapons_in}
 use Rattle.job_files.specs.declared.whole_files.FileKind.TheVariants as kind
+use Rattle.job_rules.specs.declared.command.Settings.{Settings}
 use Rattle.refusals.specs.declared.refusal.Refusal.{Refusal}
 use Rattle.refusals.specs.declared.refusal.Refusal.TheVariants.{Tables, Things, Path, Weapons}
 use Rattle.outside.specs.declared.fault.Fault.{Fault}
@@ -55,11 +56,11 @@ whole_length : (whole : Bool) (refusal : TablesRefusal) (others : Option TablesR
 whole_length true refusal others tables bytes read e = refl
 whole_length false refusal others tables bytes read e = e
 
-pub tables_length : (size : ℕ) (bytes : List ℕ) → tables_file size bytes ≡ and_then (bytes_in kind.Tables bytes) (tables_file size)
+pub tables_length : (settings : Settings) (bytes : List ℕ) → tables_file settings bytes ≡ and_then (bytes_in kind.Tables bytes) (tables_file settings)
 unfolding bytes_in length_refusal tables_length_refusal tables_in tables_refusal
-tables_length size bytes =
-    whole_length (length bytes == TABLES_BYTES) (Length (length bytes)) (angles_refusal (angles_in bytes) (shape_of_size size))
-    (record { angles = angles_in bytes; size = size }) bytes (tables_file size) refl
+tables_length settings bytes =
+    whole_length (length bytes == TABLES_BYTES) (Length (length bytes)) (angles_refusal (angles_in bytes) (shape_of_size settings.size))
+    (record { angles = angles_in bytes; size = settings.size; spans = settings.spans }) bytes (tables_file settings) refl
 
 -- the two steps of a file that is held
 then_checked : {A : Type 0} (first : List ℕ → Result (List ℕ) Refusal) (read : List ℕ → Result A Refusal) (bytes : List ℕ) (whole : Result (List ℕ) Refusal) →

@@ -17,6 +17,7 @@ use Rattle.csv_tables.specs.Things.{things_in_table}
 use Rattle.csv_tables.specs.Paths.{path_in}
 use Rattle.csv_tables.specs.Weapons.{weapons_in}
 use Rattle.job_rules.specs.LevelJobs.{FileNames}
+use Rattle.job_rules.specs.declared.command.Settings.{Settings}
 use Rattle.refusals.specs.declared.refusal.Refusal.{Refusal}
 use Rattle.refusals.specs.declared.refusal.Refusal.TheVariants.{Tables, Things, Path, Weapons, Wad}
 use Rattle.job_files.specs.declared.read.SceneFiles.{SceneFiles}
@@ -49,13 +50,13 @@ abbrev pub value_unless : {A R : Type 0} → Option R → A → Result A R
 value_unless None value = Ok value
 value_unless (Some refusal) value = Err refusal
 
--- the tables of angles in a file, for views of a size
-unfoldable pub tables_in : ℕ → List ℕ → Result TablesValue TablesRefusal
-tables_in size bytes = value_unless (tables_refusal bytes size) (record { angles = angles_in bytes; size = size })
+-- the tables of angles in a file, for views of a size whose spans are stepped so
+unfoldable pub tables_in : Settings → List ℕ → Result TablesValue TablesRefusal
+tables_in settings bytes = value_unless (tables_refusal bytes settings.size) (record { angles = angles_in bytes; size = settings.size; spans = settings.spans })
 
 -- what the bytes of each kind of file give
-abbrev pub tables_file : ℕ → List ℕ → Result TablesValue Refusal
-tables_file size bytes = from_below Tables (tables_in size bytes)
+abbrev pub tables_file : Settings → List ℕ → Result TablesValue Refusal
+tables_file settings bytes = from_below Tables (tables_in settings bytes)
 
 abbrev pub things_file : List ℕ → Result (List ThingLine) Refusal
 things_file bytes = from_below Things (things_in_table bytes)
@@ -97,9 +98,9 @@ texts_in names files =
     Ok (record { things = things; path = path; weapons = weapons }))))
 
 -- all of them in the order in which they are asked for and read: tables, texts, WADs
-unfoldable pub files_in : FileNames → List (List ℕ) → ℕ → List File → Result FilesValue (Stop Refusal)
-files_in names wads size files =
-    and_then (in_file (tables_file size) names.tables files) (λ tables.
+unfoldable pub files_in : FileNames → List (List ℕ) → Settings → List File → Result FilesValue (Stop Refusal)
+files_in names wads settings files =
+    and_then (in_file (tables_file settings) names.tables files) (λ tables.
     and_then (texts_in names files) (λ texts.
     and_then (lumps_in wads files) (λ lumps.
     Ok (record { tables = tables; things = texts.things; path = texts.path; weapons = texts.weapons; lumps = lumps }))))

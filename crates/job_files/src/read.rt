@@ -16,7 +16,7 @@ use crate::texts::{TextTables, load_texts};
 use crate::wads::load_wads;
 use angle_tables::Tables;
 use csv_tables::{MAX_TABLE_BYTES, PathTable, ThingTable, WeaponTable};
-use job_rules::Files;
+use job_rules::{Files, Settings};
 use lump_rules::{ENTRY_SIZE, HEADER_SIZE};
 use outside::Shelf;
 use std::alloc::Global;
@@ -34,7 +34,8 @@ pub struct SceneFiles {
     pub dir: Directory,
 }
 
-/// The files of these names, for views of `size`, 3 to 11, with the WADs in the order given.
+/// The files of these names, for views of the size that is set, 3 to 11, whose spans are stepped as
+/// is set, with the WADs in the order given.
 ///
 /// Each file is asked for and read in its turn: tables of angles, things, path, and the weapon
 /// layers where they are named. Then all WADs are asked for, and after that their directories are
@@ -53,14 +54,14 @@ pub fn read_files<S: Shelf>(
     alloc: Global,
     names: &Files<'_>,
     wads: &[&str],
-    size: u8,
+    settings: &Settings,
     shelf: &mut S,
 ) -> Result<SceneFiles, LoadFault>
-    requires least { MIN_SIZE ≤ size }
-    requires greatest { size ≤ MAX_SIZE }
+    requires least { MIN_SIZE ≤ settings.now.size }
+    requires greatest { settings.now.size ≤ MAX_SIZE }
     ensures answers { (files : List File) → Holds (S.view shelf.old) files →
         ResultIsOrAbsent itself (S.view shelf.old).steady value_of
-        (files_in (file_names names.now) (map (λ wad. wad.now) wads.now) size files) result }
+        (files_in (file_names names.now) (map (λ wad. wad.now) wads.now) settings.now files) result }
     ensures contents { (files : List File) (contents : List (List ℕ)) →
         Holds (S.view shelf.old) files →
         files_named (map (λ wad. wad.now) wads.now) files ≡ Some contents →
@@ -68,7 +69,7 @@ pub fn read_files<S: Shelf>(
         × AllWithin contents found.dir.lumps) }
     ensures files { IfOk result (λ found. length found.dir.files ≡ length wads.now) }
     ensures count { IfOk result (λ found. length found.dir.lumps < 2 ^ 16) }
-    ensures size { IfOk result (λ found. found.tables.size ≡ size) }
+    ensures size { IfOk result (λ found. found.tables.size ≡ settings.now.size) }
     ensures full { IsNeverFull result }
     ensures follows { IsLaterShelf (S.view shelf.old) (S.view shelf.new) }
     ensures causes { HasCauses itself
@@ -88,7 +89,7 @@ pub fn read_files<S: Shelf>(
         (S.view shelf.new).taken ≤ (S.view shelf.old).taken
         + files_size (file_names names.now) (map (λ wad. wad.now) wads.now) files }
 {
-    let tables = load_tables(alloc, shelf, names.tables, size)?;
+    let tables = load_tables(alloc, shelf, names.tables, settings)?;
     let texts = load_texts(alloc, shelf, names)?;
     let dir = load_wads(alloc, shelf, wads)?;
     let TextTables {

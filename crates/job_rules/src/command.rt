@@ -1,6 +1,7 @@
 // What is asked for: a job with its names, numbers and files.
 
 use lump_rules::Name8;
+use view_rules::Spans;
 
 /// What frames are written as.
 #[derive(Clone, Copy, Debug, PartialEq, Eq)]
@@ -17,6 +18,7 @@ pub enum LevelTask {
     Render(Format),
     Audit,
     Limits,
+    List,
     Trim,
     Trace,
 }
@@ -40,7 +42,7 @@ pub struct Files<'a> {
 }
 
 /// The numbers of a job over a level: the zone's size in bytes, the skill, the size of the view,
-/// and the most planes and openings of a view.
+/// and the most planes and openings of a view; and how spans are stepped.
 #[derive(Clone, Copy, Debug, PartialEq, Eq)]
 pub struct Settings {
     pub zone: u32,
@@ -48,6 +50,7 @@ pub struct Settings {
     pub size: u8,
     pub planes: u32,
     pub openings: u32,
+    pub spans: Spans,
 }
 
 /// A level and how it is looked at.

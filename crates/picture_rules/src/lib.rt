@@ -3,15 +3,17 @@
 //! Rules only: records, and in `specs/` what a picture is made from (Scene), the drawn fragments
 //! and their dots (Walls), the planes (Planes), the fragments as the masked pass needs them
 //! (Masked), the vissprites (Things), the list of all paints (Paints), the frame and its trace
-//! (Picture), and the counts (Counts). The rules of one wall, one plane and one sprite stand in the
+//! (Picture), the counts (Counts), and the list of what a view is made of (Lists). The rules of one wall, one plane and one sprite stand in the
 //! folders `wall`, `plane` and `sprite`. A paint is what one layer writes; a dot one pixel of it.
 //! The original: R_RenderPlayerView, r_main.c.
 #![tactic(auto)]
 
+pub mod list;
 pub mod plane;
 pub mod sprite;
 pub mod wall;
 
+pub use list::{ListedFragment, ListedPlane, ListedSprite, MOST_TOLD, PlaneMaker};
 pub use plane::{Flat4, MOST_VISPLANES, PlaneKey, SKY_MAP, SKY_MID, SKY_SHIFT};
 pub use sprite::{
     MAX_VISSPRITES, MIN_DEPTH, Placed, ROTATION_SHIFT, ROTATION_TURN, SIDE_SHIFT, Seen, Shape5,

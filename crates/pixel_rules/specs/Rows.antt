@@ -5,12 +5,12 @@ use Rattle.word_rules.specs.Listed.{listed, listed_from, joined_lists}
 use Rattle.pixel_rules.specs.declared.Post.{Post}
 use Rattle.pixel_rules.specs.Dots.{cell_of, put_dots, is_at, last_dot_from, last_dot, colour_of, colour_at}
 use Rattle.pixel_rules.specs.Art.{Art, lump_source, painter_of}
-use Rattle.pixel_rules.specs.Strips.{texel_row, row_fraction, flat_place, shade, column_colour, span_colour, rows_between, column_dots, span_dots}
+use Rattle.pixel_rules.specs.Strips.{texel_row, row_fraction, flat_place, packed_half, pack, packed_at, packed_place, span_place, shade, column_colour, span_colour, rows_between, column_dots, span_dots}
 use Rattle.pixel_rules.specs.Posts.{picture_top, post_top, post_bottom, post_first, post_last, post_rows, post_texel, post_colour, post_dots, posts_dots}
 
 -- for rows by evaluation: who unfolds it unfolds the rules of pixels
 unfoldable pub pixels_unfolded : ℕ
-unfolding words_unfolded listed listed_from joined_lists cell_of put_dots is_at last_dot_from last_dot colour_of colour_at lump_source painter_of texel_row row_fraction flat_place shade column_colour span_colour rows_between column_dots span_dots picture_top post_top post_bottom post_first post_last post_rows post_texel post_colour post_dots posts_dots
+unfolding words_unfolded listed listed_from joined_lists cell_of put_dots is_at last_dot_from last_dot colour_of colour_at lump_source painter_of texel_row row_fraction flat_place packed_half pack packed_at packed_place span_place shade column_colour span_colour rows_between column_dots span_dots picture_top post_top post_bottom post_first post_last post_rows post_texel post_colour post_dots posts_dots
 pixels_unfolded = 0
 
 -- byte y of column x of a patch of this seed

@@ -1,8 +1,11 @@
 -- Strips of pixels: some rows of a column, some columns of a row (R_DrawColumn, R_DrawSpan, r_draw.c).
-use Rattle.std.specs.Prelude.{◌≡◌, ℕ, ◌+◌, ◌*◌, ◌%◌, ℤ, pos, int_lt, cond, List, [], ◌∷◌, map, slice_index, refl}
+use Rattle.std.specs.Prelude.{◌≡◌, ℕ, ◌+◌, ◌*◌, ◌/◌, ◌%◌, ◌^◌, ℤ, pos, int_lt, cond, List, [], ◌∷◌, map, slice_index, refl}
 use Rattle.word_rules.specs.Words.{plus, minus, times, shr_word, bits_of, natural, words_unfolded}
 use Rattle.word_rules.specs.declared.TheConstants.{FRACTION_BITS}
 use Rattle.word_rules.specs.Listed.{listed_from}
+use Rattle.word_rules.specs.Steps.{step_at}
+use Rattle.view_rules.specs.declared.Spans.{Spans}
+use Rattle.view_rules.specs.declared.Spans.TheVariants.{Full, Packed}
 use Rattle.pixel_rules.specs.declared.Painter.{Painter}
 use Rattle.pixel_rules.specs.declared.TheConstants.{TEXEL_ROWS, FLAT_SIDE, MAP_COLOURS}
 use Rattle.pixel_rules.specs.Dots.{Dot}
@@ -19,6 +22,26 @@ row_fraction centre_y mid iscale y = plus mid (times (minus (pos y) (pos centre_
 unfoldable pub flat_place : ℤ → ℤ → ℕ
 flat_place xfrac yfrac = FLAT_SIDE * (bits_of (shr_word yfrac FRACTION_BITS) % FLAT_SIDE) + bits_of (shr_word xfrac FRACTION_BITS) % FLAT_SIDE
 
+-- two fractions in one word, x in the upper half and y in the lower one, each by its six bits of texel and ten of fraction
+unfoldable pub packed_half : ℤ → ℕ
+packed_half fraction = bits_of fraction / 2 ^ 6 % 2 ^ 16
+
+unfoldable pub pack : ℤ → ℤ → ℕ
+pack xfrac yfrac = 2 ^ 16 * packed_half xfrac + packed_half yfrac
+
+-- the word after n steps: what y carries goes into x
+unfoldable pub packed_at : ℕ → ℕ → ℕ → ℕ
+packed_at word step n = (word + n * step) % 2 ^ 32
+
+-- the place in a flat that a word stands for
+unfoldable pub packed_place : ℕ → ℕ
+packed_place word = FLAT_SIDE * (word / 2 ^ 10 % FLAT_SIDE) + word / 2 ^ 26
+
+-- the place in a flat after n steps of a span
+unfoldable pub span_place : Spans → ℤ → ℤ → ℤ → ℤ → ℕ → ℕ
+span_place Full xfrac yfrac xstep ystep n = flat_place (step_at xfrac xstep n) (step_at yfrac ystep n)
+span_place Packed xfrac yfrac xstep ystep n = packed_place (packed_at (pack xfrac yfrac) (pack xstep ystep) n)
+
 -- a colour through colormap m of the lump, 0 past the lump's end
 unfoldable pub shade : List ℕ → ℕ → ℕ → ℕ
 shade colormap m index = slice_index colormap (MAP_COLOURS * m + index)
@@ -27,9 +50,9 @@ shade colormap m index = slice_index colormap (MAP_COLOURS * m + index)
 unfoldable pub column_colour : List ℕ → ℕ → List ℕ → ℕ → ℤ → ℕ
 column_colour source base colormap m fraction = shade colormap m (slice_index source (base + texel_row fraction))
 
--- the colour that a span has at two fractions
-unfoldable pub span_colour : List ℕ → List ℕ → ℕ → ℤ → ℤ → ℕ
-span_colour flat colormap m xfrac yfrac = shade colormap m (slice_index flat (flat_place xfrac yfrac))
+-- the colour that a span has at a place in its flat
+unfoldable pub span_colour : List ℕ → List ℕ → ℕ → ℕ → ℕ
+span_colour flat colormap m place = shade colormap m (slice_index flat place)
 
 -- the rows first to last, none where first is past last
 unfoldable pub rows_between : ℤ → ℤ → List ℕ
@@ -56,3 +79,12 @@ rows_row = refl
 pub texel_row_row : texel_row (row_fraction 100 (pos 0) (pos 32768) 99) ≡ 127
 unfolding texel_row row_fraction words_unfolded
 texel_row_row = refl
+
+-- half a texel a column in y alone: the next row of texels after two columns, and a carry into x after 128
+pub packed_row : packed_place (packed_at (pack (pos 0) (pos 0)) (pack (pos 0) (pos 32768)) 2) ≡ 64
+unfolding packed_half pack packed_at packed_place words_unfolded
+packed_row = refl
+
+pub carried_row : packed_at (pack (pos 0) (pos 0)) (pack (pos 0) (pos 32768)) 128 ≡ 2 ^ 16
+unfolding packed_half pack packed_at words_unfolded
+carried_row = refl

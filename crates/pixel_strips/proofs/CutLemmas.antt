@@ -1,10 +1,12 @@
 -- Colours of texels and shades that are cut out.
-use Rattle.std.proofs.Common.{◌≡◌, ℕ, ◌+◌, ◌-◌, ◌*◌, ◌<◌, List, FitsSigned, ap, ap₂, ◌∙◌, arith, to_z, of_z}
+use Rattle.std.proofs.Common.{◌≡◌, ℕ, ◌+◌, ◌-◌, ◌*◌, ◌/◌, ◌%◌, ◌^◌, ◌<◌, List, FitsSigned, ap, ap₂, ◌∙◌, arith, to_z, of_z}
 use Rattle.std.specs.Prelude.{slice_index, ℤ}
 use Rattle.std.specs.Int.{w32}
 use Rattle.std.proofs.lemmas.Int.{to_z-of_z}
-use Rattle.pixel_rules.specs.declared.TheConstants.{TEXEL_ROWS, MAP_COLOURS}
-use Rattle.pixel_rules.specs.Strips.{texel_row, flat_place, shade, column_colour, span_colour}
+use Rattle.pixel_rules.specs.declared.TheConstants.{TEXEL_ROWS, FLAT_SIDE, MAP_COLOURS}
+use Rattle.view_rules.specs.declared.Spans.{Spans}
+use Rattle.view_rules.specs.declared.Spans.TheVariants.{Full, Packed}
+use Rattle.pixel_rules.specs.Strips.{texel_row, flat_place, pack, packed_at, packed_place, span_place, shade, column_colour, span_colour}
 use Rattle.word_rules.specs.Steps.{step_at}
 use Rattle.pixel_strips.specs.Strips.{IsWindow, cut_colour, cut_span_colour, strip_colour, row_colour, cut_strip_colour, cut_row_colour}
 
@@ -12,9 +14,13 @@ pub row_within : (fraction : ℤ) → texel_row fraction < TEXEL_ROWS
 unfolding texel_row
 row_within fraction = omega arith
 
-pub place_within : (x y : ℤ) → flat_place x y < 4096
-unfolding flat_place
-place_within x y = omega arith
+packed_within : (w : ℕ) → FLAT_SIDE * (w % 2 ^ 32 / 2 ^ 10 % FLAT_SIDE) + w % 2 ^ 32 / 2 ^ 26 < 4096
+packed_within w = omega arith
+
+pub place_within : (spans : Spans) (x y a b : ℤ) (n : ℕ) → span_place spans x y a b n < 4096
+unfolding span_place flat_place packed_place packed_at
+place_within Full x y a b n = omega arith
+place_within Packed x y a b n = packed_within (pack x y + n * pack a b)
 
 pub cut_column : (source colormap texels shades : List ℕ) (base map : ℕ) (fraction : ℤ) →
     IsWindow source base TEXEL_ROWS texels → IsWindow colormap (MAP_COLOURS * map) MAP_COLOURS shades → slice_index texels (texel_row fraction) < MAP_COLOURS →
@@ -24,13 +30,13 @@ cut_column source colormap texels shades base map fraction t s l =
     s.same (slice_index texels (texel_row fraction)) l
     ∙ ap (λ (n : ℕ). slice_index colormap (MAP_COLOURS * map + n)) (t.same (texel_row fraction) (row_within fraction))
 
-pub cut_span : (flat colormap texels shades : List ℕ) (map : ℕ) (x y : ℤ) →
-    IsWindow flat 0 4096 texels → IsWindow colormap (MAP_COLOURS * map) MAP_COLOURS shades → slice_index texels (flat_place x y) < MAP_COLOURS →
-    cut_span_colour texels shades x y ≡ span_colour flat colormap map x y
+pub cut_span : (flat colormap texels shades : List ℕ) (map place : ℕ) → place < 4096 →
+    IsWindow flat 0 4096 texels → IsWindow colormap (MAP_COLOURS * map) MAP_COLOURS shades → slice_index texels place < MAP_COLOURS →
+    cut_span_colour texels shades place ≡ span_colour flat colormap map place
 unfolding cut_span_colour span_colour shade
-cut_span flat colormap texels shades map x y t s l =
-    s.same (slice_index texels (flat_place x y)) l
-    ∙ ap (λ (n : ℕ). slice_index colormap (MAP_COLOURS * map + n)) (t.same (flat_place x y) (place_within x y) ∙ ap (slice_index flat) (let e : 0 + flat_place x y ≡ flat_place x y = omega arith in e))
+cut_span flat colormap texels shades map place within t s l =
+    s.same (slice_index texels place) l
+    ∙ ap (λ (n : ℕ). slice_index colormap (MAP_COLOURS * map + n)) (t.same place within ∙ ap (slice_index flat) (let e : 0 + place ≡ place = omega arith in e))
 
 -- the colour k rows after the first, and k columns after it
 pub cut_strip_from : (texels shades : List ℕ) (fraction step : ℤ) (first k : ℕ) →
@@ -40,13 +46,13 @@ cut_strip_from texels shades fraction step first k =
     let e : k ≡ first + k - first = omega arith in
     ap (λ (m : ℕ). cut_colour texels shades (step_at fraction step m)) e
 
-pub cut_row_from : (texels shades : List ℕ) (x_fraction y_fraction x_step y_step : ℤ) (first k : ℕ) →
-    cut_span_colour texels shades (step_at x_fraction x_step k) (step_at y_fraction y_step k)
-    ≡ cut_row_colour texels shades x_fraction y_fraction x_step y_step first (first + k)
+pub cut_row_from : (spans : Spans) (texels shades : List ℕ) (x_fraction y_fraction x_step y_step : ℤ) (first k : ℕ) →
+    cut_span_colour texels shades (span_place spans x_fraction y_fraction x_step y_step k)
+    ≡ cut_row_colour spans texels shades x_fraction y_fraction x_step y_step first (first + k)
 unfolding cut_row_colour
-cut_row_from texels shades x_fraction y_fraction x_step y_step first k =
+cut_row_from spans texels shades x_fraction y_fraction x_step y_step first k =
     let e : k ≡ first + k - first = omega arith in
-    ap (λ (m : ℕ). cut_span_colour texels shades (step_at x_fraction x_step m) (step_at y_fraction y_step m)) e
+    ap (λ (m : ℕ). cut_span_colour texels shades (span_place spans x_fraction y_fraction x_step y_step m)) e
 
 -- a strip of what is cut out has the colours of the strip of the whole
 pub cut_strip : (source colormap texels shades : List ℕ) (base map : ℕ) (fraction step : ℤ) (first : ℕ) →
@@ -58,14 +64,14 @@ cut_strip source colormap texels shades base map fraction step first t s bytes =
     λ y. cut_column source colormap texels shades base map (step_at fraction step (y - first)) t s (bytes (texel_row (step_at fraction step (y - first)))) in
     λ i y. same y i
 
-pub cut_row : (flat colormap texels shades : List ℕ) (map : ℕ) (x_fraction y_fraction x_step y_step : ℤ) (first : ℕ) →
+pub cut_row : (spans : Spans) (flat colormap texels shades : List ℕ) (map : ℕ) (x_fraction y_fraction x_step y_step : ℤ) (first : ℕ) →
     IsWindow flat 0 4096 texels → IsWindow colormap (MAP_COLOURS * map) MAP_COLOURS shades → ((k : ℕ) → slice_index texels k < MAP_COLOURS) →
-    cut_row_colour texels shades x_fraction y_fraction x_step y_step first ≡ row_colour flat colormap map x_fraction y_fraction x_step y_step first
+    cut_row_colour spans texels shades x_fraction y_fraction x_step y_step first ≡ row_colour spans flat colormap map x_fraction y_fraction x_step y_step first
 unfolding cut_row_colour row_colour
-cut_row flat colormap texels shades map x_fraction y_fraction x_step y_step first t s bytes =
-    let same : (x : ℕ) → cut_row_colour texels shades x_fraction y_fraction x_step y_step first x ≡ row_colour flat colormap map x_fraction y_fraction x_step y_step first x =
-    λ x. cut_span flat colormap texels shades map (step_at x_fraction x_step (x - first)) (step_at y_fraction y_step (x - first)) t s
-    (bytes (flat_place (step_at x_fraction x_step (x - first)) (step_at y_fraction y_step (x - first)))) in
+cut_row spans flat colormap texels shades map x_fraction y_fraction x_step y_step first t s bytes =
+    let place : ℕ → ℕ = λ x. span_place spans x_fraction y_fraction x_step y_step (x - first) in
+    let same : (x : ℕ) → cut_row_colour spans texels shades x_fraction y_fraction x_step y_step first x ≡ row_colour spans flat colormap map x_fraction y_fraction x_step y_step first x =
+    λ x. cut_span flat colormap texels shades map (place x) (place_within spans x_fraction y_fraction x_step y_step (x - first)) t s (bytes (place x)) in
     λ i x. same x i
 
 -- a number that was written to a word and read again
@@ -86,11 +92,11 @@ cut_strip_words source colormap texels shades base map fraction step first f g t
     ap₂ (λ (a b : ℤ). cut_strip_colour texels shades a b first) (to_z-of_z w32 fraction f) (to_z-of_z w32 step g)
     ∙ cut_strip source colormap texels shades base map fraction step first t s bytes
 
-pub cut_row_words : (flat colormap texels shades : List ℕ) (map : ℕ) (x_fraction y_fraction x_step y_step : ℤ) (first : ℕ) →
+pub cut_row_words : (spans : Spans) (flat colormap texels shades : List ℕ) (map : ℕ) (x_fraction y_fraction x_step y_step : ℤ) (first : ℕ) →
     FitsSigned w32 x_fraction → FitsSigned w32 y_fraction → FitsSigned w32 x_step → FitsSigned w32 y_step →
     IsWindow flat 0 4096 texels → IsWindow colormap (MAP_COLOURS * map) MAP_COLOURS shades → ((k : ℕ) → slice_index texels k < MAP_COLOURS) →
-    cut_row_colour texels shades (word x_fraction) (word y_fraction) (word x_step) (word y_step) first ≡ row_colour flat colormap map x_fraction y_fraction x_step y_step first
-cut_row_words flat colormap texels shades map x_fraction y_fraction x_step y_step first f g h k t s bytes =
-    ap₂ (λ (a b : ℤ). cut_row_colour texels shades a b (word x_step) (word y_step) first) (to_z-of_z w32 x_fraction f) (to_z-of_z w32 y_fraction g)
-    ∙ ap₂ (λ (a b : ℤ). cut_row_colour texels shades x_fraction y_fraction a b first) (to_z-of_z w32 x_step h) (to_z-of_z w32 y_step k)
-    ∙ cut_row flat colormap texels shades map x_fraction y_fraction x_step y_step first t s bytes
+    cut_row_colour spans texels shades (word x_fraction) (word y_fraction) (word x_step) (word y_step) first ≡ row_colour spans flat colormap map x_fraction y_fraction x_step y_step first
+cut_row_words spans flat colormap texels shades map x_fraction y_fraction x_step y_step first f g h k t s bytes =
+    ap₂ (λ (a b : ℤ). cut_row_colour spans texels shades a b (word x_step) (word y_step) first) (to_z-of_z w32 x_fraction f) (to_z-of_z w32 y_fraction g)
+    ∙ ap₂ (λ (a b : ℤ). cut_row_colour spans texels shades x_fraction y_fraction a b first) (to_z-of_z w32 x_step h) (to_z-of_z w32 y_step k)
+    ∙ cut_row spans flat colormap texels shades map x_fraction y_fraction x_step y_step first t s bytes

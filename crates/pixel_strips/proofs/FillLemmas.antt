@@ -3,6 +3,7 @@ use Rattle.std.proofs.Common.{◌≡◌, ℕ, zero, suc, ◌+◌, ◌-◌, ◌*�
 use Rattle.std.proofs.lemmas.Bool.{cases_lt}
 use Rattle.std.proofs.lemmas.List.{set-set, set_comm}
 use Rattle.view_rules.specs.declared.TheConstants.{FRAME_WIDTH}
+use Rattle.view_rules.specs.declared.Spans.{Spans}
 use Rattle.pixel_rules.specs.declared.Painter.{Painter}
 use Rattle.pixel_rules.specs.Dots.{Dot, cell_of, put_dots}
 use Rattle.pixel_rules.specs.Strips.{column_dots, span_dots}
@@ -20,7 +21,7 @@ fill_cells-none place value cells = refl
 pub column_filled-none : {texels shades : List ℕ} {fraction step : ℤ} {start : ℕ} {cells : List ℕ} → ColumnFilled texels shades fraction step start 0 cells cells
 column_filled-none {cells = cells} = record { filled = fill_cells-none _ _ cells }
 
-pub span_filled-none : {texels shades : List ℕ} {x y x_step y_step : ℤ} {start : ℕ} {cells : List ℕ} → SpanFilled texels shades x y x_step y_step start 0 cells cells
+pub span_filled-none : {spans : Spans} {texels shades : List ℕ} {x y x_step y_step : ℤ} {start : ℕ} {cells : List ℕ} → SpanFilled spans texels shades x y x_step y_step start 0 cells cells
 span_filled-none {cells = cells} = record { filled = fill_cells-none _ _ cells }
 
 -- the same under another name of their count
@@ -28,9 +29,9 @@ pub column_filled-to : {texels shades : List ℕ} {fraction step : ℤ} {start m
     ColumnFilled texels shades fraction step start m before cells → ColumnFilled texels shades fraction step start n before cells
 column_filled-to {texels} {shades} {fraction} {step} {start} {m} {n} {before} {cells} e i = subst (λ (k : ℕ). ColumnFilled texels shades fraction step start k before cells) e i
 
-pub span_filled-to : {texels shades : List ℕ} {x y x_step y_step : ℤ} {start m n : ℕ} {before cells : List ℕ} → m ≡ n →
-    SpanFilled texels shades x y x_step y_step start m before cells → SpanFilled texels shades x y x_step y_step start n before cells
-span_filled-to {texels} {shades} {x} {y} {x_step} {y_step} {start} {m} {n} {before} {cells} e i = subst (λ (k : ℕ). SpanFilled texels shades x y x_step y_step start k before cells) e i
+pub span_filled-to : {spans : Spans} {texels shades : List ℕ} {x y x_step y_step : ℤ} {start m n : ℕ} {before cells : List ℕ} → m ≡ n →
+    SpanFilled spans texels shades x y x_step y_step start m before cells → SpanFilled spans texels shades x y x_step y_step start n before cells
+span_filled-to {spans} {texels} {shades} {x} {y} {x_step} {y_step} {start} {m} {n} {before} {cells} e i = subst (λ (k : ℕ). SpanFilled spans texels shades x y x_step y_step start k before cells) e i
 
 pub fill_cells-more : (place value : ℕ → ℕ) (k n : ℕ) (cells : List ℕ) → k + 1 ≡ n →
     set (fill_cells place value k cells) (place k) (value k) ≡ fill_cells place value n cells

@@ -10,9 +10,11 @@ use Rattle.word_rules.proofs.StepLemmas.{step_at-zero, step_at-more}
 use Rattle.word_rules.specs.Words.{bits_of, plus, times, shr_word}
 use Rattle.word_rules.specs.declared.TheConstants.{FRACTION_BITS}
 use Rattle.pixel_rules.specs.declared.TheConstants.{FLAT_SIDE}
-use Rattle.pixel_rules.specs.Strips.{texel_row, flat_place}
+use Rattle.view_rules.specs.declared.Spans.{Spans}
+use Rattle.view_rules.specs.declared.Spans.TheVariants.{Full, Packed}
+use Rattle.pixel_rules.specs.Strips.{texel_row, flat_place, pack, packed_at, packed_place, span_place}
 use Rattle.pixel_strips.specs.declared.places.TheConstants.{ROW_LIFT, ROW_SHIFT, FLAT_LIFT, CARRIES}
-use Rattle.pixel_strips.specs.Places.{lifted, IsTexelPlace, IsFlatPlace}
+use Rattle.pixel_strips.specs.Places.{lifted, IsTexelPlace, IsFlatPlace, IsPackedPlace, IsFirstPlace, IsSpanPlace}
 
 -- a sum is a word
 pub plus_fits : (a b : ℤ) → FitsSigned w32 (plus a b)
@@ -209,16 +211,9 @@ first_step first step f = to_z-of_z w32 first f ∙ step_at-zero first step f
 pub texel_place_begun : (first step : ℤ) (place : ℕ) → FitsSigned w32 first → IsTexelPlace (to_z w32 (of_z w32 first)) place → IsTexelPlace (step_at first step 0) place
 texel_place_begun first step place f p = subst (λ (z : ℤ). IsTexelPlace z place) (first_step first step f) p
 
-pub flat_place_begun : (x y x_step y_step : ℤ) (place : ℕ) → FitsSigned w32 x → FitsSigned w32 y →
-    IsFlatPlace (to_z w32 (of_z w32 x)) (to_z w32 (of_z w32 y)) 0 place → IsFlatPlace (step_at x x_step 0) (step_at y y_step 0) 0 place
-flat_place_begun x y x_step y_step place f g p = subst₂ (λ (a b : ℤ). IsFlatPlace a b 0 place) (first_step x x_step f) (first_step y y_step g) p
-
 -- a step, as the code has its word
 pub texel_place_word : (step : ℤ) (place : ℕ) → FitsSigned w32 step → IsTexelPlace (to_z w32 (of_z w32 step)) place → IsTexelPlace step place
 texel_place_word step place f p = subst (λ (z : ℤ). IsTexelPlace z place) (to_z-of_z w32 step f) p
-
-pub flat_place_words : (x y : ℤ) (place : ℕ) → FitsSigned w32 x → FitsSigned w32 y → IsFlatPlace (to_z w32 (of_z w32 x)) (to_z w32 (of_z w32 y)) 0 place → IsFlatPlace x y 0 place
-flat_place_words x y place f g p = subst₂ (λ (a b : ℤ). IsFlatPlace a b 0 place) (to_z-of_z w32 x f) (to_z-of_z w32 y g) p
 
 -- so many steps further on
 pub texel_place_later : (first step : ℤ) (k m n place : ℕ) → k + m ≡ n → IsTexelPlace (step_at (step_at first step k) step m) place → IsTexelPlace (step_at first step n) place
@@ -229,3 +224,115 @@ pub flat_place_later : (x y x_step y_step : ℤ) (k m n place : ℕ) → k + m �
     IsFlatPlace (step_at x x_step n) (step_at y y_step n) n place
 flat_place_later x y x_step y_step k m n place e p =
     flat_place-on _ _ _ _ (k + m) n place (step_at-on x x_step k m n e) (step_at-on y y_step k m n e) (omega (arith, e)) p
+
+-- a place of packed fractions: the word shifted up keeps its lower half alone
+packed_begun : (m : ℕ) → m < 2 ^ 32 → m * 2 ^ 48 % 2 ^ 64 + m ≡ 2 ^ 32 * (2 ^ 16 * (m % 2 ^ 16) + 0) + m
+packed_begun m l = omega arith
+
+pub packed_place_is : (word m : ℕ) → m ≡ word → m < 2 ^ 32 → IsPackedPlace word 0 (m * 2 ^ 48 % 2 ^ 64 + m)
+packed_place_is word m e l =
+    subst (λ (n : ℕ). IsPackedPlace n 0 (m * 2 ^ 48 % 2 ^ 64 + m)) e (record { fits = l; carries = 0; few = omega arith; is = packed_begun m l })
+
+-- one step more
+packed_sum : (w s carries more : ℕ) → w < 2 ^ 32 → s < 2 ^ 32 → carries + more + 1 < 2 ^ 10 →
+    (2 ^ 32 * (2 ^ 16 * (w % 2 ^ 16) + carries) + w + (2 ^ 32 * (2 ^ 16 * (s % 2 ^ 16) + more) + s)) % 2 ^ 64
+    ≡ 2 ^ 32 * (2 ^ 16 * ((w + s) % 2 ^ 32 % 2 ^ 16) + (carries + more + (w + s) / 2 ^ 32)) + (w + s) % 2 ^ 32
+packed_sum w s carries more l m h = omega arith
+
+packed_place_more : (w s most place step : ℕ) → most + 1 < CARRIES → IsPackedPlace w most place → IsPackedPlace s 0 step →
+    IsPackedPlace ((w + s) % 2 ^ 32) (most + 1) ((place + step) % 2 ^ 64)
+packed_place_more w s most place step h p q =
+    let held = p.few in
+    let holds = q.few in
+    record {
+      fits = mod-lt (w + s) (pow_pos 32);
+      carries = p.carries + q.carries + (w + s) / 2 ^ 32;
+      few = let each = carried w s p.carries q.carries most 0 p.fits q.fits p.few q.few in omega (arith, each);
+      is = ap₂ (λ (m n : ℕ). (m + n) % 2 ^ 64) p.is q.is ∙ packed_sum w s p.carries q.carries p.fits q.fits (omega arith);
+    }
+
+-- the word after no step, after one more, and after so many more
+packed_at-zero : (w s : ℕ) → w < 2 ^ 32 → w ≡ packed_at w s 0
+unfolding packed_at
+packed_at-zero w s l = omega arith
+
+word_step : (w m s n : ℕ) → n ≡ m + s → ((w + m) % 2 ^ 32 + s) % 2 ^ 32 ≡ (w + n) % 2 ^ 32
+word_step w m s n e = omega arith
+
+packed_at-suc : (w s k : ℕ) → (packed_at w s k + s) % 2 ^ 32 ≡ packed_at w s (suc k)
+unfolding packed_at
+packed_at-suc w s k = word_step w (k * s) s (suc k * s) (let e : suc k * s ≡ s + k * s = refl in omega (arith, e))
+
+packed_at-on : (w s n k : ℕ) → packed_at (packed_at w s n) s k ≡ packed_at w s (n + k)
+unfolding packed_at
+packed_at-on w s n k = word_step w (n * s) (k * s) ((n + k) * s) (add-mul n k s)
+
+packed_place_below : (w carries : ℕ) → carries < 2 ^ 10 → w < 2 ^ 32 → 2 ^ 32 * (2 ^ 16 * (w % 2 ^ 16) + carries) + w < 2 ^ 64
+packed_place_below w carries h l = omega arith
+
+packed_place_steps : (w s most place step k : ℕ) → most + k < CARRIES → IsPackedPlace w most place → IsPackedPlace s 0 step →
+    IsPackedPlace (packed_at w s k) (most + k) ((place + step * k % 2 ^ 64) % 2 ^ 64)
+packed_place_steps w s most place step zero h p q =
+    let few = p.few in
+    let below = packed_place_below w p.carries (omega arith) p.fits in
+    let is = p.is in
+    let same : place ≡ (place + step * 0 % 2 ^ 64) % 2 ^ 64 = omega arith in
+    let there : most ≡ most + 0 = omega arith in
+    subst (λ (n : ℕ). IsPackedPlace (packed_at w s 0) n ((place + step * 0 % 2 ^ 64) % 2 ^ 64)) there
+    (subst₂ (λ (n m : ℕ). IsPackedPlace n most m) (packed_at-zero w s p.fits) same p)
+packed_place_steps w s most place step (suc k) h p q =
+    let before : ℕ = (place + step * k % 2 ^ 64) % 2 ^ 64 in
+    let there : most + k + 1 ≡ most + suc k = omega arith in
+    subst (λ (n : ℕ). IsPackedPlace (packed_at w s (suc k)) n ((place + step * suc k % 2 ^ 64) % 2 ^ 64)) there
+    (subst₂ (λ (n m : ℕ). IsPackedPlace n (most + k + 1) m) (packed_at-suc w s k) (packed_more place step (step * k) (step * suc k) (mul-suc step k))
+    (packed_place_more (packed_at w s k) s (most + k) before step (omega arith) (packed_place_steps w s most place step k (omega arith) p q) q))
+
+-- the texel of a packed place
+packed_above : (w carries : ℕ) → carries < 2 ^ 10 → w < 2 ^ 32 → (2 ^ 32 * (2 ^ 16 * (w % 2 ^ 16) + carries) + w) / 2 ^ 58 ≡ w / 2 ^ 10 % 64
+packed_above w carries h l = omega arith
+
+packed_below : (w carries : ℕ) → w < 2 ^ 32 → (2 ^ 32 * (2 ^ 16 * (w % 2 ^ 16) + carries) + w) / 2 ^ 26 % 64 ≡ w / 2 ^ 26
+packed_below w carries l = omega arith
+
+packed_of_place : (w most place : ℕ) → most < CARRIES → IsPackedPlace w most place →
+    (place / 2 ^ 58 * 2 ^ 58 % 2 ^ 64 + place / 2 ^ 26 % 64 * 2 ^ 26 % 2 ^ 64) * 67109889 % 2 ^ 64 / 2 ^ 52 ≡ packed_place w
+unfolding packed_place
+packed_of_place w most place h p =
+    let few = p.few in
+    let fits = p.fits in
+    ap (λ (n : ℕ). (n / 2 ^ 58 * 2 ^ 58 % 2 ^ 64 + n / 2 ^ 26 % 64 * 2 ^ 26 % 2 ^ 64) * 67109889 % 2 ^ 64 / 2 ^ 52) p.is
+    ∙ ap₂ (λ (row column : ℕ). (row * 2 ^ 58 % 2 ^ 64 + column * 2 ^ 26 % 2 ^ 64) * 67109889 % 2 ^ 64 / 2 ^ 52)
+    (packed_above w p.carries (omega arith) p.fits) (packed_below w p.carries p.fits)
+    ∙ gathered _ _ (omega arith) (omega arith)
+
+-- however spans are stepped: the first place, so many steps at once, and the texel
+first_begins : (spans : Spans) (x y x_step y_step : ℤ) (place : ℕ) → FitsSigned w32 x → FitsSigned w32 y → IsFirstPlace spans x y place → IsSpanPlace spans x y x_step y_step 0 place
+first_begins Full x y x_step y_step place f g p = flat_place-on x y _ _ 0 0 place (step_at-zero x x_step f) (step_at-zero y y_step g) (omega arith) p
+first_begins Packed x y x_step y_step place f g p =
+    subst (λ (n : ℕ). IsPackedPlace n 0 place) (packed_at-zero (pack x y) (pack x_step y_step) p.fits) p
+
+pub first_place_words : (spans : Spans) (x y : ℤ) (place : ℕ) → FitsSigned w32 x → FitsSigned w32 y →
+    IsFirstPlace spans (to_z w32 (of_z w32 x)) (to_z w32 (of_z w32 y)) place → IsFirstPlace spans x y place
+first_place_words spans x y place f g p = subst₂ (λ (a b : ℤ). IsFirstPlace spans a b place) (to_z-of_z w32 x f) (to_z-of_z w32 y g) p
+
+pub span_place_begun : (spans : Spans) (x y x_step y_step : ℤ) (place : ℕ) → FitsSigned w32 x → FitsSigned w32 y →
+    IsFirstPlace spans (to_z w32 (of_z w32 x)) (to_z w32 (of_z w32 y)) place → IsSpanPlace spans x y x_step y_step 0 place
+span_place_begun spans x y x_step y_step place f g p = first_begins spans x y x_step y_step place f g (first_place_words spans x y place f g p)
+
+pub span_place_steps : (spans : Spans) (x y a b : ℤ) (n place step k : ℕ) → n + k < CARRIES → IsSpanPlace spans x y a b n place → IsFirstPlace spans a b step →
+    IsSpanPlace spans x y a b (n + k) ((place + step * k % 2 ^ 64) % 2 ^ 64)
+span_place_steps Full x y a b n place step k h p s =
+    flat_place_later x y a b n k (n + k) _ refl (flat_place_steps (step_at x a n) (step_at y b n) a b n place step k h p s)
+span_place_steps Packed x y a b n place step k h p s =
+    subst (λ (w : ℕ). IsPackedPlace w (n + k) ((place + step * k % 2 ^ 64) % 2 ^ 64)) (packed_at-on (pack x y) (pack a b) n k)
+    (packed_place_steps (packed_at (pack x y) (pack a b) n) (pack a b) n place step k h p s)
+
+pub flat_of_span : (spans : Spans) (x y a b : ℤ) (n place : ℕ) → n < CARRIES → IsSpanPlace spans x y a b n place →
+    (place / 2 ^ 58 * 2 ^ 58 % 2 ^ 64 + place / 2 ^ 26 % 64 * 2 ^ 26 % 2 ^ 64) * 67109889 % 2 ^ 64 / 2 ^ 52 ≡ span_place spans x y a b n
+unfolding span_place
+flat_of_span Full x y a b n place h p = flat_of_place (step_at x a n) (step_at y b n) n place h p
+flat_of_span Packed x y a b n place h p = packed_of_place (packed_at (pack x y) (pack a b) n) n place h p
+
+-- the same place under another number of steps
+pub span_place-to : (spans : Spans) (x y a b : ℤ) (m n place : ℕ) → m ≡ n → IsSpanPlace spans x y a b m place → IsSpanPlace spans x y a b n place
+span_place-to spans x y a b m n place e p = subst (λ (k : ℕ). IsSpanPlace spans x y a b k place) e p

@@ -7,10 +7,12 @@ use Rattle.word_rules.specs.Steps.{step_at}
 use Rattle.word_rules.proofs.StepLemmas.{step_at-zero, step_at-more}
 use Rattle.pixel_rules.specs.declared.Painter.{Painter}
 use Rattle.pixel_rules.specs.Dots.{Dot}
-use Rattle.pixel_rules.specs.Strips.{span_dots}
+use Rattle.view_rules.specs.declared.Spans.{Spans}
+use Rattle.pixel_rules.specs.Strips.{span_dots, span_place}
 use Rattle.pixel_strips.specs.Canvases.{CanvasView, with_dot, with_dots}
 use Rattle.pixel_strips.specs.Strips.{column_strip_dots}
-use Rattle.pixel_strips.proofs.PlaceLemmas.{plus_fits}
+use Rattle.pixel_strips.specs.Places.{IsSpanPlace}
+use Rattle.pixel_strips.proofs.PlaceLemmas.{plus_fits, span_place-to}
 use Rattle.pixel_strips.proofs.CanvasLemmas.{dots_none, dots_more, rows_dots, rows_none, rows_more, rows_all, span_dot, columns_dots, columns_none, columns_more, columns_all}
 
 -- what stands at row y of a column, or at column x of a span: the fraction, as the code has its word
@@ -66,53 +68,45 @@ pub column_ended : {mark : Painter → ℕ → ℕ} {x : ℕ} {colour : ℤ → 
 column_ended {mark} {x} {colour} {fraction} {step} {first} {y} {now} {canvas} {view} last old e =
     dots_renamed mark canvas view _ _ old.painted (rows_all canvas.painter x (λ k. colour (step_at fraction step (k - first))) first last (y - first) e)
 
--- the columns of a span left of x are painted, and the fractions are those of column x
-pub record SpanSoFar (mark : Painter → ℕ → ℕ) (y : ℕ) (colour : ℤ → ℤ → ℕ) (x_fraction y_fraction x_step y_step : ℤ) (first x : ℕ) (x_now y_now : ℤ)
+-- the columns of a span left of x are painted, and the place is that of column x
+pub record SpanSoFar (mark : Painter → ℕ → ℕ) (y : ℕ) (colour : ℕ → ℕ) (spans : Spans) (x_fraction y_fraction x_step y_step : ℤ) (first x place : ℕ)
     (canvas view : CanvasView) : Type 0 where
   pub from : first ≤ x
-  pub x_step_fits : FitsSigned w32 x_step
-  pub y_step_fits : FitsSigned w32 y_step
-  pub x_at : x_now ≡ step_at x_fraction x_step (x - first)
-  pub y_at : y_now ≡ step_at y_fraction y_step (x - first)
+  pub at : IsSpanPlace spans x_fraction y_fraction x_step y_step (x - first) place
   pub painted : view ≡ with_dots mark
-      (columns_dots canvas.painter y (λ k. colour (step_at x_fraction x_step (k - first)) (step_at y_fraction y_step (k - first))) first (x - first)) canvas
+      (columns_dots canvas.painter y (λ k. colour (span_place spans x_fraction y_fraction x_step y_step (k - first))) first (x - first)) canvas
 
-pub span_begun : (mark : Painter → ℕ → ℕ) (y : ℕ) (colour : ℤ → ℤ → ℕ) (x_fraction y_fraction x_step y_step : ℤ) (first : ℕ) (canvas : CanvasView) →
-    FitsSigned w32 x_fraction → FitsSigned w32 y_fraction → FitsSigned w32 x_step → FitsSigned w32 y_step →
-    SpanSoFar mark y colour x_fraction y_fraction x_step y_step first first (to_z w32 (of_z w32 x_fraction)) (to_z w32 (of_z w32 y_fraction)) canvas canvas
-span_begun mark y colour x_fraction y_fraction x_step y_step first canvas f g h k = let none : 0 ≡ first - first = omega arith in record {
+pub span_begun : (mark : Painter → ℕ → ℕ) (y : ℕ) (colour : ℕ → ℕ) (spans : Spans) (x_fraction y_fraction x_step y_step : ℤ) (first place : ℕ) (canvas : CanvasView) →
+    IsSpanPlace spans x_fraction y_fraction x_step y_step 0 place →
+    SpanSoFar mark y colour spans x_fraction y_fraction x_step y_step first first place canvas canvas
+span_begun mark y colour spans x_fraction y_fraction x_step y_step first place canvas at = let none : 0 ≡ first - first = omega arith in record {
   from = omega arith;
-  x_step_fits = h;
-  y_step_fits = k;
-  x_at = first_fraction x_fraction x_step (first - first) f none;
-  y_at = first_fraction y_fraction y_step (first - first) g none;
+  at = span_place-to spans x_fraction y_fraction x_step y_step 0 (first - first) place none at;
   painted = dots_renamed mark canvas canvas [] _ (dots_none mark canvas) (sym (columns_none canvas.painter y
-      (λ k. colour (step_at x_fraction x_step (k - first)) (step_at y_fraction y_step (k - first))) first (first - first) (sym none)));
+      (λ k. colour (span_place spans x_fraction y_fraction x_step y_step (k - first))) first (first - first) (sym none)));
 }
 
-pub span_dotted : {mark : Painter → ℕ → ℕ} {y : ℕ} {colour : ℤ → ℤ → ℕ} {x_fraction y_fraction x_step y_step : ℤ} {first x v : ℕ} {x_now y_now x_sum y_sum : ℤ}
-    {canvas view after : CanvasView} → SpanSoFar mark y colour x_fraction y_fraction x_step y_step first x x_now y_now canvas view →
-    v ≡ colour x_now y_now → x_sum ≡ plus x_now (to_z w32 (of_z w32 x_step)) → y_sum ≡ plus y_now (to_z w32 (of_z w32 y_step)) → after ≡ with_dot mark x y v view →
-    SpanSoFar mark y colour x_fraction y_fraction x_step y_step first (x + 1) (to_z w32 (of_z w32 x_sum)) (to_z w32 (of_z w32 y_sum)) canvas after
-span_dotted {mark} {y} {colour} {x_fraction} {y_fraction} {x_step} {y_step} {first} {x} {v} {x_now} {y_now} {x_sum} {y_sum} {canvas} {view} {after} old is x_more y_more dot =
+pub span_dotted : {mark : Painter → ℕ → ℕ} {y : ℕ} {colour : ℕ → ℕ} {spans : Spans} {x_fraction y_fraction x_step y_step : ℤ} {first x v place texel next : ℕ}
+    {canvas view after : CanvasView} → SpanSoFar mark y colour spans x_fraction y_fraction x_step y_step first x place canvas view →
+    v ≡ colour texel → texel ≡ span_place spans x_fraction y_fraction x_step y_step (x - first) →
+    IsSpanPlace spans x_fraction y_fraction x_step y_step (x - first + 1) next → after ≡ with_dot mark x y v view →
+    SpanSoFar mark y colour spans x_fraction y_fraction x_step y_step first (x + 1) next canvas after
+span_dotted {mark} {y} {colour} {spans} {x_fraction} {y_fraction} {x_step} {y_step} {first} {x} {v} {place} {texel} {next} {canvas} {view} {after} old is there more dot =
     let from = old.from in
     let e : x - first + 1 ≡ x + 1 - first = omega arith in
-    let of_column : ℕ → ℕ = λ k. colour (step_at x_fraction x_step (k - first)) (step_at y_fraction y_step (k - first)) in
+    let of_column : ℕ → ℕ = λ k. colour (span_place spans x_fraction y_fraction x_step y_step (k - first)) in
     record {
       from = omega arith;
-      x_step_fits = old.x_step_fits;
-      y_step_fits = old.y_step_fits;
-      x_at = next_fraction x_fraction x_step x_now x_sum (x - first) (x + 1 - first) e old.x_step_fits old.x_at x_more;
-      y_at = next_fraction y_fraction y_step y_now y_sum (x - first) (x + 1 - first) e old.y_step_fits old.y_at y_more;
+      at = span_place-to spans x_fraction y_fraction x_step y_step (x - first + 1) (x + 1 - first) next e more;
       painted = dots_renamed mark canvas after _ _
           (dots_more mark (columns_dots canvas.painter y of_column first (x - first)) (span_dot canvas.painter y of_column x)
-          canvas view after old.painted refl (dot ∙ ap (λ (c : ℕ). with_dot mark x y c view) (is ∙ ap₂ colour old.x_at old.y_at)))
+          canvas view after old.painted refl (dot ∙ ap (λ (c : ℕ). with_dot mark x y c view) (is ∙ ap colour there)))
           (columns_more canvas.painter y of_column first (x - first) (x + 1 - first) x e (omega arith));
     }
 
-pub span_ended : {mark : Painter → ℕ → ℕ} {y : ℕ} {colour : ℤ → ℤ → ℕ} {x_fraction y_fraction x_step y_step : ℤ} {first x : ℕ} {x_now y_now : ℤ}
-    {canvas view : CanvasView} (last : ℕ) → SpanSoFar mark y colour x_fraction y_fraction x_step y_step first x x_now y_now canvas view → first + (x - first) ≡ last + 1 →
-    view ≡ with_dots mark (span_dots canvas.painter y (λ k. colour (step_at x_fraction x_step (k - first)) (step_at y_fraction y_step (k - first))) first last) canvas
-span_ended {mark} {y} {colour} {x_fraction} {y_fraction} {x_step} {y_step} {first} {x} {x_now} {y_now} {canvas} {view} last old e =
+pub span_ended : {mark : Painter → ℕ → ℕ} {y : ℕ} {colour : ℕ → ℕ} {spans : Spans} {x_fraction y_fraction x_step y_step : ℤ} {first x place : ℕ}
+    {canvas view : CanvasView} (last : ℕ) → SpanSoFar mark y colour spans x_fraction y_fraction x_step y_step first x place canvas view → first + (x - first) ≡ last + 1 →
+    view ≡ with_dots mark (span_dots canvas.painter y (λ k. colour (span_place spans x_fraction y_fraction x_step y_step (k - first))) first last) canvas
+span_ended {mark} {y} {colour} {spans} {x_fraction} {y_fraction} {x_step} {y_step} {first} {x} {place} {canvas} {view} last old e =
     dots_renamed mark canvas view _ _ old.painted
-    (columns_all canvas.painter y (λ k. colour (step_at x_fraction x_step (k - first)) (step_at y_fraction y_step (k - first))) first last (x - first) e)
+    (columns_all canvas.painter y (λ k. colour (span_place spans x_fraction y_fraction x_step y_step (k - first))) first last (x - first) e)

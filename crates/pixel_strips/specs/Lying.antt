@@ -1,6 +1,7 @@
 -- Where a strip lies in the frame, and what it leaves of a canvas.
 use Rattle.std.specs.Prelude.{◌+◌, ◌<◌, ◌≤◌, ℕ}
 use Rattle.view_rules.specs.declared.TheConstants.{FRAME_WIDTH, FRAME_HEIGHT}
+use Rattle.view_rules.specs.declared.Spans.{Spans}
 use Rattle.pixel_rules.specs.declared.Painter.{Painter}
 use Rattle.pixel_rules.specs.Strips.{span_dots}
 use Rattle.pixel_strips.specs.declared.column.ColumnStrip.{ColumnStrip}
@@ -23,8 +24,8 @@ abbrev pub with_column_cut : (Painter → ℕ → ℕ) → ColumnStrip → Canva
 with_column_cut mark s canvas = with_dots mark (column_strip_dots canvas.painter s.x
     (strip_colour s.source.now s.base s.colormap.now s.map s.fraction s.step s.first) s.first s.last) canvas
 
--- with those of a span
-abbrev pub with_span : (Painter → ℕ → ℕ) → SpanStrip → CanvasView → CanvasView
-with_span mark s canvas = with_dots mark (span_dots canvas.painter s.y
-    (row_colour s.flat.now s.colormap.now s.map s.x_fraction s.y_fraction s.x_step s.y_step s.first)
+-- with those of a span that is stepped so
+abbrev pub with_span : (Painter → ℕ → ℕ) → Spans → SpanStrip → CanvasView → CanvasView
+with_span mark spans s canvas = with_dots mark (span_dots canvas.painter s.y
+    (row_colour spans s.flat.now s.colormap.now s.map s.x_fraction s.y_fraction s.x_step s.y_step s.first)
     s.first s.last) canvas

@@ -2,9 +2,10 @@
 use Rattle.std.specs.Prelude.{◌≡◌, ℕ, ◌+◌, ◌-◌, ◌<◌, ℤ, List, length, slice_index}
 use Rattle.word_rules.specs.Listed.{listed_from}
 use Rattle.word_rules.specs.Steps.{step_at}
+use Rattle.view_rules.specs.declared.Spans.{Spans}
 use Rattle.pixel_rules.specs.declared.Painter.{Painter}
 use Rattle.pixel_rules.specs.Dots.{Dot}
-use Rattle.pixel_rules.specs.Strips.{texel_row, flat_place, column_colour, span_colour, column_dots}
+use Rattle.pixel_rules.specs.Strips.{texel_row, span_place, column_colour, span_colour, column_dots}
 
 -- a column strip: at row y its fraction has been stepped y - first times
 unfoldable pub strip_colour : List ℕ → ℕ → List ℕ → ℕ → ℤ → ℤ → ℕ → ℕ → ℕ
@@ -14,10 +15,10 @@ strip_colour source base colormap map fraction step first y =
 abbrev pub column_strip_dots : Painter → ℕ → (ℕ → ℕ) → ℕ → ℕ → List Dot
 column_strip_dots painter x colour first last = column_dots painter x colour (listed_from (λ y. y) first last)
 
--- a span strip: at column x both fractions have been stepped x - first times
-unfoldable pub row_colour : List ℕ → List ℕ → ℕ → ℤ → ℤ → ℤ → ℤ → ℕ → ℕ → ℕ
-row_colour flat colormap map x_fraction y_fraction x_step y_step first x =
-    span_colour flat colormap map (step_at x_fraction x_step (x - first)) (step_at y_fraction y_step (x - first))
+-- a span strip: at column x its place has been stepped x - first times
+unfoldable pub row_colour : Spans → List ℕ → List ℕ → ℕ → ℤ → ℤ → ℤ → ℤ → ℕ → ℕ → ℕ
+row_colour spans flat colormap map x_fraction y_fraction x_step y_step first x =
+    span_colour flat colormap map (span_place spans x_fraction y_fraction x_step y_step (x - first))
 
 -- a part of some bytes: `count` of them, from an offset on
 pub record IsWindow (bytes : List ℕ) (offset count : ℕ) (part : List ℕ) : Type 0 where
@@ -28,14 +29,14 @@ pub record IsWindow (bytes : List ℕ) (offset count : ℕ) (part : List ℕ) : 
 unfoldable pub cut_colour : List ℕ → List ℕ → ℤ → ℕ
 cut_colour texels shades fraction = slice_index shades (slice_index texels (texel_row fraction))
 
-unfoldable pub cut_span_colour : List ℕ → List ℕ → ℤ → ℤ → ℕ
-cut_span_colour texels shades x_fraction y_fraction = slice_index shades (slice_index texels (flat_place x_fraction y_fraction))
+unfoldable pub cut_span_colour : List ℕ → List ℕ → ℕ → ℕ
+cut_span_colour texels shades place = slice_index shades (slice_index texels place)
 
 -- a column strip of cut out texels and shades: at row y its fraction has been stepped y - first times
 unfoldable pub cut_strip_colour : List ℕ → List ℕ → ℤ → ℤ → ℕ → ℕ → ℕ
 cut_strip_colour texels shades fraction step first y = cut_colour texels shades (step_at fraction step (y - first))
 
--- a span strip of them: at column x both fractions have been stepped x - first times
-unfoldable pub cut_row_colour : List ℕ → List ℕ → ℤ → ℤ → ℤ → ℤ → ℕ → ℕ → ℕ
-cut_row_colour texels shades x_fraction y_fraction x_step y_step first x =
-    cut_span_colour texels shades (step_at x_fraction x_step (x - first)) (step_at y_fraction y_step (x - first))
+-- a span strip of them: at column x its place has been stepped x - first times
+unfoldable pub cut_row_colour : Spans → List ℕ → List ℕ → ℤ → ℤ → ℤ → ℤ → ℕ → ℕ → ℕ
+cut_row_colour spans texels shades x_fraction y_fraction x_step y_step first x =
+    cut_span_colour texels shades (span_place spans x_fraction y_fraction x_step y_step (x - first))

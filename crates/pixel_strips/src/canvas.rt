@@ -8,9 +8,11 @@ ghost use Rattle.pixel_strips.specs.declared.texels.TheConstants.{FLAT_BYTES};
 ghost use Rattle.pixel_strips.specs.Canvases.{CanvasView, with_painter, placed_at, with_dot, with_dots};
 ghost use Rattle.pixel_strips.specs.Strips.{column_strip_dots, cut_strip_colour, cut_row_colour};
 
+use crate::places::{first_place, flat_place_at, place_after};
 use crate::texels::{cut_colour, cut_span_colour};
 use fx_words::plus;
 use pixel_rules::Painter;
+use view_rules::Spans;
 
 /// What a column is painted with: 128 texels, the 256 shades of a colormap, the texel row at the
 /// first row and what a row adds to it, both 16.16 fixed point.
@@ -26,8 +28,8 @@ pub struct CutColumn<'a> {
 }
 
 /// What a span is painted with: the 64 by 64 texels of a flat, row by row, the 256 shades of a
-/// colormap, the point in the flat at the first column and what a column adds to it, in texels,
-/// 16.16 fixed point.
+/// colormap, how it is stepped, the point in the flat at the first column and what a column adds to
+/// it, in texels, 16.16 fixed point.
 ///
 /// This project's own: the original keeps ds_source, ds_colormap, ds_xfrac, ds_yfrac, ds_xstep and
 /// ds_ystep, r_draw.c, whose source and colormap have no length.
@@ -35,6 +37,7 @@ pub struct CutColumn<'a> {
 pub struct CutSpan<'a> {
     pub texels: &'a [u8],
     pub shades: &'a [u8],
+    pub spans: Spans,
     pub x_fraction: i32,
     pub y_fraction: i32,
     pub x_step: i32,
@@ -101,17 +104,16 @@ pub trait Canvas {
         requires texels { length cut.now.texels.now ≡ FLAT_BYTES }
         requires shades { length cut.now.shades.now ≡ MAP_COLOURS }
         ensures { view self.new ≡ with_dots mark (span_dots (view self.old).painter y
-            (cut_row_colour cut.now.texels.now cut.now.shades.now cut.now.x_fraction
+            (cut_row_colour cut.now.spans cut.now.texels.now cut.now.shades.now cut.now.x_fraction
             cut.now.y_fraction cut.now.x_step cut.now.y_step first)
             first last) (view self.old) }
     {
-        let mut x_fraction = cut.x_fraction;
-        let mut y_fraction = cut.y_fraction;
+        let step = first_place(cut.spans, cut.x_step, cut.y_step);
+        let mut place = first_place(cut.spans, cut.x_fraction, cut.y_fraction);
         for x in first..last + 1 {
-            let colour = cut_span_colour(cut.texels, cut.shades, x_fraction, y_fraction);
+            let colour = cut_span_colour(cut.texels, cut.shades, flat_place_at(place));
             self.dot(x, y, colour);
-            x_fraction = plus(x_fraction, cut.x_step);
-            y_fraction = plus(y_fraction, cut.y_step);
+            place = place_after(place, step, 1);
         }
     }
 }

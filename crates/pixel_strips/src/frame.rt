@@ -6,10 +6,10 @@ ghost use Rattle.pixel_rules.specs.declared.TheConstants.{FRAME_CELLS, TEXEL_ROW
 ghost use Rattle.pixel_strips.specs.declared.texels.TheConstants.{FLAT_BYTES};
 ghost use Rattle.pixel_strips.specs.Canvases.{CanvasView, blank, marked_by_colour};
 ghost use Rattle.pixel_strips.specs.Fills.{ColumnFilled, SpanFilled};
-ghost use Rattle.pixel_strips.specs.Places.{IsTexelPlace, IsFlatPlace};
+ghost use Rattle.pixel_strips.specs.Places.{IsTexelPlace, IsFirstPlace, IsSpanPlace};
 
 use crate::canvas::{Canvas, CutColumn, CutSpan};
-use crate::places::{flat_place_at, packed_after, packed_place, places_after, row_at, texel_place};
+use crate::places::{first_place, flat_place_at, place_after, places_after, row_at, texel_place};
 use pixel_rules::{FRAME_CELLS, Painter};
 use std::alloc::{AllocError, Global};
 use std::marker::Model;
@@ -249,7 +249,7 @@ fn fill_span(cells: &mut [u8], start: usize, count: usize, cut: &CutSpan<'_>)
     requires few { count ≤ FRAME_WIDTH }
     requires texels { length cut.now.texels.now ≡ FLAT_BYTES }
     requires shades { length cut.now.shades.now ≡ MAP_COLOURS }
-    ensures { SpanFilled cut.now.texels.now cut.now.shades.now cut.now.x_fraction
+    ensures { SpanFilled cut.now.spans cut.now.texels.now cut.now.shades.now cut.now.x_fraction
         cut.now.y_fraction cut.now.x_step cut.now.y_step start count cells.old cells.new }
 {
     let cut = *cut;
@@ -268,14 +268,14 @@ fn fill_few_across(cells: &mut [u8], start: usize, count: usize, cut: &CutSpan<'
     requires few { count ≤ FRAME_WIDTH }
     requires texels { length cut.now.texels.now ≡ FLAT_BYTES }
     requires shades { length cut.now.shades.now ≡ MAP_COLOURS }
-    ensures { SpanFilled cut.now.texels.now cut.now.shades.now cut.now.x_fraction
+    ensures { SpanFilled cut.now.spans cut.now.texels.now cut.now.shades.now cut.now.x_fraction
         cut.now.y_fraction cut.now.x_step cut.now.y_step start count cells.old cells.new }
 {
-    let step = packed_place(cut.x_step, cut.y_step);
-    let mut place = packed_place(cut.x_fraction, cut.y_fraction);
+    let step = first_place(cut.spans, cut.x_step, cut.y_step);
+    let mut place = first_place(cut.spans, cut.x_fraction, cut.y_fraction);
     for k in 0..count {
         fill_one(cells, start + k, place, cut);
-        place = packed_after(place, step, 1);
+        place = place_after(place, step, 1);
     }
 }
 
@@ -288,18 +288,18 @@ fn fill_fours_across(cells: &mut [u8], start: usize, count: usize, cut: &CutSpan
     requires few { count ≤ FRAME_WIDTH }
     requires texels { length cut.now.texels.now ≡ FLAT_BYTES }
     requires shades { length cut.now.shades.now ≡ MAP_COLOURS }
-    ensures { SpanFilled cut.now.texels.now cut.now.shades.now cut.now.x_fraction
+    ensures { SpanFilled cut.now.spans cut.now.texels.now cut.now.shades.now cut.now.x_fraction
         cut.now.y_fraction cut.now.x_step cut.now.y_step start count cells.old cells.new }
 {
-    let step = packed_place(cut.x_step, cut.y_step);
-    let first = packed_place(cut.x_fraction, cut.y_fraction);
+    let step = first_place(cut.spans, cut.x_step, cut.y_step);
+    let first = first_place(cut.spans, cut.x_fraction, cut.y_fraction);
     let mut place = first;
     for k in 0..(count - 1) / 4 {
         fill_four_across(cells, start + 4 * k, place, step, cut);
-        place = packed_after(place, step, 4);
+        place = place_after(place, step, 4);
     }
     let done = count - 4;
-    let last = packed_after(first, step, done as u64);
+    let last = place_after(first, step, done as u64);
     fill_four_across(cells, start + done, last, step, cut);
 }
 
@@ -312,17 +312,18 @@ fn fill_four_across(cells: &mut [u8], cell: usize, place: u64, step: u64, cut: &
     requires texels { length cut.now.texels.now ≡ FLAT_BYTES }
     requires shades { length cut.now.shades.now ≡ MAP_COLOURS }
     ensures { (x y : ℤ) (start n so_far : ℕ) (before : List ℕ) → n + 3 < FRAME_WIDTH →
-        cell ≡ start + n → n ≤ so_far → so_far ≤ n + 4 → IsFlatPlace cut.now.x_step cut.now.y_step 0 step →
-        IsFlatPlace (step_at x cut.now.x_step n) (step_at y cut.now.y_step n) n place →
-        SpanFilled cut.now.texels.now cut.now.shades.now x y cut.now.x_step cut.now.y_step
-        start so_far before cells.old →
-        SpanFilled cut.now.texels.now cut.now.shades.now x y cut.now.x_step cut.now.y_step
-        start (n + 4) before cells.new }
+        cell ≡ start + n → n ≤ so_far → so_far ≤ n + 4 →
+        IsFirstPlace cut.now.spans cut.now.x_step cut.now.y_step step →
+        IsSpanPlace cut.now.spans x y cut.now.x_step cut.now.y_step n place →
+        SpanFilled cut.now.spans cut.now.texels.now cut.now.shades.now x y cut.now.x_step
+        cut.now.y_step start so_far before cells.old →
+        SpanFilled cut.now.spans cut.now.texels.now cut.now.shades.now x y cut.now.x_step
+        cut.now.y_step start (n + 4) before cells.new }
 {
     fill_one(cells, cell, place, cut);
-    fill_one(cells, cell + 1, packed_after(place, step, 1), cut);
-    fill_one(cells, cell + 2, packed_after(place, step, 2), cut);
-    fill_one(cells, cell + 3, packed_after(place, step, 3), cut);
+    fill_one(cells, cell + 1, place_after(place, step, 1), cut);
+    fill_one(cells, cell + 2, place_after(place, step, 2), cut);
+    fill_one(cells, cell + 3, place_after(place, step, 3), cut);
 }
 
 // Sets the cell of column `n` of a span, which may be set already.
@@ -334,11 +335,11 @@ fn fill_one(cells: &mut [u8], cell: usize, place: u64, cut: &CutSpan<'_>)
     requires shades { length cut.now.shades.now ≡ MAP_COLOURS }
     ensures { (x y : ℤ) (start n so_far : ℕ) (before : List ℕ) → n < FRAME_WIDTH →
         cell ≡ start + n → n ≤ so_far →
-        IsFlatPlace (step_at x cut.now.x_step n) (step_at y cut.now.y_step n) n place →
-        SpanFilled cut.now.texels.now cut.now.shades.now x y cut.now.x_step cut.now.y_step
-        start so_far before cells.old →
-        SpanFilled cut.now.texels.now cut.now.shades.now x y cut.now.x_step cut.now.y_step
-        start (max so_far (n + 1)) before cells.new }
+        IsSpanPlace cut.now.spans x y cut.now.x_step cut.now.y_step n place →
+        SpanFilled cut.now.spans cut.now.texels.now cut.now.shades.now x y cut.now.x_step
+        cut.now.y_step start so_far before cells.old →
+        SpanFilled cut.now.spans cut.now.texels.now cut.now.shades.now x y cut.now.x_step
+        cut.now.y_step start (max so_far (n + 1)) before cells.new }
 {
     cells[cell] = cut.shades[cut.texels[flat_place_at(place)] as usize];
 }

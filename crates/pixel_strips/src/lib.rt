@@ -17,5 +17,5 @@ pub use canvas::{Canvas, CutColumn, CutSpan};
 pub use column::{ColumnStrip, paint_column, paint_post};
 pub use frame::Frame;
 pub use pixel_rules::Painter;
-pub use span::{SpanStrip, paint_span};
+pub use span::{SpanStrip, paint_span, paint_span_as};
 pub use texels::FLAT_BYTES;

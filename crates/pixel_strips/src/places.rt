@@ -1,13 +1,15 @@
 // Fractions as the loops of a frame step them: in the highest bits of a word, so that the texel is
 // one shift away, and a step is one sum.
 ghost use Rattle.std.specs.Prelude.{◌≡◌, ◌+◌, ◌<◌, ℕ, ℤ};
+ghost use Rattle.view_rules.specs.declared.Spans.{Spans};
 ghost use Rattle.pixel_rules.specs.declared.TheConstants.{TEXEL_ROWS};
-ghost use Rattle.pixel_rules.specs.Strips.{texel_row, flat_place};
+ghost use Rattle.pixel_rules.specs.Strips.{texel_row, packed_half, pack, span_place};
 ghost use Rattle.word_rules.specs.Steps.{step_at};
 ghost use Rattle.pixel_strips.specs.declared.texels.TheConstants.{FLAT_BYTES};
-ghost use Rattle.pixel_strips.specs.Places.{IsTexelPlace, IsFlatPlace};
+ghost use Rattle.pixel_strips.specs.Places.{IsTexelPlace, IsFlatPlace, IsPackedPlace, IsFirstPlace, IsSpanPlace};
 
 use pixel_rules::FLAT_SIDE;
+use view_rules::Spans;
 use word_rules::FRACTION_BITS;
 
 /// The bits of a 16.16 fraction above its texel row.
@@ -60,10 +62,27 @@ pub fn row_at(place: u32) -> usize
     (place >> ROW_SHIFT) as usize
 }
 
-/// The place of two fractions, or of two steps, in a flat: no carry yet.
+/// The bits of a fraction below what is packed of it.
+pub const PACKED_SHIFT: u32 = 6;
+
+/// The packed fractions, in bits.
+pub const PACKED_BITS: u32 = 16;
+
+/// The place of two fractions, or of two steps, in a flat, as spans are stepped: no carry yet.
+#[inline(always)]
+pub fn first_place(spans: Spans, x_fraction: i32, y_fraction: i32) -> u64
+    ensures { IsFirstPlace spans x_fraction y_fraction result }
+{
+    match spans {
+        Spans::Full => full_place(x_fraction, y_fraction),
+        Spans::Packed => packed_place(x_fraction, y_fraction),
+    }
+}
+
+// The same of full fractions.
 #[tactic(auto, using(crate::proofs::PlaceLemmas::flat_place_is))]
 #[inline(always)]
-pub fn packed_place(x_fraction: i32, y_fraction: i32) -> u64
+fn full_place(x_fraction: i32, y_fraction: i32) -> u64
     ensures { IsFlatPlace x_fraction y_fraction 0 result }
 {
     let x = x_fraction.cast_unsigned() << FLAT_LIFT;
@@ -71,21 +90,50 @@ pub fn packed_place(x_fraction: i32, y_fraction: i32) -> u64
     ((y as u64) << u32::BITS) + x as u64
 }
 
+// The same of packed ones. The shift keeps the lower half alone.
+#[tactic(auto, using(crate::proofs::PlaceLemmas::packed_place_is))]
+#[inline(always)]
+fn packed_place(x_fraction: i32, y_fraction: i32) -> u64
+    ensures { IsPackedPlace (pack x_fraction y_fraction) 0 result }
+{
+    let word = pack(x_fraction, y_fraction) as u64;
+    (word << (u32::BITS + PACKED_BITS)) + word
+}
+
+// Two fractions in one word.
+#[tactic(auto, unfolding(pixel_rules::specs::Strips::pack))]
+#[inline(always)]
+fn pack(x_fraction: i32, y_fraction: i32) -> u32
+    ensures { result ≡ pack x_fraction y_fraction }
+{
+    (packed_half(x_fraction) << PACKED_BITS) + packed_half(y_fraction)
+}
+
+// What is packed of a fraction.
+#[tactic(auto, unfolding(pixel_rules::specs::Strips::packed_half))]
+#[inline(always)]
+fn packed_half(fraction: i32) -> u32
+    ensures value { result ≡ packed_half fraction }
+    ensures within { result < 65536 }
+{
+    (fraction.cast_unsigned() >> PACKED_SHIFT) % (1 << PACKED_BITS)
+}
+
 /// The place after `count` steps, with one carry a step more at most.
 #[inline(always)]
-pub fn packed_after(place: u64, step: u64, count: u64) -> u64
-    ensures { (x y a b : ℤ) (most : ℕ) → most + count < CARRIES →
-        IsFlatPlace x y most place → IsFlatPlace a b 0 step →
-        IsFlatPlace (step_at x a count) (step_at y b count) (most + count) result }
+pub fn place_after(place: u64, step: u64, count: u64) -> u64
+    ensures { (spans : Spans) (x y a b : ℤ) (n : ℕ) → n + count < CARRIES →
+        IsSpanPlace spans x y a b n place → IsFirstPlace spans a b step →
+        IsSpanPlace spans x y a b (n + count) result }
 {
     place.wrapping_add(step.wrapping_mul(count))
 }
 
-/// The texel of a flat, 0 to 4095, row by row, that a place stands for.
+/// The texel of a flat, 0 to 4095, row by row, that a place stands for, however spans are stepped.
 #[inline(always)]
 pub fn flat_place_at(place: u64) -> usize
-    ensures place { (x y : ℤ) (most : ℕ) → most < CARRIES → IsFlatPlace x y most place →
-        result ≡ flat_place x y }
+    ensures place { (spans : Spans) (x y a b : ℤ) (n : ℕ) → n < CARRIES →
+        IsSpanPlace spans x y a b n place → result ≡ span_place spans x y a b n }
     ensures within { result < FLAT_BYTES }
 {
     let row = place >> (u32::BITS + FLAT_SHIFT);

@@ -1,13 +1,15 @@
 // Spans of pixels.
 ghost use Rattle.std.specs.Prelude.{◌≡◌, ◌*◌};
+ghost use Rattle.view_rules.specs.declared.Spans.TheVariants.{Full};
 ghost use Rattle.pixel_rules.specs.declared.TheConstants.{MAP_COLOURS};
 ghost use Rattle.pixel_strips.specs.Lying.{IsSpanIn, with_span};
 ghost use Rattle.pixel_strips.specs.Strips.{IsWindow};
 
 use crate::canvas::{Canvas, CutSpan};
+use crate::places::{first_place, flat_place_at, place_after};
 use crate::texels::{FLAT_BYTES, span_colour, window};
-use fx_words::plus;
 use pixel_rules::MAP_COLOURS;
+use view_rules::Spans;
 
 /// Columns `first` to `last` of row `y` of the view.
 ///
@@ -31,12 +33,22 @@ pub struct SpanStrip<'a> {
     pub map: u8,
 }
 
-/// Paints the strip. Takes no memory.
+/// Paints the strip, whose fractions are full. Takes no memory.
 ///
 /// The original: `R_DrawSpan`, r_draw.c.
 pub fn paint_span<C: Canvas>(canvas: &mut C, strip: &SpanStrip<'_>)
     requires within { IsSpanIn strip.now (C.view canvas.old) }
-    ensures { C.view canvas.new ≡ with_span C.mark strip.now (C.view canvas.old) }
+    ensures { C.view canvas.new ≡ with_span C.mark Full strip.now (C.view canvas.old) }
+{
+    paint_span_as(canvas, strip, Spans::Full);
+}
+
+/// Paints the strip, whose fractions are stepped as `spans` says. Takes no memory.
+///
+/// The original: `R_DrawSpan`, r_draw.c; for packed ones its assembly in the DOS program.
+pub fn paint_span_as<C: Canvas>(canvas: &mut C, strip: &SpanStrip<'_>, spans: Spans)
+    requires within { IsSpanIn strip.now (C.view canvas.old) }
+    ensures { C.view canvas.new ≡ with_span C.mark spans strip.now (C.view canvas.old) }
 {
     if let Some(texels) = window(strip.flat, 0, FLAT_BYTES)
         && let Some(shades) = window(
@@ -45,44 +57,45 @@ pub fn paint_span<C: Canvas>(canvas: &mut C, strip: &SpanStrip<'_>)
             MAP_COLOURS as usize,
         )
     {
-        paint_cut_span(canvas, strip, texels, shades);
+        paint_cut_span(canvas, strip, spans, texels, shades);
     } else {
-        paint_any_span(canvas, strip);
+        paint_any_span(canvas, strip, spans);
     }
 }
 
 // Paints the strip where the flat or the colormap ends before it has all texels or shades.
-fn paint_any_span<C: Canvas>(canvas: &mut C, strip: &SpanStrip<'_>)
+fn paint_any_span<C: Canvas>(canvas: &mut C, strip: &SpanStrip<'_>, spans: Spans)
     requires within { IsSpanIn strip.now (C.view canvas.old) }
-    ensures { C.view canvas.new ≡ with_span C.mark strip.now (C.view canvas.old) }
+    ensures { C.view canvas.new ≡ with_span C.mark spans strip.now (C.view canvas.old) }
 {
-    let mut x_fraction = strip.x_fraction;
-    let mut y_fraction = strip.y_fraction;
+    let step = first_place(spans, strip.x_step, strip.y_step);
+    let mut place = first_place(spans, strip.x_fraction, strip.y_fraction);
     for x in strip.first..strip.last + 1 {
-        let colour = span_colour(
-            strip.flat,
-            strip.colormap,
-            strip.map,
-            x_fraction,
-            y_fraction,
-        );
+        let texel = flat_place_at(place);
+        let colour = span_colour(strip.flat, strip.colormap, strip.map, texel);
         canvas.dot(x, strip.y, colour);
-        x_fraction = plus(x_fraction, strip.x_step);
-        y_fraction = plus(y_fraction, strip.y_step);
+        place = place_after(place, step, 1);
     }
 }
 
 // Paints the strip from the texels and the shades that are cut out.
-fn paint_cut_span<C: Canvas>(canvas: &mut C, strip: &SpanStrip<'_>, texels: &[u8], shades: &[u8])
+fn paint_cut_span<C: Canvas>(
+    canvas: &mut C,
+    strip: &SpanStrip<'_>,
+    spans: Spans,
+    texels: &[u8],
+    shades: &[u8],
+)
     requires within { IsSpanIn strip.now (C.view canvas.old) }
     requires texels { IsWindow strip.now.flat.now 0 FLAT_BYTES texels.now }
     requires shades { IsWindow strip.now.colormap.now (MAP_COLOURS * strip.now.map) MAP_COLOURS
         shades.now }
-    ensures { C.view canvas.new ≡ with_span C.mark strip.now (C.view canvas.old) }
+    ensures { C.view canvas.new ≡ with_span C.mark spans strip.now (C.view canvas.old) }
 {
     let cut = CutSpan {
         texels,
         shades,
+        spans,
         x_fraction: strip.x_fraction,
         y_fraction: strip.y_fraction,
         x_step: strip.x_step,

@@ -1,7 +1,7 @@
 // Texels by their fractions, and colours through a colormap.
 ghost use Rattle.std.specs.Prelude.{◌≡◌, ◌+◌, ◌*◌, ◌<◌, ◌≤◌, ◌^◌, length, slice_index, IfSome, IfNone};
-ghost use Rattle.pixel_rules.specs.declared.TheConstants.{TEXEL_ROWS, FLAT_SIDE, MAP_COLOURS};
-ghost use Rattle.pixel_rules.specs.Strips.{texel_row, flat_place, shade, column_colour, span_colour};
+ghost use Rattle.pixel_rules.specs.declared.TheConstants.{TEXEL_ROWS, MAP_COLOURS};
+ghost use Rattle.pixel_rules.specs.Strips.{texel_row, shade, column_colour, span_colour};
 ghost use Rattle.pixel_strips.specs.Strips.{IsWindow, cut_colour, cut_span_colour};
 
 use pixel_rules::{FLAT_SIDE, MAP_COLOURS, TEXEL_ROWS};
@@ -41,17 +41,6 @@ pub fn texel_row(fraction: i32) -> usize
     ((fraction >> FRACTION_BITS).cast_unsigned() % TEXEL_ROWS as u32) as usize
 }
 
-/// The place in a flat that two fractions stand for, 0 to 4095.
-#[tactic(auto, unfolding(pixel_rules::specs::Strips::flat_place, word_rules::specs::Words::shr_word))]
-pub fn flat_place(x_fraction: i32, y_fraction: i32) -> usize
-    ensures place { result ≡ flat_place x_fraction y_fraction }
-    ensures within { result < FLAT_BYTES }
-{
-    let column = (x_fraction >> FRACTION_BITS).cast_unsigned() % FLAT_SIDE as u32;
-    let row = (y_fraction >> FRACTION_BITS).cast_unsigned() % FLAT_SIDE as u32;
-    (FLAT_SIDE as u32 * row + column) as usize
-}
-
 /// A colour through colormap `map`, 0 past the end of the lump.
 #[tactic(auto, unfolding(pixel_rules::specs::Strips::shade))]
 pub fn shade(colormap: &[u8], map: u8, index: u8) -> u8
@@ -73,16 +62,12 @@ pub fn column_colour(source: &[u8], base: u64, colormap: &[u8], map: u8, fractio
     )
 }
 
-/// The colour of a span at two fractions.
+/// The colour of a span at a place in its flat.
 #[tactic(auto, unfolding(pixel_rules::specs::Strips::span_colour))]
-pub fn span_colour(flat: &[u8], colormap: &[u8], map: u8, x_fraction: i32, y_fraction: i32) -> u8
-    ensures { result ≡ span_colour flat.now colormap.now map x_fraction y_fraction }
+pub fn span_colour(flat: &[u8], colormap: &[u8], map: u8, place: usize) -> u8
+    ensures { result ≡ span_colour flat.now colormap.now map place }
 {
-    shade(
-        colormap,
-        map,
-        byte_or_zero(flat, flat_place(x_fraction, y_fraction) as u64),
-    )
+    shade(colormap, map, byte_or_zero(flat, place as u64))
 }
 
 /// The same of 128 texels and 256 shades that are cut out: no bound is tested.
@@ -97,10 +82,11 @@ pub fn cut_colour(texels: &[u8], shades: &[u8], fraction: i32) -> u8
 
 /// The same of the 4096 texels of a flat.
 #[tactic(auto, unfolding(crate::specs::Strips::cut_span_colour))]
-pub fn cut_span_colour(texels: &[u8], shades: &[u8], x_fraction: i32, y_fraction: i32) -> u8
+pub fn cut_span_colour(texels: &[u8], shades: &[u8], place: usize) -> u8
     requires texels { length texels.now ≡ FLAT_BYTES }
     requires shades { length shades.now ≡ MAP_COLOURS }
-    ensures { result ≡ cut_span_colour texels.now shades.now x_fraction y_fraction }
+    requires place { place < FLAT_BYTES }
+    ensures { result ≡ cut_span_colour texels.now shades.now place }
 {
-    shades[texels[flat_place(x_fraction, y_fraction)] as usize]
+    shades[texels[place] as usize]
 }

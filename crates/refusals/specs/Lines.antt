@@ -1,5 +1,6 @@
 -- The code of a refusal, its numbers, and how they are written.
-use Rattle.std.specs.Prelude.{ℕ, ◌+◌, List, [], ◌∷◌, ◌++◌, codes, decimal}
+use Rattle.std.specs.Prelude.{ℕ, ◌+◌, List, [], ◌∷◌, ◌++◌, codes, decimal, ℤ}
+use Rattle.std.specs.Fmt.{signed_decimal}
 use Rattle.view_rules.specs.declared.TablesRefusal.{TablesRefusal}
 use Rattle.view_rules.specs.declared.TablesRefusal.TheVariants as tables
 use Rattle.lump_rules.specs.declared.wad.DirRefusal.{DirRefusal}
@@ -108,6 +109,10 @@ numbers_of (Trim refusal) = trim_numbers refusal
 -- a number after some text
 abbrev pub labelled : List ℕ → ℕ → List ℕ
 labelled label number = label ++ decimal number
+
+-- a signed number after some text
+abbrev pub labelled_signed : List ℕ → ℤ → List ℕ
+labelled_signed label number = label ++ signed_decimal number
 
 -- a number after a space
 abbrev pub spaced : ℕ → List ℕ

@@ -2,7 +2,7 @@
 ghost use Rattle.std.specs.Prelude.{◌≡◌, ◌+◌, ◌≤◌, ◌++◌, [], List, ℕ, length};
 ghost use Rattle.std.specs.List.{flat_map};
 ghost use Rattle.outside.specs.Sink.{Writes};
-ghost use Rattle.refusals.specs.Lines.{labelled, spaced};
+ghost use Rattle.refusals.specs.Lines.{labelled, labelled_signed, spaced};
 
 use arrayvec::ArrayVec;
 use itoa::Buffer;
@@ -60,6 +60,17 @@ impl Line {
     pub fn add_number(&mut self, label: &[u8], number: u64)
         requires room { length self.old + length label.now + DIGITS ≤ LINE_ROOM }
         ensures text { self.new ≡ self.old ++ labelled label.now number }
+        ensures length { length self.new ≤ length self.old + length label.now + DIGITS }
+    {
+        self.add(label);
+        let mut buffer = Buffer::new();
+        self.add(buffer.format(number).as_bytes());
+    }
+
+    /// Appends a signed number, in decimal, after some text.
+    pub fn add_signed(&mut self, label: &[u8], number: i32)
+        requires room { length self.old + length label.now + DIGITS ≤ LINE_ROOM }
+        ensures text { self.new ≡ self.old ++ labelled_signed label.now number }
         ensures length { length self.new ≤ length self.old + length label.now + DIGITS }
     {
         self.add(label);

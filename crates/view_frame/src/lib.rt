@@ -12,4 +12,4 @@ mod view;
 
 pub use sides::side_of;
 pub use view::View;
-pub use view_rules::{ColumnRange, Eye, Partition, ViewShape};
+pub use view_rules::{ColumnRange, Eye, Partition, Spans, ViewShape};

@@ -18,7 +18,7 @@ use fx_words::{abs_word, clamp_word, fine_angle, minus, mul, plus, shr_word, tur
 use std::marker::Model;
 use view_rules::{
     ColumnRange, DISTANCE_SHIFT, DISTANCE_STEPS, Eye, LIGHT_LEVELS, LIGHT_SHIFT, SCALE_SHIFT,
-    SCALE_STEPS, ViewShape,
+    SCALE_STEPS, Spans, ViewShape,
 };
 use word_rules::{ANG90, ANG180};
 
@@ -51,6 +51,13 @@ impl<'a> View<'a> {
         ensures shape { shape_of_size result.now.size ≡ self.now.shape }
     {
         self.tables
+    }
+
+    /// How spans are stepped.
+    pub fn spans(&self) -> Spans
+        ensures { result ≡ self.now.spans }
+    {
+        self.tables.spans()
     }
 
     /// The viewpoint.

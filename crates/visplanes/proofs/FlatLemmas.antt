@@ -12,7 +12,7 @@ use Rattle.pixel_rules.specs.declared.Painter.{Painter}
 use Rattle.pixel_rules.specs.declared.TheConstants.{PLANE}
 use Rattle.pixel_rules.specs.Dots.{Dot, last_dot, AreInFrame, AreInColumn}
 use Rattle.pixel_rules.specs.Art.{Art, lump_source, painter_of}
-use Rattle.pixel_rules.specs.Strips.{flat_place, shade, span_colour}
+use Rattle.pixel_rules.specs.Strips.{shade, span_colour}
 use Rattle.pixel_rules.proofs.DotLemmas.{put_dots-same, last_dot-none, in_frame-append}
 use Rattle.pixel_rules.proofs.StripLemmas.{in_frame-column_dots, column_dots-none}
 use Rattle.pixel_rules.proofs.ColumnLemmas.{last_dot-no_column}
@@ -21,7 +21,7 @@ use Rattle.picture_rules.specs.declared.plane.Flat4.TheVariants.{Sky, Lump}
 use Rattle.picture_rules.specs.plane.Keys.{same_flat, is_sky_key}
 use Rattle.picture_rules.specs.plane.Planes.{Plane, column}
 use Rattle.picture_rules.specs.plane.Spans.{holds_row, holds, span_start}
-use Rattle.picture_rules.specs.plane.Floors.{row_distance, pixel_x, pixel_y, flat_colour, floor_colour, run_dots, floor_dots}
+use Rattle.picture_rules.specs.plane.Floors.{row_distance, pixel_place, flat_colour, floor_colour, run_dots, floor_dots}
 use Rattle.picture_rules.specs.plane.Skies.{plane_dots_by, plane_dots}
 use Rattle.picture_rules.proofs.plane.FloorLemmas.{in_column-run_dots, last_dot-floor_dots}
 use Rattle.pixel_strips.specs.Canvases.{CanvasView, with_dots}
@@ -87,7 +87,7 @@ unfolding pixel_colour distance_at light_at span_colour floor_colour flat_colour
 same_colour v art lump p flat colormap x y g =
     let light : ℕ = light_number v p.key.light (pos 0) in
     let distance : ℤ = row_distance v p.key.height y in
-    let place : ℕ = flat_place (pixel_x v distance (span_start (holds p y) x) x) (pixel_y v distance (span_start (holds p y) x) x) in
+    let place : ℕ = pixel_place v distance (span_start (holds p y) x) x in
     ap (shade colormap (distance_map v light distance)) (sym (g.byte place)) ∙ sym (g.shade (distance_map v light distance) (art.byte lump place))
 
 no_pixel : (shape : ViewShape) (left top : ℕ) (p : Plane) → IsSeen shape left top p → (x y : ℕ) → shape.width ≤ x → (b : Bool) → holds p y x ≡ b → b ≡ false

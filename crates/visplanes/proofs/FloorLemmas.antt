@@ -2,22 +2,23 @@
 use Rattle.std.proofs.Common.{◌≡◌, ℕ, ap}
 use Rattle.std.specs.Prelude.{ℤ}
 use Rattle.word_rules.specs.Words.{mul}
+use Rattle.view_rules.specs.declared.Spans.{Spans}
 use Rattle.view_rules.specs.Lights.{distance_map}
 use Rattle.pixel_rules.specs.declared.Painter.{Painter}
 use Rattle.pixel_rules.specs.Strips.{span_dots}
-use Rattle.picture_rules.specs.plane.Floors.{base_x, base_y, span_x, span_y, pixel_x, pixel_y}
+use Rattle.picture_rules.specs.plane.Floors.{base_x, base_y, span_x, span_y, pixel_place}
 use Rattle.pixel_strips.specs.Strips.{row_colour}
 use Rattle.visplanes.specs.Spans.{FloorView, distance_at, light_at, pixel_colour, row_dots}
 
-pixel_same : (f : FloorView) (y first map : ℕ) (distance x0 y0 x_step y_step : ℤ) → distance ≡ distance_at f y → map ≡ distance_map f.view (light_at f) distance →
+pixel_same : (f : FloorView) (spans : Spans) (y first map : ℕ) (distance x0 y0 x_step y_step : ℤ) → spans ≡ f.view.spans → distance ≡ distance_at f y → map ≡ distance_map f.view (light_at f) distance →
     x0 ≡ span_x f.view distance first → y0 ≡ span_y f.view distance first → x_step ≡ mul distance (base_x f.view) → y_step ≡ mul distance (base_y f.view) →
-    (x : ℕ) → row_colour f.flat f.colormap map x0 y0 x_step y_step first x ≡ pixel_colour f y first x
-unfolding row_colour pixel_colour pixel_x pixel_y
-pixel_same f y first map distance x0 y0 x_step y_step d m a b e h x = cc
+    (x : ℕ) → row_colour spans f.flat f.colormap map x0 y0 x_step y_step first x ≡ pixel_colour f y first x
+unfolding row_colour pixel_colour pixel_place
+pixel_same f spans y first map distance x0 y0 x_step y_step s d m a b e h x = cc
 
-pub span-row : (f : FloorView) (painter : Painter) (y first last map : ℕ) (distance x0 y0 x_step y_step : ℤ) → distance ≡ distance_at f y → map ≡ distance_map f.view (light_at f) distance →
+pub span-row : (f : FloorView) (spans : Spans) (painter : Painter) (y first last map : ℕ) (distance x0 y0 x_step y_step : ℤ) → spans ≡ f.view.spans → distance ≡ distance_at f y → map ≡ distance_map f.view (light_at f) distance →
     x0 ≡ span_x f.view distance first → y0 ≡ span_y f.view distance first → x_step ≡ mul distance (base_x f.view) → y_step ≡ mul distance (base_y f.view) →
-    span_dots painter y (row_colour f.flat f.colormap map x0 y0 x_step y_step first) first last ≡ row_dots f painter y first last
+    span_dots painter y (row_colour spans f.flat f.colormap map x0 y0 x_step y_step first) first last ≡ row_dots f painter y first last
 unfolding row_dots
-span-row f painter y first last map distance x0 y0 x_step y_step d m a b e h =
-    ap (λ (colour : ℕ → ℕ). span_dots painter y colour first last) (λ i x. pixel_same f y first map distance x0 y0 x_step y_step d m a b e h x i)
+span-row f spans painter y first last map distance x0 y0 x_step y_step s d m a b e h =
+    ap (λ (colour : ℕ → ℕ). span_dots painter y colour first last) (λ i x. pixel_same f spans y first map distance x0 y0 x_step y_step s d m a b e h x i)

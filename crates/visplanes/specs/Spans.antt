@@ -13,7 +13,7 @@ use Rattle.pixel_rules.specs.Strips.{shade, span_colour, span_dots}
 use Rattle.picture_rules.specs.declared.plane.PlaneKey.{PlaneKey}
 use Rattle.picture_rules.specs.plane.Planes.{Plane, column}
 use Rattle.picture_rules.specs.plane.Spans.{holds, span_start, plane_gaps}
-use Rattle.picture_rules.specs.plane.Floors.{row_distance, pixel_x, pixel_y}
+use Rattle.picture_rules.specs.plane.Floors.{row_distance, pixel_place}
 use Rattle.pixel_strips.specs.Canvases.{CanvasView, with_dots}
 use Rattle.visplanes.specs.declared.rows.Rows.{Rows}
 
@@ -55,7 +55,7 @@ light_at f = light_number f.view f.key.light (pos 0)
 unfoldable pub pixel_colour : FloorView → ℕ → ℕ → ℕ → ℕ
 pixel_colour f y x0 x =
     span_colour f.flat f.colormap (distance_map f.view (light_at f) (distance_at f y))
-    (pixel_x f.view (distance_at f y) x0 x) (pixel_y f.view (distance_at f y) x0 x)
+    (pixel_place f.view (distance_at f y) x0 x)
 
 -- the dots of a span
 unfoldable pub row_dots : FloorView → Painter → ℕ → ℕ → ℕ → List Dot

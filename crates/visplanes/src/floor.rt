@@ -11,7 +11,7 @@ ghost use Rattle.visplanes.specs.Spans.{floor_view, row_dots};
 use angle_tables::projection;
 use fx_words::{abs_word, div, fine_angle, minus, mul, neg_word, plus, turn, turn_back};
 use picture_rules::PlaneKey;
-use pixel_strips::{Canvas, SpanStrip, paint_span};
+use pixel_strips::{Canvas, SpanStrip, paint_span_as};
 use std::marker::Model;
 use view_frame::View;
 use word_rules::ANG90;
@@ -82,21 +82,19 @@ impl<'a, 'b> Floor<'a, 'b> {
     {
         let distance = row_distance(self.view, self.key.height, y);
         let (x_fraction, y_fraction) = span_origin(self.view, distance, first);
-        paint_span(
-            canvas,
-            &SpanStrip {
-                y,
-                first,
-                last,
-                x_fraction,
-                y_fraction,
-                x_step: mul(distance, self.gain_x),
-                y_step: mul(distance, self.gain_y),
-                flat: self.flat,
-                colormap: self.colormap,
-                map: self.view.distance_map(self.light, distance),
-            },
-        );
+        let strip = SpanStrip {
+            y,
+            first,
+            last,
+            x_fraction,
+            y_fraction,
+            x_step: mul(distance, self.gain_x),
+            y_step: mul(distance, self.gain_y),
+            flat: self.flat,
+            colormap: self.colormap,
+            map: self.view.distance_map(self.light, distance),
+        };
+        paint_span_as(canvas, &strip, self.view.spans());
     }
 }
 

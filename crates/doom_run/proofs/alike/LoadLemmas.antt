@@ -154,10 +154,10 @@ compared bytes lumps few art name parts plan lines skill level flats moved is sa
 -- the same files, but for the WADs
 files_moved : (level : LevelJobValue) (wads : List (List ℕ)) (files : List File) (loaded : LoadedValue) (file name : List ℕ) (others : List File) (trimmed : List Lump)
     → IsLoadOf level wads files loaded → StandsFor level.files file name files others → directory (file ∷ []) ≡ Ok trimmed
-    → IsFilesOf level.files (name ∷ []) level.settings.size others
+    → IsFilesOf level.files (name ∷ []) level.settings others
     (record { tables = loaded.files.tables; things = loaded.files.things; path = loaded.files.path; weapons = loaded.files.weapons; lumps = trimmed })
 files_moved level wads files loaded file name others trimmed steps stands listed = record {
-  tables = in_file-same (tables_file level.settings.size) level.files.tables files others stands.tables ∙ steps.values.tables;
+  tables = in_file-same (tables_file level.settings) level.files.tables files others stands.tables ∙ steps.values.tables;
   things = in_file-same things_file level.files.things files others stands.things ∙ steps.values.things;
   path = in_file-same path_file level.files.path files others stands.path ∙ steps.values.path;
   weapons = in_optional_file-same weapons_file level.files.weapon files others stands.weapon ∙ steps.values.weapons;

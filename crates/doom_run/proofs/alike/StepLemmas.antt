@@ -5,6 +5,7 @@ use Rattle.outside.specs.Shelf.{File, file_named}
 use Rattle.outside.specs.Stops.{Stop, else_absent, no_file}
 use Rattle.lump_rules.specs.declared.wad.Lump.{Lump}
 use Rattle.lump_rules.specs.Wads.{directory}
+use Rattle.job_rules.specs.declared.command.Settings.{Settings}
 use Rattle.job_rules.specs.LevelJobs.{FileNames, LevelJobValue}
 use Rattle.refusals.specs.declared.refusal.Refusal.{Refusal}
 use Rattle.refusals.specs.declared.refusal.Refusal.TheVariants.{Wad}
@@ -50,32 +51,32 @@ texts-steps names files texts e =
     subst (IsTextsOf names files) made (record { things = things.1; path = path.1; weapons = weapons.1 })
 
 -- all files
-pub record IsFilesOf (names : FileNames) (wads : List (List ℕ)) (size : ℕ) (files : List File) (values : FilesValue) : Type 0 where
-  pub tables : in_file (tables_file size) names.tables files ≡ Ok values.tables
+pub record IsFilesOf (names : FileNames) (wads : List (List ℕ)) (settings : Settings) (files : List File) (values : FilesValue) : Type 0 where
+  pub tables : in_file (tables_file settings) names.tables files ≡ Ok values.tables
   pub things : in_file things_file names.things files ≡ Ok values.things
   pub path : in_file path_file names.path files ≡ Ok values.path
   pub weapons : in_optional_file weapons_file names.weapon files ≡ Ok values.weapons
   pub lumps : lumps_in wads files ≡ Ok values.lumps
 
-pub files-steps : (names : FileNames) (wads : List (List ℕ)) (size : ℕ) (files : List File) (values : FilesValue)
-    → files_in names wads size files ≡ Ok values → IsFilesOf names wads size files values
+pub files-steps : (names : FileNames) (wads : List (List ℕ)) (settings : Settings) (files : List File) (values : FilesValue)
+    → files_in names wads settings files ≡ Ok values → IsFilesOf names wads settings files values
 unfolding files_in
-files-steps names wads size files values e =
-    let tables = passed (in_file (tables_file size) names.tables files) _ values e in
+files-steps names wads settings files values e =
+    let tables = passed (in_file (tables_file settings) names.tables files) _ values e in
     let texts = passed (texts_in names files) _ values tables.2 in
     let lumps = passed (lumps_in wads files) _ values texts.2 in
     let parts = texts-steps names files texts.0 texts.1 in
     let made : ◌≡◌ {A = FilesValue} (record { tables = tables.0; things = texts.0.things; path = texts.0.path; weapons = texts.0.weapons; lumps = lumps.0 }) values = ok_of _ values lumps.2 in
-    subst (IsFilesOf names wads size files) made (record { tables = tables.1; things = parts.things; path = parts.path; weapons = parts.weapons; lumps = lumps.1 })
+    subst (IsFilesOf names wads settings files) made (record { tables = tables.1; things = parts.things; path = parts.path; weapons = parts.weapons; lumps = lumps.1 })
 
-pub files-made : (names : FileNames) (wads : List (List ℕ)) (size : ℕ) (files : List File) (values : FilesValue)
-    → IsFilesOf names wads size files values → files_in names wads size files ≡ Ok values
+pub files-made : (names : FileNames) (wads : List (List ℕ)) (settings : Settings) (files : List File) (values : FilesValue)
+    → IsFilesOf names wads settings files values → files_in names wads settings files ≡ Ok values
 unfolding files_in texts_in
-files-made names wads size files values is = rw (is.tables, is.things, is.path, is.weapons, is.lumps) refl
+files-made names wads settings files values is = rw (is.tables, is.things, is.path, is.weapons, is.lumps) refl
 
 -- a load
 pub record IsLoadOf (level : LevelJobValue) (wads : List (List ℕ)) (files : List File) (loaded : LoadedValue) : Type 0 where
-  pub values : IsFilesOf level.files wads level.settings.size files loaded.files
+  pub values : IsFilesOf level.files wads level.settings files loaded.files
   pub scene : scene_in (wad_bytes wads files loaded.files.lumps) loaded.files.lumps loaded.files.things level.map_name level.settings.skill ≡ Ok loaded.scene
   pub weapons : weapons_of (wad_bytes wads files loaded.files.lumps) loaded.files.lumps loaded.files.weapons ≡ Ok loaded.weapons
 
@@ -83,14 +84,14 @@ pub load-steps : (level : LevelJobValue) (wads : List (List ℕ)) (files : List 
     → load_in level wads files ≡ Ok loaded → IsLoadOf level wads files loaded
 unfolding load_in audited_in
 load-steps level wads files loaded e =
-    let values = passed (files_in level.files wads level.settings.size files) _ loaded e in
+    let values = passed (files_in level.files wads level.settings files) _ loaded e in
     let bytes = wad_bytes wads files values.0.lumps in
     let audited = below of_audit (audited_in bytes level values.0) loaded (no_file-ok (from_below of_audit (audited_in bytes level values.0)) loaded values.2) in
     let scene = passed (scene_in bytes values.0.lumps values.0.things level.map_name level.settings.skill) _ loaded audited in
     let weapons = passed (weapons_of bytes values.0.lumps values.0.weapons) _ loaded scene.2 in
     let made : ◌≡◌ {A = LoadedValue} (record { files = values.0; scene = scene.0; weapons = weapons.0 }) loaded = ok_of _ loaded weapons.2 in
     subst (IsLoadOf level wads files) made (record {
-      values = files-steps level.files wads level.settings.size files values.0 values.1;
+      values = files-steps level.files wads level.settings files values.0 values.1;
       scene = scene.1;
       weapons = weapons.1;
     })
@@ -99,7 +100,7 @@ pub load-made : (level : LevelJobValue) (wads : List (List ℕ)) (files : List F
     → IsLoadOf level wads files loaded → load_in level wads files ≡ Ok loaded
 unfolding load_in audited_in
 load-made level wads files loaded is =
-    rw (files-made level.files wads level.settings.size files loaded.files is.values, is.scene, is.weapons) refl
+    rw (files-made level.files wads level.settings files loaded.files is.values, is.scene, is.weapons) refl
 
 -- the lumps are those of the directory of all WADs
 lumps_step : (wads : List (List ℕ)) (files : List File) (lumps : List Lump) (o : Option (List (List ℕ))) → files_named wads files ≡ o

@@ -106,7 +106,7 @@ module _ (contents : List (List ℕ)) (level : LevelJobValue) (files : SceneFile
       }
 
 -- the zone is full while all is loaded
-pub load_full : {B D : Type 0} (level : LevelJobValue) (wads : List (List ℕ)) (held : List File) (found : FilesValue) (r : Result D (Fault Refusal)) (fault : Fault Refusal) (result : Result B (Fault Refusal)) → files_in level.files wads level.settings.size held ≡ Ok found →
+pub load_full : {B D : Type 0} (level : LevelJobValue) (wads : List (List ℕ)) (held : List File) (found : FilesValue) (r : Result D (Fault Refusal)) (fault : Fault Refusal) (result : Result B (Fault Refusal)) → files_in level.files wads level.settings held ≡ Ok found →
     IfErr r (λ f. IfFull (itself f) (IsFullOver (wad_bytes wads held found.lumps) level found)) → r ≡ Err fault → IsErrAnd result (λ e. e ≡ fault) → IfErr result (λ f. IfFull (itself f) (IsFullLoad level wads held))
 load_full {B} {D} level wads held found r fault result are full was is =
     let s = err_from_is_err_and result is in

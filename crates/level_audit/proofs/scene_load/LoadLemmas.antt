@@ -51,22 +51,22 @@ unstopped (Err refusal) value e = absurd (cc)
 module _ (level : LevelJobValue) (wads : List (List ℕ)) (held : List File) where
   -- the files stopped the loading
   pub files_stopped : {B D : Type 0} {steady : Bool} {value : B → LoadedValue} {v : D → FilesValue} {r : Result D (Fault Refusal)} (fault : (Fault Refusal)) (result : Result B (Fault Refusal)) →
-      ResultIsOrAbsent itself steady v (files_in level.files wads level.settings.size held) r → r ≡ Err fault → IsErrAnd result (λ e. e ≡ fault) → ResultIsOrAbsent itself steady value (load_in level wads held) result
+      ResultIsOrAbsent itself steady v (files_in level.files wads level.settings held) r → r ≡ Err fault → IsErrAnd result (λ e. e ≡ fault) → ResultIsOrAbsent itself steady value (load_in level wads held) result
   unfolding load_in
   files_stopped fault result agrees was is = step_stops _ fault result agrees was refl is
 
   module _ (found : FilesValue) where
     -- the files were accepted, and the lumps decide
-    files_passed : files_in level.files wads level.settings.size held ≡ Ok found → load_in level wads held ≡ stops_of_audit (audited_in (wad_bytes wads held found.lumps) level found)
+    files_passed : files_in level.files wads level.settings held ≡ Ok found → load_in level wads held ≡ stops_of_audit (audited_in (wad_bytes wads held found.lumps) level found)
     unfolding load_in
     files_passed are = rw are refl
 
     -- what is loaded is what is audited over their lumps
-    pub audited_of : (loaded : LoadedValue) → files_in level.files wads level.settings.size held ≡ Ok found → load_in level wads held ≡ Ok loaded → audited_in (wad_bytes wads held found.lumps) level found ≡ Ok loaded
+    pub audited_of : (loaded : LoadedValue) → files_in level.files wads level.settings held ≡ Ok found → load_in level wads held ≡ Ok loaded → audited_in (wad_bytes wads held found.lumps) level found ≡ Ok loaded
     audited_of loaded are e = unstopped (audited_in (wad_bytes wads held found.lumps) level found) loaded (sym (files_passed are) ∙ e)
 
     -- the audit stopped the loading
-    pub audit_stopped : {B D : Type 0} {steady later : Bool} {value : B → LoadedValue} {v : D → LoadedValue} {r : Result D (Fault Refusal)} (fault : Fault Refusal) (result : Result B (Fault Refusal)) → files_in level.files wads level.settings.size held ≡ Ok found → later ≡ steady →
+    pub audit_stopped : {B D : Type 0} {steady later : Bool} {value : B → LoadedValue} {v : D → LoadedValue} {r : Result D (Fault Refusal)} (fault : Fault Refusal) (result : Result B (Fault Refusal)) → files_in level.files wads level.settings held ≡ Ok found → later ≡ steady →
         ResultIs itself later v (from_below of_audit (audited_in (wad_bytes wads held found.lumps) level found)) r → r ≡ Err fault → IsErrAnd result (λ e. e ≡ fault) → ResultIsOrAbsent itself steady value (load_in level wads held) result
     audit_stopped {B} {D} {steady} {later} {value} {v} {r} fault result are same answers was is =
         let s = err_from_is_err_and result is in
@@ -75,14 +75,14 @@ module _ (level : LevelJobValue) (wads : List (List ℕ)) (held : List File) whe
         rw (files_passed are) (no_file_agrees (from_below of_audit (audited_in (wad_bytes wads held found.lumps) level found)) result (rw s.1 (record { ok = tt; err = k })))
 
     -- all is loaded
-    pub all_loaded : {B : Type 0} {steady : Bool} {value : B → LoadedValue} (loaded : B) → files_in level.files wads level.settings.size held ≡ Ok found → from_below of_audit (audited_in (wad_bytes wads held found.lumps) level found) ≡ Ok (value loaded) →
+    pub all_loaded : {B : Type 0} {steady : Bool} {value : B → LoadedValue} (loaded : B) → files_in level.files wads level.settings held ≡ Ok found → from_below of_audit (audited_in (wad_bytes wads held found.lumps) level found) ≡ Ok (value loaded) →
         ResultIsOrAbsent {E = (Fault Refusal)} itself steady value (load_in level wads held) (Ok loaded)
     all_loaded {value} loaded are accepted = all_passed _ loaded (files_passed are ∙ ap (λ (r : Result LoadedValue Refusal). no_file r) accepted)
 
     -- the shelf and the cache tell the WADs' bytes
-    pub told_wads : {w : ShelfView} {dir : DirectoryView} {z : Heap} → files_in level.files wads level.settings.size held ≡ Ok found →
+    pub told_wads : {w : ShelfView} {dir : DirectoryView} {z : Heap} → files_in level.files wads level.settings held ≡ Ok found →
         ((contents : List (List ℕ)) → files_named wads held ≡ Some contents → NameFiles w dir.files contents × AllWithin contents dir.lumps) → ((contents : List (List ℕ)) → IsFaithful contents dir.lumps z) → HoldContents w dir z (wad_contents wads held)
     told_wads are stand faithful =
-        let listed = wads_accepted level.files wads level.settings.size held found are in
+        let listed = wads_accepted level.files wads level.settings held found are in
         let both = stand listed.contents listed.named in
         rw listed.named (record { stand = both.0; within = both.1; faithful = faithful listed.contents })

@@ -53,6 +53,6 @@ pub record IsFullOver (bytes : ℕ → List ℕ) (level : LevelJobValue) (values
 -- enough.
 pub record IsFullLoad (level : LevelJobValue) (wads : List (List ℕ)) (files : List File) (wanted widest' : ℕ) : Type 0 where
   pub values : FilesValue
-  pub are : files_in level.files wads level.settings.size files ≡ Ok values
+  pub are : files_in level.files wads level.settings files ≡ Ok values
   pub block : IsBlockOver (wad_bytes wads files values.lumps) level values wanted widest'
   pub enough : (loaded : LoadedValue) → load_in level wads files ≡ Ok loaded → level.settings.zone < (loaded_sizes loaded).enough

@@ -65,7 +65,7 @@ audited_in bytes level values =
 -- all steps: the files in their order, then the lumps
 unfoldable pub load_in : LevelJobValue → List (List ℕ) → List File → Result LoadedValue (Stop Refusal)
 load_in level wads files =
-    and_then (files_in level.files wads level.settings.size files) (λ values.
+    and_then (files_in level.files wads level.settings files) (λ values.
     stops_of_audit (audited_in (wad_bytes wads files values.lumps) level values))
 
 -- the lumps of the pictures of a scene and of its weapon layers

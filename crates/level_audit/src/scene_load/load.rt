@@ -80,7 +80,7 @@ pub fn load_scene<S: Shelf>(
     ensures { LoadsScene (level_job_value level.now) (map (λ wad. wad.now) wads.now)
         (S.view shelf.old) (S.view shelf.new) result }
 {
-    let files = read_files(alloc, &level.files, wads, level.settings.size, shelf)?;
+    let files = read_files(alloc, &level.files, wads, &level.settings, shelf)?;
     let mut cache = make_cache(alloc, &files.dir, level.settings.zone)?;
     let (scene, weapons) = audit_level(alloc, level, &files, &mut cache, shelf)?;
     Ok(LoadedScene {

@@ -1,7 +1,6 @@
 -- The pixels of a plane that is not sky (R_MapPlane, R_DrawPlanes, r_plane.c).
 use Rattle.std.specs.Prelude.{ℕ, ◌-◌, ℤ, pos, List, [], Option, Some, None}
 use Rattle.word_rules.specs.Words.{plus, minus, neg_word, mul, div, abs_word, turn, turn_back, ang90, fine_angle}
-use Rattle.word_rules.specs.Steps.{step_at}
 use Rattle.word_rules.specs.Listed.{listed, listed_from, joined_lists}
 use Rattle.view_rules.specs.View.{ViewValue}
 use Rattle.view_rules.specs.Angles.{sine_at, cosine_at}
@@ -11,7 +10,7 @@ use Rattle.pixel_rules.specs.declared.Painter.{Painter}
 use Rattle.pixel_rules.specs.declared.TheConstants.{PLANE}
 use Rattle.pixel_rules.specs.Dots.{Dot}
 use Rattle.pixel_rules.specs.Art.{Art, lump_source, painter_of}
-use Rattle.pixel_rules.specs.Strips.{flat_place, column_dots}
+use Rattle.pixel_rules.specs.Strips.{span_place, column_dots}
 use Rattle.picture_rules.specs.plane.Planes.{Plane, column}
 use Rattle.picture_rules.specs.plane.Spans.{span_start, holds}
 
@@ -43,16 +42,14 @@ span_x v distance x0 = plus v.eye.x (mul (cosine_at v.tables (span_angle v x0)) 
 unfoldable pub span_y : ViewValue → ℤ → ℕ → ℤ
 span_y v distance x0 = minus (neg_word v.eye.y) (mul (sine_at v.tables (span_angle v x0)) (span_length v distance x0))
 
--- the fractions at column x of a span that begins at column x0
-unfoldable pub pixel_x : ViewValue → ℤ → ℕ → ℕ → ℤ
-pixel_x v distance x0 x = step_at (span_x v distance x0) (mul distance (base_x v)) (x - x0)
-
-unfoldable pub pixel_y : ViewValue → ℤ → ℕ → ℕ → ℤ
-pixel_y v distance x0 x = step_at (span_y v distance x0) (mul distance (base_y v)) (x - x0)
+-- the place in the flat at column x of a span that begins at column x0
+unfoldable pub pixel_place : ViewValue → ℤ → ℕ → ℕ → ℕ
+pixel_place v distance x0 x =
+    span_place v.spans (span_x v distance x0) (span_y v distance x0) (mul distance (base_x v)) (mul distance (base_y v)) (x - x0)
 
 unfoldable pub flat_colour : ViewValue → Art → ℕ → ℕ → ℤ → ℕ → ℕ → ℕ
 flat_colour v art lump light distance x0 x =
-    art.shade (distance_map v light distance) (art.byte lump (flat_place (pixel_x v distance x0 x) (pixel_y v distance x0 x)))
+    art.shade (distance_map v light distance) (art.byte lump (pixel_place v distance x0 x))
 
 -- the colour of pixel x, y of a plane of this flat
 unfoldable pub floor_colour : ViewValue → Art → ℕ → Plane → ℕ → ℕ → ℕ

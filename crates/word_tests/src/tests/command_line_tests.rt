@@ -5,6 +5,7 @@ use job_rules::{Command, Format, LevelTask, MakeJob, Settings};
 use lump_rules::Name8;
 use std::alloc::{AllocError, Global};
 use std::test::Fail;
+use view_rules::Spans;
 
 // An audit of one WAD with no option but its files.
 const AUDIT: &str = "audit MAP01 a.wad --tables t --things o --path p";
@@ -16,6 +17,7 @@ const DEFAULTS: Settings = Settings {
     size: 11,
     planes: 128,
     openings: 20_480,
+    spans: Spans::Full,
 };
 
 const USAGE: Told = Told::Fault(CommandFault::Usage);
@@ -109,7 +111,7 @@ fn is_command(alloc: Global, text: &str) -> Result<bool, AllocError> {
 #[test]
 fn words_that_are_commands(rt: HostRuntime) -> Result<(), Fail> {
     let alloc = rt.alloc();
-    for job in ["render", "limits", "trace", "trim"] {
+    for job in ["render", "limits", "list", "trace", "trim"] {
         let text = format!(in alloc; "{job} MAP01 a.wad --tables t --things o --path p")?;
         assert!(rt; is_command(alloc, &text)?, "{job}");
     }

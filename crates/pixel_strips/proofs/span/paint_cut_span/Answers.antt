@@ -8,5 +8,5 @@ pub returns : goal.returns
 returns g c =
     let s = c.args.strip.now in
     recoloured _ _ _ (λ (colour : ℕ → ℕ). span_dots (g.C.Canvas.view c.args.canvas.now).painter s.y colour s.first s.last) _ _ c.span.ensures
-    (cut_row_words s.flat.now s.colormap.now c.args.texels.now c.args.shades.now s.map s.x_fraction s.y_fraction s.x_step s.y_step s.first
+    (cut_row_words c.args.spans s.flat.now s.colormap.now c.args.texels.now c.args.shades.now s.map s.x_fraction s.y_fraction s.x_step s.y_step s.first
     (search rules) (search rules) (search rules) (search rules) c.requires.texels c.requires.shades (λ k. let b = c.type_inv.texels k in omega (arith, b)))

@@ -21,10 +21,11 @@ returns g c =
     let d : ℤ = c.row_distance-distance.result in
     let read : to_z w32 (of_z w32 d) ≡ d = to_z-of_z w32 d (search rules) in
     let origin = c.span_origin-x_fraction in
-    c.paint_span.ensures
+    c.paint_span_as.ensures
     ∙ ap (λ (dots : List Dot). with_dots g.C.Canvas.mark dots old)
-    (span-row f old.painter c.args.y c.args.first c.args.last c.distance_map.result d
+    (span-row f c.spans.result old.painter c.args.y c.args.first c.args.last c.distance_map.result d
     (to_z w32 (of_z w32 origin.result.0)) (to_z w32 (of_z w32 origin.result.1)) (to_z w32 (of_z w32 c.mul.result)) (to_z w32 (of_z w32 c.mul-2.result))
+    c.spans.ensures
     (c.row_distance-distance.ensures ∙ ap (λ (h : ℤ). row_distance v h c.args.y) (to_z-of_z w32 i.key.height (search rules)))
     (c.distance_map.ensures ∙ ap (λ (z : ℤ). distance_map v i.light z) read ∙ ap (λ (n : ℕ). distance_map v n d) c.self.invariant.0)
     (to_z-of_z w32 origin.result.0 (search rules) ∙ origin.ensures.x ∙ ap (λ (z : ℤ). span_x v z c.args.first) read)
