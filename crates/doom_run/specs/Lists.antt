@@ -12,7 +12,7 @@ use Rattle.picture_rules.specs.declared.list.ListedSprite.{ListedSprite}
 use Rattle.picture_rules.specs.declared.list.PlaneMaker.{PlaneMaker}
 use Rattle.picture_rules.specs.declared.list.PlaneMaker.TheVariants.{Leaf, Fragment}
 use Rattle.picture_rules.specs.Counts.{view_counts, view_over}
-use Rattle.picture_rules.specs.Lists.{ViewList, view_list}
+use Rattle.picture_rules.specs.Lists.{ViewListValue, view_list}
 use Rattle.doom_run.specs.Layers.{SeenView}
 use Rattle.doom_run.specs.Views.{ViewsValue, over_line}
 
@@ -50,7 +50,7 @@ sprite_line view k s =
     ++ (labelled (codes " lump ") s.lump ++ (labelled (codes " first ") s.first ++ (labelled (codes " last ") s.last ++ codes "\n"))))
 
 -- the sums: what is kept, and of fragments and vissprites all that there are
-abbrev pub sums_line : ℕ → Counts → ViewList → List ℕ
+abbrev pub sums_line : ℕ → Counts → ViewListValue → List ℕ
 sums_line view counts list =
     labelled (codes "view ") view
     ++ (labelled (codes " fragments ") counts.fragments
@@ -66,13 +66,13 @@ lines_from line k [] = []
 lines_from line k (x ∷ xs) = line k x ++ lines_from line (k + 1) xs
 
 -- the lines of all items of a view, each kind in the order of its numbers, and that of the sums
-unfoldable pub items_lines : ℕ → Counts → ViewList → List ℕ
+unfoldable pub items_lines : ℕ → Counts → ViewListValue → List ℕ
 items_lines view counts list =
     lines_from (fragment_line view) 0 list.fragments
     ++ (lines_from (plane_line view) 0 list.planes
     ++ (lines_from (sprite_line view) 0 list.sprites ++ sums_line view counts list))
 
-abbrev pub list_lines_by : ℕ → Counts → ViewList → Option OverLimit → List ℕ
+abbrev pub list_lines_by : ℕ → Counts → ViewListValue → Option OverLimit → List ℕ
 list_lines_by view counts list None = items_lines view counts list
 list_lines_by view counts list (Some over) = over_line view over
 

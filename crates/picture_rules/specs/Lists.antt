@@ -83,7 +83,7 @@ unfoldable pub told : ℕ → ℕ
 told n = min n MOST_TOLD
 
 -- The list of a view. An item's number is its place, which is the number that a trace has.
-pub record ViewList : Type 0 where
+pub record ViewListValue : Type 0 where
   pub fragments : List ListedFragment
   pub planes : List ListedPlane
   pub sprites : List ListedSprite
@@ -92,7 +92,7 @@ pub record ViewList : Type 0 where
   pub all_sprites : ℕ
 
 -- what the events of a view list
-unfoldable pub event_list : ViewValue → Scene → List Event → ViewList
+unfoldable pub event_list : ViewValue → Scene → List Event → ViewListValue
 event_list v scene events = record {
   fragments = map listed_fragment (drawsegs events);
   planes = map (λ both. listed_plane both.0 both.1) (zip (event_planes v scene events) (plane_makers v scene events));
@@ -101,5 +101,5 @@ event_list v scene events = record {
   all_sprites = told (length (shown_things v scene events));
 }
 
-unfoldable pub view_list : ViewValue → Scene → ViewList
+unfoldable pub view_list : ViewValue → Scene → ViewListValue
 view_list v scene = event_list v scene (view_events v scene.level)
