@@ -5,6 +5,7 @@ import struct
 import unittest
 
 from made_files import TOP, Tools, made_wad, name, room, wad
+from doomview_tools import refusals
 
 THINGS = b'type,sprite,frame,bright,hang,shadow\n3001,TROO,A,0,0,0\n'
 PATH = b'x,y,z,angle\n0,0,0,0\n'
@@ -202,6 +203,7 @@ class Explain(Tools):
         with open(os.path.join(TOP, 'docs', 'REFUSALS.md'), encoding='utf-8') as file:
             codes = re.findall(r'^\| (\d{3,4}) \|', file.read(), re.M)
         self.assertGreater(len(codes), 50)
+        self.assertEqual([code for code, (wrong, mend) in refusals.codes().items() if not (wrong and mend)], [])
         for code in codes[::5]:
             error = self.run_tool('explain', f'doomview: refused {code}')[2]
             self.assertRegex(error, f'^explain: {code}: .{{10,}}. To mend it: .{{5,}}.\n$')
