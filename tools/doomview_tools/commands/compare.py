@@ -29,8 +29,9 @@ where doomview departs from it (docs/VECTORS.md). PORT is named by the map then,
 the palette of the WADs or else in greys. --html writes one page of the views that differ, in most pixels if there are
 many: it names the pixel under the pointer and, with a trace, what painted it, and sorts the differences by painter.
 
-PORT may also be a picture, PNG or PCX of 320 by 200, or a folder of them, a view each, in the order of the numbers in
-their names. Their colours have to be those of the palette of the WADs.
+PORT may also be a folder of such files, of one view or several each, or of pictures, PNG or PCX of 320 by 200, a view
+each, in the order of the numbers in their names; or one picture. The colours of pictures have to be those of the palette
+of the WADs.
 ''', '''
 $ doomview compare ours.bin port.bin
 $ doomview compare ours.bin port.bin --wad freedoom2.wad --trace trace.bin --png out --most 10
@@ -78,15 +79,17 @@ def put_picture(folder, view, ours, port, places, palette):
     png.write_png(path, WIDTH * len(pictures), HEIGHT, frames.beside(pictures))
 
 
-class FramesOfFile:
-    """The frames of a port, one behind the other."""
+class FramesOfFiles:
+    """The frames of a port, one behind the other in each file."""
 
-    def __init__(self, path):
-        self.path, self.count = path, frames.count_views(path)
+    def __init__(self, files):
+        self.places = [(path, SIZE * view) for path in files for view in range(frames.count_views(path))]
+        self.count = len(self.places)
 
     def frame(self, view, ours):
-        with open(self.path, 'rb') as file:
-            file.seek(SIZE * view)
+        path, place = self.places[view]
+        with open(path, 'rb') as file:
+            file.seek(place)
             return file.read(SIZE)
 
     def told(self):
@@ -96,11 +99,11 @@ class FramesOfFile:
 class FramesOfPictures:
     """The frames of a port's pictures, by a palette."""
 
-    def __init__(self, path, options, names):
-        self.files, self.palette = pictures.files_of(path), pictures.Palette(names.palette)
+    def __init__(self, files, options, names):
+        self.files, self.palette = files, pictures.Palette(names.palette)
         self.count = len(self.files)
         if not options.wad:
-            raise Trouble(f'{path}: the palette that tells the colours of pictures is that of a WAD; name it by --wad')
+            raise Trouble(f'{options.port}: the palette that tells the colours of pictures is that of a WAD; name it by --wad')
 
     def frame(self, view, ours):
         return self.palette.frame(self.files[view], ours)
@@ -111,9 +114,10 @@ class FramesOfPictures:
 
 def port_of(options, names):
     """The frames of the port, as they are written."""
-    if os.path.isdir(options.port) or pictures.is_picture(options.port) and os.path.isfile(options.port):
-        return FramesOfPictures(options.port, options, names)
-    return FramesOfFile(options.port)
+    files = pictures.files_of(options.port)
+    if pictures.is_picture(files[0]) and os.path.isfile(files[0]):
+        return FramesOfPictures(files, options, names)
+    return FramesOfFiles(files)
 
 
 class Comparison:
