@@ -254,5 +254,6 @@ def wrong_level(words):
              (count < 3, f'{job} needs a map and a WAD, as in {job} MAP01 game.wad'),
              (count - 2 > MOST_WADS, f'{job} takes at most {MOST_WADS} WADs'),
              (count > 1 and not 1 <= len(words.plain[1].encode()) <= MOST_LETTERS,
-              f'the name of a map has 1 to {MOST_LETTERS} letters, and {words.map_name!r} has not')]
+              f'the name of a map has 1 to {MOST_LETTERS} letters, and {words.map_name!r} has not; the map comes before '
+              'its WADs')]
     return [sentence for is_wrong, sentence in tests if is_wrong]
