@@ -160,7 +160,7 @@ def take_output(words):
     if not at:
         return words, None
     if len(at) > 1 or at[0] + 1 == end:
-        raise Trouble('-o stands once, with the name of a file behind it', USAGE)
+        raise Trouble('-o comes once, with the name of a file behind it', USAGE)
     return words[:at[0]] + words[at[0] + 2:], words[at[0] + 1]
 
 
@@ -230,7 +230,7 @@ def wrong_option(job, name, values):
     if job in JOBS and name not in known:
         return f'{job} takes no {name}' + (f'; its options are {" ".join(known)}' if known else '')
     if len(values) > 1:
-        return f'{name} may stand only once'
+        return f'{name} may come only once'
     if values[0] is None:
         return f'{name} needs a value behind it'
     return wrong_value(options()[name], values[0]) if name in options() else None
@@ -267,5 +267,6 @@ def wrong_level(words):
              (count < 3, f'{job} needs a map and a WAD, as in {job} MAP01 game.wad'),
              (count - 2 > MOST_WADS, f'{job} takes at most {MOST_WADS} WADs'),
              (count > 1 and not 1 <= len(words.plain[1].encode()) <= MOST_LETTERS,
-              f'the name of a map has 1 to {MOST_LETTERS} letters, and {words.map_name!r} has not')]
+              f'the name of a map has 1 to {MOST_LETTERS} letters, and {words.map_name!r} has not; the map comes before '
+              'its WADs')]
     return [sentence for is_wrong, sentence in tests if is_wrong]
