@@ -15,8 +15,8 @@ Without WADs: `exercise` of 1, 4, 16 and 32, with all else that the job does.
 
 --programs names versions of doomview; by default the one of this repository. --maps names the maps, by default nine
 of Freedoom's. --ppm writes pictures in place of indices. --spans steps floors so, full or packed, or as both: then
-each program is measured in each way, and the original, which has full spans here, not at all. --count counts instructions by valgrind's callgrind in place
-of time: one round, the same on any machine of the same kind."""
+each program is measured in each way, and the original, which has full spans here, not at all. --count counts
+instructions by valgrind's callgrind in place of time: one round, the same on any machine of the same kind."""
 import argparse
 import collections
 import os
