@@ -17,3 +17,7 @@ pub record IsListed (list : ViewListValue) (d : Dot) : Type 0 where
   pub sky : d.painter.kind ≡ SKY → (p : ListedPlane) × (slice_get list.planes d.painter.number ≡ Some p) × (p.key.flat ≡ Sky)
   -- of a sprite: the sprite of that number, whose picture is the lump that is read
   pub sprite : d.painter.kind ≡ SPRITE → (s : ListedSprite) × (slice_get list.sprites d.painter.number ≡ Some s) × (s.first ≤ d.x) × (d.x ≤ s.last) × (s.lump ≡ d.painter.source)
+
+-- The painter of a dot is of a kind that the list has: a wall, a plane, the sky, a middle texture or a sprite. Weapons are not in it.
+abbrev pub IsOfListedKind : Dot → Type 0
+IsOfListedKind d = (WALL ≤ d.painter.kind) × (d.painter.kind ≤ SPRITE)
