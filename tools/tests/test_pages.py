@@ -36,8 +36,8 @@ def anchors(page):
 
 
 def pointers(cell, kind):
-    """Of a cell such as "`f`, `g`; crate, file" each word with the file that should have it."""
-    found, parts = [], cell.split(';')
+    """Of a cell such as "`f`, `g`; crate, file" each word with the file that should have it; a link is its text."""
+    found, parts = [], re.sub(r'\[([^]]*)\]\([^)]*\)', r'\1', cell).split(';')
     for before, part in zip(parts, parts[1:]):
         place = re.match(r' *([a-z_]+(?:/[a-z_]+)?), ([\w/.]+)', part)
         words = re.search(r'((?:`[A-Za-z_][\w:]*`(?:, | and )?)+)$', before)
@@ -73,6 +73,7 @@ class Pages(unittest.TestCase):
             for kind, cell in (('specs', rule), ('src', code)):
                 for word, place in pointers(cell, kind):
                     self.has(word, place, question)
+                    self.assertIn(f'](../{place})', cell, question)
                     count += 1
             for edit in re.findall(r'\b[a-z0-9]+(?:_[a-z0-9]+){2,}\b', edits):
                 found = glob.glob(os.path.join(TOP, 'crates/*/must-fail', edit + '.edit'))
