@@ -210,10 +210,11 @@ class Pages(unittest.TestCase):
             self.assertRegex(manual, rf'\n\.TP\n\.BI? {tool}\b')
 
     def test_version(self):
-        """The first heading of CHANGELOG and the manual have the version, and one date."""
+        """The first heading of CHANGELOG, README and the manual have the version, and one date."""
         number, date = re.search(r'^## ([0-9.]+), (.*)$', read('CHANGELOG.md'), re.M).groups()
         self.assertEqual(number, home.version()['version'])
         self.assertRegex(home.version()['logic'], '^[0-9a-f]{16}$')
+        self.assertIn(f'doomview-{number}.tar.gz', read('README.md'))
         self.assertTrue(read('docs/doomview.1').startswith(f'.TH DOOMVIEW 1 "{date}" "doomview {number}" '))
         datetime.date.fromisoformat(date)
 
