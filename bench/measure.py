@@ -1,7 +1,8 @@
 #!/usr/bin/env python3
 """Measures a view of doomview, and prints a table.
 
-usage: measure.py [WAD..] [--programs PROGRAM..] [--maps NAMES] [--rounds N] [--repeat N] [--ppm] [--count]
+usage: measure.py [WAD..] [--programs PROGRAM..] [--maps NAMES] [--rounds N] [--repeat N] [--ppm] [--spans S..]
+                  [--count]
 
 With WADs: of each map 21 places at which one can stand, chosen as `doomview places` does, from a fixed seed. A view is
 what a run over the places REPEAT times takes more than a run over them once, so that the reading of the level does not
@@ -13,8 +14,9 @@ measured beside, the least of its passes over the places, and the ratios are to 
 Without WADs: `exercise` of 1, 4, 16 and 32, with all else that the job does.
 
 --programs names versions of doomview; by default the one of this repository. --maps names the maps, by default nine
-of Freedoom's. --ppm writes pictures in place of indices. --count counts instructions by valgrind's callgrind in place
-of time: one round, the same on any machine of the same kind."""
+of Freedoom's. --ppm writes pictures in place of indices. --spans steps floors so, full or packed, or as both: then
+each program is measured in each way, and the original, which has full spans here, not at all. --count counts
+instructions by valgrind's callgrind in place of time: one round, the same on any machine of the same kind."""
 import argparse
 import collections
 import os
@@ -73,8 +75,9 @@ def write_paths(folder, wad, name, repeat):
     return len(rows) * (repeat - 1)
 
 
-def doomview_words(executable, wad, name, path, ppm):
-    words = ['render', name, wad, '--path', path, '--format', 'ppm' if ppm else 'index']
+def doomview_words(way, wad, name, path, ppm):
+    executable, spans = way
+    words = ['render', name, wad, '--path', path, '--format', 'ppm' if ppm else 'index', *spans]
     return [executable, *program.completed(words)]
 
 
@@ -138,7 +141,7 @@ def exercises(options):
     print('|---' * (2 + len(options.programs)) + '|')
     for number in NUMBERS:
         views = VIEWS_PER_NUMBER * number
-        rounds = [[seconds([executable, 'exercise', str(number)], None) for executable in options.programs]
+        rounds = [[seconds([executable, 'exercise', str(number)], None) for executable, _ in options.programs]
                   for _ in range(options.rounds)]
         least = [1e6 * min(column) / views for column in zip(*rounds)]
         print_row([str(number), str(views), *(f'{it:.0f}' for it in least)])
@@ -152,10 +155,13 @@ def main():
     reader.add_argument('--rounds', type=int, default=ROUNDS)
     reader.add_argument('--repeat', type=int, default=REPEAT)
     reader.add_argument('--ppm', action='store_true')
+    reader.add_argument('--spans', nargs='+', choices=['full', 'packed'], default=[])
     reader.add_argument('--count', action='store_true')
     options = reader.parse_args()
-    options.programs = [os.path.abspath(it) for it in options.programs]
-    options.original = os.access(STILL, os.X_OK)
+    programs = [os.path.abspath(it) for it in options.programs]
+    ways = [['--spans', it] for it in options.spans] or [[]]
+    options.programs = [(it, tuple(way)) for it in programs for way in ways]
+    options.original = os.access(STILL, os.X_OK) and not options.spans
     if options.count and not shutil.which('valgrind'):
         reader.error('--count needs valgrind, which is not installed')
     if not options.wads:

@@ -18,10 +18,10 @@ import cases  # noqa: E402
 from cases import FULL, MAY_BE_FULL, ZONE_FULL, ZONES, Case, Outcome, Runner, differences  # noqa: E402
 
 TOP = os.path.dirname(os.path.dirname(HERE))
-LEVEL_JOBS = ('render', 'trace', 'limits', 'audit', 'trim')
+LEVEL_JOBS = ('render', 'trace', 'limits', 'list', 'audit', 'trim')
 JOBS = (*LEVEL_JOBS, 'flat', 'make', 'exercise')
 RANGES = {'zone': (64, 536870912), 'skill': (1, 5), 'size': (3, 11), 'planes': (128, 1024), 'openings': (20480, 245760)}
-OPTIONS = ('tables', 'things', 'path', 'weapon', 'format', *RANGES)
+OPTIONS = ('tables', 'things', 'path', 'weapon', 'format', 'spans', *RANGES)
 
 
 def all_cases():

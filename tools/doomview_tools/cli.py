@@ -102,7 +102,7 @@ def add_output(parser, what):
 
 
 def add_base(parser):
-    parser.add_argument('--iwad', metavar='WAD', help='the WAD that a PWAD stands on, read before it; else that of the '
+    parser.add_argument('--iwad', metavar='WAD', help='the WAD that a PWAD needs, read before it; else that of the '
                         'variable IWAD')
 
 

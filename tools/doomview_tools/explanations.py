@@ -98,7 +98,7 @@ def remarks(words, things):
     scene = Scene(words)
     for wad in scene.wads[1:]:
         if head_of(wad) == b'IWAD':
-            yield (f'{wad} is an IWAD and stands behind another WAD, so its maps and pictures count before those '
+            yield (f'{wad} is an IWAD and comes behind another WAD, so its maps and pictures count before those '
                    'of that WAD. Put the IWAD first.')
     if scene.file and len(scene.wads) > 1:
         yield f'{scene.map_name} is that of {scene.file}.'

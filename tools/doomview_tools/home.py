@@ -1,16 +1,16 @@
-"""Where things stand: in the repository, or in a release, whose tools are in lib/doomview."""
+"""Where the files of doomview are: in the repository, or in a release, which has no crates.txt."""
 import os
 
 from .trouble import Trouble
 
 PACKAGE = os.path.dirname(os.path.abspath(__file__))
 TOOLS = os.path.dirname(PACKAGE)
-IS_RELEASE = os.path.basename(TOOLS) == 'doomview' and os.path.basename(os.path.dirname(TOOLS)) == 'lib'
-TOP = os.path.dirname(os.path.dirname(TOOLS)) if IS_RELEASE else os.path.dirname(TOOLS)
-DOCS = os.path.join(TOP, *(('share', 'doc', 'doomview', 'docs') if IS_RELEASE else ('docs',)))
-MANUAL = os.path.join(TOP, 'share', 'man', 'man1', 'doomview.1') if IS_RELEASE else os.path.join(DOCS, 'doomview.1')
-COMMAND = os.path.join(TOP, *(('bin', 'doomview') if IS_RELEASE else ('doomview',)))
-PROGRAM = os.path.join(TOP, *(('libexec', 'doomview') if IS_RELEASE else ('out', 'doomview')))
+TOP = os.path.dirname(TOOLS)
+IS_RELEASE = not os.path.exists(os.path.join(TOP, 'crates.txt'))
+DOCS = os.path.join(TOP, 'docs')
+MANUAL = os.path.join(DOCS, 'doomview.1')
+COMMAND = os.path.join(TOP, 'doomview')
+PROGRAM = os.path.join(TOP, 'out', 'doomview')
 
 
 def data(name):

@@ -9,7 +9,7 @@ from .trouble import Trouble
 
 MOST_WADS, MOST_LETTERS = 16, 8
 USAGE, WRITE_FAULT = 1, 4  # statuses of the program
-FORMATS = ['index', 'ppm']
+CHOICES = {'--format': ['index', 'ppm'], '--spans': ['full', 'packed']}
 NUMERAL = re.compile('[0-9]{1,10}')
 
 Option = collections.namedtuple('Option', 'name value jobs is_needed least greatest step default meaning')
@@ -26,7 +26,8 @@ JOBS = {job.name: job for job in [
     Job('render', [MAP, WADS], 'the frames of a camera path', True, f'''
 Draws a frame for each row of a camera path, and writes them one after the other, each as soon as it is
 drawn: 320 by 200 palette indices row by row from the top, 64,000 bytes a frame; or 192,015 bytes a frame
-as PPM pictures, with --format ppm.
+as PPM pictures, with --format ppm. With --spans packed floors and ceilings are stepped as in the DOS
+program and in Chocolate Doom; without it as in the Linux sources.
 {EYE}
 ''', '''
 $ doomview render MAP01 freedoom2.wad --path path.csv -o frames.bin
@@ -48,6 +49,17 @@ stops drawing walls at 256 fragments, and sprites at 128, without a word, and he
 ''', '''
 $ doomview limits MAP01 freedoom2.wad --path path.csv
 $ doomview limits MAP01 freedoom2.wad --path path.csv --planes 1024 -o counts.txt
+'''),
+    Job('list', [MAP, WADS], 'what each view of a camera path is made of, item by item', False, '''
+Prints a line for each wall fragment, each plane and each sprite of a view, in the order of the numbers by
+which a trace names them, and then a line of sums. A fragment has its seg and its columns; a plane its
+height, flat and light, what made it (the leaf that found no such plane, or the fragment whose columns were
+taken in the one that was there) and in how many columns it has rows; a sprite its thing, its picture and
+its columns. The sums say how many fragments and sprites there would be without the limits of 256 and 128.
+A view that is over a limit has one line, as limits prints it. docs/FORMATS.md has the lines.
+''', '''
+$ doomview list MAP01 freedoom2.wad --path path.csv
+$ doomview list MAP12 freedoom2.wad --path path.csv --planes 1024 -o list.txt
 '''),
     Job('audit', [MAP, WADS], 'that the level is sound, and how large a zone it needs', False, '''
 Reads all that a picture of the level can need, and accepts it or names the first thing for which it
@@ -148,7 +160,7 @@ def take_output(words):
     if not at:
         return words, None
     if len(at) > 1 or at[0] + 1 == end:
-        raise Trouble('-o stands once, with the name of a file behind it', USAGE)
+        raise Trouble('-o comes once, with the name of a file behind it', USAGE)
     return words[:at[0]] + words[at[0] + 2:], words[at[0] + 1]
 
 
@@ -218,7 +230,7 @@ def wrong_option(job, name, values):
     if job in JOBS and name not in known:
         return f'{job} takes no {name}' + (f'; its options are {" ".join(known)}' if known else '')
     if len(values) > 1:
-        return f'{name} may stand only once'
+        return f'{name} may come only once'
     if values[0] is None:
         return f'{name} needs a value behind it'
     return wrong_value(options()[name], values[0]) if name in options() else None
@@ -226,8 +238,9 @@ def wrong_option(job, name, values):
 
 def wrong_value(option, value):
     """What is wrong with the value of an option, or None."""
-    if option.value == 'F' and value not in FORMATS:
-        return f'{option.name} is {" or ".join(FORMATS)}, and not {value}'
+    choices = CHOICES.get(option.name)
+    if choices and value not in choices:
+        return f'{option.name} is {" or ".join(choices)}, and not {value}'
     if option.least is None:
         return None
     if not NUMERAL.fullmatch(value) or not option.least <= int(value) <= option.greatest:
@@ -254,5 +267,6 @@ def wrong_level(words):
              (count < 3, f'{job} needs a map and a WAD, as in {job} MAP01 game.wad'),
              (count - 2 > MOST_WADS, f'{job} takes at most {MOST_WADS} WADs'),
              (count > 1 and not 1 <= len(words.plain[1].encode()) <= MOST_LETTERS,
-              f'the name of a map has 1 to {MOST_LETTERS} letters, and {words.map_name!r} has not')]
+              f'the name of a map has 1 to {MOST_LETTERS} letters, and {words.map_name!r} has not; the map comes before '
+              'its WADs')]
     return [sentence for is_wrong, sentence in tests if is_wrong]

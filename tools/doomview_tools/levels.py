@@ -169,7 +169,7 @@ def why_no_map(behind):
     if behind[:2] == MAP_LUMPS[:2] and missing and set(missing) <= set(BUILT_LUMPS):
         alone = ' (it has GL nodes alone, which are not read)' if any(it.startswith('GL_') for it in behind) else ''
         return f'has no nodes ({", ".join(BUILT_LUMPS)}){alone}; build them'
-    return f'is no map: behind it stand {", ".join(behind[:len(MAP_LUMPS)]) or "no lumps"}'
+    return f'is no map: behind it are {", ".join(behind[:len(MAP_LUMPS)]) or "no lumps"}'
 
 
 def has_gl_nodes(lumps, label):

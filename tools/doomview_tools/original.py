@@ -14,6 +14,8 @@ RULES = {'memory': ('still', ['-zerotail']), 'mark': ('still-mark', ['-zerotail'
          'tangent': ('still-tangent', ['-zerotail']), 'back': ('still-back', ['-zerotail']),
          'several': ('still-all', ['-zerotail'])}
 PACKED = ['-dosspan']
+# How the original steps spans as doomview does by --spans.
+SPANS = {'full': [], 'packed': PACKED}
 RAISED = ['--planes', '1024', '--openings', '245760']
 
 
@@ -34,11 +36,13 @@ def still(words, folder):
 
 
 class Run:
-    """One map, one path, in a folder of its own. `layers` are the weapon layers of each view."""
+    """One map, one path, in a folder of its own. `layers` are the weapon layers of each view, `spans` how both step
+    the spans of floors."""
 
-    def __init__(self, folder, wad, name, rows, ours_words, still_words, layers=()):
+    def __init__(self, folder, wad, name, rows, ours_words, still_words, layers=(), spans='full'):
         self.folder, self.wad, self.name, self.rows, self.layers = folder, wad, name, rows, layers
-        self.ours_words, self.still_words = list(ours_words), list(still_words)
+        self.ours_words, self.still_words = list(ours_words), list(still_words) + SPANS[spans]
+        self.spans_words = ['--spans', spans]
         self.wide = '-wide' if self.ours_words == RAISED else ''
         if layers:
             self.ours_words += ['--weapon', self.at('weapon.csv')]
@@ -55,8 +59,8 @@ class Run:
             with open(self.at('weapon.csv'), 'w') as file:
                 file.write(weapons.text([self.layers] * len(views)))
 
-    def doomview(self, job):
-        done = program.run([job, self.name, self.wad, '--path', self.at('path.csv'), *self.ours_words])
+    def doomview(self, job, words=()):
+        done = program.run([job, self.name, self.wad, '--path', self.at('path.csv'), *self.ours_words, *words])
         if done.status:
             raise Trouble(f'{os.path.basename(program.path())}: {done.said.strip()[-200:]}')
         return done.output
@@ -76,7 +80,7 @@ class Run:
         """Draws doomview's frames of all views but those which it ends: by number."""
         kept = [view for view in range(len(self.rows)) if view not in ended]
         self.write_path(kept)
-        drawn = self.doomview('render') if kept else b''
+        drawn = self.doomview('render', self.spans_words) if kept else b''
         self.ours = {view: drawn[FRAME * i:FRAME * (i + 1)] for i, view in enumerate(kept)}
 
     def over(self):

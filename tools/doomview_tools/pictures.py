@@ -24,12 +24,15 @@ def is_picture(path):
 
 
 def files_of(path):
-    """The pictures that a name means: itself, or those in a folder, with their numbers in order."""
+    """The files that a name means: itself, or those in a folder, its pictures alone if it has some, in the order of the
+    numbers in their names."""
     if not os.path.isdir(path):
         return [path]
-    names = [name for name in os.listdir(path) if is_picture(name)]
+    names = [name for name in os.listdir(path) if name[0] != '.' and os.path.isfile(os.path.join(path, name))]
+    names = [name for name in names if is_picture(name)] or names
     if not names:
-        raise Trouble(f'{path} has no pictures whose names end in {" or ".join(ENDINGS)}')
+        raise Trouble(f'{path} has no frames, neither pictures whose names end in {" or ".join(ENDINGS)} nor files of '
+                      f'{SIZE} bytes a view')
     return [os.path.join(path, name) for name in sorted(names, key=in_order)]
 
 

@@ -237,4 +237,4 @@ def run_sources(words, output):
     if line or status == 0:
         return ended(status, written, line.encode())
     raise Trouble('\n'.join([*(it[:300] for it in lines[-SHOWN:]), 'rt try did not run the sources; its last lines '
-                             'stand above']), NO_PROGRAM)
+                             'are above']), NO_PROGRAM)

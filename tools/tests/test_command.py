@@ -223,7 +223,7 @@ class Outputs(Command):
             self.refuses(part, 'render', *LEVEL, '-o', path, doomview=self.program, WORDS=self.at('words'))
         for words in (['render', *LEVEL, '-o'], ['render', '-o', 'a', *LEVEL, '-o', 'b']):
             done = self.runs(*words)
-            self.assertEqual(done, (1, b'', 'doomview: -o stands once, with the name of a file behind it\n'))
+            self.assertEqual(done, (1, b'', 'doomview: -o comes once, with the name of a file behind it\n'))
         self.assertFalse(os.path.exists(self.at('words')))
 
     def test_stopped(self):

@@ -226,11 +226,25 @@ class Compare(Tools):
         self.write('port.bin', painted((0, 0, 1)))
         self.refuses('out: File exists', 'compare', 'ours.bin', 'port.bin', '--png', 'out')
 
+    def test_folder(self):
+        """The port's frames may be files of a folder, in the order of their numbers."""
+        self.write('ours.bin', painted() * 4)
+        os.mkdir(self.at('theirs'))
+        for place, frames in [('2.raw', painted()), ('10.raw', painted((0, 0, 1)) + painted()), ('1.raw', painted()),
+                              ('.hidden', b'')]:
+            self.write(f'theirs/{place}', frames)
+        status, output, error = self.run_tool('compare', 'ours.bin', 'theirs')
+        self.assertEqual((status, error), (1, ''))
+        self.assertRegex(output.decode(), '^view 2 pixels 1 .*: 5, port 1\nviews 4 same 3 different 1 pixels 1\n$')
+        self.write('theirs/3.raw', b'odd')
+        self.refuses('theirs/3.raw has 3 bytes, and a view has 64000', 'compare', 'ours.bin', 'theirs')
+
     def test_wrong(self):
         self.write('ours.bin', painted())
         self.write('short.bin', painted()[:-1])
+        os.mkdir(self.at('empty'))
         for part, words in [('no file absent', ['absent']), ('has 63999 bytes, and a view has 64000', ['short.bin']),
-                            ('bin has no pictures whose names end in .png or .pcx', ['bin']),
+                            ('empty has no frames, neither pictures whose names end in .png or .pcx nor', ['empty']),
                             ('and a view has 512000', ['ours.bin', '--trace', 'ours.bin']),
                             ('is not the trace of 1 views', ['ours.bin', '--trace', 'trace']),
                             ('is no WAD', ['ours.bin', '--wad', 'ours.bin']), ('--help shows its words', []),

@@ -5,6 +5,7 @@ import struct
 import unittest
 
 from made_files import TOP, Tools, made_wad, name, room, wad
+from doomview_tools import refusals
 
 THINGS = b'type,sprite,frame,bright,hang,shadow\n3001,TROO,A,0,0,0\n'
 PATH = b'x,y,z,angle\n0,0,0,0\n'
@@ -61,7 +62,7 @@ class Explain(Tools):
         self.explains('doomview: refused 601', *words, part='made.wad has no map MAP09; the maps there: A/B MAP01 MAP02')
         self.explains('doomview: refused 601', 'audit', 'MAP05', *MAP[1:], part='in Hexen format')
         self.explains('doomview: refused 601', 'audit', 'MAP06', *MAP[1:],
-                      part='MAP06 of made.wad is no map: behind it stand MAP07')
+                      part='MAP06 of made.wad is no map: behind it are MAP07')
         self.write('made.wad', wad([('MAP09', b''), ('TEXTMAP', b'')]))
         self.explains('doomview: refused 601', *words, part='is a UDMF map')
         nodes = [(label, b'XNOD' if label == 'NODES' else data) for label, data in room([0], [(0, 0, 0, 1)], [])]
@@ -139,7 +140,7 @@ class Explain(Tools):
         """What is not refused, and may still be a mistake."""
         self.write('patch.wad', b'PWAD' + made_wad()[4:])
         words = ['audit', 'MAP01', 'patch.wad', *MAP[1:]]
-        self.explains('', *words, status=0, part='made.wad is an IWAD and stands behind')
+        self.explains('', *words, status=0, part='made.wad is an IWAD and comes behind')
         words[2:4] = words[3:1:-1]
         self.explains('', *words, status=0, part='MAP01 is that of patch.wad')
         self.write('things.csv', THINGS.splitlines(True)[0])
@@ -156,7 +157,7 @@ class Explain(Tools):
                             (['render', *MAP, '--format', 'png'], '--format is index or ppm'),
                             (['limits', *MAP, '--size'], '--size needs a value'),
                             (['flat', 'A', 'b', '--zone', '64'], 'takes no'),
-                            (['audit', *MAP, '--path', 'x'], '--path may stand only once'),
+                            (['audit', *MAP, '--path', 'x'], '--path may come only once'),
                             (['audit', 'MAP01LONG', *MAP[1:]], 'has 1 to 8 letters'),
                             (['make', 'it'], '--help has the jobs')]:
             self.explains('doomview: usage', *words, status=1, part=part)
@@ -202,6 +203,7 @@ class Explain(Tools):
         with open(os.path.join(TOP, 'docs', 'REFUSALS.md'), encoding='utf-8') as file:
             codes = re.findall(r'^\| (\d{3,4}) \|', file.read(), re.M)
         self.assertGreater(len(codes), 50)
+        self.assertEqual([code for code, (wrong, mend) in refusals.codes().items() if not (wrong and mend)], [])
         for code in codes[::5]:
             error = self.run_tool('explain', f'doomview: refused {code}')[2]
             self.assertRegex(error, f'^explain: {code}: .{{10,}}. To mend it: .{{5,}}.\n$')

@@ -12,13 +12,14 @@ import tarfile
 import unittest
 
 from made_files import DRAWING, FRAME, TOOLS, TOP, Tools, pixels_of
+from test_pages import anchors, read
 
 TESTED = os.environ.get('DOOMVIEW_TESTED', '')
 HEADING = '## 2.1, 2026\n'
-PLACES = ['bin/doomview', 'libexec/doomview', 'lib/doomview/doomview_tools/__main__.py', 'lib/doomview/data/things.csv',
-          'lib/doomview/data/version', 'lib/doomview/original/build', 'share/man/man1/doomview.1',
-          'share/doc/doomview/README.md', 'share/doc/doomview/CHANGELOG.md', 'share/doc/doomview/docs/REFUSALS.md',
-          'share/doc/doomview/docs/FREEDOOM.txt', 'share/doc/doomview/vectors/check']
+PLACES = ['README.md', 'CHANGELOG.md', 'doomview', 'out/doomview', 'bin/doomview', 'share/man/man1/doomview.1',
+          'docs/REFUSALS.md', 'docs/FREEDOOM.txt', 'docs/doomview.1', 'vectors/check',
+          'tools/doomview_tools/__main__.py', 'tools/data/things.csv', 'tools/data/version', 'tools/original/build',
+          'crates/doom_run/src/top.rt']
 
 
 class Release(Tools):
@@ -26,9 +27,12 @@ class Release(Tools):
         super().setUp()
         self.clone()
         shutil.rmtree(self.at('clone/docs'))
-        for page in ('README.md', 'docs', 'vectors'):
+        for page in ('README.md', 'docs', 'vectors', 'bench'):
             (shutil.copytree if os.path.isdir(os.path.join(TOP, page)) else shutil.copy)(
                 os.path.join(TOP, page), self.at('clone', page))
+        shutil.copy(os.path.join(TOOLS, 'original/still.c'), self.at('clone/tools/original'))
+        shutil.rmtree(self.at('clone/crates'))
+        os.symlink(os.path.join(TOP, 'crates'), self.at('clone/crates'))
         os.mkdir(self.at('clone/out'))
         if TESTED:
             shutil.copy(TESTED, self.at('clone/out/doomview'))
@@ -55,10 +59,10 @@ class Release(Tools):
         with tarfile.open(path) as tar:
             names = tar.getnames()
             modes = [tar.getmember(f'doomview-2.1/{it}').mode
-                     for it in ('bin/doomview', 'libexec/doomview', 'share/doc/doomview/README.md')]
+                     for it in ('doomview', 'out/doomview', 'README.md')]
         self.assertEqual(modes, [0o755, 0o755, 0o644])
         self.assertEqual([it for it in PLACES if f'doomview-2.1/{it}' not in names], [])
-        odd = 'pycache|/still(-|$)|source|/tests?/|build.py|plan.py|weights|docs/doomview.1'
+        odd = 'pycache|/still(-|$)|source$|tools/tests/|build.py|plan.py|weights|/(proofs|out)/.*[.]|crates.txt'
         self.assertEqual([name for name in names if re.search(odd, name)], [])
         with open(path, 'rb') as file:
             before = hashlib.sha256(file.read()).digest()
@@ -83,6 +87,31 @@ class Release(Tools):
         self.stand_in('bin/rt', '#!/bin/sh\necho kit logic 0123\n')
         self.assertEqual(self.pack()[0], 0)
 
+    def test_pages_refused(self):
+        """A page that has a comment, or a link to what is not packed, is refused, and nothing is written."""
+        page = self.read('clone/docs/PORT.md').encode('latin-1')
+        for more, said in [(b'<!-- later -->\n', 'a comment (<!--)'),
+                           (b'[crates](../crates.txt)\n', 'a link to ../crates.txt, which is not packed')]:
+            self.write('clone/docs/PORT.md', page + more)
+            status, output, error = self.pack()
+            self.assertEqual((status, output), (2, b''))
+            self.assertIn(f'docs/PORT.md has {said}', error)
+            self.assertEqual(os.listdir(self.at('clone/out')), ['doomview'])
+
+    def test_links(self):
+        """Each link of a page of the release leads to a file or folder, and to a heading where it names one."""
+        folder, count = self.unpacked(), 0
+        for page in glob.glob(os.path.join(folder, '**/*.md'), recursive=True):
+            for link in re.findall(r'\]\(([^)]+)\)', read(page)):
+                path, _, anchor = link.partition('#')
+                if '://' in link:
+                    continue
+                to = os.path.join(os.path.dirname(page), path) if path else page
+                self.assertTrue(os.path.exists(to), f'{page}: {link}')
+                self.assertTrue(not anchor or anchor in anchors(to), f'{page}: {link}')
+                count += 1
+        self.assertGreater(count, 100)
+
     def test_not_built(self):
         """A program that cannot be built is not packed."""
         os.remove(self.at('clone/out/doomview'))
@@ -104,20 +133,21 @@ class Release(Tools):
         env = {'PATH': '/usr/bin:/bin', 'HOME': self.folder}
         if not shutil.which('python3', path=env['PATH']):
             env['PATH'] += ':' + os.path.dirname(sys.executable)
-        done = subprocess.run([os.path.join(folder, 'bin/doomview'), *words], cwd=self.folder, env=env,
+        done = subprocess.run([os.path.join(folder, 'doomview'), *words], cwd=self.folder, env=env,
                               stdin=subprocess.DEVNULL, capture_output=True)
         return done.returncode, done.stdout, done.stderr.decode()
 
     def test_alone(self):
         folder = self.unpacked()
         if not TESTED:
-            self.write('alone/doomview-2.1/libexec/frame', FRAME)
+            self.write('alone/doomview-2.1/out/frame', FRAME)
         self.assertEqual(self.alone(folder, '--version'), (0, b'doomview 2.1\nlogic 0123\n', ''))
         status, output, error = self.alone(folder, '--help')
         self.assertEqual((status, error), (0, ''))
         manual = re.search('man -l (.*)', output.decode())[1]
-        self.assertEqual(manual, os.path.join(folder, 'share/man/man1/doomview.1'))
-        self.assertTrue(os.path.isfile(manual))
+        self.assertEqual(manual, os.path.join(folder, 'docs/doomview.1'))
+        for place in ('bin/doomview', 'share/man/man1/doomview.1'):
+            self.assertTrue(os.path.isfile(os.path.join(folder, place)), place)
         told = b'doomview: this is a release: the program is built already\n'
         self.assertEqual(self.alone(folder, '--build')[:2], (0, told))
         self.assertEqual(self.alone(folder, '--built'), (0, b'', ''))
@@ -152,7 +182,7 @@ class Release(Tools):
         """The commands of README, in the release."""
         folder = self.unpacked()
         words = [os.path.join(TOOLS, 'check_pages'), '--command', os.path.join(folder, 'bin/doomview'), '--pages',
-                 'README.md', '--', os.path.join(folder, 'libexec/doomview')]
+                 'README.md', '--', os.path.join(folder, 'out/doomview')]
         done = subprocess.run([sys.executable, '-B', *words], cwd=self.folder, capture_output=True, text=True)
         self.assertEqual(done.returncode, 0, done.stdout + done.stderr)
 

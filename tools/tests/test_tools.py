@@ -163,7 +163,7 @@ class Levels(Tools):
         self.refuses('there is no such file', 'maps', './absent.wad')
         self.refuses('it is no plain file', 'maps', './bin')
         for part, words in [('MAP05 of made.wad is in Hexen format', ['MAP05']),
-                            ('MAP06 of made.wad is no map: behind it stand MAP07, THINGS', ['MAP06']),
+                            ('MAP06 of made.wad is no map: behind it are MAP07, THINGS', ['MAP06']),
                             ('has no map MAP08; the maps there: A/B MAP01', ['MAP08']),
                             ('no player', ['MAP03']), ('circle', ['MAP04']),
                             ('VIEWS: a number from 1 to 10000, and not 0', ['MAP01', '0']),

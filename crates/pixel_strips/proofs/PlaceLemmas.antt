@@ -1,5 +1,6 @@
 -- Laws of places: the first one, one step more, and the texel that a place stands for.
 use Rattle.std.proofs.Common.{◌≡◌, ℕ, zero, suc, ◌+◌, ◌*◌, ◌/◌, ◌%◌, ◌^◌, ◌<◌, ◌≤◌, ℤ, pos, negsuc, FitsSigned, refl, subst, subst₂, to_z, of_z, sym, ap, ap₂, ◌∙◌, arith, add-mul, mul-suc, mod-lt, pow_pos}
+use Rattle.std.proofs.Math.Nat.{suc-mul}
 use native.Mathlib.Nat.{add-mod}
 use Rattle.std.specs.Int.{w32, cast_unsigned}
 use Rattle.std.proofs.lemmas.Int.{of_z-to_z, to_z-of_z, wrapping_add_is, SFits-int_wrap}
@@ -261,7 +262,7 @@ word_step w m s n e = omega arith
 
 packed_at-suc : (w s k : ℕ) → (packed_at w s k + s) % 2 ^ 32 ≡ packed_at w s (suc k)
 unfolding packed_at
-packed_at-suc w s k = word_step w (k * s) s (suc k * s) (let e : suc k * s ≡ s + k * s = refl in omega (arith, e))
+packed_at-suc w s k = word_step w (k * s) s (suc k * s) (suc-mul k s)
 
 packed_at-on : (w s n k : ℕ) → packed_at (packed_at w s n) s k ≡ packed_at w s (n + k)
 unfolding packed_at

@@ -12,13 +12,13 @@ RED = b'\xff\x00\x00'
 DIFFERENT = 1
 PAGE = cli.Page(
     'compare', 'which views of two files of frames differ, where, and in what', '''
-Compares two files of index frames, and tells of each view that differs how, where and in what.
+Compares two files of index frames, and says of each view that differs how, where and in what.
 
 OURS is what doomview render wrote, PORT what the port drew at the same rows of the camera path: 64,000 bytes a view. A
 line for each view that differs has the number of pixels, their box, and the first of them with both colours. The last
 line counts all views.
 
-With the file that doomview trace wrote for the same words, the lines under it tell what doomview painted there: the
+With the file that doomview trace wrote for the same words, the lines under it say what doomview painted there: the
 painter's kind, the lump or texture, the pixels, and the numbers of the fragments, planes or sprites in the view. Names
 need the WADs of the run. A texture of one patch is named where no other texture has the patch.
 
@@ -29,8 +29,9 @@ where doomview departs from it (docs/VECTORS.md). PORT is named by the map then,
 the palette of the WADs or else in greys. --html writes one page of the views that differ, in most pixels if there are
 many: it names the pixel under the pointer and, with a trace, what painted it, and sorts the differences by painter.
 
-PORT may also be a picture, PNG or PCX of 320 by 200, or a folder of them, a view each, in the order of the numbers in
-their names. Their colours have to be those of the palette of the WADs.
+PORT may also be a folder of such files, of one view or several each, or of pictures, PNG or PCX of 320 by 200, a view
+each, in the order of the numbers in their names; or one picture. The colours of pictures have to be those of the palette
+of the WADs.
 ''', '''
 $ doomview compare ours.bin port.bin
 $ doomview compare ours.bin port.bin --wad freedoom2.wad --trace trace.bin --png out --most 10
@@ -52,7 +53,7 @@ def add_words(parser):
     parser.add_argument('--png', metavar='FOLDER', help='writes a picture of each view that differs into FOLDER')
     parser.add_argument('--html', metavar='OUT.html', help='writes a page of the views that differ')
     parser.add_argument('--most', metavar='N', type=cli.number(0, sys.maxsize), default=sys.maxsize,
-                        help='tells of N views that differ, and counts the others')
+                        help='names N views that differ, and counts the others')
 
 
 def told(view, ours, port, places):
@@ -78,15 +79,17 @@ def put_picture(folder, view, ours, port, places, palette):
     png.write_png(path, WIDTH * len(pictures), HEIGHT, frames.beside(pictures))
 
 
-class FramesOfFile:
-    """The frames of a port, one behind the other."""
+class FramesOfFiles:
+    """The frames of a port, one behind the other in each file."""
 
-    def __init__(self, path):
-        self.path, self.count = path, frames.count_views(path)
+    def __init__(self, files):
+        self.places = [(path, SIZE * view) for path in files for view in range(frames.count_views(path))]
+        self.count = len(self.places)
 
     def frame(self, view, ours):
-        with open(self.path, 'rb') as file:
-            file.seek(SIZE * view)
+        path, place = self.places[view]
+        with open(path, 'rb') as file:
+            file.seek(place)
             return file.read(SIZE)
 
     def told(self):
@@ -96,11 +99,11 @@ class FramesOfFile:
 class FramesOfPictures:
     """The frames of a port's pictures, by a palette."""
 
-    def __init__(self, path, options, names):
-        self.files, self.palette = pictures.files_of(path), pictures.Palette(names.palette)
+    def __init__(self, files, options, names):
+        self.files, self.palette = files, pictures.Palette(names.palette)
         self.count = len(self.files)
         if not options.wad:
-            raise Trouble(f'{path}: the palette that tells the colours of pictures is that of a WAD; name it by --wad')
+            raise Trouble(f'{options.port}: the colours of pictures are those of the palette of a WAD; name it by --wad')
 
     def frame(self, view, ours):
         return self.palette.frame(self.files[view], ours)
@@ -111,9 +114,10 @@ class FramesOfPictures:
 
 def port_of(options, names):
     """The frames of the port, as they are written."""
-    if os.path.isdir(options.port) or pictures.is_picture(options.port) and os.path.isfile(options.port):
-        return FramesOfPictures(options.port, options, names)
-    return FramesOfFile(options.port)
+    files = pictures.files_of(options.port)
+    if pictures.is_picture(files[0]) and os.path.isfile(files[0]):
+        return FramesOfPictures(files, options, names)
+    return FramesOfFiles(files)
 
 
 class Comparison:

@@ -11,7 +11,7 @@ Runs a job of doomview with the words, passes on what it writes, and ends with i
 follow on standard error: what the numbers of a refusal mean, by the names of lines, things, lumps and files; and what
 else looks like a mistake, such as an IWAD behind its PWAD, things of types without a row, or extended nodes.
 
-With a line of doomview as its one word it tells what the line means, without the names. With --said it runs nothing:
+With a line of doomview as its one word it says what the line means, without the names. With --said it runs nothing:
 FILE has what a run of these words said.
 
 A refusal is the first thing for which a level cannot be drawn: explain audit is no map check, and doomview lint is one.
