@@ -1,11 +1,12 @@
 -- Laws of the things of a sector as their vissprites are listed, and of the planes of a view with their makers.
 use Rattle.std.proofs.Common.{◌≡◌, ℕ, zero, suc, ◌+◌, ◌<◌, ◌≤◌, Bool, true, false, cond, ℤ, pos, ◌≤ℤ◌, ◌<ℤ◌, List, [], ◌∷◌, ◌++◌, length, map, get_or, drop, take, Option, Some, None, refl, sym, ap, ◌∙◌, subst, arith}
-use Rattle.std.specs.Prelude.{count_by, int_le, int_lt, is_some, option_map, slice_index_or, ◌&&◌, ◌||◌}
+use Rattle.std.specs.Prelude.{count_by, int_le, int_lt, is_none, is_some, option_map, slice_index_or, ◌&&◌, ◌||◌}
 use Rattle.std.specs.List.{zip}
 use Rattle.std.specs.Int.{is_negative}
 use Rattle.std.proofs.lemmas.Bool.{and_parts}
 use Rattle.std.proofs.lemmas.Int.{ints, clamps}
 use Rattle.std.proofs.lemmas.List.{at_drop_more, at_drop_all, append_assoc, map-append, length-map, take_all}
+use Rattle.std.proofs.lemmas.List.Sums.{count_by_more_no, count_by_more_yes}
 use Rattle.word_rules.specs.Words.{greater_word}
 use Rattle.view_rules.specs.View.{ViewValue}
 use Rattle.view_rules.specs.declared.TheConstants.{FRAME_WIDTH}
@@ -21,12 +22,13 @@ use Rattle.picture_rules.specs.declared.sprite.Placed.{Placed}
 use Rattle.picture_rules.specs.declared.sprite.Seen.{Seen}
 use Rattle.picture_rules.specs.declared.sprite.Shape5.{Shape5}
 use Rattle.picture_rules.specs.declared.sprite.SpriteEntry.{SpriteEntry}
-use Rattle.picture_rules.specs.plane.Planes.{Plane}
+use Rattle.picture_rules.specs.plane.Planes.{AreWide, Plane, column}
 use Rattle.picture_rules.specs.sprite.Entries.{entry_for, entry_of, entry_within, misses_view, picture_first, picture_last}
 use Rattle.picture_rules.specs.sprite.Projection.{project}
-use Rattle.picture_rules.specs.Lists.{listed_plane, listed_sprite}
+use Rattle.picture_rules.specs.Lists.{listed_plane, listed_sprite, marked_columns}
 use Rattle.picture_rules.specs.Scene.{Scene}
 use Rattle.picture_rules.specs.Things.{placed_of}
+use Rattle.visplanes.specs.Planes.{no_plane, plane_at}
 use Rattle.vissprites.specs.Bounds.{lies_within}
 use Rattle.vissprites.proofs.BoundLemmas.{entry_for-lies_within}
 use Rattle.frame_core.specs.Scenes.{drawn_shape, scene_of}
@@ -151,3 +153,30 @@ planes-none planes makers i e =
 
 pub planes-end : (planes : List Plane) (makers : List PlaneMaker) (i : ℕ) → length makers ≤ i → listed_planes planes (take i makers) ≡ listed_planes planes makers
 planes-end planes makers i l = ap (listed_planes planes) (take_all i makers l)
+
+-- a column more, without a run and with one
+not_some : (o : Option (ℕ × ℕ)) → is_none o ≡ true → is_some o ≡ false
+not_some None h = refl
+not_some (Some run) h = absurd (cc)
+
+some_then : (o : Option (ℕ × ℕ)) → is_none o ≡ false → is_some o ≡ true
+some_then None h = absurd (cc)
+some_then (Some run) h = refl
+
+pub columns-without : (p : Plane) (x columns : ℕ) (o : Option (ℕ × ℕ)) (b : Bool) → x < length p.runs → o ≡ column p x → b ≡ is_none o → b ≡ true → columns ≡ count_by is_some (take x p.runs) → columns ≡ count_by is_some (take (x + 1) p.runs)
+unfolding column
+columns-without p x columns o b l e t is count =
+    count ∙ sym (count_by_more_no is_some p.runs x None l (ap is_some (sym e) ∙ not_some o (sym t ∙ is)))
+
+pub columns-with : (p : Plane) (x columns : ℕ) (o : Option (ℕ × ℕ)) (b : Bool) → x < length p.runs → o ≡ column p x → b ≡ is_none o → b ≡ false → columns ≡ count_by is_some (take x p.runs) → columns + 1 ≡ count_by is_some (take (x + 1) p.runs)
+unfolding column
+columns-with p x columns o b l e t is count =
+    ap (λ (n : ℕ). n + 1) count ∙ sym (count_by_more_yes is_some p.runs x None l (ap is_some (sym e) ∙ some_then o (sym t ∙ is)))
+
+pub columns-all : (p : Plane) (x columns : ℕ) → length p.runs ≤ x → columns ≡ count_by is_some (take x p.runs) → columns ≡ marked_columns p
+unfolding marked_columns
+columns-all p x columns l count = count ∙ ap (count_by is_some) (take_all x p.runs l)
+
+-- a plane of a view is as wide as a frame
+pub wide-at : (planes : List Plane) (n : ℕ) → AreWide planes → n < length planes → length (plane_at planes n).runs ≡ FRAME_WIDTH
+wide-at planes n wide l = wide n no_plane l

@@ -8,7 +8,7 @@ ghost use Rattle.frame_core.specs.Views.{CanCount};
 ghost use Rattle.picture_rules.specs.Counts.{view_counts, view_over};
 ghost use Rattle.picture_rules.specs.Lists.{listed_plane, marked_columns, view_list};
 ghost use Rattle.picture_rules.specs.declared.plane.TheConstants.{MOST_VISPLANES};
-ghost use Rattle.std.specs.Prelude.{◌≡◌, ◌≤◌, ◌<◌, ◌++◌, ◌∷◌, [], ℕ, List, Some, IfErr, IfOk, OnOk, length, vec_len, vec_capacity};
+ghost use Rattle.std.specs.Prelude.{◌≡◌, ◌≤◌, ◌<◌, ◌+◌, ◌++◌, ◌∷◌, [], ℕ, List, Some, IfErr, IfOk, OnOk, length, vec_len, vec_capacity};
 ghost use Rattle.view_rules.specs.View.{view_of};
 ghost use Rattle.visplanes.specs.Planes.{plane_at};
 
@@ -199,6 +199,7 @@ fn marked_columns(planes: &Planes, plane: PlaneNo) -> u16
 fn push_plane(listed: &mut Vec<ListedPlane>, plane: ListedPlane)
     requires { vec_len listed.old < vec_capacity listed.old }
     ensures items { listed.new.items ≡ listed.old.items ++ plane ∷ [] }
+    ensures count { vec_len listed.new ≡ vec_len listed.old + 1 }
     ensures capacity { vec_capacity listed.old ≤ vec_capacity listed.new }
 {
     match listed.push(plane) {

@@ -9,6 +9,7 @@ use Rattle.picture_rules.specs.declared.Limits.{Limits}
 use Rattle.picture_rules.specs.Counts.{view_counts, view_over}
 use Rattle.picture_rules.specs.Lists.{ViewListValue, view_list}
 use Rattle.frame_core.specs.Scenes.{scene_of}
+use Rattle.frame_core.specs.ViewLists.{listed_planes}
 use Rattle.frame_core.specs.Workshops.{WorkshopView}
 use Rattle.frame_core.proofs.CountLemmas.{counts-walked, few-notes, within-walked}
 use Rattle.frame_core.proofs.ListerLemmas.{makers-as_many, view-listed}
@@ -43,3 +44,14 @@ returns-clause-within c = λ bytes.
     subst (λ (v : ViewValue). view_over v scene c.args.shop.now.limits ≡ None) c.new-view.ensures
     (subst (λ (limits : Limits). view_over c.new-view.result scene limits ≡ None) same
     (within-walked c.new-view.result bytes c.args.scene.now.scene c.list_walls.new.bench c.in_ok-list_walls.ensures.walked))
+
+pub returns-clause-list : goal.returns-clause-list
+returns-clause-list c = λ bytes.
+    let scene = c.args.scene.now.scene in
+    let bench = c.list_walls.new.bench in
+    let walk = c.list_walls.new.list in
+    let planes = c.list_planes.new.listed.items in
+    let made : ViewListValue = record { fragments = walk.fragments; planes = planes; sprites = walk.sprites; all_fragments = walk.all_fragments; all_sprites = walk.all_sprites } in
+    subst (λ (v : ViewValue). made ≡ view_list v (scene_of bytes scene)) c.new-view.ensures
+    (view-listed c.new-view.result bytes scene bench walk planes c.in_ok-list_walls.ensures.walked c.in_ok-list_walls.ensures.listed
+    (c.list_planes.ensures.items ∙ ap (listed_planes bench.planes.planes) c.makers.ensures))
