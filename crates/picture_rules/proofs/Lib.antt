@@ -3,3 +3,4 @@ pub mod EventLemmas
 pub mod ThingLemmas
 pub mod CountLemmas
 pub mod ListLemmas
+pub mod NamedLemmas
