@@ -124,9 +124,12 @@ entered-known v scene true sector list e = refl
 entered-known v scene false sector list e = absurd (cc)
 
 -- a plane more with its maker
-zip_none : {X Y : Type 0} (xs : List X) → zip {X} {Y} xs [] ≡ []
+abbrev no_makers : List PlaneMaker
+no_makers = []
+
+zip_none : (planes : List Plane) → zip planes no_makers ≡ []
 zip_none [] = refl
-zip_none (x ∷ xs) = refl
+zip_none (p ∷ ps) = refl
 
 zip_more : (planes : List Plane) (makers : List PlaneMaker) (i : ℕ) (p : Plane) (m : PlaneMaker) → i < length makers → length makers ≤ length planes →
     zip planes (take i makers) ++ (get_or planes i p, get_or makers i m) ∷ [] ≡ zip planes (take (suc i) makers)

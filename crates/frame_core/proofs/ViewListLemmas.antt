@@ -1,5 +1,5 @@
 -- Laws of the list of a view: it is that of the events after one leaf more, and after one fragment more.
-use Rattle.std.proofs.Common.{◌≡◌, ℕ, ◌+◌, ◌-◌, ◌<◌, ◌≤◌, Bool, true, false, cond, List, [], ◌∷◌, ◌++◌, length, map, Option, Some, None, refl, sym, ap, ◌∙◌, subst, arith, inl, inr}
+use Rattle.std.proofs.Common.{◌≡◌, ℕ, ◌+◌, ◌-◌, ◌<◌, ◌≤◌, Bool, true, false, cond, ℤ, List, [], ◌∷◌, ◌++◌, length, map, Option, Some, None, refl, sym, ap, ◌∙◌, subst, arith, inl, inr}
 use Rattle.std.specs.Prelude.{min, filter, replicate, nat_lt}
 use Rattle.std.specs.List.{zip}
 use Rattle.std.proofs.lemmas.Bool.{cases_lt}
@@ -116,7 +116,7 @@ made_if entries things list e thing s true same is h = with_room entries things 
 made_if entries things list e thing s false same is h = without_room entries things list thing s (grind (arith, nat_tests)) h
 
 -- its number is no part of how an entry is listed
-same_listed : (v : ViewValue) (number : ℕ) (placed : Placed) (seen : Seen) (shape : Shape5) (a1 a2 : _) (thing : PlacedThing) → listed_sprite (entry_of v 0 placed seen shape a1 a2) thing ≡ listed_sprite (entry_of v number placed seen shape a1 a2) thing
+same_listed : (v : ViewValue) (number : ℕ) (placed : Placed) (seen : Seen) (shape : Shape5) (a1 a2 : ℤ) (thing : PlacedThing) → listed_sprite (entry_of v 0 placed seen shape a1 a2) thing ≡ listed_sprite (entry_of v number placed seen shape a1 a2) thing
 unfolding listed_sprite entry_of
 same_listed v number placed seen shape a1 a2 thing = refl
 
