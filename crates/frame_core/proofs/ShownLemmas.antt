@@ -1,6 +1,6 @@
 -- Laws of the things of a sector as their vissprites are listed, and of the planes of a view with their makers.
 use Rattle.std.proofs.Common.{◌≡◌, ℕ, zero, suc, ◌+◌, ◌<◌, ◌≤◌, Bool, true, false, cond, ℤ, pos, ◌≤ℤ◌, ◌<ℤ◌, List, [], ◌∷◌, ◌++◌, length, map, get_or, drop, take, Option, Some, None, refl, sym, ap, ◌∙◌, subst, arith}
-use Rattle.std.specs.Prelude.{count_by, int_le, int_lt, is_none, is_some, option_map, slice_index_or, ◌&&◌, ◌||◌}
+use Rattle.std.specs.Prelude.{count_by, int_le, int_lt, is_some, not, option_map, slice_index_or, ◌&&◌, ◌||◌}
 use Rattle.std.specs.List.{zip}
 use Rattle.std.specs.Int.{is_negative}
 use Rattle.std.proofs.lemmas.Bool.{and_parts}
@@ -158,23 +158,15 @@ pub planes-end : (planes : List Plane) (makers : List PlaneMaker) (i : ℕ) → 
 planes-end planes makers i l = ap (listed_planes planes) (take_all i makers l)
 
 -- a column more, without a run and with one
-not_some : (o : Option (ℕ × ℕ)) → is_none o ≡ true → is_some o ≡ false
-not_some None h = refl
-not_some (Some run) h = absurd (cc)
-
-some_then : (o : Option (ℕ × ℕ)) → is_none o ≡ false → is_some o ≡ true
-some_then None h = absurd (cc)
-some_then (Some run) h = refl
-
-pub columns-without : (p : Plane) (x columns : ℕ) (o : Option (ℕ × ℕ)) (b : Bool) → x < length p.runs → o ≡ column p x → b ≡ is_none o → b ≡ true → columns ≡ count_by is_some (take x p.runs) → columns ≡ count_by is_some (take (x + 1) p.runs)
+pub columns-without : (p : Plane) (x columns : ℕ) (o : Option (ℕ × ℕ)) (b : Bool) → x < length p.runs → o ≡ column p x → is_some o ≡ not b → b ≡ true → columns ≡ count_by is_some (take x p.runs) → columns ≡ count_by is_some (take (x + 1) p.runs)
 unfolding column
 columns-without p x columns o b l e t is count =
-    count ∙ sym (count_by_more_no is_some p.runs x None l (ap is_some (sym e) ∙ not_some o (sym t ∙ is)))
+    count ∙ sym (count_by_more_no is_some p.runs x None l (ap is_some (sym e) ∙ t ∙ ap not is))
 
-pub columns-with : (p : Plane) (x columns : ℕ) (o : Option (ℕ × ℕ)) (b : Bool) → x < length p.runs → o ≡ column p x → b ≡ is_none o → b ≡ false → columns ≡ count_by is_some (take x p.runs) → columns + 1 ≡ count_by is_some (take (x + 1) p.runs)
+pub columns-with : (p : Plane) (x columns : ℕ) (o : Option (ℕ × ℕ)) (b : Bool) → x < length p.runs → o ≡ column p x → is_some o ≡ not b → b ≡ false → columns ≡ count_by is_some (take x p.runs) → columns + 1 ≡ count_by is_some (take (x + 1) p.runs)
 unfolding column
 columns-with p x columns o b l e t is count =
-    ap (λ (n : ℕ). n + 1) count ∙ sym (count_by_more_yes is_some p.runs x None l (ap is_some (sym e) ∙ some_then o (sym t ∙ is)))
+    ap (λ (n : ℕ). n + 1) count ∙ sym (count_by_more_yes is_some p.runs x None l (ap is_some (sym e) ∙ t ∙ ap not is))
 
 pub columns-all : (p : Plane) (x columns : ℕ) → length p.runs ≤ x → columns ≡ count_by is_some (take x p.runs) → columns ≡ marked_columns p
 unfolding marked_columns
