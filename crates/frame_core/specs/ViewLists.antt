@@ -22,7 +22,7 @@ use Rattle.picture_rules.specs.sprite.Entries.{entry_for}
 use Rattle.picture_rules.specs.sprite.Projection.{project}
 use Rattle.picture_rules.specs.Scene.{Scene}
 use Rattle.picture_rules.specs.Things.{placed_of, view_entries}
-use Rattle.picture_rules.specs.Lists.{listed_fragment, listed_plane, listed_sprite, plane_makers, shown_things, told}
+use Rattle.picture_rules.specs.Lists.{ViewListValue, listed_fragment, listed_plane, listed_sprite, plane_makers, shown_things, told}
 
 -- what is listed while a view is walked: its planes are known only when the walk has ended
 pub record WalkListValue : Type 0 where
@@ -34,6 +34,9 @@ pub record WalkListValue : Type 0 where
 
 abbrev pub nothing_listed : WalkListValue
 nothing_listed = record { fragments = []; makers = []; sprites = []; all_fragments = 0; all_sprites = 0 }
+
+abbrev pub empty_list : ViewListValue
+empty_list = record { fragments = []; planes = []; sprites = []; all_fragments = 0; all_sprites = 0 }
 
 -- so many planes are there now: those that are new were made by this maker
 unfoldable pub with_makers : WalkListValue → PlaneMaker → ℕ → WalkListValue

@@ -3,7 +3,7 @@
 // Rules: `picture_rules`, Lists. This project's own.
 ghost use Rattle.frame_core.specs.Ends.{EndsWithin};
 ghost use Rattle.frame_core.specs.Scenes.{scene_of};
-ghost use Rattle.frame_core.specs.ViewLists.{listed_planes};
+ghost use Rattle.frame_core.specs.ViewLists.{empty_list, listed_planes};
 ghost use Rattle.frame_core.specs.Views.{CanCount};
 ghost use Rattle.picture_rules.specs.Counts.{view_counts, view_over};
 ghost use Rattle.picture_rules.specs.Lists.{listed_plane, marked_columns, view_list};
@@ -59,7 +59,9 @@ impl ViewList {
     /// An empty list. Takes all its memory: room for 256 fragments, 1024 planes and 128 vissprites.
     ///
     /// Errors: `AllocError`, out of memory.
-    pub fn new(alloc: Global) -> Result<ViewList, AllocError> {
+    pub fn new(alloc: Global) -> Result<ViewList, AllocError>
+        ensures { IfOk result (λ list. list ≡ empty_list) }
+    {
         Ok(ViewList {
             walk: WalkList::new(alloc)?,
             planes: Vec::with_capacity(alloc, MOST_VISPLANES as usize)?,
