@@ -161,16 +161,22 @@ class Compare(Tools):
             await wait(); all.push(text('head'), text('told'), [...document.querySelectorAll('#painters button')].map(it => it.textContent));
             hit('f'); await wait(); all.push(text('told')); hit('n'); await wait(); all.push(text('told'));
             hit('ArrowLeft'); await wait(); all.push(text('told'));
-            all.push(canvases(0).map(colours)); document.querySelector('#painters button').click();
-            all.push(data.views.map((_, k) => document.getElementById('v' + k).hidden)); return all;''')
+            const hidden = () => data.views.map((_, k) => document.getElementById('v' + k).hidden), pick = k =>
+                document.querySelectorAll('#painters button')[k].click(), caption = () => canvases(1)[0].nextSibling.textContent;
+            all.push(canvases(0).map(colours)); pick(0); all.push(hidden());
+            hit('b'); await wait(); all.push(caption()); hit('b'); await wait(); all.push(caption());
+            pick(1); await wait(); all.push(hidden(), text('told')); return all;''')
         self.assertEqual(found[0], 'ours.bin and port.bin: views 3 same 1 different 2 pixels 3')
-        self.assertEqual(found[1], 'view 1 column 1 row 1: ours 6, port 5  DIFFERS   wall  STONE  fragment 4')
+        self.assertEqual(found[1], 'view 1 column 1 row 1: ours 6, port 5  DIFFERS; painted by wall STONE, fragment 4')
         self.assertEqual(found[2], ['sprite </A>: 2 in 2 views', 'wall STONE: 1 in 1 view'])
-        self.assertEqual(found[3], 'view 1 column 5 row 5: ours 8, port 5  DIFFERS   sprite  </A>  sprite 2')
-        self.assertEqual(found[4], 'view 2 column 9 row 9: ours 7, port 5  DIFFERS   sprite  </A>  sprite 2')
-        self.assertEqual(found[5], 'view 2 column 8 row 9: ours 5, port 5   nothing  -')
+        self.assertEqual(found[3], 'view 1 column 5 row 5: ours 8, port 5  DIFFERS; painted by sprite </A>, sprite 2')
+        self.assertEqual(found[4], 'view 2 column 9 row 9: ours 7, port 5  DIFFERS; painted by sprite </A>, sprite 2')
+        self.assertEqual(found[5], 'view 2 column 8 row 9: ours 5, port 5; painted by nothing')
         self.assertEqual(found[6][0], 3)
         self.assertEqual(found[7], [False, False])
+        self.assertEqual(found[8:10], ['port, in the place of ours', 'ours'])
+        self.assertEqual(found[10], [False, True])
+        self.assertEqual(found[11], found[1])
         self.refuses('there is no folder absent', 'compare', *words[:-1], 'absent/page.html')
 
     def test_port_pictures(self):

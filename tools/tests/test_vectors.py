@@ -7,6 +7,7 @@ import sys
 import tempfile
 import unittest
 
+import pages_shown
 from made_files import TOP, Tools
 from doomview_tools import original, vectors, wads, weapons
 from test_original import DOOMVIEW
@@ -190,8 +191,11 @@ class Compare(Tools):
         self.write('MAP01.bin', frame(11) + full + frame(4))
         status, output, error = self.run_tool('compare', 'ours.bin', 'MAP01.bin', '--vectors', 'made.csv')
         self.assertEqual((status, error), (1, ''))
-        self.assertEqual([line.partition('; ')[2] for line in output.decode().splitlines()],
-                         ['packed spans', "the original's frame (memory)", '', ''])
+        known = ['packed spans', "the original's frame (memory)", '']
+        self.assertEqual([line.partition('; ')[2] for line in output.decode().splitlines()], [*known, ''])
+        self.run_tool('compare', 'ours.bin', 'MAP01.bin', '--vectors', 'made.csv', '--html', 'page.html')
+        views = pages_shown.data_of(self.at('page.html'))['views']
+        self.assertEqual([view['told'].partition('; ')[2] for view in views], known)
         self.refuses('no vectors of ours.bin', 'compare', 'ours.bin', 'ours.bin', '--vectors', 'made.csv')
 
 

@@ -144,9 +144,13 @@ class Comparison:
             file.seek(traces.VIEW_SIZE * view)
             return file.read(traces.VIEW_SIZE)
 
-    def tell(self, view, ours, port, places):
+    def told(self, view, ours, port, places):
+        """The line on a view that differs, with what is known of the port's frame."""
         known = vectors.known(self.known[view], port) if view < len(self.known) else ''
-        print(told(view, ours, port, places) + (f'; {known}' if known else ''))
+        return told(view, ours, port, places) + (f'; {known}' if known else '')
+
+    def tell(self, view, ours, port, places):
+        print(self.told(view, ours, port, places))
         if self.options.trace:
             print('\n'.join(traces.painters(self.records(view), places, self.names)))
         if self.options.png:
@@ -163,7 +167,7 @@ class Comparison:
                     self.tell(view, ours, port, places)
                 if self.options.html:
                     trace = self.records(view) if self.options.trace else b''
-                    self.page.add(view, told(view, ours, port, places), (ours, port), places, trace)
+                    self.page.add(view, self.told(view, ours, port, places), (ours, port), places, trace)
         both = min(self.counts)
         last = f'views {both} same {both - self.different} different {self.different} pixels {self.pixels}'
         print(last)
