@@ -6,7 +6,7 @@ import zlib
 
 import pages_shown
 from made_files import Tools, name, pixels_of, wad
-from doomview_tools import png
+from doomview_tools import compare_page, png, traces
 
 FRAME, WIDTH = 64000, 320
 
@@ -178,6 +178,22 @@ class Compare(Tools):
         self.assertEqual(found[10], [False, True])
         self.assertEqual(found[11], found[1])
         self.refuses('there is no folder absent', 'compare', *words[:-1], 'absent/page.html')
+
+    @unittest.skipUnless(pages_shown.BROWSER, 'no Chromium here')
+    def test_page_of_known_views(self):
+        """The views of which nothing is known can be shown alone; where there are too many, they are kept."""
+        page = compare_page.ComparePage(traces.Names([]))
+        frames = [(painted((view, view, 6)), painted()) for view in range(compare_page.MOST_VIEWS + 5)]
+        for view, pair in enumerate(frames):
+            page.add(view, f'view {view}', 'packed spans' if view > 2 else '', pair, [WIDTH * view + view], b'')
+        with open(self.at('page.html'), 'wb') as file:
+            file.write(page.page('head'))
+        found = pages_shown.shown(self.at('page.html'), '''
+            const button = document.querySelector('#unknown button'), all = [button.textContent, data.views.length];
+            const seen = () => data.views.filter((_, k) => !document.getElementById('v' + k).hidden).map(it => it.view);
+            button.click(); all.push(seen()); button.click(); all.push(seen().length); return all;''')
+        count = compare_page.MOST_VIEWS
+        self.assertEqual(found, ['neither packed spans nor a known departure in 3 views', count, [0, 1, 2], count])
 
     def test_port_pictures(self):
         """PNG and PCX by their colours, or by their entries where the palette is the same."""

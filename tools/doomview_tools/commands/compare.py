@@ -144,30 +144,26 @@ class Comparison:
             file.seek(traces.VIEW_SIZE * view)
             return file.read(traces.VIEW_SIZE)
 
-    def told(self, view, ours, port, places):
-        """The line on a view that differs, with what is known of the port's frame."""
+    def take(self, view, ours, port):
+        """Tells of a view that differs, and gives it to the page."""
+        places = frames.differing(ours, port)
+        self.different += 1
+        self.pixels += len(places)
         known = vectors.known(self.known[view], port) if view < len(self.known) else ''
-        return told(view, ours, port, places) + (f'; {known}' if known else '')
-
-    def tell(self, view, ours, port, places):
-        print(self.told(view, ours, port, places))
-        if self.options.trace:
-            print('\n'.join(traces.painters(self.records(view), places, self.names)))
-        if self.options.png:
-            put_picture(self.options.png, view, ours, port, places, self.names.palette)
+        line = told(view, ours, port, places) + (f'; {known}' if known else '')
+        trace = self.records(view) if self.options.trace else b''
+        if self.different <= self.options.most:
+            print('\n'.join([line, *(traces.painters(trace, places, self.names) if trace else [])]))
+            if self.options.png:
+                put_picture(self.options.png, view, ours, port, places, self.names.palette)
+        if self.options.html:
+            self.page.add(view, line, known, (ours, port), places, trace)
 
     def run(self):
         """Tells of the views that differ; whether there is any, or a view that one file lacks."""
         for view, ours, port in self.views():
             if ours != port:
-                places = frames.differing(ours, port)
-                self.different += 1
-                self.pixels += len(places)
-                if self.different <= self.options.most:
-                    self.tell(view, ours, port, places)
-                if self.options.html:
-                    trace = self.records(view) if self.options.trace else b''
-                    self.page.add(view, self.told(view, ours, port, places), (ours, port), places, trace)
+                self.take(view, ours, port)
         both = min(self.counts)
         last = f'views {both} same {both - self.different} different {self.different} pixels {self.pixels}'
         print(last)
