@@ -41,12 +41,13 @@ class ComparePage:
     def __init__(self, names):
         self.names, self.kept, self.different = names, [], 0
 
-    def add(self, view, told, frames, places, trace, place_of):
-        """Takes a view that differs, in place of one that differs less where there are too many."""
+    def add(self, view, told, known, frames, places, trace, place_of):
+        """Takes a view that differs, in place of one that is known or differs less where there are too many."""
         self.different += 1
-        if len(self.kept) == MOST_VIEWS and len(places) <= self.kept[0][0]:
+        weight = not known, len(places)
+        if len(self.kept) == MOST_VIEWS and weight <= self.kept[0][0]:
             return
-        entry = len(places), -view, self.packed(view, told, frames, places, trace, place_of)
+        entry = weight, -view, {**self.packed(view, told, frames, places, trace, place_of), 'known': bool(known)}
         (heapq.heappush if len(self.kept) < MOST_VIEWS else heapq.heappushpop)(self.kept, entry)
 
     def packed(self, view, told, frames, places, trace, place_of):

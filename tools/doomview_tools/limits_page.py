@@ -11,7 +11,7 @@ MOST_BYTES = 3000000
 SMALL_PICTURES = 60
 PLANE_KINDS = (2, 3)  # of painters: plane and sky
 NO_PLANE = 255
-PLANE_COLOURS = bytes(255 if i == NO_PLANE else (i * factor) % 200 + 40
+PLANE_COLOURS = bytes(255 if i == NO_PLANE else ((i + 1) * factor) % 200 + 40
                       for i in range(256) for factor in (83, 149, 47))
 
 

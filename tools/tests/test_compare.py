@@ -6,7 +6,7 @@ import zlib
 
 import pages_shown
 from made_files import Tools, name, pixels_of, wad
-from doomview_tools import png
+from doomview_tools import compare_page, png, traces
 
 FRAME, WIDTH = 64000, 320
 
@@ -161,17 +161,39 @@ class Compare(Tools):
             await wait(); all.push(text('head'), text('told'), [...document.querySelectorAll('#painters button')].map(it => it.textContent));
             hit('f'); await wait(); all.push(text('told')); hit('n'); await wait(); all.push(text('told'));
             hit('ArrowLeft'); await wait(); all.push(text('told'));
-            all.push(canvases(0).map(colours)); document.querySelector('#painters button').click();
-            all.push(data.views.map((_, k) => document.getElementById('v' + k).hidden)); return all;''')
+            const hidden = () => data.views.map((_, k) => document.getElementById('v' + k).hidden), pick = k =>
+                document.querySelectorAll('#painters button')[k].click(), caption = () => canvases(1)[0].nextSibling.textContent;
+            all.push(canvases(0).map(colours)); pick(0); all.push(hidden());
+            hit('b'); await wait(); all.push(caption()); hit('b'); await wait(); all.push(caption());
+            pick(1); await wait(); all.push(hidden(), text('told')); return all;''')
         self.assertEqual(found[0], 'ours.bin and port.bin: views 3 same 1 different 2 pixels 3')
-        self.assertEqual(found[1], 'view 1 column 1 row 1: ours 6, port 5  DIFFERS   wall  STONE  fragment 4')
+        self.assertEqual(found[1], 'view 1 column 1 row 1: ours 6, port 5  DIFFERS; painted by wall STONE, fragment 4')
         self.assertEqual(found[2], ['sprite </A>: 2 in 2 views', 'wall STONE: 1 in 1 view'])
-        self.assertEqual(found[3], 'view 1 column 5 row 5: ours 8, port 5  DIFFERS   sprite  </A>  sprite 2')
-        self.assertEqual(found[4], 'view 2 column 9 row 9: ours 7, port 5  DIFFERS   sprite  </A>  sprite 2')
-        self.assertEqual(found[5], 'view 2 column 8 row 9: ours 5, port 5   nothing  -')
+        self.assertEqual(found[3], 'view 1 column 5 row 5: ours 8, port 5  DIFFERS; painted by sprite </A>, sprite 2')
+        self.assertEqual(found[4], 'view 2 column 9 row 9: ours 7, port 5  DIFFERS; painted by sprite </A>, sprite 2')
+        self.assertEqual(found[5], 'view 2 column 8 row 9: ours 5, port 5; painted by nothing')
         self.assertEqual(found[6][0], 3)
         self.assertEqual(found[7], [False, False])
+        self.assertEqual(found[8:10], ['port, in the place of ours', 'ours'])
+        self.assertEqual(found[10], [False, True])
+        self.assertEqual(found[11], found[1])
         self.refuses('there is no folder absent', 'compare', *words[:-1], 'absent/page.html')
+
+    @unittest.skipUnless(pages_shown.BROWSER, 'no Chromium here')
+    def test_page_of_known_views(self):
+        """The views of which nothing is known can be shown alone; where there are too many, they are kept."""
+        page = compare_page.ComparePage(traces.Names([]))
+        frames = [(painted((view, view, 6)), painted()) for view in range(compare_page.MOST_VIEWS + 5)]
+        for view, pair in enumerate(frames):
+            page.add(view, f'view {view}', 'packed spans' if view > 2 else '', pair, [WIDTH * view + view], b'')
+        with open(self.at('page.html'), 'wb') as file:
+            file.write(page.page('head'))
+        found = pages_shown.shown(self.at('page.html'), '''
+            const button = document.querySelector('#unknown button'), all = [button.textContent, data.views.length];
+            const seen = () => data.views.filter((_, k) => !document.getElementById('v' + k).hidden).map(it => it.view);
+            button.click(); all.push(seen()); button.click(); all.push(seen().length); return all;''')
+        count = compare_page.MOST_VIEWS
+        self.assertEqual(found, ['neither packed spans nor a known departure in 3 views', count, [0, 1, 2], count])
 
     def test_port_pictures(self):
         """PNG and PCX by their colours, or by their entries where the palette is the same."""

@@ -134,7 +134,15 @@ class LimitsMap(Tools):
             const all = [colours(canvas), text('which'), text('row'), scale];
             hit('2'); all.push(text('which')); hit('d'); all.push(state); hit('1', 'n'); all.push(text('row'));
             hit('ArrowRight'); all.push(text('told')); hit('+'); all.push(scale); hit('0'); all.push(scale);
-            await wait(); all.push(document.getElementById('picture').naturalWidth); return all;''')
+            await wait(); all.push(document.getElementById('picture').naturalWidth);
+            const overs = now().cells.filter(cell => isOver('planes', number(cell, 0)) && drawnSize(cell) * scale > 2);
+            all.push(overs.length, overs.filter(cell => {
+                const [x, y, size] = square(cell), k = devicePixelRatio, colour = pen.getImageData((x + size * .15) * k, (y + size * .5) * k, 1, 1).data;
+                return colour[0] + colour[1] + colour[2] < 99;
+            }).length);
+            all.push(now().cells.filter(cell => cell.isCut).length, now().cells.filter(cell => cellAt(cell[X], cell[Y] + .5) === cell).length);
+            const far = now().cells.find(cell => now().views.every(it => it.row.join() !== rowOf(cell, 0).join()));
+            look(far); all.push(text('row'), rowOf(far, 0).join(), text('shown')); return all;''')
         data = pages_shown.data_of(self.at('page.html'))
         rows = [','.join(map(str, view['row'])) for view in data['states'][1]['views']]
         self.assertGreater(found[0], 20)
@@ -146,6 +154,13 @@ class LimitsMap(Tools):
         self.assertGreater(found[8], found[9])
         self.assertEqual(found[9], found[3])
         self.assertEqual(found[10], 320)
+        overs, black, cut, pointed, row, expected, shown = found[11:]
+        self.assertGreater(overs, 3)
+        self.assertGreater(black, .8 * overs)  # but for lines, dots and the cone over them
+        self.assertGreater(cut, 3)
+        self.assertEqual(pointed, len(data['states'][1]['cells']))
+        self.assertEqual(row, expected)
+        self.assertRegex(shown, r'^planes \d+ · x [-\d.]+ y [-\d.]+, [\d.]+°; the nearest picture is from x [-\d.]+ y [-\d.]+, ')
 
     def test_wrong(self):
         """Refusals are in doomview's words, with status 2, and nothing is left half-written."""

@@ -7,6 +7,7 @@ import sys
 import tempfile
 import unittest
 
+import pages_shown
 from made_files import TOP, Tools
 from doomview_tools import original, vectors, wads, weapons
 from test_original import DOOMVIEW
@@ -62,11 +63,12 @@ class Check(Tools):
         os.mkdir(self.at('port'))
 
     def check(self, *frames, words=('--maps', 'MAP01'), place='port/MAP01.bin'):
-        """The status and the lines of a check of frames."""
+        """The status and the lines of a check of frames. Where it is not 0, sentences say what to do."""
         if frames:
             self.write(place, b''.join(frames))
-        status, output, error = self.run_command(CHECK, 'made.csv', 'port', *words)
-        self.assertEqual(error, '')
+        status, output, self.error = self.run_command(CHECK, 'made.csv', 'port', *words)
+        self.assertEqual(bool(self.error), bool(status))
+        self.assertTrue(all(line.startswith('check: ') for line in self.error.splitlines()))
         return status, output.decode().splitlines()
 
     def test_same(self):
@@ -74,12 +76,15 @@ class Check(Tools):
 
     def test_packed(self):
         self.assertEqual(self.check(*self.packed[:3])[0], 1)
+        self.assertIn('--packed takes it as right', self.error)
         self.assertEqual(self.check(words=('--maps', 'MAP01', '--packed')), (0, ['MAP01 near packed 3', 'all packed 3']))
 
     def test_wrong(self):
         frames = changed(b''.join(self.ours[:3]), 1, 45)
         self.assertEqual(self.check(frames), (1, ['MAP01 near same 2 wrong 1', '  view 1 wrong at 65536,0,2686976,0: '
                                                   'rows 40-59', 'all same 2 wrong 1']))
+        self.assertEqual(self.error.count('\n'), 1)
+        self.assertIn('the port draws something else', self.error)
         both = changed(changed(frames, 1, 199), 0, 0)
         self.assertEqual(self.check(both)[1][1:3], ['  view 0 wrong at 0,0,2686976,0: rows 0-19',
                                                     '  view 1 wrong at 65536,0,2686976,0: rows 40-59 180-199'])
@@ -95,6 +100,7 @@ class Check(Tools):
         self.assertEqual(self.check(*self.ours[:2], b'cut'), (1, ['MAP01 near same 2 missing 1',
                                                                  'all same 2 missing 1']))
         self.assertEqual(self.check(*self.ours[:3], words=())[1][1:], ['MAP02 near missing 1', 'all same 3 missing 1'])
+        self.assertEqual(self.error, 'check: port lacks views; --maps and --sets say which to check\n')
         more = self.check(*self.ours)
         self.assertEqual((more[0], more[1][1]), (1, '  MAP01.bin has 256000 bytes, and 3 views have 192000'))
 
@@ -190,8 +196,12 @@ class Compare(Tools):
         self.write('MAP01.bin', frame(11) + full + frame(4))
         status, output, error = self.run_tool('compare', 'ours.bin', 'MAP01.bin', '--vectors', 'made.csv')
         self.assertEqual((status, error), (1, ''))
-        self.assertEqual([line.partition('; ')[2] for line in output.decode().splitlines()],
-                         ['packed spans', "the original's frame (memory)", '', ''])
+        known = ['packed spans', "the original's frame (memory)", '']
+        self.assertEqual([line.partition('; ')[2] for line in output.decode().splitlines()], [*known, ''])
+        self.run_tool('compare', 'ours.bin', 'MAP01.bin', '--vectors', 'made.csv', '--html', 'page.html')
+        views = pages_shown.data_of(self.at('page.html'))['views']
+        self.assertEqual([view['told'].partition('; ')[2] for view in views], known)
+        self.assertEqual([view['known'] for view in views], [True, True, False])
         self.refuses('no vectors of ours.bin', 'compare', 'ours.bin', 'ours.bin', '--vectors', 'made.csv')
 
 

@@ -161,27 +161,26 @@ class Comparison:
         """What says where in the map an item of a view is, or None."""
         return functools.partial(self.placing.places.place, self.placing.view(view)) if self.placing else None
 
-    def tell(self, view, ours, port, places):
+    def take(self, view, ours, port):
+        """Tells of a view that differs, and gives it to the page."""
+        places = frames.differing(ours, port)
+        self.different += 1
+        self.pixels += len(places)
         known = vectors.known(self.known[view], port) if view < len(self.known) else ''
-        print(told(view, ours, port, places) + (f'; {known}' if known else ''))
-        if self.options.trace:
-            print('\n'.join(traces.painters(self.records(view), places, self.names, self.place_of(view))))
-        if self.options.png:
-            put_picture(self.options.png, view, ours, port, places, self.names.palette)
+        line = told(view, ours, port, places) + (f'; {known}' if known else '')
+        trace, place_of = self.records(view) if self.options.trace else b'', self.place_of(view)
+        if self.different <= self.options.most:
+            print('\n'.join([line, *(traces.painters(trace, places, self.names, place_of) if trace else [])]))
+            if self.options.png:
+                put_picture(self.options.png, view, ours, port, places, self.names.palette)
+        if self.options.html:
+            self.page.add(view, line, known, (ours, port), places, trace, place_of)
 
     def run(self):
         """Tells of the views that differ; whether there is any, or a view that one file lacks."""
         for view, ours, port in self.views():
             if ours != port:
-                places = frames.differing(ours, port)
-                self.different += 1
-                self.pixels += len(places)
-                if self.different <= self.options.most:
-                    self.tell(view, ours, port, places)
-                if self.options.html:
-                    trace = self.records(view) if self.options.trace else b''
-                    self.page.add(view, told(view, ours, port, places), (ours, port), places, trace,
-                                  self.place_of(view))
+                self.take(view, ours, port)
         both = min(self.counts)
         last = f'views {both} same {both - self.different} different {self.different} pixels {self.pixels}'
         print(last)
