@@ -41,7 +41,7 @@ class ComparePage:
     def __init__(self, names):
         self.names, self.kept, self.different = names, [], 0
 
-    def add(self, view, told, known, frames, places, trace, place_of):
+    def add(self, view, told, known, frames, places, trace, place_of=None):
         """Takes a view that differs, in place of one that is known or differs less where there are too many."""
         self.different += 1
         weight = not known, len(places)

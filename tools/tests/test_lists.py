@@ -160,8 +160,8 @@ class Lists(Tools):
                 all.push(buttons('painters').length, buttons('places').map(it => it.textContent));
                 buttons('places')[0].click(); await wait();
                 all.push(picked, document.getElementById('v0').hidden); return all;''')
-            self.assertEqual(found[0], 'view 0 column 0 row 0: ours 6, port 5  DIFFERS   wall  P2  fragment 1  '
-                             f'of LOW, WALL  {places[0]}')
+            self.assertEqual(found[0], 'view 0 column 0 row 0: ours 6, port 5  DIFFERS; painted by wall P2, fragment 1, of LOW, '
+                         'WALL, line 1, front side, middle texture WALL')
             self.assertEqual(found[1], 3)
             self.assertEqual({it.split(':')[0] for it in found[2]}, set(places))
             self.assertEqual(found[3:], [found[2][0].split(':')[0], False])
