@@ -64,7 +64,7 @@ fn check_tables(
 
 // The tables, by which spans are stepped so.
 fn with_spans(tables: Tables, spans: Spans) -> Tables
-    ensures { result ≡ record tables.entry { spans = spans } }
+    ensures { result ≡ record tables { spans = spans } }
 {
     let mut tables = tables;
     tables.set_spans(spans);

@@ -2,3 +2,5 @@ pub mod FrameLemmas
 pub mod EventLemmas
 pub mod ThingLemmas
 pub mod CountLemmas
+pub mod ListLemmas
+pub mod NamedLemmas

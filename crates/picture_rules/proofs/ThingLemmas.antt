@@ -50,15 +50,22 @@ unfolding with_sectors
 sectors_more v scene entries [] n = refl
 sectors_more v scene entries (m ∷ ms) n = sectors_more v scene (with_things v scene m entries (scene.things_of m)) ms n
 
+-- a fragment enters no sector
+pub sectors_entered-fragment : (scene : Scene) (es : List Event) (seg first last : ℕ) → sectors_entered scene (es ++ FragmentEvent seg first last ∷ []) ≡ sectors_entered scene es
+unfolding sectors_entered leaves_entered
+sectors_entered-fragment scene es seg first last =
+    ap (λ (ls : List ℕ). first_mentions [] (map (leaf_sector scene) ls)) (leaves_entered-append es (FragmentEvent seg first last ∷ []) ∙ append-nil (leaves_entered es))
+
 -- a fragment adds no sprite
 pub view_entries-fragment : (v : ViewValue) (scene : Scene) (es : List Event) (seg first last : ℕ) → view_entries v scene (es ++ FragmentEvent seg first last ∷ []) ≡ view_entries v scene es
 unfolding view_entries sectors_entered leaves_entered
 view_entries-fragment v scene es seg first last =
     ap (λ (ls : List ℕ). with_sectors v scene [] (first_mentions [] (map (leaf_sector scene) ls))) (leaves_entered-append es (FragmentEvent seg first last ∷ []) ∙ append-nil (leaves_entered es))
 
-leaf_sectors : (scene : Scene) (es : List Event) (n : ℕ) → sectors_entered scene (es ++ LeafEvent n ∷ []) ≡ sectors_entered scene es ++ cond (is_entered scene es (leaf_sector scene n)) [] (leaf_sector scene n ∷ [])
+-- a leaf is the first of its sector where none of it was entered before
+pub sectors_entered-leaf : (scene : Scene) (es : List Event) (n : ℕ) → sectors_entered scene (es ++ LeafEvent n ∷ []) ≡ sectors_entered scene es ++ cond (is_entered scene es (leaf_sector scene n)) [] (leaf_sector scene n ∷ [])
 unfolding sectors_entered leaves_entered is_entered
-leaf_sectors scene es n =
+sectors_entered-leaf scene es n =
     ap (λ (ls : List ℕ). first_mentions [] (map (leaf_sector scene) ls)) (leaves_entered-append es (LeafEvent n ∷ []))
     ∙ ap (first_mentions []) (map-append (leaf_sector scene) (leaves_entered es) (n ∷ []))
     ∙ mentions_more [] (map (leaf_sector scene) (leaves_entered es)) (leaf_sector scene n)
@@ -68,12 +75,12 @@ pub view_entries-again : (v : ViewValue) (scene : Scene) (es : List Event) (n : 
 unfolding view_entries
 view_entries-again v scene es n h =
     ap (with_sectors v scene [])
-    (leaf_sectors scene es n ∙ ap (λ (b : Bool). sectors_entered scene es ++ cond b [] (leaf_sector scene n ∷ [])) h ∙ append-nil (sectors_entered scene es))
+    (sectors_entered-leaf scene es n ∙ ap (λ (b : Bool). sectors_entered scene es ++ cond b [] (leaf_sector scene n ∷ [])) h ∙ append-nil (sectors_entered scene es))
 
 -- and one of another sector adds that sector's things, in drawing order
 pub view_entries-new : (v : ViewValue) (scene : Scene) (es : List Event) (n : ℕ) → is_entered scene es (leaf_sector scene n) ≡ false →
     view_entries v scene (es ++ LeafEvent n ∷ []) ≡ with_things v scene (leaf_sector scene n) (view_entries v scene es) (scene.things_of (leaf_sector scene n))
 unfolding view_entries
 view_entries-new v scene es n h =
-    ap (with_sectors v scene []) (leaf_sectors scene es n ∙ ap (λ (b : Bool). sectors_entered scene es ++ cond b [] (leaf_sector scene n ∷ [])) h)
+    ap (with_sectors v scene []) (sectors_entered-leaf scene es n ∙ ap (λ (b : Bool). sectors_entered scene es ++ cond b [] (leaf_sector scene n ∷ [])) h)
     ∙ sectors_more v scene [] (sectors_entered scene es) (leaf_sector scene n)

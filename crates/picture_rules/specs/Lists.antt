@@ -1,5 +1,5 @@
 -- What a view is made of, item by item: its drawn fragments, its planes with what made each, its vissprites with their things.
-use Rattle.std.specs.Prelude.{ℕ, ◌+◌, ◌-◌, min, Bool, false, List, [], ◌∷◌, ◌++◌, count_by, filter, map, is_some, length, replicate, Option, Some, None}
+use Rattle.std.specs.Prelude.{◌≡◌, ℕ, ◌-◌, min, Bool, false, List, [], ◌∷◌, ◌++◌, count_by, filter, map, is_some, length, replicate, slice_get, Option, Some, None}
 use Rattle.std.specs.List.{zip}
 use Rattle.word_rules.specs.Listed.{joined_lists}
 use Rattle.word_rules.specs.Words.{natural}
@@ -15,6 +15,7 @@ use Rattle.picture_rules.specs.declared.list.ListedPlane.{ListedPlane}
 use Rattle.picture_rules.specs.declared.list.ListedSprite.{ListedSprite}
 use Rattle.picture_rules.specs.declared.list.PlaneMaker.{PlaneMaker}
 use Rattle.picture_rules.specs.declared.list.PlaneMaker.TheVariants.{Leaf, Fragment}
+use Rattle.picture_rules.specs.declared.sprite.TheConstants.{MAX_VISSPRITES}
 use Rattle.picture_rules.specs.declared.sprite.Placed.{Placed}
 use Rattle.picture_rules.specs.declared.sprite.Seen.{Seen}
 use Rattle.picture_rules.specs.declared.sprite.Shape5.{Shape5}
@@ -103,3 +104,17 @@ event_list v scene events = record {
 
 unfoldable pub view_list : ViewValue → Scene → ViewListValue
 view_list v scene = event_list v scene (view_events v scene.level)
+
+-- Vissprite number k is that of this thing: of the sector that it stands in, where it is seen, by the picture that it has there.
+pub record IsEntryOf (v : ViewValue) (scene : Scene) (k : ℕ) (thing : PlacedThing) (e : SpriteEntry) : Type 0 where
+  pub sector : ℕ
+  pub seen : Seen
+  pub shape : Shape5
+  pub is_seen : project v (placed_of v scene sector thing) ≡ Some seen
+  pub is_picked : scene.pick thing.sprite thing.frame seen.rotation ≡ Some shape
+  pub is_made : entry_for v k (placed_of v scene sector thing) seen shape ≡ Some e
+
+-- The vissprites are those of the first of these things, each of the thing of its number.
+pub record AreEntriesOf (v : ViewValue) (scene : Scene) (entries : List SpriteEntry) (things : List PlacedThing) : Type 0 where
+  pub count : length entries ≡ min MAX_VISSPRITES (length things)
+  pub each : (k : ℕ) (e : SpriteEntry) (thing : PlacedThing) → slice_get entries k ≡ Some e → slice_get things k ≡ Some thing → IsEntryOf v scene k thing e

@@ -3,9 +3,10 @@
 //! Rules only: records, and in `specs/` what a picture is made from (Scene), the drawn fragments
 //! and their dots (Walls), the planes (Planes), the fragments as the masked pass needs them
 //! (Masked), the vissprites (Things), the list of all paints (Paints), the frame and its trace
-//! (Picture), the counts (Counts), and the list of what a view is made of (Lists). The rules of one wall, one plane and one sprite stand in the
-//! folders `wall`, `plane` and `sprite`. A paint is what one layer writes; a dot one pixel of it.
-//! The original: R_RenderPlayerView, r_main.c.
+//! (Picture), the counts (Counts), the list of what a view is made of (Lists), and what a trace
+//! names of it (Named). The rules of one wall, one plane and one sprite stand in the folders
+//! `wall`, `plane` and `sprite`. A paint is what one layer writes; a dot one pixel of it. The
+//! original: R_RenderPlayerView, r_main.c.
 #![tactic(auto)]
 
 pub mod list;

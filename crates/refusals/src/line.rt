@@ -9,8 +9,8 @@ use itoa::Buffer;
 use outside::{Failed, Sink};
 use std::marker::Model;
 
-/// The bytes of a line, at most. The longest has five labels and as many numbers.
-pub const LINE_ROOM: usize = 160;
+/// The bytes of a line, at most. The longest has seven labels and as many numbers.
+pub const LINE_ROOM: usize = 200;
 
 /// The digits of a number, at most.
 pub const DIGITS: usize = 20;

@@ -12,7 +12,7 @@ mod seen;
 mod sorted;
 mod sprites;
 
-pub use entries::{edge_column, misses_view};
+pub use entries::{edge_column, entry_for, misses_view};
 pub use picture_rules::{MAX_VISSPRITES, Placed, Seen, Shape5, SpriteEntry};
 pub use seen::{ROTATIONS, project};
 pub use sorted::SortedSprites;

@@ -160,3 +160,43 @@ pub sound-after_events : (s : PlanesNow) (es : List PlaneEvent) → IsSoundNow s
 unfolding after_events
 sound-after_events s [] h = h
 sound-after_events s (e ∷ es) h = sound-after_events (after_event s e) es (sound-after_event s e h)
+
+-- an event takes no plane away
+longer_floor : (o : Option PlaneKey) (s : PlanesNow) → length s.planes ≤ length (floor_found o s).planes
+unfolding floor_found
+longer_floor None s = omega arith
+longer_floor (Some key) s = longer_find s.planes key
+
+longer_ceiling : (o : Option PlaneKey) (s : PlanesNow) → length s.planes ≤ length (ceiling_found o s).planes
+unfolding ceiling_found
+longer_ceiling None s = omega arith
+longer_ceiling (Some key) s = longer_find s.planes key
+
+longer_ceiling_checked : (marks : Bool) (o : Option ℕ) (s : PlanesNow) (first last : ℕ) → length s.planes ≤ length (with_ceiling (checked_plane marks s.planes o first last) s).planes
+unfolding with_ceiling checked_plane
+longer_ceiling_checked false o s first last = omega arith
+longer_ceiling_checked true None s first last = omega arith
+longer_ceiling_checked true (Some i) s first last = length-check s.planes i first last
+
+longer_floor_checked : (marks : Bool) (o : Option ℕ) (s : PlanesNow) (first last : ℕ) → length s.planes ≤ length (with_floor (checked_plane marks s.planes o first last) s).planes
+unfolding with_floor checked_plane
+longer_floor_checked false o s first last = omega arith
+longer_floor_checked true None s first last = omega arith
+longer_floor_checked true (Some i) s first last = length-check s.planes i first last
+
+longer_marked : (w : PlaneWall) (s : PlanesNow) → length s.planes ≤ length (wall_marked w s).planes
+unfolding wall_marked
+longer_marked w s = omega (arith, length_columns w s.ceiling s.floor (w.last + 1 - w.first) s.planes)
+
+pub after_event-longer : (s : PlanesNow) (e : PlaneEvent) → length s.planes ≤ length (after_event s e).planes
+unfolding after_event ceiling_checked floor_checked
+after_event-longer s (Finds floor ceiling) =
+    let a = longer_floor floor s in
+    let b = longer_ceiling ceiling (floor_found floor s) in
+    omega (arith, a, b)
+after_event-longer s (Draws w) =
+    let a = longer_ceiling_checked w.ceiling_mark s.ceiling s w.first w.last in
+    let now : PlanesNow = ceiling_checked w s in
+    let b = longer_floor_checked w.floor_mark now.floor now w.first w.last in
+    let c = longer_marked w (floor_checked w now) in
+    omega (arith, a, b, c)

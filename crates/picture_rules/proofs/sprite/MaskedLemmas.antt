@@ -76,7 +76,7 @@ range_within : (low first n last : ℕ) → low ≤ first → first + n ≤ last
 range_within low first zero last k l = tt
 range_within low first (suc n) last k l = ((k, omega arith), range_within low (first + 1) n last (omega arith) (omega arith))
 
-from_first : (first last : ℕ) → AllByRecursion (λ x. (first ≤ x) × (x ≤ last)) (map (λ x. x) (range_with_len first (last + 1 - first)))
+pub from_first : (first last : ℕ) → AllByRecursion (λ x. (first ≤ x) × (x ≤ last)) (map (λ x. x) (range_with_len first (last + 1 - first)))
 from_first first last = elim (cases_lt last first) [
   | inl l ↦ (let e : last + 1 - first ≡ 0 = omega arith in rw e tt)
   | inr l ↦ range_within first first (last + 1 - first) last (omega arith) (omega arith)
@@ -113,7 +113,7 @@ filter_range : (p : ℕ → Bool) (first last : ℕ) (xs : List ℕ) → AllByRe
 filter_range p first last [] a = tt
 filter_range p first last (x ∷ xs) a = kept_range p first last x xs a.0 (filter_range p first last xs a.1) (p x)
 
-columns_range : (sprites : List SpriteEntry) (moment : Option ℕ) (d : Drawseg) → AllByRecursion (λ x. (d.first ≤ x) × (x ≤ d.last)) (columns_at sprites moment d)
+pub columns_range : (sprites : List SpriteEntry) (moment : Option ℕ) (d : Drawseg) → AllByRecursion (λ x. (d.first ≤ x) × (x ≤ d.last)) (columns_at sprites moment d)
 unfolding columns_at listed_from
 columns_range sprites moment d =
     filter_range (λ x. d.masked && same_number (sprite_in_front sprites d x) moment) d.first d.last (map (λ x. x) (range_with_len d.first (d.last + 1 - d.first)))

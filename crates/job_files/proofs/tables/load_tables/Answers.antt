@@ -4,8 +4,8 @@ use Rattle.job_files.proofs.CheckLemmas.{tables_length, unread, checked}
 use Rattle.job_files.proofs.tables.load_tables.Goals as goal
 
 pub returns-in_err-bytes-clause-answers : goal.returns-in_err-bytes-clause-answers
-returns-in_err-bytes-clause-answers g c files holds = unread (bytes_in Tables) c.args.name.now files (tables_length c.args.size) (c.read_named.ensures.answers files holds) c.in_err-bytes.was c.from_residual.ensures.1
+returns-in_err-bytes-clause-answers g c files holds = unread (bytes_in Tables) c.args.name.now files (tables_length c.args.settings.now) (c.read_named.ensures.answers files holds) c.in_err-bytes.was c.from_residual.ensures.1
 
 pub returns-clause-answers : goal.returns-clause-answers
 returns-clause-answers g c files holds =
-    checked (bytes_in Tables) c.args.name.now files (tables_length c.args.size) (c.in_ok-bytes.ensures.answers files holds).ok c.deref.ensures.value c.check_tables.ensures.answers
+    checked (bytes_in Tables) c.args.name.now files (tables_length c.args.settings.now) (c.in_ok-bytes.ensures.answers files holds).ok c.deref.ensures.value c.check_tables.ensures.answers
