@@ -3,6 +3,7 @@
 A tool is a module of `commands` with a PAGE, a function `add_words(parser)` and a function `run(options)`, which gives
 the status of the tool, or None for 0."""
 import argparse
+import re
 import shutil
 import sys
 import textwrap
@@ -15,6 +16,7 @@ MOST_COLUMNS = 100
 UNBROKEN = '\N{NO-BREAK SPACE}'
 HELP = {'--help', '-h'}
 WAD = 'a WAD, found as ports find it (see doomview --help)'
+MINUS_ROW = re.compile(r'-[\d.]+,')  # the beginning of a row that would be taken for an option
 JOB_OPTION = 'job '  # before the names of options that are handed on
 
 
@@ -68,6 +70,8 @@ class Parser(argparse.ArgumentParser):
         if HELP & {*(words[:1] if takes_rest else words)}:
             self.print_help()
             raise SystemExit(0)
+        if not takes_rest:
+            words = [f' {word}' if MINUS_ROW.match(word) else word for word in words]
         return self.parse_args(words) if takes_rest else self.parse_intermixed_args(words)
 
     def format_help(self):

@@ -7,8 +7,8 @@ import sys
 from . import cli, home, jobs, program
 from .trouble import TROUBLE, Trouble
 
-TOOLS = ['picture', 'places', 'turn', 'compare', 'pixel', 'explain', 'lint', 'limits-map', 'video', 'audit-all',
-         'draw-all', 'maps', 'tables', 'room', 'vectors', 'rest']
+TOOLS = ['picture', 'places', 'turn', 'compare', 'pixel', 'explain', 'lint', 'limits-map', 'why-limit', 'video',
+         'audit-all', 'draw-all', 'maps', 'tables', 'room', 'vectors', 'rest']
 OVERVIEW = '''usage: doomview JOB WORDS.. [OPTIONS]
        doomview TOOL WORDS.. [OPTIONS]
 

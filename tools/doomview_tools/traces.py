@@ -14,7 +14,7 @@ KINDS = {0: ('nothing', ''), 1: ('wall', 'fragment'), 2: ('plane', 'plane'), 3: 
          4: ('middle', 'fragment'), 5: ('sprite', 'sprite'), 6: ('weapon', 'row')}
 TEXTURED = (1, 3, 4)  # kinds that paint from a texture
 LUMP, COMPOSITE = 1, 2  # kinds of sources
-SHOWN_NUMBERS, SHOWN_TEXTURES = 6, 3
+SHOWN_NUMBERS, SHOWN_TEXTURES, SHOWN_PLACES = 6, 3, 12
 
 Painter = collections.namedtuple('Painter', 'kind source_kind source')
 Source = collections.namedtuple('Source', 'word name more')
@@ -111,19 +111,39 @@ def told(record, names):
     return ', '.join(parts + [f'colour {colour}'])
 
 
-def painters(records, places, names):
-    """Lines on the painters of some places of a view: the most pixels first."""
-    pixels, numbers = collections.Counter(), collections.defaultdict(set)
+def painters(records, places, names, place_of=None):
+    """Lines on the painters of some places of a view: the most pixels first. `place_of` says of a painter and its
+    number where in the map that is; then the lines under a painter have the pixels of each."""
+    pixels = collections.defaultdict(collections.Counter)
     for record, count in collections.Counter(records[8 * place:8 * place + 8] for place in places).items():
         kind, source_kind, number, source, _, _ = RECORD.unpack(record)
-        painter = Painter(kind, source_kind, source)
-        pixels[painter] += count
-        numbers[painter].add(number)
-    for painter, count in pixels.most_common():
+        pixels[Painter(kind, source_kind, source)][number] += count
+    for painter, numbers in sorted(pixels.items(), key=lambda it: -sum(it[1].values())):
         word, thing = KINDS.get(painter.kind, (f'kind {painter.kind}', 'number'))
         known = names.known(painter)
-        some = sorted(numbers[painter])
-        shown = ' '.join(map(str, some[:SHOWN_NUMBERS])) + (' ..' if len(some) > SHOWN_NUMBERS else '')
         more = f'patch {known.more}' if known.word == 'patch' else known.more
-        cells = [f'  {word:8} {known.name:9} {count:6}', f'{thing} {shown}' if thing else '', more]
+        cells = [f'  {word:8} {known.name:9} {sum(numbers.values()):6}',
+                 f'{thing} {some_of(numbers)}' if thing else '', more]
         yield '  '.join(cell for cell in cells if cell)
+        yield from map_places(painter, numbers, place_of) if place_of else []
+
+
+def some_of(numbers):
+    """Some of the numbers of a painter in a view."""
+    some = sorted(numbers)
+    return ' '.join(map(str, some[:SHOWN_NUMBERS])) + (' ..' if len(some) > SHOWN_NUMBERS else '')
+
+
+def map_places(painter, numbers, place_of):
+    """Lines on where in the map the pixels of a painter are: the most pixels first."""
+    found, having = collections.Counter(), collections.defaultdict(set)
+    for number, count in numbers.items():
+        place = place_of(painter, number)
+        found[place] += count
+        having[place].add(number)
+    thing = KINDS.get(painter.kind, ('', 'number'))[1]
+    shown = [(place, count) for place, count in found.most_common() if place]
+    for place, count in shown[:SHOWN_PLACES]:
+        yield f'{count:27}  {place} ({thing} {some_of(having[place])})'
+    if len(shown) > SHOWN_PLACES:
+        yield f'{sum(count for _, count in shown[SHOWN_PLACES:]):27}  at {len(shown) - SHOWN_PLACES} other places'

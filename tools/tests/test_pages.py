@@ -36,8 +36,8 @@ def anchors(page):
 
 
 def pointers(cell, kind):
-    """Of a cell such as "`f`, `g`; crate, file" each word with the file that should have it."""
-    found, parts = [], cell.split(';')
+    """Of a cell such as "`f`, `g`; crate, file" each word with the file that should have it; a link is its text."""
+    found, parts = [], re.sub(r'\[([^]]*)\]\([^)]*\)', r'\1', cell).split(';')
     for before, part in zip(parts, parts[1:]):
         place = re.match(r' *([a-z_]+(?:/[a-z_]+)?), ([\w/.]+)', part)
         words = re.search(r'((?:`[A-Za-z_][\w:]*`(?:, | and )?)+)$', before)
@@ -73,6 +73,7 @@ class Pages(unittest.TestCase):
             for kind, cell in (('specs', rule), ('src', code)):
                 for word, place in pointers(cell, kind):
                     self.has(word, place, question)
+                    self.assertIn(f'](../{place})', cell, question)
                     count += 1
             for edit in re.findall(r'\b[a-z0-9]+(?:_[a-z0-9]+){2,}\b', edits):
                 found = glob.glob(os.path.join(TOP, 'crates/*/must-fail', edit + '.edit'))
@@ -209,10 +210,11 @@ class Pages(unittest.TestCase):
             self.assertRegex(manual, rf'\n\.TP\n\.BI? {tool}\b')
 
     def test_version(self):
-        """The first heading of CHANGELOG and the manual have the version, and one date."""
+        """The first heading of CHANGELOG, README and the manual have the version, and one date."""
         number, date = re.search(r'^## ([0-9.]+), (.*)$', read('CHANGELOG.md'), re.M).groups()
         self.assertEqual(number, home.version()['version'])
         self.assertRegex(home.version()['logic'], '^[0-9a-f]{16}$')
+        self.assertIn(f'doomview-{number}.tar.gz', read('README.md'))
         self.assertTrue(read('docs/doomview.1').startswith(f'.TH DOOMVIEW 1 "{date}" "doomview {number}" '))
         datetime.date.fromisoformat(date)
 

@@ -84,10 +84,10 @@ counter-visits {e} p q result given =
     (λ ok event can. takes_later p q e event (subst (IsCounted p.view p.scene p q e) ok given) can)
 
 -- a walk of a counter that no event was given
-counted_none : (p : CounterValue) → ((bytes : ℕ → List ℕ) → HasWalked p.view bytes p.scene (limits_in p.bench) [] p.bench) → HasCounted p p [] (Ok tt)
+pub counted_none : (p : CounterValue) → ((bytes : ℕ → List ℕ) → HasWalked p.view bytes p.scene (limits_in p.bench) [] p.bench) → HasCounted p p [] (Ok tt)
 counted_none p walked = record { view = refl; scene = refl; name = refl; limits = refl; walked = walked; over = tt }
 
-stopped_all : (start now : CounterValue) (n : ℕ) (events : List Event) (stop : OverLimit) → HasCounted start now (take n events) (Err stop) → HasCounted start now events (Err stop)
+pub stopped_all : (start now : CounterValue) (n : ℕ) (events : List Event) (stop : OverLimit) → HasCounted start now (take n events) (Err stop) → HasCounted start now events (Err stop)
 stopped_all start now n events stop h = record {
   view = h.view;
   scene = h.scene;

@@ -5,4 +5,6 @@ pub mod Views
 pub mod Ends
 pub mod Walked
 pub mod Painters
+pub mod ViewLists
+pub mod Listers
 pub mod Workshops

@@ -247,7 +247,7 @@ impl Bench {
 
 // The sector of a leaf.
 #[tactic(auto, unfolding(level_rules::specs::Levels::leaf_at))]
-fn sector_of(scene: &SoundScene, leaf: u16) -> u16
+pub(crate) fn sector_of(scene: &SoundScene, leaf: u16) -> u16
     requires { leaf < length scene.now.scene.base.level.leaves }
     ensures value { result ≡ (leaf_at (lists_of scene.now.scene) leaf).sector }
     ensures there { result < length scene.now.scene.base.level.sectors }

@@ -57,6 +57,13 @@ impl Entered {
         unset_first(&mut self.marks, sectors);
     }
 
+    /// Whether a sector is entered.
+    pub fn has(&self, sector: u16) -> bool
+        ensures { result ≡ has_entered self.now sector }
+    {
+        self.marks[sector as usize]
+    }
+
     /// Enters a sector, and says whether it was not entered before.
     ///
     /// The original: the first lines of `R_AddSprites`, r_things.c.

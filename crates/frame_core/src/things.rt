@@ -69,7 +69,7 @@ fn add_thing(
 }
 
 // A thing in a sector of that light.
-fn placed_of(thing: &PlacedThing, light: u8) -> Placed
+pub(crate) fn placed_of(thing: &PlacedThing, light: u8) -> Placed
     ensures { result ≡ record {
       x = thing.now.x;
       y = thing.now.y;
@@ -118,7 +118,7 @@ fn add_seen(
 }
 
 // A picture of the book as it is drawn.
-fn drawn_shape(shape: Shape) -> Shape5
+pub(crate) fn drawn_shape(shape: Shape) -> Shape5
     ensures { result ≡ drawn_shape shape }
 {
     Shape5 {

@@ -42,11 +42,7 @@ pub fn load_tables<S: Shelf>(
 }
 
 #[tactic(auto, unfolding(crate::specs::Files::tables_in))]
-fn check_tables(
-    alloc: Global,
-    bytes: &[u8],
-    settings: &Settings,
-) -> Result<Tables, LoadFault>
+fn check_tables(alloc: Global, bytes: &[u8], settings: &Settings) -> Result<Tables, LoadFault>
     requires least { MIN_SIZE ≤ settings.now.size }
     requires greatest { settings.now.size ≤ MAX_SIZE }
     ensures answers { ResultIs itself true (λ tables. tables)

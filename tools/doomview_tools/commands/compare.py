@@ -1,8 +1,9 @@
 """doomview compare: two files of frames beside each other."""
+import functools
 import os
 import sys
 
-from .. import cli, frames, pictures, png, traces, vectors, wads
+from .. import cli, frames, lists, pictures, png, traces, vectors, wads
 from ..compare_page import ComparePage
 from ..files import check_target, write_whole
 from ..frames import HEIGHT, SIZE, WIDTH
@@ -22,12 +23,16 @@ With the file that doomview trace wrote for the same words, the lines under it s
 painter's kind, the lump or texture, the pixels, and the numbers of the fragments, planes or sprites in the view. Names
 need the WADs of the run. A texture of one patch is named where no other texture has the patch.
 
+With --list, what doomview list wrote for the same words, the lines under those say where in the map that is: the pixels
+of each line, side and part of a wall, of each sector's floor or ceiling, and of each thing.
+
 With --vectors a line ends with what is known of the port's frame there: that it has packed spans, or is the original's
 where doomview departs from it (docs/VECTORS.md). PORT is named by the map then, as MAP01.bin or MAP01-sizes.bin.
 
 --png writes a picture for each view that differs: OURS, PORT and the differences beside each other (red over grey), in
 the palette of the WADs or else in greys. --html writes one page of the views that differ, in most pixels if there are
-many: it names the pixel under the pointer and, with a trace, what painted it, and sorts the differences by painter.
+many: it names the pixel under the pointer and, with a trace, what painted it, and sorts the differences by painter;
+with a list by lines, sectors and things as well.
 
 PORT may also be a folder of such files, of one view or several each, or of pictures, PNG or PCX of 320 by 200, a view
 each, in the order of the numbers in their names; or one picture. The colours of pictures have to be those of the palette
@@ -35,6 +40,7 @@ of the WADs.
 ''', '''
 $ doomview compare ours.bin port.bin
 $ doomview compare ours.bin port.bin --wad freedoom2.wad --trace trace.bin --png out --most 10
+$ doomview compare ours.bin port.bin --wad freedoom2.wad --trace trace.bin --list list.txt --map MAP01
 $ doomview compare ours.bin shots --wad freedoom2.wad --trace trace.bin --html compared.html
 ''', ends='''
  0  all views are the same
@@ -49,6 +55,7 @@ def add_words(parser):
     parser.add_argument('--trace', metavar='FILE', help='what doomview trace wrote: names what painted the pixels')
     parser.add_argument('--wad', metavar='WAD', action='append', default=[], help='a WAD of the run; once for each, in '
                         'their order')
+    lists.add_words(parser)
     parser.add_argument('--vectors', metavar='FILE', help='the vectors whose views the files have')
     parser.add_argument('--png', metavar='FOLDER', help='writes a picture of each view that differs into FOLDER')
     parser.add_argument('--html', metavar='OUT.html', help='writes a page of the views that differ')
@@ -124,7 +131,8 @@ class Comparison:
     """The views of both files, and what is told of those that differ."""
 
     def __init__(self, options):
-        self.options, self.names = options, traces.Names([wads.find(name) for name in options.wad])
+        files = [wads.find(name) for name in options.wad]
+        self.options, self.names = options, traces.Names(files)
         if options.html:
             check_target(options.html)
         self.page, self.port = ComparePage(self.names), port_of(options, self.names)
@@ -133,6 +141,7 @@ class Comparison:
         self.different = self.pixels = 0
         if options.trace and traces.count_views(options.trace) != self.counts[0]:
             raise Trouble(f'{options.trace} is not the trace of {self.counts[0]} views, as {options.ours} has them')
+        self.placing = lists.placing_of(options, files, self.counts[0], self.names)
         if options.png:
             os.makedirs(options.png, exist_ok=True)
 
@@ -148,11 +157,15 @@ class Comparison:
             file.seek(traces.VIEW_SIZE * view)
             return file.read(traces.VIEW_SIZE)
 
+    def place_of(self, view):
+        """What says where in the map an item of a view is, or None."""
+        return functools.partial(self.placing.places.place, self.placing.view(view)) if self.placing else None
+
     def tell(self, view, ours, port, places):
         known = vectors.known(self.known[view], port) if view < len(self.known) else ''
         print(told(view, ours, port, places) + (f'; {known}' if known else ''))
         if self.options.trace:
-            print('\n'.join(traces.painters(self.records(view), places, self.names)))
+            print('\n'.join(traces.painters(self.records(view), places, self.names, self.place_of(view))))
         if self.options.png:
             put_picture(self.options.png, view, ours, port, places, self.names.palette)
 
@@ -167,7 +180,8 @@ class Comparison:
                     self.tell(view, ours, port, places)
                 if self.options.html:
                     trace = self.records(view) if self.options.trace else b''
-                    self.page.add(view, told(view, ours, port, places), (ours, port), places, trace)
+                    self.page.add(view, told(view, ours, port, places), (ours, port), places, trace,
+                                  self.place_of(view))
         both = min(self.counts)
         last = f'views {both} same {both - self.different} different {self.different} pixels {self.pixels}'
         print(last)

@@ -1,5 +1,5 @@
 """doomview pixel: what painted one pixel."""
-from .. import cli, paths, traces, wads
+from .. import cli, lists, paths, traces, wads
 from ..files import check_source
 from ..frames import HEIGHT, WIDTH
 from ..trouble import Trouble
@@ -10,9 +10,15 @@ Tells what painted a pixel, with the name of its lump or texture.
 
 TRACE is what doomview trace wrote. Names need the WADs of the run, in their order. Of a patch that one texture alone
 has the texture is named too, else the textures that have it.
+
+With --list, what doomview list wrote for the same words, it names what a map editor shows: of a wall the line, its side
+and the upper, lower or middle texture; of a floor or ceiling the sectors that have it, and what made its plane; of a
+sprite the thing.
 ''', '''
 $ doomview trace MAP01 freedoom2.wad --path path.csv -o trace.bin
 $ doomview pixel 0 160 100 trace.bin freedoom2.wad
+$ doomview list MAP01 freedoom2.wad --path path.csv -o list.txt
+$ doomview pixel 0 160 100 trace.bin freedoom2.wad --list list.txt --map MAP01
 ''')
 
 
@@ -23,6 +29,7 @@ def add_words(parser):
     parser.add_argument('y', metavar='Y', type=cli.number(0, HEIGHT - 1), help='the row, 0 to 199 from the top')
     parser.add_argument('trace', metavar='TRACE', help='the file of the trace')
     parser.add_argument('wads', metavar='WAD', nargs='*', help='the WADs of the run, in their order')
+    lists.add_words(parser)
 
 
 def run(options):
@@ -31,5 +38,11 @@ def run(options):
     if options.view >= count:
         raise Trouble(f'{options.trace} has {count} views, counted from 0, and none of number {options.view}')
     record = traces.record_at(options.trace, options.view, options.x, options.y)
-    names = traces.Names([wads.find(name) for name in options.wads])
-    print(f'view {options.view} column {options.x} row {options.y}: {traces.told(record, names)}')
+    files = [wads.find(name) for name in options.wads]
+    names = traces.Names(files)
+    placing = lists.placing_of(options, files, count, names)
+    told = traces.told(record, names)
+    if placing:
+        word = traces.KINDS.get(record[0], [''])[0]
+        told = placing.places.told(placing.view(options.view), record, word) or told
+    print(f'view {options.view} column {options.x} row {options.y}: {told}')

@@ -1,0 +1,132 @@
+-- Laws of a lister: an event that it was given after others, and a whole walk.
+use Rattle.std.proofs.Common.{◌≡◌, ℕ, List, [], ◌∷◌, ◌++◌, length, Result, Ok, Err, OnOk, refl, sym, ap, subst, ◌∙◌}
+use Rattle.view_rules.specs.View.{ViewValue}
+use Rattle.level_rules.specs.Levels.{LevelLists}
+use Rattle.level_rules.specs.walk.Events.{Event}
+use Rattle.level_rules.specs.walk.Walk.{view_events}
+use Rattle.scene_rules.specs.Scenes.{SceneValue}
+use Rattle.picture_rules.specs.declared.Limits.{Limits}
+use Rattle.picture_rules.specs.declared.OverLimit.{OverLimit}
+use Rattle.picture_rules.specs.declared.list.ListedFragment.{ListedFragment}
+use Rattle.picture_rules.specs.declared.list.ListedPlane.{ListedPlane}
+use Rattle.picture_rules.specs.declared.list.ListedSprite.{ListedSprite}
+use Rattle.picture_rules.specs.plane.Planes.{Plane}
+use Rattle.picture_rules.specs.Scene.{Scene}
+use Rattle.picture_rules.specs.Lists.{ViewListValue, event_list, event_planes, plane_makers, view_list}
+use Rattle.picture_rules.proofs.ListLemmas.{plane_makers-count}
+use Rattle.node_walk.specs.Visits.{Visits}
+use Rattle.frame_core.specs.declared.bench.Bench.{Bench}
+use Rattle.frame_core.specs.Scenes.{lists_of, scene_of}
+use Rattle.frame_core.specs.Walked.{HasWalked}
+use Rattle.frame_core.specs.Painters.{CanCountNext, CounterValue, HasCounted, HasWalkedView, limits_in}
+use Rattle.frame_core.specs.ViewLists.{HasListed, WalkListValue, listed_planes, listed_sprites, nothing_listed}
+use Rattle.frame_core.specs.Listers.{HasGathered, IsListed, IsListedView, ListerValue, lister_value}
+use Rattle.frame_core.proofs.CounterLemmas.{CounterVisits, counted_none, stopped_all}
+use Rattle.frame_core.proofs.ViewListLemmas.{listed-none, planes-walked}
+
+-- the answer of a lister that was given events
+abbrev pub ListerVisits : ListerValue → ListerValue → List Event → Result (Unit {0}) OverLimit → Type 0
+ListerVisits p q events result =
+    Visits {A = ListerValue} {E = OverLimit} (CanCountNext p.counter) (CanCountNext q.counter) (λ start es. HasGathered start p es (Ok tt)) (λ start es. HasGathered start q es (Ok tt))
+    (λ start es stop. HasGathered start q es (Err stop)) events result
+
+-- a list with one event more, wherever the walk began
+abbrev ListsNext : ViewValue → SceneValue → Bench → WalkListValue → WalkListValue → Event → Type 0
+ListsNext v scene b list next e = (bytes : ℕ → List ℕ) (limits : Limits) (events : List Event) → HasWalked v bytes scene limits events b → HasListed v (scene_of bytes scene) events list →
+    HasListed v (scene_of bytes scene) (events ++ e ∷ []) next
+
+-- an event that was listed
+pub lists-passed : (p q : CounterValue) (list next : WalkListValue) (name : ℕ) (e : Event) → CounterVisits p q (e ∷ []) (Ok tt) → ListsNext p.view p.scene p.bench list next e →
+    ListerVisits (lister_value p list name) (lister_value q next name) (e ∷ []) (Ok tt)
+lists-passed p q list next name e visits lists = record {
+  ok = record {
+    each = λ start before stood.
+        let given : ListsNext start.counter.view start.counter.scene p.bench list next e =
+        subst (λ (s : SceneValue). ListsNext start.counter.view s p.bench list next e) stood.counted.scene
+        (subst (λ (v : ViewValue). ListsNext v p.scene p.bench list next e) stood.counted.view lists) in
+        record {
+          counted = visits.ok.each start.counter before stood.counted;
+          name = stood.name;
+          listed = λ bytes. given bytes (limits_in start.counter.bench) before (stood.counted.walked bytes) (stood.listed bytes);
+        };
+  };
+  takes_on = record { each = visits.takes_on.each };
+  err = tt;
+}
+
+-- an event at which a limit was passed
+pub lists-stopped : (p q : CounterValue) (list : WalkListValue) (name : ℕ) (e : Event) (stop : OverLimit) → CounterVisits p q (e ∷ []) (Err stop) →
+    ListerVisits (lister_value p list name) (lister_value q list name) (e ∷ []) (Err stop)
+lists-stopped p q list name e stop visits = record {
+  ok = tt;
+  takes_on = tt;
+  err = record {
+    count = visits.err.count;
+    given = visits.err.given;
+    within = visits.err.within;
+    each = λ start before stood. record { counted = visits.err.each start.counter before stood.counted; name = stood.name; listed = tt };
+  };
+}
+
+gathered_none : (p : ListerValue) → ((bytes : ℕ → List ℕ) → HasWalked p.counter.view bytes p.counter.scene (limits_in p.counter.bench) [] p.counter.bench) → p.list ≡ nothing_listed → HasGathered p p [] (Ok tt)
+gathered_none p walked empty = record {
+  counted = counted_none p.counter walked;
+  name = refl;
+  listed = λ bytes. subst (HasListed p.counter.view (scene_of bytes p.counter.scene) []) (sym empty) (listed-none p.counter.view (scene_of bytes p.counter.scene));
+}
+
+lister_walked : (p q : ListerValue) (events : List Event) (result : Result (Unit {0}) OverLimit) →
+    ((bytes : ℕ → List ℕ) → HasWalked p.counter.view bytes p.counter.scene (limits_in p.counter.bench) [] p.counter.bench) → p.list ≡ nothing_listed → ListerVisits p q events result → HasGathered p q events result
+lister_walked p q events (Ok unit) walked empty visits = visits.ok.each p [] (gathered_none p walked empty)
+lister_walked p q events (Err stop) walked empty visits =
+    let h = visits.err.each p [] (gathered_none p walked empty) in
+    record { counted = stopped_all p.counter q.counter visits.err.count events stop h.counted; name = h.name; listed = tt }
+
+-- the whole walk of a view, of the lists of its scene
+pub lister-viewed : (p q : ListerValue) (lists : LevelLists) {result : Result (Unit {0}) OverLimit} → lists ≡ lists_of p.counter.scene →
+    ((bytes : ℕ → List ℕ) → HasWalked p.counter.view bytes p.counter.scene (limits_in p.counter.bench) [] p.counter.bench) → p.list ≡ nothing_listed → ListerVisits p q (view_events p.counter.view lists) result →
+    HasGathered p q (view_events p.counter.view (lists_of p.counter.scene)) result
+lister-viewed p q lists {result} e walked empty visits =
+    subst (λ (l : LevelLists). HasGathered p q (view_events p.counter.view l) result) e (lister_walked p q (view_events p.counter.view lists) result walked empty visits)
+
+abbrev made_list : List ListedFragment → List ListedPlane → List ListedSprite → ℕ → ℕ → ViewListValue
+made_list fragments planes sprites all_fragments all_sprites =
+    record { fragments = fragments; planes = planes; sprites = sprites; all_fragments = all_fragments; all_sprites = all_sprites }
+
+list_of : (walk : WalkListValue) (planes : List ListedPlane) (fs : List ListedFragment) (ps : List ListedPlane) (ss : List ListedSprite) (all_fs all_ss : ℕ) → walk.fragments ≡ fs → planes ≡ ps → walk.sprites ≡ ss → walk.all_fragments ≡ all_fs → walk.all_sprites ≡ all_ss →
+    made_list walk.fragments planes walk.sprites walk.all_fragments walk.all_sprites ≡ made_list fs ps ss all_fs all_ss
+list_of walk planes fs ps ss all_fs all_ss f p s a b =
+    ap (λ (x : List ListedFragment). made_list x planes walk.sprites walk.all_fragments walk.all_sprites) f
+    ∙ ap (λ (x : List ListedPlane). made_list fs x walk.sprites walk.all_fragments walk.all_sprites) p
+    ∙ ap (λ (x : List ListedSprite). made_list fs ps x walk.all_fragments walk.all_sprites) s
+    ∙ ap (λ (x : ℕ). made_list fs ps ss x walk.all_sprites) a
+    ∙ ap (λ (x : ℕ). made_list fs ps ss all_fs x) b
+
+-- the list of some events, with their planes
+events_listed : (v : ViewValue) (scene : Scene) (events : List Event) (walk : WalkListValue) (planes : List ListedPlane) → HasListed v scene events walk → planes ≡ listed_planes (event_planes v scene events) (plane_makers v scene events) →
+    made_list walk.fragments planes walk.sprites walk.all_fragments walk.all_sprites ≡ event_list v scene events
+unfolding event_list listed_planes listed_sprites
+events_listed v scene events walk planes h is = list_of walk planes _ _ _ _ _ h.fragments is h.sprites.sprites h.all h.sprites.all
+
+level_is : (bytes : ℕ → List ℕ) (s : SceneValue) → lists_of s ≡ (scene_of bytes s).level
+unfolding scene_of
+level_is bytes s = refl
+
+-- the list of a view whose walk a bench and a list have
+pub view-listed : (v : ViewValue) (bytes : ℕ → List ℕ) (s : SceneValue) (b : Bench) (walk : WalkListValue) (planes : List ListedPlane) → HasWalkedView v s b → IsListedView v s walk → planes ≡ listed_planes b.planes.planes walk.makers →
+    made_list walk.fragments planes walk.sprites walk.all_fragments walk.all_sprites ≡ view_list v (scene_of bytes s)
+unfolding view_list
+view-listed v bytes s b walk planes walked listed is =
+    let scene = scene_of bytes s in
+    let events = view_events v (lists_of s) in
+    let all = planes-walked v bytes s (limits_in b) events b (walked bytes) in
+    let h = listed bytes in
+    events_listed v scene events walk planes h (is ∙ ap (λ (ps : List Plane). listed_planes ps walk.makers) all ∙ ap (listed_planes (event_planes v scene events)) h.makers)
+    ∙ ap (λ (lists : LevelLists). event_list v scene (view_events v lists)) (level_is bytes s)
+
+-- each plane of it has a maker
+pub makers-as_many : (v : ViewValue) (s : SceneValue) (b : Bench) (walk : WalkListValue) → HasWalkedView v s b → IsListedView v s walk → length walk.makers ≡ length b.planes.planes
+makers-as_many v s b walk walked listed =
+    let bytes : ℕ → List ℕ = λ lump. [] in
+    let events = view_events v (lists_of s) in
+    ap length (listed bytes).makers ∙ plane_makers-count v (scene_of bytes s) events ∙ ap (λ (ps : List Plane). length ps) (sym (planes-walked v bytes s (limits_in b) events b (walked bytes)))

@@ -1,0 +1,33 @@
+-- Who lists a view while it is walked: the lister by its values, and what it has made of the events.
+use Rattle.std.specs.Prelude.{◌≡◌, ℕ, List, OnOk, Result}
+use Rattle.level_rules.specs.walk.Events.{Event}
+use Rattle.level_rules.specs.walk.Walk.{view_events}
+use Rattle.view_rules.specs.View.{ViewValue}
+use Rattle.scene_rules.specs.Scenes.{SceneValue}
+use Rattle.picture_rules.specs.declared.OverLimit.{OverLimit}
+use Rattle.frame_core.specs.Painters.{CounterValue, HasCounted}
+use Rattle.frame_core.specs.Scenes.{lists_of, scene_of}
+use Rattle.frame_core.specs.ViewLists.{HasListed, WalkListValue}
+
+-- a counter, its list, and the name of the reference to the list
+pub record ListerValue : Type 0 where
+  pub counter : CounterValue
+  pub list : WalkListValue
+  pub name : ℕ
+
+abbrev pub lister_value : CounterValue → WalkListValue → ℕ → ListerValue
+lister_value counter list name = record { counter = counter; list = list; name = name }
+
+-- the list is that of the events, in whatever way lumps are read
+abbrev pub IsListed : ViewValue → SceneValue → List Event → WalkListValue → Type 0
+IsListed v scene events list = (bytes : ℕ → List ℕ) → HasListed v (scene_of bytes scene) events list
+
+-- From that start on a lister was given the events, and answered the last of them so.
+pub record HasGathered (start now : ListerValue) (events : List Event) (result : Result (Unit {0}) OverLimit) : Type 0 where
+  pub counted : HasCounted start.counter now.counter events result
+  pub name : now.name ≡ start.name
+  pub listed : OnOk result (IsListed start.counter.view start.counter.scene events now.list)
+
+-- the whole walk of a view is in the list
+abbrev pub IsListedView : ViewValue → SceneValue → WalkListValue → Type 0
+IsListedView v scene list = IsListed v scene (view_events v (lists_of scene)) list

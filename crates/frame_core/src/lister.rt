@@ -1,0 +1,137 @@
+// A view, listed as it is walked.
+//
+// Rules: `picture_rules`, Lists; `specs/Listers`. This project's own.
+ghost use Rattle.frame_core.specs.Listers.{IsListed, IsListedView};
+ghost use Rattle.frame_core.specs.Painters.{HasWalkedNothing, HasWalkedView, limits_in};
+ghost use Rattle.frame_core.specs.Scenes.{scene_of};
+ghost use Rattle.frame_core.specs.ViewLists.{list_leaf, nothing_listed};
+ghost use Rattle.frame_core.specs.Views.{CanCount};
+ghost use Rattle.frame_core.specs.Walked.{CanTake};
+ghost use Rattle.picture_rules.specs.Counts.{view_over};
+ghost use Rattle.picture_rules.specs.declared.plane.TheConstants.{MOST_VISPLANES};
+ghost use Rattle.std.specs.Prelude.{◌≡◌, ◌≤◌, ◌<◌, ℕ, List, IfErr, OnOk, Some, length};
+
+use crate::bench::{Bench, sector_of};
+use crate::fault::over_limit;
+use crate::shown::list_entered;
+use crate::walk_list::WalkList;
+use node_walk::{Cover, Visitor, WalkScene, walk};
+use picture_rules::{ListedFragment, OverLimit, PlaneMaker};
+use sound_scene::SoundScene;
+use view_frame::View;
+
+/// Counts each leaf and fragment of a view as it comes, and lists it.
+#[derive(Drop)]
+pub(crate) struct ViewLister<'a> {
+    pub bench: &'a mut Bench,
+    pub list: &'a mut WalkList,
+    pub scene: &'a SoundScene,
+    pub view: &'a View<'a>,
+}
+
+impl<'a> Visitor for ViewLister<'a> {
+    ghost use Rattle.std.specs.Prelude.{Ok, Err};
+    ghost use Rattle.frame_core.specs.Listers.{HasGathered, ListerValue, lister_value};
+    ghost use Rattle.frame_core.specs.Painters.{CanCountNext, counter_value};
+
+    ghost Start = { ListerValue };
+
+    ghost stands = { λ p start events. HasGathered start (lister_value
+        (counter_value p.view.now p.scene.now.scene p.bench.now p.bench.ghost_name)
+        p.list.now p.list.ghost_name) events (Ok tt) };
+
+    ghost stopped = { λ p start events stop. HasGathered start (lister_value
+        (counter_value p.view.now p.scene.now.scene p.bench.now p.bench.ghost_name)
+        p.list.now p.list.ghost_name) events (Err stop) };
+
+    ghost takes = { λ p event. CanCountNext
+        (counter_value p.view.now p.scene.now.scene p.bench.now p.bench.ghost_name) event };
+
+    type Stop = OverLimit;
+
+    fn leaf(&mut self, leaf: u16) -> Result<(), OverLimit> {
+        let sector = sector_of(self.scene, leaf);
+        let is_known = self.bench.entered.has(sector);
+        match self.bench.enter_leaf(self.scene, self.view, leaf) {
+            Ok(()) => {
+                let planes = self.bench.planes.count();
+                self.list.add_makers(PlaneMaker::Leaf(leaf), planes);
+                list_entered(self.scene, self.view, self.list, is_known, sector);
+                Ok(())
+            }
+            Err(fault) => Err(over_limit(fault)),
+        }
+    }
+
+    fn fragment(&mut self, seg: u16, first: u16, last: u16) -> Result<(), OverLimit> {
+        match self
+            .bench
+            .count_fragment(self.scene, self.view, seg, first, last)
+        {
+            Ok(()) => {
+                let planes = self.bench.planes.count();
+                self.list
+                    .add_fragment(ListedFragment { seg, first, last }, planes);
+                Ok(())
+            }
+            Err(fault) => Err(over_limit(fault)),
+        }
+    }
+}
+
+// Walks the level of the scene for a lister that no event was given.
+fn walk_lister(lister: &mut ViewLister<'_>) -> Result<(), OverLimit>
+    requires scene { CanCount lister.old.scene.now.scene }
+    requires takes { CanTake lister.old.view.now lister.old.scene.now.scene
+        lister.old.bench.now }
+    requires walked { HasWalkedNothing lister.old.view.now lister.old.scene.now.scene
+        lister.old.bench.now }
+    requires empty { lister.old.list.now ≡ nothing_listed }
+    ensures same_bench { lister.new.bench.ghost_name ≡ lister.old.bench.ghost_name }
+    ensures same_list { lister.new.list.ghost_name ≡ lister.old.list.ghost_name }
+    ensures walked { OnOk result (HasWalkedView lister.old.view.now
+        lister.old.scene.now.scene lister.new.bench.now) }
+    ensures listed { OnOk result (IsListedView lister.old.view.now
+        lister.old.scene.now.scene lister.new.list.now) }
+    ensures over { (bytes : ℕ → List ℕ) → IfErr result (λ over.
+        view_over lister.old.view.now (scene_of bytes lister.old.scene.now.scene)
+        (limits_in lister.old.bench.now) ≡ Some over) }
+    ensures limits { limits_in lister.new.bench.now ≡ limits_in lister.old.bench.now }
+{
+    let walked = WalkScene {
+        level: lister.scene.level(),
+        surfaces: lister.scene.surfaces(),
+        middles: lister.scene.middles(),
+    };
+    let view = lister.view;
+    let mut cover = Cover::new(view.shape().width);
+    walk(&walked, view, &mut cover, lister)
+}
+
+/// Lists the walls, planes and vissprites of a view, in a bench that was started for it.
+///
+/// Errors: the first count of the view that passes its limit. The list is not told then.
+pub(crate) fn list_walls(
+    scene: &SoundScene,
+    view: &View<'_>,
+    bench: &mut Bench,
+    list: &mut WalkList,
+) -> Result<(), OverLimit>
+    requires scene { CanCount scene.now.scene }
+    requires takes { CanTake view.now scene.now.scene bench.old }
+    requires walked { HasWalkedNothing view.now scene.now.scene bench.old }
+    requires empty { list.old ≡ nothing_listed }
+    ensures walked { OnOk result (HasWalkedView view.now scene.now.scene bench.new) }
+    ensures listed { OnOk result (IsListedView view.now scene.now.scene list.new) }
+    ensures over { (bytes : ℕ → List ℕ) → IfErr result (λ over.
+        view_over view.now (scene_of bytes scene.now.scene) (limits_in bench.old) ≡ Some over) }
+    ensures limits { limits_in bench.new ≡ limits_in bench.old }
+{
+    let mut lister = ViewLister {
+        bench,
+        list,
+        scene,
+        view,
+    };
+    walk_lister(&mut lister)
+}

@@ -1,0 +1,119 @@
+"""doomview why-limit: why a view has as many planes as it has."""
+import os
+import tempfile
+
+from .. import cli, levels, lists, paths, program, traces
+from ..counting import LIMITS, RAISED
+from ..explanations import explained
+from ..files import write_whole
+from ..levels import EYE_HEIGHT, TURN, UNIT
+from ..reasons import reasons
+from ..trouble import TROUBLE, Ended, Trouble
+
+OVER = 1
+USAGE = 1  # a status of the program
+WITHOUT = ('--path', '--planes', '--openings', '--weapon')  # options of list that the tool gives itself, or not
+FARTHEST = 32767  # map units
+PAGE = cli.Page(
+    'why-limit', 'why a view has so many planes: by flat, height and light, and the lines that split them', '''
+Says of each view how many planes, openings, fragments and sprites it has, and where its planes come from.
+
+A plane is made where a leaf needs a floor or ceiling of a height, flat and light that the view has not yet; floors and
+ceilings that are the same in all three share one. It is split, a plane more, where a wall finds that its columns are
+taken in it already. So the first table has a line for each height, flat and light: how many planes share it, how many
+of them are splits, in how many columns they have rows together, and the sectors of the map that have it, first those
+that made one here. The second has the lines whose fragments split them. Fragments past the 256th and sprites past the
+128th are counted.
+
+A view is X,Y,ANGLE: map units, and degrees from east to the left, as in a map editor; the eye is 41 over the floor. Or
+it is a row of a camera path, X,Y,Z,ANGLE, as limits-map and its page have it. With --path it is the number of a view,
+and without any all views of the path are told of.
+''', '''
+$ doomview why-limit freedoom2.wad MAP12 -2104,-1431.5,45
+$ doomview why-limit freedoom2.wad MAP12 -137887744,-93814784,-3604480,536870912
+$ doomview limits-map freedoom2.wad MAP12 --worst worst.csv
+$ doomview why-limit freedoom2.wad MAP12 --path worst.csv 0 5
+''', 'the program', '''
+ 0  no view is over a limit
+ 1  some are
+ 2  the map is refused, or the words cannot do; sentences say why
+ other statuses are those of doomview list
+''')
+
+
+def add_words(parser):
+    cli.add_level(parser)
+    parser.add_argument('views', metavar='VIEW', nargs='*', help='X,Y,ANGLE, or X,Y,Z,ANGLE as in a camera path; with '
+                        '--path its number there, from 0')
+    parser.add_argument('--path', metavar='FILE', help='a camera path')
+    parser.add_argument('--all', action='store_true', help='shows all lines of a table, and not the first 20')
+    cli.add_job_options(parser, 'list', WITHOUT)
+
+
+def row_of(text, level):
+    """The row of a view that a word names."""
+    words = text.split(',')
+    try:
+        if len(words) in (len(paths.HEADER), len(paths.HEADER + paths.LIGHT)):
+            row = paths.Row(*map(int, words))
+            if any(not -FARTHEST * UNIT <= place <= FARTHEST * UNIT for place in row[:3]) or not 0 <= row.angle < TURN:
+                raise ValueError
+            return row
+        x, y, angle = map(float, words)
+        if not max(abs(x), abs(y)) <= FARTHEST or not abs(angle) < TURN:
+            raise ValueError
+    except ValueError:
+        raise Trouble(f'{text.strip()} is no view: X,Y,ANGLE in map units and degrees, or X,Y,Z,ANGLE as in a camera '
+                      'path')
+    z = (level.floor_at(x, y) + EYE_HEIGHT) * UNIT
+    return paths.Row(round(x * UNIT), round(y * UNIT), z, round(angle * TURN / 360) % TURN)
+
+
+def rows_of(options, level):
+    """The views that the words name: pairs of a number and a row."""
+    if not options.path:
+        if not options.views:
+            raise Trouble('name a view, as in 512,192,90, or a camera path by --path FILE')
+        return [(number, row_of(text, level)) for number, text in enumerate(options.views)]
+    rows = paths.rows(options.path)
+    for text in options.views:
+        if not text.isdecimal() or int(text) >= len(rows):
+            raise Trouble(f'{options.path} has {len(rows)} views, counted from 0, and none of number {text.strip()}')
+    return [(number, rows[number]) for number in (map(int, options.views) if options.views else range(len(rows)))]
+
+
+def listed(options, files, rows, folder):
+    """What `list` writes of rows, with raised limits."""
+    path, output = os.path.join(folder, 'path.csv'), os.path.join(folder, 'list.txt')
+    write_whole(path, paths.text(rows).encode())
+    words = ['list', options.map, *files, *RAISED, *cli.job_words(options), '--path', path]
+    with open(output, 'wb') as out:
+        done = program.run(words, out)
+    if done.status:
+        trouble = explained(words, done)
+        raise Ended(TROUBLE if trouble.status == USAGE else trouble.status)
+    return lists.ListFile(output)
+
+
+def counts_of(view):
+    """The counts of a view by name; of one over even a raised limit that count alone."""
+    if view.over:
+        return dict([view.over])
+    sums = view.sums
+    return {'planes': sums.planes, 'openings': sums.openings, 'fragments': sums.all_fragments,
+            'sprites': sums.all_sprites}
+
+
+def run(options):
+    files = cli.wads_of(options)
+    level = levels.read(files, options.map)
+    rows = rows_of(options, level)
+    with tempfile.TemporaryDirectory(prefix='doomview-') as folder:
+        found = listed(options, files, [row for _, row in rows], folder)
+        places = lists.Places(level, traces.Names(files), 'what doomview list wrote')
+        is_bad = False
+        for place, (number, row) in enumerate(rows):
+            view = found.view(place)
+            print('\n'.join(([''] if place else []) + list(reasons(number, row, view, places, options.all))))
+            is_bad |= any(count > LIMITS[name] for name, count in counts_of(view).items())
+    return OVER if is_bad else 0

@@ -1,0 +1,359 @@
+"""Lists: what the views of a path are made of, item by item (docs/FORMATS.md, "Lines"), and where that is in a map.
+
+`ListFile(path)` reads what `doomview list` wrote; `view(number)` has the fragments, planes and sprites of a view by the
+numbers of a trace. `Places` says of an item which line, sector or thing of the map it is."""
+import collections
+import functools
+import re
+
+from . import levels, wads
+from .files import check_source
+from .levels import UNIT
+from .traces import COMPOSITE, Painter
+from .trouble import Trouble
+
+LONGEST = 400  # bytes of a line
+SHOWN_SECTORS = 6
+FRONT_AND_BACK = ('front', 'back')
+TWO_SIDED = 4  # the flag of a line
+SKY = 'F_SKY1'
+WALL, PLANE, SKY_PLANE, MIDDLE, SPRITE = range(1, 6)  # kinds of painters
+
+Fragment = collections.namedtuple('Fragment', 'seg first last')
+# `flat` is a lump, or None for sky; `maker` is leaf or fragment, and `number` that of it.
+Plane = collections.namedtuple('Plane', 'height flat light maker number columns')
+Sprite = collections.namedtuple('Sprite', 'thing lump first last')
+Sums = collections.namedtuple('Sums', 'fragments all_fragments planes openings sprites all_sprites')
+View = collections.namedtuple('View', 'fragments planes sprites sums over')  # `over`: (name, count), and all else empty
+Key = collections.namedtuple('Key', 'height flat light')  # of a plane: in map units, and the name of a flat
+Group = collections.namedtuple('Group', 'key sides sectors')  # of planes: floor, ceiling or sky, and who has such
+Placed = collections.namedtuple('Placed', 'where what by more')
+
+# The name of the group that a line has is the kind of the line.
+LINE = re.compile(r'view (\d+) (?:'
+                  r'(?P<fragment>fragment (\d+) seg (\d+) first (\d+) last (\d+))|'
+                  r'(?P<plane>plane (\d+) height (-?\d+) flat (\d+|sky) light (-?\d+) (leaf|fragment) (\d+) '
+                  r'columns (\d+))|'
+                  r'(?P<sprite>sprite (\d+) thing (\d+) lump (\d+) first (-?\d+) last (-?\d+))|'
+                  r'(?P<sums>fragments (\d+) of (\d+) planes (\d+) openings (\d+) sprites (\d+) of (\d+))|'
+                  r'(?P<over>over (planes|openings) (\d+)))\n')
+ITEMS = ['fragment', 'plane', 'sprite']  # in the order of their lines
+
+
+def item(kind, values):
+    """A fragment, a plane or a sprite by the words of its line."""
+    if kind == 'plane':
+        height, flat, light, maker, number, columns = values
+        return Plane(int(height), None if flat == 'sky' else int(flat), int(light), maker, int(number), int(columns))
+    return (Fragment if kind == 'fragment' else Sprite)(*map(int, values))
+
+
+class ListFile:
+    """A file that `doomview list` wrote, which is read and checked to its end; views are read where they are asked."""
+
+    def __init__(self, path):
+        check_source(path)
+        self.path, self.line, self.places = path, 0, []
+        with open(path, 'rb') as file:
+            while True:
+                place = file.tell(), self.line
+                if self.read_view(file, len(self.places)) is None:
+                    break
+                self.places.append(place)
+
+    @property
+    def count(self):
+        return len(self.places)
+
+    def view(self, number):
+        """What a view is made of."""
+        with open(self.path, 'rb') as file:
+            place, self.line = self.places[number]
+            file.seek(place)
+            return self.read_view(file, number)
+
+    def wrong(self, what):
+        return Trouble(f'{self.path}, line {self.line}: {what}; name the whole of what doomview list wrote')
+
+    def read_view(self, file, number):
+        """The view of a number, which is the next of a file; None at the end of the file."""
+        items = {kind: [] for kind in ITEMS}
+        while True:
+            text = file.readline(LONGEST)
+            if not text and not any(items.values()):
+                return None
+            self.line += 1
+            found = LINE.fullmatch(text.decode('latin-1'))
+            if not found:
+                raise self.wrong('the file ends within a view' if not text else 'this is no line of a list')
+            if int(found[1]) != number:
+                raise self.wrong(f'the line of view {number} that has its sums is missing' if any(items.values())
+                                 else f'view {found[1]} stands where view {number} should')
+            kind, values = found.lastgroup, [it for it in found.groups() if it is not None][2:]
+            if kind not in ITEMS:
+                return self.whole_view(number, items, kind, values)
+            self.check_order(items, kind, int(values[0]))
+            items[kind].append(item(kind, values[1:]))
+            made = items[kind][-1]
+            if kind == 'plane' and made.maker == 'fragment' and made.number >= len(items['fragment']):
+                raise self.wrong(f'view {number} has no fragment {made.number}')
+
+    def check_order(self, items, kind, number):
+        """A Trouble where an item is not the next of its kind, or stands behind items that come after it."""
+        if number != len(items[kind]) or any(items[later] for later in ITEMS[ITEMS.index(kind) + 1:]):
+            raise self.wrong(f'{kind} {number} stands where {kind} {len(items[kind])} or a later item should')
+
+    def whole_view(self, number, items, kind, values):
+        """A view by its last line."""
+        lists = [items[it] for it in ITEMS]
+        if kind == 'over':
+            if any(lists):
+                raise self.wrong(f'view {number} has items, and passes a limit')
+            return View([], [], [], None, (values[0], int(values[1])))
+        sums = Sums(*map(int, values))
+        if [len(it) for it in lists] != [sums.fragments, sums.planes, sums.sprites]:
+            raise self.wrong(f'the sums of view {number} are not those of its lines')
+        return View(*lists, sums, None)
+
+
+def shortened(words, shown):
+    """Words in a row, of which some are shown at most."""
+    more = f' and {len(words) - shown} more' if len(words) > shown else ''
+    return ', '.join(map(str, words[:shown])) + more
+
+
+def sectors_told(sectors):
+    return ('sector ' if len(sectors) == 1 else 'sectors ') + shortened(sectors, SHOWN_SECTORS)
+
+
+class Places:
+    """Says of the items of a list what a map editor shows, by the map and the names of its WADs."""
+
+    def __init__(self, level, names, path):
+        self.level, self.names, self.path, self.known = level, names, path, (None, {})
+        self.having = {'floor': collections.defaultdict(list), 'ceiling': collections.defaultdict(list)}
+        for number in range(len(level.sectors)):
+            for side, key in self.keys_of(number).items():
+                self.having[side][key].append(number)
+
+    def keys_of(self, sector):
+        """The planes of a sector: of its floor and of its ceiling."""
+        it = self.level.sectors[sector]
+        pairs = {'floor': (it.floor, it.floor_flat), 'ceiling': (it.ceiling, it.ceiling_flat)}
+        return {side: Key(0, SKY, 0) if flat == SKY else Key(height, flat, it.light)
+                for side, (height, flat) in pairs.items()}
+
+    def other(self, what):
+        """The Trouble of a list that is not of this map, or not of the trace."""
+        return Trouble(f'{self.path} does not fit: {what}; name the list, the trace, the WADs and the map of the same '
+                       'words')
+
+    @functools.cached_property
+    def leaf_of_seg(self):
+        return {seg: number for number, leaf in enumerate(self.level.leaves)
+                for seg in range(leaf.first, leaf.first + leaf.count)}
+
+    def seg(self, number):
+        """A seg, and the number of its side."""
+        try:
+            seg = self.level.segs[number]
+            return seg, self.level.lines[seg.line][5 + seg.side]
+        except IndexError:
+            raise self.other(f'{self.level.name} has no seg {number}')
+
+    def line_of(self, fragment):
+        """The line of a fragment, and which of its sides, in words."""
+        seg, _ = self.seg(fragment.seg)
+        return f'line {seg.line}, {FRONT_AND_BACK[seg.side]} side'
+
+    def sector_of_leaf(self, leaf):
+        try:
+            sector = self.level.sector_of_leaf(leaf)
+            return self.level.sectors[sector] and sector
+        except (IndexError, TypeError):
+            raise self.other(f'{self.level.name} has no leaf {leaf}')
+
+    def sector_of_fragment(self, fragment):
+        """The sector in front of a fragment: that of its leaf."""
+        if fragment.seg not in self.leaf_of_seg:
+            raise self.other(f'{self.level.name} has no leaf with seg {fragment.seg}')
+        return self.sector_of_leaf(self.leaf_of_seg[fragment.seg])
+
+    def maker_of(self, view, plane):
+        """The sector that made a plane, and how, in words."""
+        if plane.maker == 'leaf':
+            sector = self.sector_of_leaf(plane.number)
+            return sector, f'made by leaf {plane.number} of sector {sector}'
+        fragment = view.fragments[plane.number]
+        seg, _ = self.seg(fragment.seg)
+        return self.sector_of_fragment(fragment), f'split by fragment {plane.number} of line {seg.line}'
+
+    def key_of(self, plane):
+        """The height, flat and light of a plane."""
+        if plane.flat is None:
+            return Key(0, SKY, 0)
+        if plane.flat >= len(self.names.lumps):
+            raise self.other(f'the WADs have no lump {plane.flat}')
+        return Key(plane.height / UNIT, self.names.lumps[plane.flat], plane.light)
+
+    def sides_of(self, view):
+        """Of each plane's key whether it is a floor's or a ceiling's, or both in words where nothing tells.
+
+        The list does not say it. The sector that made a plane does, unless its floor and ceiling are the same, as of a
+        door that is shut; then another plane of the view may, since floors are below the eye and ceilings above it."""
+        if self.known[0] is not view:
+            found = collections.defaultdict(set)
+            for plane in view.planes:
+                key, sector = self.key_of(plane), self.maker_of(view, plane)[0]
+                sides = {side for side, own in self.keys_of(sector).items() if own == key}
+                if not sides:
+                    raise self.other(f'sector {sector} has no floor or ceiling with flat {key.flat} at {key.height:g}')
+                found[key] = found[key] & sides or sides
+            self.known = view, self.told_apart(found)
+        return self.known[1]
+
+    def told_apart(self, found):
+        """The sides of keys, which are more than one of some, in words."""
+        plain = {key: sides for key, sides in found.items() if key.flat != SKY}
+        floors = [key.height for key, sides in plain.items() if sides == {'floor'}]
+        ceilings = [key.height for key, sides in plain.items() if sides == {'ceiling'}]
+        words = {}
+        for key, sides in found.items():
+            if key.flat == SKY:
+                words[key] = 'sky'
+            elif len(sides) == 1:
+                words[key], = sides
+            elif floors and key.height <= max(floors):
+                words[key] = 'floor'
+            elif ceilings and key.height >= min(ceilings):
+                words[key] = 'ceiling'
+            else:
+                words[key] = 'floor or ceiling'
+        return words
+
+    def group(self, view, plane):
+        """What a plane is, with all the sectors that have such a floor or ceiling."""
+        key = self.key_of(plane)
+        sides = self.sides_of(view)[key]
+        having = [side for side in self.having if side in sides or sides == 'sky']
+        return Group(key, sides, sorted({number for side in having for number in self.having[side][key]}))
+
+    def parts(self, fragment, kind):
+        """The parts of a wall that a fragment may show: pairs of the part and the name of its texture."""
+        seg, number = self.seg(fragment.seg)
+        line = self.level.lines[seg.line]
+        try:
+            side = self.level.sides[number]
+            behind = line[6 - seg.side]
+            if kind == MIDDLE or not line.flags & TWO_SIDED or behind is None:
+                return [('middle', side.middle)]
+            front = self.level.sectors[self.sector_of_fragment(fragment)]
+            back = self.level.sectors[self.level.sides[behind].sector]
+        except (IndexError, TypeError):
+            raise self.other(f'line {seg.line} of {self.level.name} has no such side')
+        has_upper = back.ceiling < front.ceiling and not front.ceiling_flat == back.ceiling_flat == SKY
+        return [('upper', side.upper)] * has_upper + [('lower', side.lower)] * (back.floor > front.floor)
+
+    def wall(self, view, painter, number):
+        fragment = self.item(view.fragments, 'fragment', number)
+        source = self.names.source(painter)
+        textures = [source] if painter.source_kind == COMPOSITE else self.names.textures_of(painter)
+        parts = [(part, name) for part, name in self.parts(fragment, painter.kind) if name in textures]
+        where = self.line_of(fragment)
+        if not parts:
+            raise self.other(f'{where} has no part with {source}, which the trace has of fragment {number}')
+        if len({name for _, name in parts}) == 1:
+            parts = [(' or '.join(part for part, _ in parts), parts[0][1])]
+        what = ' or '.join(f'{part} texture {name}' for part, name in parts)
+        is_patch = painter.source_kind != COMPOSITE and (len(parts) > 1 or source != parts[0][1])
+        return Placed(where, what, f'fragment {number}, seg {fragment.seg}', f'patch {source}' if is_patch else '')
+
+    def plane(self, view, painter, number):
+        plane = self.item(view.planes, 'plane', number)
+        if (plane.flat is None) != (painter.kind == SKY_PLANE) or plane.flat not in (None, painter.source):
+            raise self.other(f'plane {number} has another flat in the trace')
+        key, sides, sectors = self.group(view, plane)
+        by = f'plane {number}, {self.maker_of(view, plane)[1]}'
+        if plane.flat is None:
+            known = self.names.known(painter)
+            return Placed(f'sky of {sectors_told(sectors)}', f'{known.word} {known.name}', by, known.more)
+        return Placed(f'{sides} of {sectors_told(sectors)} at height {key.height:g}',
+                      f'flat {key.flat}, light {key.light}', by, '')
+
+    def sprite(self, view, painter, number):
+        sprite = self.item(view.sprites, 'sprite', number)
+        if sprite.lump != painter.source:
+            raise self.other(f'sprite {number} has another picture in the trace')
+        if sprite.thing >= len(self.level.things):
+            raise self.other(f'{self.level.name} has no thing {sprite.thing}')
+        thing = self.level.things[sprite.thing]
+        return Placed(f'thing {sprite.thing} of type {thing.type} at {thing.x},{thing.y}',
+                      f'lump {self.names.source(painter)}', f'sprite {number}', '')
+
+    def item(self, items, word, number):
+        if number >= len(items):
+            raise self.other(f'the trace has {word} {number}, and the list has {len(items)} of them in the view')
+        return items[number]
+
+    def placed(self, view, painter, number):
+        """Where in the map an item of a view is, by its painter and its number; None of what is nowhere in it."""
+        kinds = {WALL: self.wall, MIDDLE: self.wall, PLANE: self.plane, SKY_PLANE: self.plane, SPRITE: self.sprite}
+        return kinds[painter.kind](view, painter, number) if painter.kind in kinds else None
+
+    def place(self, view, painter, number):
+        """The same in words, without what counts in the view alone; an empty text of what is nowhere."""
+        placed = self.placed(view, painter, number)
+        return f'{placed.where}, {placed.what}' if placed else ''
+
+    def told(self, view, record, word):
+        """A record of a trace in words, or None of what is nowhere in the map."""
+        kind, source_kind, number, source, colour, _ = record
+        placed = self.placed(view, Painter(kind, source_kind, source), number)
+        if placed is None:
+            return None
+        head = placed.where if placed.where.startswith(word) else f'{word}, {placed.where}'
+        more = f', {placed.more}' if placed.more else ''
+        return f'{head}, {placed.what} ({placed.by}){more}, colour {colour}'
+
+
+class Placing:
+    """The list of a trace, with the map that it is of."""
+
+    def __init__(self, path, count, files, name, names, trace):
+        self.list = ListFile(path)
+        if self.list.count != count:
+            raise Trouble(f'{path} is the list of {self.list.count} views, and {trace} the trace of {count}; name '
+                          'those of the same words')
+        self.places = Places(levels.read(files, name or only_map(files)), names, path)
+
+    def view(self, number):
+        """What a view is made of; of a view over a limit a trace has nothing, and so it is never asked for."""
+        return self.list.view(number)
+
+
+def only_map(files):
+    """The name of the map of some WADs that have one alone."""
+    found = wads.map_labels([lump for file in files for lump in wads.read(file)])
+    if len(found) != 1:
+        raise Trouble(f'the WADs have {len(found)} maps; name that of the list by --map NAME')
+    return next(iter(found))
+
+
+def add_words(parser):
+    """The words of a tool that takes a list."""
+    parser.add_argument('--list', metavar='FILE', help='what doomview list wrote for the same words: names lines, '
+                        'sectors and things too; needs the WADs')
+    parser.add_argument('--map', metavar='NAME', help='the map of the list, where the WADs have more than one')
+
+
+def placing_of(options, files, count, names):
+    """The list that the words of a tool name, or None; its trace has a number of views."""
+    if not options.list:
+        if options.map:
+            raise Trouble('--map is the map of a list; name that by --list FILE')
+        return None
+    if not options.trace:
+        raise Trouble('--list needs the trace of the same words; name it by --trace FILE')
+    if not files:
+        raise Trouble('--list needs the WADs of the run too, in their order')
+    return Placing(options.list, count, files, options.map, names, options.trace)
