@@ -6,12 +6,14 @@ pub mod DeliverLemmas
 pub mod DrawnLemmas
 pub mod EndLemmas
 pub mod ExerciseLemmas
+pub mod FirstLemmas
 pub mod FitLemmas
 pub mod FrameLemmas
 pub mod FullLemmas
 pub mod LayerLemmas
 pub mod LeastLemmas
 pub mod LimitLemmas
+pub mod ListLemmas
 pub mod MadeLemmas
 pub mod OverlayLemmas
 pub mod PerformLemmas

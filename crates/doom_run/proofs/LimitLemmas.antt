@@ -1,10 +1,7 @@
 -- The lines of the views of a path, one after the other.
-use Rattle.std.proofs.Common.{◌≡◌, ◌≤◌, ℕ, zero, suc, ◌+◌, ◌-◌, List, [], ◌∷◌, ◌++◌, length, Some, None, Result, Ok, refl, subst, ap, sym, ◌∙◌, arith, append_assoc, append-nil}
+use Rattle.std.proofs.Common.{◌≡◌, ◌≤◌, ℕ, ◌+◌, List, length, Some, None, Result, Ok, refl, subst, ap, sym, ◌∙◌}
 use Rattle.std.specs.Prelude.{slice_get}
 use Rattle.outside.specs.Sink.{Grew, GrewByPrefix, Writes}
-use Rattle.outside.proofs.WriteLemmas.{prefix_of_more, writes_none, writes_then}
-use Rattle.word_rules.specs.Listed.{listed, joined_lists}
-use Rattle.word_rules.proofs.ListedLemmas.{joined_lists-append, joined_lists-cons, listed-more}
 use Rattle.view_rules.specs.declared.Eye.{Eye}
 use Rattle.view_rules.specs.View.{view_of}
 use Rattle.picture_rules.specs.declared.Limits.{Limits}
@@ -18,37 +15,16 @@ use Rattle.doom_run.specs.declared.render.ReadyViews.{ReadyViews}
 use Rattle.doom_run.specs.Renders.{ready_views}
 use Rattle.doom_run.specs.Layers.{SeenView, layers_of, seen_view}
 use Rattle.doom_run.specs.Views.{ViewsValue, counted_bytes, counts_line, first_lines, view_line_at, over_line, view_line}
+use Rattle.doom_run.proofs.FirstLemmas.{all_first, more_first, none_first, prefix_first}
 use Rattle.doom_run.proofs.SeenLemmas.{seen_from-length}
 
--- before the first view there is no line
-pub lines_none : (r : ViewsValue) → [] ≡ first_lines r 0
-unfolding first_lines listed joined_lists
-lines_none r = refl
-
--- one view more has its line more
-pub lines_more : (r : ViewsValue) (n : ℕ) → first_lines r n ++ view_line_at r n (slice_get r.views n) ≡ first_lines r (n + 1)
-unfolding first_lines joined_lists
-lines_more r n =
-    let f : ℕ → List ℕ = λ k. view_line_at r k (slice_get r.views k) in
-    ap (λ (xs : List ℕ). joined_lists f (listed (λ k. k) n) ++ xs) (sym (append-nil (f n)) ∙ sym (joined_lists-cons f n []))
-    ∙ sym (joined_lists-append f (listed (λ k. k) n) (n ∷ []))
-    ∙ ap (joined_lists f) (sym (listed-more (λ k. k) n))
-
--- the lines of some views begin those of more
-pub lines_begin : (r : ViewsValue) (n m : ℕ) → (rest : List ℕ) × (first_lines r n ++ rest ≡ first_lines r (n + m))
-lines_begin r n zero = let e : n ≡ n + zero = omega arith in ([], append-nil (first_lines r n) ∙ ap (first_lines r) e)
-lines_begin r n (suc m) =
-    let p : (rest : List ℕ) × (first_lines r n ++ rest ≡ first_lines r (n + m)) = lines_begin r n m in
-    let line : List ℕ = view_line_at r (n + m) (slice_get r.views (n + m)) in
-    let e : n + m + 1 ≡ n + suc m = omega arith in
-    (p.0 ++ line, sym (append_assoc (first_lines r n) p.0 line) ∙ ap (λ (xs : List ℕ). xs ++ line) p.1 ∙ lines_more r (n + m) ∙ ap (first_lines r) e)
+abbrev lines : ViewsValue → ℕ → List ℕ
+lines r k = view_line_at r k (slice_get r.views k)
 
 -- a prefix of the first lines is one of all lines
 pub prefix_of_lines : {a b : List ℕ → Type 0} (r : ViewsValue) (n : ℕ) → n ≤ length r.views → GrewByPrefix a b (first_lines r n) → GrewByPrefix a b (counted_bytes r)
-prefix_of_lines r n le grew =
-    let p : (rest : List ℕ) × (first_lines r n ++ rest ≡ first_lines r (n + (length r.views - n))) = lines_begin r n (length r.views - n) in
-    let e : n + (length r.views - n) ≡ length r.views = omega arith in
-    prefix_of_more p.0 (counted_bytes r) grew (p.1 ∙ ap (first_lines r) e)
+unfolding first_lines
+prefix_of_lines r n le grew = prefix_first (lines r) n (length r.views) le grew
 
 -- the same bytes, told otherwise
 pub same_bytes : {E : Type 0} {a b : List ℕ → Type 0} {i j : ℕ} {xs ys : List ℕ} {result : Result (Unit {0}) E} → xs ≡ ys → Writes a b i j xs result → Writes a b i j ys result
@@ -59,21 +35,21 @@ same_lines {a} {b} r m e grew = subst (λ (k : ℕ). Grew a b (first_lines r k))
 
 -- nothing was written of no line
 pub none_written : {E : Type 0} (r : ViewsValue) (a : List ℕ → Type 0) (i : ℕ) → Writes {E = E} a a i i (first_lines r 0) (Ok tt)
-none_written {E} r a i = subst (λ (xs : List ℕ). Writes {E = E} a a i i xs (Ok tt)) (lines_none r) (writes_none a i)
+unfolding first_lines
+none_written r a i = none_first (lines r) a i
 
 -- the first lines were written, and then that of the next view
 pub more_written : {E F : Type 0} {a b c : List ℕ → Type 0} {i j k : ℕ} {last : Result (Unit {0}) F} (r now : ViewsValue) (n : ℕ) → now ≡ r →
     Writes {E = E} a b i j (first_lines r n) (Ok tt) → Writes b c j k (view_line_at now n (slice_get now.views n)) last → Writes a c i k (first_lines r (n + 1)) last
-more_written {E} {F} {a} {b} {c} {i} {j} {k} {last} r now n e first next =
-    let then_ : Writes b c j k (view_line_at r n (slice_get r.views n)) last = subst (λ (v : ViewsValue). Writes b c j k (view_line_at v n (slice_get v.views n)) last) e next in
-    writes_then (first_lines r (n + 1)) first tt refl then_ (lines_more r n)
+unfolding first_lines
+more_written r now n e first next = more_first lines r now n e first next
 
 -- and all of it was
 pub all_written : {E F : Type 0} {a b c : List ℕ → Type 0} {i j k : ℕ} {last : Result (Unit {0}) F} (r now : ViewsValue) (n : ℕ) → now ≡ r →
     Writes {E = E} a b i j (first_lines r n) (Ok tt) → Writes b c j k (view_line_at now n (slice_get now.views n)) last → (unit : Unit {0}) → last ≡ Ok unit →
     Writes {E = F} a c i k (first_lines r (n + 1)) (Ok tt)
-all_written {E} {F} {a} {c} {i} {k} {last} r now n e first next unit was =
-    subst (λ (v : Result (Unit {0}) F). Writes a c i k (first_lines r (n + 1)) v) was (more_written {E = E} {F = F} r now n e first next)
+unfolding first_lines
+all_written r now n e first next unit was = all_first lines r now n e first next unit was
 
 -- a view of a number by its viewpoint
 abbrev pub seen_by : LoadedValue → ℕ → Eye → SeenView

@@ -11,6 +11,7 @@ ghost use Rattle.doom_run.specs.Performs.{Delivers, Performs};
 use crate::audit::perform_audit;
 use crate::canvas::ViewForm;
 use crate::limits::perform_limits;
+use crate::list::perform_list;
 use crate::render::perform_views;
 use crate::trim::perform_trim;
 use job_files::Status;
@@ -61,6 +62,7 @@ fn perform_task<S: Shelf, K: Sink>(
         LevelTask::Trace => perform_views(alloc, ViewForm::Trace, level, loaded, shelf, out),
         LevelTask::Audit => perform_audit(&loaded, out),
         LevelTask::Limits => perform_limits(alloc, level, loaded, out),
+        LevelTask::List => perform_list(alloc, level, loaded, out),
         LevelTask::Trim => perform_trim(alloc, level, loaded, shelf, out),
     }
 }

@@ -11,11 +11,11 @@
 //! says of a run), Ends (what was written by then), Fulls (when a zone is full), Leasts (the
 //! smallest zone in which a run ends), Takes (how many bytes are read), Words (what the words ask
 //! for), Steps (where a run stops), Views (the frames and the counts of a path, and the first view
-//! over a limit), Layers (weapons), Exercises (the made files, rendered), Trims (the parts of a
-//! trimmed file), Alike (what a trimmed file is for). Proved: what `run` writes, each status and
-//! its cause, the line for each status, and that a trimmed file renders as its WADs do. Tested
-//! only: that memory is found. The original: none; `D_DoomMain`, d_main.c, stands in its place
-//! there.
+//! over a limit), Lists (what each view is made of, item by item), Layers (weapons), Exercises (the
+//! made files, rendered), Trims (the parts of a trimmed file), Alike (what a trimmed file is for).
+//! Proved: what `run` writes, each status and its cause, the line for each status, and that a
+//! trimmed file renders as its WADs do. Tested only: that memory is found. The original: none;
+//! `D_DoomMain`, d_main.c, stands in its place there.
 #![tactic(auto)]
 
 mod audit;
@@ -24,6 +24,7 @@ mod exercise;
 mod layers;
 mod level;
 mod limits;
+mod list;
 mod render;
 mod top;
 mod trim;

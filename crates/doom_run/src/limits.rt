@@ -39,7 +39,7 @@ fn put_counts<K: Sink>(out: &mut K, view: u64, counts: &Counts) -> Result<(), Fa
 }
 
 // Appends the line of a view that is over a limit.
-fn put_over<K: Sink>(out: &mut K, view: u64, over: &OverLimit) -> Result<(), Failed>
+pub(crate) fn put_over<K: Sink>(out: &mut K, view: u64, over: &OverLimit) -> Result<(), Failed>
     ensures { Writes (K.written out.old) (K.written out.new) (K.faults out.old)
         (K.faults out.new) (over_line view over.now) result }
 {

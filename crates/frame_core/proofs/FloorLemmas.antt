@@ -1,5 +1,5 @@
 -- Laws of the planes of a view: what drawing them asks is there, and what it paints is the view's.
-use Rattle.std.proofs.Common.{◌≡◌, inl, inr, ℕ, ◌<◌, ◌||◌, ◌==◌, Bool, true, false, cond, List, [], length, get_or, Option, Some, None, Result, Ok, Err, IsErrAnd, eq-eqb, refl, sym, ap, subst, ◌∙◌, arith}
+use Rattle.std.proofs.Common.{◌≡◌, inl, inr, ℕ, ◌<◌, ◌||◌, ◌==◌, Bool, true, false, List, [], length, get_or, Option, Some, None, Result, Ok, Err, IsErrAnd, eq-eqb, refl, sym, ap, subst, ◌∙◌, arith}
 use Rattle.std.specs.Prelude.{All, IfSome, IsSome, OnOk, option_map, unwrap_or}
 use Rattle.std.specs.List.{list_any}
 use Rattle.std.proofs.lemmas.List.Elements.{All-contains}
@@ -21,7 +21,6 @@ use Rattle.level_rules.specs.Levels.{no_surface, surface_at}
 use Rattle.level_rules.specs.walk.Events.{Event}
 use Rattle.level_rules.specs.walk.Walk.{view_events}
 use Rattle.art_rules.specs.Books.{book_lumps}
-use Rattle.art_rules.specs.Textures.{Texture, texture_number}
 use Rattle.pixel_rules.specs.declared.Painter.{Painter}
 use Rattle.pixel_rules.specs.Dots.{Dot}
 use Rattle.pixel_strips.specs.Canvases.{CanvasView}
@@ -33,9 +32,7 @@ use Rattle.picture_rules.specs.plane.Planes.{Plane}
 use Rattle.scene_rules.specs.declared.SectorFlats.{SectorFlats}
 use Rattle.scene_rules.specs.Scenes.{SceneValue}
 use Rattle.scene_rules.specs.SectorFlats.{flat_number, surface_of}
-use Rattle.scene_rules.specs.Sides.{found_sky, sky_texture}
 use Rattle.scene_rules.specs.Sizes.{has_flat}
-use Rattle.scene_rules.specs.Skies.{has_sky, sky_name}
 use Rattle.picture_rules.specs.declared.Limits.{Limits}
 use Rattle.picture_rules.specs.Counts.{view_steps}
 use Rattle.picture_rules.specs.Planes.{planes_dots, view_planes}

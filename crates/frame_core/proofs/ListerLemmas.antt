@@ -1,5 +1,5 @@
 -- Laws of a lister: an event that it was given after others, and a whole walk.
-use Rattle.std.proofs.Common.{◌≡◌, ℕ, List, [], ◌∷◌, ◌++◌, length, Result, Ok, Err, OnOk, refl, sym, ap, subst, ◌∙◌}
+use Rattle.std.proofs.Common.{◌≡◌, ℕ, List, [], ◌∷◌, ◌++◌, length, Result, Ok, Err, refl, sym, ap, subst, ◌∙◌}
 use Rattle.view_rules.specs.View.{ViewValue}
 use Rattle.level_rules.specs.Levels.{LevelLists}
 use Rattle.level_rules.specs.walk.Events.{Event}
@@ -18,9 +18,9 @@ use Rattle.node_walk.specs.Visits.{Visits}
 use Rattle.frame_core.specs.declared.bench.Bench.{Bench}
 use Rattle.frame_core.specs.Scenes.{lists_of, scene_of}
 use Rattle.frame_core.specs.Walked.{HasWalked}
-use Rattle.frame_core.specs.Painters.{CanCountNext, CounterValue, HasCounted, HasWalkedView, limits_in}
+use Rattle.frame_core.specs.Painters.{CanCountNext, CounterValue, HasWalkedView, limits_in}
 use Rattle.frame_core.specs.ViewLists.{HasListed, WalkListValue, listed_planes, listed_sprites, nothing_listed}
-use Rattle.frame_core.specs.Listers.{HasGathered, IsListed, IsListedView, ListerValue, lister_value}
+use Rattle.frame_core.specs.Listers.{HasGathered, IsListedView, ListerValue, lister_value}
 use Rattle.frame_core.proofs.CounterLemmas.{CounterVisits, counted_none, stopped_all}
 use Rattle.frame_core.proofs.ViewListLemmas.{listed-none, planes-walked}
 

@@ -1,11 +1,11 @@
 -- Laws of the things of a sector as their vissprites are listed, and of the planes of a view with their makers.
-use Rattle.std.proofs.Common.{◌≡◌, ℕ, zero, suc, ◌+◌, ◌<◌, ◌≤◌, Bool, true, false, cond, ℤ, pos, ◌≤ℤ◌, ◌<ℤ◌, List, [], ◌∷◌, ◌++◌, length, map, get_or, drop, take, Option, Some, None, refl, sym, ap, ◌∙◌, subst, arith}
-use Rattle.std.specs.Prelude.{count_by, int_le, int_lt, is_some, not, option_map, slice_index_or, ◌&&◌, ◌||◌}
+use Rattle.std.proofs.Common.{◌≡◌, ℕ, zero, suc, ◌+◌, ◌<◌, ◌≤◌, Bool, true, false, cond, ℤ, pos, ◌≤ℤ◌, List, [], ◌∷◌, ◌++◌, length, map, get_or, drop, take, Option, Some, None, refl, sym, ap, ◌∙◌, subst, arith}
+use Rattle.std.specs.Prelude.{count_by, int_le, int_lt, is_some, not, option_map, ◌||◌}
 use Rattle.std.specs.List.{zip}
 use Rattle.std.specs.Int.{is_negative}
 use Rattle.std.proofs.lemmas.Bool.{and_parts}
 use Rattle.std.proofs.lemmas.Int.{ints, clamps}
-use Rattle.std.proofs.lemmas.List.{at_drop_more, at_drop_all, append_assoc, map-append, length-map, take_all}
+use Rattle.std.proofs.lemmas.List.{at_drop_more, at_drop_all, map-append, take_all}
 use Rattle.std.proofs.lemmas.List.Sums.{count_by_more_no, count_by_more_yes}
 use Rattle.word_rules.specs.Words.{greater_word}
 use Rattle.view_rules.specs.View.{ViewValue}

@@ -274,7 +274,7 @@ module _ (v : ViewValue) (scene : Scene) (es : List Event) where
         makers = makers_more v scene es (FragmentEvent seg first last) list (Fragment (length list.fragments)) planes h.makers (ap Fragment n ∙ fragment_maker (length (drawsegs es)) seg first last) count;
         sprites = (
             let own : HasSprites (view_entries v scene es) (shown_things v scene es) (list_fragment (record { seg = seg; first = first; last = last }) planes list) =
-                record { count = h.sprites.count; sprites = h.sprites.sprites; all = h.sprites.all } in
+            record { count = h.sprites.count; sprites = h.sprites.sprites; all = h.sprites.all } in
             rw (view_entries-fragment v scene es seg first last, shown_things-fragment v scene es seg first last) own);
       }
 
@@ -323,7 +323,7 @@ leaf-listed v bytes s most es n sector planes is_known b c list mid next is ther
     let own : sector ≡ leaf_sector scene n = leaf_of bytes s n sector is in
     let entered : is_entered scene es (leaf_sector scene n) ≡ is_known = ap (is_entered scene es) (sym own) ∙ sym (before.entered sector there) ∙ sym known in
     let made : next ≡ list_leaf v scene is_known n (leaf_sector scene n) planes list =
-        entering ∙ ap (with_entered v scene is_known sector) making ∙ ap (λ (k : ℕ). with_entered v scene is_known k (with_makers list (Leaf n) planes)) own in
+    entering ∙ ap (with_entered v scene is_known sector) making ∙ ap (λ (k : ℕ). with_entered v scene is_known k (with_makers list (Leaf n) planes)) own in
     subst (HasListed v scene (es ++ LeafEvent n ∷ [])) (sym made)
     (listed-leaf v scene es n planes is_known list entered (count ∙ ap (λ (ps : List Plane). length ps) (planes-walked v bytes s most (es ++ LeafEvent n ∷ []) c after)) h)
 

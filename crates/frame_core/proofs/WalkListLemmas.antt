@@ -3,7 +3,6 @@ use Rattle.std.proofs.Common.{◌≡◌, ℕ, ◌+◌, ◌-◌, ◌<◌, ◌≤�
 use Rattle.std.specs.Prelude.{min, nat_lt, replicate}
 use Rattle.std.proofs.lemmas.Bool.Decides.{nat_tests}
 use Rattle.level_rules.specs.declared.walk.TheConstants.{MAX_DRAWSEGS}
-use Rattle.picture_rules.specs.declared.list.TheConstants.{MOST_TOLD}
 use Rattle.picture_rules.specs.declared.list.ListedFragment.{ListedFragment}
 use Rattle.picture_rules.specs.declared.list.ListedSprite.{ListedSprite}
 use Rattle.picture_rules.specs.declared.list.PlaneMaker.{PlaneMaker}

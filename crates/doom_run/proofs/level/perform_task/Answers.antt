@@ -12,5 +12,8 @@ returns-in-Audit g c = rw c.in-Audit.is (c.perform_audit.ensures _ _ c.requires.
 pub returns-in-Limits : goal.returns-in-Limits
 returns-in-Limits g c = rw c.in-Limits.is (c.perform_limits.ensures _)
 
+pub returns-in-List : goal.returns-in-List
+returns-in-List g c = rw c.in-List.is (c.perform_list.ensures _)
+
 pub returns-in-Trim : goal.returns-in-Trim
 returns-in-Trim g c = rw c.in-Trim.is c.perform_trim.ensures

@@ -1,0 +1,55 @@
+-- What a function gives of the numbers below one, put one after the other.
+use Rattle.std.proofs.Common.{◌≡◌, ◌≤◌, ℕ, zero, suc, ◌+◌, ◌-◌, List, [], ◌∷◌, ◌++◌, Result, Ok, refl, subst, ap, sym, ◌∙◌, arith, append_assoc, append-nil}
+use Rattle.outside.specs.Sink.{GrewByPrefix, Writes}
+use Rattle.outside.proofs.WriteLemmas.{prefix_of_more, writes_none, writes_then}
+use Rattle.word_rules.specs.Listed.{listed, joined_lists}
+use Rattle.word_rules.proofs.ListedLemmas.{joined_lists-append, joined_lists-cons, listed-more}
+
+-- of the first n numbers
+abbrev pub first_of : (ℕ → List ℕ) → ℕ → List ℕ
+first_of f n = joined_lists f (listed (λ k. k) n)
+
+-- nothing of no number
+pub first-none : (f : ℕ → List ℕ) → [] ≡ first_of f 0
+unfolding listed joined_lists
+first-none f = refl
+
+-- one number more
+pub first-more : (f : ℕ → List ℕ) (n : ℕ) → first_of f n ++ f n ≡ first_of f (n + 1)
+unfolding joined_lists
+first-more f n =
+    ap (λ (xs : List ℕ). joined_lists f (listed (λ k. k) n) ++ xs) (sym (append-nil (f n)) ∙ sym (joined_lists-cons f n []))
+    ∙ sym (joined_lists-append f (listed (λ k. k) n) (n ∷ []))
+    ∙ ap (joined_lists f) (sym (listed-more (λ k. k) n))
+
+-- what some numbers give begins what more give
+pub first-begins : (f : ℕ → List ℕ) (n m : ℕ) → (rest : List ℕ) × (first_of f n ++ rest ≡ first_of f (n + m))
+first-begins f n zero = let e : n ≡ n + zero = omega arith in ([], append-nil (first_of f n) ∙ ap (first_of f) e)
+first-begins f n (suc m) =
+    let p : (rest : List ℕ) × (first_of f n ++ rest ≡ first_of f (n + m)) = first-begins f n m in
+    let e : n + m + 1 ≡ n + suc m = omega arith in
+    (p.0 ++ f (n + m), sym (append_assoc (first_of f n) p.0 (f (n + m))) ∙ ap (λ (xs : List ℕ). xs ++ f (n + m)) p.1 ∙ first-more f (n + m) ∙ ap (first_of f) e)
+
+-- a prefix of what the first numbers give is one of what more give
+pub prefix_first : {a b : List ℕ → Type 0} (f : ℕ → List ℕ) (n m : ℕ) → n ≤ m → GrewByPrefix a b (first_of f n) → GrewByPrefix a b (first_of f m)
+prefix_first f n m le grew =
+    let p : (rest : List ℕ) × (first_of f n ++ rest ≡ first_of f (n + (m - n))) = first-begins f n (m - n) in
+    let e : n + (m - n) ≡ m = omega arith in
+    prefix_of_more p.0 (first_of f m) grew (p.1 ∙ ap (first_of f) e)
+
+-- nothing was written yet
+pub none_first : {E : Type 0} (f : ℕ → List ℕ) (a : List ℕ → Type 0) (i : ℕ) → Writes {E = E} a a i i (first_of f 0) (Ok tt)
+none_first {E} f a i = subst (λ (xs : List ℕ). Writes {E = E} a a i i xs (Ok tt)) (first-none f) (writes_none a i)
+
+-- what the first numbers give was written, and then that of the next: of a function that comes from the same value
+pub more_first : {E F X : Type 0} {a b c : List ℕ → Type 0} {i j k : ℕ} {last : Result (Unit {0}) F} (f : X → ℕ → List ℕ) (r now : X) (n : ℕ) → now ≡ r →
+    Writes {E = E} a b i j (first_of (f r) n) (Ok tt) → Writes b c j k (f now n) last → Writes a c i k (first_of (f r) (n + 1)) last
+more_first {X = X} {b = b} {c = c} {j = j} {k = k} {last = last} f r now n e first next =
+    writes_then (first_of (f r) (n + 1)) first tt refl (subst (λ (v : X). Writes b c j k (f v n) last) e next) (first-more (f r) n)
+
+-- and all of it was
+pub all_first : {E F X : Type 0} {a b c : List ℕ → Type 0} {i j k : ℕ} {last : Result (Unit {0}) F} (f : X → ℕ → List ℕ) (r now : X) (n : ℕ) → now ≡ r →
+    Writes {E = E} a b i j (first_of (f r) n) (Ok tt) → Writes b c j k (f now n) last → (unit : Unit {0}) → last ≡ Ok unit →
+    Writes {E = F} a c i k (first_of (f r) (n + 1)) (Ok tt)
+all_first {E = E} {F = F} {a = a} {c = c} {i = i} {k = k} f r now n e first next unit was =
+    subst (λ (v : Result (Unit {0}) F). Writes a c i k (first_of (f r) (n + 1)) v) was (more_first {E = E} {F = F} f r now n e first next)

@@ -1,0 +1,11 @@
+use Rattle.std.proofs.Common.{take, Ok}
+use Rattle.outside.specs.declared.shelf.Failed.{Failed}
+use Rattle.outside.specs.Sink.{Writes}
+use Rattle.doom_run.specs.Lists.{sprite_line, lines_from}
+use Rattle.doom_run.proofs.list.put_sprites.Given as goal
+
+-- the lines so far
+abbrev pub invariant-loop-number : goal.invariant-loop-number
+invariant-loop-number g l =
+    Writes {E = Failed} (g.K.Sink.written l.fn.out) (g.K.Sink.written l.out) (g.K.Sink.faults l.fn.out) (g.K.Sink.faults l.out)
+    (lines_from (sprite_line l.view) 0 (take l.number l.sprites)) (Ok tt)

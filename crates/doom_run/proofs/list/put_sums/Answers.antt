@@ -1,0 +1,19 @@
+use Rattle.std.proofs.Common.{List, ℕ, ◌++◌, ap, ◌∙◌}
+use Rattle.std.specs.Prelude.{codes}
+use Rattle.refusals.specs.Lines.{labelled}
+use Rattle.doom_run.proofs.LimitLemmas.{same_bytes}
+use Rattle.doom_run.proofs.ListLemmas.{seven_added}
+use Rattle.doom_run.proofs.list.put_sums.Goals as goal
+
+pub returns : goal.returns
+returns g c =
+    let counts = c.args.counts.now in
+    let list = c.args.list.now in
+    let of : ℕ → List ℕ = labelled (codes " of ") in
+    same_bytes
+    (seven_added (labelled (codes "view ") c.args.view) (labelled (codes " fragments ") counts.fragments) (of list.all_fragments) (labelled (codes " planes ") counts.planes)
+    (labelled (codes " openings ") counts.openings) (labelled (codes " sprites ") counts.sprites) (of list.all_sprites) (codes "\n") _ _ _ _ _ _ _ _
+    (c.add_number.ensures.text ∙ ap (λ (v : List ℕ). v ++ labelled (codes "view ") c.args.view) c.new-line.ensures) c.add_number-2.ensures.text
+    (c.add_number-3.ensures.text ∙ ap (λ (n : ℕ). c.add_number-2.new.self ++ of n) c.all_fragments.ensures) c.add_number-4.ensures.text c.add_number-5.ensures.text c.add_number-6.ensures.text
+    (c.add_number-7.ensures.text ∙ ap (λ (n : ℕ). c.add_number-6.new.self ++ of n) c.all_sprites.ensures) c.add.ensures.text)
+    c.put.ensures

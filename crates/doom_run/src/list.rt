@@ -1,0 +1,262 @@
+// The job `list`: what each view of a path is made of, item by item.
+//
+// Rules: `specs/Lists`. This project's own.
+ghost use Rattle.std.specs.Prelude.{◌≡◌, ◌+◌, ◌++◌, ◌<◌, ◌≤◌, ℕ, List, length, slice_get};
+ghost use Rattle.outside.specs.Causes.{FaultsRose};
+ghost use Rattle.outside.specs.Shelf.{ShelfView};
+ghost use Rattle.outside.specs.Sink.{Writes};
+ghost use Rattle.frame_core.specs.Views.{CanCount};
+ghost use Rattle.job_rules.specs.LevelJobs.{level_job_value};
+ghost use Rattle.job_rules.specs.Ranges.{AreSettings};
+ghost use Rattle.job_rules.specs.declared.command.LevelTask.TheVariants.{List as Lists};
+ghost use Rattle.level_audit.specs.scene_load.Calls.{IsLoadedScene};
+ghost use Rattle.refusals.specs.declared.line.TheConstants.{LINE_ROOM};
+ghost use Rattle.doom_run.specs.Ends.{DeliversAt};
+ghost use Rattle.doom_run.specs.Jobs.{delivery_of, listed_views};
+ghost use Rattle.doom_run.specs.Lists.{flat_part, fragment_line, item_start, items_lines, lines_from, list_lines_at, maker_part, plane_line, sprite_line, sums_line};
+ghost use Rattle.doom_run.specs.Performs.{Delivers};
+ghost use Rattle.doom_run.specs.Renders.{ready_views};
+
+use crate::limits::put_over;
+use crate::render::{ReadyViews, eye_at, prepare_views, view_count};
+use frame_core::{Counts, ViewList, list_view};
+use job_files::Status;
+use job_rules::LevelJob;
+use level_audit::LoadedScene;
+use outside::{Failed, Sink};
+use picture_rules::{Flat4, ListedFragment, ListedPlane, ListedSprite, PlaneMaker};
+use refusals::Line;
+use std::alloc::Global;
+
+// A line that begins with item number `number` of a view.
+fn start_item(view: u64, label: &[u8], number: u64) -> Line
+    requires { length label.now ≤ 10 }
+    ensures text { result ≡ item_start label.now view number }
+    ensures length { length result ≤ 55 }
+{
+    let mut line = Line::new();
+    line.add_number(b"view ", view);
+    line.add_number(label, number);
+    line
+}
+
+// Appends the line of a drawn fragment.
+fn put_fragment<K: Sink>(
+    out: &mut K,
+    view: u64,
+    number: u64,
+    fragment: &ListedFragment,
+) -> Result<(), Failed>
+    ensures { Writes (K.written out.old) (K.written out.new) (K.faults out.old)
+        (K.faults out.new) (fragment_line view number fragment.now) result }
+{
+    let mut line = start_item(view, b" fragment ", number);
+    line.add_number(b" seg ", fragment.seg as u64);
+    line.add_number(b" first ", fragment.first as u64);
+    line.add_number(b" last ", fragment.last as u64);
+    line.add(b"\n");
+    line.put(out)
+}
+
+// Appends the flat of a plane.
+fn add_flat(line: &mut Line, flat: Flat4)
+    requires room { length line.old + 26 ≤ LINE_ROOM }
+    ensures text { line.new ≡ line.old ++ flat_part flat }
+    ensures length { length line.new ≤ length line.old + 26 }
+{
+    match flat {
+        Flat4::Sky => line.add(b" flat sky"),
+        Flat4::Lump(lump) => line.add_number(b" flat ", lump as u64),
+    }
+}
+
+// Appends what made a plane.
+fn add_maker(line: &mut Line, maker: PlaneMaker)
+    requires room { length line.old + 30 ≤ LINE_ROOM }
+    ensures text { line.new ≡ line.old ++ maker_part maker }
+    ensures length { length line.new ≤ length line.old + 30 }
+{
+    match maker {
+        PlaneMaker::Leaf(leaf) => line.add_number(b" leaf ", leaf as u64),
+        PlaneMaker::Fragment(fragment) => line.add_number(b" fragment ", fragment as u64),
+    }
+}
+
+// Appends the line of a plane.
+fn put_plane<K: Sink>(
+    out: &mut K,
+    view: u64,
+    number: u64,
+    plane: &ListedPlane,
+) -> Result<(), Failed>
+    ensures { Writes (K.written out.old) (K.written out.new) (K.faults out.old)
+        (K.faults out.new) (plane_line view number plane.now) result }
+{
+    let mut line = start_item(view, b" plane ", number);
+    line.add_signed(b" height ", plane.key.height);
+    add_flat(&mut line, plane.key.flat);
+    line.add_signed(b" light ", plane.key.light as i32);
+    add_maker(&mut line, plane.maker);
+    line.add_number(b" columns ", plane.columns as u64);
+    line.add(b"\n");
+    line.put(out)
+}
+
+// Appends the line of a vissprite.
+fn put_sprite<K: Sink>(
+    out: &mut K,
+    view: u64,
+    number: u64,
+    sprite: &ListedSprite,
+) -> Result<(), Failed>
+    ensures { Writes (K.written out.old) (K.written out.new) (K.faults out.old)
+        (K.faults out.new) (sprite_line view number sprite.now) result }
+{
+    let mut line = start_item(view, b" sprite ", number);
+    line.add_number(b" thing ", sprite.thing as u64);
+    line.add_number(b" lump ", sprite.lump as u64);
+    line.add_number(b" first ", sprite.first as u64);
+    line.add_number(b" last ", sprite.last as u64);
+    line.add(b"\n");
+    line.put(out)
+}
+
+// Appends the line of a view's sums.
+fn put_sums<K: Sink>(out: &mut K, view: u64, counts: &Counts, list: &ViewList) -> Result<(), Failed>
+    ensures { Writes (K.written out.old) (K.written out.new) (K.faults out.old)
+        (K.faults out.new) (sums_line view counts.now list.now) result }
+{
+    let mut line = Line::new();
+    line.add_number(b"view ", view);
+    line.add_number(b" fragments ", counts.fragments as u64);
+    line.add_number(b" of ", list.all_fragments());
+    line.add_number(b" planes ", counts.planes as u64);
+    line.add_number(b" openings ", counts.openings as u64);
+    line.add_number(b" sprites ", counts.sprites as u64);
+    line.add_number(b" of ", list.all_sprites());
+    line.add(b"\n");
+    line.put(out)
+}
+
+// Appends the lines of the drawn fragments of a view.
+fn put_fragments<K: Sink>(
+    out: &mut K,
+    view: u64,
+    fragments: &[ListedFragment],
+) -> Result<(), Failed>
+    ensures { Writes (K.written out.old) (K.written out.new) (K.faults out.old)
+        (K.faults out.new) (lines_from (fragment_line view) 0 fragments.now) result }
+{
+    for number in 0..fragments.len() {
+        put_fragment(out, view, number as u64, &fragments[number])?;
+    }
+    Ok(())
+}
+
+// Appends the lines of the planes of a view.
+fn put_planes<K: Sink>(out: &mut K, view: u64, planes: &[ListedPlane]) -> Result<(), Failed>
+    ensures { Writes (K.written out.old) (K.written out.new) (K.faults out.old)
+        (K.faults out.new) (lines_from (plane_line view) 0 planes.now) result }
+{
+    for number in 0..planes.len() {
+        put_plane(out, view, number as u64, &planes[number])?;
+    }
+    Ok(())
+}
+
+// Appends the lines of the vissprites of a view.
+fn put_sprites<K: Sink>(out: &mut K, view: u64, sprites: &[ListedSprite]) -> Result<(), Failed>
+    ensures { Writes (K.written out.old) (K.written out.new) (K.faults out.old)
+        (K.faults out.new) (lines_from (sprite_line view) 0 sprites.now) result }
+{
+    for number in 0..sprites.len() {
+        put_sprite(out, view, number as u64, &sprites[number])?;
+    }
+    Ok(())
+}
+
+// Appends the lines of all items of a view, and that of its sums.
+fn put_items<K: Sink>(
+    out: &mut K,
+    view: u64,
+    counts: &Counts,
+    list: &ViewList,
+) -> Result<(), Failed>
+    ensures { Writes (K.written out.old) (K.written out.new) (K.faults out.old)
+        (K.faults out.new) (items_lines view counts.now list.now) result }
+{
+    put_fragments(out, view, list.fragments())?;
+    put_planes(out, view, list.planes())?;
+    put_sprites(out, view, list.sprites())?;
+    put_sums(out, view, counts, list)
+}
+
+// Appends the lines of view number `number`.
+fn put_list<K: Sink>(
+    ready: &mut ReadyViews,
+    list: &mut ViewList,
+    number: u32,
+    out: &mut K,
+) -> Result<(), Failed>
+    requires number { number < length ready.old.loaded.files.path }
+    requires scene { CanCount ready.old.loaded.scene.scene }
+    ensures writes { (bytes : ℕ → List ℕ) → Writes (K.written out.old) (K.written out.new)
+        (K.faults out.old) (K.faults out.new) (list_lines_at (ready_views bytes ready.old) number
+        (slice_get (ready_views bytes ready.old).views number)) result }
+    ensures loaded { ready.new.loaded ≡ ready.old.loaded }
+    ensures limits { ready.new.shop.limits ≡ ready.old.shop.limits }
+{
+    let loaded = &ready.loaded;
+    let eye = eye_at(&loaded.files.path, number);
+    match list_view(
+        &loaded.scene,
+        &loaded.files.tables,
+        &mut ready.shop,
+        list,
+        eye,
+    ) {
+        Ok(counts) => put_items(out, number as u64, &counts, list),
+        Err(over) => put_over(out, number as u64, &over),
+    }
+}
+
+// Writes the lines of each view; a view over a limit has its own, and the next comes after it. Takes
+// no memory.
+fn put_lists<K: Sink>(ready: &mut ReadyViews, list: &mut ViewList, out: &mut K) -> Status
+    requires { CanCount ready.old.loaded.scene.scene }
+    ensures ends { (bytes : ℕ → List ℕ) → DeliversAt (listed_views (ready_views bytes ready.old))
+        (K.written out.old) (K.written out.new) result }
+    ensures write_fault { result ≡ Status.WriteFault →
+        FaultsRose (K.faults out.old) (K.faults out.new) }
+{
+    let count = view_count(&ready.loaded.files.path);
+    for number in 0..count {
+        match put_list(ready, list, number, out) {
+            Ok(()) => {}
+            Err(_) => return Status::WriteFault,
+        }
+    }
+    Status::Done
+}
+
+// The job `list` over a level that is loaded.
+pub fn perform_list<K: Sink>(
+    alloc: Global,
+    level: &LevelJob<'_>,
+    loaded: LoadedScene,
+    out: &mut K,
+) -> Status
+    requires settings { AreSettings level.now.settings }
+    requires loaded { IsLoadedScene (level_job_value level.now) loaded }
+    ensures { (view : ShelfView) → Delivers (level_job_value level.now)
+        (delivery_of Lists (level_job_value level.now)) view view loaded
+        (K.written out.old) (K.written out.new) (K.faults out.old) (K.faults out.new) result }
+{
+    match prepare_views(alloc, &level.settings, loaded) {
+        Ok(mut ready) => match ViewList::new(alloc) {
+            Ok(mut list) => put_lists(&mut ready, &mut list, out),
+            Err(_) => Status::OutOfMemory,
+        },
+        Err(_) => Status::OutOfMemory,
+    }
+}
