@@ -113,7 +113,8 @@ fn scene_of(
     requires few { length dir.now.lumps < 2 ^ 16 }
     requires slots { length dir.now.lumps ≤ cache.old.lumps }
     requires composites { cache.old.composites ≡ COMPOSITE_SLOTS }
-    ensures { IfOk result (λ scene. CanDrawView dir.now.lumps scene.value.scene cache.new) }
+    ensures drawable { IfOk result (λ scene. CanDrawView dir.now.lumps scene.value.scene cache.new) }
+    ensures composites { cache.new.composites ≡ COMPOSITE_SLOTS }
 {
     let bytes = make_things(alloc)?;
     let things = Box::new(alloc, ThingTable::read(alloc, &bytes)?)?;
@@ -131,7 +132,8 @@ fn audited(
     requires few { length dir.now.lumps < 2 ^ 16 }
     requires slots { length dir.now.lumps ≤ cache.old.lumps }
     requires composites { cache.old.composites ≡ COMPOSITE_SLOTS }
-    ensures { IfOk result (λ scene. CanDrawView dir.now.lumps scene.value.scene cache.new) }
+    ensures drawable { IfOk result (λ scene. CanDrawView dir.now.lumps scene.value.scene cache.new) }
+    ensures composites { cache.new.composites ≡ COMPOSITE_SLOTS }
 {
     let map = Name8::from_text("MAP01").ok_or("a name")?;
     Ok(Box::new(alloc, audit(alloc, dir, cache, shelf, things, &map, 3)?)?)
@@ -217,9 +219,8 @@ fn sums_of(
     cache: &mut LumpCache,
     shelf: &mut MemoryShelf,
 ) -> Result<Sums, Fail>
-    requires few { length dir.now.lumps < 2 ^ 16 }
     requires drawable { CanDrawView dir.now.lumps scene.now.scene cache.old }
-    requires textures { length scene.now.scene.base.lists.textures ≤ COMPOSITE_SLOTS }
+    requires composites { cache.old.composites ≡ COMPOSITE_SLOTS }
 {
     let mut other = turned_shelf(alloc, dir)?;
     let turned = directory_of(alloc, &mut other)?;
@@ -237,6 +238,9 @@ fn sums_of(
 
 #[test]
 fn a_scene_and_a_workshop_keep_no_copy_of_art(rt: HostRuntime) -> Result<(), Fail> {
-    assert_eq!(rt; sums(rt.alloc())?, [Ok(FIRST_SUM), Ok(OTHER_SUM), Ok(FIRST_SUM)]);
+    assert_eq!(rt;
+        sums(rt.alloc())?,
+        [Ok(FIRST_SUM), Ok(OTHER_SUM), Ok(FIRST_SUM)]
+    );
     Ok(())
 }
