@@ -4,6 +4,7 @@ mod messages;
 mod node_walk_tests;
 mod pixel_strips_tests;
 mod pixel_trace_tests;
+mod shelf_tests;
 mod view_frame_tests;
 mod visplanes_tests;
 mod vissprites_tests;
