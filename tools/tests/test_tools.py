@@ -233,7 +233,7 @@ class Drawing(Tools):
         self.stand_in('bin/parallel', '#!/bin/sh\necho parallel of moreutils\n')
         self.refuses('not GNU parallel', *many, doomview=doomview)
         os.remove(self.at('bin/python3'))
-        self.refuses('python3 is not', 'audit-all', self.wad, doomview=doomview)
+        self.refuses('python3 is not', 'audit-all', self.wad, command=self.clone(), doomview=doomview)
 
     def test_no_build(self):
         """A program that cannot be built ends a tool with 70, before anything is done."""
