@@ -37,7 +37,7 @@ def codes():
     """From REFUSALS.md: for each code what is wrong and how to mend it. `the same` is what stands above."""
     try:
         with open(os.path.join(home.DOCS, 'REFUSALS.md'), encoding='utf-8') as file:
-            rows = re.findall(r'^\| (\d{3,4}) \|([^|]*)\|([^|]*)\|([^|]*)\|', file.read(), re.M)
+            rows = re.findall(r'^\| (\d{3,4}) \|([^|\n]*)\|([^|\n]*)\|([^|\n]*)\|', file.read(), re.M)
     except OSError:
         rows = []
     answer, last = {}, ''
