@@ -195,16 +195,17 @@ class Check:
                           f'{parts} {name or "(no name)"} is no flat{why}')
 
     def odd_lines(self):
+        for which in (0, 1):
+            lost = [number for number, line in enumerate(self.level.lines)
+                    if line[5 + which] is not None and self.plan.beside[number][which] is None]
+            if lost:
+                yield Finding(ERROR, 'line', lines(lost), f'its {SIDES[which]} side, or the sector of that, is not there')
         for number, line in enumerate(self.level.lines):
             back = self.plan.beside[number][1]
             if line.start == line.end:
                 yield Finding(ODD, 'line', lines([number]), 'has no length')
             if line.front is None:
                 yield Finding(ERROR, 'line', lines([number]), 'has no front side')
-            for which in (0, 1):
-                if line[5 + which] is not None and self.plan.beside[number][which] is None:
-                    yield Finding(ERROR, 'line', lines([number]),
-                                  f'its {SIDES[which]} side, or the sector of that, is not there')
             if line.flags & TWO_SIDED and back is None and line.back is None:
                 yield Finding(ODD, 'line', lines([number]), 'is two-sided and has no back side')
             if not line.flags & TWO_SIDED and back is not None:

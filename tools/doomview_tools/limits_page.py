@@ -1,4 +1,5 @@
 """The page of limits-map: the cells of a map, its worst views, and pictures of them."""
+import collections
 import os
 
 from . import traces
@@ -11,6 +12,9 @@ MOST_BYTES = 3000000
 SMALL_PICTURES = 60
 PLANE_KINDS = (2, 3)  # of painters: plane and sky
 NO_PLANE = 255
+COUNT_OF = {1: 'fragments', 2: 'planes', 3: 'planes', 4: 'fragments', 5: 'sprites'}  # what a painter's number counts
+KEY = 6  # bytes of a record that tell its painter: all but the colour
+SHOWN_NAMES = 8
 PLANE_COLOURS = bytes(255 if i == NO_PLANE else ((i + 1) * factor) % 200 + 40
                       for i in range(256) for factor in (83, 149, 47))
 
@@ -20,6 +24,18 @@ def plane_picture(trace):
     kinds, numbers = trace[::traces.RECORD.size], trace[2::traces.RECORD.size]
     return picture(bytes(number % NO_PLANE if kind in PLANE_KINDS else NO_PLANE
                          for kind, number in zip(kinds, numbers)), PLANE_COLOURS)
+
+
+def seen(trace, names):
+    """Of each count how many have a pixel in a view, how many names they have, and those of most: name and number."""
+    found = collections.defaultdict(lambda: collections.defaultdict(set))
+    for key in {trace[place:place + KEY] for place in range(0, len(trace), traces.RECORD.size)}:
+        kind, source_kind, number, source, _, _ = traces.RECORD.unpack(key + bytes(2))
+        if kind in COUNT_OF:
+            found[COUNT_OF[kind]][names.known(traces.Painter(kind, source_kind, source)).name].add(number)
+    return {count: [len(set().union(*of.values())), len(of),
+                    sorted(([name, len(it)] for name, it in of.items()), key=lambda it: (-it[1], it[0]))[:SHOWN_NAMES]]
+            for count, of in found.items()}
 
 
 def halved(frame):
@@ -46,13 +62,13 @@ class State:
             order[name] = [rows.setdefault(row, len(rows)) for _, row in self.grid.worst(name, most)]
         return list(rows), order
 
-    def packed(self, palette, most):
+    def packed(self, names, palette, most):
         """What the page has of it, but for the small pictures."""
         rows, order = self.views(most)
         frames = self.runs.drawn('render', rows, SIZE)
         drawn = self.runs.drawn('trace', rows, traces.VIEW_SIZE)
         views = [{'row': row[:4], 'counts': counts, 'picture': frame and picture(frame, palette),
-                  'planes': trace and plane_picture(trace)}
+                  'planes': trace and plane_picture(trace), 'seen': trace and seen(trace, names)}
                  for row, counts, frame, trace in zip(rows, self.runs.counts(rows), frames, drawn)]
         cells = sorted(self.grid.cells, key=lambda it: -it.size)
         return {'label': self.label, 'cells': list(map(packed_cell, cells)), 'views': views, 'order': order,
@@ -79,14 +95,14 @@ def thinned(pictures, room):
 
 def limits_page(plan, wads, states, palette, options, doors):
     """The bytes of the page."""
-    level = plan.level
+    level, names = plan.level, traces.Names(wads)
     grid = states[0].grid
     data = {'title': f'{level.name} of {os.path.basename(level.wad)}', 'wads': list(map(os.path.basename, wads)),
             'counts': COUNTS, 'limits': options.limits, 'capped': CAPPED, 'directions': grid.directions,
             'vertexes': level.vertexes, 'sectors': len(level.sectors), 'reached': len(grid.reached),
             'lines': [[*line[:2], int(plan.is_wall(number))] for number, line in enumerate(level.lines)],
             'doors': sorted(doors), 'doubts': [pair for pair, _ in grid.ground.doubts.most_common(20)],
-            'states': [state.packed(palette, options.views) for state in states]}
+            'states': [state.packed(names, palette, options.views) for state in states]}
     room = (MOST_BYTES - len(page(TEMPLATE, data))) // len(states)
     for state, shown in zip(states, data['states']):
         shown['small'] = thinned(state.small(palette, SMALL_PICTURES), room)

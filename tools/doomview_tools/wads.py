@@ -78,6 +78,9 @@ def read(path):
         entries = [struct.unpack_from('<II8s', data, directory + 16 * i) for i in range(count)]
     except struct.error:
         raise WadError(f'{path} is cut short')
+    for offset, size, name in entries:
+        if size and offset + size > len(data):
+            raise WadError(f'{path} is cut short: it ends before its lump {clean(name)} does')
     return [Lump(clean(name), data[offset:offset + size]) for offset, size, name in entries]
 
 

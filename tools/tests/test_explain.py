@@ -188,6 +188,8 @@ class Explain(Tools):
 
     def test_lines(self):
         """A line alone, and what a run said."""
+        self.assertIn('402: the WAD ends before its header or its directory does: file 0 of the WADs, counted from 0. '
+                      'To mend it: get the file whole', self.run_tool('explain', 'doomview: refused 402 0')[2])
         status, _, error = self.run_tool('explain', 'doomview: refused 605 4')
         self.assertEqual((status, error.count('\n')), (0, 1))
         self.assertIn('605: the SSECTORS record has no seg', error)

@@ -9,7 +9,7 @@ import unittest
 
 import pages_shown
 from made_files import COMMAND, Tools, name, wad
-from doomview_tools import ground, levels
+from doomview_tools import ground, levels, limits_page, traces
 
 COARSE = ['--step', '256', '--directions', '4']
 TESTED = os.environ.get('DOOMVIEW_TESTED', '')
@@ -125,6 +125,14 @@ class LimitsMap(Tools):
         self.assertEqual(rows[0], 'x,y,z,angle')
         self.assertIn(','.join(map(str, data['states'][0]['views'][0]['row'])), rows)
 
+    def test_seen(self):
+        """Of what the planes, fragments and sprites are that have a pixel."""
+        rows = [(1, 1, 4, 7, 99, 0), (1, 1, 4, 7, 98, 0), (1, 1, 5, 7, 99, 0), (4, 2, 5, 3, 0, 0), (2, 1, 0, 8, 1, 0),
+                (2, 1, 3, 8, 1, 0), (3, 2, 1, 2, 1, 0), (5, 1, 6, 9, 1, 0), (0, 0, 0, 0, 0, 0), (6, 1, 1, 9, 1, 0)]
+        found = limits_page.seen(b''.join(traces.RECORD.pack(*row) for row in rows), traces.Names([]))
+        self.assertEqual(found, {'fragments': [2, 2, [['lump 7', 2], ['texture 3', 1]]],
+                                 'planes': [3, 2, [['lump 8', 2], ['texture 2', 1]]], 'sprites': [1, 1, [['lump 9', 1]]]})
+
     @unittest.skipUnless(pages_shown.BROWSER, 'no Chromium here')
     def test_shown(self):
         """The picture is not empty, and keys work."""
@@ -135,12 +143,14 @@ class LimitsMap(Tools):
             hit('2'); all.push(text('which')); hit('d'); all.push(state); hit('1', 'n'); all.push(text('row'));
             hit('ArrowRight'); all.push(text('told')); hit('+'); all.push(scale); hit('0'); all.push(scale);
             await wait(); all.push(document.getElementById('picture').naturalWidth);
+            hit('n'); all.push(text('seen'));
             const overs = now().cells.filter(cell => isOver('planes', number(cell, 0)) && drawnSize(cell) * scale > 2);
-            all.push(overs.length, overs.filter(cell => {
-                const [x, y, size] = square(cell), k = devicePixelRatio, colour = pen.getImageData((x + size * .15) * k, (y + size * .5) * k, 1, 1).data;
-                return colour[0] + colour[1] + colour[2] < 99;
-            }).length);
-            all.push(now().cells.filter(cell => cell.isCut).length, now().cells.filter(cell => cellAt(cell[X], cell[Y] + .5) === cell).length);
+            const isBlack = cell => {
+                const [x, y, size] = square(cell), at = [x + size * .15, y + size * .5].map(it => it * devicePixelRatio);
+                return pen.getImageData(...at, 1, 1).data.reduce((a, b) => a + b) < 255 + 99;
+            };
+            all.push(overs.length, overs.filter(isBlack).length, now().cells.filter(cell => cell.isCut).length);
+            all.push(now().cells.filter(cell => cellAt(cell[X], cell[Y] + .5) === cell).length);
             const far = now().cells.find(cell => now().views.every(it => it.row.join() !== rowOf(cell, 0).join()));
             look(far); all.push(text('row'), rowOf(far, 0).join(), text('shown')); return all;''')
         data = pages_shown.data_of(self.at('page.html'))
@@ -154,13 +164,14 @@ class LimitsMap(Tools):
         self.assertGreater(found[8], found[9])
         self.assertEqual(found[9], found[3])
         self.assertEqual(found[10], 320)
-        overs, black, cut, pointed, row, expected, shown = found[11:]
+        made_of, overs, black, cut, pointed, row, expected, shown = found[11:]
+        self.assertRegex(made_of, r'^\d+ planes have a pixel in this view: \w+ \d+')
         self.assertGreater(overs, 3)
         self.assertGreater(black, .8 * overs)  # but for lines, dots and the cone over them
         self.assertGreater(cut, 3)
         self.assertEqual(pointed, len(data['states'][1]['cells']))
         self.assertEqual(row, expected)
-        self.assertRegex(shown, r'^planes \d+ · x [-\d.]+ y [-\d.]+, [\d.]+°; the nearest picture is from x [-\d.]+ y [-\d.]+, ')
+        self.assertRegex(shown, r'^planes \d+ · x [-\d.]+ y [-\d.]+, [\d.]+°; the nearest picture is from x [-\d.]+ y ')
 
     def test_wrong(self):
         """Refusals are in doomview's words, with status 2, and nothing is left half-written."""

@@ -65,6 +65,9 @@ class Lint(Tools):
         self.finds(f'error line: line {one_sided}: has no front side', 'LINEDEFS', one_sided, 10, b'\xff\xff')
         self.finds(f'error line: line {one_sided}: its back side, or the sector of that, is not there', 'LINEDEFS', one_sided,
                    12, b'\x99\x09')
+        beyond = struct.pack('<7H', 0, 1, 1, 0, 0, 0x999, 0xffff)
+        self.finds(f'error line: lines {len(lines)} {len(lines) + 1}: its front side, or the sector of that, is not there',
+                   LINEDEFS=self.lumps['LINEDEFS'] + beyond * 2)
         self.finds(f'odd line: line {one_sided}: is two-sided and has no back side', 'LINEDEFS', one_sided, 4, b'\4', status=0)
         self.finds(f'odd line: line {step}: has two sides and is not two-sided', 'LINEDEFS', step, 4, b'\1')
         self.finds(f'odd line: line {step}: has no length', 'LINEDEFS', step, 2, struct.pack('<H', lines[step][0]), status=0)

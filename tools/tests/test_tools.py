@@ -155,6 +155,7 @@ class Levels(Tools):
     def test_wrong_wads(self):
         made = made_wad()
         for part, data in [('is no WAD', b'XWAD' + made[4:]), ('is no WAD', b''), ('cut short', made[:-1]),
+                           ('cut short: it ends before its lump PLAYPAL', made[:-16] + b'\xff' * 8 + b'PLAYPAL\0'),
                            ('wrong.wad has no map', wad([('PLAYPAL', bytes(768))])), ('wrong.wad has no map', wad([]))]:
             place = self.write('wrong.wad', data)
             self.refuses(part, 'maps', place)
