@@ -1,6 +1,7 @@
 """The page of limits-map: the cells of a map, its worst views, and pictures of them."""
 import collections
 import os
+import sys
 
 from . import traces
 from .counting import CAPPED, COUNTS
@@ -13,7 +14,6 @@ SMALL_PICTURES = 60
 PLANE_KINDS = (2, 3)  # of painters: plane and sky
 NO_PLANE = 255
 COUNT_OF = {1: 'fragments', 2: 'planes', 3: 'planes', 4: 'fragments', 5: 'sprites'}  # what a painter's number counts
-KEY = 6  # bytes of a record that tell its painter: all but the colour
 SHOWN_NAMES = 8
 PLANE_COLOURS = bytes(255 if i == NO_PLANE else ((i + 1) * factor) % 200 + 40
                       for i in range(256) for factor in (83, 149, 47))
@@ -29,8 +29,8 @@ def plane_picture(trace):
 def seen(trace, names):
     """Of each count how many have a pixel in a view, how many names they have, and those of most: name and number."""
     found = collections.defaultdict(lambda: collections.defaultdict(set))
-    for key in {trace[place:place + KEY] for place in range(0, len(trace), traces.RECORD.size)}:
-        kind, source_kind, number, source, _, _ = traces.RECORD.unpack(key + bytes(2))
+    for record in set(memoryview(trace).cast('Q')):
+        kind, source_kind, number, source, _, _ = traces.RECORD.unpack(record.to_bytes(8, sys.byteorder))
         if kind in COUNT_OF:
             found[COUNT_OF[kind]][names.known(traces.Painter(kind, source_kind, source)).name].add(number)
     return {count: [len(set().union(*of.values())), len(of),
