@@ -12,13 +12,13 @@ RED = b'\xff\x00\x00'
 DIFFERENT = 1
 PAGE = cli.Page(
     'compare', 'which views of two files of frames differ, where, and in what', '''
-Compares two files of index frames, and tells of each view that differs how, where and in what.
+Compares two files of index frames, and says of each view that differs how, where and in what.
 
 OURS is what doomview render wrote, PORT what the port drew at the same rows of the camera path: 64,000 bytes a view. A
 line for each view that differs has the number of pixels, their box, and the first of them with both colours. The last
 line counts all views.
 
-With the file that doomview trace wrote for the same words, the lines under it tell what doomview painted there: the
+With the file that doomview trace wrote for the same words, the lines under it say what doomview painted there: the
 painter's kind, the lump or texture, the pixels, and the numbers of the fragments, planes or sprites in the view. Names
 need the WADs of the run. A texture of one patch is named where no other texture has the patch.
 
@@ -52,7 +52,7 @@ def add_words(parser):
     parser.add_argument('--png', metavar='FOLDER', help='writes a picture of each view that differs into FOLDER')
     parser.add_argument('--html', metavar='OUT.html', help='writes a page of the views that differ')
     parser.add_argument('--most', metavar='N', type=cli.number(0, sys.maxsize), default=sys.maxsize,
-                        help='tells of N views that differ, and counts the others')
+                        help='lists N views that differ, and counts the others')
 
 
 def told(view, ours, port, places):
@@ -100,7 +100,7 @@ class FramesOfPictures:
         self.files, self.palette = pictures.files_of(path), pictures.Palette(names.palette)
         self.count = len(self.files)
         if not options.wad:
-            raise Trouble(f'{path}: the palette that tells the colours of pictures is that of a WAD; name it by --wad')
+            raise Trouble(f'{path}: the colours of pictures are those of the palette of a WAD; name it by --wad')
 
     def frame(self, view, ours):
         return self.palette.frame(self.files[view], ours)
