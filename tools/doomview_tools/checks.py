@@ -199,7 +199,8 @@ class Check:
             lost = [number for number, line in enumerate(self.level.lines)
                     if line[5 + which] is not None and self.plan.beside[number][which] is None]
             if lost:
-                yield Finding(ERROR, 'line', lines(lost), f'its {SIDES[which]} side, or the sector of that, is not there')
+                yield Finding(ERROR, 'line', lines(lost),
+                              f'its {SIDES[which]} side, or the sector of that, is not there')
         for number, line in enumerate(self.level.lines):
             back = self.plan.beside[number][1]
             if line.start == line.end:
@@ -237,8 +238,8 @@ class Check:
                 if part.texture.startswith('-'):
                     yield Finding(HOLE, 'texture', where, f'needs a texture: {part.name}, {part.height} high')
                 elif texture and runs_out(part, texture):
-                    yield Finding(ODD, 'tutti-frutti', where, f'{part.name} {texture.name} is {texture.height} high and '
-                                  f'the wall {part.height}: rows of other pictures show')
+                    yield Finding(ODD, 'tutti-frutti', where, f'{part.name} {texture.name} is {texture.height} high '
+                                  f'and the wall {part.height}: rows of other pictures show')
 
     def medusa(self):
         """The middle textures with several patches, or none, in a column: by name the lines and the first column."""
@@ -255,8 +256,8 @@ class Check:
 
     def middles(self):
         for name, numbers, column, count in self.medusa():
-            yield Finding(ERROR, 'Medusa', lines(numbers), f'middle {name} has {count or "no"} patches in column {column}: '
-                          'the Medusa effect; take a texture of one patch a column')
+            yield Finding(ERROR, 'Medusa', lines(numbers), f'middle {name} has {count or "no"} patches in column '
+                          f'{column}: the Medusa effect; take a texture of one patch a column')
 
     def sectors(self):
         for number, sector in enumerate(self.level.sectors):
@@ -279,8 +280,8 @@ class Check:
 
     def pictures(self):
         for (kind, frame), numbers in self.things_of(lambda frame: frame and frame not in self.art.frames):
-            yield Finding(ERROR, 'thing', several('thing', numbers), f'type {kind} needs the picture {frame}, which no WAD '
-                          'has between S_START and S_END')
+            yield Finding(ERROR, 'thing', several('thing', numbers), f'type {kind} needs the picture {frame}, which no '
+                          'WAD has between S_START and S_END')
 
     def things(self):
         if not any(thing.type == PLAYER_1 for thing in self.level.things):
@@ -291,7 +292,7 @@ class Check:
         for number, thing in enumerate(self.level.things):
             if all(place.is_void(thing.x, thing.y + off) for off in (-.5, .5)):
                 yield Finding(ODD, 'thing', f'thing {number}',
-                              f'type {thing.type} at {thing.x}, {thing.y} stands outside the level')
+                              f'type {thing.type} at {thing.x}, {thing.y} is outside the level')
 
     def unclosed(self):
         """Sectors whose lines do not close: at a vertex where an odd number of them end."""

@@ -156,8 +156,8 @@ class Palette:
         found = self.entries.get(colour)
         if not found:
             row, column = divmod(place, WIDTH)
-            raise Trouble(f'{path}: the colour {",".join(map(str, colour))} at row {row} column {column} is in no entry of '
-                          'the palette; turn off what changes colours (gamma, filters, true colour)')
+            raise Trouble(f'{path}: the colour {",".join(map(str, colour))} at row {row} column {column} is in no '
+                          'entry of the palette; turn off what changes colours (gamma, filters, true colour)')
         if len(found) > 1:
             self.doubtful.add(tuple(found))
         return ours if ours in found else found[0]

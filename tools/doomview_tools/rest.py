@@ -1,8 +1,8 @@
 """A game at rest: what makes an installed port show a map as doomview draws it, with no change of its sources.
 
 A PWAD has the map without the specials of its sectors and lines, with demons for spectres, and an empty picture for the
-word of the pause; a DeHackEd patch lets each thing stay in the first frame of its spawn state; a demo stands still until
-the weapon is up, then pauses at each view and turns. Animated flats and textures still go on until the pause, so a
+word of the pause; a DeHackEd patch lets each thing stay in the first frame of its spawn state; a demo stands still
+until the weapon is up, then pauses at each view and turns. Animated flats and textures still go on until the pause, so a
 second WAD has the names that are shown then, and doomview draws that one."""
 import re
 import struct

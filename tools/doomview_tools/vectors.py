@@ -57,7 +57,8 @@ def groups(level, rows):
         yield Group('sizes', SKILL, size, (), rows[:SOME])
     for skill in (1, 2, 4, 5):
         yield Group('skills', skill, SIZE_OF_VIEW, (), by_skill(level, rows))
-    lit = [row._replace(extralight=i) if i % 2 else row._replace(colormap=2 * i) for i, row in enumerate(rows[:LIT + 1])]
+    lit = [row._replace(extralight=i) if i % 2 else row._replace(colormap=2 * i)
+           for i, row in enumerate(rows[:LIT + 1])]
     yield Group('light', SKILL, SIZE_OF_VIEW, (), lit[1:])
     for i, layers in enumerate(HELD):
         yield Group('weapons', SKILL, SIZE_OF_VIEW, layers, rows[i:i + 2])

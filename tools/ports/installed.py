@@ -113,8 +113,8 @@ class Game:
     def running(self, *words):
         """The port while it runs."""
         with open(self.at('port.log'), 'a') as log:
-            game = subprocess.Popen([*self.words, *words], cwd=self.folder, env=self.environment, stdout=log, stderr=log,
-                                    stdin=subprocess.DEVNULL)
+            game = subprocess.Popen([*self.words, *words], cwd=self.folder, env=self.environment, stdout=log,
+                                    stderr=log, stdin=subprocess.DEVNULL)
         try:
             yield game
         finally:

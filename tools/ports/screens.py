@@ -13,7 +13,8 @@ def pcx_indices(data):
     """The palette indices of a PCX of 320 by 200."""
     left, top, right, bottom = struct.unpack_from('<4H', data, 4)
     if (right - left + 1, bottom - top + 1) != (WIDTH, HEIGHT):
-        raise Trouble(f'the screenshot has {right - left + 1} by {bottom - top + 1} pixels, and not {WIDTH} by {HEIGHT}')
+        raise Trouble(f'the screenshot has {right - left + 1} by {bottom - top + 1} pixels, and not '
+                      f'{WIDTH} by {HEIGHT}')
     found, at = bytearray(), PCX_HEAD
     while len(found) < SIZE:
         count = data[at] & ~RUN if data[at] >= RUN else 1

@@ -12,7 +12,8 @@ WORDS = ['--headless', '--no-sandbox', '--disable-gpu', '--window-size=1200,900'
 # What a script on a page may use: it presses keys, counts the colours of a picture, and tells what it found.
 SCRIPT = '''<pre id="tested"></pre><script>
 const hit = (...keys) => keys.forEach(key => dispatchEvent(new KeyboardEvent('keydown', { key })));
-const colours = it => new Set(new Uint32Array(it.getContext('2d').getImageData(0, 0, it.width, it.height).data.buffer)).size;
+const bytes = it => it.getContext('2d').getImageData(0, 0, it.width, it.height).data.buffer;
+const colours = it => new Set(new Uint32Array(bytes(it))).size;
 const wait = () => new Promise(done => setTimeout(done, 100));
 (async () => { let found; try { found = await (async () => { %s })(); } catch (error) { found = String(error); }
 document.getElementById('tested').textContent = JSON.stringify(found); })();

@@ -104,7 +104,8 @@ class Compare(Tools):
         for part, words in [('has 2 views', '2 0 0 trace.bin'), ('X: a number from 0 to 319', '0 320 0 trace.bin'),
                             ('Y: a number from 0 to 199', '0 0 200 trace.bin'), ('VIEW: a number', 'x 0 0 trace.bin'),
                             ('cannot read absent', '0 0 0 absent'),
-                            ('and a view has 512000; name the whole of what doomview trace', '0 0 0 names.wad'), ('is no WAD', '0 0 0 trace.bin trace.bin'),
+                            ('and a view has 512000; name the whole of what doomview trace', '0 0 0 names.wad'),
+                            ('is no WAD', '0 0 0 trace.bin trace.bin'),
                             ('--help shows its words', '0 0')]:
             self.refuses(part, 'pixel', *words.split())
 
@@ -158,11 +159,12 @@ class Compare(Tools):
         self.assertEqual(self.run_tool('compare', *words)[0], 1)
         found = pages_shown.shown(self.at('page.html'), '''
             const text = id => document.getElementById(id).textContent, all = [];
-            await wait(); all.push(text('head'), text('told'), [...document.querySelectorAll('#painters button')].map(it => it.textContent));
+            const buttons = [...document.querySelectorAll('#painters button')];
+            await wait(); all.push(text('head'), text('told'), buttons.map(it => it.textContent));
             hit('f'); await wait(); all.push(text('told')); hit('n'); await wait(); all.push(text('told'));
             hit('ArrowLeft'); await wait(); all.push(text('told'));
-            const hidden = () => data.views.map((_, k) => document.getElementById('v' + k).hidden), pick = k =>
-                document.querySelectorAll('#painters button')[k].click(), caption = () => canvases(1)[0].nextSibling.textContent;
+            const hidden = () => data.views.map((_, k) => document.getElementById('v' + k).hidden);
+            const pick = k => buttons[k].click(), caption = () => canvases(1)[0].nextSibling.textContent;
             all.push(canvases(0).map(colours)); pick(0); all.push(hidden());
             hit('b'); await wait(); all.push(caption()); hit('b'); await wait(); all.push(caption());
             pick(1); await wait(); all.push(hidden(), text('told')); return all;''')
@@ -216,7 +218,8 @@ class Compare(Tools):
             before = (bytes(960), bytes(3) + line[:-3], above)[kind]
             lines += bytes([kind]) + bytes((a - b) & 255 for a, b in zip(line, before))
             above = line
-        chunks = png.chunk(b'IHDR', struct.pack('>IIBBBBB', 320, 200, 8, 2, 0, 0, 0)) + png.chunk(b'IDAT', zlib.compress(lines))
+        head = png.chunk(b'IHDR', struct.pack('>IIBBBBB', 320, 200, 8, 2, 0, 0, 0))
+        chunks = head + png.chunk(b'IDAT', zlib.compress(lines))
         self.write('shots/view4.png', png.SIGNATURE + chunks)
         status, output, error = self.run_tool('compare', 'ours.bin', 'shots', '--wad', 'names.wad')
         self.assertEqual((status, error), (1, ''))
@@ -226,8 +229,8 @@ class Compare(Tools):
         self.write('one.bin', frame)
         words = ['compare', 'one.bin', 'shots/view2.png']
         done = self.run_tool(*words, '--wad', 'twice.wad')
-        self.assertEqual(done[:2], (0, b'views 1 same 1 different 0 pixels 0\nentries of the palette with the same colour: '
-                                       b'8 and 10; where ours has one of them, the port counts as having it too\n'))
+        self.assertEqual(done[:2], (0, b'views 1 same 1 different 0 pixels 0\n'
+                                       b'entries of the palette with the same colour: 8 and 10; where ours has one of them, the port counts as having it too\n'))
         self.refuses('name it by --wad', *words)
         self.write('other.wad', wad([('PLAYPAL', bytes(768))]))
         self.refuses('the colour 5,2,9 at row 0 column 0 is in no entry of the palette', *words, '--wad', 'other.wad')

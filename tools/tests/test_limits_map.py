@@ -24,7 +24,8 @@ with open(words[words.index('--path') + 1]) as file:
 for view, (x, y, z, angle) in enumerate(rows):
     if job == 'limits':
         planes = 60 + (x >> 16) // 4 + len([word for word in words if word.endswith('open.wad')])
-        print(f'view {view} planes {planes} openings {y >> 16} fragments {min(256, abs(y) >> 16)} sprites {angle >> 28}')
+        fragments, sprites = min(256, abs(y) >> 16), angle >> 28
+        print(f'view {view} planes {planes} openings {y >> 16} fragments {fragments} sprites {sprites}')
     else:
         sys.stdout.buffer.write(bytes(i % 251 for i in range(64000 if job == 'render' else 512000)))
 '''
@@ -32,14 +33,15 @@ for view, (x, y, z, angle) in enumerate(rows):
 
 def hall():
     """Two halls with a door between them, and one to which no way leads; without nodes but one leaf each."""
-    corners = [(0, 0), (512, 0), (512, 512), (0, 512), (576, 0), (576, 512), (1024, 0), (1024, 512), (2000, 0), (2300, 0),
-               (2300, 300), (2000, 300)]
+    corners = [(0, 0), (512, 0), (512, 512), (0, 512), (576, 0), (576, 512), (1024, 0), (1024, 512), (2000, 0),
+               (2300, 0), (2300, 300), (2000, 300)]
     one = [(0, 3, 0, None), (3, 2, 0, None), (1, 0, 0, None), (2, 5, 1, None), (4, 1, 1, None), (5, 7, 2, None),
            (7, 6, 2, None), (6, 4, 2, None), (8, 11, 3, None), (11, 10, 3, None), (10, 9, 3, None), (9, 8, 3, None)]
     doors = [(2, 1, 0, 1), (4, 5, 2, 1)]
     sides, lines = [], []
     for start, end, front, back in one + doors:
-        lines.append((start, end, 1 if back is None else 4, 0, 0, len(sides), 0xffff if back is None else len(sides) + 1))
+        flags, side = (1, 0xffff) if back is None else (4, len(sides) + 1)
+        lines.append((start, end, flags, 0, 0, len(sides), side))
         sides += [front] if back is None else [front, back]
     first = {sector: next(i for i, it in enumerate(one) if it[2] == sector) for sector in range(4)}
     segs = [(*one[first[sector]][:2], 0, first[sector], 0, 0) for sector in range(4)]
@@ -49,7 +51,7 @@ def hall():
     sectors = [(0, 128), (0, 0), (0, 128), (0, 128)]
     return [('THINGS', struct.pack('<hhhHH', 64, 64, 0, 1, 7)),
             ('LINEDEFS', b''.join(struct.pack('<7H', *line) for line in lines)),
-            ('SIDEDEFS', b''.join(struct.pack('<hh8s8s8sH', 0, 0, name('-'), name('-'), name('-'), it) for it in sides)),
+            ('SIDEDEFS', b''.join(struct.pack('<hh8s8s8sH', 0, 0, *[name('-')] * 3, it) for it in sides)),
             ('VERTEXES', b''.join(struct.pack('<hh', *it) for it in corners)),
             ('SEGS', b''.join(struct.pack('<6H', *it) for it in segs)),
             ('SSECTORS', b''.join(struct.pack('<HH', 1, i) for i in range(4))),
@@ -130,8 +132,9 @@ class LimitsMap(Tools):
         rows = [(1, 1, 4, 7, 99, 0), (1, 1, 4, 7, 98, 0), (1, 1, 5, 7, 99, 0), (4, 2, 5, 3, 0, 0), (2, 1, 0, 8, 1, 0),
                 (2, 1, 3, 8, 1, 0), (3, 2, 1, 2, 1, 0), (5, 1, 6, 9, 1, 0), (0, 0, 0, 0, 0, 0), (6, 1, 1, 9, 1, 0)]
         found = limits_page.seen(b''.join(traces.RECORD.pack(*row) for row in rows), traces.Names([]))
-        self.assertEqual(found, {'fragments': [2, 2, [['lump 7', 2], ['texture 3', 1]]],
-                                 'planes': [3, 2, [['lump 8', 2], ['texture 2', 1]]], 'sprites': [1, 1, [['lump 9', 1]]]})
+        fragments, planes = [['lump 7', 2], ['texture 3', 1]], [['lump 8', 2], ['texture 2', 1]]
+        self.assertEqual(found, {'fragments': [2, 2, fragments], 'planes': [3, 2, planes],
+                                 'sprites': [1, 1, [['lump 9', 1]]]})
 
     @unittest.skipUnless(pages_shown.BROWSER, 'no Chromium here')
     def test_shown(self):
@@ -146,8 +149,9 @@ class LimitsMap(Tools):
             hit('n'); all.push(text('seen'));
             const overs = now().cells.filter(cell => isOver('planes', number(cell, 0)) && drawnSize(cell) * scale > 2);
             const isBlack = cell => {
-                const [x, y, size] = square(cell), at = [x + size * .15, y + size * .5].map(it => it * devicePixelRatio);
-                return pen.getImageData(...at, 1, 1).data.reduce((a, b) => a + b) < 255 + 99;
+                const [x, y, size] = square(cell), k = devicePixelRatio;
+                const colour = pen.getImageData((x + size * .15) * k, (y + size * .5) * k, 1, 1).data;
+                return colour[0] + colour[1] + colour[2] < 99;
             };
             all.push(overs.length, overs.filter(isBlack).length, now().cells.filter(cell => cell.isCut).length);
             all.push(now().cells.filter(cell => cellAt(cell[X], cell[Y] + .5) === cell).length);
@@ -186,13 +190,15 @@ class LimitsMap(Tools):
         self.refuses('there is no WAD absent', 'limits-map', 'absent', 'MAP01', doomview=self.counting)
         lumps = dict(hall())
         for part, label, data in [('has no start of a player', 'THINGS', b''),
-                                  ('a vertex of line 0 is not there', 'VERTEXES', b''), ('is damaged', 'LINEDEFS', b'')]:
+                                  ('a vertex of line 0 is not there', 'VERTEXES', b''),
+                                  ('is damaged', 'LINEDEFS', b'')]:
             self.write('bad.wad', wad([('MAP01', b''), *{**lumps, label: data}.items()]))
             self.refuses(part, 'limits-map', 'bad.wad', 'MAP01', doomview=self.counting)
 
     def test_interrupt(self):
         """An interrupt ends the runs that go on, and leaves nothing behind."""
-        slow = self.stand_in('slow', '#!/bin/sh\ncase "$*" in *.1.csv*) exit 0 ;; esac\necho $$ >>pids\nexec sleep 60\n')
+        slow = self.stand_in('slow', '#!/bin/sh\ncase "$*" in *.1.csv*) exit 0 ;; esac\n'
+                             'echo $$ >>pids\nexec sleep 60\n')
         os.symlink('/bin/sleep', self.at('bin', 'sleep'))
         os.mkdir(self.at('tmp'))
         run = subprocess.Popen([COMMAND, 'limits-map', 'hall.wad', 'MAP01', 'page.html'], cwd=self.folder,
@@ -216,8 +222,8 @@ class LimitsMap(Tools):
         data = pages_shown.data_of(self.at('page.html'))
         cells, names = data['states'][0]['cells'], data['counts']
         rows = ['x,y,z,angle'] + [
-            f'{cell[0] << 16},{(cell[1] << 16) + 32768},{cell[3] + 41 << 16},{(cell[7 + 2 * i] << 32) // data["directions"]}'
-            for cell in cells for i in range(4)]
+            f'{x << 16},{(y << 16) + 32768},{floor + 41 << 16},{(way << 32) // data["directions"]}'
+            for x, y, _, floor, _, _, *counts in cells for way in counts[1::2]]
         self.write('rows.csv', ''.join(f'{row}\n' for row in rows).encode())
         words = ['limits', 'MAP01', 'room.wad', '--path', 'rows.csv']
         lines = iter(self.run_tool(*words, doomview=TESTED)[1].decode().splitlines())

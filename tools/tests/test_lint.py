@@ -1,4 +1,4 @@
-"""Tests the tool lint: the made room has no mistake, and each planted one is found. Tests what explain takes from it."""
+"""Tests the tool lint: the made room has no mistake, and each planted one is found; and what explain takes from it."""
 import struct
 import unittest
 
@@ -55,23 +55,26 @@ class Lint(Tools):
         self.finds('the name is empty; write -', 'SIDEDEFS', side, 20, name(''))
         self.finds(f'hole texture: line {one_sided} front: needs a texture: middle, ', 'SIDEDEFS', side, 20, name('-'))
         self.finds('error flat: sector 0: floor TILE is no flat; is it TILES?', 'SECTORS', 0, 4, name('TILE'))
-        self.finds('error flat: sector 1: ceiling BARS is no flat: there is a lump of that name, but not between F_START',
-                   'SECTORS', 1, 12, name('BARS'))
+        self.finds('error flat: sector 1: ceiling BARS is no flat: there is a lump of that name, but not between '
+                   'F_START', 'SECTORS', 1, 12, name('BARS'))
 
     def test_lines(self):
         lines = self.records('LINEDEFS', '<7H')
         one_sided = next(i for i, line in enumerate(lines) if line[6] == 0xffff)
         step = self.line_of_two_sides(lambda front, back: front[0] < back[0])
         self.finds(f'error line: line {one_sided}: has no front side', 'LINEDEFS', one_sided, 10, b'\xff\xff')
-        self.finds(f'error line: line {one_sided}: its back side, or the sector of that, is not there', 'LINEDEFS', one_sided,
-                   12, b'\x99\x09')
+        self.finds(f'error line: line {one_sided}: its back side, or the sector of that, is not there', 'LINEDEFS',
+                   one_sided, 12, b'\x99\x09')
         beyond = struct.pack('<7H', 0, 1, 1, 0, 0, 0x999, 0xffff)
-        self.finds(f'error line: lines {len(lines)} {len(lines) + 1}: its front side, or the sector of that, is not there',
-                   LINEDEFS=self.lumps['LINEDEFS'] + beyond * 2)
-        self.finds(f'odd line: line {one_sided}: is two-sided and has no back side', 'LINEDEFS', one_sided, 4, b'\4', status=0)
+        self.finds(f'error line: lines {len(lines)} {len(lines) + 1}: its front side, or the sector of that, is not '
+                   'there', LINEDEFS=self.lumps['LINEDEFS'] + beyond * 2)
+        self.finds(f'odd line: line {one_sided}: is two-sided and has no back side', 'LINEDEFS', one_sided, 4, b'\4',
+                   status=0)
         self.finds(f'odd line: line {step}: has two sides and is not two-sided', 'LINEDEFS', step, 4, b'\1')
-        self.finds(f'odd line: line {step}: has no length', 'LINEDEFS', step, 2, struct.pack('<H', lines[step][0]), status=0)
-        self.finds(f'hole texture: line {step} front: needs a texture: lower', 'SIDEDEFS', lines[step][5], 12, name('-'))
+        self.finds(f'odd line: line {step}: has no length', 'LINEDEFS', step, 2, struct.pack('<H', lines[step][0]),
+                   status=0)
+        self.finds(f'hole texture: line {step} front: needs a texture: lower', 'SIDEDEFS', lines[step][5], 12,
+                   name('-'))
 
     def test_textures(self):
         """Textures that end before the wall, and those of several patches."""
@@ -81,14 +84,16 @@ class Lint(Tools):
         low = room.patch(64, 72, 0, 0, room.bricks)
         lists = dict(room.textures([('BRICKS', low), ('PANELS', lumps['PANELS']), ('BARS', lumps['BARS']),
                                     ('SKY1', lumps['SKY1'])]))
-        self.finds('middle BRICKS is 72 high and the wall 160: rows of other pictures show', status=0, BRICKS=low, **lists)
+        self.finds('middle BRICKS is 72 high and the wall 160: rows of other pictures show', status=0, BRICKS=low,
+                   **lists)
         narrow = room.patch(32, 128, 0, 0, room.bars)
         self.finds('middle BARS has no patches in column 32: the Medusa effect', BARS=narrow)
         self.assertGreater(len(numbers), 0)
 
     def test_sectors(self):
         sectors = self.records('SECTORS', '<hh8s8shhh')
-        self.finds('odd sector: sector 0: its ceiling -9 is below its floor 0', 'SECTORS', 0, 2, struct.pack('<h', -9), status=0)
+        self.finds('odd sector: sector 0: its ceiling -9 is below its floor 0', 'SECTORS', 0, 2, struct.pack('<h', -9),
+                   status=0)
         sides = self.records('SIDEDEFS', '<hh8s8s8sH')
         line = next(it for it in self.records('LINEDEFS', '<7H') if it[6] == 0xffff)
         other = (sides[line[5]][5] + 1) % len(sectors)
@@ -96,8 +101,10 @@ class Lint(Tools):
         self.assertEqual(sum('is not closed: its lines end at' in it for it in found), 2, found)
 
     def test_things(self):
-        self.finds('odd thing: thing 1: type 2028 at -500, 0 stands outside', 'THINGS', 1, 0, struct.pack('<hh', -500, 0), status=0)
-        self.finds('odd thing: thing 1: type 999 is none that the games draw', 'THINGS', 1, 6, struct.pack('<H', 999), status=0)
+        self.finds('odd thing: thing 1: type 2028 at -500, 0 is outside', 'THINGS', 1, 0, struct.pack('<hh', -500, 0),
+                   status=0)
+        self.finds('odd thing: thing 1: type 999 is none that the games draw', 'THINGS', 1, 6, struct.pack('<H', 999),
+                   status=0)
         self.finds('error thing: thing 1: type 3004 needs the picture POSSA, which no WAD has', 'THINGS', 1, 6,
                    struct.pack('<H', 3004))
         self.finds('error thing: map: has no start of player 1', 'THINGS', 0, 6, struct.pack('<H', 2))
@@ -135,7 +142,8 @@ class Lint(Tools):
         for refused, lump, data, parts in [
                 ('903 0', 'SECTORS', flats, ['TILED is no flat; is it TILES?', 'MUSS is no flat; is it MOSS?']),
                 ('801 1', 'THINGS', things, ['things 1 2: type 3004 needs the picture POSSA']),
-                ('901 0', 'SIDEDEFS', sides, ['BRICK is in no list of textures; is it BRICKS?', 'PANNELS is in no list']),
+                ('901 0', 'SIDEDEFS', sides,
+                 ['BRICK is in no list of textures; is it BRICKS?', 'PANNELS is in no list']),
                 ('905 0', 'BARS', room.patch(32, 128, 0, 0, room.bars), ['middle BARS has no patches in column 32'])]:
             self.write('made.wad', wad({**self.lumps, lump: data}.items()))
             error = self.run_tool('explain', 'audit', 'MAP01', 'made.wad', '--path', 'path.csv', doomview=ending,

@@ -131,7 +131,8 @@ class Screens(unittest.TestCase):
     def test_scaled(self):
         rgb = bytes(part for y in range(400) for x in range(640) for part in (x // 2 % 251, y // 2, 7))
         found = screens.sampled(640, 400, rgb)
-        self.assertEqual((len(found), found[:6], found[-3:]), (3 * FRAME, bytes([0, 0, 7, 1, 0, 7]), bytes([68, 199, 7])))
+        ends = bytes([0, 0, 7, 1, 0, 7]), bytes([68, 199, 7])
+        self.assertEqual((len(found), found[:6], found[-3:]), (3 * FRAME, *ends))
         with self.assertRaisesRegex(Trouble, 'fewer than 320 by 200'):
             screens.sampled(160, 100, b'')
 
@@ -188,7 +189,8 @@ class Compare(Tools):
 
     def test_different(self):
         """Pixels that differ are counted by their painters."""
-        other = [frame[:3 * FRAME - 3 * count] + bytes([1, 254, 0]) * count for frame, count in zip(self.video, (30, 10))]
+        other = [frame[:3 * FRAME - 3 * count] + bytes([1, 254, 0]) * count
+                 for frame, count in zip(self.video, (30, 10))]
         status, output, error = self.compare('--views', '2', '--keep', 'kept', frames=other)
         self.assertEqual((status, error), (1, ''), output)
         lines = output.decode().splitlines()
@@ -226,8 +228,8 @@ class Real(unittest.TestCase):
 
     def test_dsda(self):
         """It differs in planes and walls alone."""
-        self.assertRegex(self.lines('dsda-doom', 1)[0], r'^dsda-doom MAP01 views 1 pixels [0-9.]+ % (packed spans [0-9.]+ '
-                                                        r'% )?plane [0-9.]+ %( wall [0-9.]+ %)?; textures ahead by 1$')
+        self.assertRegex(self.lines('dsda-doom', 1)[0], r'^dsda-doom MAP01 views 1 pixels [0-9.]+ % (packed spans '
+                                                        r'[0-9.]+ % )?plane [0-9.]+ %( wall [0-9.]+ %)?; textures ahead by 1$')
 
     @unittest.skipUnless(os.environ.get('DOOMVIEW_PORTS'), 'it is tried with DOOMVIEW_PORTS=1 alone')
     def test_chocolate(self):

@@ -77,7 +77,8 @@ class Check(Tools):
     def test_packed(self):
         self.assertEqual(self.check(*self.packed[:3])[0], 1)
         self.assertIn('--packed takes it as right', self.error)
-        self.assertEqual(self.check(words=('--maps', 'MAP01', '--packed')), (0, ['MAP01 near packed 3', 'all packed 3']))
+        words = ('--maps', 'MAP01', '--packed')
+        self.assertEqual(self.check(words=words), (0, ['MAP01 near packed 3', 'all packed 3']))
 
     def test_wrong(self):
         frames = changed(b''.join(self.ours[:3]), 1, 45)
@@ -155,7 +156,8 @@ class Made(Tools):
         self.assertEqual([bool(it.original) for it in near[:5]], [False, True, False, True, False])
         self.assertEqual((near[3].frame, near[3].packed), ('-', '-'))
         self.assertEqual([it.view for it in found if it.set == 'sizes'], list(range(24)))
-        self.assertEqual(self.vectors('draw', 'out/room.csv', 'room.wad', '-o', 'ours', '--maps', 'MAP01'), (0, b'', ''))
+        words = ['out/room.csv', 'room.wad', '-o', 'ours', '--maps', 'MAP01']
+        self.assertEqual(self.vectors('draw', *words), (0, b'', ''))
         self.assertEqual(sorted(os.listdir(self.at('ours'))), ['MAP01-light.bin', 'MAP01-sizes.bin', 'MAP01-skills.bin',
                                                               'MAP01-weapons.bin', 'MAP01.bin'])
         status, output, _ = self.run_command(CHECK, 'out/room.csv', 'ours')
@@ -178,7 +180,8 @@ class Made(Tools):
         """Layers as a word and as a file."""
         for layers in vectors.HELD:
             self.assertEqual(weapons.of_word(weapons.word(layers)), layers)
-        self.assertEqual(weapons.text([vectors.PISTOL, ()]), 'view,sprite,frame,bright,sx,sy\n0,PISG,A,0,65536,2097152\n')
+        self.assertEqual(weapons.text([vectors.PISTOL, ()]),
+                         'view,sprite,frame,bright,sx,sy\n0,PISG,A,0,65536,2097152\n')
 
     def test_known(self):
         found = vector(0, frame(1), frame(2), 'memory', frame(3))
@@ -190,7 +193,8 @@ class Compare(Tools):
     def test_known(self):
         """`compare --vectors` names what is known of a frame that differs."""
         ours, full = [frame(colour) for colour in (1, 2, 3)], frame(23)
-        rows = [vector(0, ours[0], frame(11)), vector(1, ours[1], frame(12), 'memory', full), vector(2, ours[2], ours[2])]
+        rows = [vector(0, ours[0], frame(11)), vector(1, ours[1], frame(12), 'memory', full),
+                vector(2, ours[2], ours[2])]
         self.write('made.csv', vectors.text(rows).encode())
         self.write('ours.bin', b''.join(ours))
         self.write('MAP01.bin', frame(11) + full + frame(4))

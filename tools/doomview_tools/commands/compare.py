@@ -60,7 +60,7 @@ def add_words(parser):
     parser.add_argument('--png', metavar='FOLDER', help='writes a picture of each view that differs into FOLDER')
     parser.add_argument('--html', metavar='OUT.html', help='writes a page of the views that differ')
     parser.add_argument('--most', metavar='N', type=cli.number(0, sys.maxsize), default=sys.maxsize,
-                        help='names N views that differ, and counts the others')
+                        help='lists N views that differ, and counts the others')
 
 
 def told(view, ours, port, places):
@@ -110,7 +110,8 @@ class FramesOfPictures:
         self.files, self.palette = files, pictures.Palette(names.palette)
         self.count = len(self.files)
         if not options.wad:
-            raise Trouble(f'{options.port}: the colours of pictures are those of the palette of a WAD; name it by --wad')
+            raise Trouble(f'{options.port}: the colours of pictures are those of the palette of a WAD; name it by '
+                          '--wad')
 
     def frame(self, view, ours):
         return self.palette.frame(self.files[view], ours)

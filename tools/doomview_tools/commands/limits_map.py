@@ -25,9 +25,9 @@ sectors to which a way leads from a start, the eye 41 over the floor, in 8 direc
 in four, twice, and looked at in 16. All is counted a second time with the doors open: each sector without height that
 has a tag, or stands behind a line with a special, is raised to 4 under the lowest ceiling beside it.
 
-OUT.html is a page of one file: the map with its cells, light for few and dark for many, black with a cross where a
-view is over a limit; the worst views with their pictures; and the row of a view for a path, to copy. Keys and mouse
-work, and the page says which.
+OUT.html is a page of one file: the map with its places, light for few and dark for many, black where a view is over a
+limit; the worst views with their pictures, and of what their planes, fragments and sprites are; and the row of a view
+for a path, to copy. Keys and mouse work, and the page says which.
 ''', '''
 $ doomview limits-map freedoom2.wad MAP01 map01.html
 $ doomview limits-map --iwad freedoom2.wad mymap.wad MAP01 --json
@@ -46,7 +46,7 @@ def add_words(parser):
     parser.add_argument('--json', action='store_true', help='prints the numbers as JSON')
     parser.add_argument('--worst', metavar='FILE', help='writes the worst views of each count as a camera path to FILE')
     parser.add_argument('--all', action='store_true',
-                        help='looks from places to which no way leads from a start, too; the page tells them apart')
+                        help='looks from places to which no way leads from a start, too; the page strikes them through')
     parser.add_argument('--shut', action='store_true', help='leaves the doors shut, and does not count a second time')
     for name in ('planes', 'openings'):
         option = jobs.options()[f'--{name}']

@@ -24,8 +24,8 @@ hole: a part of a wall that is seen has no texture.
 odd: sectors that are not closed; things outside the level, or of a type that no game draws; walls higher than their
 texture, where rows of other pictures show (tutti-frutti); lines without length, or whose flag and sides do not fit.
 
-Lines, sectors and things are counted from 0, as in map editors. Where the program is built, its audit is asked too, and
-what keeps the map from being read follows on standard error.
+Lines, sectors and things are counted from 0, as in map editors. Where the program is built, it audits the map too, and
+what keeps a view from being drawn follows on standard error.
 ''', '''
 $ doomview lint freedoom2.wad MAP01
 $ doomview lint --iwad freedoom2.wad mymap.wad MAP01
