@@ -243,7 +243,7 @@ class Freedoom(unittest.TestCase):
 
     def check(self, name, folder, maps, *words):
         done = subprocess.run([CHECK, os.path.join(TOP, 'vectors', f'{name}.csv'), folder, '--maps', ','.join(maps),
-                               *words], stdout=subprocess.PIPE, text=True)
+                               *words], stdout=subprocess.PIPE, stderr=subprocess.PIPE, text=True)
         return done.returncode, done.stdout.splitlines()
 
     @unittest.skipUnless(TESTED, 'the program is not built')
