@@ -113,7 +113,9 @@ class LimitsMap(Tools):
 
     def test_page(self):
         """Each number of the page is that which doomview gave for its row."""
-        self.looked('page.html', '--worst', 'worst.csv', '--all')
+        self.looked('page.html', '--worst', 'worst.csv', '--opened', 'opened.wad', '--all')
+        opened = levels.read([self.at('opened.wad')], 'MAP01')
+        self.assertEqual([sector.ceiling for sector in opened.sectors], [128, 124, 128, 128])
         data = pages_shown.data_of(self.at('page.html'))
         self.assertEqual((data['title'], data['reached'], data['doors']), ('MAP01 of hall.wad', 3, [1]))
         for number, state in enumerate(data['states']):
@@ -169,7 +171,7 @@ class LimitsMap(Tools):
         self.assertEqual(found[9], found[3])
         self.assertEqual(found[10], 320)
         made_of, overs, black, cut, pointed, row, expected, shown = found[11:]
-        self.assertRegex(made_of, r'^\d+ planes have a pixel in this view: \w+ \d+')
+        self.assertRegex(made_of, r'^\d+ of the \d+ planes have a pixel in this view: \w+ \d+')
         self.assertGreater(overs, 3)
         self.assertGreater(black, .8 * overs)  # but for lines, dots and the cone over them
         self.assertGreater(cut, 3)
@@ -185,7 +187,8 @@ class LimitsMap(Tools):
         self.assertNotIn('cannot be read', error)
         for part, *words in [('has to end in .html', 'page.htm'), ('there is no folder absent', 'absent/page.html'),
                              ('multiple of 8', '--step', '60'), ('--planes: a number from 128', '--planes', '1'),
-                             ('there is no folder absent', '--worst', 'absent/rows')]:
+                             ('there is no folder absent', '--worst', 'absent/rows'),
+                             ('there is no folder absent', '--opened', 'absent/open.wad')]:
             self.refuses(part, 'limits-map', 'hall.wad', 'MAP01', *words, doomview=self.counting)
         self.refuses('there is no WAD absent', 'limits-map', 'absent', 'MAP01', doomview=self.counting)
         lumps = dict(hall())
@@ -193,7 +196,9 @@ class LimitsMap(Tools):
                                   ('a vertex of line 0 is not there', 'VERTEXES', b''),
                                   ('is damaged', 'LINEDEFS', b'')]:
             self.write('bad.wad', wad([('MAP01', b''), *{**lumps, label: data}.items()]))
-            self.refuses(part, 'limits-map', 'bad.wad', 'MAP01', doomview=self.counting)
+            self.refuses(part, 'limits-map', 'bad.wad', 'MAP01', 'page.html', '--opened', 'opened.wad',
+                         doomview=self.counting)
+            self.assertFalse({'page.html', 'opened.wad'} & {*os.listdir(self.folder)})
 
     def test_interrupt(self):
         """An interrupt ends the runs that go on, and leaves nothing behind."""

@@ -23,7 +23,8 @@ openings; 256 fragments and 128 sprites are counted no further, and count as ove
 It looks from places of a grid at which a player can stand: within the lines, 56 units of height, 16 off the walls, in
 sectors to which a way leads from a start, the eye 41 over the floor, in 8 directions. Places with high counts are cut
 in four, twice, and looked at in 16. All is counted a second time with the doors open: each sector without height that
-has a tag, or stands behind a line with a special, is raised to 4 under the lowest ceiling beside it.
+has a tag, or is behind a line with a special, is raised to 4 under the lowest ceiling beside it. A view that was counted
+so has these counts in that map alone, which --opened writes.
 
 OUT.html is a page of one file: the map with its places, light for few and dark for many, black where a view is over a
 limit; the worst views with their pictures, and of what their planes, fragments and sprites are; and the row of a view
@@ -31,7 +32,7 @@ for a path, to copy. Keys and mouse work, and the page says which.
 ''', '''
 $ doomview limits-map freedoom2.wad MAP01 map01.html
 $ doomview limits-map --iwad freedoom2.wad mymap.wad MAP01 --json
-$ doomview limits-map freedoom2.wad MAP12 --planes 256 --worst worst.csv
+$ doomview limits-map freedoom2.wad MAP12 --planes 256 --worst worst.csv --opened open.wad
 ''', 'the program', '''
  0  no view is over a limit
  1  some are
@@ -45,6 +46,8 @@ def add_words(parser):
     parser.add_argument('page', metavar='OUT.html', nargs='?', help='the page, whose name ends in .html')
     parser.add_argument('--json', action='store_true', help='prints the numbers as JSON')
     parser.add_argument('--worst', metavar='FILE', help='writes the worst views of each count as a camera path to FILE')
+    parser.add_argument('--opened', metavar='FILE', help='writes the map with its doors open as a WAD to FILE, which goes '
+                        'behind the WADs of a job')
     parser.add_argument('--all', action='store_true',
                         help='looks from places to which no way leads from a start, too; the page strikes them through')
     parser.add_argument('--shut', action='store_true', help='leaves the doors shut, and does not count a second time')
@@ -70,7 +73,7 @@ def check(options):
         raise Trouble(f'--step is a multiple of {LEAST_STEP}, and {options.step} is none')
     if options.page is not None and not options.page.endswith('.html'):
         raise Trouble(f'the name of the page has to end in .html, and {options.page} does not')
-    for path in filter(None, (options.page, options.worst)):
+    for path in filter(None, (options.page, options.worst, options.opened)):
         check_target(path)
 
 
@@ -151,6 +154,8 @@ def looked(options, runs, folder, progress):
     progress.tell('drawing the worst views')
     if options.page:
         write_whole(options.page, limits_page(plan, options.files, states, palette_of(options.files), options, doors))
+    if options.opened:
+        write_whole(options.opened, ground.with_ceilings(plan.level, doors))
     if options.worst:
         write_whole(options.worst, worst_path(states, options).encode())
     found = numbers(plan, states, options)
