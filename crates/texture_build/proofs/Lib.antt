@@ -13,3 +13,4 @@ pub mod DrawLemmas
 pub mod BesideLemmas
 pub mod LiveLemmas
 pub mod LentLemmas
+pub mod PaintLemmas

@@ -7,3 +7,4 @@ pub mod Builds
 pub mod Ready
 pub mod Arts
 pub mod Draws
+pub mod Paints

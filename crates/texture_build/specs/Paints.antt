@@ -1,0 +1,71 @@
+-- A call that paints, by the dots that it gives the canvas.
+use Rattle.std.specs.Prelude.{ℕ, Bool, true, false, List, OnOk, Result}
+use Rattle.outside.specs.Shelf.{ShelfView}
+use Rattle.outside.specs.declared.fault.Fault.{Fault}
+use Rattle.lump_rules.specs.Contents.{lump_bytes}
+use Rattle.zone_rules.specs.Zones.{Heap}
+use Rattle.wad_dir.specs.DirectoryView.{DirectoryView}
+use Rattle.lump_cache.specs.Caches.{IsAtRest}
+use Rattle.lump_cache.specs.Calls.{HoldContents}
+use Rattle.pixel_rules.specs.declared.Painter.{Painter}
+use Rattle.pixel_rules.specs.Art.{Art}
+use Rattle.pixel_rules.specs.Dots.{Dot}
+use Rattle.pixel_strips.specs.Canvases.{CanvasView}
+use Rattle.pixel_strips.specs.Dotted.{HasDots, PlacedAlike}
+use Rattle.texture_build.specs.Arts.{view_art}
+use Rattle.texture_build.specs.Draws.{DrawsWith, FitBeside, HoldsArt}
+use Rattle.texture_build.specs.Views.{TexturesView}
+
+-- What a call paints with: a directory, textures, and the lump COLORMAP. One that shows no texture asks for lumps alone.
+pub record PaintTools : Type 0 where
+  pub dir : DirectoryView
+  pub textures : TexturesView
+  pub colormap : ℕ
+  pub textured : Bool
+
+-- tools of a call that shows textures
+abbrev pub paint_tools : DirectoryView → TexturesView → ℕ → PaintTools
+paint_tools dir textures colormap = record { dir = dir; textures = textures; colormap = colormap; textured = true }
+
+-- what is written: the cache by its shelf, and the canvas
+pub record PaintState : Type 0 where
+  pub shelf : ShelfView
+  pub cache : Heap
+  pub canvas : CanvasView
+
+abbrev pub paint_state : ShelfView → Heap → CanvasView → PaintState
+paint_state shelf cache canvas = record { shelf = shelf; cache = cache; canvas = canvas }
+
+-- the art where the files have these contents
+abbrev pub painted_art : List (List ℕ) → PaintTools → Art
+painted_art contents t = view_art (lump_bytes contents t.dir.lumps) t.textures t.colormap
+
+-- the cache is at rest with the colormap of `count` bytes, and has in each live lump the bytes of its file
+pub record HoldsLumps (view : ShelfView) (dir : DirectoryView) (contents : List (List ℕ)) (colormap count : ℕ)
+    (z : Heap) : Type 0 where
+  pub rest : IsAtRest colormap count z
+  pub files : HoldContents view dir z contents
+
+-- The cache holds what a call paints with, where the files have these contents.
+abbrev pub HoldsIf : Bool → PaintTools → List (List ℕ) → ℕ → ShelfView → Heap → Type 0
+HoldsIf true t contents count view z = HoldsArt view t.dir t.textures contents t.colormap count z
+HoldsIf false t contents count view z = HoldsLumps view t.dir contents t.colormap count z
+
+abbrev pub Holds : PaintTools → List (List ℕ) → ℕ → ShelfView → Heap → Type 0
+Holds t contents count view z = HoldsIf t.textured t contents count view z
+
+-- what a painter of each of these dots reads fits beside the colormap in a zone of that size
+abbrev pub FitIn : PaintTools → ℕ → ℕ → List Dot → Type 0
+FitIn t count zone dots = FitBeside t.dir.lumps t.textures t.colormap count zone dots
+
+-- A call by the dots that it gives the canvas, which are those of the files' contents and of what is asked (a sky, a
+-- fragment's facts), and by the textures and the lumps that it paints with. What it paints is told by an Ok alone.
+pub record Paints {A R E Q : Type 0} (fault_of : E → Fault R) (mark : Painter → ℕ → ℕ) (t : PaintTools)
+    (among pictures : ℕ → Type 0) (asked : Q → Type 0) (dots : List (List ℕ) → Q → List Dot) (old new : PaintState)
+    (result : Result A E) : Type 0 where
+  pub painted : (contents : List (List ℕ)) (count : ℕ) (q : Q) → Holds t contents count old.shelf old.cache →
+      asked q → OnOk result (HasDots mark (dots contents q) old.canvas new.canvas)
+  pub fits : (contents : List (List ℕ)) (count : ℕ) (q : Q) → Holds t contents count old.shelf old.cache →
+      asked q → OnOk result (FitIn t count old.cache.size (dots contents q))
+  pub draws : DrawsWith fault_of among pictures old.shelf new.shelf t.dir t.textures old.cache new.cache result
+  pub place : PlacedAlike old.canvas new.canvas
