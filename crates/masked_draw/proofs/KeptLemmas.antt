@@ -2,14 +2,15 @@
 use Rattle.std.proofs.Common.{◌≡◌, ℕ, List, length, Result, refl, ◌∙◌}
 use Rattle.outside.specs.Shelf.{ShelfView}
 use Rattle.lump_cache.specs.declared.fault.CacheFault.{CacheFault}
+use Rattle.lump_cache.specs.Caches.{cache_fault}
 use Rattle.pixel_rules.specs.declared.Painter.{Painter}
 use Rattle.pixel_rules.specs.Dots.{Dot}
-use Rattle.pixel_rules.specs.Art.{Art}
 use Rattle.pixel_strips.specs.Canvases.{CanvasView}
 use Rattle.picture_rules.specs.declared.wall.FragmentNote.{FragmentNote}
+use Rattle.texture_build.specs.Paints.{Paints}
 use Rattle.masked_draw.specs.declared.scene.MaskHands.{MaskHands}
 use Rattle.masked_draw.specs.declared.scene.MaskScene.{MaskScene}
-use Rattle.masked_draw.specs.Scenes.{AreSameMaskHands, CanPass, PaintsDots, mask_hands}
+use Rattle.masked_draw.specs.Scenes.{AreSameMaskHands, CanPass, mask_hands, scene_tools}
 use Rattle.masked_draw.proofs.SceneLemmas.{can_pass-later}
 
 -- hands hold the references that the first ones held, and as many marks
@@ -35,6 +36,6 @@ pub keeps-start : {S C : Type 0} {shelf : S → ShelfView} {canvas : C → Canva
     CanPass s notes (mask_hands shelf canvas hands) hands.marks.now → KeepsPass shelf canvas s notes hands hands
 keeps-start can = record { hands = keeps-none _; ready = can }
 
-pub keeps-more : {S C A : Type 0} {shelf : S → ShelfView} {canvas : C → CanvasView} {mark : Painter → ℕ → ℕ} {s : MaskScene} {notes : List FragmentNote} {among pictures : ℕ → Type 0} {f : Art → List Dot} {result : Result A CacheFault} {a b c : MaskHands S C} →
-    KeepsPass shelf canvas s notes a b → AreSameMaskHands b c → length c.marks.now ≡ length b.marks.now → PaintsDots mark s among pictures f (mask_hands shelf canvas b) (mask_hands shelf canvas c) result → KeepsPass shelf canvas s notes a c
+pub keeps-more : {S C A Q : Type 0} {shelf : S → ShelfView} {canvas : C → CanvasView} {mark : Painter → ℕ → ℕ} {s : MaskScene} {notes : List FragmentNote} {among pictures : ℕ → Type 0} {asked : Q → Type 0} {f : List (List ℕ) → Q → List Dot} {result : Result A CacheFault} {a b c : MaskHands S C} →
+    KeepsPass shelf canvas s notes a b → AreSameMaskHands b c → length c.marks.now ≡ length b.marks.now → Paints cache_fault mark (scene_tools s) among pictures asked f (mask_hands shelf canvas b) (mask_hands shelf canvas c) result → KeepsPass shelf canvas s notes a c
 keeps-more one same marks paints = record { hands = keeps-then one.hands same marks; ready = can_pass-later _ _ paints marks one.ready }

@@ -3,7 +3,6 @@ pub mod MarkLemmas
 pub mod PassedLemmas
 pub mod RowLemmas
 pub mod DownLemmas
-pub mod StepLemmas
 pub mod SceneLemmas
 pub mod KeptLemmas
 pub mod EntryLemmas
@@ -11,6 +10,5 @@ pub mod PostLemmas
 pub mod LoopLemmas
 pub mod SpriteLemmas
 pub mod MiddleLemmas
-pub mod LiveLemmas
 pub mod PassLemmas
 pub mod PictureLemmas

@@ -1,10 +1,11 @@
 -- What the loops of the masked pass have painted and marked, and how one fragment more changes it.
 use Rattle.std.proofs.Common.{◌≡◌, ℕ, ◌+◌, ◌-◌, ◌<◌, ℤ, pos, Bool, true, List, ◌++◌, Option, Some, None, Result, Ok, Err, IsErrAnd, length, get_or, refl, sym, ap, ◌∙◌, subst, arith}
-use Rattle.std.specs.Prelude.{slice_get, ◌≤ℤ◌}
+use Rattle.std.specs.Prelude.{slice_get, ◌≤ℤ◌, ⊤}
 use Rattle.std.proofs.lemmas.Int.{ints}
 use Rattle.std.proofs.lemmas.Option.{gets}
 use Rattle.word_rules.specs.Words.{minus_one}
 use Rattle.lump_cache.specs.declared.fault.CacheFault.{CacheFault}
+use Rattle.lump_cache.specs.Caches.{cache_fault}
 use Rattle.view_rules.specs.View.{ViewValue}
 use Rattle.pixel_rules.specs.declared.Painter.{Painter}
 use Rattle.pixel_rules.specs.Dots.{Dot}
@@ -15,18 +16,19 @@ use Rattle.picture_rules.specs.sprite.Drawsegs.{entry_has}
 use Rattle.picture_rules.specs.sprite.Clips.{gives_bottom, gives_top}
 use Rattle.picture_rules.specs.sprite.Middles.{middles_at, middles_of}
 use Rattle.picture_rules.specs.Noted.{IsWholeNote, greatest_clip, least_clip}
+use Rattle.texture_build.specs.Paints.{PaintState, Paints}
+use Rattle.texture_build.proofs.PaintLemmas.{on_ok_err, paints-none, paints-same, paints-then, paints-then_stop, paints-value, paints-wider}
 use Rattle.masked_draw.specs.declared.clips.SpriteClips.{SpriteClips}
 use Rattle.masked_draw.specs.declared.scene.MaskScene.{MaskScene}
 use Rattle.masked_draw.specs.Clipped.{AreSpriteRows, TakesRows, row_in}
 use Rattle.masked_draw.specs.Marks.{MarkedTo, MarksBy, is_between, is_passed, unmarked_dots}
 use Rattle.masked_draw.specs.Passes.{PassesSprite}
 use Rattle.masked_draw.specs.Ready.{IsMiddleNumber, IsNotedMiddle}
-use Rattle.masked_draw.specs.Scenes.{MaskState, PaintsDots, scene_drawseg, scene_drawsegs, scene_lists}
+use Rattle.masked_draw.specs.Scenes.{PaintsDots, scene_art, scene_drawseg, scene_drawsegs, scene_lists, scene_tools}
 use Rattle.masked_draw.proofs.DownLemmas.{down-end, down-more, down-start, middles_down}
 use Rattle.masked_draw.proofs.PassedLemmas.{ApartNotes, left-middles, marked-left, marked-pass, marked-turn, passed-middles, turn-here, turn_at, turns-end, turns-start}
 use Rattle.masked_draw.proofs.RowLemmas.{RowsFrom, rows-bottom, rows-bounds, rows-more, rows-start, rows-top}
 use Rattle.masked_draw.proofs.SceneLemmas.{gives_bottom-bounds, gives_top-bounds, scene-columns, scene-get, scene-length, scene-middle}
-use Rattle.masked_draw.proofs.StepLemmas.{on_ok_err, paints-none, paints-same, paints-then, paints-then_stop, paints-value, paints-wider}
 
 pub note-get : (notes : List FragmentNote) (k : ℕ) (d : FragmentNote) → k < length notes → slice_get notes k ≡ Some (get_or notes k d)
 note-get notes k d l = grind (arith, gets)
@@ -42,78 +44,74 @@ module _ (s : MaskScene) (notes : List FragmentNote) (es : List SpriteEntry) whe
       ∙ sym (down-more v art (scene_drawsegs s notes) es moment (length notes) m l)
 
   -- the columns that are left, from fragment m on
-  pub record LeavesMiddles (mark : Painter → ℕ → ℕ) (m : ℕ) (marks : List Bool) (start now : MaskState) : Type 0 where
+  pub record LeavesMiddles (mark : Painter → ℕ → ℕ) (m : ℕ) (marks : List Bool) (start now : PaintState) : Type 0 where
     pub paints : PaintsDots mark s (IsNotedMiddle (scene_lists s) notes) (λ (n : ℕ). ⊥)
         (λ art. middles_down s.view.now art (scene_drawsegs s notes) es None (length notes) (length notes - m)) start now (Ok (tt {0}))
     pub marked : MarkedTo (scene_drawseg s) notes es m (λ k. length es) marks
 
-  pub leaves-start : (mark : Painter → ℕ → ℕ) (marks : List Bool) (st : MaskState) → MarkedTo (scene_drawseg s) notes es (length notes) (λ k. length es) marks → LeavesMiddles mark (length notes) marks st st
+  pub leaves-start : (mark : Painter → ℕ → ℕ) (marks : List Bool) (st : PaintState) → MarkedTo (scene_drawseg s) notes es (length notes) (λ k. length es) marks → LeavesMiddles mark (length notes) marks st st
   leaves-start mark marks st h = record {
-    paints = paints-same _ (λ art. sym (down-start s.view.now art (scene_drawsegs s notes) es None (length notes))) (paints-none st (tt {0}));
+    paints = paints-same _ (λ contents q is. sym (down-start s.view.now (scene_art contents s) (scene_drawsegs s notes) es None (length notes))) (paints-none st (tt {0}));
     marked = h;
   }
 
-  pub leaves-more : {A : Type 0} {mark : Painter → ℕ → ℕ} {start a b : MaskState} {answer : A} (from m number : ℕ) (d : FragmentNote) (old new : List Bool) → ApartNotes notes → m < length notes → slice_get notes m ≡ Some d → number ≡ m → from ≡ m + 1 →
+  pub leaves-more : {A : Type 0} {mark : Painter → ℕ → ℕ} {start a b : PaintState} {answer : A} (from m number : ℕ) (d : FragmentNote) (old new : List Bool) → ApartNotes notes → m < length notes → slice_get notes m ≡ Some d → number ≡ m → from ≡ m + 1 →
       LeavesMiddles mark from old start a →
       PaintsDots mark s (IsMiddleNumber (scene_lists s) d) (λ (n : ℕ). ⊥) (λ art. unmarked_dots s.view.now art old d (is_between d.first d.last) number (scene_drawseg s d)) a b (Ok answer) →
       MarksBy d (is_between d.first d.last) old new → LeavesMiddles mark m new start b
   leaves-more {mark = mark} {start} {a} from m number d old new apart l g n up later call marks =
       let before : LeavesMiddles mark (m + 1) old start a = subst (λ (k : ℕ). LeavesMiddles mark k old start a) up later in record {
-        paints = paints-value (paints-same _
-            (λ art. middles_more s.view.now art None m number d (unmarked_dots s.view.now art old d (is_between d.first d.last) number (scene_drawseg s d)) g l n
+        paints = paints-value (tt {0}) (paints-same _
+            (λ contents q is. let art = scene_art contents s in middles_more s.view.now art None m number d (unmarked_dots s.view.now art old d (is_between d.first d.last) number (scene_drawseg s d)) g l n
             (ap (λ (k : ℕ). unmarked_dots s.view.now art old d (is_between d.first d.last) k (scene_drawseg s d)) n
             ∙ left-middles s.view.now art (scene_drawseg s) notes es (m + 1) (λ k. length es) old m d (scene-columns s d) before.marked (omega arith) g refl))
             (paints-then before.paints (paints-wider (scene-middle (scene_lists s) notes m d g) (λ n e. e) call)));
         marked = marked-left (scene_drawseg s) notes es (λ k. length es) (is_between d.first d.last) old new m d apart g marks before.marked;
       }
 
-  pub leaves-stop : {A B : Type 0} {mark : Painter → ℕ → ℕ} {f g : Art → List Dot} {start a b : MaskState} {part : Result B CacheFault} {fault : CacheFault} {whole : Result A CacheFault} (m k : ℕ) (d : FragmentNote) (old : List Bool) → slice_get notes k ≡ Some d →
-      part ≡ Err fault → IsErrAnd whole (λ e. e ≡ fault) → LeavesMiddles mark m old start a → PaintsDots mark s (IsMiddleNumber (scene_lists s) d) (λ (n : ℕ). ⊥) f a b part →
-      PaintsDots mark s (IsNotedMiddle (scene_lists s) notes) (λ (n : ℕ). ⊥) g start b whole
-  leaves-stop m k d old e was is before call = paints-then_stop was is before.paints (paints-wider (scene-middle (scene_lists s) notes k d e) (λ n e. e) call)
-
-  pub leaves-end : {mark : Painter → ℕ → ℕ} {start now : MaskState} (m : ℕ) (marks : List Bool) → m ≡ 0 → LeavesMiddles mark m marks start now →
+  pub leaves-end : {mark : Painter → ℕ → ℕ} {start now : PaintState} (m : ℕ) (marks : List Bool) → m ≡ 0 → LeavesMiddles mark m marks start now →
       PaintsDots mark s (IsNotedMiddle (scene_lists s) notes) (λ (n : ℕ). ⊥) (λ art. middles_at s.view.now art (scene_drawsegs s notes) es None (length notes)) start now (Ok (tt {0}))
   leaves-end m marks z h =
-      paints-same _ (λ art. ap (λ (k : ℕ). middles_down s.view.now art (scene_drawsegs s notes) es None (length notes) (length notes - k)) z ∙ down-end s.view.now art (scene_drawsegs s notes) es None (length notes)) h.paints
+      paints-same _ (λ contents q is. let art = scene_art contents s in ap (λ (k : ℕ). middles_down s.view.now art (scene_drawsegs s notes) es None (length notes) (length notes - k)) z ∙ down-end s.view.now art (scene_drawsegs s notes) es None (length notes)) h.paints
 
   -- the columns just before sprite i, from fragment m on
-  pub record PassesMiddles (mark : Painter → ℕ → ℕ) (i m : ℕ) (marks : List Bool) (start now : MaskState) : Type 0 where
+  pub record PassesMiddles (mark : Painter → ℕ → ℕ) (i m : ℕ) (marks : List Bool) (start now : PaintState) : Type 0 where
     pub paints : PaintsDots mark s (IsNotedMiddle (scene_lists s) notes) (λ (n : ℕ). ⊥)
         (λ art. middles_down s.view.now art (scene_drawsegs s notes) es (Some i) (length notes) (length notes - m)) start now (Ok (tt {0}))
     pub marked : MarkedTo (scene_drawseg s) notes es (length notes) (turn_at i m) marks
 
-  pub passes-start : (mark : Painter → ℕ → ℕ) (i : ℕ) (marks : List Bool) (st : MaskState) → MarkedTo (scene_drawseg s) notes es (length notes) (λ k. i) marks → PassesMiddles mark i (length notes) marks st st
+  pub passes-start : (mark : Painter → ℕ → ℕ) (i : ℕ) (marks : List Bool) (st : PaintState) → MarkedTo (scene_drawseg s) notes es (length notes) (λ k. i) marks → PassesMiddles mark i (length notes) marks st st
   passes-start mark i marks st h = record {
-    paints = paints-same _ (λ art. sym (down-start s.view.now art (scene_drawsegs s notes) es (Some i) (length notes))) (paints-none st (tt {0}));
+    paints = paints-same _ (λ contents q is. sym (down-start s.view.now (scene_art contents s) (scene_drawsegs s notes) es (Some i) (length notes))) (paints-none st (tt {0}));
     marked = marked-turn (scene_drawseg s) notes es (length notes) (λ k. i) (turn_at i (length notes)) marks (λ k l. turns-start i (length notes) k l) h;
   }
 
-  pub passes-more : {A : Type 0} {mark : Painter → ℕ → ℕ} {start a b : MaskState} {answer : A} (e : SpriteEntry) (i from m number : ℕ) (d : FragmentNote) (old new : List Bool) → ApartNotes notes → m < length notes → slice_get notes m ≡ Some d → number ≡ m →
+  pub passes-more : {A : Type 0} {mark : Painter → ℕ → ℕ} {start a b : PaintState} {answer : A} (e : SpriteEntry) (i from m number : ℕ) (d : FragmentNote) (old new : List Bool) → ApartNotes notes → m < length notes → slice_get notes m ≡ Some d → number ≡ m →
       i < length es → slice_get es i ≡ Some e → from ≡ m + 1 → PassesMiddles mark i from old start a →
       PaintsDots mark s (IsMiddleNumber (scene_lists s) d) (λ (n : ℕ). ⊥) (λ art. unmarked_dots s.view.now art old d (is_passed e (scene_drawseg s d)) number (scene_drawseg s d)) a b (Ok answer) →
       MarksBy d (is_passed e (scene_drawseg s d)) old new → PassesMiddles mark i m new start b
   passes-more {mark = mark} {start} {a} e i from m number d old new apart l g n il ig up later call marks =
       let before : PassesMiddles mark i (m + 1) old start a = subst (λ (k : ℕ). PassesMiddles mark i k old start a) up later in record {
-        paints = paints-value (paints-same _
-            (λ art. middles_more s.view.now art (Some i) m number d (unmarked_dots s.view.now art old d (is_passed e (scene_drawseg s d)) number (scene_drawseg s d)) g l n
+        paints = paints-value (tt {0}) (paints-same _
+            (λ contents q is. let art = scene_art contents s in middles_more s.view.now art (Some i) m number d (unmarked_dots s.view.now art old d (is_passed e (scene_drawseg s d)) number (scene_drawseg s d)) g l n
             (ap (λ (k : ℕ). unmarked_dots s.view.now art old d (is_passed e (scene_drawseg s d)) k (scene_drawseg s d)) n
             ∙ passed-middles s.view.now art (scene_drawseg s) notes es (length notes) (turn_at i (m + 1)) old m i d e (scene-columns s d) before.marked l g (turn-here i m) il ig))
             (paints-then before.paints (paints-wider (scene-middle (scene_lists s) notes m d g) (λ n e. e) call)));
         marked = marked-pass (scene_drawseg s) notes es (length notes) old new i m d e apart g l il ig marks before.marked;
       }
 
-  pub passes-stop : {A B : Type 0} {mark : Painter → ℕ → ℕ} {f : Art → List Dot} {start a b : MaskState} {part : Result B CacheFault} {fault : CacheFault} {whole : Result A CacheFault} (i m k : ℕ) (d : FragmentNote) (old new : List Bool) → slice_get notes k ≡ Some d →
-      part ≡ Err fault → IsErrAnd whole (λ e. e ≡ fault) → PassesMiddles mark i m old start a → PaintsDots mark s (IsMiddleNumber (scene_lists s) d) (λ (n : ℕ). ⊥) f a b part →
+  pub passes-stop : {A B : Type 0} {mark : Painter → ℕ → ℕ} {f : List (List ℕ) → ⊤ → List Dot} {start a b : PaintState} {part : Result B CacheFault} {fault : CacheFault} {whole : Result A CacheFault} (i m k : ℕ) (d : FragmentNote) (old new : List Bool) → slice_get notes k ≡ Some d →
+      part ≡ Err fault → IsErrAnd whole (λ e. e ≡ fault) → PassesMiddles mark i m old start a →
+      Paints cache_fault mark (scene_tools s) (IsMiddleNumber (scene_lists s) d) (λ (n : ℕ). ⊥) (λ (q : ⊤). ⊤) f a b part →
       PassesSprite mark s notes es i new start b whole
   passes-stop {fault = fault} {whole} i m k d old new e was is before call = record {
     paints = paints-then_stop was is before.paints (paints-wider (scene-middle (scene_lists s) notes k d e) (λ n e. e) call);
     marked = on_ok_err (MarkedTo (scene_drawseg s) notes es (length notes) (λ k. i + 1) new) fault whole is;
   }
 
-  pub passes-end : {mark : Painter → ℕ → ℕ} {start now : MaskState} (i m : ℕ) (marks : List Bool) → m ≡ 0 → PassesMiddles mark i m marks start now → PassesSprite mark s notes es i marks start now (Ok (tt {0}))
+  pub passes-end : {mark : Painter → ℕ → ℕ} {start now : PaintState} (i m : ℕ) (marks : List Bool) → m ≡ 0 → PassesMiddles mark i m marks start now → PassesSprite mark s notes es i marks start now (Ok (tt {0}))
   passes-end i m marks z h = record {
-    paints = paints-same _ (λ art. ap (λ (k : ℕ). middles_down s.view.now art (scene_drawsegs s notes) es (Some i) (length notes) (length notes - k)) z ∙ down-end s.view.now art (scene_drawsegs s notes) es (Some i) (length notes)) h.paints;
+    paints = paints-same _ (λ contents q is. let art = scene_art contents s in ap (λ (k : ℕ). middles_down s.view.now art (scene_drawsegs s notes) es (Some i) (length notes) (length notes - k)) z ∙ down-end s.view.now art (scene_drawsegs s notes) es (Some i) (length notes)) h.paints;
     marked = marked-turn (scene_drawseg s) notes es (length notes) (turn_at i m) (λ k. i + 1) marks (λ k l. ap (λ (j : ℕ). turn_at i j k) z ∙ turns-end i k) h.marked;
   }
 

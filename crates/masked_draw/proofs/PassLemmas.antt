@@ -1,5 +1,5 @@
 -- Laws of the sprites of a pass, one after the other in drawing order.
-use Rattle.std.proofs.Common.{◌≡◌, ℕ, ◌+◌, ◌-◌, ◌<◌, Bool, true, false, List, [], ◌∷◌, ◌++◌, Option, None, Some, Result, Ok, Err, IsErrAnd, length, get_or, refl, sym, ap, ◌∙◌, subst, arith}
+use Rattle.std.proofs.Common.{◌≡◌, ℕ, ◌+◌, ◌-◌, ◌<◌, Bool, true, false, List, [], ◌∷◌, ◌++◌, Option, None, Some, Result, Ok, length, get_or, refl, sym, ap, ◌∙◌, subst, arith}
 use Rattle.std.specs.Prelude.{slice_get, All, Contains, IfSome}
 use Rattle.std.specs.List.{AllPass}
 use Rattle.std.proofs.lemmas.Bool.{ltb-true}
@@ -17,15 +17,16 @@ use Rattle.picture_rules.specs.sprite.Order.{draw_order}
 use Rattle.picture_rules.specs.sprite.Middles.{masked_dots, middles_at, sprites_from}
 use Rattle.picture_rules.proofs.sprite.MaskedLemmas.{sprites_from-more}
 use Rattle.picture_rules.proofs.sprite.OrderLemmas.{draw_order-permutation}
+use Rattle.texture_build.specs.Paints.{PaintState}
+use Rattle.texture_build.proofs.PaintLemmas.{paints-none, paints-same, paints-then, paints-value, paints-wider}
 use Rattle.vissprites.specs.Bounds.{has_lump_below, lies_within}
 use Rattle.masked_draw.specs.declared.scene.MaskScene.{MaskScene}
 use Rattle.masked_draw.specs.Marks.{AreBefore, MarkedTo, mark_in}
 use Rattle.masked_draw.specs.Passes.{DrawsSprite}
 use Rattle.masked_draw.specs.Ready.{IsNotedMiddle, IsSpriteLump}
-use Rattle.masked_draw.specs.Scenes.{MaskState, PaintsDots, scene_drawsegs, scene_lists}
+use Rattle.masked_draw.specs.Scenes.{PaintsDots, scene_art, scene_drawsegs, scene_lists}
 use Rattle.masked_draw.proofs.MomentLemmas.{front-first}
 use Rattle.masked_draw.proofs.SceneLemmas.{scene-length}
-use Rattle.masked_draw.proofs.StepLemmas.{paints-none, paints-same, paints-then, paints-then_stop, paints-value, paints-wider}
 
 -- no column is marked before the first sprite
 before_first : (seg : FragmentNote → Drawseg) (es : List SpriteEntry) (marks : List Bool) (d : FragmentNote) (masked : Option ℕ) → ((p : ℕ) → mark_in marks p ≡ false) → AreBefore seg es marks d 0 masked
@@ -62,8 +63,8 @@ lump_below lumps e h = ltb-true e.lump lumps h
 pub sprite-lump : (lumps : ℕ) (sprites : List SpriteEntry) (k : ℕ) (e : SpriteEntry) → AllPass (has_lump_below lumps) sprites → (k < length (draw_order sprites)) × (e ≡ get_or (draw_order sprites) k e) → e.lump < lumps
 sprite-lump lumps sprites k e all t = lump_below lumps e (all_drawn (λ e. has_lump_below lumps e ≡ true) sprites k e all t)
 
-sprite_among : (sprites : List SpriteEntry) (k : ℕ) (e : SpriteEntry) → (k < length (draw_order sprites)) × (e ≡ get_or (draw_order sprites) k e) → (lump : ℕ) → lump ≡ e.lump → IsSpriteLump sprites lump
-sprite_among sprites k e t lump is = record { sprite = e; among = all_drawn (Contains sprites) sprites k e (All-contains_itself sprites) t; is = is }
+pub sprite-among : (sprites : List SpriteEntry) (k : ℕ) (e : SpriteEntry) → (k < length (draw_order sprites)) × (e ≡ get_or (draw_order sprites) k e) → (lump : ℕ) → lump ≡ e.lump → IsSpriteLump sprites lump
+sprite-among sprites k e t lump is = record { sprite = e; among = all_drawn (Contains sprites) sprites k e (All-contains_itself sprites) t; is = is }
 
 from_none : (s : MaskScene) (notes : List FragmentNote) (es : List SpriteEntry) (art : Art) → [] ≡ sprites_from s.view.now art (scene_drawsegs s notes) es 0 []
 unfolding sprites_from
@@ -76,28 +77,21 @@ all_dots s notes sprites art = ap (λ (n : ℕ). sprites_from s.view.now art (sc
 
 module _ (s : MaskScene) (notes : List FragmentNote) (sprites : List SpriteEntry) {mark : Painter → ℕ → ℕ} where
   -- no sprite is drawn
-  pub sprites-start : (st : MaskState) → PaintsDots mark s (IsNotedMiddle (scene_lists s) notes) (IsSpriteLump sprites) (λ art. sprites_from s.view.now art (scene_drawsegs s notes) (draw_order sprites) 0 []) st st (Ok (tt {0}))
-  sprites-start st = paints-same _ (λ art. from_none s notes (draw_order sprites) art) (paints-none st (tt {0}))
+  pub sprites-start : (st : PaintState) → PaintsDots mark s (IsNotedMiddle (scene_lists s) notes) (IsSpriteLump sprites) (λ art. sprites_from s.view.now art (scene_drawsegs s notes) (draw_order sprites) 0 []) st st (Ok (tt {0}))
+  sprites-start st = paints-same _ (λ contents q is. from_none s notes (draw_order sprites) (scene_art contents s)) (paints-none st (tt {0}))
 
   -- one sprite more
-  pub sprites-more : {A : Type 0} {start a b : MaskState} {answer : A} (so_far : List SpriteEntry) (e : SpriteEntry) (new : List Bool) → (length so_far < length (draw_order sprites)) × (e ≡ get_or (draw_order sprites) (length so_far) e) →
+  pub sprites-more : {A : Type 0} {start a b : PaintState} {answer : A} (so_far : List SpriteEntry) (e : SpriteEntry) (new : List Bool) → (length so_far < length (draw_order sprites)) × (e ≡ get_or (draw_order sprites) (length so_far) e) →
       PaintsDots mark s (IsNotedMiddle (scene_lists s) notes) (IsSpriteLump sprites) (λ art. sprites_from s.view.now art (scene_drawsegs s notes) (draw_order sprites) 0 so_far) start a (Ok (tt {0})) →
       DrawsSprite mark s notes (draw_order sprites) (length so_far) e new a b (Ok answer) →
       PaintsDots mark s (IsNotedMiddle (scene_lists s) notes) (IsSpriteLump sprites) (λ art. sprites_from s.view.now art (scene_drawsegs s notes) (draw_order sprites) 0 (so_far ++ e ∷ [])) start b (Ok (tt {0}))
   sprites-more so_far e new t before sprite =
-      paints-value (paints-same _ (λ art. sym (sprites_from-more s.view.now art (scene_drawsegs s notes) (draw_order sprites) 0 (length so_far) so_far e (zero_add (length so_far))))
-      (paints-then before (paints-wider (λ n k. k) (sprite_among sprites (length so_far) e t) sprite.paints)))
-
-  pub sprites-stop : {A B : Type 0} {start a b : MaskState} {f : Art → List Dot} {part : Result B CacheFault} {fault : CacheFault} {whole : Result A CacheFault} (so_far : List SpriteEntry) (e : SpriteEntry) (new : List Bool) → (length so_far < length (draw_order sprites)) × (e ≡ get_or (draw_order sprites) (length so_far) e) →
-      part ≡ Err fault → IsErrAnd whole (λ e. e ≡ fault) →
-      PaintsDots mark s (IsNotedMiddle (scene_lists s) notes) (IsSpriteLump sprites) (λ art. sprites_from s.view.now art (scene_drawsegs s notes) (draw_order sprites) 0 so_far) start a (Ok (tt {0})) →
-      DrawsSprite mark s notes (draw_order sprites) (length so_far) e new a b part →
-      PaintsDots mark s (IsNotedMiddle (scene_lists s) notes) (IsSpriteLump sprites) f start b whole
-  sprites-stop so_far e new t was is before sprite = paints-then_stop was is before (paints-wider (λ n k. k) (sprite_among sprites (length so_far) e t) sprite.paints)
+      paints-value (tt {0}) (paints-same _ (λ contents q is. sym (sprites_from-more s.view.now (scene_art contents s) (scene_drawsegs s notes) (draw_order sprites) 0 (length so_far) so_far e (zero_add (length so_far))))
+      (paints-then before (paints-wider (λ n k. k) (sprite-among sprites (length so_far) e t) sprite.paints)))
 
   -- the sprites, and the columns that are left
-  pub pass-end : {A B : Type 0} {start a b : MaskState} {answer : B} {result : Result A CacheFault} →
+  pub pass-end : {A B : Type 0} {start a b : PaintState} {answer : B} {result : Result A CacheFault} →
       PaintsDots mark s (IsNotedMiddle (scene_lists s) notes) (IsSpriteLump sprites) (λ art. sprites_from s.view.now art (scene_drawsegs s notes) (draw_order sprites) 0 (draw_order sprites)) start a (Ok answer) →
       PaintsDots mark s (IsNotedMiddle (scene_lists s) notes) (λ (n : ℕ). ⊥) (λ art. middles_at s.view.now art (scene_drawsegs s notes) (draw_order sprites) None (length notes)) a b result →
       PaintsDots mark s (IsNotedMiddle (scene_lists s) notes) (IsSpriteLump sprites) (λ art. masked_dots s.view.now art (scene_drawsegs s notes) (draw_order sprites)) start b result
-  pass-end one two = paints-same _ (all_dots s notes sprites) (paints-then one (paints-wider (λ n k. k) (λ n k. absurd k) two))
+  pass-end one two = paints-same _ (λ contents q is. all_dots s notes sprites (scene_art contents s)) (paints-then one (paints-wider (λ n k. k) (λ n k. absurd k) two))

@@ -8,27 +8,28 @@ use Rattle.std.proofs.lemmas.List.{length-map}
 use Rattle.std.proofs.lemmas.List.Elements.{All-get_or}
 use Rattle.std.proofs.lemmas.Option.{slice_get-map, slice_get_within}
 use Rattle.word_rules.specs.Words.{minus_one}
+use Rattle.outside.specs.declared.fault.Fault.{Fault}
 use Rattle.lump_rules.specs.declared.wad.Lump.{Lump}
 use Rattle.zone_rules.specs.Zones.{Heap}
 use Rattle.lump_cache.specs.declared.fault.CacheFault.{CacheFault}
-use Rattle.lump_cache.specs.Caches.{KeepsCounts}
+use Rattle.lump_cache.specs.Caches.{KeepsCounts, cache_fault}
 use Rattle.view_rules.specs.declared.ViewShape.{ViewShape}
 use Rattle.pixel_rules.specs.declared.Painter.{Painter}
 use Rattle.pixel_rules.specs.Dots.{Dot}
-use Rattle.pixel_rules.specs.Art.{Art}
 use Rattle.picture_rules.specs.declared.wall.FragmentNote.{FragmentNote}
 use Rattle.picture_rules.specs.declared.sprite.SpriteEntry.{SpriteEntry}
 use Rattle.picture_rules.specs.sprite.Drawsegs.{Drawseg, drawseg_has, is_behind}
 use Rattle.picture_rules.specs.sprite.Clips.{gives_bottom, gives_top}
 use Rattle.picture_rules.specs.Noted.{AreNoted, IsWholeNote, least_clip, greatest_clip}
+use Rattle.texture_build.specs.Paints.{PaintState, PaintTools, Paints}
 use Rattle.texture_build.specs.Views.{TexturesView}
+use Rattle.texture_build.proofs.PaintLemmas.{slots-later}
 use Rattle.masked_draw.specs.declared.scene.MaskScene.{MaskScene}
 use Rattle.masked_draw.specs.Lists.{MaskedLists, noted_drawseg, noted_drawsegs}
 use Rattle.masked_draw.specs.Ready.{IsListed, IsMiddleNumber, IsNotedMiddle}
-use Rattle.masked_draw.specs.Scenes.{MaskState, CanPaintNote, CanPass, PaintsDots, scene_drawseg, scene_drawsegs, scene_lists}
+use Rattle.masked_draw.specs.Scenes.{CanPaint, CanPaintNote, CanPass, scene_drawseg, scene_drawsegs, scene_lists, scene_tools}
 use Rattle.masked_draw.proofs.EntryLemmas.{IsSegOf}
 use Rattle.masked_draw.proofs.PassedLemmas.{HasColumnsOf, ApartNotes}
-use Rattle.masked_draw.proofs.StepLemmas.{can_paint-later}
 
 -- the fragments by number
 pub scene-columns : (s : MaskScene) (d : FragmentNote) → HasColumnsOf d (scene_drawseg s d)
@@ -58,7 +59,7 @@ get_at : {X : Type 0} (xs : List X) (k : ℕ) (x : X) → slice_get xs k ≡ Som
 get_at xs k x e = grind (arith, gets)
 
 -- each note that the notes have may be painted
-pub can_pass-note : {s : MaskScene} {notes : List FragmentNote} {st : MaskState} {marks : List Bool} (k : ℕ) (d : FragmentNote) → CanPass s notes st marks → slice_get notes k ≡ Some d → k < length notes → CanPaintNote s d st
+pub can_pass-note : {s : MaskScene} {notes : List FragmentNote} {st : PaintState} {marks : List Bool} (k : ℕ) (d : FragmentNote) → CanPass s notes st marks → slice_get notes k ≡ Some d → k < length notes → CanPaintNote s d st
 can_pass-note {s} {notes} {st} k d can e l =
     let P : FragmentNote → Type 0 = IsListed s.dir.now.lumps s.textures.now st.cache (scene_lists s) in
     record {
@@ -93,18 +94,28 @@ listed-later lumps textures lists old new d counts one = record {
       };
 }
 
-pub can_pass-later : {A : Type 0} {mark : Painter → ℕ → ℕ} {s : MaskScene} {among pictures : ℕ → Type 0} {f : Art → List Dot} {a b : MaskState} {result : Result A CacheFault} {notes : List FragmentNote} (old new : List Bool) →
-    PaintsDots mark s among pictures f a b result → length new ≡ length old → CanPass s notes a old → CanPass s notes b new
-can_pass-later {s = s} {a = a} {b} {notes = notes} old new one len can = record {
-  paint = can_paint-later one can.paint;
-  noted = can.noted;
-  listed = λ k d l. listed-later s.dir.now.lumps s.textures.now (scene_lists s) a.cache b.cache (get_or notes k d) one.draws.keeps.counts (can.listed k d l);
-  room = rw len can.room;
-}
+pub listed_note-later : {A R E Q : Type 0} {fault_of : E → Fault R} {mark : Painter → ℕ → ℕ} {t : PaintTools} {among pictures : ℕ → Type 0} {asked : Q → Type 0} {f : List (List ℕ) → Q → List Dot} {a b : PaintState} {result : Result A E} {lumps : List Lump} {textures : TexturesView} {lists : MaskedLists} {d : FragmentNote} →
+    Paints fault_of mark t among pictures asked f a b result → IsListed lumps textures a.cache lists d → IsListed lumps textures b.cache lists d
+listed_note-later {a = a} {b} {lumps = lumps} {textures} {lists} {d} one listed = listed-later lumps textures lists a.cache b.cache d one.draws.keeps.counts listed
 
-pub listed_note-later : {A : Type 0} {mark : Painter → ℕ → ℕ} {s : MaskScene} {among pictures : ℕ → Type 0} {f : Art → List Dot} {a b : MaskState} {result : Result A CacheFault} {d : FragmentNote} →
-    PaintsDots mark s among pictures f a b result → IsListed s.dir.now.lumps s.textures.now a.cache (scene_lists s) d → IsListed s.dir.now.lumps s.textures.now b.cache (scene_lists s) d
-listed_note-later {s = s} {a = a} {b} {d = d} one listed = listed-later s.dir.now.lumps s.textures.now (scene_lists s) a.cache b.cache d one.draws.keeps.counts listed
+-- what a call asks it may ask again
+module _ {A Q : Type 0} {mark : Painter → ℕ → ℕ} {s : MaskScene} {among pictures : ℕ → Type 0} {asked : Q → Type 0} {f : List (List ℕ) → Q → List Dot} {a b : PaintState} {result : Result A CacheFault} where
+  pub can_paint-later : Paints cache_fault mark (scene_tools s) among pictures asked f a b result → CanPaint s a → CanPaint s b
+  can_paint-later one can = record {
+    slots = slots-later one can.slots;
+    colormap = can.colormap;
+    left = rw one.place.left can.left;
+    top = rw one.place.top can.top;
+  }
+
+  pub can_pass-later : {notes : List FragmentNote} (old new : List Bool) →
+      Paints cache_fault mark (scene_tools s) among pictures asked f a b result → length new ≡ length old → CanPass s notes a old → CanPass s notes b new
+  can_pass-later {notes = notes} old new one len can = record {
+    paint = can_paint-later one can.paint;
+    noted = can.noted;
+    listed = λ k d l. listed-later s.dir.now.lumps s.textures.now (scene_lists s) a.cache b.cache (get_or notes k d) one.draws.keeps.counts (can.listed k d l);
+    room = rw len can.room;
+  }
 
 -- a clip that a fragment gives keeps to the view
 not_zero : (n : ℕ) → not (n == 0) ≡ true → n ≢ 0

@@ -1,5 +1,5 @@
 -- Laws of a sprite that is painted by the clips that were taken.
-use Rattle.std.proofs.Common.{◌≡◌, ℕ, zero, suc, ◌+◌, ◌-◌, ◌<◌, ◌≤◌, ℤ, pos, Bool, true, false, cond, List, [], ◌++◌, Some, Result, Ok, Err, OnOk, length, map, refl, sym, ap, ◌∙◌, subst, arith}
+use Rattle.std.proofs.Common.{◌≡◌, ℕ, zero, suc, ◌+◌, ◌-◌, ◌<◌, ◌≤◌, ℤ, pos, Bool, true, false, cond, List, [], ◌++◌, Some, Result, Ok, length, map, refl, sym, ap, ◌∙◌, subst, arith}
 use Rattle.std.specs.Prelude.{◌&&◌, int_lt, nat_le, nat_lt, slice_get}
 use Rattle.std.proofs.lemmas.Bool.Decides.{nat_tests}
 use Rattle.std.specs.List.{range_with_len}
@@ -15,16 +15,18 @@ use Rattle.picture_rules.specs.declared.sprite.SpriteEntry.{SpriteEntry}
 use Rattle.picture_rules.specs.sprite.Drawsegs.{entry_has}
 use Rattle.picture_rules.specs.sprite.Sprites.{sprite_column, sprite_dots, sprite_masked}
 use Rattle.picture_rules.specs.sprite.Middles.{middles_at, sprite_step}
+use Rattle.texture_lists.proofs.BesideLemmas.{on_ok}
+use Rattle.texture_build.specs.Paints.{PaintState}
+use Rattle.texture_build.proofs.PaintLemmas.{paints-none, paints-same, paints-then, paints-wider}
 use Rattle.masked_draw.specs.declared.clips.SpriteClips.{SpriteClips}
 use Rattle.masked_draw.specs.declared.scene.MaskScene.{MaskScene}
 use Rattle.masked_draw.specs.Clipped.{AreSpriteRows, clipped_column, clipped_dots, clipped_masked}
 use Rattle.masked_draw.specs.Marks.{MarkedTo}
 use Rattle.masked_draw.specs.Passes.{DrawsSprite, PassesSprite}
-use Rattle.masked_draw.specs.Scenes.{MaskState, PaintsDots, scene_drawseg, scene_drawsegs}
+use Rattle.masked_draw.specs.Scenes.{PaintsDots, scene_art, scene_drawseg, scene_drawsegs}
 use Rattle.masked_draw.proofs.DownLemmas.{marked-skip, step-none}
 use Rattle.masked_draw.proofs.EntryLemmas.{entry-between}
 use Rattle.masked_draw.proofs.SceneLemmas.{scene-length}
-use Rattle.masked_draw.proofs.StepLemmas.{paints-none, paints-same, paints-then, paints-wider}
 
 -- lists that agree over a range
 joined_range : (f g : ℕ → List Dot) (a n : ℕ) → ((x : ℕ) → a ≤ x → x < a + n → f x ≡ g x) → joined_lists f (map (λ y. y) (range_with_len a n)) ≡ joined_lists g (map (λ y. y) (range_with_len a n))
@@ -78,26 +80,22 @@ step_by s notes es art i e dots h =
     ap (λ (n : ℕ). middles_at s.view.now art (scene_drawsegs s notes) es (Some i) n ++ dots) (sym (scene-length s notes))
     ∙ ap (λ (xs : List Dot). middles_at s.view.now art (scene_drawsegs s notes) es (Some i) (length (scene_drawsegs s notes)) ++ xs) h
 
-on_ok_of : {A E : Type 0} (P : Type 0) (result : Result A E) → P → OnOk result P
-on_ok_of P (Ok x) h = h
-on_ok_of P (Err x) h = tt
-
 module _ (s : MaskScene) (notes : List FragmentNote) (es : List SpriteEntry) (i : ℕ) (e : SpriteEntry) {mark : Painter → ℕ → ℕ} where
   -- a sprite without a column
-  pub sprite-none : (marks : List Bool) (st : MaskState) → i < length es → slice_get es i ≡ Some e → int_lt e.last e.first ≡ true → MarkedTo (scene_drawseg s) notes es (length notes) (λ k. i) marks →
+  pub sprite-none : (marks : List Bool) (st : PaintState) → i < length es → slice_get es i ≡ Some e → int_lt e.last e.first ≡ true → MarkedTo (scene_drawseg s) notes es (length notes) (λ k. i) marks →
       DrawsSprite mark s notes es i e marks st st (Ok (tt {0}))
   sprite-none marks st l g o h = record {
-    paints = paints-same _ (λ art. sym (step-none s.view.now art (scene_drawsegs s notes) es i e l g o)) (paints-none st (tt {0}));
+    paints = paints-same _ (λ contents q is. sym (step-none s.view.now (scene_art contents s) (scene_drawsegs s notes) es i e l g o)) (paints-none st (tt {0}));
     marked = marked-skip (scene_drawseg s) notes es (length notes) i marks e l g o h;
   }
 
   -- the masked columns behind it, and then the sprite
-  pub sprite-then : {A B : Type 0} {a b c : MaskState} {answer : A} {result : Result B CacheFault} (clips : SpriteClips) (first last : ℕ) (now new : List Bool) → e.first ≡ pos first → e.last ≡ pos last →
+  pub sprite-then : {A B : Type 0} {a b c : PaintState} {answer : A} {result : Result B CacheFault} (clips : SpriteClips) (first last : ℕ) (now new : List Bool) → e.first ≡ pos first → e.last ≡ pos last →
       ((x : ℕ) → entry_has e x ≡ true → AreSpriteRows s (scene_drawsegs s notes) e clips x) → new ≡ now → PassesSprite mark s notes es i now a b (Ok answer) →
       PaintsDots mark s (λ (n : ℕ). ⊥) (λ (n : ℕ). n ≡ e.lump) (λ art. clipped_dots s.view.now art clips e) b c result → DrawsSprite mark s notes es i e new a c result
   sprite-then {result = result} clips first last now new p q rows same passed sprite = record {
-    paints = paints-same _ (λ art. step_by s notes es art i e (clipped_dots s.view.now art clips e) (clipped-sprite s notes art e clips first last p q rows))
+    paints = paints-same _ (λ contents x is. step_by s notes es (scene_art contents s) i e (clipped_dots s.view.now (scene_art contents s) clips e) (clipped-sprite s notes (scene_art contents s) e clips first last p q rows))
         (paints-then (paints-wider (λ n k. k) (λ n k. absurd k) passed.paints) (paints-wider (λ n k. absurd k) (λ n k. k) sprite));
-    marked = on_ok_of (MarkedTo (scene_drawseg s) notes es (length notes) (λ k. i + 1) new) result
+    marked = on_ok result
         (subst (MarkedTo (scene_drawseg s) notes es (length notes) (λ k. i + 1)) (sym same) passed.marked);
   }

@@ -5,14 +5,15 @@ use Rattle.pixel_rules.specs.declared.Painter.{Painter}
 use Rattle.picture_rules.specs.declared.wall.FragmentNote.{FragmentNote}
 use Rattle.picture_rules.specs.declared.sprite.SpriteEntry.{SpriteEntry}
 use Rattle.picture_rules.specs.sprite.Middles.{middles_at, sprite_step}
+use Rattle.texture_build.specs.Paints.{PaintState}
 use Rattle.masked_draw.specs.declared.scene.MaskScene.{MaskScene}
 use Rattle.masked_draw.specs.Marks.{MarkedTo}
 use Rattle.masked_draw.specs.Ready.{IsNotedMiddle}
-use Rattle.masked_draw.specs.Scenes.{MaskState, PaintsDots, scene_drawseg, scene_drawsegs, scene_lists}
+use Rattle.masked_draw.specs.Scenes.{PaintsDots, scene_drawseg, scene_drawsegs, scene_lists}
 
 -- the masked columns just before sprite i of these are painted, and marked
 pub record PassesSprite {A : Type 0} (mark : Painter → ℕ → ℕ) (s : MaskScene) (notes : List FragmentNote)
-    (es : List SpriteEntry) (i : ℕ) (marks : List Bool) (old new : MaskState)
+    (es : List SpriteEntry) (i : ℕ) (marks : List Bool) (old new : PaintState)
     (result : Result A CacheFault) : Type 0 where
   pub paints : PaintsDots mark s (IsNotedMiddle (scene_lists s) notes) (λ (n : ℕ). ⊥)
       (λ art. middles_at s.view.now art (scene_drawsegs s notes) es (Some i) (length notes)) old new result
@@ -20,7 +21,7 @@ pub record PassesSprite {A : Type 0} (mark : Painter → ℕ → ℕ) (s : MaskS
 
 -- and the sprite behind them
 pub record DrawsSprite {A : Type 0} (mark : Painter → ℕ → ℕ) (s : MaskScene) (notes : List FragmentNote)
-    (es : List SpriteEntry) (i : ℕ) (e : SpriteEntry) (marks : List Bool) (old new : MaskState)
+    (es : List SpriteEntry) (i : ℕ) (e : SpriteEntry) (marks : List Bool) (old new : PaintState)
     (result : Result A CacheFault) : Type 0 where
   pub paints : PaintsDots mark s (IsNotedMiddle (scene_lists s) notes) (λ (n : ℕ). n ≡ e.lump)
       (λ art. sprite_step s.view.now art (scene_drawsegs s notes) es i e) old new result

@@ -5,12 +5,12 @@ use Rattle.view_rules.specs.View.{ViewValue}
 use Rattle.picture_rules.specs.declared.wall.FragmentNote.{FragmentNote}
 use Rattle.picture_rules.specs.sprite.Drawsegs.{Drawseg}
 use Rattle.picture_rules.specs.sprite.Middles.{middle_column}
+use Rattle.texture_build.proofs.PaintLemmas.{paints-none, paints-same, paints-then, paints-then_stop}
 use Rattle.masked_draw.specs.Marks.{MarksBy, if_unmarked, is_between, mark_of, unmarked_dots}
-use Rattle.masked_draw.specs.Scenes.{scene_drawseg}
+use Rattle.masked_draw.specs.Scenes.{scene_art, scene_drawseg}
 use Rattle.masked_draw.proofs.MarkLemmas.{between, marks-here, marks-more, marks-start, unmarked-more, unmarked-plain, unmarked-start}
 use Rattle.masked_draw.proofs.KeptLemmas.{keeps-none, keeps-then}
-use Rattle.masked_draw.proofs.StepLemmas.{can_paint-later, paints-none, paints-same, paints-then, paints-then_stop}
-use Rattle.masked_draw.proofs.SceneLemmas.{listed_note-later}
+use Rattle.masked_draw.proofs.SceneLemmas.{can_paint-later, listed_note-later}
 use Rattle.masked_draw.proofs.middles.paint_middle.Goals as goal
 
 -- a column more, by the mark that it has now
@@ -24,7 +24,7 @@ one_more v art old now d place from x k number drawseg e a b l h n =
 pub returns-in_default-clause-paints : goal.returns-in_default-clause-paints
 returns-in_default-clause-paints g c =
     let s = c.args.scene.now in
-    paints-same _ (λ art. sym (unmarked-plain s.view.now art c.args.hands.now.marks.now c.args.note.now (is_between c.args.first c.args.last) c.args.number (scene_drawseg s c.args.note.now) c.in_default.is)) (paints-none _ _)
+    paints-same _ (λ contents q is. sym (unmarked-plain s.view.now (scene_art contents s) c.args.hands.now.marks.now c.args.note.now (is_between c.args.first c.args.last) c.args.number (scene_drawseg s c.args.note.now) c.in_default.is)) (paints-none _ _)
 
 pub loop-x-init : goal.loop-x-init
 loop-x-init g c =
@@ -34,7 +34,7 @@ loop-x-init g c =
       ready = c.requires.note.paint;
       listed = c.requires.note.listed;
       marked = marks-start c.args.note.now c.args.first c.args.hands.now.marks.now;
-      paints = paints-same _ (λ art. sym (unmarked-start s.view.now art c.args.hands.now.marks.now c.args.note.now c.args.first c.args.number (scene_drawseg s c.args.note.now))) (paints-none _ _);
+      paints = paints-same _ (λ contents q is. sym (unmarked-start s.view.now (scene_art contents s) c.args.hands.now.marks.now c.args.note.now c.args.first c.args.number (scene_drawseg s c.args.note.now))) (paints-none _ _);
     }
 
 pub returns-in_err-paint_unmarked-clause-paints : goal.returns-in_err-paint_unmarked-clause-paints
@@ -53,7 +53,7 @@ loop-x-preserved g c =
       ready = can_paint-later e.paints i.ready;
       listed = listed_note-later e.paints i.listed;
       marked = marks-more d c.middle_of-middle.result.place c.args.first c.loop-x.x _ _ _ masked c.requires.begins c.loop-x.auto.x (omega arith) i.marked e.marked e.others;
-      paints = paints-same _ (λ art. one_more s.view.now art c.args.hands.now.marks.now c.loop-x.hands.marks.now d c.middle_of-middle.result.place c.args.first c.loop-x.x c.args.number c.middle_of-middle.result.number (scene_drawseg s d)
+      paints = paints-same _ (λ contents q is. one_more s.view.now (scene_art contents s) c.args.hands.now.marks.now c.loop-x.hands.marks.now d c.middle_of-middle.result.place c.args.first c.loop-x.x c.args.number c.middle_of-middle.result.number (scene_drawseg s d)
           masked c.requires.begins c.loop-x.auto.x (omega arith) i.marked c.middle_of-middle.ensures.number) (paints-then i.paints e.paints);
     }
 
@@ -61,4 +61,4 @@ pub returns-clause-paints : goal.returns-clause-paints
 returns-clause-paints g c =
     let s = c.args.scene.now in
     let end : c.loop-x.x ≡ c.args.last + 1 = omega arith in
-    paints-same _ (λ art. ap (λ (x : ℕ). unmarked_dots s.view.now art c.args.hands.now.marks.now c.args.note.now (between c.args.first x) c.args.number (scene_drawseg s c.args.note.now)) end) c.loop-x.invariant.paints
+    paints-same _ (λ contents q is. ap (λ (x : ℕ). unmarked_dots s.view.now (scene_art contents s) c.args.hands.now.marks.now c.args.note.now (between c.args.first x) c.args.number (scene_drawseg s c.args.note.now)) end) c.loop-x.invariant.paints

@@ -3,7 +3,7 @@ use Rattle.texture_build.specs.Sources.{column_in}
 use Rattle.texture_build.specs.Views.{prepared_texture}
 use Rattle.texture_build.proofs.DrawLemmas.{draws-wider}
 use Rattle.texture_build.proofs.LiveLemmas.{draws-ready}
-use Rattle.masked_draw.proofs.LiveLemmas.{live-paints}
+use Rattle.texture_build.proofs.PaintLemmas.{paints-live}
 use Rattle.masked_draw.proofs.MiddleLemmas.{drawseg-column}
 use Rattle.masked_draw.proofs.middles.paint_middle_column.Goals as goal
 
@@ -17,11 +17,12 @@ paint_ready-requires-clause-column g c =
 pub returns-clause-paints : goal.returns-clause-paints
 returns-clause-paints g c =
     let r = c.in_ok-ready.ensures in
-    live-paints tt
+    paints-live tt
     (draws-wider (λ n e. e ∙ c.requires.middle.tex) (λ lump k. k)
     (draws-ready {pictures = λ (n : ℕ). ⊥} c.args.middle.tex.0
     (to_z w32 (of_z w32 c.saved_column-col.result))
     (column_in (prepared_texture c.args.scene.now.textures.now c.args.middle.tex.0)
     (to_z w32 (of_z w32 c.saved_column-col.result))) refl r.keeps r.readies))
-    c.paint_ready.ensures.painted c.paint_ready.ensures.fits c.paint_ready.ensures.place
+    (λ view contents count q hold is. c.paint_ready.ensures.painted view contents count hold)
+    (λ view contents count q hold is. c.paint_ready.ensures.fits view contents count hold) c.paint_ready.ensures.place
     (ap g.S.Shelf.view c.paint_ready.ensures.shelf) c.paint_ready.ensures.cache

@@ -1,6 +1,7 @@
 -- The sprites, and then the columns that are left.
 use Rattle.std.proofs.Common.{rules}
 use Rattle.picture_rules.specs.sprite.Order.{draw_order}
+use Rattle.masked_draw.specs.declared.scene.MaskScene.{MaskScene}
 use Rattle.masked_draw.proofs.PassLemmas.{pass-end}
 use Rattle.masked_draw.proofs.SceneLemmas.{can_pass-later}
 use Rattle.masked_draw.proofs.pass.draw_masked.Goals as goal
@@ -27,12 +28,14 @@ draw_middles-requires g c =
 pub returns : goal.returns
 returns g c =
     let sprites = c.in_ok-draw_sprites.ensures in
-    let all = pass-end _ c.args.notes.now c.args.sprites.now sprites.paints (c.draw_middles.ensures.paints (draw_order c.args.sprites.now) sprites.marked) in
+    let t = c.args.tools.now in
+    let scene : MaskScene = record { view = t.view; textures = t.textures; dir = t.dir; colormap = t.colormap; openings = t.openings; segs = t.segs; sides = t.sides; sectors = t.sectors; middles = t.middles } in
+    let all = pass-end scene c.args.notes.now c.args.sprites.now sprites.paints (c.draw_middles.ensures.paints (draw_order c.args.sprites.now) sprites.marked) in
     record {
       same = search rules;
       marks = search rules;
-      painted = all.painted;
-      fits = all.fits;
+      painted = λ contents count hold. all.painted contents count tt hold tt;
+      fits = λ contents count hold. all.fits contents count tt hold tt;
       draws = all.draws;
       place = all.place;
     }

@@ -1,8 +1,10 @@
 -- One fragment after the other, from the last down.
 use Rattle.std.proofs.Common.{◌≡◌, ◌+◌, ◌-◌, ◌<◌, length, refl, arith}
+use Rattle.texture_build.proofs.PaintLemmas.{paints-then_stop, paints-wider}
+use Rattle.masked_draw.specs.Scenes.{scene_lists}
 use Rattle.masked_draw.proofs.KeptLemmas.{keeps-more, keeps-start}
-use Rattle.masked_draw.proofs.LoopLemmas.{leaves-end, leaves-more, leaves-start, leaves-stop, note-get}
-use Rattle.masked_draw.proofs.SceneLemmas.{can_pass-note, scene-apart, scene-whole}
+use Rattle.masked_draw.proofs.LoopLemmas.{leaves-end, leaves-more, leaves-start, note-get}
+use Rattle.masked_draw.proofs.SceneLemmas.{can_pass-note, scene-apart, scene-middle, scene-whole}
 use Rattle.masked_draw.proofs.pass.draw_middles.Goals as goal
 
 pub loop-k-init : goal.loop-k-init
@@ -33,7 +35,9 @@ loop-k-preserved g c =
 
 pub returns-in_err-paint_middle-clause-paints : goal.returns-in_err-paint_middle-clause-paints
 returns-in_err-paint_middle-clause-paints g c = λ es h.
-    leaves-stop c.args.scene.now c.args.notes.now es c.loop-k.k (c.loop-k.k - 1) _ _ (note-get c.args.notes.now (c.loop-k.k - 1) _ (omega arith)) c.in_err-paint_middle.was c.from_residual.ensures.1 (c.loop-k.invariant.leaves es h) c.paint_middle.ensures.paints
+    let notes = c.args.notes.now in
+    paints-then_stop c.in_err-paint_middle.was c.from_residual.ensures.1 (c.loop-k.invariant.leaves es h).paints
+    (paints-wider (scene-middle (scene_lists c.args.scene.now) notes (c.loop-k.k - 1) _ (note-get notes (c.loop-k.k - 1) _ (omega arith))) (λ n e. e) c.paint_middle.ensures.paints)
 
 pub returns-clause-paints : goal.returns-clause-paints
 returns-clause-paints g c = λ es h. leaves-end c.args.scene.now c.args.notes.now es c.loop-k.k _ (omega arith) (c.loop-k.invariant.leaves es h)

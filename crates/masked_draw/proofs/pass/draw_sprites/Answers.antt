@@ -5,11 +5,11 @@ use Rattle.std.proofs.lemmas.Iterator.Consumers.{YieldsList-end, YieldsList-from
 use Rattle.picture_rules.specs.declared.sprite.SpriteEntry.{SpriteEntry}
 use Rattle.picture_rules.specs.sprite.Order.{draw_order}
 use Rattle.picture_rules.specs.sprite.Middles.{sprites_from}
+use Rattle.texture_build.proofs.PaintLemmas.{paints-same, paints-then_stop, paints-wider}
 use Rattle.masked_draw.specs.Marks.{MarkedTo}
-use Rattle.masked_draw.specs.Scenes.{scene_drawseg, scene_drawsegs}
-use Rattle.masked_draw.proofs.PassLemmas.{marked-first, sprite-get, sprite-lies, sprite-lump, sprites-more, sprites-start, sprites-stop}
+use Rattle.masked_draw.specs.Scenes.{scene_art, scene_drawseg, scene_drawsegs}
+use Rattle.masked_draw.proofs.PassLemmas.{marked-first, sprite-get, sprite-lies, sprite-lump, sprite-among, sprites-more, sprites-start}
 use Rattle.masked_draw.proofs.KeptLemmas.{keeps-more, keeps-start}
-use Rattle.masked_draw.proofs.StepLemmas.{paints-same}
 use Rattle.masked_draw.proofs.pass.draw_sprites.Goals as goal
 
 pub loop-entry-init : goal.loop-entry-init
@@ -48,12 +48,13 @@ returns-in_err-draw_sprite-clause-paints g c =
     let t = YieldsList-turn (YieldsList-from_first (λ (x : SpriteEntry). x) (λ (es : List SpriteEntry). es) (draw_order c.args.sprites.now) cc) c.loop-entry.yielded _ c.loop-entry.yielded_by _ _ c.in-Some.entry c.in-Some.is c.next.ensures.steps in
     let es = draw_order c.args.sprites.now in
     let i = c.loop-entry.invariant in
-    sprites-stop c.args.scene.now c.args.notes.now c.args.sprites.now c.loop-entry.yielded c.in-Some.entry _ t c.in_err-draw_sprite.was c.from_residual.ensures.1 i.paints
-    (c.draw_sprite.ensures.sprite es (length c.loop-entry.yielded) t.0 (sprite-get es (length c.loop-entry.yielded) c.in-Some.entry t) i.marked)
+    let sprite = c.draw_sprite.ensures.sprite es (length c.loop-entry.yielded) t.0 (sprite-get es (length c.loop-entry.yielded) c.in-Some.entry t) i.marked in
+    paints-then_stop c.in_err-draw_sprite.was c.from_residual.ensures.1 i.paints
+    (paints-wider (λ n k. k) (sprite-among c.args.sprites.now (length c.loop-entry.yielded) c.in-Some.entry t) sprite.paints)
 
 pub returns-clause-paints : goal.returns-clause-paints
 returns-clause-paints g c =
     let t = YieldsList-end (YieldsList-from_first (λ (x : SpriteEntry). x) (λ (es : List SpriteEntry). es) (draw_order c.args.sprites.now) cc) c.loop-entry.yielded _ c.loop-entry.yielded_by _ _ c.in-None.is c.next.ensures.steps in
     let s = c.args.scene.now in
     let all : c.loop-entry.yielded ≡ draw_order c.args.sprites.now = sym (map-id c.loop-entry.yielded) ∙ t.0 in
-    paints-same _ (λ art. ap (λ (es : List SpriteEntry). sprites_from s.view.now art (scene_drawsegs s c.args.notes.now) (draw_order c.args.sprites.now) 0 es) all) c.loop-entry.invariant.paints
+    paints-same _ (λ contents q is. ap (λ (es : List SpriteEntry). sprites_from s.view.now (scene_art contents s) (scene_drawsegs s c.args.notes.now) (draw_order c.args.sprites.now) 0 es) all) c.loop-entry.invariant.paints

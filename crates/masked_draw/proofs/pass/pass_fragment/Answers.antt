@@ -2,18 +2,19 @@
 use Rattle.std.proofs.Common.{◌≡◌, ℕ, ◌≤◌, max, min, ◌^◌, ℤ, pos, ◌≤ℤ◌, ◌<ℤ◌, Bool, true, false, List, Option, refl, sym, ap, ◌∙◌, subst, arith, rules, w32}
 use Rattle.std.specs.Prelude.{◌&&◌}
 use Rattle.std.proofs.lemmas.Int.{to_z-of_z}
+use Rattle.lump_cache.proofs.FillLemmas.{on_ok}
 use Rattle.picture_rules.specs.declared.wall.FragmentNote.{FragmentNote}
 use Rattle.picture_rules.specs.declared.sprite.SpriteEntry.{SpriteEntry}
 use Rattle.picture_rules.specs.sprite.Drawsegs.{Drawseg, is_behind}
 use Rattle.view_rules.specs.View.{ViewValue}
 use Rattle.pixel_rules.specs.Art.{Art}
+use Rattle.texture_build.proofs.PaintLemmas.{paints-none, paints-same}
 use Rattle.masked_draw.specs.Clipped.{clips_bottom, clips_top, row_after}
 use Rattle.masked_draw.specs.Lists.{noted_drawseg, note_seg}
 use Rattle.masked_draw.specs.Marks.{MarksBy, is_between, is_passed, unmarked_dots}
-use Rattle.masked_draw.specs.Scenes.{scene_drawseg}
+use Rattle.masked_draw.specs.Scenes.{scene_art, scene_drawseg}
 use Rattle.masked_draw.proofs.EntryLemmas.{behind-bottom, behind-dots, behind-marks, behind-top, entry-numbers, front-bottom, front-dots, front-marks, front-top, misses-bottom, misses-dots, misses-marks, misses-top, ordered-numbers}
 use Rattle.masked_draw.proofs.SceneLemmas.{scene-seg}
-use Rattle.masked_draw.proofs.StepLemmas.{on_ok_then, paints-none, paints-same}
 use Rattle.masked_draw.proofs.pass.pass_fragment.Goals as goal
 
 pub column_of-first-requires : goal.column_of-first-requires
@@ -57,7 +58,7 @@ returns-then-not-counts-clause-paints g c =
     let f = sym (to_z-of_z w32 e.first (search rules)) ∙ c.column_of-first.ensures in
     let l = sym (to_z-of_z w32 e.last (search rules)) ∙ c.column_of-last.ensures in
     let misses = c.counts.ensures.no c.if-not-counts.true in
-    paints-same _ (λ art. sym (misses-dots s.view.now art c.args.number e c.args.note.now (scene_drawseg s c.args.note.now) _ _ c.args.hands.now.marks.now f l misses)) (paints-none _ _)
+    paints-same _ (λ contents q is. sym (misses-dots s.view.now (scene_art contents s) c.args.number e c.args.note.now (scene_drawseg s c.args.note.now) _ _ c.args.hands.now.marks.now f l misses)) (paints-none _ _)
 
 -- the columns of both
 both_ordered : (first last a b from to : ℕ) → first ≤ last → a ≤ b → a ≤ last → first ≤ b → from ≡ max first a → to ≡ min last b → from ≤ to
@@ -108,9 +109,9 @@ returns-then-is_behind g c =
     record {
       same = search rules;
       marks = search rules;
-      marked = on_ok_then _ _ c.paint_middle.result (λ h. marks_behind seg both b h) c.paint_middle.ensures.marked;
+      marked = on_ok c.paint_middle.result (λ h. marks_behind seg both b h) c.paint_middle.ensures.marked;
       rows = λ x t. record { top = behind-top e seg x (seg.top_clip x) _ b; bottom = behind-bottom e seg x (seg.bottom_clip x) _ b };
-      paints = paints-same _ (λ art. dots_behind c.args.scene.now.view.now art c.args.number seg c.args.hands.now.marks.now both b) c.paint_middle.ensures.paints;
+      paints = paints-same _ (λ contents q is. dots_behind c.args.scene.now.view.now (scene_art contents c.args.scene.now) c.args.number seg c.args.hands.now.marks.now both b) c.paint_middle.ensures.paints;
     }
 
 pub returns-clause-marked : goal.returns-clause-marked
@@ -150,4 +151,4 @@ returns-clause-paints g c =
     let s = c.args.scene.now in
     let seg = scene_drawseg s d in
     let b : is_behind seg e ≡ false = sym (c.is_behind.ensures seg refl refl refl) ∙ c.if-is_behind.false in
-    paints-same _ (λ art. sym (front-dots s.view.now art c.args.number e d seg c.args.hands.now.marks.now b)) (paints-none _ _)
+    paints-same _ (λ contents q is. sym (front-dots s.view.now (scene_art contents s) c.args.number e d seg c.args.hands.now.marks.now b)) (paints-none _ _)
