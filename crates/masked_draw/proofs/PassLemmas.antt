@@ -8,7 +8,6 @@ use Rattle.std.proofs.lemmas.List.Elements.{All-contains_itself}
 use Rattle.std.proofs.lemmas.List.Sorted.{All-permutation}
 use Rattle.lump_cache.specs.declared.fault.CacheFault.{CacheFault}
 use Rattle.pixel_rules.specs.declared.Painter.{Painter}
-use Rattle.pixel_rules.specs.Dots.{Dot}
 use Rattle.pixel_rules.specs.Art.{Art}
 use Rattle.picture_rules.specs.declared.wall.FragmentNote.{FragmentNote}
 use Rattle.picture_rules.specs.declared.sprite.SpriteEntry.{SpriteEntry}
@@ -63,6 +62,7 @@ lump_below lumps e h = ltb-true e.lump lumps h
 pub sprite-lump : (lumps : ℕ) (sprites : List SpriteEntry) (k : ℕ) (e : SpriteEntry) → AllPass (has_lump_below lumps) sprites → (k < length (draw_order sprites)) × (e ≡ get_or (draw_order sprites) k e) → e.lump < lumps
 sprite-lump lumps sprites k e all t = lump_below lumps e (all_drawn (λ e. has_lump_below lumps e ≡ true) sprites k e all t)
 
+-- the picture of the sprite at that turn is the picture of one of the sprites
 pub sprite-among : (sprites : List SpriteEntry) (k : ℕ) (e : SpriteEntry) → (k < length (draw_order sprites)) × (e ≡ get_or (draw_order sprites) k e) → (lump : ℕ) → lump ≡ e.lump → IsSpriteLump sprites lump
 sprite-among sprites k e t lump is = record { sprite = e; among = all_drawn (Contains sprites) sprites k e (All-contains_itself sprites) t; is = is }
 

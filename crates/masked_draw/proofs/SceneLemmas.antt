@@ -8,7 +8,6 @@ use Rattle.std.proofs.lemmas.List.{length-map}
 use Rattle.std.proofs.lemmas.List.Elements.{All-get_or}
 use Rattle.std.proofs.lemmas.Option.{slice_get-map, slice_get_within}
 use Rattle.word_rules.specs.Words.{minus_one}
-use Rattle.outside.specs.declared.fault.Fault.{Fault}
 use Rattle.lump_rules.specs.declared.wad.Lump.{Lump}
 use Rattle.zone_rules.specs.Zones.{Heap}
 use Rattle.lump_cache.specs.declared.fault.CacheFault.{CacheFault}
@@ -21,7 +20,7 @@ use Rattle.picture_rules.specs.declared.sprite.SpriteEntry.{SpriteEntry}
 use Rattle.picture_rules.specs.sprite.Drawsegs.{Drawseg, drawseg_has, is_behind}
 use Rattle.picture_rules.specs.sprite.Clips.{gives_bottom, gives_top}
 use Rattle.picture_rules.specs.Noted.{AreNoted, IsWholeNote, least_clip, greatest_clip}
-use Rattle.texture_build.specs.Paints.{PaintState, PaintTools, Paints}
+use Rattle.texture_build.specs.Paints.{PaintState, Paints}
 use Rattle.texture_build.specs.Views.{TexturesView}
 use Rattle.texture_build.proofs.PaintLemmas.{slots-later}
 use Rattle.masked_draw.specs.declared.scene.MaskScene.{MaskScene}
@@ -77,8 +76,8 @@ scene-middle lists notes k d e n is = record {
 }
 
 -- the lists are asked again after a call
-listed-later : (lumps : List Lump) (textures : TexturesView) (lists : MaskedLists) (old new : Heap) (d : FragmentNote) → KeepsCounts old new → IsListed lumps textures old lists d → IsListed lumps textures new lists d
-listed-later lumps textures lists old new d counts one = record {
+pub listed-later : {lumps : List Lump} {textures : TexturesView} {lists : MaskedLists} {old new : Heap} {d : FragmentNote} → KeepsCounts old new → IsListed lumps textures old lists d → IsListed lumps textures new lists d
+listed-later counts one = record {
   seg = one.seg;
   front = one.front;
   side = one.side;
@@ -94,10 +93,6 @@ listed-later lumps textures lists old new d counts one = record {
       };
 }
 
-pub listed_note-later : {A R E Q : Type 0} {fault_of : E → Fault R} {mark : Painter → ℕ → ℕ} {t : PaintTools} {among pictures : ℕ → Type 0} {asked : Q → Type 0} {f : List (List ℕ) → Q → List Dot} {a b : PaintState} {result : Result A E} {lumps : List Lump} {textures : TexturesView} {lists : MaskedLists} {d : FragmentNote} →
-    Paints fault_of mark t among pictures asked f a b result → IsListed lumps textures a.cache lists d → IsListed lumps textures b.cache lists d
-listed_note-later {a = a} {b} {lumps = lumps} {textures} {lists} {d} one listed = listed-later lumps textures lists a.cache b.cache d one.draws.keeps.counts listed
-
 -- what a call asks it may ask again
 module _ {A Q : Type 0} {mark : Painter → ℕ → ℕ} {s : MaskScene} {among pictures : ℕ → Type 0} {asked : Q → Type 0} {f : List (List ℕ) → Q → List Dot} {a b : PaintState} {result : Result A CacheFault} where
   pub can_paint-later : Paints cache_fault mark (scene_tools s) among pictures asked f a b result → CanPaint s a → CanPaint s b
@@ -110,10 +105,10 @@ module _ {A Q : Type 0} {mark : Painter → ℕ → ℕ} {s : MaskScene} {among 
 
   pub can_pass-later : {notes : List FragmentNote} (old new : List Bool) →
       Paints cache_fault mark (scene_tools s) among pictures asked f a b result → length new ≡ length old → CanPass s notes a old → CanPass s notes b new
-  can_pass-later {notes = notes} old new one len can = record {
+  can_pass-later old new one len can = record {
     paint = can_paint-later one can.paint;
     noted = can.noted;
-    listed = λ k d l. listed-later s.dir.now.lumps s.textures.now (scene_lists s) a.cache b.cache (get_or notes k d) one.draws.keeps.counts (can.listed k d l);
+    listed = λ k d l. listed-later one.draws.keeps.counts (can.listed k d l);
     room = rw len can.room;
   }
 

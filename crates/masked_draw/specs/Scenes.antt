@@ -29,7 +29,7 @@ scene_drawseg s d = noted_drawseg s.view.now s.textures.now (scene_lists s) s.op
 abbrev pub scene_drawsegs : MaskScene → List FragmentNote → List Drawseg
 scene_drawsegs s notes = noted_drawsegs s.view.now s.textures.now (scene_lists s) s.openings.now notes
 
--- what its calls paint with
+-- what each call paints with
 abbrev pub scene_tools : MaskScene → PaintTools
 scene_tools s = paint_tools s.dir.now s.textures.now s.colormap.0
 
@@ -67,7 +67,7 @@ pub record CanPass (s : MaskScene) (notes : List FragmentNote) (st : PaintState)
   pub listed : All (IsListed s.dir.now.lumps s.textures.now st.cache (scene_lists s)) notes
   pub room : length s.openings.now ≤ length marks
 
--- a call by the dots that it gives the canvas, and by the textures and the lumps that it paints with
+-- Which dots a call gives the canvas, by the art of the scene, and which textures and lumps it paints with.
 abbrev pub PaintsDots : {A : Type 0} → (Painter → ℕ → ℕ) → MaskScene → (ℕ → Type 0) → (ℕ → Type 0) →
     (Art → List Dot) → PaintState → PaintState → Result A CacheFault → Type 0
 PaintsDots mark s among pictures dots old new result =

@@ -10,7 +10,7 @@ use Rattle.masked_draw.specs.Marks.{MarksBy, if_unmarked, is_between, mark_of, u
 use Rattle.masked_draw.specs.Scenes.{scene_art, scene_drawseg}
 use Rattle.masked_draw.proofs.MarkLemmas.{between, marks-here, marks-more, marks-start, unmarked-more, unmarked-plain, unmarked-start}
 use Rattle.masked_draw.proofs.KeptLemmas.{keeps-none, keeps-then}
-use Rattle.masked_draw.proofs.SceneLemmas.{can_paint-later, listed_note-later}
+use Rattle.masked_draw.proofs.SceneLemmas.{can_paint-later, listed-later}
 use Rattle.masked_draw.proofs.middles.paint_middle.Goals as goal
 
 -- a column more, by the mark that it has now
@@ -51,7 +51,7 @@ loop-x-preserved g c =
     record {
       kept = keeps-then i.kept e.same e.marks;
       ready = can_paint-later e.paints i.ready;
-      listed = listed_note-later e.paints i.listed;
+      listed = listed-later e.paints.draws.keeps.counts i.listed;
       marked = marks-more d c.middle_of-middle.result.place c.args.first c.loop-x.x _ _ _ masked c.requires.begins c.loop-x.auto.x (omega arith) i.marked e.marked e.others;
       paints = paints-same _ (λ contents q is. one_more s.view.now (scene_art contents s) c.args.hands.now.marks.now c.loop-x.hands.marks.now d c.middle_of-middle.result.place c.args.first c.loop-x.x c.args.number c.middle_of-middle.result.number (scene_drawseg s d)
           masked c.requires.begins c.loop-x.auto.x (omega arith) i.marked c.middle_of-middle.ensures.number) (paints-then i.paints e.paints);
