@@ -112,11 +112,11 @@ pub returns-clause-painted : goal.returns-clause-painted
 returns-clause-painted g c = λ walls s contents count h few hold.
     has_dots-as (along-built c.args.tools.now.view.now (view_art (lump_bytes contents c.args.tools.now.dir.now.lumps) c.args.tools.now.textures.now c.args.tools.now.colormap.0) walls s c.args.self.now c.self.inside.notes.items c.self.inside.columns c.begin.new.self.windows
     c.args.tools.now.planes.now.planes c.args.facts.now c.args.first c.args.last c.len-number.result c.new-fragment.result c.self.view_is h c.in_ok-places.ensures.windows c.new-fragment.ensures (omega arith) c.requires.within)
-    (c.in_ok-draw_columns.ensures.paints.painted c.args.facts.now c.args.first c.args.last contents count c.new-fragment.ensures hold)
+    (c.in_ok-draw_columns.ensures.paints.painted contents count (record { facts = c.args.facts.now; first = c.args.first; last = c.args.last }) hold c.new-fragment.ensures)
 
 pub returns-clause-fits : goal.returns-clause-fits
 returns-clause-fits g c = λ walls s contents count h few hold.
     fit_beside-as c.args.tools.now.dir.now.lumps c.args.tools.now.textures.now c.args.tools.now.colormap.0 count c.args.tools.now.cache.now.size
     (along-built c.args.tools.now.view.now (view_art (lump_bytes contents c.args.tools.now.dir.now.lumps) c.args.tools.now.textures.now c.args.tools.now.colormap.0) walls s c.args.self.now c.self.inside.notes.items c.self.inside.columns c.begin.new.self.windows
     c.args.tools.now.planes.now.planes c.args.facts.now c.args.first c.args.last c.len-number.result c.new-fragment.result c.self.view_is h c.in_ok-places.ensures.windows c.new-fragment.ensures (omega arith) c.requires.within)
-    (c.in_ok-draw_columns.ensures.paints.fits c.args.facts.now c.args.first c.args.last contents count c.new-fragment.ensures hold)
+    (c.in_ok-draw_columns.ensures.paints.fits contents count (record { facts = c.args.facts.now; first = c.args.first; last = c.args.last }) hold c.new-fragment.ensures)
