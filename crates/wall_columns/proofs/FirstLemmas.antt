@@ -56,10 +56,10 @@ first-in P n plan all = go (has_texture n.middle_part) (has_texture n.top_part) 
   go false true = all.1.0
   go false false = all.1.1.0
 
-chosen_texture : (n : FragmentNumbers) (plan : ColumnPlan) (number : ℕ) →
+texture_in : (n : FragmentNumbers) (plan : ColumnPlan) (number : ℕ) →
     IsStripTexture (first_strip n plan) number → IsPlanTexture n plan number
 unfolding first_strip
-chosen_texture n plan number = go (has_texture n.middle_part) (has_texture n.top_part) where
+texture_in n plan number = go (has_texture n.middle_part) (has_texture n.top_part) where
   go : (m t : Bool) → IsStripTexture (cond m (record { part = n.middle_part; rows = plan.middle })
       (cond t (record { part = n.top_part; rows = plan.top }) (record { part = n.bottom_part; rows = plan.bottom }))) number →
       IsPlanTexture n plan number
@@ -70,7 +70,7 @@ chosen_texture n plan number = go (has_texture n.middle_part) (has_texture n.top
 pub first-texture : (n : FragmentNumbers) (plan : ColumnPlan) (s : WallStrip) → s ≡ first_strip n plan →
     (number : ℕ) → IsStripTexture s number → IsPlanTexture n plan number
 first-texture n plan s is number h =
-    chosen_texture n plan number (subst (λ (s : WallStrip). IsStripTexture s number) is h)
+    texture_in n plan number (subst (λ (s : WallStrip). IsStripTexture s number) is h)
 
 module _ (shape : ViewShape) (art : Art) (look : ColumnLook) where
   -- a strip without rows in front of others, and the same strip in front of the same dots
@@ -87,11 +87,11 @@ module _ (shape : ViewShape) (art : Art) (look : ColumnLook) where
   behind s xs ys same = ap (λ (ds : List Dot). look_dots shape art look s ++ ds) same
 
   -- the dots of a plan are those of its first strip, and of the second where it is painted
-  chosen_alone : (n : FragmentNumbers) (plan : ColumnPlan) → HasRowsOf n plan → has_second n plan ≡ false →
+  strips_alone : (n : FragmentNumbers) (plan : ColumnPlan) → HasRowsOf n plan → has_second n plan ≡ false →
       strips_dots shape art look (first_strip n plan ∷ [])
       ≡ strips_dots shape art look (strips_by n plan)
   unfolding first_strip has_second
-  chosen_alone n plan rows off =
+  strips_alone n plan rows off =
       go (has_texture n.middle_part) (has_texture n.top_part) (int_lt plan.bottom.last plan.bottom.first)
       refl refl refl off where
         m : WallStrip
@@ -112,11 +112,11 @@ module _ (shape : ViewShape) (art : Art) (look : ColumnLook) where
         go false true false e f g h = cc
         go false false none e f g h = sym (skip m (t ∷ (b ∷ [])) (rows.middle e) ∙ skip t (b ∷ []) (rows.top f))
 
-  chosen_both : (n : FragmentNumbers) (plan : ColumnPlan) → HasRowsOf n plan → has_second n plan ≡ true →
+  strips_both : (n : FragmentNumbers) (plan : ColumnPlan) → HasRowsOf n plan → has_second n plan ≡ true →
       strips_dots shape art look (first_strip n plan ∷ (record { part = n.bottom_part; rows = plan.bottom } ∷ []))
       ≡ strips_dots shape art look (strips_by n plan)
   unfolding first_strip has_second
-  chosen_both n plan rows on =
+  strips_both n plan rows on =
       go (has_texture n.middle_part) (has_texture n.top_part) (int_lt plan.bottom.last plan.bottom.first) refl on where
         m : WallStrip
         m = record { part = n.middle_part; rows = plan.middle }
@@ -138,7 +138,7 @@ module _ (shape : ViewShape) (art : Art) (look : ColumnLook) where
       has_second n plan ≡ false →
       strips_dots shape art look (s ∷ []) ≡ strips_dots shape art look (strips_by n plan)
   first-alone n plan s is rows off =
-      ap (λ (s : WallStrip). strips_dots shape art look (s ∷ [])) is ∙ chosen_alone n plan rows off
+      ap (λ (s : WallStrip). strips_dots shape art look (s ∷ [])) is ∙ strips_alone n plan rows off
 
   pub first-both : (n : FragmentNumbers) (plan : ColumnPlan) (s : WallStrip) → s ≡ first_strip n plan → HasRowsOf n plan →
       has_second n plan ≡ true →
@@ -147,4 +147,4 @@ module _ (shape : ViewShape) (art : Art) (look : ColumnLook) where
   first-both n plan s is rows on =
       strips-append shape art look (s ∷ []) (strip_with n.bottom_part plan.bottom ∷ [])
       ∙ ap (λ (s : WallStrip). strips_dots shape art look (s ∷ (strip_with n.bottom_part plan.bottom ∷ []))) is
-      ∙ chosen_both n plan rows on
+      ∙ strips_both n plan rows on

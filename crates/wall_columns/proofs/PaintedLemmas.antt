@@ -1,5 +1,5 @@
 -- Laws of the strips of a fragment's column, and of a call that paints one of a live column.
-use Rattle.std.proofs.Common.{append-nil, ◌≡◌, ◌<◌, ◌+◌, ◌++◌, ℕ, ℤ, pos, List, [], ◌∷◌, length, Ok, refl, sym, ap, subst, ◌∙◌}
+use Rattle.std.proofs.Common.{append-nil, ◌≡◌, ◌<◌, ◌+◌, ◌++◌, ℕ, ℤ, pos, List, [], ◌∷◌, length, Result, Ok, Err, IsErrAnd, refl, sym, ap, subst, ◌∙◌}
 use Rattle.std.specs.Prelude.{int_lt, true, false}
 use Rattle.outside.specs.Shelf.{ShelfView}
 use Rattle.word_rules.specs.Listed.{listed_from, joined_lists}
@@ -14,6 +14,7 @@ use Rattle.art_rules.specs.Bytes.{byte_at}
 use Rattle.pixel_rules.specs.declared.Painter.{Painter}
 use Rattle.pixel_rules.specs.declared.TheConstants.{WALL}
 use Rattle.pixel_rules.specs.Art.{Art, painter_of}
+use Rattle.pixel_rules.specs.Dots.{Dot}
 use Rattle.pixel_rules.specs.Strips.{row_fraction, rows_between, shade, texel_row, column_dots}
 use Rattle.pixel_strips.specs.Canvases.{CanvasView, with_dots, with_painter}
 use Rattle.pixel_strips.specs.Dotted.{HasDots, PlacedAlike}
@@ -24,12 +25,13 @@ use Rattle.texture_build.specs.Arts.{column_texel, lookup_source, view_art}
 use Rattle.texture_build.specs.Sources.{column_in}
 use Rattle.texture_build.specs.Views.{TexturesView, prepared_texture}
 use Rattle.texture_build.specs.Draws.{CanDraw, DrawsWith, FitsBeside}
-use Rattle.texture_build.specs.Paints.{FitIn, Holds, PaintTools, paint_state, painted_art}
+use Rattle.texture_build.specs.Paints.{FitIn, Holds, PaintTools, Paints, paint_state, painted_art}
 use Rattle.texture_build.proofs.BesideLemmas.{fit_beside-column_dots}
-use Rattle.texture_build.proofs.PaintLemmas.{paints-live, paints-same}
+use Rattle.texture_build.proofs.PaintLemmas.{paints-live, paints-missed, paints-same}
 use Rattle.picture_rules.specs.declared.wall.Part.{Part}
 use Rattle.picture_rules.specs.declared.wall.RowRange.{RowRange}
 use Rattle.picture_rules.specs.wall.Strips.{WallStrip}
+use Rattle.wall_columns.specs.declared.fault.DrawFault.{DrawFault}
 use Rattle.wall_columns.specs.declared.paint.ColumnLook.{ColumnLook}
 use Rattle.wall_columns.specs.Draws.{IsNoPicture}
 use Rattle.wall_columns.specs.Faults.{draw_fault}
@@ -131,7 +133,8 @@ pub strips-empty : (shape : ViewShape) (art : Art) (look : ColumnLook) (part : P
 strips-empty shape art look part rows none =
     look-none shape art look part rows none ∙ strips-one shape art look (strip_with part rows)
 
--- What a call that paints a live column's strip paints, and that what its painter reads fits beside the colormap.
+-- A call that paints the strip of a live column: its dots, and that what its painter reads fits
+-- beside the colormap.
 pub record PaintsLive (shape : ViewShape) (t : PaintTools) (mark : Painter → ℕ → ℕ)
     (look : ColumnLook) (part : Part) (rows : RowRange) (lookup : ColumnLookup) (z : Heap)
     (a b : CanvasView) : Type 0 where
@@ -161,25 +164,37 @@ fits-live shape t count zone bytes look part rows lookup is fits =
 -- so a call that made a part's column live and painted its strip paints that strip
 pub paints-strip : {shape : ViewShape} {t : PaintTools} {mark : Painter → ℕ → ℕ}
     {look : ColumnLook} {part : Part} {rows : RowRange} {among : ℕ → Type 0}
-    {u v w : ShelfView} {x y z : Heap} {a b : CanvasView} (lookup : ColumnLookup) →
+    {u v w : ShelfView} {x y z : Heap} {a b c : CanvasView} (lookup : ColumnLookup) →
     lookup ≡ column_in (prepared_texture t.textures part.number) look.column →
     DrawsWith {A = Unit {0}} draw_fault among IsNoPicture u v t.dir t.textures x y (Ok tt) →
-    PaintsLive shape t mark look part rows lookup y a b → PlacedAlike a b → w ≡ v → z ≡ y →
+    PaintsLive shape t mark look part rows lookup y b c → PlacedAlike b c → b ≡ a → w ≡ v → z ≡ y →
     PaintsStrips shape t mark look among (strip_with part rows ∷ []) (paint_state u x a)
-    (paint_state w z b) (Ok tt)
-paints-strip {shape} {t} {look = look} {part} {rows} {y = y} lookup is draws live place same_shelf same_cache =
-    paints-same (λ contents q. strips_dots shape (painted_art contents t) look (strip_with part rows ∷ []))
+    (paint_state w z c) (Ok tt)
+paints-strip {shape} {t} {mark} {look} {part} {rows} {among} {u} {w = w} {x} {y} {z} {c = c} lookup is draws live place same_canvas same_shelf same_cache =
+    subst (λ (canvas : CanvasView). PaintsStrips shape t mark look among (strip_with part rows ∷ []) (paint_state u x canvas) (paint_state w z c) (Ok tt)) same_canvas
+    (paints-same (λ contents q. strips_dots shape (painted_art contents t) look (strip_with part rows ∷ []))
     (λ contents q there. strips-one shape (painted_art contents t) look (strip_with part rows))
     (paints-live {t = t} {dots = λ contents q. look_dots shape (painted_art contents t) look (strip_with part rows)} tt draws
     (λ view contents count q hold there. live.painted view contents count there hold)
     (λ view contents count q hold there. fits-live shape t count y.size (lump_bytes contents t.dir.lumps)
     look part rows lookup is (live.fits view contents count hold))
-    place same_shelf same_cache)
+    place same_shelf same_cache))
+
+-- and one that could not make it live paints nothing
+pub paints-failed : {Q : Type 0} {t : PaintTools} {mark : Painter → ℕ → ℕ} {among : ℕ → Type 0}
+    {asked : Q → Type 0} {dots : List (List ℕ) → Q → List Dot} {u v : ShelfView} {x y : Heap}
+    {a b : CanvasView} {part whole : Result (Unit {0}) DrawFault} {fault : DrawFault} →
+    part ≡ Err fault → IsErrAnd whole (λ e. e ≡ fault) →
+    DrawsWith draw_fault among IsNoPicture u v t.dir t.textures x y part → b ≡ a →
+    Paints draw_fault mark t among IsNoPicture asked dots (paint_state u x a) (paint_state v y b) whole
+paints-failed {t = t} {mark} {among} {asked} {dots} {u} {v} {x} {y} {a} {whole = whole} was is draws same_canvas =
+    subst (λ (canvas : CanvasView). Paints draw_fault mark t among IsNoPicture asked dots (paint_state u x a) (paint_state v y canvas) whole)
+    (sym same_canvas) (paints-missed {t = t} u v x y a was is draws)
 
 -- a texture may be drawn later too
-pub can_draw-kept : {lumps : List Lump} {textures : TexturesView} {x y : Heap} {number : ℕ} →
+pub can_draw-counts : {lumps : List Lump} {textures : TexturesView} {x y : Heap} {number : ℕ} →
     KeepsCounts x y → CanDraw lumps textures x number → CanDraw lumps textures y number
-can_draw-kept {number = number} counts k = record {
+can_draw-counts {number = number} counts k = record {
   prepared = k.prepared;
   slot = subst (λ (n : ℕ). number < n) (sym counts.2) k.slot;
   there = k.there;

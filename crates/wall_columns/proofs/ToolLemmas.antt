@@ -1,11 +1,10 @@
--- Tools that hold the same references.
+-- What holds of a view and of tools holds of those with the same references.
 use Rattle.std.proofs.Common.{◌≡◌, sym, ap, subst, ◌∙◌}
 use Rattle.view_rules.specs.View.{ViewValue}
 use Rattle.texture_build.specs.Paints.{PaintTools, paint_tools}
 use Rattle.wall_columns.specs.declared.tools.WallTools.{WallTools}
 use Rattle.wall_columns.specs.Tools.{AreSameWallTools, wall_tools}
 
--- what holds of a view and of tools holds of those with the same references
 module _ {S C : Type 0} (old new : WallTools S C) (P : ViewValue → PaintTools → Type 0) (same : AreSameWallTools old new) where
   same_paint_tools : wall_tools new ≡ wall_tools old
   same_paint_tools =

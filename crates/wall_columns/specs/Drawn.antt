@@ -63,7 +63,8 @@ pub record WallRange : Type 0 where
   pub first : ℕ
   pub last : ℕ
 
--- A call that paints of a fragment these dots of the art and of its seg's facts, with some textures.
+-- A call that paints a fragment or a part of it, with some textures. Its dots depend on the art and
+-- on the facts of its seg.
 abbrev pub PaintsFragment : ViewValue → PaintTools → (Painter → ℕ → ℕ) → FragmentValue →
     (ℕ → Type 0) → (Art → WallFacts → List Dot) → PaintState → PaintState →
     Result (Unit {0}) DrawFault → Type 0
@@ -72,7 +73,7 @@ PaintsFragment v t mark f among dots old new result =
     (λ (q : WallRange). f ≡ fragment_of v q.facts q.first q.last)
     (λ contents q. dots (painted_art contents t) q.facts) old new result
 
--- the strips of a plan in column x of fragment number k
+-- a call that paints the strips of a plan in column x of fragment number k
 abbrev pub PaintsPlan : ViewValue → PaintTools → (Painter → ℕ → ℕ) → ℕ → FragmentValue →
     FragmentNumbers → ℕ → Edges → ColumnPlan → PaintState → PaintState →
     Result (Unit {0}) DrawFault → Type 0
@@ -81,14 +82,14 @@ PaintsPlan v t mark k f n x e plan old new result =
     (λ art facts. joined_lists (strip_dots v art k x n.light (texture_column v facts x) e.scale)
     (strips_by n plan)) old new result
 
--- column x of fragment number k, of which this was open
+-- one that paints column x of fragment number k, of which this was open
 abbrev pub PaintsColumn : ViewValue → PaintTools → (Painter → ℕ → ℕ) → ℕ → FragmentValue →
     (ℕ → ColumnClip) → ℕ → PaintState → PaintState → Result (Unit {0}) DrawFault → Type 0
 PaintsColumn v t mark k f before x old new result =
     PaintsFragment v t mark f (IsDrawnTexture f.numbers)
     (λ art facts. column_painted v art k f facts before x) old new result
 
--- its first n columns
+-- and one that paints its first n columns
 abbrev pub PaintsColumns : ViewValue → PaintTools → (Painter → ℕ → ℕ) → ℕ → FragmentValue →
     (ℕ → ColumnClip) → ℕ → PaintState → PaintState → Result (Unit {0}) DrawFault → Type 0
 PaintsColumns v t mark k f before n old new result =

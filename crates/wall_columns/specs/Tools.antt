@@ -18,7 +18,7 @@ use Rattle.wall_columns.specs.declared.clips.ColumnPlan.{ColumnPlan}
 use Rattle.wall_columns.specs.Built.{with_wall}
 use Rattle.wall_columns.specs.Plans.{HasRows, IsInRows, strips_by}
 
--- what they paint with, and what they write
+-- what a call paints with, and what it writes
 abbrev pub wall_tools : {S C : Type 0} → WallTools S C → PaintTools
 wall_tools t = paint_tools t.dir.now t.textures.now t.colormap.0
 

@@ -1,17 +1,17 @@
-use Rattle.std.proofs.Common.{SFits, rules, of_z, to_z, to_z-of_z, w32, ◌≡◌, ◌≤ℤ◌, ℕ, ℤ, [], ◌∷◌, true, false, Ok, refl, ap, sym, subst, ◌∙◌, arith}
+use Rattle.std.proofs.Common.{SFits, rules, of_z, to_z, to_z-of_z, w32, ◌≡◌, ◌≤ℤ◌, ℕ, ℤ, true, false, refl, ap, ◌∙◌, arith}
 use Rattle.std.proofs.lemmas.Int.{ints}
 use Rattle.std.specs.Prelude.{int_lt}
 use Rattle.art_rules.specs.declared.ColumnLookup.{ColumnLookup}
 use Rattle.art_rules.specs.Wanted.{PreparedTexture}
 use Rattle.texture_build.specs.Draws.{CanDraw}
-use Rattle.texture_build.specs.Paints.{paint_state, painted_art}
+use Rattle.texture_build.specs.Paints.{painted_art}
 use Rattle.texture_build.specs.Sources.{column_in}
 use Rattle.texture_build.specs.Views.{prepared_texture}
-use Rattle.texture_build.proofs.PaintLemmas.{paints-missed, paints-none, paints-same, paints-wider}
-use Rattle.wall_columns.specs.Painted.{PaintsStrips, strip_with}
+use Rattle.texture_build.proofs.PaintLemmas.{paints-none, paints-same, paints-wider}
+use Rattle.wall_columns.specs.Painted.{strip_with}
 use Rattle.wall_columns.specs.Plans.{IsStripTexture}
 use Rattle.wall_columns.specs.Tools.{wall_state, wall_tools}
-use Rattle.wall_columns.proofs.PaintedLemmas.{PaintsLive, can_draw-kept, paints-strip, strips-empty}
+use Rattle.wall_columns.proofs.PaintedLemmas.{PaintsLive, can_draw-counts, paints-failed, paints-strip, strips-empty}
 use Rattle.wall_columns.proofs.ToolLemmas.{after-same, before-same}
 use Rattle.wall_columns.proofs.paint.paint_part.Goals as goal
 
@@ -34,39 +34,33 @@ pub paint_live-requires-clause-texture : goal.paint_live-requires-clause-texture
 paint_live-requires-clause-texture g c =
     let ordered : c.args.rows.first ≤ℤ c.args.rows.last = grind (arith, ints) in
     after-same c.args.tools.now c.ready_part.new.tools (λ v t. CanDraw t.dir.lumps t.textures c.ready_part.new.tools.cache.now c.args.part.number) c.in_ok-ready_part.ensures.same
-    (can_draw-kept (c.in_ok-ready_part.ensures.draws c.args.look.now.column
+    (can_draw-counts (c.in_ok-ready_part.ensures.draws c.args.look.now.column
     (lookup_is (prepared_texture c.args.tools.now.textures.now c.args.part.number) c.args.look.now.column (search rules) c.lookup-lookup.ensures.value)).keeps.counts
     (c.requires.texture ordered))
 
 pub returns-in_err-ready_part-clause-paints : goal.returns-in_err-ready_part-clause-paints
 returns-in_err-ready_part-clause-paints g c =
     let tools = c.args.tools.now in
-    let ready = c.ready_part.new.tools in
     let ordered : c.args.rows.first ≤ℤ c.args.rows.last = grind (arith, ints) in
     paints-wider {among = IsStripTexture (strip_with c.args.part c.args.rows)} (λ (number : ℕ) e. (ordered, e)) (λ (lump : ℕ) h. h)
-    (subst (λ canvas. PaintsStrips tools.view.now.shape (wall_tools tools) g.C.Canvas.mark c.args.look.now (λ n. n ≡ c.args.part.number) (strip_with c.args.part c.args.rows ∷ [])
-    (wall_state g.S.Shelf.view g.C.Canvas.view tools) (paint_state (g.S.Shelf.view ready.shelf.now) ready.cache.now (g.C.Canvas.view canvas)) c.from_residual.result)
-    (sym c.in_err-ready_part.ensures.canvas)
-    (paints-missed {t = wall_tools tools} (g.S.Shelf.view tools.shelf.now) (g.S.Shelf.view ready.shelf.now) tools.cache.now ready.cache.now (g.C.Canvas.view tools.canvas.now) refl c.from_residual.ensures.1
+    (paints-failed {t = wall_tools tools} refl c.from_residual.ensures.1
     (c.in_err-ready_part.ensures.draws c.args.look.now.column
-    (lookup_is (prepared_texture tools.textures.now c.args.part.number) c.args.look.now.column (search rules) c.lookup-lookup.ensures.value))))
+    (lookup_is (prepared_texture tools.textures.now c.args.part.number) c.args.look.now.column (search rules) c.lookup-lookup.ensures.value))
+    (ap g.C.Canvas.view c.in_err-ready_part.ensures.canvas))
 
 pub returns-clause-paints : goal.returns-clause-paints
 returns-clause-paints g c =
     let tools = c.args.tools.now in
     let ready = c.ready_part.new.tools in
-    let drawn = c.paint_live.new.tools in
+    let after = c.paint_live.new.tools in
     let live : PaintsLive tools.view.now.shape (wall_tools tools) g.C.Canvas.mark c.args.look.now c.args.part c.args.rows c.lookup-lookup.result ready.cache.now
-    (g.C.Canvas.view ready.canvas.now) (g.C.Canvas.view drawn.canvas.now) =
-    before-same c.args.tools.now c.ready_part.new.tools (λ v t. PaintsLive v.shape t g.C.Canvas.mark c.args.look.now c.args.part c.args.rows c.lookup-lookup.result ready.cache.now
-    (g.C.Canvas.view ready.canvas.now) (g.C.Canvas.view drawn.canvas.now)) c.in_ok-ready_part.ensures.same
+    (g.C.Canvas.view ready.canvas.now) (g.C.Canvas.view after.canvas.now) =
+    before-same tools ready (λ v t. PaintsLive v.shape t g.C.Canvas.mark c.args.look.now c.args.part c.args.rows c.lookup-lookup.result ready.cache.now
+    (g.C.Canvas.view ready.canvas.now) (g.C.Canvas.view after.canvas.now)) c.in_ok-ready_part.ensures.same
     (record { painted = c.paint_live.ensures.painted; fits = c.paint_live.ensures.fits }) in
     let is_lookup : c.lookup-lookup.result ≡ column_in (prepared_texture tools.textures.now c.args.part.number) c.args.look.now.column =
     lookup_is (prepared_texture tools.textures.now c.args.part.number) c.args.look.now.column (search rules) c.lookup-lookup.ensures.value in
     let ordered : c.args.rows.first ≤ℤ c.args.rows.last = grind (arith, ints) in
     paints-wider {among = IsStripTexture (strip_with c.args.part c.args.rows)} (λ (number : ℕ) e. (ordered, e)) (λ (lump : ℕ) h. h)
-    (subst (λ canvas. PaintsStrips tools.view.now.shape (wall_tools tools) g.C.Canvas.mark c.args.look.now (λ n. n ≡ c.args.part.number) (strip_with c.args.part c.args.rows ∷ [])
-    (paint_state (g.S.Shelf.view tools.shelf.now) tools.cache.now (g.C.Canvas.view canvas)) (wall_state g.S.Shelf.view g.C.Canvas.view drawn) (Ok tt)) c.in_ok-ready_part.ensures.canvas
-    (paints-strip c.lookup-lookup.result is_lookup
-    (c.in_ok-ready_part.ensures.draws c.args.look.now.column is_lookup) live c.paint_live.ensures.place
-    (ap g.S.Shelf.view c.paint_live.ensures.shelf) c.paint_live.ensures.cache))
+    (paints-strip c.lookup-lookup.result is_lookup (c.in_ok-ready_part.ensures.draws c.args.look.now.column is_lookup) live c.paint_live.ensures.place
+    (ap g.C.Canvas.view c.in_ok-ready_part.ensures.canvas) (ap g.S.Shelf.view c.paint_live.ensures.shelf) c.paint_live.ensures.cache)

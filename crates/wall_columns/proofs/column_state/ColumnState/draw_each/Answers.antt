@@ -65,19 +65,19 @@ returns-in_err-paint_plan-clause-paints g c =
     let k : ℕ = c.loop-edges.k in
     let x : ℕ = c.loop-edges.stepper.x in
     let now = c.loop-edges.tools in
-    let drawn = c.paint_plan.new.tools in
-    let before : ℕ → ColumnClip = window_at c.args.self.now.windows in
+    let after = c.paint_plan.new.tools in
+    let window : ℕ → ColumnClip = window_at c.args.self.now.windows in
     let step = c.in-Some.ensures.column f k i.at in
     let later = step.1 in
     let is : x ≡ f.first + k = i.at.x in
     let a = later.x in let b = later.left in let d = i.at.within in
     let inside : x < FRAME_WIDTH = omega arith in
-    let one = paints-column now.view.now (wall_tools now) g.C.Canvas.mark c.args.number f before x c.loop-edges.self.windows.height c.args.numbers.now
+    let one = paints-column now.view.now (wall_tools now) g.C.Canvas.mark c.args.number f window x c.loop-edges.self.windows.height c.args.numbers.now
     (window_at c.loop-edges.self.windows x) c.in-Some.edges c.pass_column-plan.result c.pass_column-plan.ensures.plan c.requires.numbers
     (window_is f k x c.args.self.now c.loop-edges.self c.args.tools.now.planes.now now.planes.now i.marked is inside) (step.0 ∙ edges_are f k x is)
     c.in_err-paint_plan.ensures.paints in
     paints-then_stop refl c.from_residual.ensures.1 i.paints
-    (before-same c.args.tools.now c.loop-edges.tools (λ v t. PaintsColumn v t g.C.Canvas.mark c.args.number f before x (wall_state g.S.Shelf.view g.C.Canvas.view now) (wall_state g.S.Shelf.view g.C.Canvas.view drawn) (Err c.in_err-paint_plan.field-0.0))
+    (before-same c.args.tools.now c.loop-edges.tools (λ v t. PaintsColumn v t g.C.Canvas.mark c.args.number f window x (wall_state g.S.Shelf.view g.C.Canvas.view now) (wall_state g.S.Shelf.view g.C.Canvas.view after) (Err c.in_err-paint_plan.field-0.0))
     i.same one)
 
 pub returns-in_err-paint_plan-clause-height : goal.returns-in_err-paint_plan-clause-height
@@ -109,8 +109,8 @@ loop-edges-preserved g c =
     c.requires.numbers step.0
     (passes-column c.args.numbers.now x c.in-Some.edges state next between c.pass_column-plan.new.planes c.pass_column-plan.result
     p.plan p.windows p.own p.other p.planes p.count p.same_floor p.same_ceiling) in
-    let opened : ℕ → ColumnClip = window_at c.args.self.now.windows in
-    let one = paints-column tools.view.now (wall_tools tools) g.C.Canvas.mark c.args.number f opened x state.windows.height c.args.numbers.now
+    let window : ℕ → ColumnClip = window_at c.args.self.now.windows in
+    let one = paints-column tools.view.now (wall_tools tools) g.C.Canvas.mark c.args.number f window x state.windows.height c.args.numbers.now
     (window_at state.windows x) c.in-Some.edges c.pass_column-plan.result p.plan c.requires.numbers
     (window_is f k x c.args.self.now state before between i.marked is inside) (step.0 ∙ edges_are f k x is) q.paints in
     let view = q.same.0 ∙ i.same.0 in
@@ -127,8 +127,8 @@ loop-edges-preserved g c =
           ∙ ap (λ (o : OpeningsView). column_saved c.args.places k (texture_column start.view.now facts x) c.pass_column-plan.result.after o.saved) p.openings)
           (c.save_column.ensures.length ∙ ap (λ (o : OpeningsView). length o.saved) p.openings)
           (c.save_column.ensures.room ∙ ap (λ (o : OpeningsView). o.room) p.openings);
-      paints = paints-same _ (λ contents (w : WallRange) asked. along-more (column_painted start.view.now (painted_art contents (wall_tools start)) c.args.number f w.facts opened) f.first k x is)
-          (paints-then i.paints (before-same c.args.tools.now c.loop-edges.tools (λ v t. PaintsColumn v t g.C.Canvas.mark c.args.number f opened x (wall_state g.S.Shelf.view g.C.Canvas.view tools)
+      paints = paints-same _ (λ contents (w : WallRange) asked. along-more (column_painted start.view.now (painted_art contents (wall_tools start)) c.args.number f w.facts window) f.first k x is)
+          (paints-then i.paints (before-same c.args.tools.now c.loop-edges.tools (λ v t. PaintsColumn v t g.C.Canvas.mark c.args.number f window x (wall_state g.S.Shelf.view g.C.Canvas.view tools)
           (wall_state g.S.Shelf.view g.C.Canvas.view c.paint_plan.new.tools) (Ok tt)) i.same one));
       same = (
         view,
