@@ -10,10 +10,8 @@ use Rattle.std.proofs.lemmas.Bool.{or_parts}
 use Rattle.outside.specs.declared.fault.Fault.{Fault}
 use Rattle.word_rules.specs.Listed.{listed_from, joined_lists}
 use Rattle.word_rules.proofs.ListedLemmas.{joined_lists-append}
-use Rattle.zone_rules.specs.Zones.{Heap}
 use Rattle.view_rules.specs.View.{ViewValue}
 use Rattle.view_rules.specs.declared.TheConstants.{FRAME_WIDTH, FRAME_HEIGHT}
-use Rattle.wad_dir.specs.DirectoryView.{DirectoryView}
 use Rattle.pixel_rules.specs.declared.Painter.{Painter}
 use Rattle.pixel_rules.specs.Art.{Art}
 use Rattle.pixel_rules.specs.Dots.{Dot}
@@ -28,8 +26,6 @@ use Rattle.picture_rules.specs.wall.Numbers.{fragment_numbers}
 use Rattle.picture_rules.specs.wall.Walls.{Wall, wall_of, wall_edges, clip_before}
 use Rattle.picture_rules.specs.wall.Strips.{WallStrip, strip_of, strip_dots, wall_strips, wall_column_by, wall_column, wall_dots}
 use Rattle.wall_edges.specs.Fragments.{FragmentValue, fragment_of}
-use Rattle.pixel_strips.specs.Canvases.{CanvasView}
-use Rattle.texture_build.specs.Views.{TexturesView}
 use Rattle.texture_build.specs.Draws.{CanDraw}
 use Rattle.texture_build.specs.Paints.{PaintState, PaintTools, Paints, painted_art}
 use Rattle.texture_build.proofs.PaintLemmas.{can_draw-later, paints-same, paints-wider, slots-later}
@@ -54,7 +50,7 @@ use Rattle.wall_columns.proofs.SightLemmas.{numbers-scale, numbers-light, number
 -- what may be painted may be painted later
 pub can_paint-later : {R E Q : Type 0} {fault_of : E → Fault R} {mark : Painter → ℕ → ℕ} {t : PaintTools} {among pictures : ℕ → Type 0} {asked : Q → Type 0} {dots : List (List ℕ) → Q → List Dot}
     {a b : PaintState} {result : Result (Unit {0}) E} (v : ViewValue) (f : FragmentValue) →
-    Paints fault_of mark t among pictures asked dots a b result → CanPaint v t.dir t.textures t.colormap a.cache a.canvas f → CanPaint v t.dir t.textures t.colormap b.cache b.canvas f
+    Paints fault_of mark t among pictures asked dots a b result → CanPaint v t a f → CanPaint v t b f
 can_paint-later v f one can =
     let left = one.place.left in
     let top = one.place.top in
@@ -146,13 +142,13 @@ strips-in v height n clip e plan p h s i w =
     let Q : ℕ → Type 0 = λ rows. All (IsInRows rows) (strips_by n (plan_of height n clip e)) in
     subst P (sym p) (subst Q h (plan_strips-in height n clip e s i w))
 
-pub strips-drawn : (v : ViewValue) (dir : DirectoryView) (art : TexturesView) (colormap : ℕ) (z : Heap) (canvas : CanvasView) (f : FragmentValue) (height : ℕ) (n : FragmentNumbers) (clip : ColumnClip) (e : Edges) (plan : ColumnPlan) →
-    plan ≡ plan_of height n clip e → n ≡ f.numbers → CanPaint v dir art colormap z canvas f →
-    All (λ (s : WallStrip). HasRows s → CanDraw dir.lumps art z s.part.number) (strips_by n plan)
-strips-drawn v dir art colormap z canvas f height n clip e plan p q can =
-    let P : ColumnPlan → Type 0 = λ plan. All (λ (s : WallStrip). HasRows s → CanDraw dir.lumps art z s.part.number) (strips_by n plan) in
-    let N : FragmentNumbers → Type 0 = λ n. (number : ℕ) → number ≢ 0 → IsPartTexture n number → CanDraw dir.lumps art z number in
-    subst P (sym p) (plan_strips-there (λ (number : ℕ). CanDraw dir.lumps art z number) height n clip e (subst N (sym q) can.textures))
+pub strips-drawn : (v : ViewValue) (t : PaintTools) (old : PaintState) (f : FragmentValue) (height : ℕ) (n : FragmentNumbers) (clip : ColumnClip) (e : Edges) (plan : ColumnPlan) →
+    plan ≡ plan_of height n clip e → n ≡ f.numbers → CanPaint v t old f →
+    All (λ (s : WallStrip). HasRows s → CanDraw t.dir.lumps t.textures old.cache s.part.number) (strips_by n plan)
+strips-drawn v t old f height n clip e plan p q can =
+    let P : ColumnPlan → Type 0 = λ plan. All (λ (s : WallStrip). HasRows s → CanDraw t.dir.lumps t.textures old.cache s.part.number) (strips_by n plan) in
+    let N : FragmentNumbers → Type 0 = λ n. (number : ℕ) → number ≢ 0 → IsPartTexture n number → CanDraw t.dir.lumps t.textures old.cache number in
+    subst P (sym p) (plan_strips-there (λ (number : ℕ). CanDraw t.dir.lumps t.textures old.cache number) height n clip e (subst N (sym q) can.textures))
 
 -- in the end the dots are joined from column to column
 one_list : (g : ℕ → List Dot) (x : ℕ) → joined_lists g (x ∷ []) ≡ g x
@@ -225,11 +221,11 @@ unfolding edges_at
 own_scale v facts first last k l = scale_least _ (numbers-scale v facts first last k l)
 
 -- the fragment of a seg may be painted where its textures may be drawn
-pub can_paint-of : (v : ViewValue) (facts : WallFacts) (first last : ℕ) (dir : DirectoryView) (art : TexturesView) (colormap : ℕ) (z : Heap) (canvas : CanvasView) (f : FragmentValue) → f ≡ fragment_of v facts first last →
-    last < v.shape.width → canvas.left + v.shape.width ≤ FRAME_WIDTH → canvas.top + v.shape.height ≤ FRAME_HEIGHT → length dir.lumps ≤ z.lumps → colormap < length dir.lumps →
-    ((number : ℕ) → IsWallTexture facts number → CanDraw dir.lumps art z number) → CanPaint v dir art colormap z canvas f
-can_paint-of v facts first last dir art colormap z canvas f is within columns rows slots shades textures =
-    let P : FragmentValue → Type 0 = λ f. CanPaint v dir art colormap z canvas f in
+pub can_paint-of : (v : ViewValue) (facts : WallFacts) (first last : ℕ) (t : PaintTools) (old : PaintState) (f : FragmentValue) → f ≡ fragment_of v facts first last →
+    last < v.shape.width → old.canvas.left + v.shape.width ≤ FRAME_WIDTH → old.canvas.top + v.shape.height ≤ FRAME_HEIGHT → length t.dir.lumps ≤ old.cache.lumps → t.colormap < length t.dir.lumps →
+    ((number : ℕ) → IsWallTexture facts number → CanDraw t.dir.lumps t.textures old.cache number) → CanPaint v t old f
+can_paint-of v facts first last t old f is within columns rows slots shades textures =
+    let P : FragmentValue → Type 0 = λ f. CanPaint v t old f in
     subst P (sym is) (record {
       within = within;
       columns = columns;

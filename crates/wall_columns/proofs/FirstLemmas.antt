@@ -56,21 +56,12 @@ first-in P n plan all = go (has_texture n.middle_part) (has_texture n.top_part) 
   go false true = all.1.0
   go false false = all.1.1.0
 
-texture_in : (n : FragmentNumbers) (plan : ColumnPlan) (number : ℕ) →
-    IsStripTexture (first_strip n plan) number → IsPlanTexture n plan number
-unfolding first_strip
-texture_in n plan number = go (has_texture n.middle_part) (has_texture n.top_part) where
-  go : (m t : Bool) → IsStripTexture (cond m (record { part = n.middle_part; rows = plan.middle })
-      (cond t (record { part = n.top_part; rows = plan.top }) (record { part = n.bottom_part; rows = plan.bottom }))) number →
-      IsPlanTexture n plan number
-  go true t is = inl is
-  go false true is = inr (inl is)
-  go false false is = inr (inr is)
-
+-- so a texture of the first is one of the plan
 pub first-texture : (n : FragmentNumbers) (plan : ColumnPlan) (s : WallStrip) → s ≡ first_strip n plan →
     (number : ℕ) → IsStripTexture s number → IsPlanTexture n plan number
-first-texture n plan s is number h =
-    texture_in n plan number (subst (λ (s : WallStrip). IsStripTexture s number) is h)
+first-texture n plan s is number =
+    let P : WallStrip → Type 0 = λ s. IsStripTexture s number → IsPlanTexture n plan number in
+    subst P (sym is) (first-in P n plan (λ h. inl h, (λ h. inr (inl h), (λ h. inr (inr h), tt))))
 
 module _ (shape : ViewShape) (art : Art) (look : ColumnLook) where
   -- a strip without rows in front of others, and the same strip in front of the same dots

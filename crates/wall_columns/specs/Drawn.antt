@@ -1,10 +1,8 @@
 -- The columns of a fragment as they are painted one by one.
 use Rattle.std.specs.Prelude.{◌≡◌, ◌≢◌, ◌<◌, ◌≤◌, ◌≤ℤ◌, ◌+◌, ◌-◌, ◌++◌, ℕ, zero, suc, pos, List, [], length, Result}
 use Rattle.word_rules.specs.Listed.{joined_lists}
-use Rattle.zone_rules.specs.Zones.{Heap}
 use Rattle.view_rules.specs.View.{ViewValue}
 use Rattle.view_rules.specs.declared.TheConstants.{FRAME_WIDTH, FRAME_HEIGHT, LIGHT_LEVELS}
-use Rattle.wad_dir.specs.DirectoryView.{DirectoryView}
 use Rattle.pixel_rules.specs.declared.Painter.{Painter}
 use Rattle.pixel_rules.specs.Art.{Art}
 use Rattle.pixel_rules.specs.Dots.{Dot}
@@ -16,8 +14,6 @@ use Rattle.picture_rules.specs.wall.Columns.{texture_column}
 use Rattle.picture_rules.specs.wall.Edges.{edges_at}
 use Rattle.picture_rules.specs.wall.Strips.{strip_dots, wall_strips}
 use Rattle.wall_edges.specs.Fragments.{FragmentValue, fragment_of}
-use Rattle.pixel_strips.specs.Canvases.{CanvasView}
-use Rattle.texture_build.specs.Views.{TexturesView}
 use Rattle.texture_build.specs.Draws.{CanDraw}
 use Rattle.texture_build.specs.Paints.{PaintState, PaintTools, Paints, painted_art}
 use Rattle.wall_columns.specs.declared.clips.ColumnPlan.{ColumnPlan}
@@ -44,15 +40,15 @@ dots_along column first zero = []
 dots_along column first (suc n) = dots_along column first n ++ column (first + n)
 
 -- a fragment may be painted: its textures, its scales and its light, and the room of the canvas
-pub record CanPaint (v : ViewValue) (dir : DirectoryView) (art : TexturesView) (colormap : ℕ)
-    (z : Heap) (canvas : CanvasView) (f : FragmentValue) : Type 0 where
+pub record CanPaint (v : ViewValue) (t : PaintTools) (old : PaintState) (f : FragmentValue) :
+    Type 0 where
   pub within : f.last < v.shape.width
-  pub columns : canvas.left + v.shape.width ≤ FRAME_WIDTH
-  pub rows : canvas.top + v.shape.height ≤ FRAME_HEIGHT
-  pub slots : length dir.lumps ≤ z.lumps
-  pub shades : colormap < length dir.lumps
+  pub columns : old.canvas.left + v.shape.width ≤ FRAME_WIDTH
+  pub rows : old.canvas.top + v.shape.height ≤ FRAME_HEIGHT
+  pub slots : length t.dir.lumps ≤ old.cache.lumps
+  pub shades : t.colormap < length t.dir.lumps
   pub textures : (number : ℕ) → number ≢ 0 → IsPartTexture f.numbers number →
-      CanDraw dir.lumps art z number
+      CanDraw t.dir.lumps t.textures old.cache number
   pub scales : (k : ℕ) → k ≤ f.last - f.first →
       pos 0 ≤ℤ (edges_at f.shape f.numbers k).scale
   pub light : f.numbers.light < LIGHT_LEVELS

@@ -31,8 +31,8 @@ impl ColumnState {
     ) -> Result<(), DrawFault>
         requires numbers { numbers.now ≡ fragment.now.numbers }
         requires height { self.old.windows.height ≡ tools.old.view.now.shape.height }
-        requires paints { CanPaint tools.old.view.now tools.old.dir.now tools.old.textures.now
-            tools.old.colormap.0 tools.old.cache.now (C.view tools.old.canvas.now) fragment.now }
+        requires paints { CanPaint tools.old.view.now (wall_tools tools.old)
+            (wall_state S.view C.view tools.old) fragment.now }
         requires places { ArePlacesIn (columns_of fragment.now)
             (length self.old.openings.saved) places }
         requires floor { IsAmongPlanes tools.old.planes.now.planes (plane_number self.old.floor) }
@@ -83,8 +83,8 @@ impl ColumnState {
     ) -> Result<(), DrawFault>
         requires numbers { numbers.now ≡ fragment.now.numbers }
         requires height { self.old.windows.height ≡ tools.old.view.now.shape.height }
-        requires paints { CanPaint tools.old.view.now tools.old.dir.now tools.old.textures.now
-            tools.old.colormap.0 tools.old.cache.now (C.view tools.old.canvas.now) fragment.now }
+        requires paints { CanPaint tools.old.view.now (wall_tools tools.old)
+            (wall_state S.view C.view tools.old) fragment.now }
         requires places { ArePlacesIn (columns_of fragment.now)
             (length self.old.openings.saved) places }
         requires floor { IsAmongPlanes tools.old.planes.now.planes (plane_number self.old.floor) }

@@ -48,9 +48,9 @@ paint_plan-requires-clause-strips g c =
     let later = can_paint-later start.view.now f i.paints c.requires.paints in (
       strips-in now.view.now c.loop-edges.self.windows.height c.args.numbers.now (window_at c.loop-edges.self.windows c.loop-edges.stepper.x) c.in-Some.edges c.pass_column-plan.result
           p.plan height p.most p.rows (subst P (sym step.0) (edges_at-words f.shape f.numbers c.loop-edges.k)),
-      strips-drawn now.view.now now.dir.now now.textures.now now.colormap.0 now.cache.now (g.C.Canvas.view now.canvas.now) f c.loop-edges.self.windows.height c.args.numbers.now
+      strips-drawn now.view.now (wall_tools now) (wall_state g.S.Shelf.view g.C.Canvas.view now) f c.loop-edges.self.windows.height c.args.numbers.now
           (window_at c.loop-edges.self.windows c.loop-edges.stepper.x) c.in-Some.edges c.pass_column-plan.result p.plan c.requires.numbers
-          (after-same c.args.tools.now c.loop-edges.tools (λ v t. CanPaint v t.dir t.textures t.colormap now.cache.now (g.C.Canvas.view now.canvas.now) f) i.same later),
+          (after-same c.args.tools.now c.loop-edges.tools (λ v t. CanPaint v t (wall_state g.S.Shelf.view g.C.Canvas.view now) f) i.same later),
     )
 
 pub paint_plan-requires-clause-rows : goal.paint_plan-requires-clause-rows
