@@ -1,5 +1,5 @@
 -- Laws of the columns of a fragment as they are painted one by one.
-use Rattle.std.proofs.Common.{◌≡◌, ◌≢◌, ℕ, zero, suc, ◌+◌, ◌-◌, ◌<◌, ◌≤◌, ℤ, pos, ◌≤ℤ◌, ◌<ℤ◌, List, [], ◌∷◌, ◌++◌, length, Result, Ok, Err, OnOk, IsErrAnd, refl, ap, sym, ◌∙◌, subst, inl, inr, arith}
+use Rattle.std.proofs.Common.{◌≡◌, ◌≢◌, ℕ, zero, suc, ◌+◌, ◌-◌, ◌<◌, ◌≤◌, ℤ, pos, ◌≤ℤ◌, ◌<ℤ◌, List, [], ◌∷◌, ◌++◌, length, Result, refl, ap, sym, ◌∙◌, subst, inl, inr, arith}
 use Rattle.std.specs.Prelude.{map, ◌||◌, false}
 use Rattle.std.specs.List.{All, AllByRecursion, range_with_len}
 use Rattle.std.proofs.lemmas.List.Elements.{recursion_from_All}
@@ -7,16 +7,11 @@ use Rattle.std.proofs.lemmas.List.{append-nil}
 use Rattle.std.proofs.lemmas.List.FromFn.{map-range_with_len_more}
 use Rattle.std.proofs.lemmas.Int.{ints}
 use Rattle.std.proofs.lemmas.Bool.{or_parts}
-use Rattle.std.proofs.lemmas.Result.{err_from_is_err_and}
-use Rattle.outside.specs.Shelf.{ShelfView}
+use Rattle.outside.specs.declared.fault.Fault.{Fault}
 use Rattle.word_rules.specs.Listed.{listed_from, joined_lists}
 use Rattle.word_rules.proofs.ListedLemmas.{joined_lists-append}
-use Rattle.lump_rules.specs.Contents.{lump_bytes}
-use Rattle.zone_rules.specs.Zones.{Heap}
 use Rattle.view_rules.specs.View.{ViewValue}
 use Rattle.view_rules.specs.declared.TheConstants.{FRAME_WIDTH, FRAME_HEIGHT}
-use Rattle.wad_dir.specs.DirectoryView.{DirectoryView}
-use Rattle.lump_cache.specs.Caches.{KeepsCounts}
 use Rattle.pixel_rules.specs.declared.Painter.{Painter}
 use Rattle.pixel_rules.specs.Art.{Art}
 use Rattle.pixel_rules.specs.Dots.{Dot}
@@ -31,18 +26,12 @@ use Rattle.picture_rules.specs.wall.Numbers.{fragment_numbers}
 use Rattle.picture_rules.specs.wall.Walls.{Wall, wall_of, wall_edges, clip_before}
 use Rattle.picture_rules.specs.wall.Strips.{WallStrip, strip_of, strip_dots, wall_strips, wall_column_by, wall_column, wall_dots}
 use Rattle.wall_edges.specs.Fragments.{FragmentValue, fragment_of}
-use Rattle.pixel_strips.specs.Canvases.{CanvasView}
-use Rattle.pixel_strips.specs.Dotted.{HasDots, PlacedAlike}
-use Rattle.pixel_strips.proofs.DottedLemmas.{has_dots-none, has_dots-append, has_dots-as, placed-none, placed-then}
-use Rattle.texture_build.specs.Arts.{view_art}
-use Rattle.texture_build.specs.Views.{TexturesView}
-use Rattle.texture_build.specs.Draws.{CanDraw, HoldsArt, FitBeside, DrawsWith}
-use Rattle.texture_build.proofs.BesideLemmas.{fit_beside-none, fit_beside-append, fit_beside-as}
-use Rattle.texture_build.proofs.DrawLemmas.{draws-none, draws-then, draws-wider, holds_art-later}
+use Rattle.texture_build.specs.Draws.{CanDraw}
+use Rattle.texture_build.specs.Paints.{PaintState, PaintTools, Paints, painted_art}
+use Rattle.texture_build.proofs.PaintLemmas.{can_draw-later, paints-same, paints-wider, slots-later}
 use Rattle.wall_columns.specs.declared.clips.ColumnPlan.{ColumnPlan}
 use Rattle.wall_columns.specs.declared.fault.DrawFault.{DrawFault}
-use Rattle.wall_columns.specs.Draws.{IsNoPicture, IsWallTexture}
-use Rattle.wall_columns.specs.Faults.{draw_fault}
+use Rattle.wall_columns.specs.Draws.{IsWallTexture}
 use Rattle.wall_columns.specs.Plans.{has_part, IsPartTexture, IsPlanTexture, plan_of, strips_by, HasRows, IsInRows, AreEdgeWords}
 use Rattle.picture_rules.specs.declared.wall.FragmentNote.{FragmentNote}
 use Rattle.picture_rules.specs.plane.Planes.{Plane}
@@ -54,42 +43,34 @@ use Rattle.wall_columns.specs.Walls.{WallsView}
 use Rattle.wall_columns.specs.Windows.{IsClipIn, WindowsView, window_at}
 use Rattle.wall_columns.proofs.BuiltLemmas.{built-count, built-window}
 use Rattle.wall_columns.specs.Columns.{column_edges, columns_of}
-use Rattle.wall_columns.specs.Drawn.{IsDrawnTexture, column_painted, dots_along, CanPaint, PaintsColumns}
+use Rattle.wall_columns.specs.Drawn.{IsDrawnTexture, WallRange, column_painted, dots_along, CanPaint, PaintsColumn, PaintsPlan}
 use Rattle.wall_columns.proofs.PlanLemmas.{plan_strips-in, plan_strips-there, plan_strips-dots}
 use Rattle.wall_columns.proofs.SightLemmas.{numbers-scale, numbers-light, numbers-texture}
-use Rattle.wall_columns.proofs.PaintedLemmas.{can_draw-later}
 
 -- what may be painted may be painted later
-pub can_paint-later : (v : ViewValue) (dir : DirectoryView) (art : TexturesView) (colormap : ℕ) (x y : Heap) (canvas next : CanvasView) (f : FragmentValue) →
-    KeepsCounts x y → PlacedAlike canvas next → CanPaint v dir art colormap x canvas f → CanPaint v dir art colormap y next f
-can_paint-later v dir art colormap x y canvas next f counts place can =
-    let left = place.left in
-    let top = place.top in
-    let lumps = counts.1 in
-    let a = can.columns in
-    let b = can.rows in
-    let d = can.slots in
+pub can_paint-later : {R E Q : Type 0} {fault_of : E → Fault R} {mark : Painter → ℕ → ℕ} {t : PaintTools} {among pictures : ℕ → Type 0} {asked : Q → Type 0} {dots : List (List ℕ) → Q → List Dot}
+    {a b : PaintState} {result : Result (Unit {0}) E} (v : ViewValue) (f : FragmentValue) →
+    Paints fault_of mark t among pictures asked dots a b result → CanPaint v t a f → CanPaint v t b f
+can_paint-later v f one can =
+    let left = one.place.left in
+    let top = one.place.top in
+    let columns = can.columns in
+    let rows = can.rows in
     record {
       within = can.within;
       columns = omega arith;
       rows = omega arith;
-      slots = omega arith;
+      slots = slots-later one can.slots;
       shades = can.shades;
-      textures = λ number some part. can_draw-later refl refl counts (can.textures number some part);
+      textures = λ number some part. can_draw-later one (can.textures number some part);
       scales = can.scales;
       light = can.light;
     }
 
 -- no column yet
-pub paints_columns-none : (v : ViewValue) (dir : DirectoryView) (textures : TexturesView) (colormap : ℕ) (mark : Painter → ℕ → ℕ) (k : ℕ) (f : FragmentValue) (before : ℕ → ColumnClip)
-    (view : ShelfView) (z : Heap) (canvas : CanvasView) → PaintsColumns v dir textures colormap mark k f before 0 view view z z canvas canvas (Ok tt)
+pub along-none : (column : ℕ → List Dot) (first : ℕ) → [] ≡ dots_along column first 0
 unfolding dots_along
-paints_columns-none v dir textures colormap mark k f before view z canvas = record {
-  painted = λ facts first last contents count is hold. has_dots-none mark canvas;
-  fits = λ facts first last contents count is hold. fit_beside-none dir.lumps textures colormap count z.size;
-  draws = draws-none view dir textures z tt;
-  place = placed-none canvas;
-}
+along-none column first = refl
 
 -- a fragment without a texture has no strip, and so no dot
 bare_strips : (n : FragmentNumbers) (clip : ColumnClip) (e : Edges) → has_part n ≡ false → wall_strips n clip e ≡ []
@@ -109,79 +90,16 @@ unfolding dots_along
 bare_along column first zero h = refl
 bare_along column first (suc n) h = ap (λ (ds : List Dot). ds ++ []) (bare_along column first n h) ∙ ap (λ (ds : List Dot). dots_along column first n ++ ds) (sym (h (first + n)))
 
--- so nothing is painted of it
-pub paints_columns-bare : (v : ViewValue) (dir : DirectoryView) (textures : TexturesView) (colormap : ℕ) (mark : Painter → ℕ → ℕ) (k : ℕ) (f : FragmentValue) (before : ℕ → ColumnClip) (n : ℕ)
-    (view : ShelfView) (z : Heap) (canvas : CanvasView) → has_part f.numbers ≡ false → PaintsColumns v dir textures colormap mark k f before n view view z z canvas canvas (Ok tt)
-paints_columns-bare v dir textures colormap mark k f before n view z canvas h = record {
-  painted = λ facts first last contents count is hold.
-      has_dots-as (bare_along (column_painted v (view_art (lump_bytes contents dir.lumps) textures colormap) k f facts before) f.first n
-      (λ x. bare_column v (view_art (lump_bytes contents dir.lumps) textures colormap) k f facts before x h))
-      (has_dots-none mark canvas);
-  fits = λ facts first last contents count is hold.
-      fit_beside-as dir.lumps textures colormap count z.size (bare_along (column_painted v (view_art (lump_bytes contents dir.lumps) textures colormap) k f facts before) f.first n
-      (λ x. bare_column v (view_art (lump_bytes contents dir.lumps) textures colormap) k f facts before x h))
-      (fit_beside-none dir.lumps textures colormap count z.size);
-  draws = draws-none view dir textures z tt;
-  place = placed-none canvas;
-}
+pub along-bare : (v : ViewValue) (art : Art) (k : ℕ) (f : FragmentValue) (facts : WallFacts) (before : ℕ → ColumnClip) (n : ℕ) → has_part f.numbers ≡ false →
+    [] ≡ dots_along (column_painted v art k f facts before) f.first n
+along-bare v art k f facts before n h = bare_along (column_painted v art k f facts before) f.first n (λ x. bare_column v art k f facts before x h)
 
--- the dots of one column, by its plan
-pub record PaintsColumn (v : ViewValue) (dir : DirectoryView) (textures : TexturesView) (colormap : ℕ) (mark : Painter → ℕ → ℕ) (k : ℕ) (f : FragmentValue) (before : ℕ → ColumnClip) (x : ℕ)
-    (view after : ShelfView) (old new : Heap) (canvas next : CanvasView) (result : Result (Unit {0}) DrawFault) : Type 0 where
-  pub painted : (facts : WallFacts) (first last : ℕ) (contents : List (List ℕ)) (count : ℕ) → f ≡ fragment_of v facts first last →
-      HoldsArt view dir textures contents colormap count old →
-      OnOk result (HasDots mark (column_painted v (view_art (lump_bytes contents dir.lumps) textures colormap) k f facts before x) canvas next)
-  pub fits : (facts : WallFacts) (first last : ℕ) (contents : List (List ℕ)) (count : ℕ) → f ≡ fragment_of v facts first last →
-      HoldsArt view dir textures contents colormap count old →
-      OnOk result (FitBeside dir.lumps textures colormap count old.size (column_painted v (view_art (lump_bytes contents dir.lumps) textures colormap) k f facts before x))
-  pub draws : DrawsWith draw_fault (IsDrawnTexture f.numbers) IsNoPicture view after dir textures old new result
-  pub place : PlacedAlike canvas next
-
-along_more : (column : ℕ → List Dot) (first n x : ℕ) → x ≡ first + n → dots_along column first n ++ column x ≡ dots_along column first (n + 1)
+-- one column more
+pub along-more : (column : ℕ → List Dot) (first n x : ℕ) → x ≡ first + n → dots_along column first n ++ column x ≡ dots_along column first (n + 1)
 unfolding dots_along
-along_more column first n x e =
+along-more column first n x e =
     let m : suc n ≡ n + 1 = omega arith in
     ap (λ (y : ℕ). dots_along column first n ++ column y) e ∙ ap (dots_along column first) m
-
--- one column more, whatever is answered
-pub paints_columns-more : (v : ViewValue) (dir : DirectoryView) (textures : TexturesView) (colormap : ℕ) (mark : Painter → ℕ → ℕ) (k : ℕ) (f : FragmentValue) (before : ℕ → ColumnClip) (n x : ℕ) →
-    x ≡ f.first + n → {a b c : ShelfView} {p q r : Heap} {canvas between next : CanvasView} {result : Result (Unit {0}) DrawFault} →
-    PaintsColumns v dir textures colormap mark k f before n a b p q canvas between (Ok tt) →
-    PaintsColumn v dir textures colormap mark k f before x b c q r between next result →
-    PaintsColumns v dir textures colormap mark k f before (n + 1) a c p r canvas next result
-paints_columns-more v dir textures colormap mark k f before n x e {p = p} {result = Ok done} one two = record {
-  painted = λ facts first last contents count is hold.
-      has_dots-as (along_more (column_painted v (view_art (lump_bytes contents dir.lumps) textures colormap) k f facts before) f.first n x e)
-      (has_dots-append (one.painted facts first last contents count is hold) (two.painted facts first last contents count is (holds_art-later one.draws.keeps hold)));
-  fits = λ facts first last contents count is hold.
-      let column : ℕ → List Dot = column_painted v (view_art (lump_bytes contents dir.lumps) textures colormap) k f facts before in
-      fit_beside-as dir.lumps textures colormap count p.size (along_more column f.first n x e)
-      (fit_beside-append dir.lumps textures colormap count p.size (dots_along column f.first n) (column x) (one.fits facts first last contents count is hold)
-      (subst (λ (size : ℕ). FitBeside dir.lumps textures colormap count size (column x)) one.draws.keeps.counts.0
-      (two.fits facts first last contents count is (holds_art-later one.draws.keeps hold))));
-  draws = draws-then one.draws two.draws;
-  place = placed-then one.place two.place;
-}
-paints_columns-more v dir textures colormap mark k f before n x e {result = Err fault} one two = record {
-  painted = λ facts first last contents count is hold. tt;
-  fits = λ facts first last contents count is hold. tt;
-  draws = draws-then one.draws two.draws;
-  place = placed-then one.place two.place;
-}
-
--- an error ends them all
-pub paints_columns-stop : (v : ViewValue) (dir : DirectoryView) (textures : TexturesView) (colormap : ℕ) (mark : Painter → ℕ → ℕ) (k : ℕ) (f : FragmentValue) (before : ℕ → ColumnClip) (n m : ℕ) →
-    {a b : ShelfView} {p q : Heap} {canvas next : CanvasView} {fault : DrawFault} {whole : Result (Unit {0}) DrawFault} → IsErrAnd whole (λ e. e ≡ fault) →
-    PaintsColumns v dir textures colormap mark k f before n a b p q canvas next (Err fault) →
-    PaintsColumns v dir textures colormap mark k f before m a b p q canvas next whole
-paints_columns-stop v dir textures colormap mark k f before n m {a} {b} {p} {q} {canvas} {next} {fault} {whole} is one =
-    let s = err_from_is_err_and whole is in
-    subst (PaintsColumns v dir textures colormap mark k f before m a b p q canvas next) (sym (s.1 ∙ ap Err s.2)) (record {
-      painted = λ facts first last contents count is hold. tt;
-      fits = λ facts first last contents count is hold. tt;
-      draws = one.draws;
-      place = one.place;
-    })
 
 -- the dots of a column, by the clauses of the call
 by_numbers : (v : ViewValue) (art : Art) (k x : ℕ) (f : FragmentValue) (facts : WallFacts) (before : ℕ → ColumnClip) (height : ℕ) (n : FragmentNumbers) (clip : ColumnClip) (e : Edges) (plan : ColumnPlan) →
@@ -207,26 +125,14 @@ plan_numbers height n clip e plan p number h =
       | inr t ↦ elim t [ inl s ↦ subst N (sym s.1) (all.1.0 s.0) | inr s ↦ subst N (sym s.1) (all.1.1.0 s.0) ]
     ]
 
-pub paints-column : (v : ViewValue) (dir : DirectoryView) (textures : TexturesView) (colormap : ℕ) (mark : Painter → ℕ → ℕ) (k : ℕ) (f : FragmentValue) (before : ℕ → ColumnClip) (x : ℕ)
+-- so what paints the strips of a column's plan paints the column
+pub paints-column : (v : ViewValue) (t : PaintTools) (mark : Painter → ℕ → ℕ) (k : ℕ) (f : FragmentValue) (before : ℕ → ColumnClip) (x : ℕ)
     (height : ℕ) (n : FragmentNumbers) (clip : ColumnClip) (e : Edges) (plan : ColumnPlan) → plan ≡ plan_of height n clip e → n ≡ f.numbers → clip ≡ before x → e ≡ column_edges f x →
-    {a b : ShelfView} {p q : Heap} {canvas next : CanvasView} {result : Result (Unit {0}) DrawFault} →
-    ((facts : WallFacts) (first last : ℕ) (contents : List (List ℕ)) (count : ℕ) → f ≡ fragment_of v facts first last → HoldsArt a dir textures contents colormap count p →
-    OnOk result (HasDots mark (joined_lists (strip_dots v (view_art (lump_bytes contents dir.lumps) textures colormap) k x n.light (texture_column v facts x) e.scale) (strips_by n plan)) canvas next)) →
-    ((facts : WallFacts) (first last : ℕ) (contents : List (List ℕ)) (count : ℕ) → f ≡ fragment_of v facts first last → HoldsArt a dir textures contents colormap count p →
-    OnOk result (FitBeside dir.lumps textures colormap count p.size (joined_lists (strip_dots v (view_art (lump_bytes contents dir.lumps) textures colormap) k x n.light (texture_column v facts x) e.scale) (strips_by n plan)))) →
-    DrawsWith draw_fault (IsPlanTexture n plan) IsNoPicture a b dir textures p q result → PlacedAlike canvas next →
-    PaintsColumn v dir textures colormap mark k f before x a b p q canvas next result
-paints-column v dir textures colormap mark k f before x height n clip e plan pl nu cl ed {a} {b} {p} {q} {canvas} {next} {result} painted fits draws place = record {
-  painted = λ facts first last contents count is hold.
-      subst (λ (dots : List Dot). OnOk result (HasDots mark dots canvas next))
-      (by_numbers v (view_art (lump_bytes contents dir.lumps) textures colormap) k x f facts before height n clip e plan pl nu cl ed) (painted facts first last contents count is hold);
-  fits = λ facts first last contents count is hold.
-      subst (λ (dots : List Dot). OnOk result (FitBeside dir.lumps textures colormap count p.size dots))
-      (by_numbers v (view_art (lump_bytes contents dir.lumps) textures colormap) k x f facts before height n clip e plan pl nu cl ed) (fits facts first last contents count is hold);
-  draws = subst (λ (n : FragmentNumbers). DrawsWith draw_fault (IsDrawnTexture n) IsNoPicture a b dir textures p q result) nu
-      (draws-wider (plan_numbers height n clip e plan pl) (λ (lump : ℕ) h. h) draws);
-  place = place;
-}
+    {a b : PaintState} {result : Result (Unit {0}) DrawFault} → PaintsPlan v t mark k f n x e plan a b result → PaintsColumn v t mark k f before x a b result
+paints-column v t mark k f before x height n clip e plan pl nu cl ed one =
+    paints-wider (λ number h. subst (λ (n : FragmentNumbers). IsDrawnTexture n number) nu (plan_numbers height n clip e plan pl number h)) (λ (lump : ℕ) h. h)
+    (paints-same (λ contents (q : WallRange). column_painted v (painted_art contents t) k f q.facts before x)
+    (λ contents q is. by_numbers v (painted_art contents t) k x f q.facts before height n clip e plan pl nu cl ed) one)
 
 -- the strips of a column lie in the view, and their textures may be drawn
 pub strips-in : (v : ViewValue) (height : ℕ) (n : FragmentNumbers) (clip : ColumnClip) (e : Edges) (plan : ColumnPlan) → plan ≡ plan_of height n clip e → height ≡ v.shape.height → height ≤ FRAME_HEIGHT →
@@ -236,38 +142,13 @@ strips-in v height n clip e plan p h s i w =
     let Q : ℕ → Type 0 = λ rows. All (IsInRows rows) (strips_by n (plan_of height n clip e)) in
     subst P (sym p) (subst Q h (plan_strips-in height n clip e s i w))
 
-pub strips-drawn : (v : ViewValue) (dir : DirectoryView) (art : TexturesView) (colormap : ℕ) (z : Heap) (canvas : CanvasView) (f : FragmentValue) (height : ℕ) (n : FragmentNumbers) (clip : ColumnClip) (e : Edges) (plan : ColumnPlan) →
-    plan ≡ plan_of height n clip e → n ≡ f.numbers → CanPaint v dir art colormap z canvas f →
-    All (λ (s : WallStrip). HasRows s → CanDraw dir.lumps art z s.part.number) (strips_by n plan)
-strips-drawn v dir art colormap z canvas f height n clip e plan p q can =
-    let P : ColumnPlan → Type 0 = λ plan. All (λ (s : WallStrip). HasRows s → CanDraw dir.lumps art z s.part.number) (strips_by n plan) in
-    let N : FragmentNumbers → Type 0 = λ n. (number : ℕ) → number ≢ 0 → IsPartTexture n number → CanDraw dir.lumps art z number in
-    subst P (sym p) (plan_strips-there (λ (number : ℕ). CanDraw dir.lumps art z number) height n clip e (subst N (sym q) can.textures))
-
--- the same over what is the same
-pub paints_column-over : {v v' : ViewValue} {dir dir' : DirectoryView} {textures textures' : TexturesView} {colormap colormap' : ℕ} (mark : Painter → ℕ → ℕ) (k : ℕ) (f : FragmentValue) (before : ℕ → ColumnClip) (x : ℕ)
-    {a b : ShelfView} {p q : Heap} {canvas next : CanvasView} {result : Result (Unit {0}) DrawFault} → v ≡ v' → dir ≡ dir' → textures ≡ textures' → colormap ≡ colormap' →
-    PaintsColumn v dir textures colormap mark k f before x a b p q canvas next result → PaintsColumn v' dir' textures' colormap' mark k f before x a b p q canvas next result
-paints_column-over {v} {v'} {dir} {dir'} {textures} {textures'} {colormap} {colormap'} mark k f before x {a} {b} {p} {q} {canvas} {next} {result} e1 e2 e3 e4 h =
-    subst (λ (m : ℕ). PaintsColumn v' dir' textures' m mark k f before x a b p q canvas next result) e4
-    (subst (λ (t : TexturesView). PaintsColumn v' dir' t colormap mark k f before x a b p q canvas next result) e3
-    (subst (λ (d : DirectoryView). PaintsColumn v' d textures colormap mark k f before x a b p q canvas next result) e2
-    (subst (λ (u : ViewValue). PaintsColumn u dir textures colormap mark k f before x a b p q canvas next result) e1 h)))
-
-pub can_paint-over : {v v' : ViewValue} {dir dir' : DirectoryView} {art art' : TexturesView} {colormap colormap' : ℕ} (z : Heap) (canvas : CanvasView) (f : FragmentValue) → v ≡ v' → dir ≡ dir' → art ≡ art' → colormap ≡ colormap' →
-    CanPaint v dir art colormap z canvas f → CanPaint v' dir' art' colormap' z canvas f
-can_paint-over {v} {v'} {dir} {dir'} {art} {art'} {colormap} {colormap'} z canvas f e1 e2 e3 e4 h =
-    subst (λ (m : ℕ). CanPaint v' dir' art' m z canvas f) e4
-    (subst (λ (t : TexturesView). CanPaint v' dir' t colormap z canvas f) e3
-    (subst (λ (d : DirectoryView). CanPaint v' d art colormap z canvas f) e2
-    (subst (λ (u : ViewValue). CanPaint u dir art colormap z canvas f) e1 h)))
-
--- so many columns by another count
-pub paints_columns-count : (v : ViewValue) (dir : DirectoryView) (textures : TexturesView) (colormap : ℕ) (mark : Painter → ℕ → ℕ) (k : ℕ) (f : FragmentValue) (before : ℕ → ColumnClip) (n m : ℕ) →
-    n ≡ m → {a b : ShelfView} {p q : Heap} {canvas next : CanvasView} {result : Result (Unit {0}) DrawFault} →
-    PaintsColumns v dir textures colormap mark k f before n a b p q canvas next result → PaintsColumns v dir textures colormap mark k f before m a b p q canvas next result
-paints_columns-count v dir textures colormap mark k f before n m e {a} {b} {p} {q} {canvas} {next} {result} h =
-    subst (λ (n : ℕ). PaintsColumns v dir textures colormap mark k f before n a b p q canvas next result) e h
+pub strips-drawn : (v : ViewValue) (t : PaintTools) (old : PaintState) (f : FragmentValue) (height : ℕ) (n : FragmentNumbers) (clip : ColumnClip) (e : Edges) (plan : ColumnPlan) →
+    plan ≡ plan_of height n clip e → n ≡ f.numbers → CanPaint v t old f →
+    All (λ (s : WallStrip). HasRows s → CanDraw t.dir.lumps t.textures old.cache s.part.number) (strips_by n plan)
+strips-drawn v t old f height n clip e plan p q can =
+    let P : ColumnPlan → Type 0 = λ plan. All (λ (s : WallStrip). HasRows s → CanDraw t.dir.lumps t.textures old.cache s.part.number) (strips_by n plan) in
+    let N : FragmentNumbers → Type 0 = λ n. (number : ℕ) → number ≢ 0 → IsPartTexture n number → CanDraw t.dir.lumps t.textures old.cache number in
+    subst P (sym p) (plan_strips-there (λ (number : ℕ). CanDraw t.dir.lumps t.textures old.cache number) height n clip e (subst N (sym q) can.textures))
 
 -- in the end the dots are joined from column to column
 one_list : (g : ℕ → List Dot) (x : ℕ) → joined_lists g (x ∷ []) ≡ g x
@@ -340,11 +221,11 @@ unfolding edges_at
 own_scale v facts first last k l = scale_least _ (numbers-scale v facts first last k l)
 
 -- the fragment of a seg may be painted where its textures may be drawn
-pub can_paint-of : (v : ViewValue) (facts : WallFacts) (first last : ℕ) (dir : DirectoryView) (art : TexturesView) (colormap : ℕ) (z : Heap) (canvas : CanvasView) (f : FragmentValue) → f ≡ fragment_of v facts first last →
-    last < v.shape.width → canvas.left + v.shape.width ≤ FRAME_WIDTH → canvas.top + v.shape.height ≤ FRAME_HEIGHT → length dir.lumps ≤ z.lumps → colormap < length dir.lumps →
-    ((number : ℕ) → IsWallTexture facts number → CanDraw dir.lumps art z number) → CanPaint v dir art colormap z canvas f
-can_paint-of v facts first last dir art colormap z canvas f is within columns rows slots shades textures =
-    let P : FragmentValue → Type 0 = λ f. CanPaint v dir art colormap z canvas f in
+pub can_paint-of : (v : ViewValue) (facts : WallFacts) (first last : ℕ) (t : PaintTools) (old : PaintState) (f : FragmentValue) → f ≡ fragment_of v facts first last →
+    last < v.shape.width → old.canvas.left + v.shape.width ≤ FRAME_WIDTH → old.canvas.top + v.shape.height ≤ FRAME_HEIGHT → length t.dir.lumps ≤ old.cache.lumps → t.colormap < length t.dir.lumps →
+    ((number : ℕ) → IsWallTexture facts number → CanDraw t.dir.lumps t.textures old.cache number) → CanPaint v t old f
+can_paint-of v facts first last t old f is within columns rows slots shades textures =
+    let P : FragmentValue → Type 0 = λ f. CanPaint v t old f in
     subst P (sym is) (record {
       within = within;
       columns = columns;

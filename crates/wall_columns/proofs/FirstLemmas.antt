@@ -1,20 +1,11 @@
 -- Laws of the strip of a plan that is painted first, and of the one below it.
-use Rattle.std.proofs.Common.{◌≡◌, ◌++◌, ℕ, Bool, true, false, cond, List, [], ◌∷◌, Result, Ok, refl, sym, ap, subst, ◌∙◌, inl, inr}
-use Rattle.std.specs.Prelude.{◌&&◌, not, int_lt, OnOk}
+use Rattle.std.proofs.Common.{◌≡◌, ◌++◌, ℕ, Bool, true, false, cond, List, [], ◌∷◌, refl, sym, ap, subst, ◌∙◌, inl, inr}
+use Rattle.std.specs.Prelude.{◌&&◌, not, int_lt}
 use Rattle.std.specs.List.{AllByRecursion}
-use Rattle.outside.specs.Shelf.{ShelfView}
 use Rattle.word_rules.specs.Listed.{joined_lists}
-use Rattle.lump_rules.specs.Contents.{lump_bytes}
-use Rattle.zone_rules.specs.Zones.{Heap}
 use Rattle.view_rules.specs.declared.ViewShape.{ViewShape}
-use Rattle.wad_dir.specs.DirectoryView.{DirectoryView}
-use Rattle.pixel_rules.specs.declared.Painter.{Painter}
+use Rattle.pixel_rules.specs.Art.{Art}
 use Rattle.pixel_rules.specs.Dots.{Dot}
-use Rattle.pixel_strips.specs.Canvases.{CanvasView}
-use Rattle.pixel_strips.specs.Dotted.{HasDots}
-use Rattle.texture_build.specs.Arts.{view_art}
-use Rattle.texture_build.specs.Views.{TexturesView}
-use Rattle.texture_build.specs.Draws.{FitBeside}
 use Rattle.picture_rules.specs.declared.wall.ColumnClip.{ColumnClip}
 use Rattle.picture_rules.specs.declared.wall.Edges.{Edges}
 use Rattle.picture_rules.specs.declared.wall.FragmentNumbers.{FragmentNumbers}
@@ -22,11 +13,10 @@ use Rattle.picture_rules.specs.declared.wall.RowRange.{RowRange}
 use Rattle.picture_rules.specs.wall.Parts.{has_texture}
 use Rattle.picture_rules.specs.wall.Strips.{WallStrip}
 use Rattle.wall_columns.specs.declared.clips.ColumnPlan.{ColumnPlan}
-use Rattle.wall_columns.specs.declared.fault.DrawFault.{DrawFault}
 use Rattle.wall_columns.specs.declared.paint.ColumnLook.{ColumnLook}
-use Rattle.wall_columns.specs.Painted.{PaintsStrips, look_dots, strips_dots}
+use Rattle.wall_columns.specs.Painted.{look_dots, strip_with, strips_dots}
 use Rattle.wall_columns.specs.Plans.{HasRowsOf, IsPlanTexture, IsStripTexture, first_strip, has_second, no_rows, plan_of, rows_if, strips_by}
-use Rattle.wall_columns.proofs.PaintedLemmas.{look-none, paints-then}
+use Rattle.wall_columns.proofs.PaintedLemmas.{look-none, strips-append}
 
 -- the plan of a fragment has rows of its parts alone
 if_none : (is_there : Bool) (rows : RowRange) → is_there ≡ false →
@@ -66,37 +56,33 @@ first-in P n plan all = go (has_texture n.middle_part) (has_texture n.top_part) 
   go false true = all.1.0
   go false false = all.1.1.0
 
-pub first-texture : (n : FragmentNumbers) (plan : ColumnPlan) (number : ℕ) →
-    IsStripTexture (first_strip n plan) number → IsPlanTexture n plan number
-unfolding first_strip
-first-texture n plan number = go (has_texture n.middle_part) (has_texture n.top_part) where
-  go : (m t : Bool) → IsStripTexture (cond m (record { part = n.middle_part; rows = plan.middle })
-      (cond t (record { part = n.top_part; rows = plan.top }) (record { part = n.bottom_part; rows = plan.bottom }))) number →
-      IsPlanTexture n plan number
-  go true t is = inl is
-  go false true is = inr (inl is)
-  go false false is = inr (inr is)
+-- so a texture of the first is one of the plan
+pub first-texture : (n : FragmentNumbers) (plan : ColumnPlan) (s : WallStrip) → s ≡ first_strip n plan →
+    (number : ℕ) → IsStripTexture s number → IsPlanTexture n plan number
+first-texture n plan s is number =
+    let P : WallStrip → Type 0 = λ s. IsStripTexture s number → IsPlanTexture n plan number in
+    subst P (sym is) (first-in P n plan (λ h. inl h, (λ h. inr (inl h), (λ h. inr (inr h), tt))))
 
-module _ (shape : ViewShape) (textures : TexturesView) (colormap : ℕ) (look : ColumnLook) (bytes : ℕ → List ℕ) where
+module _ (shape : ViewShape) (art : Art) (look : ColumnLook) where
   -- a strip without rows in front of others, and the same strip in front of the same dots
   skip : (s : WallStrip) (ss : List WallStrip) → int_lt s.rows.last s.rows.first ≡ true →
-      strips_dots shape bytes textures colormap look (s ∷ ss) ≡ strips_dots shape bytes textures colormap look ss
+      strips_dots shape art look (s ∷ ss) ≡ strips_dots shape art look ss
   unfolding strips_dots joined_lists
-  skip s ss none = ap (λ (xs : List Dot). xs ++ strips_dots shape bytes textures colormap look ss)
-      (sym (look-none shape (view_art bytes textures colormap) look s.part s.rows none))
+  skip s ss none = ap (λ (xs : List Dot). xs ++ strips_dots shape art look ss)
+      (sym (look-none shape art look s.part s.rows none))
 
   behind : (s : WallStrip) (xs ys : List WallStrip) →
-      strips_dots shape bytes textures colormap look xs ≡ strips_dots shape bytes textures colormap look ys →
-      strips_dots shape bytes textures colormap look (s ∷ xs) ≡ strips_dots shape bytes textures colormap look (s ∷ ys)
+      strips_dots shape art look xs ≡ strips_dots shape art look ys →
+      strips_dots shape art look (s ∷ xs) ≡ strips_dots shape art look (s ∷ ys)
   unfolding strips_dots joined_lists
-  behind s xs ys same = ap (λ (ds : List Dot). look_dots shape (view_art bytes textures colormap) look s ++ ds) same
+  behind s xs ys same = ap (λ (ds : List Dot). look_dots shape art look s ++ ds) same
 
   -- the dots of a plan are those of its first strip, and of the second where it is painted
-  alone : (n : FragmentNumbers) (plan : ColumnPlan) → HasRowsOf n plan → has_second n plan ≡ false →
-      strips_dots shape bytes textures colormap look (first_strip n plan ∷ [])
-      ≡ strips_dots shape bytes textures colormap look (strips_by n plan)
+  strips_alone : (n : FragmentNumbers) (plan : ColumnPlan) → HasRowsOf n plan → has_second n plan ≡ false →
+      strips_dots shape art look (first_strip n plan ∷ [])
+      ≡ strips_dots shape art look (strips_by n plan)
   unfolding first_strip has_second
-  alone n plan rows off =
+  strips_alone n plan rows off =
       go (has_texture n.middle_part) (has_texture n.top_part) (int_lt plan.bottom.last plan.bottom.first)
       refl refl refl off where
         m : WallStrip
@@ -110,18 +96,18 @@ module _ (shape : ViewShape) (textures : TexturesView) (colormap : ℕ) (look : 
 
         go : (is_middle is_top none : Bool) → has_texture n.middle_part ≡ is_middle → has_texture n.top_part ≡ is_top →
             int_lt plan.bottom.last plan.bottom.first ≡ none → ((not is_middle && is_top) && not none) ≡ false →
-            strips_dots shape bytes textures colormap look (cond is_middle m (cond is_top t b) ∷ [])
-            ≡ strips_dots shape bytes textures colormap look (m ∷ (t ∷ (b ∷ [])))
+            strips_dots shape art look (cond is_middle m (cond is_top t b) ∷ [])
+            ≡ strips_dots shape art look (m ∷ (t ∷ (b ∷ [])))
         go true is_top none e f g h = behind m [] (t ∷ (b ∷ [])) (sym (skip t (b ∷ []) (rows.beside_top e) ∙ skip b [] (rows.beside_bottom e)))
         go false true true e f g h = behind t [] (b ∷ []) (sym (skip b [] g)) ∙ sym (skip m (t ∷ (b ∷ [])) (rows.middle e))
         go false true false e f g h = cc
         go false false none e f g h = sym (skip m (t ∷ (b ∷ [])) (rows.middle e) ∙ skip t (b ∷ []) (rows.top f))
 
-  both : (n : FragmentNumbers) (plan : ColumnPlan) → HasRowsOf n plan → has_second n plan ≡ true →
-      strips_dots shape bytes textures colormap look (first_strip n plan ∷ (record { part = n.bottom_part; rows = plan.bottom } ∷ []))
-      ≡ strips_dots shape bytes textures colormap look (strips_by n plan)
+  strips_both : (n : FragmentNumbers) (plan : ColumnPlan) → HasRowsOf n plan → has_second n plan ≡ true →
+      strips_dots shape art look (first_strip n plan ∷ (record { part = n.bottom_part; rows = plan.bottom } ∷ []))
+      ≡ strips_dots shape art look (strips_by n plan)
   unfolding first_strip has_second
-  both n plan rows on =
+  strips_both n plan rows on =
       go (has_texture n.middle_part) (has_texture n.top_part) (int_lt plan.bottom.last plan.bottom.first) refl on where
         m : WallStrip
         m = record { part = n.middle_part; rows = plan.middle }
@@ -133,41 +119,23 @@ module _ (shape : ViewShape) (textures : TexturesView) (colormap : ℕ) (look : 
         b = record { part = n.bottom_part; rows = plan.bottom }
 
         go : (is_middle is_top none : Bool) → has_texture n.middle_part ≡ is_middle → ((not is_middle && is_top) && not none) ≡ true →
-            strips_dots shape bytes textures colormap look (cond is_middle m (cond is_top t b) ∷ (b ∷ []))
-            ≡ strips_dots shape bytes textures colormap look (m ∷ (t ∷ (b ∷ [])))
+            strips_dots shape art look (cond is_middle m (cond is_top t b) ∷ (b ∷ []))
+            ≡ strips_dots shape art look (m ∷ (t ∷ (b ∷ [])))
         go true is_top none e h = cc
         go false true none e h = sym (skip m (t ∷ (b ∷ [])) (rows.middle e))
         go false false none e h = cc
 
-module _ {shape : ViewShape} {dir : DirectoryView} {textures : TexturesView} {colormap : ℕ}
-    {mark : Painter → ℕ → ℕ} {look : ColumnLook} {among : ℕ → Type 0} where
-  -- what paints some strips paints others of the same dots
-  paints_as : {xs ys : List WallStrip} {u v : ShelfView} {x y : Heap} {a b : CanvasView} {result : Result (Unit {0}) DrawFault} →
-      ((bytes : ℕ → List ℕ) → strips_dots shape bytes textures colormap look xs ≡ strips_dots shape bytes textures colormap look ys) →
-      PaintsStrips shape dir textures colormap mark look among xs u v x y a b result →
-      PaintsStrips shape dir textures colormap mark look among ys u v x y a b result
-  paints_as {xs} {ys} {x = x} {a = a} {b = b} {result = result} same one = record {
-    painted = λ contents count there hold. subst (λ (dots : List Dot). OnOk result (HasDots mark dots a b))
-        (same (lump_bytes contents dir.lumps)) (one.painted contents count there hold);
-    fits = λ contents count hold. subst (λ (dots : List Dot). OnOk result (FitBeside dir.lumps textures colormap count x.size dots))
-        (same (lump_bytes contents dir.lumps)) (one.fits contents count hold);
-    draws = one.draws;
-    place = one.place;
-  }
+  pub first-alone : (n : FragmentNumbers) (plan : ColumnPlan) (s : WallStrip) → s ≡ first_strip n plan → HasRowsOf n plan →
+      has_second n plan ≡ false →
+      strips_dots shape art look (s ∷ []) ≡ strips_dots shape art look (strips_by n plan)
+  first-alone n plan s is rows off =
+      ap (λ (s : WallStrip). strips_dots shape art look (s ∷ [])) is ∙ strips_alone n plan rows off
 
-  -- the first strip of a plan was painted, and no other has rows
-  pub paints-alone : {n : FragmentNumbers} {plan : ColumnPlan} {u v : ShelfView} {x y : Heap} {a b : CanvasView} {result : Result (Unit {0}) DrawFault} →
-      HasRowsOf n plan → has_second n plan ≡ false →
-      PaintsStrips shape dir textures colormap mark look among (first_strip n plan ∷ []) u v x y a b result →
-      PaintsStrips shape dir textures colormap mark look among (strips_by n plan) u v x y a b result
-  paints-alone {n} {plan} rows off one =
-      paints_as (λ bytes. alone shape textures colormap look bytes n plan rows off) one
-
-  -- and the lower wall below it
-  pub paints-both : {n : FragmentNumbers} {plan : ColumnPlan} {u v w : ShelfView} {x y z : Heap} {a b c : CanvasView} {result : Result (Unit {0}) DrawFault} →
-      HasRowsOf n plan → has_second n plan ≡ true →
-      PaintsStrips shape dir textures colormap mark look among (first_strip n plan ∷ []) u v x y a b (Ok tt) →
-      PaintsStrips shape dir textures colormap mark look among (record { part = n.bottom_part; rows = plan.bottom } ∷ []) v w y z b c result →
-      PaintsStrips shape dir textures colormap mark look among (strips_by n plan) u w x z a c result
-  paints-both {n} {plan} rows on one two =
-      paints_as (λ bytes. both shape textures colormap look bytes n plan rows on) (paints-then one two)
+  pub first-both : (n : FragmentNumbers) (plan : ColumnPlan) (s : WallStrip) → s ≡ first_strip n plan → HasRowsOf n plan →
+      has_second n plan ≡ true →
+      strips_dots shape art look (s ∷ []) ++ strips_dots shape art look (strip_with n.bottom_part plan.bottom ∷ [])
+      ≡ strips_dots shape art look (strips_by n plan)
+  first-both n plan s is rows on =
+      strips-append shape art look (s ∷ []) (strip_with n.bottom_part plan.bottom ∷ [])
+      ∙ ap (λ (s : WallStrip). strips_dots shape art look (s ∷ (strip_with n.bottom_part plan.bottom ∷ []))) is
+      ∙ strips_both n plan rows on

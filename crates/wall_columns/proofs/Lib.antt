@@ -1,3 +1,4 @@
+pub mod ToolLemmas
 pub mod PaintedLemmas
 pub mod FirstLemmas
 pub mod PlannedLemmas

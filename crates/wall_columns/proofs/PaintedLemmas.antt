@@ -1,7 +1,6 @@
--- Laws of the strips of a fragment's column, and of calls that paint some of them.
-use Rattle.std.proofs.Common.{append-nil, ◌≡◌, ◌<◌, ◌+◌, ◌++◌, ℕ, ℤ, pos, List, [], ◌∷◌, length, Result, Ok, Err, refl, sym, ap, subst, ◌∙◌, IsErrAnd}
+-- Laws of the strips of a fragment's column, and of a call that paints one of a live column.
+use Rattle.std.proofs.Common.{append-nil, ◌≡◌, ◌<◌, ◌+◌, ◌++◌, ℕ, ℤ, pos, List, [], ◌∷◌, length, Result, Ok, Err, IsErrAnd, refl, sym, ap, subst, ◌∙◌}
 use Rattle.std.specs.Prelude.{int_lt, true, false}
-use Rattle.std.proofs.lemmas.Result.{err_from_is_err_and}
 use Rattle.outside.specs.Shelf.{ShelfView}
 use Rattle.word_rules.specs.Listed.{listed_from, joined_lists}
 use Rattle.word_rules.proofs.ListedLemmas.{joined_lists-append}
@@ -9,25 +8,26 @@ use Rattle.lump_rules.specs.declared.wad.Lump.{Lump}
 use Rattle.lump_rules.specs.Contents.{lump_bytes}
 use Rattle.zone_rules.specs.Zones.{Heap}
 use Rattle.view_rules.specs.declared.ViewShape.{ViewShape}
-use Rattle.wad_dir.specs.DirectoryView.{DirectoryView}
 use Rattle.lump_cache.specs.Caches.{KeepsCounts}
 use Rattle.art_rules.specs.declared.ColumnLookup.{ColumnLookup}
 use Rattle.art_rules.specs.Bytes.{byte_at}
 use Rattle.pixel_rules.specs.declared.Painter.{Painter}
 use Rattle.pixel_rules.specs.declared.TheConstants.{WALL}
 use Rattle.pixel_rules.specs.Art.{Art, painter_of}
+use Rattle.pixel_rules.specs.Dots.{Dot}
 use Rattle.pixel_rules.specs.Strips.{row_fraction, rows_between, shade, texel_row, column_dots}
 use Rattle.pixel_strips.specs.Canvases.{CanvasView, with_dots, with_painter}
 use Rattle.pixel_strips.specs.Dotted.{HasDots, PlacedAlike}
 use Rattle.pixel_strips.specs.Strips.{strip_colour, column_strip_dots}
-use Rattle.pixel_strips.proofs.DottedLemmas.{has_dots-none, has_dots-append, has_dots-as, has_dots-painted, placed-none, placed-then}
+use Rattle.pixel_strips.proofs.DottedLemmas.{has_dots-as, has_dots-painted}
 use Rattle.pixel_strips.proofs.RowLemmas.{row_shade, rows-between, strip-rows}
 use Rattle.texture_build.specs.Arts.{column_texel, lookup_source, view_art}
 use Rattle.texture_build.specs.Sources.{column_in}
 use Rattle.texture_build.specs.Views.{TexturesView, prepared_texture}
-use Rattle.texture_build.specs.Draws.{CanDraw, DrawsWith, FitBeside, FitsBeside, HoldsArt}
-use Rattle.texture_build.proofs.BesideLemmas.{fit_beside-none, fit_beside-append, fit_beside-as, fit_beside-column_dots}
-use Rattle.texture_build.proofs.DrawLemmas.{draws-none, draws-then, draws-wider, holds_art-later}
+use Rattle.texture_build.specs.Draws.{CanDraw, DrawsWith, FitsBeside}
+use Rattle.texture_build.specs.Paints.{FitIn, Holds, PaintTools, Paints, paint_state, painted_art}
+use Rattle.texture_build.proofs.BesideLemmas.{fit_beside-column_dots}
+use Rattle.texture_build.proofs.PaintLemmas.{paints-live, paints-missed, paints-same}
 use Rattle.picture_rules.specs.declared.wall.Part.{Part}
 use Rattle.picture_rules.specs.declared.wall.RowRange.{RowRange}
 use Rattle.picture_rules.specs.wall.Strips.{WallStrip}
@@ -114,254 +114,88 @@ pub look-none : (shape : ViewShape) (art : Art) (look : ColumnLook) (part : Part
 unfolding look_dots rows_between column_dots
 look-none shape art look part rows none = rw none refl
 
-strips-none : (shape : ViewShape) (textures : TexturesView) (colormap : ℕ) (look : ColumnLook)
-    (bytes : ℕ → List ℕ) → [] ≡ strips_dots shape bytes textures colormap look []
-unfolding strips_dots joined_lists
-strips-none shape textures colormap look bytes = refl
-
-strips-append : (shape : ViewShape) (textures : TexturesView) (colormap : ℕ) (look : ColumnLook)
-    (bytes : ℕ → List ℕ) (xs ys : List WallStrip) →
-    strips_dots shape bytes textures colormap look xs
-    ++ strips_dots shape bytes textures colormap look ys
-    ≡ strips_dots shape bytes textures colormap look (xs ++ ys)
+pub strips-append : (shape : ViewShape) (art : Art) (look : ColumnLook) (xs ys : List WallStrip) →
+    strips_dots shape art look xs ++ strips_dots shape art look ys
+    ≡ strips_dots shape art look (xs ++ ys)
 unfolding strips_dots
-strips-append shape textures colormap look bytes xs ys =
-    sym (joined_lists-append (look_dots shape (view_art bytes textures colormap) look) xs ys)
+strips-append shape art look xs ys = sym (joined_lists-append (look_dots shape art look) xs ys)
 
 -- one strip alone
-pub strips-one : (shape : ViewShape) (textures : TexturesView) (colormap : ℕ) (look : ColumnLook)
-    (bytes : ℕ → List ℕ) (s : WallStrip) →
-    look_dots shape (view_art bytes textures colormap) look s
-    ≡ strips_dots shape bytes textures colormap look (s ∷ [])
+pub strips-one : (shape : ViewShape) (art : Art) (look : ColumnLook) (s : WallStrip) →
+    look_dots shape art look s ≡ strips_dots shape art look (s ∷ [])
 unfolding strips_dots joined_lists
-strips-one shape textures colormap look bytes s =
-    sym (append-nil (look_dots shape (view_art bytes textures colormap) look s))
+strips-one shape art look s = sym (append-nil (look_dots shape art look s))
 
-module _ {shape : ViewShape} {dir : DirectoryView} {textures : TexturesView} {colormap : ℕ}
-    {mark : Painter → ℕ → ℕ} {look : ColumnLook} {among : ℕ → Type 0} where
-  -- nothing was painted
-  pub paints-none : (view : ShelfView) (z : Heap) (canvas : CanvasView) →
-      PaintsStrips shape dir textures colormap mark look among [] view view z z canvas canvas (Ok tt)
-  paints-none view z canvas = record {
-    painted = λ contents count there hold. has_dots-as (strips-none shape textures colormap look (lump_bytes contents dir.lumps))
-        (has_dots-none mark canvas);
-    fits = λ contents count hold. fit_beside-as dir.lumps textures colormap count z.size
-        (strips-none shape textures colormap look (lump_bytes contents dir.lumps))
-        (fit_beside-none dir.lumps textures colormap count z.size);
-    draws = draws-none view dir textures z tt;
-    place = placed-none canvas;
-  }
+-- a strip without rows
+pub strips-empty : (shape : ViewShape) (art : Art) (look : ColumnLook) (part : Part)
+    (rows : RowRange) → int_lt rows.last rows.first ≡ true →
+    [] ≡ strips_dots shape art look (strip_with part rows ∷ [])
+strips-empty shape art look part rows none =
+    look-none shape art look part rows none ∙ strips-one shape art look (strip_with part rows)
 
-  -- some strips, and others after them, whatever that call answers
-  pub paints-then : {xs ys : List WallStrip} {u v w : ShelfView} {x y z : Heap}
-      {a b c : CanvasView} {result : Result (Unit {0}) DrawFault} →
-      PaintsStrips shape dir textures colormap mark look among xs u v x y a b (Ok tt) →
-      PaintsStrips shape dir textures colormap mark look among ys v w y z b c result →
-      PaintsStrips shape dir textures colormap mark look among (xs ++ ys) u w x z a c result
-  paints-then {xs} {ys} {x = x} {y} {result = Ok done} one two = record {
-    painted = λ contents count there hold. has_dots-as
-        (strips-append shape textures colormap look (lump_bytes contents dir.lumps) xs ys)
-        (has_dots-append (one.painted contents count there hold)
-        (two.painted contents count there (holds_art-later one.draws.keeps hold)));
-    fits = λ contents count hold. fit_beside-as dir.lumps textures colormap count x.size
-        (strips-append shape textures colormap look (lump_bytes contents dir.lumps) xs ys)
-        (fit_beside-append dir.lumps textures colormap count x.size
-        (strips_dots shape (lump_bytes contents dir.lumps) textures colormap look xs)
-        (strips_dots shape (lump_bytes contents dir.lumps) textures colormap look ys)
-        (one.fits contents count hold)
-        (subst (λ (n : ℕ). FitBeside dir.lumps textures colormap count n
-        (strips_dots shape (lump_bytes contents dir.lumps) textures colormap look ys))
-        one.draws.keeps.counts.0
-        (two.fits contents count (holds_art-later one.draws.keeps hold))));
-    draws = draws-then one.draws two.draws;
-    place = placed-then one.place two.place;
-  }
-  paints-then {result = Err fault} one two = record {
-    painted = λ contents count there hold. tt;
-    fits = λ contents count hold. tt;
-    draws = draws-then one.draws two.draws;
-    place = placed-then one.place two.place;
-  }
-
-  -- a call that ended in an error is the whole call's answer
-  pub paints-stop : {xs ys : List WallStrip} {u v : ShelfView} {x y : Heap} {a b : CanvasView}
-      {part whole : Result (Unit {0}) DrawFault} (fault : DrawFault) → part ≡ Err fault →
-      whole ≡ Err fault →
-      PaintsStrips shape dir textures colormap mark look among xs u v x y a b part →
-      PaintsStrips shape dir textures colormap mark look among ys u v x y a b whole
-  paints-stop {xs} {ys} {u} {v} {x} {y} {a} {b} {part} {whole} fault was is one =
-      subst (PaintsStrips shape dir textures colormap mark look among ys u v x y a b) (sym is)
-      (record {
-        painted = λ contents count there hold. tt;
-        fits = λ contents count hold. tt;
-        draws = subst (DrawsWith draw_fault among IsNoPicture u v dir textures x y) was one.draws;
-        place = one.place;
-      })
-
-  pub paints-stop_by : {xs ys : List WallStrip} {u v : ShelfView} {x y : Heap} {a b : CanvasView}
-      {whole : Result (Unit {0}) DrawFault} {fault : DrawFault} → IsErrAnd whole (λ e. e ≡ fault) →
-      PaintsStrips shape dir textures colormap mark look among xs u v x y a b (Err fault) →
-      PaintsStrips shape dir textures colormap mark look among ys u v x y a b whole
-  paints-stop_by {xs} {ys} {u} {v} {x} {y} {a} {b} {whole} {fault} is one =
-      let s = err_from_is_err_and whole is in
-      paints-stop {xs = xs} {ys = ys} fault refl (s.1 ∙ ap Err s.2) one
-
-  -- a strip without rows
-  pub paints-empty : (part : Part) (rows : RowRange) (view : ShelfView) (z : Heap)
-      (canvas : CanvasView) → int_lt rows.last rows.first ≡ true →
-      PaintsStrips shape dir textures colormap mark look among (strip_with part rows ∷ []) view view
-      z z canvas canvas (Ok tt)
-  paints-empty part rows view z canvas none = record {
-    painted = λ contents count there hold. has_dots-as (empty contents) (has_dots-none mark canvas);
-    fits = λ contents count hold. fit_beside-as dir.lumps textures colormap count z.size
-        (empty contents) (fit_beside-none dir.lumps textures colormap count z.size);
-    draws = draws-none view dir textures z tt;
-    place = placed-none canvas;
-  } where
-    empty : (contents : List (List ℕ)) → [] ≡ strips_dots shape (lump_bytes contents dir.lumps)
-        textures colormap look (strip_with part rows ∷ [])
-    empty contents =
-        look-none shape (view_art (lump_bytes contents dir.lumps) textures colormap) look part rows none
-        ∙ strips-one shape textures colormap look (lump_bytes contents dir.lumps) (strip_with part rows)
-
--- a live column's strip was painted, and what its painter reads fits beside the colormap
-pub record PaintsLive (shape : ViewShape) (dir : DirectoryView) (textures : TexturesView)
-    (colormap : ℕ) (mark : Painter → ℕ → ℕ) (look : ColumnLook) (part : Part) (rows : RowRange)
-    (lookup : ColumnLookup) (z : Heap) (canvas next : CanvasView) : Type 0 where
+-- A call that paints the strip of a live column: its dots, and that what its painter reads fits
+-- beside the colormap.
+pub record PaintsLive (shape : ViewShape) (t : PaintTools) (mark : Painter → ℕ → ℕ)
+    (look : ColumnLook) (part : Part) (rows : RowRange) (lookup : ColumnLookup) (z : Heap)
+    (a b : CanvasView) : Type 0 where
   pub painted : (view : ShelfView) (contents : List (List ℕ)) (count : ℕ) →
-      colormap < length dir.lumps → HoldsArt view dir textures contents colormap count z →
-      HasDots mark (look_dots shape (view_art (lump_bytes contents dir.lumps) textures colormap) look
-      (strip_with part rows)) canvas next
+      t.colormap < length t.dir.lumps → Holds t contents count view z →
+      HasDots mark (look_dots shape (painted_art contents t) look (strip_with part rows)) a b
   pub fits : (view : ShelfView) (contents : List (List ℕ)) (count : ℕ) →
-      HoldsArt view dir textures contents colormap count z →
-      FitsBeside dir.lumps textures colormap count z.size
+      Holds t contents count view z → FitsBeside t.dir.lumps t.textures t.colormap count z.size
       (painter_of WALL look.number (lookup_source part.number lookup))
-  pub place : PlacedAlike canvas next
-
-pub live-over : (mark : Painter → ℕ → ℕ) (look : ColumnLook) (part : Part) (rows : RowRange)
-    (lookup : ColumnLookup) (z : Heap) (canvas next : CanvasView) {shape shape' : ViewShape}
-    {dir dir' : DirectoryView} {textures textures' : TexturesView} {colormap colormap' : ℕ} →
-    shape ≡ shape' → dir ≡ dir' → textures ≡ textures' → colormap ≡ colormap' →
-    PaintsLive shape dir textures colormap mark look part rows lookup z canvas next →
-    PaintsLive shape' dir' textures' colormap' mark look part rows lookup z canvas next
-live-over mark look part rows lookup z canvas next {shape} {shape'} {dir} {dir'} {textures}
-    {textures'} {colormap} {colormap'} is_shape is_dir is_textures is_colormap k =
-    subst (λ (n : ℕ). PaintsLive shape' dir' textures' n mark look part rows lookup z canvas next)
-    is_colormap
-    (subst (λ (t : TexturesView). PaintsLive shape' dir' t colormap mark look part rows lookup z canvas
-    next) is_textures
-    (subst (λ (d : DirectoryView). PaintsLive shape' d textures colormap mark look part rows lookup z
-    canvas next) is_dir
-    (subst (λ (s : ViewShape). PaintsLive s dir textures colormap mark look part rows lookup z canvas
-    next) is_shape k)))
 
 -- the dots of a live column's strip all have its painter
-fits-live : (shape : ViewShape) (dir : DirectoryView) (textures : TexturesView) (colormap : ℕ)
-    (count zone : ℕ) (bytes : ℕ → List ℕ) (look : ColumnLook) (part : Part) (rows : RowRange)
-    (lookup : ColumnLookup) →
-    lookup ≡ column_in (prepared_texture textures part.number) look.column →
-    FitsBeside dir.lumps textures colormap count zone
+fits-live : (shape : ViewShape) (t : PaintTools) (count zone : ℕ) (bytes : ℕ → List ℕ)
+    (look : ColumnLook) (part : Part) (rows : RowRange) (lookup : ColumnLookup) →
+    lookup ≡ column_in (prepared_texture t.textures part.number) look.column →
+    FitsBeside t.dir.lumps t.textures t.colormap count zone
     (painter_of WALL look.number (lookup_source part.number lookup)) →
-    FitBeside dir.lumps textures colormap count zone
-    (look_dots shape (view_art bytes textures colormap) look (strip_with part rows))
+    FitIn t count zone
+    (look_dots shape (view_art bytes t.textures t.colormap) look (strip_with part rows))
 unfolding look_dots view_art
-fits-live shape dir textures colormap count zone bytes look part rows lookup is fits =
-    fit_beside-column_dots dir.lumps textures colormap count zone _ look.x
-    (look_colour shape (view_art bytes textures colormap) look part)
+fits-live shape t count zone bytes look part rows lookup is fits =
+    fit_beside-column_dots t.dir.lumps t.textures t.colormap count zone _ look.x
+    (look_colour shape (view_art bytes t.textures t.colormap) look part)
     (rows_between rows.first rows.last)
-    (subst (λ (l : ColumnLookup). FitsBeside dir.lumps textures colormap count zone
+    (subst (λ (l : ColumnLookup). FitsBeside t.dir.lumps t.textures t.colormap count zone
     (painter_of WALL look.number (lookup_source part.number l))) is fits)
 
 -- so a call that made a part's column live and painted its strip paints that strip
-pub paints-live : {shape : ViewShape} {dir : DirectoryView} {textures : TexturesView}
-    {colormap : ℕ} {mark : Painter → ℕ → ℕ} {look : ColumnLook} {part : Part} {rows : RowRange}
-    {among : ℕ → Type 0} {u v w : ShelfView} {x y z : Heap} {canvas next : CanvasView}
-    (lookup : ColumnLookup) →
-    lookup ≡ column_in (prepared_texture textures part.number) look.column →
-    DrawsWith {A = Unit {0}} draw_fault among IsNoPicture u v dir textures x y (Ok tt) →
-    PaintsLive shape dir textures colormap mark look part rows lookup y canvas next →
-    w ≡ v → z ≡ y →
-    PaintsStrips shape dir textures colormap mark look among (strip_with part rows ∷ []) u w x z
-    canvas next (Ok tt)
-paints-live {shape} {dir} {textures} {colormap} {mark} {look} {part} {rows} {among} {u} {v} {w} {x}
-    {y} {z} {canvas} {next} lookup is draws live same_shelf same_cache = record {
-      painted = λ contents count there hold. has_dots-as
-          (strips-one shape textures colormap look (lump_bytes contents dir.lumps) (strip_with part rows))
-          (live.painted v contents count there (holds_art-later draws.keeps hold));
-      fits = λ contents count hold. fit_beside-as dir.lumps textures colormap count x.size
-          (strips-one shape textures colormap look (lump_bytes contents dir.lumps) (strip_with part rows))
-          (fits-live shape dir textures colormap count x.size (lump_bytes contents dir.lumps) look part
-          rows lookup is (subst (λ (n : ℕ). FitsBeside dir.lumps textures colormap count n
-          (painter_of WALL look.number (lookup_source part.number lookup))) draws.keeps.counts.0
-          (live.fits v contents count (holds_art-later draws.keeps hold))));
-      draws = subst (λ (a : ShelfView). DrawsWith {A = Unit {0}} {E = DrawFault} draw_fault among
-          IsNoPicture u a dir textures x z (Ok (tt {0}))) (sym same_shelf)
-          (subst (λ (h : Heap). DrawsWith {A = Unit {0}} {E = DrawFault} draw_fault among IsNoPicture u v
-          dir textures x h (Ok (tt {0}))) (sym same_cache) draws);
-      place = live.place;
-    }
-
--- a texture may be drawn later too, with the same textures and the same directory
-pub can_draw-later : {lumps lumps' : List Lump} {textures textures' : TexturesView} {x y : Heap}
-    {number : ℕ} → lumps' ≡ lumps → textures' ≡ textures → KeepsCounts x y →
-    CanDraw lumps textures x number → CanDraw lumps' textures' y number
-can_draw-later {lumps} {lumps'} {textures} {textures'} {x} {y} {number} is_lumps is_textures counts k =
-    subst (λ (l : List Lump). CanDraw l textures' y number) (sym is_lumps)
-    (subst (λ (t : TexturesView). CanDraw lumps t y number) (sym is_textures) (record {
-      prepared = k.prepared;
-      slot = subst (λ (n : ℕ). number < n) (sym counts.2) k.slot;
-      there = k.there;
-    }))
+pub paints-strip : {shape : ViewShape} {t : PaintTools} {mark : Painter → ℕ → ℕ}
+    {look : ColumnLook} {part : Part} {rows : RowRange} {among : ℕ → Type 0}
+    {u v w : ShelfView} {x y z : Heap} {a b c : CanvasView} (lookup : ColumnLookup) →
+    lookup ≡ column_in (prepared_texture t.textures part.number) look.column →
+    DrawsWith {A = Unit {0}} draw_fault among IsNoPicture u v t.dir t.textures x y (Ok tt) →
+    PaintsLive shape t mark look part rows lookup y b c → PlacedAlike b c → b ≡ a → w ≡ v → z ≡ y →
+    PaintsStrips shape t mark look among (strip_with part rows ∷ []) (paint_state u x a)
+    (paint_state w z c) (Ok tt)
+paints-strip {shape} {t} {mark} {look} {part} {rows} {among} {u} {w = w} {x} {y} {z} {c = c} lookup is draws live place same_canvas same_shelf same_cache =
+    subst (λ (canvas : CanvasView). PaintsStrips shape t mark look among (strip_with part rows ∷ []) (paint_state u x canvas) (paint_state w z c) (Ok tt)) same_canvas
+    (paints-same (λ contents q. strips_dots shape (painted_art contents t) look (strip_with part rows ∷ []))
+    (λ contents q there. strips-one shape (painted_art contents t) look (strip_with part rows))
+    (paints-live {t = t} {dots = λ contents q. look_dots shape (painted_art contents t) look (strip_with part rows)} tt draws
+    (λ view contents count q hold there. live.painted view contents count there hold)
+    (λ view contents count q hold there. fits-live shape t count y.size (lump_bytes contents t.dir.lumps)
+    look part rows lookup is (live.fits view contents count hold))
+    place same_shelf same_cache))
 
 -- and one that could not make it live paints nothing
-pub paints-failed : {shape : ViewShape} {dir : DirectoryView} {textures : TexturesView}
-    {colormap : ℕ} {mark : Painter → ℕ → ℕ} {look : ColumnLook} {strips : List WallStrip}
-    {among : ℕ → Type 0} {u v : ShelfView} {x y : Heap} {canvas next : CanvasView}
-    {part whole : Result (Unit {0}) DrawFault} (fault : DrawFault) → part ≡ Err fault →
-    IsErrAnd whole (λ e. e ≡ fault) →
-    DrawsWith draw_fault among IsNoPicture u v dir textures x y part → next ≡ canvas →
-    PaintsStrips shape dir textures colormap mark look among strips u v x y canvas next whole
-paints-failed {shape} {dir} {textures} {colormap} {mark} {look} {strips} {among} {u} {v} {x} {y}
-    {canvas} {next} {part} {whole} fault was is draws same =
-    let s = err_from_is_err_and whole is in
-    subst (λ (b : CanvasView). PaintsStrips shape dir textures colormap mark look among strips u v x y
-    canvas b whole) (sym same)
-    (subst (PaintsStrips shape dir textures colormap mark look among strips u v x y canvas canvas)
-    (sym (s.1 ∙ ap Err s.2)) (record {
-      painted = λ contents count there hold. tt;
-      fits = λ contents count hold. tt;
-      draws = subst (DrawsWith draw_fault among IsNoPicture u v dir textures x y) was draws;
-      place = placed-none canvas;
-    }))
+pub paints-failed : {Q : Type 0} {t : PaintTools} {mark : Painter → ℕ → ℕ} {among : ℕ → Type 0}
+    {asked : Q → Type 0} {dots : List (List ℕ) → Q → List Dot} {u v : ShelfView} {x y : Heap}
+    {a b : CanvasView} {part whole : Result (Unit {0}) DrawFault} {fault : DrawFault} →
+    part ≡ Err fault → IsErrAnd whole (λ e. e ≡ fault) →
+    DrawsWith draw_fault among IsNoPicture u v t.dir t.textures x y part → b ≡ a →
+    Paints draw_fault mark t among IsNoPicture asked dots (paint_state u x a) (paint_state v y b) whole
+paints-failed {t = t} {mark} {among} {asked} {dots} {u} {v} {x} {y} {a} {whole = whole} was is draws same_canvas =
+    subst (λ (canvas : CanvasView). Paints draw_fault mark t among IsNoPicture asked dots (paint_state u x a) (paint_state v y canvas) whole)
+    (sym same_canvas) (paints-missed {t = t} u v x y a was is draws)
 
--- with columns of more textures
-pub paints-wider : {shape : ViewShape} {dir : DirectoryView} {textures : TexturesView}
-    {colormap : ℕ} {mark : Painter → ℕ → ℕ} {look : ColumnLook} {some among : ℕ → Type 0}
-    {xs : List WallStrip} {u v : ShelfView} {x y : Heap} {a b : CanvasView}
-    {result : Result (Unit {0}) DrawFault} → ((number : ℕ) → some number → among number) →
-    PaintsStrips shape dir textures colormap mark look some xs u v x y a b result →
-    PaintsStrips shape dir textures colormap mark look among xs u v x y a b result
-paints-wider wider one = record {
-  painted = one.painted;
-  fits = one.fits;
-  draws = draws-wider wider (λ lump k. k) one.draws;
-  place = one.place;
+-- a texture may be drawn later too
+pub can_draw-counts : {lumps : List Lump} {textures : TexturesView} {x y : Heap} {number : ℕ} →
+    KeepsCounts x y → CanDraw lumps textures x number → CanDraw lumps textures y number
+can_draw-counts {number = number} counts k = record {
+  prepared = k.prepared;
+  slot = subst (λ (n : ℕ). number < n) (sym counts.2) k.slot;
+  there = k.there;
 }
-
-pub paints-over : {mark : Painter → ℕ → ℕ} {look : ColumnLook} {among : ℕ → Type 0}
-    {xs : List WallStrip} {u v : ShelfView} {x y : Heap} {a b : CanvasView}
-    {result : Result (Unit {0}) DrawFault} {shape shape' : ViewShape}
-    {dir dir' : DirectoryView} {textures textures' : TexturesView} {colormap colormap' : ℕ} →
-    shape ≡ shape' → dir ≡ dir' → textures ≡ textures' → colormap ≡ colormap' →
-    PaintsStrips shape dir textures colormap mark look among xs u v x y a b result →
-    PaintsStrips shape' dir' textures' colormap' mark look among xs u v x y a b result
-paints-over {mark} {look} {among} {xs} {u} {v} {x} {y} {a} {b} {result} {shape} {shape'} {dir} {dir'}
-    {textures} {textures'} {colormap} {colormap'} is_shape is_dir is_textures is_colormap k =
-    subst (λ (n : ℕ). PaintsStrips shape' dir' textures' n mark look among xs u v x y a b result)
-    is_colormap
-    (subst (λ (t : TexturesView). PaintsStrips shape' dir' t colormap mark look among xs u v x y a b
-    result) is_textures
-    (subst (λ (d : DirectoryView). PaintsStrips shape' d textures colormap mark look among xs u v x y
-    a b result) is_dir
-    (subst (λ (s : ViewShape). PaintsStrips s dir textures colormap mark look among xs u v x y a b
-    result) is_shape k)))

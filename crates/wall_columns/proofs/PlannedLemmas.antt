@@ -13,7 +13,6 @@ use Rattle.view_rules.specs.Lights.{scale_map}
 use Rattle.pixel_rules.specs.Art.{Art}
 use Rattle.pixel_rules.specs.Dots.{Dot}
 use Rattle.pixel_rules.specs.Strips.{rows_between, column_dots}
-use Rattle.texture_build.specs.Arts.{view_art}
 use Rattle.texture_build.specs.Views.{TexturesView}
 use Rattle.texture_build.specs.Draws.{CanDraw}
 use Rattle.picture_rules.specs.declared.wall.FragmentNumbers.{FragmentNumbers}
@@ -58,33 +57,30 @@ strip-by_look v art look light scale s is_step is_map =
     ∙ ap (λ (m : ℕ). look_dots v.shape art (record look { step = inverse_word scale; map = m }) s)
     is_map
 
-strips-by_look : (v : ViewValue) (bytes : ℕ → List ℕ) (textures : TexturesView) (colormap : ℕ)
-    (look : ColumnLook) (light : ℕ) (scale : ℤ) (strips : List WallStrip) →
-    look.step ≡ inverse_word scale → look.map ≡ scale_map v light scale →
-    strips_dots v.shape bytes textures colormap look strips
-    ≡ joined_lists (strip_dots v (view_art bytes textures colormap) look.number look.x light
-    look.column scale) strips
+strips-by_look : (v : ViewValue) (art : Art) (look : ColumnLook) (light : ℕ) (scale : ℤ)
+    (strips : List WallStrip) → look.step ≡ inverse_word scale → look.map ≡ scale_map v light scale →
+    strips_dots v.shape art look strips
+    ≡ joined_lists (strip_dots v art look.number look.x light look.column scale) strips
 unfolding strips_dots
-strips-by_look v bytes textures colormap look light scale strips is_step is_map =
+strips-by_look v art look light scale strips is_step is_map =
     ap (λ (f : WallStrip → List Dot). joined_lists f strips)
-    (λ i s. strip-by_look v (view_art bytes textures colormap) look light scale s is_step is_map i)
+    (λ i s. strip-by_look v art look light scale s is_step is_map i)
 
 -- and where its column, its step and its map are told by words
-pub strips-by_words : (v : ViewValue) (bytes : ℕ → List ℕ) (textures : TexturesView) (colormap number x light map : ℕ)
+pub strips-by_words : (v : ViewValue) (art : Art) (number x light map : ℕ)
     (facts : WallFacts) (scale step column : ℤ) (strips : List WallStrip) →
     SFits w32 scale → SFits w32 step → SFits w32 column → step ≡ inverse_word (to_z w32 (of_z w32 scale)) → map ≡ scale_map v light (to_z w32 (of_z w32 scale)) →
     column ≡ texture_column v facts x →
-    strips_dots v.shape bytes textures colormap (record {
+    strips_dots v.shape art (record {
       number = number;
       x = x;
       column = to_z w32 (of_z w32 column);
       step = to_z w32 (of_z w32 step);
       map = map;
     }) strips
-    ≡ joined_lists (strip_dots v (view_art bytes textures colormap) number x light
-    (texture_column v facts x) scale) strips
-strips-by_words v bytes textures colormap number x light map facts scale step column strips s t c is_step is_map is_column =
+    ≡ joined_lists (strip_dots v art number x light (texture_column v facts x) scale) strips
+strips-by_words v art number x light map facts scale step column strips s t c is_step is_map is_column =
     let look : ColumnLook = record { number = number; x = x; column = to_z w32 (of_z w32 column); step = to_z w32 (of_z w32 step); map = map } in
-    strips-by_look v bytes textures colormap look light scale strips
+    strips-by_look v art look light scale strips
     (to_z-of_z t ∙ is_step ∙ ap inverse_word (to_z-of_z s)) (is_map ∙ ap (scale_map v light) (to_z-of_z s))
-    ∙ ap (λ (y : ℤ). joined_lists (strip_dots v (view_art bytes textures colormap) number x light y scale) strips) (to_z-of_z c ∙ is_column)
+    ∙ ap (λ (y : ℤ). joined_lists (strip_dots v art number x light y scale) strips) (to_z-of_z c ∙ is_column)

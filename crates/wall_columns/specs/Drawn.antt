@@ -1,31 +1,26 @@
 -- The columns of a fragment as they are painted one by one.
-use Rattle.std.specs.Prelude.{◌≡◌, ◌≢◌, ◌<◌, ◌≤◌, ◌≤ℤ◌, ◌+◌, ◌-◌, ◌++◌, ℕ, zero, suc, pos, List, [], length, OnOk, Result}
-use Rattle.outside.specs.Shelf.{ShelfView}
+use Rattle.std.specs.Prelude.{◌≡◌, ◌≢◌, ◌<◌, ◌≤◌, ◌≤ℤ◌, ◌+◌, ◌-◌, ◌++◌, ℕ, zero, suc, pos, List, [], length, Result}
 use Rattle.word_rules.specs.Listed.{joined_lists}
-use Rattle.lump_rules.specs.Contents.{lump_bytes}
-use Rattle.zone_rules.specs.Zones.{Heap}
 use Rattle.view_rules.specs.View.{ViewValue}
 use Rattle.view_rules.specs.declared.TheConstants.{FRAME_WIDTH, FRAME_HEIGHT, LIGHT_LEVELS}
-use Rattle.wad_dir.specs.DirectoryView.{DirectoryView}
 use Rattle.pixel_rules.specs.declared.Painter.{Painter}
 use Rattle.pixel_rules.specs.Art.{Art}
 use Rattle.pixel_rules.specs.Dots.{Dot}
 use Rattle.picture_rules.specs.declared.wall.ColumnClip.{ColumnClip}
+use Rattle.picture_rules.specs.declared.wall.Edges.{Edges}
 use Rattle.picture_rules.specs.declared.wall.FragmentNumbers.{FragmentNumbers}
 use Rattle.picture_rules.specs.declared.wall.WallFacts.{WallFacts}
 use Rattle.picture_rules.specs.wall.Columns.{texture_column}
 use Rattle.picture_rules.specs.wall.Edges.{edges_at}
 use Rattle.picture_rules.specs.wall.Strips.{strip_dots, wall_strips}
 use Rattle.wall_edges.specs.Fragments.{FragmentValue, fragment_of}
-use Rattle.pixel_strips.specs.Canvases.{CanvasView}
-use Rattle.pixel_strips.specs.Dotted.{HasDots, PlacedAlike}
-use Rattle.texture_build.specs.Arts.{view_art}
-use Rattle.texture_build.specs.Views.{TexturesView}
-use Rattle.texture_build.specs.Draws.{CanDraw, HoldsArt, FitBeside, DrawsWith}
+use Rattle.texture_build.specs.Draws.{CanDraw}
+use Rattle.texture_build.specs.Paints.{PaintState, PaintTools, Paints, painted_art}
+use Rattle.wall_columns.specs.declared.clips.ColumnPlan.{ColumnPlan}
 use Rattle.wall_columns.specs.declared.fault.DrawFault.{DrawFault}
 use Rattle.wall_columns.specs.Draws.{IsNoPicture}
 use Rattle.wall_columns.specs.Faults.{draw_fault}
-use Rattle.wall_columns.specs.Plans.{IsPartTexture}
+use Rattle.wall_columns.specs.Plans.{IsPartTexture, IsPlanTexture, strips_by}
 use Rattle.wall_columns.specs.Columns.{column_edges}
 
 -- a texture of one of the parts that is there
@@ -45,36 +40,54 @@ dots_along column first zero = []
 dots_along column first (suc n) = dots_along column first n ++ column (first + n)
 
 -- a fragment may be painted: its textures, its scales and its light, and the room of the canvas
-pub record CanPaint (v : ViewValue) (dir : DirectoryView) (art : TexturesView) (colormap : ℕ)
-    (z : Heap) (canvas : CanvasView) (f : FragmentValue) : Type 0 where
+pub record CanPaint (v : ViewValue) (t : PaintTools) (old : PaintState) (f : FragmentValue) :
+    Type 0 where
   pub within : f.last < v.shape.width
-  pub columns : canvas.left + v.shape.width ≤ FRAME_WIDTH
-  pub rows : canvas.top + v.shape.height ≤ FRAME_HEIGHT
-  pub slots : length dir.lumps ≤ z.lumps
-  pub shades : colormap < length dir.lumps
+  pub columns : old.canvas.left + v.shape.width ≤ FRAME_WIDTH
+  pub rows : old.canvas.top + v.shape.height ≤ FRAME_HEIGHT
+  pub slots : length t.dir.lumps ≤ old.cache.lumps
+  pub shades : t.colormap < length t.dir.lumps
   pub textures : (number : ℕ) → number ≢ 0 → IsPartTexture f.numbers number →
-      CanDraw dir.lumps art z number
+      CanDraw t.dir.lumps t.textures old.cache number
   pub scales : (k : ℕ) → k ≤ f.last - f.first →
       pos 0 ≤ℤ (edges_at f.shape f.numbers k).scale
   pub light : f.numbers.light < LIGHT_LEVELS
 
--- A call that paints the first n columns of fragment number k.
-pub record PaintsColumns (v : ViewValue) (dir : DirectoryView) (textures : TexturesView)
-    (colormap : ℕ) (mark : Painter → ℕ → ℕ) (k : ℕ) (f : FragmentValue) (before : ℕ → ColumnClip)
-    (n : ℕ) (view after : ShelfView) (old new : Heap) (canvas next : CanvasView)
-    (result : Result (Unit {0}) DrawFault) : Type 0 where
-  pub painted : (facts : WallFacts) (first last : ℕ) (contents : List (List ℕ)) (count : ℕ) →
-      f ≡ fragment_of v facts first last →
-      HoldsArt view dir textures contents colormap count old →
-      OnOk result (HasDots mark (dots_along (column_painted v
-      (view_art (lump_bytes contents dir.lumps) textures colormap) k f facts before) f.first n)
-      canvas next)
-  pub fits : (facts : WallFacts) (first last : ℕ) (contents : List (List ℕ)) (count : ℕ) →
-      f ≡ fragment_of v facts first last →
-      HoldsArt view dir textures contents colormap count old →
-      OnOk result (FitBeside dir.lumps textures colormap count old.size
-      (dots_along (column_painted v (view_art (lump_bytes contents dir.lumps) textures colormap)
-      k f facts before) f.first n))
-  pub draws : DrawsWith draw_fault (IsDrawnTexture f.numbers) IsNoPicture view after dir textures
-      old new result
-  pub place : PlacedAlike canvas next
+-- a seg's facts, and the columns in which it is drawn
+pub record WallRange : Type 0 where
+  pub facts : WallFacts
+  pub first : ℕ
+  pub last : ℕ
+
+-- A call that paints a fragment or a part of it, with some textures. Its dots depend on the art and
+-- on the facts of its seg.
+abbrev pub PaintsFragment : ViewValue → PaintTools → (Painter → ℕ → ℕ) → FragmentValue →
+    (ℕ → Type 0) → (Art → WallFacts → List Dot) → PaintState → PaintState →
+    Result (Unit {0}) DrawFault → Type 0
+PaintsFragment v t mark f among dots old new result =
+    Paints draw_fault mark t among IsNoPicture
+    (λ (q : WallRange). f ≡ fragment_of v q.facts q.first q.last)
+    (λ contents q. dots (painted_art contents t) q.facts) old new result
+
+-- a call that paints the strips of a plan in column x of fragment number k
+abbrev pub PaintsPlan : ViewValue → PaintTools → (Painter → ℕ → ℕ) → ℕ → FragmentValue →
+    FragmentNumbers → ℕ → Edges → ColumnPlan → PaintState → PaintState →
+    Result (Unit {0}) DrawFault → Type 0
+PaintsPlan v t mark k f n x e plan old new result =
+    PaintsFragment v t mark f (IsPlanTexture n plan)
+    (λ art facts. joined_lists (strip_dots v art k x n.light (texture_column v facts x) e.scale)
+    (strips_by n plan)) old new result
+
+-- one that paints column x of fragment number k, of which this was open
+abbrev pub PaintsColumn : ViewValue → PaintTools → (Painter → ℕ → ℕ) → ℕ → FragmentValue →
+    (ℕ → ColumnClip) → ℕ → PaintState → PaintState → Result (Unit {0}) DrawFault → Type 0
+PaintsColumn v t mark k f before x old new result =
+    PaintsFragment v t mark f (IsDrawnTexture f.numbers)
+    (λ art facts. column_painted v art k f facts before x) old new result
+
+-- and one that paints its first n columns
+abbrev pub PaintsColumns : ViewValue → PaintTools → (Painter → ℕ → ℕ) → ℕ → FragmentValue →
+    (ℕ → ColumnClip) → ℕ → PaintState → PaintState → Result (Unit {0}) DrawFault → Type 0
+PaintsColumns v t mark k f before n old new result =
+    PaintsFragment v t mark f (IsDrawnTexture f.numbers)
+    (λ art facts. dots_along (column_painted v art k f facts before) f.first n) old new result

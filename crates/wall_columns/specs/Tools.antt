@@ -12,10 +12,18 @@ use Rattle.picture_rules.specs.wall.Walls.{Wall, wall_of}
 use Rattle.picture_rules.specs.wall.Strips.{wall_dots}
 use Rattle.texture_build.specs.Arts.{view_art}
 use Rattle.texture_build.specs.Draws.{CanDraw, HoldsArt}
+use Rattle.texture_build.specs.Paints.{PaintState, PaintTools, paint_state, paint_tools}
 use Rattle.wall_columns.specs.declared.tools.WallTools.{WallTools}
 use Rattle.wall_columns.specs.declared.clips.ColumnPlan.{ColumnPlan}
 use Rattle.wall_columns.specs.Built.{with_wall}
 use Rattle.wall_columns.specs.Plans.{HasRows, IsInRows, strips_by}
+
+-- what a call paints with, and what it writes
+abbrev pub wall_tools : {S C : Type 0} → WallTools S C → PaintTools
+wall_tools t = paint_tools t.dir.now t.textures.now t.colormap.0
+
+abbrev pub wall_state : {S C : Type 0} → (S → ShelfView) → (C → CanvasView) → WallTools S C → PaintState
+wall_state shelf canvas t = paint_state (shelf t.shelf.now) t.cache.now (canvas t.canvas.now)
 
 -- the cache holds what the files of these contents give, and a colormap of `count` bytes
 abbrev pub HoldsWallTools : {S C : Type 0} → (S → ShelfView) → WallTools S C → List (List ℕ) → ℕ → Type 0

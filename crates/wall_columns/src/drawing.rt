@@ -5,7 +5,7 @@ ghost use Rattle.wall_columns.specs.Faults.{limit_of_result};
 ghost use Rattle.wall_columns.specs.Windows.{window_at};
 ghost use Rattle.wall_columns.specs.Columns.{plane_number, columns_of, HasMarked, HasSaved, ArePlacesIn};
 ghost use Rattle.wall_columns.specs.Drawn.{CanPaint, PaintsColumns};
-ghost use Rattle.wall_columns.specs.Tools.{AreSameWallTools};
+ghost use Rattle.wall_columns.specs.Tools.{AreSameWallTools, wall_state, wall_tools};
 
 use crate::clips::{has_part, has_texture};
 use crate::column_state::{ColumnState, save_column};
@@ -31,8 +31,8 @@ impl ColumnState {
     ) -> Result<(), DrawFault>
         requires numbers { numbers.now ≡ fragment.now.numbers }
         requires height { self.old.windows.height ≡ tools.old.view.now.shape.height }
-        requires paints { CanPaint tools.old.view.now tools.old.dir.now tools.old.textures.now
-            tools.old.colormap.0 tools.old.cache.now (C.view tools.old.canvas.now) fragment.now }
+        requires paints { CanPaint tools.old.view.now (wall_tools tools.old)
+            (wall_state S.view C.view tools.old) fragment.now }
         requires places { ArePlacesIn (columns_of fragment.now)
             (length self.old.openings.saved) places }
         requires floor { IsAmongPlanes tools.old.planes.now.planes (plane_number self.old.floor) }
@@ -44,11 +44,9 @@ impl ColumnState {
             self.new tools.old.planes.now tools.new.planes.now) }
         ensures saved { OnOk result (HasSaved tools.old.view.now fragment.now places
             (columns_of fragment.now) self.old self.new.openings) }
-        ensures paints { PaintsColumns tools.old.view.now tools.old.dir.now tools.old.textures.now
-            tools.old.colormap.0 C.mark number fragment.now (window_at self.old.windows)
-            (columns_of fragment.now) (S.view tools.old.shelf.now) (S.view tools.new.shelf.now)
-            tools.old.cache.now tools.new.cache.now (C.view tools.old.canvas.now)
-            (C.view tools.new.canvas.now) result }
+        ensures paints { PaintsColumns tools.old.view.now (wall_tools tools.old) C.mark number
+            fragment.now (window_at self.old.windows) (columns_of fragment.now)
+            (wall_state S.view C.view tools.old) (wall_state S.view C.view tools.new) result }
         ensures height { self.new.windows.height ≡ self.old.windows.height }
         ensures room { self.new.openings.room ≡ self.old.openings.room }
         ensures planes_room { tools.new.planes.now.room ≡ tools.old.planes.now.room }
@@ -85,8 +83,8 @@ impl ColumnState {
     ) -> Result<(), DrawFault>
         requires numbers { numbers.now ≡ fragment.now.numbers }
         requires height { self.old.windows.height ≡ tools.old.view.now.shape.height }
-        requires paints { CanPaint tools.old.view.now tools.old.dir.now tools.old.textures.now
-            tools.old.colormap.0 tools.old.cache.now (C.view tools.old.canvas.now) fragment.now }
+        requires paints { CanPaint tools.old.view.now (wall_tools tools.old)
+            (wall_state S.view C.view tools.old) fragment.now }
         requires places { ArePlacesIn (columns_of fragment.now)
             (length self.old.openings.saved) places }
         requires floor { IsAmongPlanes tools.old.planes.now.planes (plane_number self.old.floor) }
@@ -98,11 +96,9 @@ impl ColumnState {
             self.new tools.old.planes.now tools.new.planes.now) }
         ensures saved { OnOk result (HasSaved tools.old.view.now fragment.now places
             (columns_of fragment.now) self.old self.new.openings) }
-        ensures paints { PaintsColumns tools.old.view.now tools.old.dir.now tools.old.textures.now
-            tools.old.colormap.0 C.mark number fragment.now (window_at self.old.windows)
-            (columns_of fragment.now) (S.view tools.old.shelf.now) (S.view tools.new.shelf.now)
-            tools.old.cache.now tools.new.cache.now (C.view tools.old.canvas.now)
-            (C.view tools.new.canvas.now) result }
+        ensures paints { PaintsColumns tools.old.view.now (wall_tools tools.old) C.mark number
+            fragment.now (window_at self.old.windows) (columns_of fragment.now)
+            (wall_state S.view C.view tools.old) (wall_state S.view C.view tools.new) result }
         ensures height { self.new.windows.height ≡ self.old.windows.height }
         ensures room { self.new.openings.room ≡ self.old.openings.room }
         ensures planes_room { tools.new.planes.now.room ≡ tools.old.planes.now.room }

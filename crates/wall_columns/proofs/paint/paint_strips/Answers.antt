@@ -1,13 +1,17 @@
 -- The first strip, and the lower wall below an upper one.
-use Rattle.std.proofs.Common.{◌∷◌, [], Ok, sym, ap, subst, ◌∙◌, inr}
-use Rattle.view_rules.specs.View.{ViewValue}
+use Rattle.std.proofs.Common.{ℕ, ◌∷◌, [], refl, sym, subst, ◌∙◌, inr}
+use Rattle.picture_rules.specs.declared.wall.FragmentNumbers.{FragmentNumbers}
 use Rattle.picture_rules.specs.wall.Strips.{WallStrip}
 use Rattle.texture_build.specs.Draws.{CanDraw}
+use Rattle.texture_build.specs.Paints.{painted_art}
+use Rattle.texture_build.proofs.PaintLemmas.{can_draw-later, paints-same, paints-stop, paints-then, paints-wider}
+use Rattle.wall_columns.specs.declared.clips.ColumnPlan.{ColumnPlan}
 use Rattle.wall_columns.specs.Painted.{PaintsStrips, strip_with}
-use Rattle.wall_columns.specs.Plans.{HasRows, IsInRows, IsPlanTexture, IsStripTexture}
-use Rattle.wall_columns.proofs.FirstLemmas.{first-in, first-texture, paints-alone, paints-both}
-use Rattle.wall_columns.proofs.PaintedLemmas.{can_draw-later, paints-over, paints-stop_by, paints-wider}
+use Rattle.wall_columns.specs.Plans.{HasRows, IsInRows, IsPlanTexture}
+use Rattle.wall_columns.specs.Tools.{wall_state, wall_tools}
+use Rattle.wall_columns.proofs.FirstLemmas.{first-in, first-texture, first-alone, first-both}
 use Rattle.wall_columns.proofs.PlannedLemmas.{plan-rows, plan-textures}
+use Rattle.wall_columns.proofs.ToolLemmas.{after-same, before-same}
 use Rattle.wall_columns.proofs.paint.paint_strips.Goals as goal
 
 pub paint_part-requires-clause-rows : goal.paint_part-requires-clause-rows
@@ -25,54 +29,45 @@ paint_part-requires-clause-texture g c =
 
 pub paint_second-requires-clause-rows : goal.paint_second-requires-clause-rows
 paint_second-requires-clause-rows g c =
-    subst (λ (v : ViewValue). IsInRows v.shape.height
-    (strip_with c.args.numbers.now.bottom_part c.args.plan.now.bottom))
-    (sym (ap (λ r. r.now) c.in_ok-paint_part.ensures.same.0))
-    (plan-rows c.args.tools.now.view.now.shape.height c.args.numbers.now c.args.plan.now
-    c.requires.strips.0).1.1.0
+    after-same c.args.tools.now c.paint_part.new.tools (λ v t. IsInRows v.shape.height (strip_with c.args.numbers.now.bottom_part c.args.plan.now.bottom))
+    c.in_ok-paint_part.ensures.same
+    (plan-rows c.args.tools.now.view.now.shape.height c.args.numbers.now c.args.plan.now c.requires.strips.0).1.1.0
 
 pub paint_second-requires-clause-texture : goal.paint_second-requires-clause-texture
 paint_second-requires-clause-texture g c = λ some.
-    can_draw-later (ap (λ d. d.now.lumps) c.in_ok-paint_part.ensures.same.1.1.0)
-    (ap (λ t. t.now) c.in_ok-paint_part.ensures.same.1.0)
-    c.in_ok-paint_part.ensures.paints.draws.keeps.counts
-    ((plan-textures c.args.tools.now.dir.now.lumps c.args.tools.now.textures.now
-    c.args.tools.now.cache.now c.args.numbers.now c.args.plan.now c.requires.strips.1).1.1.0 some)
+    let tools = c.args.tools.now in
+    after-same c.args.tools.now c.paint_part.new.tools (λ v t. CanDraw t.dir.lumps t.textures c.paint_part.new.tools.cache.now c.args.numbers.now.bottom_part.number)
+    c.in_ok-paint_part.ensures.same
+    (can_draw-later c.in_ok-paint_part.ensures.paints
+    ((plan-textures tools.dir.now.lumps tools.textures.now tools.cache.now c.args.numbers.now c.args.plan.now c.requires.strips.1).1.1.0 some))
 
 pub returns-in_err-paint_part-clause-paints : goal.returns-in_err-paint_part-clause-paints
 returns-in_err-paint_part-clause-paints g c =
-    paints-stop_by c.from_residual.ensures.1
-    (paints-wider {among = IsPlanTexture c.args.numbers.now c.args.plan.now}
-    (λ n e. first-texture c.args.numbers.now c.args.plan.now n (subst (λ (s : WallStrip). IsStripTexture s n) c.first_strip.ensures e))
+    paints-stop refl c.from_residual.ensures.1
+    (paints-wider (first-texture c.args.numbers.now c.args.plan.now _ c.first_strip.ensures) (λ (lump : ℕ) h. h)
     c.in_err-paint_part.ensures.paints)
 
 pub returns-then-not-has_second-clause-paints : goal.returns-then-not-has_second-clause-paints
 returns-then-not-has_second-clause-paints g c =
-    let t = c.args.tools.now in
-    let s = c.paint_part.new.tools in
-    paints-alone c.requires.rows (sym c.has_second.ensures ∙ c.if-not-has_second.true)
-    (subst (λ (strip : WallStrip). PaintsStrips t.view.now.shape t.dir.now t.textures.now t.colormap.0 g.C.Canvas.mark c.args.look.now
-    (IsPlanTexture c.args.numbers.now c.args.plan.now) (strip ∷ []) (g.S.Shelf.view t.shelf.now) (g.S.Shelf.view s.shelf.now)
-    t.cache.now s.cache.now (g.C.Canvas.view t.canvas.now) (g.C.Canvas.view s.canvas.now) (Ok tt)) c.first_strip.ensures
-    (paints-wider {among = IsPlanTexture c.args.numbers.now c.args.plan.now}
-    (λ n e. first-texture c.args.numbers.now c.args.plan.now n (subst (λ (s : WallStrip). IsStripTexture s n) c.first_strip.ensures e))
-    c.in_ok-paint_part.ensures.paints))
+    let tools = c.args.tools.now in
+    let n : FragmentNumbers = c.args.numbers.now in
+    let plan : ColumnPlan = c.args.plan.now in
+    paints-same _
+    (λ contents q is. first-alone tools.view.now.shape (painted_art contents (wall_tools tools)) c.args.look.now n plan _ c.first_strip.ensures
+    c.requires.rows (sym c.has_second.ensures ∙ c.if-not-has_second.true))
+    (paints-wider (first-texture n plan _ c.first_strip.ensures) (λ (lump : ℕ) h. h) c.in_ok-paint_part.ensures.paints)
 
 pub returns-clause-paints : goal.returns-clause-paints
 returns-clause-paints g c =
-    let t = c.args.tools.now in
-    let s = c.paint_part.new.tools in
-    paints-both c.requires.rows (sym c.has_second.ensures ∙ c.if-not-has_second.false)
-    (subst (λ (strip : WallStrip). PaintsStrips t.view.now.shape t.dir.now t.textures.now t.colormap.0 g.C.Canvas.mark c.args.look.now
-    (IsPlanTexture c.args.numbers.now c.args.plan.now) (strip ∷ []) (g.S.Shelf.view t.shelf.now) (g.S.Shelf.view s.shelf.now)
-    t.cache.now s.cache.now (g.C.Canvas.view t.canvas.now) (g.C.Canvas.view s.canvas.now) (Ok tt)) c.first_strip.ensures
-    (paints-wider {among = IsPlanTexture c.args.numbers.now c.args.plan.now}
-    (λ n e. first-texture c.args.numbers.now c.args.plan.now n (subst (λ (s : WallStrip). IsStripTexture s n) c.first_strip.ensures e))
-    c.in_ok-paint_part.ensures.paints))
-    (paints-over
-    (ap (λ r. r.now.shape) c.in_ok-paint_part.ensures.same.0)
-    (ap (λ r. r.now) c.in_ok-paint_part.ensures.same.1.1.0)
-    (ap (λ r. r.now) c.in_ok-paint_part.ensures.same.1.0)
-    (ap (λ r. r.0) c.in_ok-paint_part.ensures.same.1.1.1.0)
-    (paints-wider {among = IsPlanTexture c.args.numbers.now c.args.plan.now} (λ n e. inr (inr e))
-    c.paint_second.ensures.paints))
+    let tools = c.args.tools.now in
+    let n : FragmentNumbers = c.args.numbers.now in
+    let plan : ColumnPlan = c.args.plan.now in
+    paints-same _
+    (λ contents q is. first-both tools.view.now.shape (painted_art contents (wall_tools tools)) c.args.look.now n plan _ c.first_strip.ensures
+    c.requires.rows (sym c.has_second.ensures ∙ c.if-not-has_second.false))
+    (paints-then
+    (paints-wider (first-texture n plan _ c.first_strip.ensures) (λ (lump : ℕ) h. h) c.in_ok-paint_part.ensures.paints)
+    (before-same c.args.tools.now c.paint_part.new.tools (λ v t. PaintsStrips v.shape t g.C.Canvas.mark c.args.look.now (IsPlanTexture n plan) (strip_with n.bottom_part plan.bottom ∷ [])
+    (wall_state g.S.Shelf.view g.C.Canvas.view c.paint_part.new.tools) (wall_state g.S.Shelf.view g.C.Canvas.view c.paint_second.new.tools) c.paint_second.result)
+    c.in_ok-paint_part.ensures.same
+    (paints-wider (λ (number : ℕ) h. inr (inr h)) (λ (lump : ℕ) h. h) c.paint_second.ensures.paints)))

@@ -4,7 +4,7 @@ use Rattle.wall_edges.specs.Steppers.{IsAt}
 use Rattle.wall_columns.specs.Windows.{window_at}
 use Rattle.wall_columns.specs.Columns.{HasMarked, HasSaved}
 use Rattle.wall_columns.specs.Drawn.{PaintsColumns}
-use Rattle.wall_columns.specs.Tools.{AreSameWallTools}
+use Rattle.wall_columns.specs.Tools.{AreSameWallTools, wall_state, wall_tools}
 use Rattle.wall_columns.proofs.column_state.ColumnState.draw_each.Given as goal
 
 abbrev pub invariant-loop-edges : goal.invariant-loop-edges
@@ -12,9 +12,8 @@ invariant-loop-edges g l = record {
   at : IsAt l.fragment l.k l.stepper;
   marked : HasMarked l.fragment l.k l.initial.self l.self l.initial.tools.planes.now l.tools.planes.now;
   saved : HasSaved l.initial.tools.view.now l.fragment l.places l.k l.initial.self l.self.openings;
-  paints : PaintsColumns l.initial.tools.view.now l.initial.tools.dir.now l.initial.tools.textures.now l.initial.tools.colormap.0 g.C.Canvas.mark
-      l.number l.fragment (window_at l.initial.self.windows) l.k (g.S.Shelf.view l.initial.tools.shelf.now) (g.S.Shelf.view l.tools.shelf.now)
-      l.initial.tools.cache.now l.tools.cache.now (g.C.Canvas.view l.initial.tools.canvas.now) (g.C.Canvas.view l.tools.canvas.now) (Ok tt);
+  paints : PaintsColumns l.initial.tools.view.now (wall_tools l.initial.tools) g.C.Canvas.mark l.number l.fragment (window_at l.initial.self.windows) l.k
+      (wall_state g.S.Shelf.view g.C.Canvas.view l.initial.tools) (wall_state g.S.Shelf.view g.C.Canvas.view l.tools) (Ok tt);
   same : AreSameWallTools l.initial.tools l.tools;
 }
 

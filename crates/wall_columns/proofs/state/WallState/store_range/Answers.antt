@@ -14,6 +14,7 @@ use Rattle.texture_build.proofs.DrawLemmas.{draws-stop, draws-wider}
 use Rattle.wall_columns.specs.Built.{IsBuilt, with_wall, step_of_wall}
 use Rattle.wall_columns.specs.Places.{places_of}
 use Rattle.wall_columns.specs.States.{walls_view}
+use Rattle.wall_columns.specs.Tools.{wall_state, wall_tools}
 use Rattle.wall_columns.specs.Walls.{WallsView}
 use Rattle.wall_columns.proofs.BuiltLemmas.{built-inside, built-now, built-wall, built-count, wall-drawn}
 use Rattle.wall_columns.proofs.DrawnLemmas.{along-built, can_paint-of, drawn-textures}
@@ -54,7 +55,7 @@ returns-in_err-places-clause-limit g c = λ walls s h few.
 pub draw_columns-requires-clause-paints : goal.draw_columns-requires-clause-paints
 draw_columns-requires-clause-paints g c =
     let tools = c.args.tools.now in
-    can_paint-of tools.view.now c.args.facts.now c.args.first c.args.last tools.dir.now tools.textures.now tools.colormap.0 tools.cache.now (g.C.Canvas.view tools.canvas.now) c.new-fragment.result c.new-fragment.ensures
+    can_paint-of tools.view.now c.args.facts.now c.args.first c.args.last (wall_tools tools) (wall_state g.S.Shelf.view g.C.Canvas.view tools) c.new-fragment.result c.new-fragment.ensures
     c.requires.within c.requires.columns c.requires.rows c.requires.slots c.requires.colormap c.requires.textures
 
 pub returns-in_err-draw_columns-clause-limit : goal.returns-in_err-draw_columns-clause-limit
@@ -112,11 +113,11 @@ pub returns-clause-painted : goal.returns-clause-painted
 returns-clause-painted g c = λ walls s contents count h few hold.
     has_dots-as (along-built c.args.tools.now.view.now (view_art (lump_bytes contents c.args.tools.now.dir.now.lumps) c.args.tools.now.textures.now c.args.tools.now.colormap.0) walls s c.args.self.now c.self.inside.notes.items c.self.inside.columns c.begin.new.self.windows
     c.args.tools.now.planes.now.planes c.args.facts.now c.args.first c.args.last c.len-number.result c.new-fragment.result c.self.view_is h c.in_ok-places.ensures.windows c.new-fragment.ensures (omega arith) c.requires.within)
-    (c.in_ok-draw_columns.ensures.paints.painted c.args.facts.now c.args.first c.args.last contents count c.new-fragment.ensures hold)
+    (c.in_ok-draw_columns.ensures.paints.painted contents count (record { facts = c.args.facts.now; first = c.args.first; last = c.args.last }) hold c.new-fragment.ensures)
 
 pub returns-clause-fits : goal.returns-clause-fits
 returns-clause-fits g c = λ walls s contents count h few hold.
     fit_beside-as c.args.tools.now.dir.now.lumps c.args.tools.now.textures.now c.args.tools.now.colormap.0 count c.args.tools.now.cache.now.size
     (along-built c.args.tools.now.view.now (view_art (lump_bytes contents c.args.tools.now.dir.now.lumps) c.args.tools.now.textures.now c.args.tools.now.colormap.0) walls s c.args.self.now c.self.inside.notes.items c.self.inside.columns c.begin.new.self.windows
     c.args.tools.now.planes.now.planes c.args.facts.now c.args.first c.args.last c.len-number.result c.new-fragment.result c.self.view_is h c.in_ok-places.ensures.windows c.new-fragment.ensures (omega arith) c.requires.within)
-    (c.in_ok-draw_columns.ensures.paints.fits c.args.facts.now c.args.first c.args.last contents count c.new-fragment.ensures hold)
+    (c.in_ok-draw_columns.ensures.paints.fits contents count (record { facts = c.args.facts.now; first = c.args.first; last = c.args.last }) hold c.new-fragment.ensures)
