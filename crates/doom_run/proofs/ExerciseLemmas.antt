@@ -116,7 +116,7 @@ module _ (n zone : ℕ) (format : Format) where
   no_read : (steady : Bool) (t0 t1 : List ℕ → Type 0) → IsTrue steady → EndsAt steady (job_verdict render_job (made_files n)) t0 t1 ReadFault → ⊥
   no_read steady t0 t1 on ends = made_found n zone (absent_alike made_views (rendered (Frame format)) loading (ends.0 on))
 
-  module _ (before after : ShelfView) (t0 t1 : Tally) (on : IsTrue before.steady) (held_by : before.held ≡ Some (made_files n)) where
+  module _ (before after : ShelfView) (t0 t1 : Tally) (on : IsTrue before.steady) (held_by : before.all_files ≡ Some (made_files n)) where
     abbrev Rendered : Status → Type 0
     Rendered status = Performs render_job before after (IsTallyOf t0) (IsTallyOf t1) 0 0 status
 

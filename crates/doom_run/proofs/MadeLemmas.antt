@@ -135,7 +135,7 @@ made_count n = refl
 
 -- a shelf in memory of these files, with no call that fails, holds them and is steady
 pub memory_holds : (shelf : ShelfInMemory) (given files : List File) (failing : List ℕ) → shelf ≡ record { files = given; failing = failing; calls = 0; faults = 0; taken = 0 } → given ≡ files → Holds (memory_view shelf) files
-memory_holds shelf given files failing e same = ap (λ (s : ShelfInMemory). (memory_view s).held) e ∙ ap Some same
+memory_holds shelf given files failing e same = ap (λ (s : ShelfInMemory). (memory_view s).all_files) e ∙ ap Some same
 
 pub memory_steady : (shelf : ShelfInMemory) (given : List File) (failing : List ℕ) → shelf ≡ record { files = given; failing = failing; calls = 0; faults = 0; taken = 0 } → failing ≡ [] → IsTrue (memory_view shelf).steady
 memory_steady shelf given failing e none =

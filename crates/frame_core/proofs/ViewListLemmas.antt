@@ -32,7 +32,7 @@ use Rattle.picture_rules.specs.sprite.Projection.{project}
 use Rattle.picture_rules.specs.Scene.{Scene, leaf_sector}
 use Rattle.picture_rules.specs.Planes.{view_planes}
 use Rattle.picture_rules.specs.Things.{first_mentions, is_entered, placed_of, sectors_entered, view_entries, with_sectors, with_seen, with_shape, with_thing, with_things}
-use Rattle.picture_rules.specs.Lists.{event_planes, is_seen, is_shown, listed_fragment, listed_sprite, maker_of, makes_entry, plane_makers, planes_made, shown_things, told}
+use Rattle.picture_rules.specs.Lists.{event_planes, is_seen, is_shown, listed_fragment, listed_sprite, maker_of, makes_entry, plane_makers, planes_made, shown_things, count_shown}
 use Rattle.picture_rules.proofs.ListLemmas.{all_fragments-fragment, all_fragments-leaf, fragments-full, fragments-leaf, fragments-room, plane_makers-count, plane_makers-more, plane_makers-none, shown_things-again, shown_things-fragment, shown_things-new, shown_things-none, told-more}
 use Rattle.picture_rules.proofs.ThingLemmas.{view_entries-again, view_entries-fragment, view_entries-new}
 use Rattle.frame_core.specs.declared.bench.Bench.{Bench}
@@ -77,9 +77,9 @@ list_counted entries things list h =
     let l : length entries ≤ length things = (let a = h.count in omega (arith, a)) in
     ap length h.sprites ∙ sprites_counted entries things l
 
-counts_more : (list : WalkListValue) (things : List PlacedThing) (thing : PlacedThing) → list.all_sprites ≡ told (length things) → min (list.all_sprites + 1) MOST_TOLD ≡ told (length (things ++ thing ∷ []))
+counts_more : (list : WalkListValue) (things : List PlacedThing) (thing : PlacedThing) → list.all_sprites ≡ count_shown (length things) → min (list.all_sprites + 1) MOST_TOLD ≡ count_shown (length (things ++ thing ∷ []))
 counts_more list things thing e =
-    ap (λ (n : ℕ). min (n + 1) MOST_TOLD) e ∙ told-more (length things) ∙ ap told (sym (length_push things thing))
+    ap (λ (n : ℕ). min (n + 1) MOST_TOLD) e ∙ told-more (length things) ∙ ap count_shown (sym (length_push things thing))
 
 with_room : (entries : List SpriteEntry) (things : List PlacedThing) (list : WalkListValue) (e : SpriteEntry) (thing : PlacedThing) (s : ListedSprite) → s ≡ listed_sprite e thing → length entries < MAX_VISSPRITES → HasSprites entries things list →
     HasSprites (entries ++ e ∷ []) (things ++ thing ∷ []) (with_sprite list (Some s))
@@ -239,7 +239,7 @@ module _ (v : ViewValue) (scene : Scene) (es : List Event) where
       let stays = with_makers_same list (Leaf n) planes in
       record {
         fragments = same.fragments ∙ stays.0 ∙ h.fragments ∙ sym (fragments-leaf es n);
-        all = same.all ∙ stays.1 ∙ h.all ∙ ap told (sym (all_fragments-leaf es n));
+        all = same.all ∙ stays.1 ∙ h.all ∙ ap count_shown (sym (all_fragments-leaf es n));
         makers = same.makers ∙ makers_more v scene es (LeafEvent n) list (Leaf n) planes h.makers (leaf_maker (length (drawsegs es)) n) count;
         sprites = sprites_after n is_known mid is (makers_sprites (view_entries v scene es) (shown_things v scene es) list (Leaf n) planes h.sprites);
       }
@@ -270,7 +270,7 @@ module _ (v : ViewValue) (scene : Scene) (es : List Event) where
       let n = fragments_counted list h in
       record {
         fragments = fragments_if list seg first last h;
-        all = ap (λ (k : ℕ). min (k + 1) MOST_TOLD) h.all ∙ told-more (length (leaf_fragments 0 es)) ∙ ap told (sym (all_fragments-fragment es seg first last));
+        all = ap (λ (k : ℕ). min (k + 1) MOST_TOLD) h.all ∙ told-more (length (leaf_fragments 0 es)) ∙ ap count_shown (sym (all_fragments-fragment es seg first last));
         makers = makers_more v scene es (FragmentEvent seg first last) list (Fragment (length list.fragments)) planes h.makers (ap Fragment n ∙ fragment_maker (length (drawsegs es)) seg first last) count;
         sprites = (
             let own : HasSprites (view_entries v scene es) (shown_things v scene es) (list_fragment (record { seg = seg; first = first; last = last }) planes list) =
@@ -279,8 +279,8 @@ module _ (v : ViewValue) (scene : Scene) (es : List Event) where
       }
 
 -- nothing is listed of no event
-told_none : 0 ≡ told 0
-unfolding told
+told_none : 0 ≡ count_shown 0
+unfolding count_shown
 told_none = omega arith
 
 no_entries : (v : ViewValue) (scene : Scene) → view_entries v scene [] ≡ []
@@ -291,7 +291,7 @@ no_sprites : HasSprites [] [] nothing_listed
 unfolding listed_sprites
 no_sprites = record { count = omega arith; sprites = refl; all = told_none }
 
-no_fragments : ([] ≡ map listed_fragment (drawsegs [])) × (0 ≡ told (length (leaf_fragments 0 [])))
+no_fragments : ([] ≡ map listed_fragment (drawsegs [])) × (0 ≡ count_shown (length (leaf_fragments 0 [])))
 unfolding drawsegs leaf_fragments
 no_fragments = (refl, told_none)
 

@@ -22,7 +22,7 @@ use Rattle.picture_rules.specs.sprite.Entries.{entry_for}
 use Rattle.picture_rules.specs.sprite.Projection.{project}
 use Rattle.picture_rules.specs.Scene.{Scene}
 use Rattle.picture_rules.specs.Things.{placed_of, view_entries}
-use Rattle.picture_rules.specs.Lists.{ViewListValue, listed_fragment, listed_plane, listed_sprite, plane_makers, shown_things, told}
+use Rattle.picture_rules.specs.Lists.{ViewListValue, listed_fragment, listed_plane, listed_sprite, plane_makers, shown_things, count_shown}
 
 -- what is listed while a view is walked: its planes are known only when the walk has ended
 pub record WalkListValue : Type 0 where
@@ -98,11 +98,11 @@ listed_sprites entries things = map (λ both. listed_sprite both.0 both.1) (zip 
 pub record HasSprites (entries : List SpriteEntry) (things : List PlacedThing) (list : WalkListValue) : Type 0 where
   pub count : length entries ≡ min MAX_VISSPRITES (length things)
   pub sprites : list.sprites ≡ listed_sprites entries things
-  pub all : list.all_sprites ≡ told (length things)
+  pub all : list.all_sprites ≡ count_shown (length things)
 
 -- the list is that of the events
 pub record HasListed (v : ViewValue) (scene : Scene) (events : List Event) (list : WalkListValue) : Type 0 where
   pub fragments : list.fragments ≡ map listed_fragment (drawsegs events)
-  pub all : list.all_fragments ≡ told (length (leaf_fragments 0 events))
+  pub all : list.all_fragments ≡ count_shown (length (leaf_fragments 0 events))
   pub makers : list.makers ≡ plane_makers v scene events
   pub sprites : HasSprites (view_entries v scene events) (shown_things v scene events) list

@@ -61,7 +61,8 @@ pub fn read_files<S: Shelf>(
     requires greatest { settings.now.size ≤ MAX_SIZE }
     ensures answers { (files : List File) → Holds (S.view shelf.old) files →
         ResultIsOrAbsent itself (S.view shelf.old).steady value_of
-        (files_in (file_names names.now) (map (λ wad. wad.now) wads.now) settings.now files) result }
+        (files_in (file_names names.now) (map (λ wad. wad.now) wads.now) settings.now files)
+        result }
     ensures contents { (files : List File) (contents : List (List ℕ)) →
         Holds (S.view shelf.old) files →
         files_named (map (λ wad. wad.now) wads.now) files ≡ Some contents →

@@ -22,7 +22,7 @@ stopped_later {E} {a} {b} {p} {xs} {ys} {stop} all first second e =
     let n : length xs + length ys ≡ length all = sym (length-append xs ys) ∙ ap length e in
     record {
       count = length xs + second.count;
-      given = omega (arith, second.given);
+      some = omega (arith, second.some);
       within = omega (arith, second.within);
       each = λ start before stood.
           subst (λ v. p start v stop)
@@ -37,7 +37,7 @@ stopped_front {E} {a} {p} {xs} {stop} rest all first e =
     let n : length xs + length rest ≡ length all = sym (length-append xs rest) ∙ ap length e in
     record {
       count = first.count;
-      given = first.given;
+      some = first.some;
       within = omega (arith, first.within);
       each = λ start before stood.
           subst (λ v. p start v stop) (ap (λ v. before ++ v) (sym (take-append-le first.count xs rest first.within) ∙ ap (take first.count) e)) (first.each start before stood);

@@ -11,7 +11,7 @@ pub record Grew {A : Type 0} (old_stands stands : A → List Event → Type 0) (
 -- list, it has stopped for that start, the list with the events up to that one appended, and that Stop.
 pub record StoppedAt {A E : Type 0} (old_stands : A → List Event → Type 0) (stopped : A → List Event → E → Type 0) (events : List Event) (stop : E) : Type 0 where
   pub count : ℕ
-  pub given : 0 < count
+  pub some : 0 < count
   pub within : count ≤ length events
   pub each : (start : A) (before : List Event) → old_stands start before → stopped start (before ++ take count events) stop
 

@@ -43,7 +43,7 @@ FaultFits steady expected OutOfMemory = Unit {0}
 
 -- what a call answers whose steps give `expected`; `fault_of` is the call's own type of faults as a `Fault`
 pub record ResultIs {A B R E : Type 0} (fault_of : E → Fault R) (steady : Bool) (value : B → A) (expected : Result A R) (result : Result B E) : Type 0 where
-  pub ok : IfOk result (λ given. expected ≡ Ok (value given))
+  pub ok : IfOk result (λ a. expected ≡ Ok (value a))
   pub err : IfErr result (λ fault. FaultFits steady expected (fault_of fault))
 
 abbrev pub HasCauseAt : {R : Type 0} → ℕ → ℕ → Fault R → Type 0

@@ -37,5 +37,5 @@ FaultFitsOrAbsent steady expected OutOfMemory = Unit {0}
 
 -- what a call answers whose steps, with those that ask for files, give `expected`
 pub record ResultIsOrAbsent {A B R E : Type 0} (fault_of : E → Fault R) (steady : Bool) (value : B → A) (expected : Result A (Stop R)) (result : Result B E) : Type 0 where
-  pub ok : IfOk result (λ given. expected ≡ Ok (value given))
+  pub ok : IfOk result (λ a. expected ≡ Ok (value a))
   pub err : IfErr result (λ fault. FaultFitsOrAbsent steady expected (fault_of fault))

@@ -143,14 +143,14 @@ impl Shelf for MemoryShelf {
     /// Errors: `Failed` exactly where this call is one that fails, or no file has the name.
     fn find(&mut self, name: &str) -> Result<FileNo, Failed>
         ensures found { IfOk result (λ number.
-            IfSome (memory_view self.old).held
+            IfSome (memory_view self.old).all_files
             (StandsForNamed (memory_view self.new) number.0 name.now)) }
         ensures follows { IsLaterShelf (memory_view self.old) (memory_view self.new) }
         ensures untaken { (memory_view self.new).taken ≡ (memory_view self.old).taken }
         ensures failed { OnErr result
             (FaultsRose (memory_view self.old).faults (memory_view self.new).faults) }
         ensures steady { IsTrue (memory_view self.old).steady →
-            IfSome (memory_view self.old).held (λ files. IsSome (file_named name.now files) →
+            IfSome (memory_view self.old).all_files (λ files. IsSome (file_named name.now files) →
             IsOk result) }
         ensures first { IfOk result (λ number.
             Some number.0 ≡ first_named name.now self.old.files) }

@@ -30,16 +30,16 @@ use Rattle.picture_rules.specs.Walls.{fragment_wall, walls_of}
 use Rattle.picture_rules.specs.Planes.{Step, leaf_step, steps_from, steps_of, view_planes, wall_step}
 use Rattle.picture_rules.specs.Counts.{view_steps}
 use Rattle.picture_rules.specs.Things.{first_mentions, is_entered, placed_of, sectors_entered, view_entries, with_sectors, with_seen, with_shape, with_thing, with_things}
-use Rattle.picture_rules.specs.Lists.{AreEntriesOf, IsEntryOf, event_planes, is_seen, is_shown, listed_fragment, maker_of, makers_from, makes_entry, plane_makers, planes_made, shown_things, told}
+use Rattle.picture_rules.specs.Lists.{AreEntriesOf, IsEntryOf, event_planes, is_seen, is_shown, listed_fragment, maker_of, makers_from, makes_entry, plane_makers, planes_made, shown_things, count_shown}
 use Rattle.picture_rules.proofs.EventLemmas.{steps_of-full, steps_of-leaf, steps_of-room, walls_of-full, walls_of-leaf, walls_of-room}
 use Rattle.picture_rules.proofs.ThingLemmas.{sectors_entered-fragment, sectors_entered-leaf}
 
--- a number that is told, one greater
+-- the count of one more
 told_by : (most n : ℕ) → min (min n most + 1) most ≡ min (n + 1) most
 told_by most n = omega arith
 
-pub told-more : (n : ℕ) → min (told n + 1) MOST_TOLD ≡ told (n + 1)
-unfolding told
+pub told-more : (n : ℕ) → min (count_shown n + 1) MOST_TOLD ≡ count_shown (n + 1)
+unfolding count_shown
 told-more n = told_by MOST_TOLD n
 
 -- one drawn fragment more, while fewer are drawn than a view keeps

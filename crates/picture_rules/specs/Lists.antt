@@ -79,9 +79,9 @@ listed_plane p maker = record { key = p.key; maker = maker; columns = marked_col
 unfoldable pub listed_sprite : SpriteEntry → PlacedThing → ListedSprite
 listed_sprite e thing = record { thing = thing.thing; lump = e.lump; first = natural e.first; last = natural e.last }
 
--- a number that is told, up to the greatest one
-unfoldable pub told : ℕ → ℕ
-told n = min n MOST_TOLD
+-- a count as a list says it: no more than the greatest that it has room for
+unfoldable pub count_shown : ℕ → ℕ
+count_shown n = min n MOST_TOLD
 
 -- The list of a view. An item's number is its place, which is the number that a trace has.
 pub record ViewListValue : Type 0 where
@@ -98,8 +98,8 @@ event_list v scene events = record {
   fragments = map listed_fragment (drawsegs events);
   planes = map (λ both. listed_plane both.0 both.1) (zip (event_planes v scene events) (plane_makers v scene events));
   sprites = map (λ both. listed_sprite both.0 both.1) (zip (view_entries v scene events) (shown_things v scene events));
-  all_fragments = told (length (leaf_fragments 0 events));
-  all_sprites = told (length (shown_things v scene events));
+  all_fragments = count_shown (length (leaf_fragments 0 events));
+  all_sprites = count_shown (length (shown_things v scene events));
 }
 
 unfoldable pub view_list : ViewValue → Scene → ViewListValue

@@ -10,6 +10,14 @@ const PATCH: [u8; 21] = [
     1, 0, 4, 0, 2, 0, 255, 255, 12, 0, 0, 0, 5, 2, 0, 8, 9, 0, 255, 7, 7,
 ];
 
+fn post_of(topdelta: u8, length: u8, first: u32) -> Post {
+    Post {
+        topdelta,
+        length,
+        first,
+    }
+}
+
 #[test]
 fn a_patch_of_one_column_has_one_post(rt: HostRuntime) {
     let patch = Patch {
@@ -17,17 +25,9 @@ fn a_patch_of_one_column_has_one_post(rt: HostRuntime) {
         left: 2,
         top: -1,
     };
-    let post = Post {
-        topdelta: 5,
-        length: 2,
-        first: 15,
-    };
+    let post = post_of(5, 2, 15);
     // it goes on past the end of the lump
-    let cut = Post {
-        topdelta: 7,
-        length: 0,
-        first: 23,
-    };
+    let cut = post_of(7, 0, 23);
     let read = [
         Patch::read(&PATCH),
         Patch::read(&PATCH[..11]),

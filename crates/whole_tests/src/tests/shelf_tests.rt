@@ -113,7 +113,8 @@ fn scene_of(
     requires few { length dir.now.lumps < 2 ^ 16 }
     requires slots { length dir.now.lumps ≤ cache.old.lumps }
     requires composites { cache.old.composites ≡ COMPOSITE_SLOTS }
-    ensures drawable { IfOk result (λ scene. CanDrawView dir.now.lumps scene.value.scene cache.new) }
+    ensures drawable { IfOk result (λ scene.
+        CanDrawView dir.now.lumps scene.value.scene cache.new) }
     ensures composites { cache.new.composites ≡ COMPOSITE_SLOTS }
 {
     let bytes = make_things(alloc)?;
@@ -132,7 +133,8 @@ fn audited(
     requires few { length dir.now.lumps < 2 ^ 16 }
     requires slots { length dir.now.lumps ≤ cache.old.lumps }
     requires composites { cache.old.composites ≡ COMPOSITE_SLOTS }
-    ensures drawable { IfOk result (λ scene. CanDrawView dir.now.lumps scene.value.scene cache.new) }
+    ensures drawable { IfOk result (λ scene.
+        CanDrawView dir.now.lumps scene.value.scene cache.new) }
     ensures composites { cache.new.composites ≡ COMPOSITE_SLOTS }
 {
     let map = Name8::from_text("MAP01").ok_or("a name")?;

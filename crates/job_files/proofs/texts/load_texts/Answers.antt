@@ -23,12 +23,12 @@ returns-in_err-path g c =
     let first = c.load_things.ensures in
     record {
       answers = λ files holds. step_passed _ _ c.in_ok-things.things (c.in_ok-things.ensures.answers files holds).ok first.follows.steady
-          (step_stops _ _ c.from_residual-in_err-path.result (c.load_path.ensures.answers files (first.follows.held ∙ holds)) c.in_err-path.was refl c.from_residual-in_err-path.ensures.1);
+          (step_stops _ _ c.from_residual-in_err-path.result (c.load_path.ensures.answers files (first.follows.all_files ∙ holds)) c.in_err-path.was refl c.from_residual-in_err-path.ensures.1);
       full = search rules;
       follows = follows_then first.follows c.load_path.ensures.follows;
       causes = search rules;
       taken = search rules;
-      taken_of = λ files holds. omega (arith, first.taken_of files holds, c.load_path.ensures.taken_of files (first.follows.held ∙ holds));
+      taken_of = λ files holds. omega (arith, first.taken_of files holds, c.load_path.ensures.taken_of files (first.follows.all_files ∙ holds));
     }
 
 pub returns-in_err-weapons : goal.returns-in_err-weapons
@@ -39,13 +39,13 @@ returns-in_err-weapons g c =
     let both = follows_then first.follows second.follows in
     record {
       answers = λ files holds. step_passed _ _ c.in_ok-things.things (c.in_ok-things.ensures.answers files holds).ok first.follows.steady
-          (step_passed _ _ c.in_ok-path.path (c.in_ok-path.ensures.answers files (first.follows.held ∙ holds)).ok second.follows.steady
-          (step_stops _ _ c.from_residual-in_err-weapons.result (c.load_weapons.ensures.answers files (both.held ∙ holds)) c.in_err-weapons.was refl c.from_residual-in_err-weapons.ensures.1));
+          (step_passed _ _ c.in_ok-path.path (c.in_ok-path.ensures.answers files (first.follows.all_files ∙ holds)).ok second.follows.steady
+          (step_stops _ _ c.from_residual-in_err-weapons.result (c.load_weapons.ensures.answers files (both.all_files ∙ holds)) c.in_err-weapons.was refl c.from_residual-in_err-weapons.ensures.1));
       full = search rules;
       follows = follows_then both c.load_weapons.ensures.follows;
       causes = search rules;
       taken = search rules;
-      taken_of = λ files holds. omega (arith, first.taken_of files holds, second.taken_of files (first.follows.held ∙ holds), c.load_weapons.ensures.taken_of files (both.held ∙ holds));
+      taken_of = λ files holds. omega (arith, first.taken_of files holds, second.taken_of files (first.follows.all_files ∙ holds), c.load_weapons.ensures.taken_of files (both.all_files ∙ holds));
     }
 
 pub returns : goal.returns
@@ -56,11 +56,11 @@ returns g c =
     let both = follows_then first.follows second.follows in
     record {
       answers = λ files holds. step_passed _ _ c.in_ok-things.things (c.in_ok-things.ensures.answers files holds).ok first.follows.steady
-          (step_passed _ _ c.in_ok-path.path (c.in_ok-path.ensures.answers files (first.follows.held ∙ holds)).ok second.follows.steady
-          (step_passed _ _ c.in_ok-weapons.weapons (c.in_ok-weapons.ensures.answers files (both.held ∙ holds)).ok c.load_weapons.ensures.follows.steady (all_passed _ _ refl)));
+          (step_passed _ _ c.in_ok-path.path (c.in_ok-path.ensures.answers files (first.follows.all_files ∙ holds)).ok second.follows.steady
+          (step_passed _ _ c.in_ok-weapons.weapons (c.in_ok-weapons.ensures.answers files (both.all_files ∙ holds)).ok c.load_weapons.ensures.follows.steady (all_passed _ _ refl)));
       full = search rules;
       follows = follows_then both c.load_weapons.ensures.follows;
       causes = search rules;
       taken = search rules;
-      taken_of = λ files holds. omega (arith, first.taken_of files holds, second.taken_of files (first.follows.held ∙ holds), c.load_weapons.ensures.taken_of files (both.held ∙ holds));
+      taken_of = λ files holds. omega (arith, first.taken_of files holds, second.taken_of files (first.follows.all_files ∙ holds), c.load_weapons.ensures.taken_of files (both.all_files ∙ holds));
     }

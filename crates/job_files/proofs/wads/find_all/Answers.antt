@@ -16,7 +16,7 @@ loop-name-init g c = record {
 pub returns-in_err-number-clause-stops : goal.returns-in_err-number-clause-stops
 returns-in_err-number-clause-stops g c files holds =
     let p = err_from_is_err_and c.from_residual.result c.from_residual.ensures.1 in
-    let held = c.loop-name.invariant.follows.held ∙ holds in
+    let held = c.loop-name.invariant.follows.all_files ∙ holds in
     rw (p.1, p.2)
     (λ steady. lacking_stops c.args.names.now c.loop-name.name-index _ files c.find.result _ (omega arith)
     (rw held at (c.find.ensures.steady (c.loop-name.invariant.follows.steady ∙ steady))) c.in_err-number.was)
@@ -27,7 +27,7 @@ loop-name-preserved g c = record {
   follows = follows_then c.loop-name.invariant.follows c.find.ensures.follows;
   untaken = c.find.ensures.untaken ∙ c.loop-name.invariant.untaken;
   found = λ files holds.
-      let held = c.loop-name.invariant.follows.held ∙ holds in
+      let held = c.loop-name.invariant.follows.all_files ∙ holds in
       let found = rw held at c.in_ok-number.ensures.found in
       found_more _ _ c.loop-name.numbers.items c.push.new.self.items c.in_ok-number.number _ _ _ files found c.in_ok-push.ensures.items
       (map_more (λ name. name.now) c.args.names.now c.loop-name.name-index _ (omega arith)) c.find.ensures.follows (c.loop-name.invariant.found files holds);
