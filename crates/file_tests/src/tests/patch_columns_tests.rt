@@ -10,7 +10,7 @@ const PATCH: [u8; 21] = [
     1, 0, 4, 0, 2, 0, 255, 255, 12, 0, 0, 0, 5, 2, 0, 8, 9, 0, 255, 7, 7,
 ];
 
-fn post_of(topdelta: u8, length: u8, first: u32) -> Post {
+fn post_of(topdelta: u8, length: u8, first: u64) -> Post {
     Post {
         topdelta,
         length,
