@@ -8,7 +8,7 @@ ghost use Rattle.picture_rules.specs.plane.Skies.{plane_dots};
 ghost use Rattle.pixel_strips.specs.Dotted.{HasDots, PlacedAlike};
 ghost use Rattle.pixel_strips.specs.Standing.{StandsInFrame};
 ghost use Rattle.plane_draw.specs.Planes.{CanDrawPlane, IsSky, IsFlatOf};
-ghost use Rattle.plane_draw.specs.Scenes.{AreSamePlaneHands, CanDrawAt, CanDrawPlanes, PaintsPlanes, first_planes, plane_hands};
+ghost use Rattle.plane_draw.specs.Scenes.{AreSamePlaneHands, CanDrawAt, CanDrawPlanes, PaintsPlanes, first_planes, plane_art, plane_hands};
 ghost use Rattle.plane_draw.specs.Tools.{AreSamePlaneTools, HasToolsArt, HasToolsSky, HoldsPlaneTools};
 ghost use Rattle.std.specs.Prelude.{◌<◌, ◌≤◌, ℕ, List, All, IfSome, OnOk, length};
 ghost use Rattle.texture_build.specs.Draws.{CanDraw, FitBeside, DrawsWith};
@@ -91,8 +91,8 @@ fn draw_each<S: Shelf, C: Canvas>(
     requires { CanDrawPlanes scene.now (plane_hands S.view C.view hands.old) }
     ensures same { AreSamePlaneHands hands.old hands.new }
     ensures paints { PaintsPlanes C.mark scene.now
-        (λ art sky. first_planes scene.now.view.now art sky scene.now.planes.now.planes
-        (length scene.now.planes.now.planes))
+        (λ contents sky. first_planes scene.now.view.now (plane_art contents scene.now) sky
+        scene.now.planes.now.planes (length scene.now.planes.now.planes))
         (plane_hands S.view C.view hands.old) (plane_hands S.view C.view hands.new) result }
 {
     for number in 0..scene.planes.count() {
@@ -110,7 +110,7 @@ fn draw_one<S: Shelf, C: Canvas>(
     requires ready { CanDrawAt scene.now plane.0 (plane_hands S.view C.view hands.old) }
     ensures same { AreSamePlaneHands hands.old hands.new }
     ensures paints { PaintsPlanes C.mark scene.now
-        (λ art sky. plane_dots scene.now.view.now art sky plane.0
+        (λ contents sky. plane_dots scene.now.view.now (plane_art contents scene.now) sky plane.0
         (plane_at scene.now.planes.now.planes plane.0))
         (plane_hands S.view C.view hands.old) (plane_hands S.view C.view hands.new) result }
 {

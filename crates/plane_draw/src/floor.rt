@@ -33,7 +33,7 @@ pub fn draw_floor<S: Shelf, C: Canvas>(
     requires flat { (plane_at scene.now.planes.now.planes plane.0).key.flat ≡ Lump lump.0 }
     ensures same { AreSamePlaneHands hands.old hands.new }
     ensures paints { PaintsPlanes C.mark scene.now
-        (λ art sky. plane_dots scene.now.view.now art sky plane.0
+        (λ contents sky. plane_dots scene.now.view.now (plane_art contents scene.now) sky plane.0
         (plane_at scene.now.planes.now.planes plane.0))
         (plane_hands S.view C.view hands.old) (plane_hands S.view C.view hands.new) result }
 {

@@ -103,7 +103,7 @@ pub fn draw_sky<S: Shelf, C: Canvas>(
     requires flat { (plane_at scene.now.planes.now.planes plane.0).key.flat ≡ Sky }
     ensures same { AreSamePlaneHands hands.old hands.new }
     ensures paints { PaintsPlanes C.mark scene.now
-        (λ art sky. plane_dots scene.now.view.now art sky plane.0
+        (λ contents sky. plane_dots scene.now.view.now (plane_art contents scene.now) sky plane.0
         (plane_at scene.now.planes.now.planes plane.0))
         (plane_hands S.view C.view hands.old) (plane_hands S.view C.view hands.new) result }
 {
@@ -130,7 +130,7 @@ fn draw_sky_column<S: Shelf, C: Canvas>(
     requires column { x < scene.now.view.now.shape.width }
     ensures same { AreSamePlaneHands hands.old hands.new }
     ensures paints { PaintsPlanes C.mark scene.now
-        (λ art sky. sky_run scene.now.view.now art plane.0 tex.0 x
+        (λ contents sky. sky_run scene.now.view.now (plane_art contents scene.now) plane.0 tex.0 x
         (column (plane_at scene.now.planes.now.planes plane.0) x))
         (plane_hands S.view C.view hands.old) (plane_hands S.view C.view hands.new) result }
 {
@@ -160,8 +160,8 @@ fn draw_sky_rows<S: Shelf, C: Canvas>(
         rows.now.last < scene.now.view.now.shape.height }
     ensures same { AreSamePlaneHands hands.old hands.new }
     ensures paints { PaintsPlanes C.mark scene.now
-        (λ art sky. sky_run scene.now.view.now art rows.now.number rows.now.tex.0 rows.now.x
-        (Some (rows.now.first, rows.now.last)))
+        (λ contents sky. sky_run scene.now.view.now (plane_art contents scene.now)
+        rows.now.number rows.now.tex.0 rows.now.x (Some (rows.now.first, rows.now.last)))
         (plane_hands S.view C.view hands.old) (plane_hands S.view C.view hands.new) result }
 {
     if rows.last < rows.first {
