@@ -2,7 +2,6 @@
 use Rattle.std.specs.Prelude.{◌≡◌, ◌≤◌, ◌<◌, ◌+◌, ℕ, List, All, IfSome, Option, Result, length}
 use Rattle.view_rules.specs.declared.TheConstants.{FRAME_WIDTH, FRAME_HEIGHT}
 use Rattle.view_rules.specs.View.{ViewValue}
-use Rattle.outside.specs.Shelf.{ShelfView}
 use Rattle.word_rules.specs.Listed.{listed, joined_lists}
 use Rattle.lump_rules.specs.Contents.{lump_bytes}
 use Rattle.lump_cache.specs.declared.fault.CacheFault.{CacheFault}
@@ -11,15 +10,13 @@ use Rattle.pixel_rules.specs.declared.Painter.{Painter}
 use Rattle.pixel_rules.specs.declared.TheConstants.{SKY}
 use Rattle.pixel_rules.specs.Dots.{Dot}
 use Rattle.pixel_rules.specs.Art.{Art, painter_of}
-use Rattle.pixel_strips.specs.Canvases.{CanvasView}
 use Rattle.picture_rules.specs.plane.Planes.{Plane, column}
 use Rattle.picture_rules.specs.plane.Floors.{run_dots}
 use Rattle.picture_rules.specs.plane.Skies.{plane_dots, sky_colour, sky_column}
 use Rattle.visplanes.specs.Planes.{plane_at}
 use Rattle.texture_build.specs.Arts.{view_art}
 use Rattle.texture_build.specs.Draws.{CanDraw}
-use Rattle.texture_build.specs.Paints.{PaintState, PaintTools, Paints, paint_state, paint_tools}
-use Rattle.plane_draw.specs.declared.scene.PlaneHands.{PlaneHands}
+use Rattle.texture_build.specs.Paints.{PaintState, PaintTools, Paints, paint_tools}
 use Rattle.plane_draw.specs.declared.scene.PlaneScene.{PlaneScene}
 use Rattle.plane_draw.specs.Planes.{CanDrawPlane, IsSky, IsFlatOf}
 
@@ -30,15 +27,6 @@ plane_art contents s = view_art (lump_bytes contents s.dir.now.lumps) s.textures
 -- what it paints with
 abbrev pub scene_tools : PlaneScene → PaintTools
 scene_tools s = paint_tools s.dir.now s.textures.now s.colormap.0
-
--- what is written by these hands, whose shelf and canvas tell of themselves so
-abbrev pub plane_hands : {S C : Type 0} → (S → ShelfView) → (C → CanvasView) → PlaneHands S C → PaintState
-plane_hands shelf canvas h = paint_state (shelf h.shelf.now) h.cache.now (canvas h.canvas.now)
-
--- hands hold the references that others held
-abbrev pub AreSamePlaneHands : {S C : Type 0} → PlaneHands S C → PlaneHands S C → Type 0
-AreSamePlaneHands old new = (new.cache.ghost_name ≡ old.cache.ghost_name)
-    × ((new.shelf.ghost_name ≡ old.shelf.ghost_name) × (new.canvas.ghost_name ≡ old.canvas.ghost_name))
 
 -- what each call asks
 pub record CanDrawPlanes (s : PlaneScene) (st : PaintState) : Type 0 where
