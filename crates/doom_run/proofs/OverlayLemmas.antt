@@ -1,5 +1,5 @@
 -- The layers of a view by the dots that a canvas was given, and the view with its layers.
-use Rattle.std.proofs.Common.{◌≡◌, ◌⊎◌, ℕ, ℤ, List, [], Option, Some, None, Result, Ok, Err, OnOk, IsErrAnd, refl, sym, ap, subst, ◌∙◌, arith, inl, inr}
+use Rattle.std.proofs.Common.{◌≡◌, ◌⊎◌, ℕ, ℤ, List, [], Option, Some, None, Result, Ok, Err, IsErrAnd, refl, sym, ap, subst, ◌∙◌, arith, inl, inr}
 use Rattle.std.specs.Prelude.{Contains}
 use Rattle.outside.specs.Shelf.{ShelfView}
 use Rattle.outside.specs.Faults.{fault_above}
@@ -35,10 +35,10 @@ use Rattle.frame_core.specs.declared.fault.ViewFault.{ViewFault}
 use Rattle.frame_core.specs.Faults.{from_cache, view_fault}
 use Rattle.frame_core.specs.Scenes.{scene_of}
 use Rattle.frame_core.specs.Views.{IsViewLump, IsViewTexture, PaintsView, placed_for, view_scene, view_state}
-use Rattle.weapon_overlay.specs.Layers.{PaintsLayer, layer_state, layer_tools}
+use Rattle.texture_build.specs.Paints.{paint_state}
+use Rattle.texture_build.proofs.PaintLemmas.{on_ok_err, paints-none, paints-same, paints-wider}
+use Rattle.weapon_overlay.specs.Layers.{PaintsLayer}
 use Rattle.weapon_overlay.proofs.InViewLemmas.{layers_dots-in}
-use Rattle.weapon_overlay.proofs.LayerLemmas.{layer-none}
-use Rattle.weapon_overlay.proofs.StepLemmas.{layers-same, layers-wider}
 use Rattle.doom_run.specs.Drawn.{DrawsLayered, DrawsLayers, KeepsLoaded, layered_dots, layers_dots, loaded_scene}
 use Rattle.doom_run.specs.Layers.{layers_by, layers_of, layer_light}
 use Rattle.doom_run.specs.Renders.{IsLayerLump}
@@ -51,16 +51,17 @@ view_layers loaded k eye art = joined_lists (weapon_dots (view_of loaded.files.t
 module _ {mark : Painter → ℕ → ℕ} (k : ℕ) (eye : Eye) (old new : LoadedScene) {view after : ShelfView} {before now : CanvasView} {result : Result (Unit {0}) CacheFault} where
   -- a call that painted the layers of a view drew them
   layers_drawn : KeepsLoaded old new →
-      PaintsLayer mark (layer_tools old.files.dir old.scene.scene.base.colormap) (IsLayerLump old) (view_layers old k eye) (layer_state view old.cache before) (layer_state after new.cache now) result →
+      PaintsLayer mark old.files.dir old.scene.scene.base.colormap (IsLayerLump old) (view_layers old k eye) (paint_state view old.cache before) (paint_state after new.cache now) result →
       DrawsLayers mark k eye view after old new before now result
   unfolding scene_of
-  layers_drawn keeps one = record {
-    painted = λ contents count hold. one.painted (textures_view old.scene.scene) contents count (record { rest = hold.rest; files = hold.files });
-    fits = λ contents count hold. one.fits (textures_view old.scene.scene) contents count (record { rest = hold.rest; files = hold.files });
-    draws = one.draws (textures_view old.scene.scene);
-    place = one.place;
-    keeps = keeps;
-  }
+  layers_drawn keeps all =
+      let one = all (textures_view old.scene.scene) in record {
+        painted = λ contents count hold. one.painted contents count tt (record { rest = hold.rest; files = hold.files }) tt;
+        fits = λ contents count hold. one.fits contents count tt (record { rest = hold.rest; files = hold.files }) tt;
+        draws = one.draws;
+        place = one.place;
+        keeps = keeps;
+      }
 
 -- they are those of the rows of its table
 rows_layers : (loaded : LoadedScene) (k : ℕ) (eye : Eye) (rows : List WeaponRow) (book : List Frame) (v : ViewValue) (light : ℤ) (art : Art) → loaded.files.weapons ≡ Some rows → loaded.weapons ≡ Some book →
@@ -80,12 +81,13 @@ book_lump loaded book own lump has = subst (λ (b : Option (List Frame)). Contai
 pub rows-drawn : {mark : Painter → ℕ → ℕ} (k : ℕ) (eye : Eye) (old new : LoadedScene) {view after : ShelfView} {before now : CanvasView} {result : Result (Unit {0}) CacheFault}
     (rows table : List WeaponRow) (book : List Frame) (v : ViewValue) (light lit : ℤ) (colormap : ℕ) → rows ≡ table → old.files.weapons ≡ Some table → old.weapons ≡ Some book →
     v ≡ view_of old.files.tables eye → lit ≡ light → light ≡ layer_light old.scene.scene eye → colormap ≡ old.scene.scene.base.colormap → KeepsLoaded old new →
-    PaintsLayer mark (layer_tools old.files.dir colormap) (Contains (book_lumps book)) (rows_dots v book lit k 1 rows) (layer_state view old.cache before) (layer_state after new.cache now) result →
+    PaintsLayer mark old.files.dir colormap (Contains (book_lumps book)) (rows_dots v book lit k 1 rows) (paint_state view old.cache before) (paint_state after new.cache now) result →
     DrawsLayers mark k eye view after old new before now result
 rows-drawn {mark} k eye old new {view} {after} {before} {now} {result} rows table book v light lit colormap all some own same at here map keeps one =
-    let with_map = subst (λ (m : ℕ). PaintsLayer mark (layer_tools old.files.dir m) (Contains (book_lumps book)) (rows_dots v book lit k 1 rows) (layer_state view old.cache before) (layer_state after new.cache now) result) map one in
+    let with_map = subst (λ (m : ℕ). PaintsLayer mark old.files.dir m (Contains (book_lumps book)) (rows_dots v book lit k 1 rows) (paint_state view old.cache before) (paint_state after new.cache now) result) map one in
     layers_drawn k eye old new keeps
-    (layers-wider (book_lump old book own) (layers-same (view_layers old k eye) (λ art. rows_layers old k eye rows book v lit art (some ∙ ap Some (sym all)) own same (at ∙ here)) with_map))
+    (λ textures. paints-wider (λ number none. none) (book_lump old book own)
+    (paints-same _ (λ contents q is. rows_layers old k eye rows book v lit _ (some ∙ ap Some (sym all)) own same (at ∙ here)) (with_map textures)))
 
 -- a view without a table of layers, or without their pictures, has none
 no_table : (loaded : LoadedValue) (k : ℕ) (eye : Eye) → loaded.files.weapons ≡ None → layers_of loaded k eye ≡ []
@@ -108,7 +110,7 @@ no_dots loaded k eye art none = ap (joined_lists (weapon_dots (view_of loaded.fi
 none_drawn : {mark : Painter → ℕ → ℕ} (k : ℕ) (eye : Eye) (loaded : LoadedScene) (view : ShelfView) (canvas : CanvasView) → layers_of (loaded_value loaded) k eye ≡ [] →
     DrawsLayers {A = Unit {0}} mark k eye view view loaded loaded canvas canvas (Ok tt)
 none_drawn {mark} k eye loaded view canvas none =
-    layers_drawn k eye loaded loaded (record { files = refl; scene = refl; weapons = refl }) (layer-none view loaded.cache canvas tt (λ art. no_dots loaded k eye art none))
+    layers_drawn k eye loaded loaded (record { files = refl; scene = refl; weapons = refl }) (λ textures. paints-same _ (λ contents q is. sym (no_dots loaded k eye _ none)) (paints-none _ tt))
 
 pub no_table-drawn : {mark : Painter → ℕ → ℕ} (k : ℕ) (eye : Eye) (loaded : LoadedScene) (view : ShelfView) (canvas : CanvasView) → loaded.files.weapons ≡ None →
     DrawsLayers {A = Unit {0}} mark k eye view view loaded loaded canvas canvas (Ok tt)
@@ -122,10 +124,6 @@ no_book-drawn k eye loaded view canvas none = none_drawn k eye loaded view canva
 same_fault : (e : CacheFault) → view_fault (from_cache e) ≡ fault_above (λ (none : ⊥). absurd none) (cache_fault e)
 same_fault (cache.ZoneFull wanted widest) = refl
 same_fault cache.ReadFault = refl
-
-on_ok_err : {A E : Type 0} (P : Type 0) (fault : E) (whole : Result A E) → IsErrAnd whole (λ e. e ≡ fault) → OnOk whole P
-on_ok_err P fault (Ok x) is = absurd is
-on_ok_err P fault (Err e) is = tt
 
 -- the lumps of a view and of its layers
 abbrev IsLayeredLump : LoadedScene → ℕ → Type 0

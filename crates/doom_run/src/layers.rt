@@ -13,7 +13,8 @@ ghost use Rattle.picture_rules.specs.sprite.Weapons.{weapon_dots};
 ghost use Rattle.pixel_strips.specs.Standing.{StandsInFrame};
 ghost use Rattle.std.specs.Prelude.{◌≡◌, ◌<◌, ◌≤◌, ◌∷◌, [], Contains, Some, length, option_map};
 ghost use Rattle.view_rules.specs.View.{view_of};
-ghost use Rattle.weapon_overlay.specs.Layers.{PaintsLayer, layer_state, layer_tools, layer_value};
+ghost use Rattle.texture_build.specs.Paints.{paint_state};
+ghost use Rattle.weapon_overlay.specs.Layers.{PaintsLayer, layer_value};
 ghost use Rattle.word_rules.specs.Listed.{joined_lists};
 
 use csv_tables::WeaponRow;
@@ -151,12 +152,12 @@ fn draw_rows<S: Shelf, C: Canvas>(
     requires colormap { scene.now.colormap.0 < length scene.now.dir.now.lumps }
     requires pictures { AreThere scene.now.dir.now.lumps (Some scene.now.book.now) }
     requires placed { StandsInFrame scene.now.view.now.shape (C.view canvas.old) }
-    ensures paints { PaintsLayer C.mark (layer_tools scene.now.dir.now scene.now.colormap.0)
+    ensures paints { PaintsLayer C.mark scene.now.dir.now scene.now.colormap.0
         (Contains (book_lumps scene.now.book.now))
         (λ art. joined_lists (weapon_dots scene.now.view.now art)
         (layers_from scene.now.book.now light scene.now.number 1 rows.now))
-        (layer_state (S.view shelf.old) cache.old (C.view canvas.old))
-        (layer_state (S.view shelf.new) cache.new (C.view canvas.new)) result }
+        (paint_state (S.view shelf.old) cache.old (C.view canvas.old))
+        (paint_state (S.view shelf.new) cache.new (C.view canvas.new)) result }
 {
     for (i, row) in rows.iter().enumerate() {
         let place = i as u16 + 1;
@@ -180,13 +181,13 @@ fn draw_row<S: Shelf, C: Canvas>(
     requires colormap { scene.now.colormap.0 < length scene.now.dir.now.lumps }
     requires pictures { AreThere scene.now.dir.now.lumps (Some scene.now.book.now) }
     requires placed { StandsInFrame scene.now.view.now.shape (C.view canvas.old) }
-    ensures paints { PaintsLayer C.mark (layer_tools scene.now.dir.now scene.now.colormap.0)
+    ensures paints { PaintsLayer C.mark scene.now.dir.now scene.now.colormap.0
         (Contains (book_lumps scene.now.book.now))
         (λ art. joined_lists (weapon_dots scene.now.view.now art)
         (layers_from scene.now.book.now light scene.now.number place
         (row.now ∷ [])))
-        (layer_state (S.view shelf.old) cache.old (C.view canvas.old))
-        (layer_state (S.view shelf.new) cache.new (C.view canvas.new)) result }
+        (paint_state (S.view shelf.old) cache.old (C.view canvas.old))
+        (paint_state (S.view shelf.new) cache.new (C.view canvas.new)) result }
 {
     if row.view as u32 != scene.number {
         return Ok(());

@@ -1,6 +1,6 @@
 -- What each call that draws planes may take from what it asks.
 use Rattle.std.proofs.Common.{◌≡◌, ◌<◌, ◌≤◌, ℕ, zero, suc, Bool, true, false, List, [], ◌∷◌, Option, Some, None, length, refl, sym, ap, subst, ◌∙◌, arith, inl, inr, ◌⊎◌}
-use Rattle.std.specs.Prelude.{◌↔◌, nat_le, slice_index_or, IfSome, IsSome}
+use Rattle.std.specs.Prelude.{◌↔◌, nat_le, slice_index_or, All, IfSome, IsSome, Result}
 use Rattle.std.proofs.lemmas.Bool.{and_from, false≢true, le-leb}
 use Rattle.std.proofs.lemmas.List.Elements.{All-get_or, Contains-get_or}
 use Rattle.view_rules.specs.declared.ViewShape.{ViewShape}
@@ -11,20 +11,25 @@ use Rattle.picture_rules.specs.plane.Planes.{Plane, column}
 use Rattle.picture_rules.specs.plane.Spans.{holds, holds_row}
 use Rattle.visplanes.specs.Planes.{no_plane, plane_at}
 use Rattle.visplanes.specs.Spans.{IsSeen}
+use Rattle.pixel_rules.specs.declared.Painter.{Painter}
+use Rattle.pixel_rules.specs.Dots.{Dot}
+use Rattle.lump_cache.specs.declared.fault.CacheFault.{CacheFault}
 use Rattle.texture_lists.specs.declared.number.TexNo.{TexNo}
 use Rattle.texture_build.specs.Draws.{CanDraw}
+use Rattle.texture_build.specs.Paints.{PaintState}
+use Rattle.texture_build.proofs.PaintLemmas.{can_draw-later, slots-later}
 use Rattle.plane_draw.specs.declared.scene.PlaneScene.{PlaneScene}
 use Rattle.plane_draw.specs.Planes.{CanDrawPlane, HasFlat, IsFlatOf, IsMarked, IsSky}
-use Rattle.plane_draw.specs.Scenes.{CanDrawPlanes, PlaneState}
+use Rattle.plane_draw.specs.Scenes.{CanDrawPlanes, PaintsPlanes}
 
 -- a plane of the scene
-pub plane-can : {s : PlaneScene} {st : PlaneState} → CanDrawPlanes s st → (n : ℕ) → n < length s.planes.now.planes →
+pub plane-can : {s : PlaneScene} {st : PaintState} → CanDrawPlanes s st → (n : ℕ) → n < length s.planes.now.planes →
     CanDrawPlane s.view.now.shape st.canvas.left st.canvas.top (length s.dir.now.lumps) s.sky (plane_at s.planes.now.planes n)
 plane-can {s} {st} can n inside =
     All-get_or (CanDrawPlane s.view.now.shape st.canvas.left st.canvas.top (length s.dir.now.lumps) s.sky) s.planes.now.planes n no_plane inside can.planes
 
 -- its flat is a lump of the directory
-pub flat-there : {s : PlaneScene} {st : PlaneState} → CanDrawPlanes s st → (n lump : ℕ) → n < length s.planes.now.planes →
+pub flat-there : {s : PlaneScene} {st : PaintState} → CanDrawPlanes s st → (n lump : ℕ) → n < length s.planes.now.planes →
     (plane_at s.planes.now.planes n).key.flat ≡ flat.Lump lump → lump < length s.dir.now.lumps
 flat-there {s} can n lump inside is = subst (HasFlat (length s.dir.now.lumps) s.sky) is (plane-can can n inside).flat
 
@@ -73,7 +78,7 @@ unfolding is_sky_key same_flat
 floor-key p lump is = ap (λ (f : Flat4). same_flat f flat.Sky) is
 
 -- the texture of the sky may be drawn
-pub sky-can : {s : PlaneScene} {st : PlaneState} → CanDrawPlanes s st → (tex : TexNo) → s.sky ≡ Some tex →
+pub sky-can : {s : PlaneScene} {st : PaintState} → CanDrawPlanes s st → (tex : TexNo) → s.sky ≡ Some tex →
     CanDraw s.dir.now.lumps s.textures.now st.cache tex.0
 sky-can {s} {st} can tex is =
     subst (λ (o : Option TexNo). IfSome o (λ tex. CanDraw s.dir.now.lumps s.textures.now st.cache tex.0)) is can.sky
@@ -92,3 +97,19 @@ unfolding holds holds_row
 seen-last shape left top p x first last seen run ordered =
     let rows : holds_row (Some (first, last)) last ≡ true = and_from (nat_le first last) (nat_le last last) (le-leb first last ordered) (le-leb last last (omega arith)) in
     seen.row x last (ap (λ (r : Option (ℕ × ℕ)). holds_row r last) (sym run) ∙ rows)
+
+-- what a call asks of planes it may ask again
+pub can_draw_planes-later : {A : Type 0} {mark : Painter → ℕ → ℕ} {s : PlaneScene} {f : List (List ℕ) → ℕ → List Dot} {a b : PaintState} {result : Result A CacheFault} →
+    PaintsPlanes mark s f a b result → CanDrawPlanes s a → CanDrawPlanes s b
+can_draw_planes-later {s = s} {a = a} {b} one can = record {
+  slots = slots-later one can.slots;
+  colormap = can.colormap;
+  left = rw one.place.left can.left;
+  top = rw one.place.top can.top;
+  sky = sky_later s.sky can.sky;
+  planes = subst (λ (n : ℕ). All (CanDrawPlane s.view.now.shape n b.canvas.top (length s.dir.now.lumps) s.sky) s.planes.now.planes) (sym one.place.left)
+      (subst (λ (n : ℕ). All (CanDrawPlane s.view.now.shape a.canvas.left n (length s.dir.now.lumps) s.sky) s.planes.now.planes) (sym one.place.top) can.planes);
+} where
+  sky_later : (sky : Option TexNo) → IfSome sky (λ tex. CanDraw s.dir.now.lumps s.textures.now a.cache tex.0) → IfSome sky (λ tex. CanDraw s.dir.now.lumps s.textures.now b.cache tex.0)
+  sky_later None h = tt
+  sky_later (Some tex) h = can_draw-later one h

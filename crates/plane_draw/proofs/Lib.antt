@@ -1,4 +1,3 @@
-pub mod StepLemmas
 pub mod KeptLemmas
 pub mod PlaneLemmas
 pub mod SkyLemmas

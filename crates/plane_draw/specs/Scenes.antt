@@ -1,26 +1,22 @@
 -- What stays while planes are drawn, what each call asks, and what it paints.
-use Rattle.std.specs.Prelude.{◌≡◌, ◌≤◌, ◌<◌, ◌+◌, ℕ, List, All, IfSome, OnOk, Option, Result, length}
+use Rattle.std.specs.Prelude.{◌≡◌, ◌≤◌, ◌<◌, ◌+◌, ℕ, List, All, IfSome, Option, Result, length}
 use Rattle.view_rules.specs.declared.TheConstants.{FRAME_WIDTH, FRAME_HEIGHT}
 use Rattle.view_rules.specs.View.{ViewValue}
-use Rattle.outside.specs.Shelf.{ShelfView}
 use Rattle.word_rules.specs.Listed.{listed, joined_lists}
 use Rattle.lump_rules.specs.Contents.{lump_bytes}
-use Rattle.zone_rules.specs.Zones.{Heap}
 use Rattle.lump_cache.specs.declared.fault.CacheFault.{CacheFault}
 use Rattle.lump_cache.specs.Caches.{cache_fault}
 use Rattle.pixel_rules.specs.declared.Painter.{Painter}
 use Rattle.pixel_rules.specs.declared.TheConstants.{SKY}
 use Rattle.pixel_rules.specs.Dots.{Dot}
 use Rattle.pixel_rules.specs.Art.{Art, painter_of}
-use Rattle.pixel_strips.specs.Canvases.{CanvasView}
-use Rattle.pixel_strips.specs.Dotted.{HasDots, PlacedAlike}
 use Rattle.picture_rules.specs.plane.Planes.{Plane, column}
 use Rattle.picture_rules.specs.plane.Floors.{run_dots}
 use Rattle.picture_rules.specs.plane.Skies.{plane_dots, sky_colour, sky_column}
 use Rattle.visplanes.specs.Planes.{plane_at}
 use Rattle.texture_build.specs.Arts.{view_art}
-use Rattle.texture_build.specs.Draws.{HoldsArt, FitBeside, DrawsWith, CanDraw}
-use Rattle.plane_draw.specs.declared.scene.PlaneHands.{PlaneHands}
+use Rattle.texture_build.specs.Draws.{CanDraw}
+use Rattle.texture_build.specs.Paints.{PaintState, PaintTools, Paints, paint_tools}
 use Rattle.plane_draw.specs.declared.scene.PlaneScene.{PlaneScene}
 use Rattle.plane_draw.specs.Planes.{CanDrawPlane, IsSky, IsFlatOf}
 
@@ -28,26 +24,12 @@ use Rattle.plane_draw.specs.Planes.{CanDrawPlane, IsSky, IsFlatOf}
 abbrev pub plane_art : List (List ℕ) → PlaneScene → Art
 plane_art contents s = view_art (lump_bytes contents s.dir.now.lumps) s.textures.now s.colormap.0
 
--- what is written: the cache by its shelf, and the canvas
-pub record PlaneState : Type 0 where
-  pub shelf : ShelfView
-  pub cache : Heap
-  pub canvas : CanvasView
-
-abbrev pub plane_state : ShelfView → Heap → CanvasView → PlaneState
-plane_state shelf cache canvas = record { shelf = shelf; cache = cache; canvas = canvas }
-
--- what is written by these hands, whose shelf and canvas tell of themselves so
-abbrev pub plane_hands : {S C : Type 0} → (S → ShelfView) → (C → CanvasView) → PlaneHands S C → PlaneState
-plane_hands shelf canvas h = plane_state (shelf h.shelf.now) h.cache.now (canvas h.canvas.now)
-
--- hands hold the references that others held
-abbrev pub AreSamePlaneHands : {S C : Type 0} → PlaneHands S C → PlaneHands S C → Type 0
-AreSamePlaneHands old new = (new.cache.ghost_name ≡ old.cache.ghost_name)
-    × ((new.shelf.ghost_name ≡ old.shelf.ghost_name) × (new.canvas.ghost_name ≡ old.canvas.ghost_name))
+-- what it paints with
+abbrev pub scene_tools : PlaneScene → PaintTools
+scene_tools s = paint_tools s.dir.now s.textures.now s.colormap.0
 
 -- what each call asks
-pub record CanDrawPlanes (s : PlaneScene) (st : PlaneState) : Type 0 where
+pub record CanDrawPlanes (s : PlaneScene) (st : PaintState) : Type 0 where
   pub slots : length s.dir.now.lumps ≤ st.cache.lumps
   pub colormap : s.colormap.0 < length s.dir.now.lumps
   pub left : st.canvas.left + s.view.now.shape.width ≤ FRAME_WIDTH
@@ -57,7 +39,7 @@ pub record CanDrawPlanes (s : PlaneScene) (st : PlaneState) : Type 0 where
       (length s.dir.now.lumps) s.sky) s.planes.now.planes
 
 -- what each call asks that draws a plane of that number
-abbrev pub CanDrawAt : PlaneScene → ℕ → PlaneState → Type 0
+abbrev pub CanDrawAt : PlaneScene → ℕ → PaintState → Type 0
 CanDrawAt s number st = CanDrawPlanes s st × (number < length s.planes.now.planes)
 
 -- the dots of the first n planes
@@ -75,19 +57,10 @@ unfoldable pub first_columns : ViewValue → Art → ℕ → ℕ → Plane → �
 first_columns v art n sky p width =
     joined_lists (λ x. sky_run v art n sky x (column p x)) (listed (λ x. x) width)
 
--- A call by the dots that it gives the canvas, where the sky has that texture; it paints with the
--- sky's texture and with the flats of planes.
-pub record PaintsPlanes {A : Type 0} (mark : Painter → ℕ → ℕ) (s : PlaneScene)
-    (dots : Art → ℕ → List Dot) (old new : PlaneState) (result : Result A CacheFault) : Type 0 where
-  pub painted : (contents : List (List ℕ)) (count sky : ℕ) →
-      HoldsArt old.shelf s.dir.now s.textures.now contents s.colormap.0 count old.cache →
-      IfSome s.sky (λ tex. sky ≡ tex.0) →
-      OnOk result (HasDots mark (dots (plane_art contents s) sky) old.canvas new.canvas)
-  pub fits : (contents : List (List ℕ)) (count sky : ℕ) →
-      HoldsArt old.shelf s.dir.now s.textures.now contents s.colormap.0 count old.cache →
-      IfSome s.sky (λ tex. sky ≡ tex.0) →
-      OnOk result (FitBeside s.dir.now.lumps s.textures.now s.colormap.0 count old.cache.size
-      (dots (plane_art contents s) sky))
-  pub draws : DrawsWith cache_fault (IsSky s.sky) (IsFlatOf s.planes.now.planes) old.shelf
-      new.shelf s.dir.now s.textures.now old.cache new.cache result
-  pub place : PlacedAlike old.canvas new.canvas
+-- A call by the dots that it gives the canvas, which are those of the files' contents and of the
+-- sky's texture; it paints with that texture and with the flats of planes.
+abbrev pub PaintsPlanes : {A : Type 0} → (Painter → ℕ → ℕ) → PlaneScene →
+    (List (List ℕ) → ℕ → List Dot) → PaintState → PaintState → Result A CacheFault → Type 0
+PaintsPlanes mark s dots old new result = Paints cache_fault mark (scene_tools s) (IsSky s.sky)
+    (IsFlatOf s.planes.now.planes) (λ sky. IfSome s.sky (λ tex. sky ≡ tex.0)) dots
+    old new result

@@ -8,20 +8,22 @@ ghost use Rattle.picture_rules.specs.plane.Skies.{plane_dots};
 ghost use Rattle.pixel_strips.specs.Dotted.{HasDots, PlacedAlike};
 ghost use Rattle.pixel_strips.specs.Standing.{StandsInFrame};
 ghost use Rattle.plane_draw.specs.Planes.{CanDrawPlane, IsSky, IsFlatOf};
-ghost use Rattle.plane_draw.specs.Scenes.{AreSamePlaneHands, CanDrawAt, CanDrawPlanes, PaintsPlanes, first_planes, plane_hands};
+ghost use Rattle.plane_draw.specs.Scenes.{CanDrawAt, CanDrawPlanes, PaintsPlanes, first_planes, plane_art};
 ghost use Rattle.plane_draw.specs.Tools.{AreSamePlaneTools, HasToolsArt, HasToolsSky, HoldsPlaneTools};
 ghost use Rattle.std.specs.Prelude.{◌<◌, ◌≤◌, ℕ, List, All, IfSome, OnOk, length};
 ghost use Rattle.texture_build.specs.Draws.{CanDraw, FitBeside, DrawsWith};
+ghost use Rattle.texture_build.specs.Hands.{AreSameHands, hands_state};
 ghost use Rattle.visplanes.specs.Planes.{plane_at};
 
 use crate::floor::draw_floor;
-use crate::scene::{PlaneHands, PlaneScene};
+use crate::scene::PlaneScene;
 use crate::sky::draw_sky;
 use crate::tools::PlaneTools;
 use lump_cache::CacheFault;
 use outside::Shelf;
 use picture_rules::Flat4;
 use pixel_strips::Canvas;
+use texture_build::Hands;
 use visplanes::{PlaneNo, Planes};
 use wad_dir::LumpNo;
 
@@ -75,7 +77,7 @@ pub fn draw_planes<S: Shelf, C: Canvas>(
         planes,
         colormap: tools.colormap,
     };
-    let mut hands = PlaneHands {
+    let mut hands = Hands {
         cache: &mut *tools.cache,
         shelf: &mut *tools.shelf,
         canvas: &mut *tools.canvas,
@@ -86,14 +88,14 @@ pub fn draw_planes<S: Shelf, C: Canvas>(
 // Paints all planes, in order of making.
 fn draw_each<S: Shelf, C: Canvas>(
     scene: &PlaneScene<'_>,
-    hands: &mut PlaneHands<'_, S, C>,
+    hands: &mut Hands<'_, S, C>,
 ) -> Result<(), CacheFault>
-    requires { CanDrawPlanes scene.now (plane_hands S.view C.view hands.old) }
-    ensures same { AreSamePlaneHands hands.old hands.new }
+    requires { CanDrawPlanes scene.now (hands_state S.view C.view hands.old) }
+    ensures same { AreSameHands hands.old hands.new }
     ensures paints { PaintsPlanes C.mark scene.now
-        (λ art sky. first_planes scene.now.view.now art sky scene.now.planes.now.planes
-        (length scene.now.planes.now.planes))
-        (plane_hands S.view C.view hands.old) (plane_hands S.view C.view hands.new) result }
+        (λ contents sky. first_planes scene.now.view.now (plane_art contents scene.now) sky
+        scene.now.planes.now.planes (length scene.now.planes.now.planes))
+        (hands_state S.view C.view hands.old) (hands_state S.view C.view hands.new) result }
 {
     for number in 0..scene.planes.count() {
         draw_one(scene, hands, PlaneNo(number as u16))?;
@@ -104,15 +106,15 @@ fn draw_each<S: Shelf, C: Canvas>(
 // Paints a plane; one without a run asks for no flat.
 fn draw_one<S: Shelf, C: Canvas>(
     scene: &PlaneScene<'_>,
-    hands: &mut PlaneHands<'_, S, C>,
+    hands: &mut Hands<'_, S, C>,
     plane: PlaneNo,
 ) -> Result<(), CacheFault>
-    requires ready { CanDrawAt scene.now plane.0 (plane_hands S.view C.view hands.old) }
-    ensures same { AreSamePlaneHands hands.old hands.new }
+    requires ready { CanDrawAt scene.now plane.0 (hands_state S.view C.view hands.old) }
+    ensures same { AreSameHands hands.old hands.new }
     ensures paints { PaintsPlanes C.mark scene.now
-        (λ art sky. plane_dots scene.now.view.now art sky plane.0
+        (λ contents sky. plane_dots scene.now.view.now (plane_art contents scene.now) sky plane.0
         (plane_at scene.now.planes.now.planes plane.0))
-        (plane_hands S.view C.view hands.old) (plane_hands S.view C.view hands.new) result }
+        (hands_state S.view C.view hands.old) (hands_state S.view C.view hands.new) result }
 {
     if scene.planes.is_empty(plane) {
         return Ok(());

@@ -10,13 +10,15 @@ ghost use Rattle.picture_rules.specs.declared.plane.Flat4.TheVariants.{Lump};
 ghost use Rattle.picture_rules.specs.plane.Skies.{plane_dots};
 ghost use Rattle.visplanes.specs.Planes.{plane_at};
 ghost use Rattle.texture_build.specs.Draws.{HoldsArt, FitBeside};
+ghost use Rattle.texture_build.specs.Hands.{AreSameHands, hands_state};
 ghost use Rattle.plane_draw.specs.Planes.{IsMarked};
-ghost use Rattle.plane_draw.specs.Scenes.{AreSamePlaneHands, CanDrawAt, PaintsPlanes, plane_hands, plane_art};
+ghost use Rattle.plane_draw.specs.Scenes.{CanDrawAt, PaintsPlanes, plane_art};
 
-use crate::scene::{PlaneHands, PlaneScene};
+use crate::scene::PlaneScene;
 use lump_cache::CacheFault;
 use outside::Shelf;
 use pixel_strips::Canvas;
+use texture_build::Hands;
 use visplanes::{PlaneNo, draw_plane};
 use wad_dir::LumpNo;
 use zone_heap::Tag;
@@ -24,18 +26,18 @@ use zone_heap::Tag;
 /// Paints a plane that is not sky and has a run, by its flat.
 pub fn draw_floor<S: Shelf, C: Canvas>(
     scene: &PlaneScene<'_>,
-    hands: &mut PlaneHands<'_, S, C>,
+    hands: &mut Hands<'_, S, C>,
     plane: PlaneNo,
     lump: LumpNo,
 ) -> Result<(), CacheFault>
-    requires ready { CanDrawAt scene.now plane.0 (plane_hands S.view C.view hands.old) }
+    requires ready { CanDrawAt scene.now plane.0 (hands_state S.view C.view hands.old) }
     requires marked { IsMarked (plane_at scene.now.planes.now.planes plane.0) }
     requires flat { (plane_at scene.now.planes.now.planes plane.0).key.flat ≡ Lump lump.0 }
-    ensures same { AreSamePlaneHands hands.old hands.new }
+    ensures same { AreSameHands hands.old hands.new }
     ensures paints { PaintsPlanes C.mark scene.now
-        (λ art sky. plane_dots scene.now.view.now art sky plane.0
+        (λ contents sky. plane_dots scene.now.view.now (plane_art contents scene.now) sky plane.0
         (plane_at scene.now.planes.now.planes plane.0))
-        (plane_hands S.view C.view hands.old) (plane_hands S.view C.view hands.new) result }
+        (hands_state S.view C.view hands.old) (hands_state S.view C.view hands.new) result }
 {
     hands.cache.fetch(hands.shelf, scene.dir, lump, Tag::Cache)?;
     paint_floor(scene, hands, plane, lump);
@@ -45,15 +47,15 @@ pub fn draw_floor<S: Shelf, C: Canvas>(
 // Paints a plane whose flat is live.
 fn paint_floor<S: Shelf, C: Canvas>(
     scene: &PlaneScene<'_>,
-    hands: &mut PlaneHands<'_, S, C>,
+    hands: &mut Hands<'_, S, C>,
     plane: PlaneNo,
     lump: LumpNo,
 )
-    requires ready { CanDrawAt scene.now plane.0 (plane_hands S.view C.view hands.old) }
+    requires ready { CanDrawAt scene.now plane.0 (hands_state S.view C.view hands.old) }
     requires flat { (plane_at scene.now.planes.now.planes plane.0).key.flat ≡ Lump lump.0 }
     requires lump { lump.0 < length scene.now.dir.now.lumps }
     requires live { IsLive hands.old.cache.now (lump_owner lump.0) }
-    ensures same { AreSamePlaneHands hands.old hands.new }
+    ensures same { AreSameHands hands.old hands.new }
     ensures cache { hands.new.cache.now ≡ hands.old.cache.now }
     ensures shelf { hands.new.shelf.now ≡ hands.old.shelf.now }
     ensures painted { (view : ShelfView) (contents : List (List ℕ)) (count sky : ℕ) →

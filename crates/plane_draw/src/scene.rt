@@ -1,8 +1,5 @@
-// The tools of planes in two parts: what stays as it is, and what is written.
+// The tools of planes that stay as they are.
 
-use lump_cache::LumpCache;
-use outside::Shelf;
-use pixel_strips::Canvas;
 use texture_build::{TexNo, Textures};
 use view_frame::View;
 use visplanes::Planes;
@@ -17,12 +14,4 @@ pub struct PlaneScene<'a> {
     pub dir: &'a Directory,
     pub planes: &'a Planes,
     pub colormap: LumpNo,
-}
-
-/// What is written while they are drawn: the cache by its shelf, and the canvas.
-#[derive(Drop)]
-pub struct PlaneHands<'a, S: Shelf, C: Canvas> {
-    pub cache: &'a mut LumpCache,
-    pub shelf: &'a mut S,
-    pub canvas: &'a mut C,
 }

@@ -15,9 +15,10 @@ ghost use Rattle.visplanes.specs.Planes.{plane_at};
 ghost use Rattle.texture_build.specs.Sources.{IsColumnLive, IsColumnThere, column_in};
 ghost use Rattle.texture_build.specs.Views.{prepared_texture};
 ghost use Rattle.texture_build.specs.Draws.{HoldsArt, FitBeside};
-ghost use Rattle.plane_draw.specs.Scenes.{AreSamePlaneHands, CanDrawAt, CanDrawPlanes, PaintsPlanes, plane_hands, plane_art, sky_run};
+ghost use Rattle.texture_build.specs.Hands.{AreSameHands, hands_state};
+ghost use Rattle.plane_draw.specs.Scenes.{CanDrawAt, CanDrawPlanes, PaintsPlanes, plane_art, sky_run};
 
-use crate::scene::{PlaneHands, PlaneScene};
+use crate::scene::PlaneScene;
 use art_rules::ColumnLookup;
 use fx_words::{minus, plus, times, turn};
 use lump_cache::CacheFault;
@@ -25,7 +26,7 @@ use outside::Shelf;
 use picture_rules::{SKY_MAP, SKY_MID, SKY_SHIFT};
 use pixel_rules::SKY;
 use pixel_strips::{Canvas, ColumnStrip, paint_column};
-use texture_build::{Column, TexNo};
+use texture_build::{Column, Hands, TexNo};
 use view_frame::View;
 use visplanes::PlaneNo;
 
@@ -96,16 +97,16 @@ fn sky_strip<'c>(
 /// Paints a sky plane, from its first to its last marked column; nothing without a texture of the sky.
 pub fn draw_sky<S: Shelf, C: Canvas>(
     scene: &PlaneScene<'_>,
-    hands: &mut PlaneHands<'_, S, C>,
+    hands: &mut Hands<'_, S, C>,
     plane: PlaneNo,
 ) -> Result<(), CacheFault>
-    requires ready { CanDrawAt scene.now plane.0 (plane_hands S.view C.view hands.old) }
+    requires ready { CanDrawAt scene.now plane.0 (hands_state S.view C.view hands.old) }
     requires flat { (plane_at scene.now.planes.now.planes plane.0).key.flat ≡ Sky }
-    ensures same { AreSamePlaneHands hands.old hands.new }
+    ensures same { AreSameHands hands.old hands.new }
     ensures paints { PaintsPlanes C.mark scene.now
-        (λ art sky. plane_dots scene.now.view.now art sky plane.0
+        (λ contents sky. plane_dots scene.now.view.now (plane_art contents scene.now) sky plane.0
         (plane_at scene.now.planes.now.planes plane.0))
-        (plane_hands S.view C.view hands.old) (plane_hands S.view C.view hands.new) result }
+        (hands_state S.view C.view hands.old) (hands_state S.view C.view hands.new) result }
 {
     let Some(tex) = scene.sky else {
         return Ok(());
@@ -120,19 +121,19 @@ pub fn draw_sky<S: Shelf, C: Canvas>(
 // Paints column `x` of a sky plane, if it has a run there.
 fn draw_sky_column<S: Shelf, C: Canvas>(
     scene: &PlaneScene<'_>,
-    hands: &mut PlaneHands<'_, S, C>,
+    hands: &mut Hands<'_, S, C>,
     plane: PlaneNo,
     tex: TexNo,
     x: u16,
 ) -> Result<(), CacheFault>
-    requires ready { CanDrawAt scene.now plane.0 (plane_hands S.view C.view hands.old) }
+    requires ready { CanDrawAt scene.now plane.0 (hands_state S.view C.view hands.old) }
     requires sky { scene.now.sky ≡ Some tex }
     requires column { x < scene.now.view.now.shape.width }
-    ensures same { AreSamePlaneHands hands.old hands.new }
+    ensures same { AreSameHands hands.old hands.new }
     ensures paints { PaintsPlanes C.mark scene.now
-        (λ art sky. sky_run scene.now.view.now art plane.0 tex.0 x
+        (λ contents sky. sky_run scene.now.view.now (plane_art contents scene.now) plane.0 tex.0 x
         (column (plane_at scene.now.planes.now.planes plane.0) x))
-        (plane_hands S.view C.view hands.old) (plane_hands S.view C.view hands.new) result }
+        (hands_state S.view C.view hands.old) (hands_state S.view C.view hands.new) result }
 {
     let Some((first, last)) = scene.planes.column(plane, x) else {
         return Ok(());
@@ -150,19 +151,19 @@ fn draw_sky_column<S: Shelf, C: Canvas>(
 // Paints a run of a sky plane in one of its columns.
 fn draw_sky_rows<S: Shelf, C: Canvas>(
     scene: &PlaneScene<'_>,
-    hands: &mut PlaneHands<'_, S, C>,
+    hands: &mut Hands<'_, S, C>,
     rows: &SkyRows,
 ) -> Result<(), CacheFault>
-    requires ready { CanDrawPlanes scene.now (plane_hands S.view C.view hands.old) }
+    requires ready { CanDrawPlanes scene.now (hands_state S.view C.view hands.old) }
     requires sky { scene.now.sky ≡ Some rows.now.tex }
     requires column { rows.now.x < scene.now.view.now.shape.width }
     requires rows { rows.now.first ≤ rows.now.last →
         rows.now.last < scene.now.view.now.shape.height }
-    ensures same { AreSamePlaneHands hands.old hands.new }
+    ensures same { AreSameHands hands.old hands.new }
     ensures paints { PaintsPlanes C.mark scene.now
-        (λ art sky. sky_run scene.now.view.now art rows.now.number rows.now.tex.0 rows.now.x
-        (Some (rows.now.first, rows.now.last)))
-        (plane_hands S.view C.view hands.old) (plane_hands S.view C.view hands.new) result }
+        (λ contents sky. sky_run scene.now.view.now (plane_art contents scene.now)
+        rows.now.number rows.now.tex.0 rows.now.x (Some (rows.now.first, rows.now.last)))
+        (hands_state S.view C.view hands.old) (hands_state S.view C.view hands.new) result }
 {
     if rows.last < rows.first {
         return Ok(());
@@ -179,11 +180,11 @@ fn draw_sky_rows<S: Shelf, C: Canvas>(
 // Paints a run, whose column of the sky's texture is live.
 fn paint_sky<S: Shelf, C: Canvas>(
     scene: &PlaneScene<'_>,
-    hands: &mut PlaneHands<'_, S, C>,
+    hands: &mut Hands<'_, S, C>,
     rows: &SkyRows,
     lookup: ColumnLookup,
 )
-    requires ready { CanDrawPlanes scene.now (plane_hands S.view C.view hands.old) }
+    requires ready { CanDrawPlanes scene.now (hands_state S.view C.view hands.old) }
     requires sky { scene.now.sky ≡ Some rows.now.tex }
     requires column { rows.now.x < scene.now.view.now.shape.width }
     requires ordered { rows.now.first ≤ rows.now.last }
@@ -192,7 +193,7 @@ fn paint_sky<S: Shelf, C: Canvas>(
         (sky_column scene.now.view.now rows.now.x) }
     requires there { IsColumnThere scene.now.dir.now.lumps lookup }
     requires live { IsColumnLive rows.now.tex.0 hands.old.cache.now lookup }
-    ensures same { AreSamePlaneHands hands.old hands.new }
+    ensures same { AreSameHands hands.old hands.new }
     ensures cache { hands.new.cache.now ≡ hands.old.cache.now }
     ensures shelf { hands.new.shelf.now ≡ hands.old.shelf.now }
     ensures painted { (view : ShelfView) (contents : List (List ℕ)) (count : ℕ) →

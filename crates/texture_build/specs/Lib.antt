@@ -8,3 +8,4 @@ pub mod Ready
 pub mod Arts
 pub mod Draws
 pub mod Paints
+pub mod Hands

@@ -3,12 +3,14 @@
 //! Rules: `art_rules`, Textures, Columns, Lookups and Wanted. `specs/Views` has what a contract
 //! sees, `specs/Parts` how the patches of a texture come, `specs/Sources` what a column is read
 //! from, `specs/Asked` what a call may ask of the zone, `specs/Composites` which composites a cache
-//! has, `specs/Builds` how one is built, `specs/Ready` what it means that a column is made live.
+//! has, `specs/Builds` how one is built, `specs/Ready` what it means that a column is made live,
+//! `specs/Paints` what a call that paints with them leaves.
 //! Proved: each call. Tested only: that memory suffices. The original: r_data.c.
 #![tactic(auto)]
 
 mod build;
 mod column;
+mod hands;
 mod lumps;
 mod place;
 mod prepare;
@@ -20,6 +22,7 @@ mod textures;
 
 pub use art_rules::{ColumnLookup, TexRefusal};
 pub use column::Column;
+pub use hands::Hands;
 pub use source::ColumnSource;
 pub use texture_lists::{TexFault, TexNo};
 pub use textures::Textures;

@@ -3,8 +3,7 @@ use Rattle.std.proofs.Common.{Some, w16, rules, sym, subst}
 use Rattle.std.specs.Prelude.{Contains}
 use Rattle.std.proofs.lemmas.Int.{to_z-of_z}
 use Rattle.art_rules.specs.Books.{book_lumps}
-use Rattle.weapon_overlay.proofs.LayerLemmas.{layer-none}
-use Rattle.weapon_overlay.proofs.StepLemmas.{layers-same, layers-wider}
+use Rattle.texture_build.proofs.PaintLemmas.{paints-none, paints-same, paints-wider}
 use Rattle.weapon_overlay.specs.Layers.{layer_value}
 use Rattle.doom_run.proofs.PictureLemmas.{layer_there}
 use Rattle.doom_run.proofs.RowLemmas.{layer_among, row_dots-bare, row_dots-other, row_dots-own}
@@ -12,14 +11,13 @@ use Rattle.doom_run.proofs.layers.draw_row.Goals as goal
 
 pub returns-then-row-scene : goal.returns-then-row-scene
 returns-then-row-scene g c = record {
-  paints = layer-none (g.S.Shelf.view c.args.shelf.now) c.args.cache.now (g.C.Canvas.view c.args.canvas.now) tt
-      (λ art. row_dots-other c.args.scene.now.view.now c.args.scene.now.book.now c.args.light c.args.scene.now.number c.args.place c.args.row.now art c.if-row-scene.true);
+  paints = λ textures. paints-same _ (λ contents q is. sym (row_dots-other c.args.scene.now.view.now c.args.scene.now.book.now c.args.light c.args.scene.now.number c.args.place c.args.row.now _ c.if-row-scene.true)) (paints-none _ tt);
 }
 
 pub returns-in_default : goal.returns-in_default
 returns-in_default g c = record {
-  paints = layer-none (g.S.Shelf.view c.args.shelf.now) c.args.cache.now (g.C.Canvas.view c.args.canvas.now) tt
-      (λ art. row_dots-bare c.args.scene.now.view.now c.args.scene.now.book.now c.args.light _ c.args.scene.now.number c.args.place c.args.row.now art (to_z-of_z w16 c.args.light (search rules)) c.in_default.ensures);
+  paints = λ textures.
+      paints-same _ (λ contents q is. sym (row_dots-bare c.args.scene.now.view.now c.args.scene.now.book.now c.args.light _ c.args.scene.now.number c.args.place c.args.row.now _ (to_z-of_z w16 c.args.light (search rules)) c.in_default.ensures)) (paints-none _ tt);
 }
 
 pub overlay-requires-clause-picture : goal.overlay-requires-clause-picture
@@ -32,6 +30,6 @@ returns g c =
     let among = layer_among c.args.scene.now.book.now _ c.args.place c.args.row.now (layer_value c.in-Some.layer) c.in-Some.ensures in
     let same = to_z-of_z w16 c.args.light (search rules) in
     record {
-      paints = layers-wider (λ lump is. subst (Contains (book_lumps c.args.scene.now.book.now)) (sym is) among)
-          (layers-same _ (λ art. row_dots-own c.args.scene.now.view.now c.args.scene.now.book.now c.args.light _ c.args.scene.now.number c.args.place c.args.row.now (layer_value c.in-Some.layer) art same c.if-row-scene.false c.in-Some.ensures) c.overlay.ensures.paints);
+      paints = λ textures. paints-wider (λ number none. none) (λ lump is. subst (Contains (book_lumps c.args.scene.now.book.now)) (sym is) among)
+          (paints-same _ (λ contents q is. row_dots-own c.args.scene.now.view.now c.args.scene.now.book.now c.args.light _ c.args.scene.now.number c.args.place c.args.row.now (layer_value c.in-Some.layer) _ same c.if-row-scene.false c.in-Some.ensures) (c.overlay.ensures.paints textures));
     }

@@ -2,11 +2,12 @@
 use Rattle.std.proofs.Common.{take, Ok}
 use Rattle.std.specs.Prelude.{Contains}
 use Rattle.art_rules.specs.Books.{book_lumps}
-use Rattle.weapon_overlay.specs.Layers.{PaintsLayer, layer_state, layer_tools}
+use Rattle.texture_build.specs.Paints.{paint_state}
+use Rattle.weapon_overlay.specs.Layers.{PaintsLayer}
 use Rattle.doom_run.proofs.RowLemmas.{rows_dots}
 use Rattle.doom_run.proofs.layers.draw_rows.Given as goal
 
 abbrev pub invariant-loop-i : goal.invariant-loop-i
 invariant-loop-i g l =
-    PaintsLayer {A = Unit {0}} g.C.Canvas.mark (layer_tools l.scene.dir.now l.scene.colormap.0) (Contains (book_lumps l.scene.book.now)) (rows_dots l.scene.view.now l.scene.book.now l.light l.scene.number 1 (take l.i l.rows))
-    (layer_state (g.S.Shelf.view l.fn.shelf) l.fn.cache (g.C.Canvas.view l.fn.canvas)) (layer_state (g.S.Shelf.view l.shelf) l.cache (g.C.Canvas.view l.canvas)) (Ok tt)
+    PaintsLayer {A = Unit {0}} g.C.Canvas.mark l.scene.dir.now l.scene.colormap.0 (Contains (book_lumps l.scene.book.now)) (rows_dots l.scene.view.now l.scene.book.now l.light l.scene.number 1 (take l.i l.rows))
+    (paint_state (g.S.Shelf.view l.fn.shelf) l.fn.cache (g.C.Canvas.view l.fn.canvas)) (paint_state (g.S.Shelf.view l.shelf) l.cache (g.C.Canvas.view l.canvas)) (Ok tt)

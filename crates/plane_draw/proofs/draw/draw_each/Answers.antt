@@ -1,14 +1,14 @@
 -- One plane after the other.
 use Rattle.std.proofs.Common.{◌≡◌, length, ap, arith}
-use Rattle.plane_draw.specs.Scenes.{first_planes}
+use Rattle.plane_draw.specs.Scenes.{first_planes, plane_art}
 use Rattle.plane_draw.proofs.KeptLemmas.{keeps-more, keeps-start}
 use Rattle.plane_draw.proofs.PlaneLemmas.{planes-more, planes-start}
-use Rattle.plane_draw.proofs.StepLemmas.{paints-same, paints-then_stop}
+use Rattle.texture_build.proofs.PaintLemmas.{paints-same, paints-then_stop}
 use Rattle.plane_draw.proofs.draw.draw_each.Goals as goal
 
 pub loop-number-init : goal.loop-number-init
 loop-number-init g c =
-    keeps-start (λ art sky. planes-start _ art sky _) c.requires
+    keeps-start (λ contents sky. planes-start _ (plane_art contents c.args.scene.now) sky _) c.requires
 
 pub returns-in_err-draw_one-clause-paints : goal.returns-in_err-draw_one-clause-paints
 returns-in_err-draw_one-clause-paints g c =
@@ -16,10 +16,10 @@ returns-in_err-draw_one-clause-paints g c =
 
 pub loop-number-preserved : goal.loop-number-preserved
 loop-number-preserved g c =
-    keeps-more (λ art sky. planes-more _ art sky _ c.loop-number.number) c.loop-number.invariant c.in_ok-draw_one.ensures.same c.in_ok-draw_one.ensures.paints
+    keeps-more (λ contents sky. planes-more _ (plane_art contents c.args.scene.now) sky _ c.loop-number.number) c.loop-number.invariant c.in_ok-draw_one.ensures.same c.in_ok-draw_one.ensures.paints
 
 pub returns-clause-paints : goal.returns-clause-paints
 returns-clause-paints g c =
     let s = c.args.scene.now in
     let end : c.loop-number.number ≡ length s.planes.now.planes = omega arith in
-    paints-same _ (λ art sky is. ap (first_planes s.view.now art sky s.planes.now.planes) end) c.loop-number.invariant.paints
+    paints-same _ (λ contents sky is. ap (first_planes s.view.now (plane_art contents s) sky s.planes.now.planes) end) c.loop-number.invariant.paints

@@ -1,14 +1,15 @@
 -- A plane without a run has no dots.
 use Rattle.visplanes.specs.Planes.{plane_at}
+use Rattle.plane_draw.specs.Scenes.{plane_art}
 use Rattle.plane_draw.proofs.CanLemmas.{marked-some}
 use Rattle.plane_draw.proofs.PlaneLemmas.{plane-empty}
-use Rattle.plane_draw.proofs.StepLemmas.{paints-none, paints-same}
+use Rattle.texture_build.proofs.PaintLemmas.{paints-none, paints-same}
 use Rattle.plane_draw.proofs.draw.draw_one.Goals as goal
 
 pub returns-then-is_empty-clause-paints : goal.returns-then-is_empty-clause-paints
 returns-then-is_empty-clause-paints g c =
     let s = c.args.scene.now in
-    paints-same _ (λ art sky is. plane-empty s.view.now art sky c.args.plane.0 (plane_at s.planes.now.planes c.args.plane.0) (c.is_empty.ensures.0 c.if-is_empty.true)) (paints-none _ _)
+    paints-same _ (λ contents sky is. plane-empty s.view.now (plane_art contents s) sky c.args.plane.0 (plane_at s.planes.now.planes c.args.plane.0) (c.is_empty.ensures.0 c.if-is_empty.true)) (paints-none _ _)
 
 pub draw_floor-requires-clause-marked : goal.draw_floor-requires-clause-marked
 draw_floor-requires-clause-marked g c =

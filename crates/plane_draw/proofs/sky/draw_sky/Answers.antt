@@ -3,17 +3,18 @@ use Rattle.std.proofs.Common.{◌≡◌, ◌<◌, ◌≤◌, ℕ, None, refl, ap
 use Rattle.view_rules.specs.declared.ViewShape.{ViewShape}
 use Rattle.picture_rules.specs.plane.Planes.{column}
 use Rattle.visplanes.specs.Planes.{plane_at}
+use Rattle.plane_draw.specs.Scenes.{plane_art}
 use Rattle.plane_draw.proofs.CanLemmas.{sky-number}
 use Rattle.plane_draw.proofs.KeptLemmas.{keeps-more, keeps-start}
 use Rattle.plane_draw.proofs.PlaneLemmas.{columns-end, columns-more, columns-past, columns-start}
-use Rattle.plane_draw.proofs.StepLemmas.{paints-same, paints-then_stop}
+use Rattle.texture_build.proofs.PaintLemmas.{paints-same, paints-then_stop}
 use Rattle.plane_draw.proofs.sky.draw_sky.Goals as goal
 
 pub loop-x-init : goal.loop-x-init
 loop-x-init g c =
     let p = plane_at c.args.scene.now.planes.now.planes c.args.plane.0 in (
-      keeps-start (λ art sky. columns-start _ art c.args.plane.0 c.in-Some.tex.0 _
-          ∙ columns-past c.args.scene.now.view.now art c.args.plane.0 c.in-Some.tex.0 p 0 c.marked-first.result.0
+      keeps-start (λ contents sky. columns-start _ (plane_art contents c.args.scene.now) c.args.plane.0 c.in-Some.tex.0 _
+          ∙ columns-past c.args.scene.now.view.now (plane_art contents c.args.scene.now) c.args.plane.0 c.in-Some.tex.0 p 0 c.marked-first.result.0
           (λ x from to. c.marked-first.ensures.before x to) (λ x from to. absurd (omega arith))) c.requires.ready.0,
       inl refl,
     )
@@ -26,7 +27,7 @@ pub loop-x-preserved : goal.loop-x-preserved
 loop-x-preserved g c =
     let e = c.in_ok-draw_sky_column.ensures in
     let width = ap (λ (shape : ViewShape). shape.width) c.shape.ensures.value in (
-      keeps-more (λ art sky. columns-more _ art c.args.plane.0 c.in-Some.tex.0 _ c.loop-x.x) c.loop-x.invariant.0 e.same e.paints,
+      keeps-more (λ contents sky. columns-more _ (plane_art contents c.args.scene.now) c.args.plane.0 c.in-Some.tex.0 _ c.loop-x.x) c.loop-x.invariant.0 e.same e.paints,
       inr (omega (arith, width)),
     )
 
@@ -43,5 +44,5 @@ returns-clause-paints g c =
       | inl is ↦ m.ensures.before x (omega (arith, is))
       | inr in_view ↦ absurd (omega (arith, in_view))
     ] in
-    paints-same _ (λ art sky is. columns-past s.view.now art c.args.plane.0 c.in-Some.tex.0 p c.loop-x.x s.view.now.shape.width up down
-    ∙ columns-end s.view.now art c.args.plane.0 sky c.in-Some.tex.0 p c.requires.flat (sky-number s.sky c.in-Some.tex sky c.in-Some.is is)) c.loop-x.invariant.0.paints
+    paints-same _ (λ contents sky is. columns-past s.view.now (plane_art contents s) c.args.plane.0 c.in-Some.tex.0 p c.loop-x.x s.view.now.shape.width up down
+    ∙ columns-end s.view.now (plane_art contents s) c.args.plane.0 sky c.in-Some.tex.0 p c.requires.flat (sky-number s.sky c.in-Some.tex sky c.in-Some.is is)) c.loop-x.invariant.0.paints

@@ -1,15 +1,15 @@
 -- A column with a run, and one without.
 use Rattle.std.proofs.Common.{sym, ap, ◌∙◌}
 use Rattle.visplanes.specs.Planes.{plane_at}
-use Rattle.plane_draw.specs.Scenes.{sky_run}
+use Rattle.plane_draw.specs.Scenes.{plane_art, sky_run}
 use Rattle.plane_draw.proofs.CanLemmas.{plane-can, seen-last}
 use Rattle.plane_draw.proofs.PlaneLemmas.{sky-no_run}
-use Rattle.plane_draw.proofs.StepLemmas.{paints-none, paints-same}
+use Rattle.texture_build.proofs.PaintLemmas.{paints-none, paints-same}
 use Rattle.plane_draw.proofs.sky.draw_sky_column.Goals as goal
 
 pub returns-in_default-clause-paints : goal.returns-in_default-clause-paints
 returns-in_default-clause-paints g c =
-    paints-same _ (λ art sky is. sky-no_run c.args.scene.now.view.now art c.args.plane.0 c.args.tex.0 c.args.x _ (sym c.column.ensures ∙ c.in_default.is)) (paints-none _ _)
+    paints-same _ (λ contents sky is. sky-no_run c.args.scene.now.view.now (plane_art contents c.args.scene.now) c.args.plane.0 c.args.tex.0 c.args.x _ (sym c.column.ensures ∙ c.in_default.is)) (paints-none _ _)
 
 pub draw_sky_rows-requires-clause-rows : goal.draw_sky_rows-requires-clause-rows
 draw_sky_rows-requires-clause-rows g c = λ ordered.
@@ -18,4 +18,4 @@ draw_sky_rows-requires-clause-rows g c = λ ordered.
 
 pub returns-clause-paints : goal.returns-clause-paints
 returns-clause-paints g c =
-    paints-same _ (λ art sky is. ap (sky_run c.args.scene.now.view.now art c.args.plane.0 c.args.tex.0 c.args.x) c.in-Some.ensures) c.draw_sky_rows.ensures.paints
+    paints-same _ (λ contents sky is. ap (sky_run c.args.scene.now.view.now (plane_art contents c.args.scene.now) c.args.plane.0 c.args.tex.0 c.args.x) c.in-Some.ensures) c.draw_sky_rows.ensures.paints

@@ -7,16 +7,17 @@ use Rattle.texture_build.specs.Views.{prepared_texture}
 use Rattle.texture_build.proofs.DrawLemmas.{draws-wider}
 use Rattle.texture_build.proofs.LiveLemmas.{draws-ready}
 use Rattle.plane_draw.specs.Planes.{IsFlatOf}
+use Rattle.plane_draw.specs.Scenes.{plane_art}
 use Rattle.plane_draw.proofs.CanLemmas.{sky-among}
 use Rattle.plane_draw.proofs.PlaneLemmas.{sky-none}
-use Rattle.plane_draw.proofs.StepLemmas.{live-paints, paints-none, paints-same}
+use Rattle.texture_build.proofs.PaintLemmas.{paints-live, paints-none, paints-same}
 use Rattle.plane_draw.proofs.sky.draw_sky_rows.Goals as goal
 
 pub returns-then-rows-clause-paints : goal.returns-then-rows-clause-paints
 returns-then-rows-clause-paints g c =
     let rows = c.args.rows.now in
     let none : rows.last < rows.first = grind (arith, nat_tests) in
-    paints-same _ (λ art sky is. sky-none c.args.scene.now.view.now art rows.number rows.tex.0 rows.x rows.first rows.last none) (paints-none _ _)
+    paints-same _ (λ contents sky is. sky-none c.args.scene.now.view.now (plane_art contents c.args.scene.now) rows.number rows.tex.0 rows.x rows.first rows.last none) (paints-none _ _)
 
 pub returns-clause-paints : goal.returns-clause-paints
 returns-clause-paints g c =
@@ -26,9 +27,10 @@ returns-clause-paints g c =
     let is_lookup : c.lookup-lookup.result ≡ column_in (prepared_texture s.textures.now rows.tex.0) (sky_column s.view.now rows.x) =
     c.lookup-lookup.ensures.value
     ∙ ap (column_in (prepared_texture s.textures.now rows.tex.0)) (to_z-of_z {w = w32} {z = c.sky_column-column.result} (search rules) ∙ c.sky_column-column.ensures) in
-    live-paints tt
+    paints-live tt
     (draws-wider {lumps = IsFlatOf s.planes.now.planes} (sky-among s.sky rows.tex c.requires.sky) (λ lump is. is)
     (draws-ready rows.tex.0 (sky_column s.view.now rows.x) c.lookup-lookup.result is_lookup
     r.keeps r.readies))
-    (λ view contents count sky. c.paint_sky.ensures.painted view contents count) (λ view contents count sky. c.paint_sky.ensures.fits view contents count) c.paint_sky.ensures.place
+    (λ view contents count sky hold is. c.paint_sky.ensures.painted view contents count hold) (λ view contents count sky hold is. c.paint_sky.ensures.fits view contents count hold)
+    c.paint_sky.ensures.place
     (ap g.S.Shelf.view c.paint_sky.ensures.shelf) c.paint_sky.ensures.cache
