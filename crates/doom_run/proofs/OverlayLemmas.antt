@@ -26,6 +26,7 @@ use Rattle.picture_rules.specs.Picture.{AreInView}
 use Rattle.picture_rules.proofs.FrameLemmas.{in_view-append}
 use Rattle.pixel_trace.proofs.SeenLemmas.{overlaid-dots}
 use Rattle.texture_build.specs.Draws.{DrawsWith, FitBeside}
+use Rattle.texture_build.specs.Paints.{paint_state}
 use Rattle.texture_build.proofs.BesideLemmas.{fit_beside-append}
 use Rattle.texture_build.proofs.DrawLemmas.{draws-above, draws-stop, draws-then, draws-wider, holds_art-later}
 use Rattle.sound_scene.specs.Sound.{textures_view}
@@ -34,8 +35,7 @@ use Rattle.level_audit.specs.declared.scene_load.load.LoadedScene.{LoadedScene}
 use Rattle.frame_core.specs.declared.fault.ViewFault.{ViewFault}
 use Rattle.frame_core.specs.Faults.{from_cache, view_fault}
 use Rattle.frame_core.specs.Scenes.{scene_of}
-use Rattle.frame_core.specs.Views.{IsViewLump, IsViewTexture, PaintsView, placed_for, view_scene, view_state}
-use Rattle.texture_build.specs.Paints.{paint_state}
+use Rattle.frame_core.specs.Views.{IsViewLump, IsViewTexture, PaintsView, placed_for, view_scene}
 use Rattle.texture_build.proofs.PaintLemmas.{on_ok_err, paints-none, paints-same, paints-wider}
 use Rattle.weapon_overlay.specs.Layers.{PaintsLayer}
 use Rattle.weapon_overlay.proofs.InViewLemmas.{layers_dots-in}
@@ -141,7 +141,7 @@ layers_above old lower one =
 abbrev pub DrawsFirst : (Painter → ℕ → ℕ) → Eye → LoadedScene → Heap → ShelfView → ShelfView → CanvasView → CanvasView → Type 0
 DrawsFirst mark eye old z view between before drawn =
     PaintsView {A = Unit {0}} mark (view_scene (view_of old.files.tables eye) old.scene.scene old.files.dir) (view_paints (view_of old.files.tables eye))
-    (view_state view old.cache (placed_for (view_of old.files.tables eye) before)) (view_state between z drawn) (Ok tt)
+    (paint_state view old.cache (placed_for (view_of old.files.tables eye) before)) (paint_state between z drawn) (Ok tt)
 
 module _ {mark : Painter → ℕ → ℕ} (k : ℕ) (eye : Eye) (old new : LoadedScene) (z : Heap) {view between after : ShelfView} {before drawn now : CanvasView} where
   -- after it the layers
@@ -153,14 +153,14 @@ module _ {mark : Painter → ℕ → ℕ} (k : ℕ) (eye : Eye) (old new : Loade
       let v = view_of old.files.tables eye in
       let layers = layers_of (loaded_value old) k eye in
       record {
-        painted = λ contents count hold. overlaid-dots v (loaded_scene contents old) layers (one.painted contents count hold) (two.painted contents count (holds_art-later one.draws.keeps hold));
+        painted = λ contents count hold. overlaid-dots v (loaded_scene contents old) layers (one.painted contents count tt hold tt) (two.painted contents count (holds_art-later one.draws.keeps hold));
         in_view = λ bytes.
             in_view-append v.shape (view_paints v (scene_of bytes old.scene.scene)) (joined_lists (weapon_dots v (scene_of bytes old.scene.scene).art) layers) (inside bytes)
             (layers_dots-in v (scene_of bytes old.scene.scene).art layers (omega (arith, window.height)) (omega (arith, window.width)));
         window = window;
         fits = λ contents count hold.
             fit_beside-append old.files.dir.lumps (textures_view old.scene.scene) old.scene.scene.base.colormap count old.cache.size (view_paints v (loaded_scene contents old)) (layers_dots k eye old (loaded_scene contents old))
-            (one.fits contents count hold)
+            (one.fits contents count tt hold tt)
             (subst (λ (n : ℕ). FitBeside old.files.dir.lumps (textures_view old.scene.scene) old.scene.scene.base.colormap count n (layers_dots k eye old (loaded_scene contents old))) one.draws.keeps.counts.0
             (two.fits contents count (holds_art-later one.draws.keeps hold)));
         draws = draws-then (draws-wider {among = IsViewTexture old.scene.scene} {pictures = IsLayeredLump old} (λ number among. among) (λ lump seen. inl seen) one.draws) (layers_above old (Ok tt) two.draws);

@@ -1,18 +1,14 @@
 -- Laws of the planes of a view: what drawing them asks is there, and what it paints is the view's.
-use Rattle.std.proofs.Common.{◌≡◌, inl, inr, ℕ, ◌<◌, ◌||◌, ◌==◌, Bool, true, false, List, [], length, get_or, Option, Some, None, Result, Ok, Err, IsErrAnd, eq-eqb, refl, sym, ap, subst, ◌∙◌, arith}
-use Rattle.std.specs.Prelude.{All, IfSome, IsSome, OnOk, option_map, unwrap_or}
+use Rattle.std.proofs.Common.{◌≡◌, inl, inr, ℕ, ◌<◌, ◌||◌, ◌==◌, Bool, true, false, List, [], length, get_or, Option, Some, None, Result, eq-eqb, refl, sym, ap, subst, ◌∙◌, arith}
+use Rattle.std.specs.Prelude.{All, IfSome, IsSome, option_map, unwrap_or, ⊤}
 use Rattle.std.specs.List.{list_any}
 use Rattle.std.proofs.lemmas.List.Elements.{All-contains}
 use Rattle.std.proofs.lemmas.List.Folds.{list_any_at}
-use Rattle.outside.specs.Faults.{fault_above}
 use Rattle.lump_rules.specs.declared.wad.Lump.{Lump}
 use Rattle.lump_rules.specs.Contents.{lump_bytes}
 use Rattle.zone_rules.specs.Zones.{Heap}
 use Rattle.lump_cache.specs.Caches.{cache_fault}
 use Rattle.lump_cache.specs.declared.fault.CacheFault.{CacheFault}
-use Rattle.lump_cache.specs.declared.fault.CacheFault.TheVariants as cache
-use Rattle.lump_cache.proofs.CallLemmas.{result_above}
-use Rattle.wad_dir.specs.DirectoryView.{DirectoryView}
 use Rattle.view_rules.specs.View.{ViewValue}
 use Rattle.view_rules.specs.declared.ViewShape.{ViewShape}
 use Rattle.level_rules.specs.declared.Sector.{Sector}
@@ -24,7 +20,6 @@ use Rattle.art_rules.specs.Books.{book_lumps}
 use Rattle.pixel_rules.specs.declared.Painter.{Painter}
 use Rattle.pixel_rules.specs.Dots.{Dot}
 use Rattle.pixel_strips.specs.Canvases.{CanvasView}
-use Rattle.pixel_strips.specs.Dotted.{HasDots, PlacedAlike}
 use Rattle.picture_rules.specs.declared.plane.Flat4.{Flat4}
 use Rattle.picture_rules.specs.declared.plane.Flat4.TheVariants as flat
 use Rattle.picture_rules.specs.plane.Built.{planes_of}
@@ -39,19 +34,21 @@ use Rattle.picture_rules.specs.Planes.{planes_dots, view_planes}
 use Rattle.picture_rules.specs.Scene.{Scene}
 use Rattle.texture_lists.specs.declared.number.TexNo.{TexNo}
 use Rattle.texture_build.specs.Arts.{view_art}
-use Rattle.texture_build.specs.Draws.{CanDraw, DrawsWith, FitBeside, HoldsArt}
+use Rattle.texture_build.specs.Draws.{CanDraw}
+use Rattle.texture_build.specs.Paints.{PaintState, Paints, paint_tools}
 use Rattle.texture_build.specs.Views.{IsPrepared, TexturesView}
-use Rattle.texture_build.proofs.DrawLemmas.{draws-above, draws-wider}
+use Rattle.texture_build.proofs.DrawLemmas.{IsMapped}
+use Rattle.texture_build.proofs.PaintLemmas.{paints-mapped, paints-same, paints-wider}
 use Rattle.plane_draw.specs.Planes.{CanDrawPlane, HasFlat, IsFlatOf, IsSky}
 use Rattle.sound_scene.specs.Sound.{textures_view}
 use Rattle.frame_core.specs.declared.bench.Bench.{Bench}
 use Rattle.frame_core.specs.declared.fault.ViewFault.{ViewFault}
-use Rattle.frame_core.specs.Faults.{from_cache, view_fault}
+use Rattle.frame_core.specs.Faults.{from_cache}
 use Rattle.frame_core.specs.Scenes.{lists_of, scene_of}
-use Rattle.frame_core.specs.Views.{CanDrawView, IsViewLump, IsViewTexture, PaintsView, ViewScene, ViewState, held_scene}
+use Rattle.frame_core.specs.Views.{CanDrawView, IsViewLump, IsViewTexture, PaintsView, ViewScene, held_scene}
 use Rattle.frame_core.specs.Walked.{HasWalked, IsFlatOf as IsFlatIn, IsFlatShown, IsPlaneIn, planes_after}
 use Rattle.frame_core.specs.Painters.{HasWalkedView, IsPlacedIn, limits_in}
-use Rattle.frame_core.proofs.PaintLemmas.{paints-stop, paints-value}
+use Rattle.frame_core.proofs.PaintLemmas.{cache_above}
 use Rattle.frame_core.proofs.SceneLemmas.{flats_at, no_flats, no_sector, patches_there, sky_of_surface, surface_from}
 
 -- the sky's texture of a scene, as drawing has it
@@ -113,11 +110,12 @@ unfolding planes_after view_planes planes_of
 planes_are v bytes scene limits events b walked = walked.built.planes
 
 -- the art and the sky of the picture's scene
-held_art : (bytes : ℕ → List ℕ) (scene : SceneValue) → (scene_of bytes scene).art ≡ view_art bytes (textures_view scene) scene.base.colormap
+pub held_art : (bytes : ℕ → List ℕ) (scene : SceneValue) (textures : TexturesView) (colormap : ℕ) → textures ≡ textures_view scene → colormap ≡ scene.base.colormap →
+    (scene_of bytes scene).art ≡ view_art bytes textures colormap
 unfolding scene_of
-held_art bytes scene = refl
+held_art bytes scene textures colormap e f = sym (λ i. view_art bytes (e i) (f i))
 
-held_sky : (bytes : ℕ → List ℕ) (scene : SceneValue) (sky : Option TexNo) → IsSkyOf scene sky → IfSome sky (λ (tex : TexNo). (scene_of bytes scene).sky ≡ tex.0)
+pub held_sky : (bytes : ℕ → List ℕ) (scene : SceneValue) (sky : Option TexNo) → IsSkyOf scene sky → IfSome sky (λ (tex : TexNo). (scene_of bytes scene).sky ≡ tex.0)
 unfolding scene_of
 held_sky bytes scene None is = tt
 held_sky bytes scene (Some tex) is = ap (λ (o : Option ℕ). unwrap_or o 0) (sym is)
@@ -161,65 +159,26 @@ flat_lump lumps scene z sky shape planes lump can is all asked =
       drawn = or_left (list_any (has_flat lump) scene.faces.flats) (list_any (λ n. n == lump) (book_lumps scene.book)) (flat_shown scene lump can.drawable.flats shown);
     }
 
--- a fault of the cache is the same fault of a view
-cache_above : (e : CacheFault) → view_fault (from_cache e) ≡ fault_above (λ (never : ⊥). absurd never) (cache_fault e)
-cache_above (cache.ZoneFull wanted widest) = refl
-cache_above cache.ReadFault = refl
-
-on_above : {A E G : Type 0} (P : Type 0) (above : E → G) (part : Result A E) → OnOk part P → OnOk (result_above above part) P
-on_above P above (Ok x) p = p
-on_above P above (Err e) p = tt
-
--- what the call that draws planes tells, where the art is that of these textures and that colormap
-pub record HasDrawnPlanes (mark : Painter → ℕ → ℕ) (v : ViewValue) (dir : DirectoryView) (textures : TexturesView) (colormap : ℕ) (planes : List Plane) (sky : Option TexNo) (old new : ViewState)
-    (part : Result (Unit {0}) CacheFault) : Type 0 where
-  pub painted : (scene : Scene) (contents : List (List ℕ)) (count : ℕ) → HoldsArt old.shelf dir textures contents colormap count old.cache →
-      scene.art ≡ view_art (lump_bytes contents dir.lumps) textures colormap → IfSome sky (λ (tex : TexNo). scene.sky ≡ tex.0) → OnOk part (HasDots mark (planes_dots v scene planes) old.canvas new.canvas)
-  pub fits : (scene : Scene) (contents : List (List ℕ)) (count : ℕ) → HoldsArt old.shelf dir textures contents colormap count old.cache →
-      scene.art ≡ view_art (lump_bytes contents dir.lumps) textures colormap → IfSome sky (λ (tex : TexNo). scene.sky ≡ tex.0) → OnOk part (FitBeside dir.lumps textures colormap count old.cache.size (planes_dots v scene planes))
-  pub draws : DrawsWith cache_fault (IsSky sky) (IsFlatOf planes) old.shelf new.shelf dir textures old.cache new.cache part
-  pub place : PlacedAlike old.canvas new.canvas
+-- what the call that draws planes paints, with these textures and this colormap
+abbrev pub PaintsFloors : (Painter → ℕ → ℕ) → ViewScene → TexturesView → ℕ → List Plane → Option TexNo → PaintState → PaintState → Result (Unit {0}) CacheFault → Type 0
+PaintsFloors mark s textures colormap planes sky old new part =
+    Paints {Q = Unit {0}} cache_fault mark (paint_tools s.dir textures colormap) (IsSky sky) (IsFlatOf planes) (λ q. ⊤) (λ contents q. planes_dots s.view (held_scene contents s) planes) old new part
 
 -- the dots of the planes of a view
 abbrev pub floors_of : ViewValue → SceneValue → Scene → List Dot
 floors_of v scene picture = planes_dots v picture (view_planes (view_steps v picture (view_events v (lists_of scene))))
 
-module _ {mark : Painter → ℕ → ℕ} {s : ViewScene} where
-  floors_above : (b : Bench) (sky : Option TexNo) (old new : ViewState) (part : Result (Unit {0}) CacheFault) → CanDrawView s.dir.lumps s.scene old.cache → HasWalkedView s.view s.scene b → IsSkyOf s.scene sky →
-      HasDrawnPlanes mark s.view s.dir (textures_view s.scene) s.scene.base.colormap b.planes.planes sky old new part → PaintsView mark s (floors_of s.view s.scene) old new (result_above from_cache part)
-  floors_above b sky old new part can walked is drawn =
-      let events = view_events s.view (lists_of s.scene) in
-      let same : (contents : List (List ℕ)) → b.planes.planes ≡ view_planes (view_steps s.view (held_scene contents s) events) =
-      λ contents. planes_are s.view (lump_bytes contents s.dir.lumps) s.scene (limits_in b) events b (walked (lump_bytes contents s.dir.lumps)) in
-      let all : All (IsPlaneIn s.view.shape s.scene) b.planes.planes = (walked (λ lump. [])).planes in
-      record {
-        painted = λ contents count hold.
-            on_above (HasDots mark (floors_of s.view s.scene (held_scene contents s)) old.canvas new.canvas) from_cache part
-            (subst (λ (ps : List Plane). OnOk part (HasDots mark (planes_dots s.view (held_scene contents s) ps) old.canvas new.canvas)) (same contents)
-            (drawn.painted (held_scene contents s) contents count hold (held_art (lump_bytes contents s.dir.lumps) s.scene) (held_sky (lump_bytes contents s.dir.lumps) s.scene sky is)));
-        fits = λ contents count hold.
-            on_above (FitBeside s.dir.lumps (textures_view s.scene) s.scene.base.colormap count old.cache.size (floors_of s.view s.scene (held_scene contents s))) from_cache part
-            (subst (λ (ps : List Plane). OnOk part (FitBeside s.dir.lumps (textures_view s.scene) s.scene.base.colormap count old.cache.size (planes_dots s.view (held_scene contents s) ps))) (same contents)
-            (drawn.fits (held_scene contents s) contents count hold (held_art (lump_bytes contents s.dir.lumps) s.scene) (held_sky (lump_bytes contents s.dir.lumps) s.scene sky is)));
-        draws = draws-above (λ (never : ⊥). absurd never) from_cache cache_above part
-            (draws-wider (λ number asked. sky_prepared s.scene sky number can.drawable.sky is asked) (λ lump asked. flat_lump s.dir.lumps s.scene old.cache sky s.view.shape b.planes.planes lump can is all asked) drawn.draws);
-        place = drawn.place;
-      }
-
-  -- the planes of a view were drawn, or the fault is that of the call
-  pub floors-drawn : (b : Bench) (sky : Option TexNo) (old new : ViewState) (textures : TexturesView) (colormap : ℕ) (part : Result (Unit {0}) CacheFault) → CanDrawView s.dir.lumps s.scene old.cache →
-      HasWalkedView s.view s.scene b → IsSkyOf s.scene sky → textures ≡ textures_view s.scene → colormap ≡ s.scene.base.colormap → HasDrawnPlanes mark s.view s.dir textures colormap b.planes.planes sky old new part →
-      PaintsView mark s (floors_of s.view s.scene) old new (result_above from_cache part)
-  floors-drawn b sky old new textures colormap part can walked is e f drawn =
-      floors_above b sky old new part can walked is
-      (subst (λ (n : ℕ). HasDrawnPlanes mark s.view s.dir (textures_view s.scene) n b.planes.planes sky old new part) f
-      (subst (λ (t : TexturesView). HasDrawnPlanes mark s.view s.dir t colormap b.planes.planes sky old new part) e drawn))
-
-  pub floors-ok : {f : Scene → List Dot} {old new : ViewState} (part : Result (Unit {0}) CacheFault) (x answer : Unit {0}) → part ≡ Ok x → PaintsView mark s f old new (result_above from_cache part) → PaintsView mark s f old new (Ok answer)
-  floors-ok {f} {old} {new} part x answer was one =
-      paints-value (subst (λ (r : Result (Unit {0}) CacheFault). PaintsView mark s f old new (result_above from_cache r)) was one)
-
-  pub floors-stop : {f : Scene → List Dot} {old new : ViewState} (part : Result (Unit {0}) CacheFault) (fault : CacheFault) (whole : Result (Unit {0}) ViewFault) → part ≡ Err fault → IsErrAnd whole (λ e. e ≡ from_cache fault) →
-      PaintsView mark s f old new (result_above from_cache part) → PaintsView mark s f old new whole
-  floors-stop {f} part fault whole was is one =
-      paints-stop {f = f} (ap (λ (r : Result (Unit {0}) CacheFault). result_above from_cache r) was) is one
+-- what it paints is the planes of the view, its faults told as those of a view
+pub floors-drawn : {mark : Painter → ℕ → ℕ} {s : ViewScene} {old new : PaintState} (b : Bench) (sky : Option TexNo) (textures : TexturesView) (colormap : ℕ) (part : Result (Unit {0}) CacheFault) (whole : Result (Unit {0}) ViewFault) →
+    CanDrawView s.dir.lumps s.scene old.cache → HasWalkedView s.view s.scene b → IsSkyOf s.scene sky → textures ≡ textures_view s.scene → colormap ≡ s.scene.base.colormap → IsMapped from_cache part whole →
+    PaintsFloors mark s textures colormap b.planes.planes sky old new part → PaintsView mark s (floors_of s.view s.scene) old new whole
+floors-drawn {mark} {s} {old} {new} b sky textures colormap part whole can walked is e f mapped drawn =
+    let events = view_events s.view (lists_of s.scene) in
+    let all : All (IsPlaneIn s.view.shape s.scene) b.planes.planes = (walked (λ lump. [])).planes in
+    let one : PaintsFloors mark s (textures_view s.scene) s.scene.base.colormap b.planes.planes sky old new part =
+    subst (λ (n : ℕ). PaintsFloors mark s (textures_view s.scene) n b.planes.planes sky old new part) f
+    (subst (λ (t : TexturesView). PaintsFloors mark s t colormap b.planes.planes sky old new part) e drawn) in
+    paints-mapped (λ (never : ⊥). absurd never) from_cache cache_above part whole mapped
+    (paints-wider (λ number asked. sky_prepared s.scene sky number can.drawable.sky is asked) (λ lump asked. flat_lump s.dir.lumps s.scene old.cache sky s.view.shape b.planes.planes lump can is all asked)
+    (paints-same (λ contents q. floors_of s.view s.scene (held_scene contents s))
+    (λ contents q asked. ap (planes_dots s.view (held_scene contents s)) (planes_are s.view (lump_bytes contents s.dir.lumps) s.scene (limits_in b) events b (walked (lump_bytes contents s.dir.lumps)))) one))

@@ -1,6 +1,6 @@
 -- Laws of a fragment that is stored: its textures may be drawn, what it paints, and the limit that its fault tells.
 use Rattle.std.proofs.Common.{◌≡◌, ℕ, ◌<◌, ◌≤◌, Bool, true, false, cond, List, [], Option, Some, Result, Ok, Err, IfErr, IsErrAnd, OnOk, length, refl, ap, sym, ◌∙◌, subst, inl, inr, arith}
-use Rattle.std.specs.Prelude.{◌≢◌, IfSome, nat_lt}
+use Rattle.std.specs.Prelude.{◌≢◌, IfSome, nat_lt, ⊤}
 use Rattle.std.proofs.lemmas.Bool.{cases_lt}
 use Rattle.std.proofs.lemmas.Bool.Decides.{nat_tests}
 use Rattle.outside.specs.Faults.{fault_above}
@@ -14,9 +14,10 @@ use Rattle.level_rules.specs.maps.Sound.{IsSound}
 use Rattle.level_rules.specs.declared.walk.TheConstants.{MAX_DRAWSEGS}
 use Rattle.level_rules.specs.walk.Events.{Event}
 use Rattle.pixel_rules.specs.declared.Painter.{Painter}
+use Rattle.pixel_rules.specs.Art.{Art}
 use Rattle.pixel_rules.specs.Dots.{Dot}
 use Rattle.pixel_strips.specs.Canvases.{CanvasView}
-use Rattle.pixel_strips.specs.Dotted.{HasDots, PlacedAlike}
+use Rattle.pixel_strips.specs.Dotted.{HasDots}
 use Rattle.pixel_strips.proofs.DottedLemmas.{has_dots-none}
 use Rattle.picture_rules.specs.plane.Built.{PlanesNow}
 use Rattle.picture_rules.specs.declared.wall.WallFacts.{WallFacts}
@@ -29,9 +30,11 @@ use Rattle.picture_rules.specs.Counts.{openings_count, planes_count}
 use Rattle.picture_rules.specs.Scene.{Scene, facts_of}
 use Rattle.picture_rules.specs.Walls.{walls_of}
 use Rattle.texture_build.specs.Arts.{view_art}
-use Rattle.texture_build.specs.Draws.{CanDraw, DrawsWith, FitBeside, HoldsArt}
+use Rattle.texture_build.specs.Draws.{CanDraw}
+use Rattle.texture_build.specs.Paints.{FitIn, PaintState, Paints, paint_tools}
 use Rattle.texture_build.specs.Views.{IsPrepared, TexturesView}
-use Rattle.texture_build.proofs.DrawLemmas.{IsMapped, draws-mapped, draws-wider, on_ok-mapped}
+use Rattle.texture_build.proofs.DrawLemmas.{IsMapped}
+use Rattle.texture_build.proofs.PaintLemmas.{paints-mapped, paints-wider}
 use Rattle.sound_scene.specs.Sound.{textures_view}
 use Rattle.wall_columns.specs.declared.fault.DrawFault.{DrawFault}
 use Rattle.wall_columns.specs.declared.fault.DrawFault.TheVariants.{Planes, Openings, ZoneFull, ReadFault}
@@ -42,7 +45,7 @@ use Rattle.frame_core.specs.declared.bench.Bench.{Bench}
 use Rattle.frame_core.specs.declared.fault.ViewFault.{ViewFault}
 use Rattle.frame_core.specs.Faults.{from_draw, limit_of_view, view_fault}
 use Rattle.frame_core.specs.Scenes.{lists_of, scene_of}
-use Rattle.frame_core.specs.Views.{CanDrawView, PaintsView, ViewScene, ViewState, held_scene}
+use Rattle.frame_core.specs.Views.{CanDrawView, PaintsView, ViewScene, held_scene, view_tools}
 use Rattle.frame_core.specs.Walked.{HasWalked, next_dots, next_wall, planes_after}
 use Rattle.frame_core.proofs.SceneLemmas.{AreFactsReady, IsNoneOrReady, facts_ready, patches_there}
 use Rattle.frame_core.proofs.WalkedFragmentLemmas.{next_wall-facts, notes_full}
@@ -89,13 +92,6 @@ same_fault (Openings count) = refl
 same_fault (ZoneFull wanted widest) = refl
 same_fault ReadFault = refl
 
--- the answer is that of the call below, by its fault
-pub mapped-err : {A : Type 0} (lower : Result A DrawFault) (fault : DrawFault) (result : Result A ViewFault) → lower ≡ Err fault → IsErrAnd result (λ f. f ≡ from_draw fault) → IsMapped from_draw lower result
-mapped-err lower fault result was is = subst (λ r. IsMapped from_draw r result) (sym was) is
-
-pub mapped-ok : {A : Type 0} (lower : Result A DrawFault) (value : A) → lower ≡ Ok value → IsMapped from_draw lower (Ok value)
-mapped-ok lower value was = subst (λ r. IsMapped from_draw r (Ok value)) (sym was) refl
-
 -- what holds after an Ok holds where it was Ok
 pub ok-through : {A E : Type 0} (P : Type 0) (result : Result A E) (value : A) → result ≡ Ok value → OnOk result P → P
 ok-through P (Ok x) value was p = p
@@ -132,18 +128,19 @@ art_is : (bytes : ℕ → List ℕ) (scene : SceneValue) → view_art bytes (tex
 unfolding scene_of
 art_is bytes scene = refl
 
+-- walls and planes that are in the bench, which has room for one wall more
+abbrev IsBehind : ViewValue → Bench → List Wall × PlanesNow → Type 0
+IsBehind v old q = IsBuilt v q.0 q.1 old.walls old.planes.planes × (length q.0 < MAX_DRAWSEGS)
+
+-- the dots of a fragment behind these walls
+abbrev dots_behind : ViewValue → Art → WallFacts → ℕ → ℕ → List Wall → List Dot
+dots_behind v art facts first last ws = wall_dots v art (with_wall ws (wall_of v facts first last)) (length ws) (wall_of v facts first last)
+
 -- what the call of the walls gives, with these textures and this colormap
-pub record PaintsFragment (mark : Painter → ℕ → ℕ) (s : ViewScene) (textures : TexturesView) (colormap : ℕ) (facts : WallFacts) (first last : ℕ) (old : Bench) (before after : ViewState)
+pub record PaintsFragment (mark : Painter → ℕ → ℕ) (s : ViewScene) (textures : TexturesView) (colormap : ℕ) (facts : WallFacts) (first last : ℕ) (old : Bench) (before after : PaintState)
     (lower : Result (Unit {0}) DrawFault) : Type 0 where
-  pub painted : (ws : List Wall) (now : PlanesNow) (contents : List (List ℕ)) (count : ℕ) → IsBuilt s.view ws now old.walls old.planes.planes → length ws < MAX_DRAWSEGS →
-      HoldsArt before.shelf s.dir textures contents colormap count before.cache →
-      OnOk lower (HasDots mark (wall_dots s.view (view_art (lump_bytes contents s.dir.lumps) textures colormap) (with_wall ws (wall_of s.view facts first last)) (length ws) (wall_of s.view facts first last)) before.canvas after.canvas)
-  pub fits : (ws : List Wall) (now : PlanesNow) (contents : List (List ℕ)) (count : ℕ) → IsBuilt s.view ws now old.walls old.planes.planes → length ws < MAX_DRAWSEGS →
-      HoldsArt before.shelf s.dir textures contents colormap count before.cache →
-      OnOk lower (FitBeside s.dir.lumps textures colormap count before.cache.size
-      (wall_dots s.view (view_art (lump_bytes contents s.dir.lumps) textures colormap) (with_wall ws (wall_of s.view facts first last)) (length ws) (wall_of s.view facts first last)))
-  pub paints : DrawsWith draw_fault (IsWallTexture facts) IsNoPicture before.shelf after.shelf s.dir textures before.cache after.cache lower
-  pub place : PlacedAlike before.canvas after.canvas
+  pub paints : Paints draw_fault mark (paint_tools s.dir textures colormap) (IsWallTexture facts) IsNoPicture (IsBehind s.view old)
+      (λ contents q. dots_behind s.view (view_art (lump_bytes contents s.dir.lumps) textures colormap) facts first last q.0) before after lower
   pub past : length old.walls.notes ≡ MAX_DRAWSEGS → (lower ≡ Ok tt) × (after.canvas ≡ before.canvas)
 
 on_ok_at : {P : Type 0} (lower : Result (Unit {0}) DrawFault) → lower ≡ Ok tt → P → OnOk lower P
@@ -154,7 +151,7 @@ dots_next : (P : List Dot → Type 0) (s : ViewScene) (bytes : ℕ → List ℕ)
     HasWalked s.view bytes s.scene most events old →
     ((bytes : ℕ → List ℕ) → facts ≡ facts_of (scene_of bytes s.scene) (surface_at (lists_of s.scene) old.sector) seg (seg_at (lists_of s.scene) seg)) →
     ((ws : List Wall) (now : PlanesNow) → IsBuilt s.view ws now old.walls old.planes.planes → length ws < MAX_DRAWSEGS →
-    OnOk lower (P (wall_dots s.view (view_art bytes (textures_view s.scene) s.scene.base.colormap) (with_wall ws (wall_of s.view facts first last)) (length ws) (wall_of s.view facts first last)))) →
+    OnOk lower (P (dots_behind s.view (view_art bytes (textures_view s.scene) s.scene.base.colormap) facts first last ws))) →
     (length old.walls.notes ≡ MAX_DRAWSEGS → (lower ≡ Ok tt) × P []) →
     OnOk lower (P (next_dots s.view (scene_of bytes s.scene) events seg first last))
 dots_next P s bytes most events seg first last facts old lower h are drawn past =
@@ -174,7 +171,7 @@ dots_next P s bytes most events seg first last facts old lower h are drawn past 
     ]
 
 -- what a fragment paints of a view
-pub paints-fragment : {mark : Painter → ℕ → ℕ} (s : ViewScene) (textures : TexturesView) (colormap : ℕ) (most : Limits) (events : List Event) (seg first last : ℕ) (facts : WallFacts) (old : Bench) (before after : ViewState)
+pub paints-fragment : {mark : Painter → ℕ → ℕ} (s : ViewScene) (textures : TexturesView) (colormap : ℕ) (most : Limits) (events : List Event) (seg first last : ℕ) (facts : WallFacts) (old : Bench) (before after : PaintState)
     (lower : Result (Unit {0}) DrawFault) (result : Result (Unit {0}) ViewFault) → PaintsFragment mark s textures colormap facts first last old before after lower → textures ≡ textures_view s.scene → colormap ≡ s.scene.base.colormap →
     IsMapped from_draw lower result → AreFactsReady s.scene facts → ((bytes : ℕ → List ℕ) → HasWalked s.view bytes s.scene most events old) →
     ((bytes : ℕ → List ℕ) → facts ≡ facts_of (scene_of bytes s.scene) (surface_at (lists_of s.scene) old.sector) seg (seg_at (lists_of s.scene) seg)) →
@@ -183,18 +180,15 @@ paints-fragment {mark} s textures colormap most events seg first last facts old 
     let P : TexturesView → Type 0 = λ t. PaintsFragment mark s t colormap facts first last old before after lower in
     let Q : ℕ → Type 0 = λ n. PaintsFragment mark s (textures_view s.scene) n facts first last old before after lower in
     let p : PaintsFragment mark s (textures_view s.scene) s.scene.base.colormap facts first last old before after lower = subst Q same_colormap (subst P same_textures given_paints) in
-    record {
-      painted = λ contents count hold.
-          on_ok-mapped (HasDots mark (next_dots s.view (held_scene contents s) events seg first last) before.canvas after.canvas) from_draw lower result mapped
-          (dots_next (λ (dots : List Dot). HasDots mark dots before.canvas after.canvas) s (lump_bytes contents s.dir.lumps) most events seg first last facts old lower (walked (lump_bytes contents s.dir.lumps)) are
-          (λ ws now built room. p.painted ws now contents count built room hold)
-          (λ n. ((p.past n).0, subst (λ (canvas : CanvasView). HasDots mark [] before.canvas canvas) (sym (p.past n).1) (has_dots-none mark before.canvas))));
-      fits = λ contents count hold.
-          on_ok-mapped (FitBeside s.dir.lumps (textures_view s.scene) s.scene.base.colormap count before.cache.size (next_dots s.view (held_scene contents s) events seg first last)) from_draw lower result mapped
-          (dots_next (FitBeside s.dir.lumps (textures_view s.scene) s.scene.base.colormap count before.cache.size) s (lump_bytes contents s.dir.lumps) most events seg first last facts old lower (walked (lump_bytes contents s.dir.lumps)) are
-          (λ ws now built room. p.fits ws now contents count built room hold)
-          (λ n. ((p.past n).0, tt)));
-      draws = draws-mapped (λ (o : OverLimit). o) from_draw same_fault lower result mapped
-          (draws-wider (λ number is. (ready_number s.scene facts number ready is).0) (λ lump no. absurd no) p.paints);
-      place = p.place;
-    }
+    let one : Paints draw_fault mark (view_tools s) (IsWallTexture facts) IsNoPicture (λ (q : Unit {0}). ⊤) (λ contents q. next_dots s.view (held_scene contents s) events seg first last) before after lower = record {
+      painted = λ contents count q hold asked.
+          dots_next (λ (dots : List Dot). HasDots mark dots before.canvas after.canvas) s (lump_bytes contents s.dir.lumps) most events seg first last facts old lower (walked (lump_bytes contents s.dir.lumps)) are
+          (λ ws now built room. p.paints.painted contents count (ws, now) hold (built, room))
+          (λ n. ((p.past n).0, subst (λ (canvas : CanvasView). HasDots mark [] before.canvas canvas) (sym (p.past n).1) (has_dots-none mark before.canvas)));
+      fits = λ contents count q hold asked.
+          dots_next (FitIn (view_tools s) count before.cache.size) s (lump_bytes contents s.dir.lumps) most events seg first last facts old lower (walked (lump_bytes contents s.dir.lumps)) are
+          (λ ws now built room. p.paints.fits contents count (ws, now) hold (built, room)) (λ n. ((p.past n).0, tt));
+      draws = p.paints.draws;
+      place = p.paints.place;
+    } in
+    paints-mapped (λ (o : OverLimit). o) from_draw same_fault lower result mapped (paints-wider (λ number is. (ready_number s.scene facts number ready is).0) (λ lump no. absurd no) one)

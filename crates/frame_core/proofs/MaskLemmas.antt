@@ -1,16 +1,13 @@
 -- Laws of the masked pass of a view: what it asks is there where the walk is in the bench, and what it paints is what the picture has.
-use Rattle.std.proofs.Common.{◌≡◌, ◌<◌, ℕ, Bool, true, false, ℤ, List, [], length, get_or, Result, Ok, Err, OnOk, refl, ap, sym, subst, ◌∙◌, arith}
-use Rattle.std.specs.Prelude.{◌||◌, ◌==◌}
+use Rattle.std.proofs.Common.{◌≡◌, ◌<◌, ℕ, Bool, true, false, ℤ, List, [], length, get_or, Result, refl, ap, sym, subst, ◌∙◌, arith}
+use Rattle.std.specs.Prelude.{◌||◌, ◌==◌, ⊤}
 use Rattle.std.specs.List.{All, AllPass, list_any}
 use Rattle.std.proofs.lemmas.Bool.Decides.{nat_tests}
 use Rattle.std.proofs.lemmas.List.Elements.{All-contains}
-use Rattle.outside.specs.Faults.{fault_above}
 use Rattle.lump_rules.specs.Contents.{lump_bytes}
 use Rattle.zone_rules.specs.Zones.{Heap}
 use Rattle.lump_cache.specs.declared.fault.CacheFault.{CacheFault}
-use Rattle.lump_cache.specs.declared.fault.CacheFault.TheVariants as cache
 use Rattle.lump_cache.specs.Caches.{cache_fault}
-use Rattle.lump_cache.proofs.CallLemmas.{result_above}
 use Rattle.wad_dir.specs.DirectoryView.{DirectoryView}
 use Rattle.view_rules.specs.View.{ViewValue}
 use Rattle.level_rules.specs.declared.Seg.{Seg}
@@ -34,25 +31,27 @@ use Rattle.picture_rules.specs.Noted.{AreNoted}
 use Rattle.picture_rules.specs.Scene.{Scene}
 use Rattle.picture_rules.specs.Things.{view_entries}
 use Rattle.picture_rules.specs.Walls.{walls_of}
-use Rattle.pixel_strips.specs.Dotted.{HasDots, PlacedAlike}
 use Rattle.texture_build.specs.Arts.{view_art}
-use Rattle.texture_build.specs.Draws.{DrawsWith, FitBeside, HoldsArt}
+use Rattle.texture_build.specs.Paints.{PaintState, Paints, paint_tools}
 use Rattle.texture_build.specs.Views.{TexturesView}
-use Rattle.texture_build.proofs.DrawLemmas.{draws-above, draws-wider}
+use Rattle.texture_build.proofs.DrawLemmas.{IsMapped}
+use Rattle.texture_build.proofs.PaintLemmas.{paints-mapped, paints-same, paints-wider}
 use Rattle.sound_scene.specs.Sound.{middles_of, textures_view}
 use Rattle.vissprites.specs.Bounds.{has_lump_below, lies_within}
 use Rattle.wall_columns.specs.Built.{IsBuilt}
 use Rattle.masked_draw.specs.Lists.{MaskedLists, lists_of as lists_by, noted_drawsegs}
 use Rattle.masked_draw.specs.Ready.{IsListed, IsNotedMiddle, IsSpriteLump}
 use Rattle.frame_core.specs.declared.bench.Bench.{Bench}
-use Rattle.frame_core.specs.Faults.{from_cache, view_fault}
+use Rattle.frame_core.specs.declared.fault.ViewFault.{ViewFault}
+use Rattle.frame_core.specs.Faults.{from_cache}
 use Rattle.frame_core.specs.Scenes.{lists_of, scene_of}
-use Rattle.frame_core.specs.Views.{CanDrawView, IsViewLump, IsViewTexture, PaintsView, ViewState, view_scene}
+use Rattle.frame_core.specs.Views.{CanDrawView, IsViewLump, PaintsView, held_scene, view_scene}
 use Rattle.frame_core.specs.Walked.{planes_after}
 use Rattle.frame_core.specs.Painters.{HasWalkedView}
 use Rattle.frame_core.proofs.DrawsegLemmas.{mask_lists, masked_dots-noted}
 use Rattle.frame_core.proofs.EntryLemmas.{entry_lump}
 use Rattle.frame_core.proofs.ListedLemmas.{middle_prepared, notes_listed}
+use Rattle.frame_core.proofs.PaintLemmas.{cache_above}
 
 -- what the masked pass is drawn with
 pub record MaskParts : Type 0 where
@@ -79,29 +78,16 @@ parts-same s b level textures colormap segs sides sectors middles openings notes
     let by_sectors = sectors ∙ ap (λ (l : LevelValue). l.sectors) level in
     λ i. mask_parts (textures i) (colormap i) (by_segs i) (by_sides i) (by_sectors i) (middles i) (openings i) (notes i)
 
--- a call of the masked pass with these parts
-pub record DrawsMasks (mark : Painter → ℕ → ℕ) (v : ViewValue) (dir : DirectoryView) (sprites : List SpriteEntry) (parts : MaskParts) (old new : ViewState) (result : Result (Unit {0}) CacheFault) : Type 0 where
-  pub painted : (contents : List (List ℕ)) (count : ℕ) → HoldsArt old.shelf dir parts.textures contents parts.colormap count old.cache →
-      OnOk result (HasDots mark (masked_dots v (view_art (lump_bytes contents dir.lumps) parts.textures parts.colormap) (noted_drawsegs v parts.textures parts.lists parts.openings parts.notes) (draw_order sprites)) old.canvas new.canvas)
-  pub fits : (contents : List (List ℕ)) (count : ℕ) → HoldsArt old.shelf dir parts.textures contents parts.colormap count old.cache →
-      OnOk result (FitBeside dir.lumps parts.textures parts.colormap count old.cache.size
-      (masked_dots v (view_art (lump_bytes contents dir.lumps) parts.textures parts.colormap) (noted_drawsegs v parts.textures parts.lists parts.openings parts.notes) (draw_order sprites)))
-  pub draws : DrawsWith cache_fault (IsNotedMiddle parts.lists parts.notes) (IsSpriteLump sprites) old.shelf new.shelf dir parts.textures old.cache new.cache result
-  pub place : PlacedAlike old.canvas new.canvas
+-- what a call of the masked pass with these parts paints
+abbrev pub DrawsMasks : (Painter → ℕ → ℕ) → ViewValue → DirectoryView → List SpriteEntry → MaskParts → PaintState → PaintState → Result (Unit {0}) CacheFault → Type 0
+DrawsMasks mark v dir sprites parts old new result =
+    Paints {Q = Unit {0}} cache_fault mark (paint_tools dir parts.textures parts.colormap) (IsNotedMiddle parts.lists parts.notes) (IsSpriteLump sprites) (λ q. ⊤)
+    (λ contents q. masked_dots v (view_art (lump_bytes contents dir.lumps) parts.textures parts.colormap) (noted_drawsegs v parts.textures parts.lists parts.openings parts.notes) (draw_order sprites)) old new result
 
 -- the dots of the masked pass of a view
 abbrev pub masks_dots : ViewValue → SceneValue → Scene → List Dot
 masks_dots v s scene =
     masked_dots v scene.art (view_drawsegs v scene (walls_of v scene (view_events v (lists_of s)))) (draw_order (view_entries v scene (view_events v (lists_of s))))
-
--- the faults of the cache are those of a view
-same_fault : (e : CacheFault) → view_fault (from_cache e) ≡ fault_above (λ (none : ⊥). absurd none) (cache_fault e)
-same_fault (cache.ZoneFull wanted widest) = refl
-same_fault cache.ReadFault = refl
-
-on_ok_above : (P : Type 0) (lower : Result (Unit {0}) CacheFault) → OnOk lower P → OnOk (result_above from_cache lower) P
-on_ok_above P (Ok done) p = p
-on_ok_above P (Err fault) p = tt
 
 either_right : (a b : Bool) → b ≡ true → (a || b) ≡ true
 either_right true b e = refl
@@ -167,18 +153,10 @@ module _ {v : ViewValue} {s : SceneValue} {b : Bench} {z : Heap} (dir : Director
       ∙ ap (λ (es : List SpriteEntry). masked_dots v (scene_of bytes s).art (view_drawsegs v (scene_of bytes s) (walls_of v (scene_of bytes s) (view_events v (lists_of s)))) (draw_order es)) w.sprites
 
 -- a call of the masked pass paints that of the view, its faults told as those of a view
-pub masks-above : {mark : Painter → ℕ → ℕ} {v : ViewValue} {s : SceneValue} {b : Bench} {dir : DirectoryView} {old new : ViewState} {lower : Result (Unit {0}) CacheFault} {parts : MaskParts} → parts ≡ parts_of s b →
-    IsSound s.base.level → CanDrawView dir.lumps s old.cache → HasWalkedView v s b → DrawsMasks mark v dir b.sprites parts old new lower → PaintsView mark (view_scene v s dir) (masks_dots v s) old new (result_above from_cache lower)
-masks-above {mark} {v} {s} {b} {dir} {old} {new} {lower} same sound can walked draws =
-    let one = subst (λ (p : MaskParts). DrawsMasks mark v dir b.sprites p old new lower) same draws in
-    let dots : (contents : List (List ℕ)) → masked_dots v (view_art (lump_bytes contents dir.lumps) (textures_view s) s.base.colormap) (noted_drawsegs v (textures_view s) (mask_lists s) b.walls.openings b.walls.notes) (draw_order b.sprites)
-    ≡ masks_dots v s (scene_of (lump_bytes contents dir.lumps) s) = λ contents. same_dots dir sound can walked (lump_bytes contents dir.lumps) in
-    record {
-      painted = λ contents count hold. on_ok_above (HasDots mark (masks_dots v s (scene_of (lump_bytes contents dir.lumps) s)) old.canvas new.canvas) lower
-          (subst (λ (ds : List Dot). OnOk lower (HasDots mark ds old.canvas new.canvas)) (dots contents) (one.painted contents count hold));
-      fits = λ contents count hold. on_ok_above (FitBeside dir.lumps (textures_view s) s.base.colormap count old.cache.size (masks_dots v s (scene_of (lump_bytes contents dir.lumps) s))) lower
-          (subst (λ (ds : List Dot). OnOk lower (FitBeside dir.lumps (textures_view s) s.base.colormap count old.cache.size ds)) (dots contents) (one.fits contents count hold));
-      draws = draws-above (λ (none : ⊥). absurd none) from_cache same_fault lower
-          (draws-wider {among = IsViewTexture s} {pictures = IsViewLump dir.lumps s} (λ number k. middle_prepared dir.lumps s old.cache b.walls.notes number (scene_notes dir sound can walked) k) (λ lump k. sprite_lump dir sound can walked lump k) one.draws);
-      place = one.place;
-    }
+pub masks-above : {mark : Painter → ℕ → ℕ} {v : ViewValue} {s : SceneValue} {b : Bench} {dir : DirectoryView} {old new : PaintState} {lower : Result (Unit {0}) CacheFault} {whole : Result (Unit {0}) ViewFault} {parts : MaskParts} → parts ≡ parts_of s b →
+    IsSound s.base.level → CanDrawView dir.lumps s old.cache → HasWalkedView v s b → IsMapped from_cache lower whole → DrawsMasks mark v dir b.sprites parts old new lower → PaintsView mark (view_scene v s dir) (masks_dots v s) old new whole
+masks-above {mark} {v} {s} {b} {dir} {old} {new} {lower} {whole} same sound can walked mapped draws =
+    let one : DrawsMasks mark v dir b.sprites (parts_of s b) old new lower = subst (λ (p : MaskParts). DrawsMasks mark v dir b.sprites p old new lower) same draws in
+    paints-mapped (λ (never : ⊥). absurd never) from_cache cache_above lower whole mapped
+    (paints-wider (λ number k. middle_prepared dir.lumps s old.cache b.walls.notes number (scene_notes dir sound can walked) k) (λ lump k. sprite_lump dir sound can walked lump k)
+    (paints-same (λ contents q. masks_dots v s (held_scene contents (view_scene v s dir))) (λ contents q asked. same_dots dir sound can walked (lump_bytes contents dir.lumps)) one))

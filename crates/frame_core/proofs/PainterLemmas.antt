@@ -10,8 +10,10 @@ use Rattle.zone_rules.proofs.OrderLemmas.{order_none}
 use Rattle.wad_dir.specs.DirectoryView.{DirectoryView}
 use Rattle.lump_cache.specs.Caches.{KeepsCounts}
 use Rattle.texture_build.specs.Draws.{DrawsWith}
+use Rattle.texture_build.specs.Paints.{PaintState}
 use Rattle.texture_build.specs.Views.{TexturesView}
 use Rattle.texture_build.proofs.DrawLemmas.{keeps_art-none}
+use Rattle.texture_build.proofs.PaintLemmas.{paints-missed, paints-none, paints-same, paints-stop, paints-then}
 use Rattle.view_rules.specs.View.{ViewValue}
 use Rattle.level_rules.specs.declared.Surface.{Surface}
 use Rattle.level_rules.specs.Levels.{LevelLists}
@@ -43,10 +45,10 @@ use Rattle.frame_core.specs.declared.fault.ViewFault.{ViewFault}
 use Rattle.frame_core.specs.declared.fault.ViewFault.TheVariants.{Limit}
 use Rattle.frame_core.specs.Faults.{from_draw, limit_of_view, view_fault}
 use Rattle.frame_core.specs.Scenes.{lists_of, scene_of}
-use Rattle.frame_core.specs.Views.{CanDrawView, PaintsView, ViewScene, ViewState, held_scene}
+use Rattle.frame_core.specs.Views.{CanDrawView, PaintsView, ViewScene, held_scene}
 use Rattle.frame_core.specs.Walked.{CanTake, HasWalked, IsEventIn, next_dots}
 use Rattle.frame_core.specs.Painters.{CanPaintNext, HasPainted, HasWalkedView, IsPlacedIn, PainterNames, PainterValue, drawn_walls, limits_in, painter_names, painter_value}
-use Rattle.frame_core.proofs.PaintLemmas.{can_draw_view-later, paints-none, paints-same, paints-stop, paints-then}
+use Rattle.frame_core.proofs.PaintLemmas.{can_draw_view-later}
 use Rattle.frame_core.proofs.DotLemmas.{drawn_walls-fragment, drawn_walls-leaf, drawn_walls-none}
 use Rattle.frame_core.proofs.StepLemmas.{over-stays}
 
@@ -105,7 +107,7 @@ module _ {mark : Painter → ℕ → ℕ} {e : Event} {dots : List Event → Sce
     over = all-over limit_of_view
         (λ bytes over. steps_over (limits_in start.bench) (view_steps start.scene.view (scene_of bytes start.scene.scene) (events ++ e ∷ [])) ≡ Some over) result
         (λ bytes. given.over bytes (limits_in start.bench) events (stood.walked bytes));
-    paints = paints-same (drawn_walls start.scene.view (events ++ e ∷ [])) (λ contents. sym (given.joins events (held_scene contents start.scene)))
+    paints = paints-same (λ contents q. drawn_walls start.scene.view (events ++ e ∷ []) (held_scene contents start.scene)) (λ contents q asked. sym (given.joins events (held_scene contents start.scene)))
         (paints-then stood.paints (given.paints (limits_in start.bench) events stood.walked));
   }
 
@@ -157,7 +159,7 @@ painted_none mark p walked = record {
   limits = refl;
   walked = walked;
   over = tt;
-  paints = paints-same (drawn_walls p.scene.view []) (λ contents. sym (drawn_walls-none p.scene.view (held_scene contents p.scene))) (paints-none p.state tt);
+  paints = paints-same (λ contents q. drawn_walls p.scene.view [] (held_scene contents p.scene)) (λ contents q asked. sym (drawn_walls-none p.scene.view (held_scene contents p.scene))) (paints-none p.state tt);
 }
 
 -- a limit that the first of some events passed is told of them all
@@ -239,16 +241,12 @@ draws_limit view dir textures z kind count = record {
   order = λ items asked all k. order_none items z view.taken k;
 }
 
-paints_limit : (mark : Painter → ℕ → ℕ) (s : ViewScene) (dots : Scene → List Dot) (state : ViewState) (kind : LimitKind) (count : ℕ) →
+paints_limit : (mark : Painter → ℕ → ℕ) (s : ViewScene) (dots : Scene → List Dot) (state : PaintState) (kind : LimitKind) (count : ℕ) →
     PaintsView {A = Unit {0}} mark s dots state state (Err (Limit kind count))
-paints_limit mark s dots state kind count = record {
-  painted = λ contents n hold. tt;
-  fits = λ contents n hold. tt;
-  draws = draws_limit state.shelf s.dir (textures_view s.scene) state.cache kind count;
-  place = placed-none state.canvas;
-}
+paints_limit mark s dots state kind count =
+    paints-missed {B = Unit {0}} state.shelf state.shelf state.cache state.cache state.canvas refl refl (draws_limit state.shelf s.dir (textures_view s.scene) state.cache kind count)
 
-paints_fault : (mark : Painter → ℕ → ℕ) (s : ViewScene) (dots : Scene → List Dot) (state : ViewState) (fault : DrawFault) → IsLimitFault fault →
+paints_fault : (mark : Painter → ℕ → ℕ) (s : ViewScene) (dots : Scene → List Dot) (state : PaintState) (fault : DrawFault) → IsLimitFault fault →
     PaintsView {A = Unit {0}} mark s dots state state (Err (from_draw fault))
 paints_fault mark s dots state (Planes count) is = paints_limit mark s dots state kind.Planes count
 paints_fault mark s dots state (Openings count) is = paints_limit mark s dots state kind.Openings count
@@ -256,7 +254,7 @@ paints_fault mark s dots state (ZoneFull wanted widest) is = absurd is
 paints_fault mark s dots state ReadFault is = absurd is
 
 -- a leaf that was entered
-pub leaf-visits : (mark : Painter → ℕ → ℕ) (s : ViewScene) (state : ViewState) (names : PainterNames) (b c : Bench) (n : ℕ) →
+pub leaf-visits : (mark : Painter → ℕ → ℕ) (s : ViewScene) (state : PaintState) (names : PainterNames) (b c : Bench) (n : ℕ) →
     ((bytes : ℕ → List ℕ) (limits : Limits) (events : List Event) → HasWalked s.view bytes s.scene limits events b → HasWalked s.view bytes s.scene limits (events ++ LeafEvent n ∷ []) c) →
     CanTake s.view s.scene c → limits_in c ≡ limits_in b → PainterVisits mark (painter_value s b state names) (painter_value s c state names) (LeafEvent n ∷ []) (Ok tt)
 leaf-visits mark s state names b c n walked takes limits =
@@ -278,7 +276,7 @@ told_by : (o told : Option OverLimit) → o ≡ told → IfSome o (λ over. told
 told_by None told e = tt
 told_by (Some over) told e = sym e
 
-leaf_stop : (mark : Painter → ℕ → ℕ) (s : ViewScene) (state : ViewState) (names : PainterNames) (b c : Bench) (n : ℕ) (fault : DrawFault) → IsLimitFault fault →
+leaf_stop : (mark : Painter → ℕ → ℕ) (s : ViewScene) (state : PaintState) (names : PainterNames) (b c : Bench) (n : ℕ) (fault : DrawFault) → IsLimitFault fault →
     ((bytes : ℕ → List ℕ) (limits : Limits) (events : List Event) → HasWalked s.view bytes s.scene limits events b →
     limit_of_fault fault ≡ steps_over limits (view_steps s.view (scene_of bytes s.scene) (events ++ LeafEvent n ∷ []))) →
     limits_in c ≡ limits_in b → PainterVisits mark (painter_value s b state names) (painter_value s c state names) (LeafEvent n ∷ []) (Err (from_draw fault))
@@ -298,7 +296,7 @@ leaf_stop mark s state names b c n fault is over limits =
     })
 
 -- a leaf at which a limit was passed
-pub leaf-visits_stop : (mark : Painter → ℕ → ℕ) (s : ViewScene) (state : ViewState) (names : PainterNames) (b c : Bench) (n : ℕ) (fault : DrawFault) (result : Result (Unit {0}) ViewFault) →
+pub leaf-visits_stop : (mark : Painter → ℕ → ℕ) (s : ViewScene) (state : PaintState) (names : PainterNames) (b c : Bench) (n : ℕ) (fault : DrawFault) (result : Result (Unit {0}) ViewFault) →
     IsErrAnd result (λ e. e ≡ from_draw fault) → IsLimitFault fault →
     ((bytes : ℕ → List ℕ) (limits : Limits) (events : List Event) → HasWalked s.view bytes s.scene limits events b →
     limit_of_fault fault ≡ steps_over limits (view_steps s.view (scene_of bytes s.scene) (events ++ LeafEvent n ∷ []))) →
@@ -309,7 +307,7 @@ leaf-visits_stop mark s state names b c n fault result told is over limits =
     (leaf_stop mark s state names b c n fault is over limits)
 
 -- a fragment that was drawn, or a fault at it
-pub fragment-visits : (mark : Painter → ℕ → ℕ) (s : ViewScene) (old new : ViewState) (names next : PainterNames) (b c : Bench) (seg first last : ℕ) (result : Result (Unit {0}) ViewFault) →
+pub fragment-visits : (mark : Painter → ℕ → ℕ) (s : ViewScene) (old new : PaintState) (names next : PainterNames) (b c : Bench) (seg first last : ℕ) (result : Result (Unit {0}) ViewFault) →
     next ≡ names → KeepsCounts old.cache new.cache → PlacedAlike old.canvas new.canvas →
     ((bytes : ℕ → List ℕ) (limits : Limits) (events : List Event) → HasWalked s.view bytes s.scene limits events b →
     OnOk result (HasWalked s.view bytes s.scene limits (events ++ FragmentEvent seg first last ∷ []) c)) →

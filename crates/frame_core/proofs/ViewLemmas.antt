@@ -4,6 +4,8 @@ use Rattle.std.specs.Prelude.{All, IfErr, IfSome}
 use Rattle.std.specs.List.{AllPass}
 use Rattle.std.proofs.lemmas.List.{length-replicate}
 use Rattle.outside.specs.Shelf.{ShelfView}
+use Rattle.outside.specs.declared.fault.Fault.{Fault}
+use Rattle.lump_rules.specs.Contents.{lump_bytes}
 use Rattle.zone_rules.specs.Zones.{Heap}
 use Rattle.view_rules.specs.View.{ViewValue}
 use Rattle.view_rules.specs.Sound.{IsWithinFrame}
@@ -24,6 +26,8 @@ use Rattle.picture_rules.specs.sprite.Order.{draw_order}
 use Rattle.vissprites.specs.Bounds.{lies_within}
 use Rattle.vissprites.proofs.BoundLemmas.{draw_order-all}
 use Rattle.scene_rules.specs.Scenes.{SceneValue}
+use Rattle.texture_build.specs.Paints.{PaintState, PaintTools, Paints, paint_state}
+use Rattle.texture_build.proofs.PaintLemmas.{paints-same, paints-then}
 use Rattle.sound_scene.specs.Sound.{SoundValue}
 use Rattle.picture_rules.specs.declared.Limits.{Limits}
 use Rattle.picture_rules.specs.declared.OverLimit.{OverLimit}
@@ -41,10 +45,11 @@ use Rattle.frame_core.specs.declared.fault.ViewFault.{ViewFault}
 use Rattle.frame_core.specs.declared.tools.ViewTools.{ViewTools}
 use Rattle.frame_core.specs.Faults.{limit_of_view}
 use Rattle.frame_core.specs.Scenes.{lists_of, scene_of}
-use Rattle.frame_core.specs.Views.{CanDrawView, PaintsView, ViewScene, ViewState, view_scene, view_state}
+use Rattle.frame_core.specs.Views.{CanDrawView, PaintsView, ViewScene, held_scene, tools_scene, view_scene}
 use Rattle.frame_core.specs.Walked.{HasWalked, planes_after}
 use Rattle.frame_core.specs.Painters.{HasWalkedView, IsPlacedIn, drawn_walls, limits_in}
-use Rattle.frame_core.proofs.PaintLemmas.{paints-same, paints-then}
+use Rattle.frame_core.proofs.FloorLemmas.{floors_of}
+use Rattle.frame_core.proofs.MaskLemmas.{masks_dots}
 use Rattle.frame_core.proofs.PartDotLemmas.{LiesInView, planes-in_view, walls-in_view}
 use Rattle.frame_core.proofs.ViewDotLemmas.{drawsegs-in_view, masked-in_view}
 
@@ -83,33 +88,15 @@ placed-later v old now alike placed = record {
 
 -- the three parts of a view are its paints
 view_parts : (v : ViewValue) (bytes : ℕ → List ℕ) (s : SceneValue) →
-    drawn_walls v (view_events v (lists_of s)) (scene_of bytes s)
-    ++ (planes_dots v (scene_of bytes s) (view_planes (view_steps v (scene_of bytes s) (view_events v (lists_of s))))
-    ++ masked_dots v (scene_of bytes s).art (view_drawsegs v (scene_of bytes s) (walls_of v (scene_of bytes s) (view_events v (lists_of s)))) (draw_order (view_entries v (scene_of bytes s) (view_events v (lists_of s)))))
-    ≡ view_paints v (scene_of bytes s)
+    drawn_walls v (view_events v (lists_of s)) (scene_of bytes s) ++ (floors_of v s (scene_of bytes s) ++ masks_dots v s (scene_of bytes s)) ≡ view_paints v (scene_of bytes s)
 unfolding view_paints paints_of paints_by view_steps scene_of
 view_parts v bytes s = refl
 
--- what the planes and the masked pass of a view paint
-abbrev pub FloorsPaint : {D : Type 0} → (Painter → ℕ → ℕ) → ViewValue → SceneValue → DirectoryView → ViewState → ViewState → Result D ViewFault → Type 0
-FloorsPaint mark v s dir a b result = PaintsView mark (view_scene v s dir) (λ scene. planes_dots v scene (view_planes (view_steps v scene (view_events v (lists_of s))))) a b result
-
-abbrev pub MasksPaint : {D : Type 0} → (Painter → ℕ → ℕ) → ViewValue → SceneValue → DirectoryView → ViewState → ViewState → Result D ViewFault → Type 0
-MasksPaint mark v s dir a b result =
-    PaintsView mark (view_scene v s dir) (λ scene. masked_dots v scene.art (view_drawsegs v scene (walls_of v scene (view_events v (lists_of s)))) (draw_order (view_entries v scene (view_events v (lists_of s))))) a b result
-
--- a part of the same view, scene and directory by other words
-pub floors-at : {D : Type 0} {mark : Painter → ℕ → ℕ} (v w : ViewValue) (s t : SceneValue) (dir e : DirectoryView) {a b : ViewState} {result : Result D ViewFault} → w ≡ v → t ≡ s → e ≡ dir → FloorsPaint mark w t e a b result → FloorsPaint mark v s dir a b result
-floors-at {mark = mark} v w s t dir e {a} {b} {result} p q r paint =
-    subst (λ (x : ViewValue). FloorsPaint mark x s dir a b result) p
-    (subst (λ (y : SceneValue). FloorsPaint mark w y dir a b result) q
-    (subst (λ (z : DirectoryView). FloorsPaint mark w t z a b result) r paint))
-
-pub masks-at : {D : Type 0} {mark : Painter → ℕ → ℕ} (v w : ViewValue) (s t : SceneValue) (dir e : DirectoryView) {a b : ViewState} {result : Result D ViewFault} → w ≡ v → t ≡ s → e ≡ dir → MasksPaint mark w t e a b result → MasksPaint mark v s dir a b result
-masks-at {mark = mark} v w s t dir e {a} {b} {result} p q r paint =
-    subst (λ (x : ViewValue). MasksPaint mark x s dir a b result) p
-    (subst (λ (y : SceneValue). MasksPaint mark w y dir a b result) q
-    (subst (λ (z : DirectoryView). MasksPaint mark w t z a b result) r paint))
+-- a part of the view by tools that read alike
+pub part-at : {S C D : Type 0} {mark : Painter → ℕ → ℕ} (dots : ViewValue → SceneValue → Scene → List Dot) (old new : ViewTools S C) {a b : PaintState} {result : Result D ViewFault} → ReadsAlike old new →
+    PaintsView mark (tools_scene new) (dots new.view.now new.scene.now.scene) a b result → PaintsView mark (tools_scene old) (dots old.view.now old.scene.now.scene) a b result
+part-at {mark = mark} dots old new {a} {b} {result} same paint =
+    subst (λ (s : ViewScene). PaintsView mark s (dots s.view s.scene) a b result) (λ i. view_scene (same.0 i) (same.1.0 i) (same.1.1 i)) paint
 
 pub drawable-at : (dir e : DirectoryView) (s t : SceneValue) (z : Heap) → e ≡ dir → t ≡ s → CanDrawView dir.lumps s z → CanDrawView e.lumps t z
 drawable-at dir e s t z p q can =
@@ -119,18 +106,17 @@ pub walked-at : (v w : ViewValue) (s t : SceneValue) (b : Bench) → w ≡ v →
 walked-at v w s t b p q walked = subst (λ (y : SceneValue). HasWalkedView w y b) (sym q) (subst (λ (x : ViewValue). HasWalkedView x s b) (sym p) walked)
 
 -- walls, planes and the masked pass, one after the other, paint the view
-pub parts-paint : {mark : Painter → ℕ → ℕ} {v : ViewValue} {s : SceneValue} {dir : DirectoryView} {a b c d : ViewState} {A B D : Type 0} {one : A} {two : B} {result : Result D ViewFault} →
-    PaintsView mark (view_scene v s dir) (drawn_walls v (view_events v (lists_of s))) a b (Ok one) →
-    FloorsPaint mark v s dir b c (Ok two) → MasksPaint mark v s dir c d result →
-    PaintsView mark (view_scene v s dir) (view_paints v) a d result
-parts-paint {v = v} {s} walls planes masks = paints-same (view_paints v) (λ contents. view_parts v _ s) (paints-then walls (paints-then planes masks))
+pub parts-paint : {mark : Painter → ℕ → ℕ} (s : ViewScene) {a b c d : PaintState} {A B D : Type 0} {one : A} {two : B} {result : Result D ViewFault} →
+    PaintsView mark s (drawn_walls s.view (view_events s.view (lists_of s.scene))) a b (Ok one) → PaintsView mark s (floors_of s.view s.scene) b c (Ok two) → PaintsView mark s (masks_dots s.view s.scene) c d result →
+    PaintsView mark s (view_paints s.view) a d result
+parts-paint s walls planes masks = paints-same (λ contents q. view_paints s.view (held_scene contents s)) (λ contents q asked. view_parts s.view (lump_bytes contents s.dir.lumps) s.scene) (paints-then walls (paints-then planes masks))
 
 -- what was painted from where the view was placed
-pub paints-placed : {A : Type 0} {mark : Painter → ℕ → ℕ} {s : ViewScene} {f : Scene → List Dot} {shelf : ShelfView} {z : Heap} {b : ViewState} {result : Result A ViewFault} (v : ViewValue) (shape : ViewShape) (old now : CanvasView) →
-    shape ≡ v.shape → now ≡ placed_at shape.left shape.top old → PaintsView mark s f (view_state shelf z now) b result →
-    PaintsView mark s f (view_state shelf z (placed_at v.shape.left v.shape.top old)) b result
-paints-placed {mark = mark} {s} {f} {shelf} {z} {b} {result} v shape old now same place paint =
-    subst (λ (canvas : CanvasView). PaintsView mark s f (view_state shelf z canvas) b result) (placed-as v shape old now same place) paint
+pub paints-placed : {A R E Q : Type 0} {fault_of : E → Fault R} {mark : Painter → ℕ → ℕ} {t : PaintTools} {among pictures : ℕ → Type 0} {asked : Q → Type 0} {dots : List (List ℕ) → Q → List Dot} {shelf : ShelfView} {z : Heap} {b : PaintState} {result : Result A E}
+    (v : ViewValue) (shape : ViewShape) (old now : CanvasView) → shape ≡ v.shape → now ≡ placed_at shape.left shape.top old → Paints fault_of mark t among pictures asked dots (paint_state shelf z now) b result →
+    Paints fault_of mark t among pictures asked dots (paint_state shelf z (placed_at v.shape.left v.shape.top old)) b result
+paints-placed {fault_of = fault_of} {mark} {t} {among} {pictures} {asked} {dots} {shelf} {z} {b} {result} v shape old now same place paint =
+    subst (λ (canvas : CanvasView). Paints fault_of mark t among pictures asked dots (paint_state shelf z canvas) b result) (placed-as v shape old now same place) paint
 
 planes_in : (v : ViewValue) (bytes : ℕ → List ℕ) (s : SceneValue) (b : Bench) → HasWalkedView v s b → All (LiesInView v.shape) (view_planes (view_steps v (scene_of bytes s) (view_events v (lists_of s))))
 unfolding view_planes planes_of planes_after

@@ -13,12 +13,13 @@ use Rattle.picture_rules.specs.Walls.{walls_of, walls_dots}
 use Rattle.picture_rules.specs.Counts.{steps_over, view_steps}
 use Rattle.pixel_strips.specs.Canvases.{CanvasView}
 use Rattle.pixel_strips.specs.Standing.{StandsInFrame}
+use Rattle.texture_build.specs.Paints.{PaintState}
 use Rattle.wall_columns.specs.Built.{limits_of}
 use Rattle.frame_core.specs.declared.bench.Bench.{Bench}
 use Rattle.frame_core.specs.declared.fault.ViewFault.{ViewFault}
 use Rattle.frame_core.specs.Faults.{limit_of_view}
 use Rattle.frame_core.specs.Scenes.{lists_of, scene_of}
-use Rattle.frame_core.specs.Views.{CanCount, CanDrawView, PaintsView, ViewScene, ViewState}
+use Rattle.frame_core.specs.Views.{CanCount, CanDrawView, PaintsView, ViewScene}
 use Rattle.frame_core.specs.Walked.{CanTake, HasWalked, IsEventIn}
 
 -- how much a bench has room for
@@ -35,14 +36,14 @@ pub record PainterNames : Type 0 where
 pub record PainterValue : Type 0 where
   pub scene : ViewScene
   pub bench : Bench
-  pub state : ViewState
+  pub state : PaintState
   pub names : PainterNames
 
 abbrev pub painter_names : ℕ → ℕ → ℕ → ℕ → PainterNames
 painter_names bench cache shelf canvas =
     record { bench = bench; cache = cache; shelf = shelf; canvas = canvas }
 
-abbrev pub painter_value : ViewScene → Bench → ViewState → PainterNames → PainterValue
+abbrev pub painter_value : ViewScene → Bench → PaintState → PainterNames → PainterValue
 painter_value scene bench state names =
     record { scene = scene; bench = bench; state = state; names = names }
 

@@ -1,5 +1,5 @@
 -- What is drawn in a view, what it is drawn with, and what a part of it paints.
-use Rattle.std.specs.Prelude.{◌≡◌, ◌≤◌, ◌<◌, ◌||◌, ◌==◌, ◌⊎◌, ℕ, true, List, All, IfSome, IsSome, OnOk, Result, length}
+use Rattle.std.specs.Prelude.{◌≡◌, ◌≤◌, ◌<◌, ◌||◌, ◌==◌, ◌⊎◌, ℕ, true, List, All, IfSome, IsSome, Result, length, ⊤}
 use Rattle.std.specs.List.{list_any}
 use Rattle.outside.specs.Shelf.{ShelfView}
 use Rattle.lump_rules.specs.declared.wad.Lump.{Lump}
@@ -19,9 +19,8 @@ use Rattle.scene_rules.specs.SectorFlats.{surfaces_of}
 use Rattle.scene_rules.specs.Sizes.{has_flat}
 use Rattle.picture_rules.specs.Scene.{Scene}
 use Rattle.pixel_strips.specs.Canvases.{CanvasView, placed_at}
-use Rattle.pixel_strips.specs.Dotted.{HasDots, PlacedAlike}
 use Rattle.texture_build.specs.Views.{AllThere, IsPrepared}
-use Rattle.texture_build.specs.Draws.{HoldsArt, FitBeside, DrawsWith}
+use Rattle.texture_build.specs.Paints.{PaintState, PaintTools, Paints, paint_state, paint_tools}
 use Rattle.sound_scene.specs.Sound.{textures_view}
 use Rattle.level_scene.specs.Bounds.{AreBelow, AreThere}
 use Rattle.sound_scene.specs.Whole.{AreSidePrepared, IsMiddleSingle}
@@ -85,17 +84,8 @@ pub record ViewScene : Type 0 where
   pub scene : SceneValue
   pub dir : DirectoryView
 
--- what is written: the cache by its shelf, and the canvas
-pub record ViewState : Type 0 where
-  pub shelf : ShelfView
-  pub cache : Heap
-  pub canvas : CanvasView
-
 abbrev pub view_scene : ViewValue → SceneValue → DirectoryView → ViewScene
 view_scene view scene dir = record { view = view; scene = scene; dir = dir }
-
-abbrev pub view_state : ShelfView → Heap → CanvasView → ViewState
-view_state shelf cache canvas = record { shelf = shelf; cache = cache; canvas = canvas }
 
 -- a canvas that is placed where the view lies in the frame
 abbrev pub placed_for : ViewValue → CanvasView → CanvasView
@@ -105,8 +95,8 @@ placed_for v canvas = placed_at v.shape.left v.shape.top canvas
 abbrev pub tools_scene : {S C : Type 0} → ViewTools S C → ViewScene
 tools_scene t = view_scene t.view.now t.scene.now.scene t.dir.now
 
-abbrev pub tools_state : {S C : Type 0} → (S → ShelfView) → (C → CanvasView) → ViewTools S C → ViewState
-tools_state shelf canvas t = view_state (shelf t.shelf.now) t.cache.now (canvas t.canvas.now)
+abbrev pub tools_state : {S C : Type 0} → (S → ShelfView) → (C → CanvasView) → ViewTools S C → PaintState
+tools_state shelf canvas t = paint_state (shelf t.shelf.now) t.cache.now (canvas t.canvas.now)
 
 abbrev pub CanDrawTools : {S C : Type 0} → ViewTools S C → Type 0
 CanDrawTools t = CanDrawView t.dir.now.lumps t.scene.now.scene t.cache.now
@@ -122,16 +112,13 @@ AreSameViewTools old new =
 abbrev pub held_scene : List (List ℕ) → ViewScene → Scene
 held_scene contents s = scene_of (lump_bytes contents s.dir.lumps) s.scene
 
+-- what a view is painted with: the textures and the colormap of its scene
+abbrev pub view_tools : ViewScene → PaintTools
+view_tools s = paint_tools s.dir (textures_view s.scene) s.scene.base.colormap
+
 -- A call by the dots that it gives the canvas; it paints with the scene's textures, flats and pictures.
-pub record PaintsView {A : Type 0} (mark : Painter → ℕ → ℕ) (s : ViewScene) (dots : Scene → List Dot)
-    (old new : ViewState) (result : Result A ViewFault) : Type 0 where
-  pub painted : (contents : List (List ℕ)) (count : ℕ) →
-      HoldsArt old.shelf s.dir (textures_view s.scene) contents s.scene.base.colormap count old.cache →
-      OnOk result (HasDots mark (dots (held_scene contents s)) old.canvas new.canvas)
-  pub fits : (contents : List (List ℕ)) (count : ℕ) →
-      HoldsArt old.shelf s.dir (textures_view s.scene) contents s.scene.base.colormap count old.cache →
-      OnOk result (FitBeside s.dir.lumps (textures_view s.scene) s.scene.base.colormap count old.cache.size
-      (dots (held_scene contents s)))
-  pub draws : DrawsWith view_fault (IsViewTexture s.scene) (IsViewLump s.dir.lumps s.scene) old.shelf new.shelf
-      s.dir (textures_view s.scene) old.cache new.cache result
-  pub place : PlacedAlike old.canvas new.canvas
+abbrev pub PaintsView : {A : Type 0} → (Painter → ℕ → ℕ) → ViewScene → (Scene → List Dot) → PaintState → PaintState →
+    Result A ViewFault → Type 0
+PaintsView mark s dots old new result =
+    Paints {Q = Unit {0}} view_fault mark (view_tools s) (IsViewTexture s.scene) (IsViewLump s.dir.lumps s.scene)
+    (λ q. ⊤) (λ contents q. dots (held_scene contents s)) old new result

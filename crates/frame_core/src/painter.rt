@@ -3,9 +3,10 @@
 // Rules: `picture_rules`, Walls; `specs/Painters`. The original: `R_RenderBSPNode`, r_bsp.c.
 ghost use Rattle.std.specs.Prelude.{◌≡◌, OnOk};
 ghost use Rattle.level_rules.specs.walk.Walk.{view_events};
+ghost use Rattle.texture_build.specs.Paints.{paint_state};
 ghost use Rattle.frame_core.specs.Ends.{EndsOver};
 ghost use Rattle.frame_core.specs.Scenes.{lists_of};
-ghost use Rattle.frame_core.specs.Views.{AreSameViewTools, CanDrawTools, CanDrawView, PaintsView, tools_scene, tools_state, view_scene, view_state};
+ghost use Rattle.frame_core.specs.Views.{AreSameViewTools, CanDrawTools, CanDrawView, PaintsView, tools_scene, tools_state, view_scene};
 ghost use Rattle.frame_core.specs.Walked.{CanTake};
 ghost use Rattle.frame_core.specs.Painters.{HasWalkedNothing, HasWalkedView, IsPlacedIn, drawn_walls, limits_in};
 
@@ -34,26 +35,27 @@ pub(crate) struct ViewPainter<'b, 'a, S: Shelf, C: Canvas> {
 
 impl<'b, 'a, S: Shelf, C: Canvas> Visitor for ViewPainter<'b, 'a, S, C> {
     ghost use Rattle.std.specs.Prelude.{Ok, Err};
-    ghost use Rattle.frame_core.specs.Views.{view_scene, view_state};
+    ghost use Rattle.texture_build.specs.Paints.{paint_state};
+    ghost use Rattle.frame_core.specs.Views.{view_scene};
     ghost use Rattle.frame_core.specs.Painters.{CanPaintNext, HasPainted, PainterValue, painter_names, painter_value};
 
     ghost Start = { PainterValue };
 
     ghost stands = { λ p start events. HasPainted C.mark start (painter_value
         (view_scene p.view.now p.scene.now.scene p.dir.now) p.bench.now
-        (view_state (S.view p.shelf.now) p.cache.now (C.view p.canvas.now))
+        (paint_state (S.view p.shelf.now) p.cache.now (C.view p.canvas.now))
         (painter_names p.bench.ghost_name p.cache.ghost_name p.shelf.ghost_name
         p.canvas.ghost_name)) events (Ok tt) };
 
     ghost stopped = { λ p start events stop. HasPainted C.mark start (painter_value
         (view_scene p.view.now p.scene.now.scene p.dir.now) p.bench.now
-        (view_state (S.view p.shelf.now) p.cache.now (C.view p.canvas.now))
+        (paint_state (S.view p.shelf.now) p.cache.now (C.view p.canvas.now))
         (painter_names p.bench.ghost_name p.cache.ghost_name p.shelf.ghost_name
         p.canvas.ghost_name)) events (Err stop) };
 
     ghost takes = { λ p event. CanPaintNext (painter_value
         (view_scene p.view.now p.scene.now.scene p.dir.now) p.bench.now
-        (view_state (S.view p.shelf.now) p.cache.now (C.view p.canvas.now))
+        (paint_state (S.view p.shelf.now) p.cache.now (C.view p.canvas.now))
         (painter_names p.bench.ghost_name p.cache.ghost_name p.shelf.ghost_name
         p.canvas.ghost_name)) event };
 
@@ -103,9 +105,9 @@ fn walk_painter<S: Shelf, C: Canvas>(
         painter.old.dir.now)
         (drawn_walls painter.old.view.now (view_events painter.old.view.now
         (lists_of painter.old.scene.now.scene)))
-        (view_state (S.view painter.old.shelf.now) painter.old.cache.now
+        (paint_state (S.view painter.old.shelf.now) painter.old.cache.now
         (C.view painter.old.canvas.now))
-        (view_state (S.view painter.new.shelf.now) painter.new.cache.now
+        (paint_state (S.view painter.new.shelf.now) painter.new.cache.now
         (C.view painter.new.canvas.now)) result }
     ensures limits { limits_in painter.new.bench.now ≡ limits_in painter.old.bench.now }
 {

@@ -5,7 +5,7 @@ ghost use Rattle.frame_core.specs.Ends.{EndsComplete, EndsNotFull, EndsOver, End
 ghost use Rattle.frame_core.specs.Faults.{view_fault};
 ghost use Rattle.frame_core.specs.Painters.{limits_in};
 ghost use Rattle.frame_core.specs.Scenes.{scene_of};
-ghost use Rattle.frame_core.specs.Views.{AreSameViewTools, CanCount, CanDrawTools, CanDrawView, IsViewLump, IsViewTexture, PaintsView, placed_for, tools_scene, tools_state, view_scene, view_state};
+ghost use Rattle.frame_core.specs.Views.{AreSameViewTools, CanCount, CanDrawTools, CanDrawView, IsViewLump, IsViewTexture, PaintsView, placed_for, tools_scene, tools_state, view_scene};
 ghost use Rattle.lump_rules.specs.Contents.{lump_bytes};
 ghost use Rattle.picture_rules.specs.Counts.{view_counts, view_over};
 ghost use Rattle.picture_rules.specs.Paints.{view_paints};
@@ -13,6 +13,7 @@ ghost use Rattle.picture_rules.specs.Picture.{AreInView, picture};
 ghost use Rattle.sound_scene.specs.Sound.{textures_view};
 ghost use Rattle.std.specs.Prelude.{◌≡◌, ◌≤◌, ℕ, List, Some, IfErr, IfOk, OnOk, length};
 ghost use Rattle.texture_build.specs.Draws.{DrawsWith, FitBeside};
+ghost use Rattle.texture_build.specs.Paints.{paint_state};
 ghost use Rattle.view_rules.specs.Sound.{IsWithinFrame};
 ghost use Rattle.view_rules.specs.View.{view_of};
 
@@ -122,9 +123,9 @@ pub fn draw_view_on<S: Shelf, C: Canvas>(
     ensures over { EndsOver (view_of tables.now eye) scene.now.scene shop.old.limits result }
     ensures paints { let v = view_of tables.now eye in
         PaintsView C.mark (view_scene v scene.now.scene dir.now) (view_paints v)
-        (view_state (S.view shelf.old) cache.old
+        (paint_state (S.view shelf.old) cache.old
         (placed_for v (C.view canvas.old)))
-        (view_state (S.view shelf.new) cache.new (C.view canvas.new)) result }
+        (paint_state (S.view shelf.new) cache.new (C.view canvas.new)) result }
     ensures in_view { (bytes : ℕ → List ℕ) → OnOk result (AreInView (view_of tables.now eye).shape
         (view_paints (view_of tables.now eye) (scene_of bytes scene.now.scene))) }
     ensures window { IsWithinFrame (view_of tables.now eye).shape }
@@ -201,9 +202,9 @@ fn draw_with<'a, S: Shelf, C: Canvas>(
     ensures over { EndsOver view.now scene.now.scene (limits_in bench.old) result }
     ensures paints { let v = view.now in
         PaintsView C.mark (view_scene v scene.now.scene dir.now) (view_paints v)
-        (view_state (S.view shelf.old) cache.old
+        (paint_state (S.view shelf.old) cache.old
         (placed_for v (C.view canvas.old)))
-        (view_state (S.view shelf.new) cache.new (C.view canvas.new)) result }
+        (paint_state (S.view shelf.new) cache.new (C.view canvas.new)) result }
     ensures in_view { (bytes : ℕ → List ℕ) → OnOk result
         (AreInView view.now.shape (view_paints view.now (scene_of bytes scene.now.scene))) }
     ensures frame { IsWithinFrame view.now.shape }
@@ -237,7 +238,7 @@ fn draw_parts<S: Shelf, C: Canvas>(
     ensures paints { let v = tools.old.view.now in
         PaintsView C.mark (tools_scene tools.old)
         (view_paints v)
-        (view_state (S.view tools.old.shelf.now) tools.old.cache.now
+        (paint_state (S.view tools.old.shelf.now) tools.old.cache.now
         (placed_for v (C.view tools.old.canvas.now)))
         (tools_state S.view C.view tools.new) result }
     ensures in_view { (bytes : ℕ → List ℕ) → OnOk result (AreInView tools.old.view.now.shape

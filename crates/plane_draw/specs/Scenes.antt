@@ -25,8 +25,8 @@ abbrev pub plane_art : List (List ℕ) → PlaneScene → Art
 plane_art contents s = view_art (lump_bytes contents s.dir.now.lumps) s.textures.now s.colormap.0
 
 -- what it paints with
-abbrev pub scene_tools : PlaneScene → PaintTools
-scene_tools s = paint_tools s.dir.now s.textures.now s.colormap.0
+abbrev pub plane_tools : PlaneScene → PaintTools
+plane_tools s = paint_tools s.dir.now s.textures.now s.colormap.0
 
 -- what each call asks
 pub record CanDrawPlanes (s : PlaneScene) (st : PaintState) : Type 0 where
@@ -61,6 +61,6 @@ first_columns v art n sky p width =
 -- sky's texture; it paints with that texture and with the flats of planes.
 abbrev pub PaintsPlanes : {A : Type 0} → (Painter → ℕ → ℕ) → PlaneScene →
     (List (List ℕ) → ℕ → List Dot) → PaintState → PaintState → Result A CacheFault → Type 0
-PaintsPlanes mark s dots old new result = Paints cache_fault mark (scene_tools s) (IsSky s.sky)
+PaintsPlanes mark s dots old new result = Paints cache_fault mark (plane_tools s) (IsSky s.sky)
     (IsFlatOf s.planes.now.planes) (λ sky. IfSome s.sky (λ tex. sky ≡ tex.0)) dots
     old new result

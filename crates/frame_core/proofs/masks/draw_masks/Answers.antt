@@ -3,7 +3,6 @@ use Rattle.std.proofs.Common.{◌≤◌, arith, refl, subst}
 use Rattle.view_rules.specs.declared.TheConstants.{FRAME_WIDTH, FRAME_HEIGHT}
 use Rattle.level_rules.specs.maps.Sound.{IsSound}
 use Rattle.frame_core.proofs.MaskLemmas.{masks-above, parts-listed, parts-noted, parts-same, sprites-below, sprites-within, walls-built}
-use Rattle.frame_core.proofs.PaintLemmas.{paints-stop}
 use Rattle.frame_core.proofs.masks.draw_masks.Goals as goal
 
 pub draw_masked-requires-clause-noted : goal.draw_masked-requires-clause-noted
@@ -36,13 +35,21 @@ returns-in_err-draw_masked-clause-paints g c =
     let same = parts-same c.args.tools.now.scene.now.scene c.args.bench.now c.level-level.ensures c.textures.ensures c.colormap.ensures c.segs.ensures.value c.sides.ensures.value c.sectors.ensures.value c.middles.ensures
     c.openings-openings.ensures.value c.notes.ensures.value in
     let draws = c.in_err-draw_masked.ensures in
-    paints-stop refl c.from_residual.ensures.1 (masks-above same (subst IsSound c.level-level.ensures c.segs.ensures.sound) c.requires.drawable c.requires.walked
-    (record { painted = draws.painted; fits = draws.fits; draws = draws.draws; place = draws.place }))
+    masks-above same (subst IsSound c.level-level.ensures c.segs.ensures.sound) c.requires.drawable c.requires.walked c.from_residual.ensures.1 (record {
+      painted = λ contents count q hold asked. draws.painted contents count hold;
+      fits = λ contents count q hold asked. draws.fits contents count hold;
+      draws = draws.draws;
+      place = draws.place;
+    })
 
 pub returns-clause-paints : goal.returns-clause-paints
 returns-clause-paints g c =
     let same = parts-same c.args.tools.now.scene.now.scene c.args.bench.now c.level-level.ensures c.textures.ensures c.colormap.ensures c.segs.ensures.value c.sides.ensures.value c.sectors.ensures.value c.middles.ensures
     c.openings-openings.ensures.value c.notes.ensures.value in
     let draws = c.in_ok-draw_masked.ensures in
-    masks-above same (subst IsSound c.level-level.ensures c.segs.ensures.sound) c.requires.drawable c.requires.walked
-    (record { painted = draws.painted; fits = draws.fits; draws = draws.draws; place = draws.place })
+    masks-above same (subst IsSound c.level-level.ensures c.segs.ensures.sound) c.requires.drawable c.requires.walked refl (record {
+      painted = λ contents count q hold asked. draws.painted contents count hold;
+      fits = λ contents count q hold asked. draws.fits contents count hold;
+      draws = draws.draws;
+      place = draws.place;
+    })

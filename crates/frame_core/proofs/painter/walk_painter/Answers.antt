@@ -6,7 +6,8 @@ use Rattle.level_rules.specs.walk.Walk.{view_events}
 use Rattle.pixel_strips.specs.Canvases.{CanvasView}
 use Rattle.frame_core.specs.declared.painter.ViewPainter.{ViewPainter}
 use Rattle.frame_core.specs.Scenes.{lists_of}
-use Rattle.frame_core.specs.Views.{view_scene, view_state}
+use Rattle.texture_build.specs.Paints.{paint_state}
+use Rattle.frame_core.specs.Views.{view_scene}
 use Rattle.frame_core.specs.Painters.{HasPainted, PainterNames, PainterValue, painter_names, painter_value}
 use Rattle.frame_core.proofs.PainterLemmas.{bench-walked, fault-over, lists-walked, painter-viewed}
 use Rattle.frame_core.proofs.SceneLemmas.{surface_counts}
@@ -20,7 +21,7 @@ walk-requires-clause-surfaces g c =
 -- what a painter stands for, whose shelf and canvas tell of themselves so
 abbrev value_of : {S C : Type 0} → (S → ShelfView) → (C → CanvasView) → ViewPainter S C → PainterValue
 value_of shelf canvas p =
-    painter_value (view_scene p.view.now p.scene.now.scene p.dir.now) p.bench.now (view_state (shelf p.shelf.now) p.cache.now (canvas p.canvas.now))
+    painter_value (view_scene p.view.now p.scene.now.scene p.dir.now) p.bench.now (paint_state (shelf p.shelf.now) p.cache.now (canvas p.canvas.now))
     (painter_names p.bench.ghost_name p.cache.ghost_name p.shelf.ghost_name p.canvas.ghost_name)
 
 painted : (g : Over) (c : goal.After-walk g) → HasPainted g.C.Canvas.mark (value_of g.S.Shelf.view g.C.Canvas.view c.args.painter.now) (value_of g.S.Shelf.view g.C.Canvas.view c.walk.new.visitor)

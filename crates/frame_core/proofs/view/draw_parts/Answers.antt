@@ -6,16 +6,18 @@ use Rattle.view_rules.specs.Sound.{IsWithinFrame}
 use Rattle.picture_rules.specs.declared.Limits.{Limits}
 use Rattle.picture_rules.specs.declared.OverLimit.{OverLimit}
 use Rattle.picture_rules.specs.Counts.{view_over}
-use Rattle.picture_rules.specs.Paints.{view_paints}
 use Rattle.frame_core.specs.declared.fault.ViewFault.{ViewFault}
 use Rattle.frame_core.specs.Faults.{limit_of_view}
 use Rattle.frame_core.specs.Scenes.{scene_of}
-use Rattle.frame_core.specs.Views.{CanDrawView}
+use Rattle.frame_core.specs.Views.{CanDrawView, tools_scene}
 use Rattle.frame_core.specs.Painters.{IsPlacedIn, limits_in}
 use Rattle.frame_core.proofs.CanLemmas.{can_count-drawable}
-use Rattle.frame_core.proofs.PaintLemmas.{can_draw_view-later, paints-stop, paints-then_stop}
+use Rattle.texture_build.proofs.PaintLemmas.{paints-stop, paints-then_stop}
+use Rattle.frame_core.proofs.FloorLemmas.{floors_of}
+use Rattle.frame_core.proofs.MaskLemmas.{masks_dots}
+use Rattle.frame_core.proofs.PaintLemmas.{can_draw_view-later}
 use Rattle.frame_core.proofs.CountLemmas.{within-walked}
-use Rattle.frame_core.proofs.ViewLemmas.{ReadsAlike, drawable-at, floors-at, if_err-no_limit, if_err-stop, in_view-walked, masks-at, on_ok-always, paints-placed, parts-paint, placed-frame, placed-later, reads-alike, reads-then, started, walked-at}
+use Rattle.frame_core.proofs.ViewLemmas.{ReadsAlike, drawable-at, if_err-no_limit, if_err-stop, in_view-walked, on_ok-always, paints-placed, part-at, parts-paint, placed-frame, placed-later, reads-alike, reads-then, started, walked-at}
 use Rattle.frame_core.proofs.view.draw_parts.Given.{Over}
 use Rattle.frame_core.proofs.view.draw_parts.Goals as goal
 use Rattle.frame_core.proofs.view.draw_parts.Goals.{After-place, In_ok-draw_floors, In_ok-draw_walls}
@@ -94,7 +96,7 @@ returns-in_err-draw_walls-clause-over g c =
 pub returns-in_err-draw_walls-clause-paints : goal.returns-in_err-draw_walls-clause-paints
 returns-in_err-draw_walls-clause-paints g c =
     paints-placed c.args.tools.now.view.now c.shape-shape.result (g.C.Canvas.view c.args.tools.now.canvas.now) (g.C.Canvas.view c.place.new.self) c.shape-shape.ensures.value c.place.ensures
-    (paints-stop {g = view_paints c.args.tools.now.view.now} c.in_err-draw_walls.was c.from_residual.ensures.1 c.draw_walls.ensures.paints)
+    (paints-stop c.in_err-draw_walls.was c.from_residual.ensures.1 c.draw_walls.ensures.paints)
 
 pub returns-in_err-draw_floors-clause-over : goal.returns-in_err-draw_floors-clause-over
 returns-in_err-draw_floors-clause-over g c =
@@ -107,8 +109,8 @@ returns-in_err-draw_floors-clause-paints g c =
     let t = c.args.tools.now in
     let same = walls_alike g (goal.at.returns-in_err-draw_floors-clause-paints g c).In_ok-draw_walls in
     paints-placed t.view.now c.shape-shape.result (g.C.Canvas.view t.canvas.now) (g.C.Canvas.view c.place.new.self) c.shape-shape.ensures.value c.place.ensures
-    (paints-then_stop {h = view_paints t.view.now} c.in_err-draw_floors.was c.from_residual-in_err-draw_floors.ensures.1 c.in_ok-draw_walls.ensures.paints
-    (floors-at t.view.now c.draw_walls.new.tools.view.now t.scene.now.scene c.draw_walls.new.tools.scene.now.scene t.dir.now c.draw_walls.new.tools.dir.now same.0 same.1.0 same.1.1 c.draw_floors.ensures.paints))
+    (paints-then_stop c.in_err-draw_floors.was c.from_residual-in_err-draw_floors.ensures.1 c.in_ok-draw_walls.ensures.paints
+    (part-at floors_of t c.draw_walls.new.tools same c.draw_floors.ensures.paints))
 
 pub returns-clause-within : goal.returns-clause-within
 returns-clause-within g c =
@@ -131,9 +133,7 @@ returns-clause-paints g c =
     let one = walls_alike g at.In_ok-draw_walls in
     let two = floors_alike g at.In_ok-draw_floors in
     paints-placed t.view.now c.shape-shape.result (g.C.Canvas.view t.canvas.now) (g.C.Canvas.view c.place.new.self) c.shape-shape.ensures.value c.place.ensures
-    (parts-paint c.in_ok-draw_walls.ensures.paints
-    (floors-at t.view.now c.draw_walls.new.tools.view.now t.scene.now.scene c.draw_walls.new.tools.scene.now.scene t.dir.now c.draw_walls.new.tools.dir.now one.0 one.1.0 one.1.1 c.in_ok-draw_floors.ensures.paints)
-    (masks-at t.view.now c.draw_floors.new.tools.view.now t.scene.now.scene c.draw_floors.new.tools.scene.now.scene t.dir.now c.draw_floors.new.tools.dir.now two.0 two.1.0 two.1.1 c.draw_masks.ensures.paints))
+    (parts-paint (tools_scene t) c.in_ok-draw_walls.ensures.paints (part-at floors_of t c.draw_walls.new.tools one c.in_ok-draw_floors.ensures.paints) (part-at masks_dots t c.draw_floors.new.tools two c.draw_masks.ensures.paints))
 
 pub returns-clause-in_view : goal.returns-clause-in_view
 returns-clause-in_view g c =

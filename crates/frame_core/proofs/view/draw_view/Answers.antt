@@ -4,7 +4,10 @@ use Rattle.lump_rules.specs.Contents.{lump_bytes}
 use Rattle.pixel_strips.specs.Canvases.{CanvasView}
 use Rattle.view_rules.specs.View.{ViewValue, view_of}
 use Rattle.view_rules.specs.Sound.{IsWithinFrame}
+use Rattle.picture_rules.specs.Paints.{view_paints}
 use Rattle.picture_rules.specs.Picture.{picture}
+use Rattle.sound_scene.specs.Sound.{textures_view}
+use Rattle.texture_build.specs.Draws.{FitBeside}
 use Rattle.frame_core.specs.Scenes.{scene_of}
 use Rattle.frame_core.specs.Workshops.{WorkshopView}
 use Rattle.texture_build.proofs.DrawLemmas.{holds_art-later}
@@ -18,7 +21,14 @@ returns-clause-picture g c = λ contents count hold.
     let cleared = ap (λ (f : CanvasView). f.cells) c.clear.ensures in
     subst (λ (v : ViewValue). OnOk c.draw_with.result (c.draw_with.new.canvas.cells ≡ picture v scene)) c.new-view.ensures
     (pictured c.new-view.result scene c.clear.new.self c.draw_with.new.canvas c.draw_with.result c.draw_with.ensures.frame cleared
-    (c.draw_with.ensures.in_view (lump_bytes contents c.args.dir.now.lumps)) (c.draw_with.ensures.paints.painted contents count hold))
+    (c.draw_with.ensures.in_view (lump_bytes contents c.args.dir.now.lumps)) (c.draw_with.ensures.paints.painted contents count tt hold tt))
+
+pub returns-clause-fits : goal.returns-clause-fits
+returns-clause-fits g c = λ contents count hold.
+    let s = c.args.scene.now.scene in
+    let dir = c.args.dir.now in
+    subst (λ (v : ViewValue). OnOk c.draw_with.result (FitBeside dir.lumps (textures_view s) s.base.colormap count c.args.cache.now.size (view_paints v (scene_of (lump_bytes contents dir.lumps) s)))) c.new-view.ensures
+    (c.draw_with.ensures.paints.fits contents count tt hold tt)
 
 pub returns-clause-over : goal.returns-clause-over
 returns-clause-over g c = λ bytes.

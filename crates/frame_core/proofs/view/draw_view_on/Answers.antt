@@ -4,7 +4,8 @@ use Rattle.view_rules.specs.Sound.{IsWithinFrame}
 use Rattle.picture_rules.specs.Picture.{AreInView}
 use Rattle.picture_rules.specs.Paints.{view_paints}
 use Rattle.frame_core.specs.Scenes.{scene_of}
-use Rattle.frame_core.specs.Views.{PaintsView, placed_for, view_scene, view_state}
+use Rattle.texture_build.specs.Paints.{paint_state}
+use Rattle.frame_core.specs.Views.{PaintsView, placed_for, view_scene}
 use Rattle.frame_core.specs.Workshops.{WorkshopView}
 use Rattle.texture_build.proofs.DrawLemmas.{holds_art-later}
 use Rattle.frame_core.proofs.EnoughLemmas.{complete-view, enough-view}
@@ -20,8 +21,8 @@ returns g c =
       within = λ bytes. within-at c.draw_with.result _ _ (scene_of bytes scene) _ _ c.new-view.ensures limits (drawn.within bytes);
       over = λ bytes. over-at c.draw_with.result _ _ (scene_of bytes scene) _ _ c.new-view.ensures limits (drawn.over bytes);
       paints =
-          subst (λ (v : ViewValue). PaintsView g.C.Canvas.mark (view_scene v scene c.args.dir.now) (view_paints v) (view_state (g.S.Shelf.view c.args.shelf.now) c.args.cache.now (placed_for v (g.C.Canvas.view c.args.canvas.now)))
-          (view_state (g.S.Shelf.view c.draw_with.new.shelf) c.draw_with.new.cache (g.C.Canvas.view c.draw_with.new.canvas)) c.draw_with.result) c.new-view.ensures drawn.paints;
+          subst (λ (v : ViewValue). PaintsView g.C.Canvas.mark (view_scene v scene c.args.dir.now) (view_paints v) (paint_state (g.S.Shelf.view c.args.shelf.now) c.args.cache.now (placed_for v (g.C.Canvas.view c.args.canvas.now)))
+          (paint_state (g.S.Shelf.view c.draw_with.new.shelf) c.draw_with.new.cache (g.C.Canvas.view c.draw_with.new.canvas)) c.draw_with.result) c.new-view.ensures drawn.paints;
       in_view = λ bytes. subst (λ (v : ViewValue). OnOk c.draw_with.result (AreInView v.shape (view_paints v (scene_of bytes scene)))) c.new-view.ensures (drawn.in_view bytes);
       window = subst (λ (v : ViewValue). IsWithinFrame v.shape) c.new-view.ensures drawn.frame;
       enough = λ contents count hold same room. enough-view c.requires contents count hold same room c.draw_with.result drawn.paints.draws;

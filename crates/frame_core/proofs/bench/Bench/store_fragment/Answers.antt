@@ -1,6 +1,7 @@
 use Rattle.std.proofs.Common.{◌≤◌, ℕ, List, Result, ap, sym, ◌∙◌, arith}
 use Rattle.level_rules.specs.walk.Events.{Event}
 use Rattle.picture_rules.specs.declared.Limits.{Limits}
+use Rattle.texture_build.specs.Paints.{paint_state}
 use Rattle.texture_build.proofs.DrawLemmas.{IsMapped}
 use Rattle.view_rules.specs.declared.TheConstants.{FRAME_HEIGHT}
 use Rattle.level_rules.specs.Levels.{surface_at}
@@ -8,9 +9,10 @@ use Rattle.wall_columns.specs.Faults.{limit_of_result}
 use Rattle.frame_core.specs.Scenes.{lists_of}
 use Rattle.frame_core.specs.declared.fault.ViewFault.{ViewFault}
 use Rattle.frame_core.specs.Faults.{from_draw}
-use Rattle.frame_core.specs.Views.{PaintsView, tools_scene, tools_state, view_state}
+use Rattle.frame_core.specs.Views.{PaintsView, tools_scene, tools_state}
 use Rattle.frame_core.specs.Walked.{HasWalked, next_dots}
-use Rattle.frame_core.proofs.FragmentLemmas.{can_draw-facts, facts-ready, mapped-err, mapped-ok, ok-through, paints-fragment, told-over}
+use Rattle.frame_core.proofs.FragmentLemmas.{can_draw-facts, facts-ready, ok-through, paints-fragment, told-over}
+use Rattle.frame_core.proofs.PaintLemmas.{mapped-err, mapped-ok}
 use Rattle.frame_core.proofs.WalkedLemmas.{same_limits}
 use Rattle.frame_core.proofs.WalkedFragmentLemmas.{TakesFragment, over-fragment, walked-range}
 use Rattle.frame_core.proofs.bench.Bench.store_fragment.Given.{Over}
@@ -39,13 +41,21 @@ taken g c = record {
 painted : (g : Over) (c : After-store_range g) (whole : Result (Unit {0}) ViewFault) → IsMapped from_draw c.store_range.result whole → (most : Limits) (events : List Event) →
     ((bytes : ℕ → List ℕ) → HasWalked c.args.tools.now.view.now bytes c.args.tools.now.scene.now.scene most events c.args.self.now) →
     PaintsView g.C.Canvas.mark (tools_scene c.args.tools.now) (λ scene. next_dots c.args.tools.now.view.now scene events c.args.seg c.args.first c.args.last) (tools_state g.S.Shelf.view g.C.Canvas.view c.args.tools.now)
-    (view_state (g.S.Shelf.view c.store_range.new.tools.shelf.now) c.store_range.new.tools.cache.now (g.C.Canvas.view c.store_range.new.tools.canvas.now)) whole
+    (paint_state (g.S.Shelf.view c.store_range.new.tools.shelf.now) c.store_range.new.tools.cache.now (g.C.Canvas.view c.store_range.new.tools.canvas.now)) whole
 painted g c whole mapped most events walked =
     let t = c.args.tools.now in
     let e = c.store_range.ensures in
     let ready = facts-ready t.dir.now.lumps t.scene.now.scene t.cache.now (surface_at (lists_of t.scene.now.scene) c.args.self.now.sector) c.args.seg c.facts_of-facts.result c.requires.drawable c.facts_of-facts.ensures.sound c.requires.there.0 c.facts_of-facts.ensures.facts in
     paints-fragment (tools_scene t) c.textures.result.now c.colormap.result.0 most events c.args.seg c.args.first c.args.last c.facts_of-facts.result c.args.self.now _ _ c.store_range.result whole
-    (record { painted = e.painted; fits = e.fits; paints = e.paints; place = e.place; past = λ n. (e.past n, (e.past_tools n).same_canvas) })
+    (record {
+      paints = record {
+        painted = λ contents count q hold behind. e.painted q.0 q.1 contents count behind.0 behind.1 hold;
+        fits = λ contents count q hold behind. e.fits q.0 q.1 contents count behind.0 behind.1 hold;
+        draws = e.paints;
+        place = e.place;
+      };
+      past = λ n. (e.past n, (e.past_tools n).same_canvas);
+    })
     c.textures.ensures c.colormap.ensures mapped ready walked c.facts_of-facts.ensures.facts
 
 pub returns-in_err-store_range-clause-over : goal.returns-in_err-store_range-clause-over
@@ -58,7 +68,7 @@ returns-in_err-store_range-clause-over g c = λ bytes most events h.
 pub returns-in_err-store_range-clause-paints : goal.returns-in_err-store_range-clause-paints
 returns-in_err-store_range-clause-paints g c =
     painted g (goal.at.returns-in_err-store_range-clause-paints g c).After-store_range c.from_residual.result
-    (mapped-err c.store_range.result c.in_err-store_range.field-0.0 c.from_residual.result c.in_err-store_range.was c.from_residual.ensures.1)
+    (mapped-err from_draw c.store_range.result c.in_err-store_range.field-0.0 c.from_residual.result c.in_err-store_range.was c.from_residual.ensures.1)
 
 pub returns-clause-walked : goal.returns-clause-walked
 returns-clause-walked g c = λ bytes most events h.
@@ -70,4 +80,4 @@ returns-clause-walked g c = λ bytes most events h.
 
 pub returns-clause-paints : goal.returns-clause-paints
 returns-clause-paints g c =
-    painted g (goal.at.returns-clause-paints g c).After-store_range _ (mapped-ok c.store_range.result c.in_ok-store_range.field-0 c.in_ok-store_range.was)
+    painted g (goal.at.returns-clause-paints g c).After-store_range _ (mapped-ok from_draw c.store_range.result c.in_ok-store_range.field-0 c.in_ok-store_range.was)
