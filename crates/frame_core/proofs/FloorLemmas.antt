@@ -1,7 +1,8 @@
 -- Laws of the planes of a view: what drawing them asks is there, and what it paints is the view's.
-use Rattle.std.proofs.Common.{◌≡◌, inl, inr, ℕ, ◌<◌, ◌||◌, ◌==◌, Bool, true, false, List, [], length, get_or, Option, Some, None, Result, eq-eqb, refl, sym, ap, subst, ◌∙◌, arith}
+use Rattle.std.proofs.Common.{◌≡◌, inl, inr, ℕ, ◌<◌, ◌==◌, true, false, List, [], length, get_or, Option, Some, None, Result, eq-eqb, refl, sym, ap, subst, ◌∙◌, arith}
 use Rattle.std.specs.Prelude.{All, IfSome, IsSome, option_map, unwrap_or, ⊤}
 use Rattle.std.specs.List.{list_any}
+use Rattle.std.proofs.lemmas.Bool.{or_left, or_right}
 use Rattle.std.proofs.lemmas.List.Elements.{All-contains}
 use Rattle.std.proofs.lemmas.List.Folds.{list_any_at}
 use Rattle.lump_rules.specs.declared.wad.Lump.{Lump}
@@ -125,14 +126,6 @@ sky_prepared : (scene : SceneValue) (sky : Option TexNo) (number : ℕ) → IfSo
 sky_prepared scene None number prepared is asked = absurd (let t : false ≡ true = asked.1 in cc)
 sky_prepared scene (Some tex) number prepared is asked =
     subst (IsPrepared (textures_view scene)) (sym asked.0) (subst (λ (o : Option ℕ). IfSome o (IsPrepared (textures_view scene))) (sym is) prepared)
-
-or_left : (a b : Bool) → a ≡ true → (a || b) ≡ true
-or_left true b e = refl
-or_left false b e = absurd (cc)
-
-or_right : (a b : Bool) → b ≡ true → (a || b) ≡ true
-or_right true b e = refl
-or_right false b e = e
 
 flat_by : (lump : ℕ) (s : Surface) (sector : Sector) (flats : SectorFlats) → s ≡ surface_of sector flats → IsFlatIn s (flat.Lump lump) → has_flat lump flats ≡ true
 unfolding surface_of has_flat

@@ -1,7 +1,8 @@
 -- Laws of the masked pass of a view: what it asks is there where the walk is in the bench, and what it paints is what the picture has.
-use Rattle.std.proofs.Common.{◌≡◌, ◌<◌, ℕ, Bool, true, false, ℤ, List, [], length, get_or, Result, refl, ap, sym, subst, ◌∙◌, arith}
-use Rattle.std.specs.Prelude.{◌||◌, ◌==◌, ⊤}
+use Rattle.std.proofs.Common.{◌≡◌, ◌<◌, ℕ, true, ℤ, List, [], length, get_or, Result, ap, sym, subst, ◌∙◌, arith}
+use Rattle.std.specs.Prelude.{◌==◌, ⊤}
 use Rattle.std.specs.List.{All, AllPass, list_any}
+use Rattle.std.proofs.lemmas.Bool.{or_right}
 use Rattle.std.proofs.lemmas.Bool.Decides.{nat_tests}
 use Rattle.std.proofs.lemmas.List.Elements.{All-contains}
 use Rattle.lump_rules.specs.Contents.{lump_bytes}
@@ -89,10 +90,6 @@ abbrev pub masks_dots : ViewValue → SceneValue → Scene → List Dot
 masks_dots v s scene =
     masked_dots v scene.art (view_drawsegs v scene (walls_of v scene (view_events v (lists_of s)))) (draw_order (view_entries v scene (view_events v (lists_of s))))
 
-either_right : (a b : Bool) → b ≡ true → (a || b) ≡ true
-either_right true b e = refl
-either_right false b e = e
-
 -- the lump of an entry that has one of so many
 lump_below : (n : ℕ) (e : SpriteEntry) → has_lump_below n e ≡ true → e.lump < n
 unfolding has_lump_below
@@ -141,7 +138,7 @@ module _ {v : ViewValue} {s : SceneValue} {b : Bench} {z : Heap} (dir : Director
       let below = All-contains (λ (e : SpriteEntry). has_lump_below (length dir.lumps) e ≡ true) b.sprites k.sprite sprites-below k.among in
       record {
         there = subst (λ (m : ℕ). m < length dir.lumps) (sym k.is) (lump_below (length dir.lumps) k.sprite below);
-        drawn = either_right (list_any (has_flat lump) s.faces.flats) (list_any (λ n. n == lump) (book_lumps s.book)) (subst P same found);
+        drawn = or_right (list_any (has_flat lump) s.faces.flats) (list_any (λ n. n == lump) (book_lumps s.book)) (subst P same found);
       }
 
   same_dots : (bytes : ℕ → List ℕ) →

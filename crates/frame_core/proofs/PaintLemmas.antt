@@ -7,9 +7,13 @@ use Rattle.scene_rules.specs.Scenes.{SceneValue}
 use Rattle.lump_cache.specs.Caches.{KeepsCounts, cache_fault}
 use Rattle.lump_cache.specs.declared.fault.CacheFault.{CacheFault}
 use Rattle.lump_cache.specs.declared.fault.CacheFault.TheVariants as cache
+use Rattle.view_rules.specs.View.{ViewValue}
+use Rattle.pixel_strips.specs.Canvases.{CanvasView}
+use Rattle.pixel_strips.specs.Dotted.{PlacedAlike}
 use Rattle.texture_build.proofs.DrawLemmas.{IsMapped}
 use Rattle.frame_core.specs.Faults.{from_cache, view_fault}
 use Rattle.frame_core.specs.Views.{CanDrawView}
+use Rattle.frame_core.specs.Painters.{IsPlacedIn}
 
 -- what a call asks of the scene and the cache it may ask again
 pub can_draw_view-later : (lumps : List Lump) (scene : SceneValue) (old new : Heap) → KeepsCounts old new → CanDrawView lumps scene old → CanDrawView lumps scene new
@@ -20,6 +24,10 @@ can_draw_view-later lumps scene old new counts can = record {
   slots = rw counts.1 can.slots;
   composites = rw counts.2 can.composites;
 }
+
+-- a view that lies in the frame lies there as long as the canvas has its place
+pub placed-later : (v : ViewValue) (old new : CanvasView) → PlacedAlike old new → IsPlacedIn v old → IsPlacedIn v new
+placed-later v old new same is = record { columns = rw same.left is.columns; rows = rw same.top is.rows }
 
 -- a fault of the cache is the same fault of a view
 pub cache_above : (e : CacheFault) → view_fault (from_cache e) ≡ fault_above (λ (never : ⊥). absurd never) (cache_fault e)

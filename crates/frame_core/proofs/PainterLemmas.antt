@@ -23,7 +23,6 @@ use Rattle.level_rules.specs.walk.Events.Event.{LeafEvent, FragmentEvent}
 use Rattle.level_rules.specs.walk.Walk.{view_events}
 use Rattle.pixel_rules.specs.declared.Painter.{Painter}
 use Rattle.pixel_rules.specs.Dots.{Dot}
-use Rattle.pixel_strips.specs.Canvases.{CanvasView}
 use Rattle.pixel_strips.specs.Dotted.{PlacedAlike}
 use Rattle.pixel_strips.proofs.DottedLemmas.{placed-none}
 use Rattle.scene_rules.specs.Scenes.{SceneValue}
@@ -48,7 +47,7 @@ use Rattle.frame_core.specs.Scenes.{lists_of, scene_of}
 use Rattle.frame_core.specs.Views.{CanDrawView, PaintsView, ViewScene, held_scene}
 use Rattle.frame_core.specs.Walked.{CanTake, HasWalked, IsEventIn, next_dots}
 use Rattle.frame_core.specs.Painters.{CanPaintNext, HasPainted, HasWalkedView, IsPlacedIn, PainterNames, PainterValue, drawn_walls, limits_in, painter_names, painter_value}
-use Rattle.frame_core.proofs.PaintLemmas.{can_draw_view-later}
+use Rattle.frame_core.proofs.PaintLemmas.{can_draw_view-later, placed-later}
 use Rattle.frame_core.proofs.DotLemmas.{drawn_walls-fragment, drawn_walls-leaf, drawn_walls-none}
 use Rattle.frame_core.proofs.StepLemmas.{over-stays}
 
@@ -116,17 +115,13 @@ module _ {mark : Painter → ℕ → ℕ} {e : Event} {dots : List Event → Sce
       HasPainted mark start q (events ++ e ∷ []) result
   painted_more start events stood given = more_by start events stood (subst (λ (s : ViewScene). IsGiven mark s p q e dots result) stood.scene given)
 
--- the view stays in the frame
-placed_later : (v : ViewValue) (a b : CanvasView) → PlacedAlike a b → IsPlacedIn v a → IsPlacedIn v b
-placed_later v a b same is = record { columns = rw same.left is.columns; rows = rw same.top is.rows }
-
 -- a painter takes after an event what it took before
 takes_later : (mark : Painter → ℕ → ℕ) (p q : PainterValue) (e : Event) (dots : List Event → Scene → List Dot) (event : Event) → IsGiven mark p.scene p q e dots (Ok tt) → CanPaintNext p event → CanPaintNext q event
 takes_later mark p q e dots event given can = record {
   drawable = subst (λ (s : ViewScene). CanDrawView s.dir.lumps s.scene q.state.cache) (sym given.after)
       (can_draw_view-later p.scene.dir.lumps p.scene.scene p.state.cache q.state.cache given.counts can.drawable);
   takes = subst (λ (s : ViewScene). CanTake s.view s.scene q.bench) (sym given.after) given.takes;
-  placed = subst (λ (s : ViewScene). IsPlacedIn s.view q.state.canvas) (sym given.after) (placed_later p.scene.view p.state.canvas q.state.canvas given.place can.placed);
+  placed = subst (λ (s : ViewScene). IsPlacedIn s.view q.state.canvas) (sym given.after) (placed-later p.scene.view p.state.canvas q.state.canvas given.place can.placed);
   there = subst (λ (s : ViewScene). IsEventIn s.view s.scene event) (sym given.after) can.there;
 }
 

@@ -1,5 +1,5 @@
 -- Laws of a whole view: its three parts in order, where its dots lie, what ends it, and the frame that it leaves.
-use Rattle.std.proofs.Common.{◌≡◌, ℕ, Bor, zero, suc, ◌+◌, ◌≤◌, List, [], ◌++◌, Option, Some, None, Result, Ok, Err, IsErrAnd, OnOk, length, get_or, replicate, refl, ap, sym, ◌∙◌, subst, arith}
+use Rattle.std.proofs.Common.{◌≡◌, ℕ, Bor, zero, suc, ◌≤◌, List, [], ◌++◌, Option, Some, None, Result, Ok, Err, IsErrAnd, OnOk, length, get_or, replicate, refl, ap, sym, ◌∙◌, subst, arith}
 use Rattle.std.specs.Prelude.{All, IfErr, IfSome}
 use Rattle.std.specs.List.{AllPass}
 use Rattle.std.proofs.lemmas.List.{length-replicate}
@@ -10,13 +10,13 @@ use Rattle.zone_rules.specs.Zones.{Heap}
 use Rattle.view_rules.specs.View.{ViewValue}
 use Rattle.view_rules.specs.Sound.{IsWithinFrame}
 use Rattle.view_rules.specs.declared.ViewShape.{ViewShape}
-use Rattle.view_rules.specs.declared.TheConstants.{FRAME_WIDTH, FRAME_HEIGHT}
+use Rattle.view_rules.specs.declared.TheConstants.{FRAME_HEIGHT}
 use Rattle.level_rules.specs.walk.Walk.{view_events}
 use Rattle.pixel_rules.specs.declared.Painter.{Painter}
 use Rattle.pixel_rules.specs.declared.TheConstants.{FRAME_CELLS}
 use Rattle.pixel_rules.specs.Dots.{Dot}
 use Rattle.pixel_strips.specs.Canvases.{CanvasView, marked_by_colour, placed_at}
-use Rattle.pixel_strips.specs.Dotted.{HasDots, PlacedAlike}
+use Rattle.pixel_strips.specs.Dotted.{HasDots}
 use Rattle.picture_rules.specs.plane.Built.{planes_of}
 use Rattle.picture_rules.specs.plane.Planes.{Plane}
 use Rattle.wad_dir.specs.DirectoryView.{DirectoryView}
@@ -78,13 +78,6 @@ pub placed-frame : (v : ViewValue) (shape : ViewShape) (old now : CanvasView) �
 placed-frame v shape old now same frame place =
     let within : IsWithinFrame v.shape = subst IsWithinFrame same frame in
     subst (IsPlacedIn v) (sym (placed-as v shape old now same place)) (record { columns = within.width; rows = within.height })
-
--- and has it there as long as it stands where it stood
-pub placed-later : (v : ViewValue) (old now : CanvasView) → PlacedAlike old now → IsPlacedIn v old → IsPlacedIn v now
-placed-later v old now alike placed = record {
-  columns = subst (λ (n : ℕ). n + v.shape.width ≤ FRAME_WIDTH) (sym alike.left) placed.columns;
-  rows = subst (λ (n : ℕ). n + v.shape.height ≤ FRAME_HEIGHT) (sym alike.top) placed.rows;
-}
 
 -- the three parts of a view are its paints
 view_parts : (v : ViewValue) (bytes : ℕ → List ℕ) (s : SceneValue) →
